@@ -1,0 +1,36 @@
+-- Polynomials over the field: lists of coefficients, the highest power first. Zeros at the head are allowed.
+use Rattle.std.specs.Prelude.{ℕ, zero, suc, ◌+◌, ◌-◌, ◌<◌, List, [], ◌∷◌, length, get_or}
+use Rattle.std.specs.List.{All}
+use Rattle.gf301.specs.Field.{◌⊕◌, ◌⊗◌, raise}
+
+-- Each coefficient is a field element, a number of 0 to 255.
+abbrev pub Bytes : List ℕ → Type 0
+Bytes p = All (λ a. a < 256) p
+
+-- The value at x: the sum of each coefficient times its power of x. Of the empty list it is 0.
+unfoldable pub value : List ℕ → ℕ → ℕ
+value [] x = 0
+value (a ∷ p) x = a ⊗ raise x (length p) ⊕ value p x
+
+-- The coefficient at a place of the list, and 0 past its end.
+abbrev pub coefficient : List ℕ → ℕ → ℕ
+coefficient p i = get_or p i 0
+
+-- The series without its first coefficient.
+abbrev pub shift : (ℕ → ℕ) → ℕ → ℕ
+shift f i = f (suc i)
+
+-- The coefficient n of the product of two series: the sum of f j times g (n - j), for each j of 0 to n.
+unfoldable pub convolution : (ℕ → ℕ) → (ℕ → ℕ) → ℕ → ℕ
+convolution f g zero = f 0 ⊗ g 0
+convolution f g (suc n) = f 0 ⊗ g (suc n) ⊕ convolution (shift f) g n
+
+-- The values of f at `first` and the places that follow it, `count` in all.
+unfoldable pub values_from : (ℕ → ℕ) → ℕ → ℕ → List ℕ
+values_from f first zero = []
+values_from f first (suc count) = f first ∷ values_from f (suc first) count
+
+-- The product of two polynomials that are not empty, of n and m coefficients: n + m - 1 coefficients, each the sum of
+-- the products of a coefficient of p and one of q whose places add up to its own.
+unfoldable pub times : List ℕ → List ℕ → List ℕ
+times p q = values_from (convolution (coefficient p) (coefficient q)) 0 (length p + length q - 1)
