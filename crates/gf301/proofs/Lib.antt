@@ -1,0 +1,3 @@
+pub mod Additive
+pub mod FieldLaws
+pub mod Tables

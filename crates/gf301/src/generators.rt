@@ -1,0 +1,22 @@
+//! The generator polynomials of the Reed-Solomon codes of ISO/IEC 16022, ECC 200.
+
+ghost use Rattle.std.specs.Prelude.{◌≡◌, ◌≤◌};
+ghost use Rattle.gf301.specs.Generator.{generator};
+
+use super::field::Gf;
+use super::polynomial::{Poly, times};
+
+/// The generator polynomial for k check codewords, k of 1 to 68: (x - 2^1) (x - 2^2) .. (x - 2^k), with k + 1
+/// coefficients, of which the first is 1.
+pub fn generator(k: usize) -> Poly
+    requires some { 1 ≤ k }
+    requires most { k ≤ 68 }
+    ensures { result.items ≡ generator k }
+{
+    let mut product = Poly::new();
+    product.push(1);
+    for i in 1..k as u16 + 1 {
+        product = times(&[1, Gf::power_of_two(i).0], &product);
+    }
+    product
+}
