@@ -1,0 +1,14 @@
+use Rattle.std.proofs.Common.{rules, ◌≡◌, ◌<◌, ℕ, arith, sym, ap, ◌∙◌}
+use Rattle.gf301.specs.Field.{power}
+use Rattle.gf301.proofs.FieldLaws.{power_injective}
+use Rattle.gf301.proofs.Tables.{logs_at}
+use Rattle.gf301.proofs.field.Gf.log.Goals as goal
+
+pub returns-clause-below : goal.returns-clause-below
+returns-clause-below c = rw c.from.ensures (logs_at c.args.self.0 c.requires (omega arith)).0
+
+pub returns-clause-power : goal.returns-clause-power
+returns-clause-power c = rw c.from.ensures (logs_at c.args.self.0 c.requires (omega arith)).1
+
+pub returns-clause-only : goal.returns-clause-only
+returns-clause-only c = ?
