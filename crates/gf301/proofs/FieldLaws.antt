@@ -199,6 +199,12 @@ product_inverse a l h =
     subst (λ x. x ⊗ inverse_of x ≡ 1) e
     (eqb-true ((a - 1 + 1) ⊗ inverse_of (a - 1 + 1)) 1 (all_below_at 255 (λ a. eqb ((a + 1) ⊗ inverse_of (a + 1)) 1) inverse_test (a - 1) (omega arith)))
 
+-- an element has at most one inverse
+pub inverse_only : (a b c : ℕ) → b < 256 → c < 256 → a ⊗ b ≡ 1 → a ⊗ c ≡ 1 → b ≡ c
+inverse_only a b c hb hc eb ec =
+    sym (product_one_right b hb) ∙ ap (λ x. b ⊗ x) (sym ec) ∙ sym (product_assoc b a c)
+    ∙ ap (λ x. x ⊗ c) (product_comm b a ∙ eb) ∙ product_one_left c hc
+
 -- a factor that is not 0 is cancelled
 pub product_cancel : (a b : ℕ) → 0 < a → a < 256 → b < 256 → a ⊗ b ≡ 0 → b ≡ 0
 product_cancel a b l ha hb e =

@@ -1,6 +1,6 @@
 -- Power series over the field, as functions from the power to its coefficient.
-use Rattle.std.proofs.Common.{◌≡◌, ℕ, zero, suc, ◌+◌, ◌-◌, ◌*◌, ◌<◌, ◌≤◌, List, [], ◌∷◌, ◌++◌, length, refl, sym, ap, subst, ◌∙◌, arith, bit_xor, inl, inr, ◌⊎◌}
-use Rattle.std.proofs.lemmas.Bool.{cases_lt}
+use Rattle.std.proofs.Common.{◌≡◌, ℕ, zero, suc, ◌+◌, ◌-◌, ◌*◌, ◌<◌, ◌≤◌, List, [], ◌∷◌, ◌++◌, length, take, length-take, get_or, refl, sym, ap, subst, ◌∙◌, arith, bit_xor, inl, inr, ◌⊎◌}
+use Rattle.std.proofs.lemmas.List.{take_more}
 use lib.Bits.{xor_assoc, xor_comm, xor_self, xor_zero_r}
 use Rattle.gf301.specs.Field.{◌⊕◌, ◌⊗◌}
 use Rattle.gf301.specs.Polynomial.{shift, coefficient, convolution}
@@ -121,3 +121,16 @@ conv_push_past [] a s n h = absurd (omega arith)
 conv_push_past (b ∷ p) a s zero h = refl
 conv_push_past (b ∷ p) a s (suc n) h = ap (bit_xor (b ⊗ s (suc n))) (conv_push_past p a s n (omega arith))
 
+
+-- ---- a coefficient more of a list that is taken from the front
+pub conv_more : (p : List ℕ) (s : ℕ → ℕ) (n i : ℕ) → i < length p → i ≤ n
+    → convolution (coefficient (take (i + 1) p)) s n ≡ convolution (coefficient (take i p)) s n ⊕ get_or p i 0 ⊗ s (n - i)
+conv_more p s n i h l =
+    let k : length (take i p) ≡ i = simp length-take (omega arith) in
+    ap (λ t. convolution (coefficient t) s n) (take_more p i 0 h) ∙ conv_push (take i p) (get_or p i 0) s n (n - i) (omega arith)
+
+pub conv_more_past : (p : List ℕ) (s : ℕ → ℕ) (n i : ℕ) → i < length p → n < i
+    → convolution (coefficient (take (i + 1) p)) s n ≡ convolution (coefficient (take i p)) s n
+conv_more_past p s n i h l =
+    let k : length (take i p) ≡ i = simp length-take (omega arith) in
+    ap (λ t. convolution (coefficient t) s n) (take_more p i 0 h) ∙ conv_push_past (take i p) (get_or p i 0) s n (omega arith)
