@@ -6,3 +6,5 @@ pub mod Weights
 pub mod Series
 pub mod PolyLaws
 pub mod GeneratorLaws
+pub mod Roots
+pub mod Locate

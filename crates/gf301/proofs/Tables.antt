@@ -59,7 +59,3 @@ power_mod e =
     ∙ ap (λ y. y ⊗ power (e % 255)) (sym (raise_mul 2 255 (e / 255) ∙ ap (λ y. raise y (e / 255)) power_255 ∙ raise_one (e / 255)))
     ∙ sym (raise_add 2 (255 * (e / 255)) (e % 255))
     ∙ ap power (let q : 255 * (e / 255) + e % 255 ≡ e = omega arith in q)
-
-pub product_log : (a b : ℕ) → 0 < a → a < 256 → 0 < b → b < 256 → power (get_or LOGS a 0 + get_or LOGS b 0) ≡ a ⊗ b
-product_log a b la ha lb hb =
-    raise_add 2 (get_or LOGS a 0) (get_or LOGS b 0) ∙ ap (λ y. y ⊗ power (get_or LOGS b 0)) (logs_at a la ha).1 ∙ ap (λ y. a ⊗ y) (logs_at b lb hb).1
