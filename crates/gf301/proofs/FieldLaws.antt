@@ -189,6 +189,10 @@ inverse_power (suc n) a = let s = a ⊗ a in s ⊗ inverse_power n s
 pub inverse_of : ℕ → ℕ
 inverse_of a = inverse_power 7 a
 
+pub inverse_below : (a : ℕ) → inverse_of a < 256
+unfolding inverse_of inverse_power
+inverse_below a = product_below (a ⊗ a) (inverse_power 6 (a ⊗ a))
+
 inverse_test : all_below 255 (λ a. eqb ((a + 1) ⊗ inverse_of (a + 1)) 1) ≡ true
 unfolding all_below ◌⊗◌ carryless modulo_301 inverse_power inverse_of
 inverse_test = refl
@@ -213,6 +217,11 @@ product_cancel a b l ha hb e =
 
 pub sum_zero : (a b : ℕ) → a ⊕ b ≡ 0 → a ≡ b
 sum_zero a b e = sym (xor_zero_r a) ∙ ap (bit_xor a) (sym (xor_self b)) ∙ sym (xor_assoc a b b) ∙ ap (λ x. x ⊕ b) e
+
+pub product_cancels : (a b c : ℕ) → 0 < a → a < 256 → b < 256 → c < 256 → a ⊗ b ≡ a ⊗ c → b ≡ c
+product_cancels a b c l ha hb hc e =
+    sum_zero b c
+    (product_cancel a (b ⊕ c) l ha (sum_below b c hb hc) (product_sum_right a b c ∙ ap (λ x. x ⊕ a ⊗ c) e ∙ xor_self (a ⊗ c)))
 
 -- ---- powers
 pub raise_below : (x e : ℕ) → raise x e < 256

@@ -4,10 +4,11 @@ use lib.Bits.{xor_self, xor_zero_r}
 use Rattle.std.proofs.Math.Nat.{pos_of_ne-zero}
 use Rattle.std.proofs.lemmas.Bool.{cases_order}
 use Rattle.gf301.specs.Field.{◌⊕◌, ◌⊗◌, raise, power}
-use Rattle.gf301.specs.Polynomial.{value, times}
+use Rattle.gf301.specs.Polynomial.{Bytes, value, coefficient, convolution, times}
 use Rattle.gf301.specs.Generator.{generator}
 use Rattle.gf301.proofs.FieldLaws.{product_zero_left, product_zero_right, product_one_left, product_positive, sum_zero, sum_below, raise_below, power_apart}
-use Rattle.gf301.proofs.PolyLaws.{length_times, value_times, value_below, factor_value}
+use Rattle.gf301.proofs.Weights.{bytes_cons}
+use Rattle.gf301.proofs.PolyLaws.{length_times, get_or-times, bytes_times, value_times, value_below, factor_value}
 
 pub generator_length : (k : ℕ) → length (generator k) ≡ suc k
 unfolding generator
@@ -51,3 +52,20 @@ generator_positive (suc k) j h l =
     subst (λ y. 0 < y) (sym (generator_step k (power j) (raise_below 2 j)))
     (product_positive (power j ⊕ power (suc k)) (value (generator k) (power j)) d (sum_below (power j) (power (suc k)) (raise_below 2 j) (raise_below 2 (suc k)))
     (generator_positive k j (omega arith) l) (value_below (generator k) (power j)))
+
+pub bytes_generator : (k : ℕ) → Bytes (generator k)
+unfolding generator
+bytes_generator zero = bytes_cons 1 [] (omega arith) (λ i d h. absurd (omega arith))
+bytes_generator (suc k) = bytes_times (1 ∷ power (suc k) ∷ []) (generator k)
+
+-- the first coefficient of a product with x - r
+first_times : (r : ℕ) (g : List ℕ) → 0 < length g → coefficient (times (1 ∷ r ∷ []) g) 0 ≡ 1 ⊗ coefficient g 0
+unfolding convolution
+first_times r g h = get_or-times (1 ∷ r ∷ []) g 0 (omega arith)
+
+pub generator_first : (k : ℕ) → coefficient (generator k) 0 ≡ 1
+unfolding generator
+generator_first zero = refl
+generator_first (suc k) =
+    first_times (power (suc k)) (generator k) (omega (arith, generator_length k))
+    ∙ ap (λ a. 1 ⊗ a) (generator_first k) ∙ product_one_left 1 (omega arith)

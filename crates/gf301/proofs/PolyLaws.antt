@@ -7,7 +7,7 @@ use Rattle.std.proofs.lemmas.Grind.{same_number_lists}
 use Rattle.gf301.specs.Field.{◌⊕◌, ◌⊗◌, raise, power}
 use Rattle.gf301.specs.Polynomial.{value, coefficient, shift, convolution, values_from, times, Bytes}
 use Rattle.gf301.proofs.Lists.{plus, scale, nonzeros}
-use Rattle.gf301.proofs.Series.{conv_below, conv_nothing, conv_cons, conv_push, conv_push_past}
+use Rattle.gf301.proofs.Series.{conv_below, conv_comm, conv_nothing, conv_cons}
 use Rattle.gf301.proofs.Additive.{xor_swap}
 use Rattle.gf301.proofs.FieldLaws.{product_sum_left, product_sum_right, product_assoc, product_comm, product_zero_left, product_zero_right, product_one_left, product_one_right, product_below, product_cancel, product_positive, sum_zero, sum_below, raise_below, raise_positive, raise_swap, raise_add, power_apart}
 use Rattle.gf301.proofs.Weights.{weigh, value_weigh, distance, product_swap, bytes_head, bytes_tail, bytes_cons}
@@ -182,6 +182,14 @@ unfolding scale
 bytes_scale_append a [] q h = h
 bytes_scale_append a (b ∷ p) q h = bytes_cons (a ⊗ b) (map (λ c. a ⊗ c) p ++ q) (product_below a b) (bytes_scale_append a p q h)
 
+pub times_comm : (p q : List ℕ) → times p q ≡ times q p
+times_comm p q =
+    let n : length p + length q - 1 ≡ length q + length p - 1 = omega arith in
+    same_number_lists (times p q) (times q p) (length_times_is p q ∙ n ∙ sym (length_times_is q p))
+    (λ i h.
+    let l : i < length p + length q - 1 = omega (arith, length_times_is p q) in
+    get_or-times p q i l ∙ conv_comm (coefficient p) (coefficient q) i ∙ sym (get_or-times q p i (omega arith)))
+
 -- ---- two lists of one length are equal where their values agree
 nonzeros_parts : (a : ℕ) (e : List ℕ) → nonzeros (a ∷ e) ≡ 0 → (a ≡ 0) × (nonzeros e ≡ 0)
 unfolding nonzeros
@@ -247,7 +255,7 @@ unfolding quotient
 length_quotient r b [] = refl
 length_quotient r b (a ∷ p) = ap suc (length_quotient r (a ⊕ r ⊗ b) p)
 
-carry : (r b a : ℕ) (p : List ℕ) → value (b ∷ a ∷ p) r ≡ 0 → value ((a ⊕ r ⊗ b) ∷ p) r ≡ 0
+pub carry : (r b a : ℕ) (p : List ℕ) → value (b ∷ a ∷ p) r ≡ 0 → value ((a ⊕ r ⊗ b) ∷ p) r ≡ 0
 unfolding value raise
 carry r b a p h =
     ap (λ y. y ⊕ value p r) (product_sum_left a (r ⊗ b) (raise r (length p)) ∙ xor_comm (a ⊗ raise r (length p)) ((r ⊗ b) ⊗ raise r (length p))
@@ -262,7 +270,7 @@ plus_zeros zero (a ∷ p) h = absurd (omega arith)
 plus_zeros (suc n) [] h = absurd (omega arith)
 plus_zeros (suc n) (a ∷ p) h = ap (λ t. a ∷ t) (plus_zeros n p (omega arith))
 
-bytes_carry : (r b a : ℕ) (p : List ℕ) → Bytes (b ∷ a ∷ p) → Bytes ((a ⊕ r ⊗ b) ∷ p)
+pub bytes_carry : (r b a : ℕ) (p : List ℕ) → Bytes (b ∷ a ∷ p) → Bytes ((a ⊕ r ⊗ b) ∷ p)
 bytes_carry r b a p h =
     let t : Bytes (a ∷ p) = bytes_tail b (a ∷ p) h in
     bytes_cons (a ⊕ r ⊗ b) p (sum_below a (r ⊗ b) (bytes_head a p t) (product_below r b)) (bytes_tail a p t)
@@ -299,4 +307,3 @@ value_push (a ∷ p) c x h =
     ∙ sym (xor_assoc (a ⊗ (x ⊗ raise x (length p))) (value p x ⊗ x) c)
     ∙ ap (λ y. y ⊕ value p x ⊗ x ⊕ c) (ap (λ y. a ⊗ y) (product_comm x (raise x (length p))) ∙ sym (product_assoc a (raise x (length p)) x))
     ∙ ap (λ y. y ⊕ c) (sym (product_sum_left (a ⊗ raise x (length p)) (value p x) x))
-

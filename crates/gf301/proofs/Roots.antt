@@ -1,13 +1,13 @@
 -- Roots of polynomials among the powers of 2: not more than the degree.
-use Rattle.std.proofs.Common.{◌≡◌, ℕ, zero, suc, ◌+◌, ◌-◌, ◌<◌, ◌≤◌, List, [], ◌∷◌, length, refl, sym, ap, subst, ◌∙◌, arith, inl, inr, ◌⊎◌}
+use Rattle.std.proofs.Common.{◌≡◌, ℕ, zero, suc, ◌+◌, ◌-◌, ◌<◌, ◌≤◌, List, [], ◌∷◌, length, get_or, bit_xor, ◌≢◌, All, AllPairs, refl, sym, ap, subst, ◌∙◌, arith, inl, inr, ◌⊎◌}
 use lib.Bits.{xor_zero_r}
 use Rattle.std.proofs.Math.Nat.{pos_of_ne-zero, le_refl}
 use Rattle.std.proofs.lemmas.Bool.{cases_eq}
 use Rattle.gf301.specs.Field.{◌⊕◌, ◌⊗◌, raise, power}
 use Rattle.gf301.specs.Polynomial.{value, times, Bytes}
-use Rattle.gf301.proofs.FieldLaws.{product_comm, product_one_right, product_cancel, sum_zero, sum_below, raise_below, power_apart}
-use Rattle.gf301.proofs.Weights.{bytes_head}
-use Rattle.gf301.proofs.PolyLaws.{quotient, length_quotient, bytes_quotient, root_divides, value_times, value_below, factor_value}
+use Rattle.gf301.proofs.FieldLaws.{product_comm, product_one_right, product_zero_right, product_cancel, sum_zero, sum_below, raise_below, power_apart}
+use Rattle.gf301.proofs.Weights.{bytes_head, bytes_tail}
+use Rattle.gf301.proofs.PolyLaws.{carry, bytes_carry, quotient, length_quotient, bytes_quotient, root_divides, value_times, value_below, factor_value}
 
 -- ---- a polynomial whose highest coefficient isn't 0 has no more roots among the powers below n than its degree
 unfoldable pub roots_step : ℕ → ℕ → ℕ
@@ -83,3 +83,38 @@ roots_le (suc n) b (a ∷ p) h l y =
           omega (arith, length_quotient (power n) (a ⊕ power n ⊗ b) p)
       | inr z ↦ subst (λ m. m ≤ suc (length p)) (sym (positive_step (value (b ∷ a ∷ p) (power n)) (roots (b ∷ a ∷ p) n) (pos_of_ne-zero z))) (roots_le n b (a ∷ p) (omega arith) l y)
     ]
+
+-- ---- with as many different roots as coefficients, each coefficient is 0
+all_zero_cons : (a : ℕ) (p : List ℕ) → a ≡ 0 → All (λ c. c ≡ 0) p → All (λ c. c ≡ 0) (a ∷ p)
+all_zero_cons a p e h zero d l = e
+all_zero_cons a p e h (suc k) d l = h k d (omega arith)
+
+-- where a quotient by x - r is 0, and r is a root, the dividend is 0
+zeros_from_quotient : (r b : ℕ) (p : List ℕ) → Bytes (b ∷ p) → value (b ∷ p) r ≡ 0 → All (λ c. c ≡ 0) (quotient r b p) → All (λ c. c ≡ 0) (b ∷ p)
+unfolding quotient value raise
+zeros_from_quotient r b [] hb h z =
+    all_zero_cons b [] (sym (product_one_right b (bytes_head b [] hb)) ∙ sym (xor_zero_r (b ⊗ 1)) ∙ h) (λ k d l. absurd (omega arith))
+zeros_from_quotient r b (a ∷ p) hb h z =
+    let e : b ≡ 0 = z 0 0 (omega arith) in
+    let c : a ⊕ r ⊗ b ≡ a = ap (λ y. a ⊕ r ⊗ y) e ∙ ap (bit_xor a) (product_zero_right r) ∙ xor_zero_r a in
+    let t : All (λ c. c ≡ 0) ((a ⊕ r ⊗ b) ∷ p) =
+    zeros_from_quotient r (a ⊕ r ⊗ b) p (bytes_carry r b a p hb) (carry r b a p h) (λ k d l. z (suc k) d (omega arith)) in
+    all_zero_cons b (a ∷ p) e (subst (λ y. All (λ c. c ≡ 0) (y ∷ p)) c t)
+
+-- the quotient by x - r keeps each other root
+other_root : (r s b : ℕ) (p : List ℕ) → r < 256 → s < 256 → (r ≡ s → ⊥) → Bytes (b ∷ p) → value (b ∷ p) r ≡ 0 → value (b ∷ p) s ≡ 0 → value (quotient r b p) s ≡ 0
+other_root r s b p hr hs d hb zr zs =
+    let q = quotient r b p in
+    product_cancel (s ⊕ r) (value q s) (pos_of_ne-zero (λ w. d (sym (sum_zero s r w)))) (sum_below s r hs hr) (value_below q s)
+    (product_comm (s ⊕ r) (value q s) ∙ ap (λ x. value q s ⊗ x) (sym (factor_value r s hr hs))
+    ∙ sym (value_times s q (1 ∷ r ∷ []) (omega arith)) ∙ ap (λ t. value t s) (root_divides r b p hb zr) ∙ zs)
+
+pub roots_are_few : (p roots : List ℕ) → Bytes p → Bytes roots → AllPairs (λ r s. r ≢ s) roots → All (λ r. value p r ≡ 0) roots → length p ≤ length roots → All (λ a. a ≡ 0) p
+roots_are_few [] rs hp hr d v l = λ k e h. absurd (omega arith)
+roots_are_few (b ∷ p) [] hp hr d v l = absurd (omega arith)
+roots_are_few (b ∷ p) (r ∷ rs) hp hr d v l =
+    let z : value (b ∷ p) r ≡ 0 = v 0 0 (omega arith) in
+    zeros_from_quotient r b p hp z
+    (roots_are_few (quotient r b p) rs (bytes_quotient r b p hp) (bytes_tail r rs hr) (λ i j e m n. d (suc i) (suc j) e (omega arith) (omega arith))
+    (λ k e h. other_root r (get_or rs k e) b p (bytes_head r rs hr) (bytes_tail r rs hr k e h) (d 0 (suc k) e (omega arith) (omega arith)) hp z (v (suc k) e (omega arith)))
+    (omega (arith, length_quotient r b p)))

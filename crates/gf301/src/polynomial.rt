@@ -3,9 +3,8 @@
 ghost use Rattle.std.specs.Prelude.{◌≡◌, ◌+◌, ◌<◌, ◌≤◌, length};
 ghost use Rattle.gf301.specs.Polynomial.{value, coefficient, convolution, times};
 
-use arrayvec::ArrayVec;
-
 use super::field::Gf;
+use arrayvec::ArrayVec;
 
 /// A polynomial of at most 256 coefficients, the highest power first.
 pub type Poly = ArrayVec<u8, 256>;
