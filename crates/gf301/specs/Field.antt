@@ -1,6 +1,6 @@
 -- The field of 256 elements of ISO/IEC 16022: a byte is a polynomial over bits, the highest bit first, and
--- polynomials count modulo x^8 + x^5 + x^3 + x^2 + 1, whose bits are the number 301. In each definition the low
--- byte of a larger number counts.
+-- polynomials count modulo x^8 + x^5 + x^3 + x^2 + 1, whose bits are the number 301. Elements are numbers of 0 to
+-- 255. The product is total: of a larger number its low byte counts.
 use Rattle.std.specs.Prelude.{ℕ, zero, suc, ◌+◌, ◌*◌, ◌/◌, ◌%◌, ◌^◌, bit_xor}
 
 infixl 60 ◌⊕◌
@@ -18,12 +18,13 @@ unfoldable pub carryless : ℕ → ℕ → ℕ → ℕ
 carryless zero a b = 0
 carryless (suc i) a b = bit a i * (b * 2 ^ i) ⊕ carryless i a b
 
--- What is left modulo 301 of a polynomial whose bits lie below 8 + n: from the highest bit on, 301 is taken away.
+-- What is left modulo 301 of a polynomial whose bits lie below 8 + n: from the highest bit down to bit 8, 301 shifted
+-- to end there is taken away (exclusive or) where the bit is 1.
 unfoldable pub modulo_301 : ℕ → ℕ → ℕ
 modulo_301 zero p = p
 modulo_301 (suc i) p = modulo_301 i (p ⊕ bit p (8 + i) * (301 * 2 ^ i))
 
--- The product of two elements: without carries, modulo 301.
+-- The product of two elements: the product without carries, modulo 301.
 unfoldable pub ◌⊗◌ : ℕ → ℕ → ℕ
 a ⊗ b = modulo_301 7 (carryless 8 (a % 256) (b % 256))
 

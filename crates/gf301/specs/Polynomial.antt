@@ -1,4 +1,6 @@
--- Polynomials over the field: lists of coefficients, the highest power first. Zeros at the head are allowed.
+-- Polynomials over the field: lists of coefficients, the highest power first. Zeros at the head are allowed, so
+-- lists of several lengths stand for one polynomial; the definitions speak of lists. A sum of polynomials has no name
+-- here: the codes are defined by products and values alone.
 use Rattle.std.specs.Prelude.{ℕ, zero, suc, ◌+◌, ◌-◌, ◌<◌, List, [], ◌∷◌, length, get_or}
 use Rattle.std.specs.List.{All}
 use Rattle.gf301.specs.Field.{◌⊕◌, ◌⊗◌, raise}
@@ -12,7 +14,7 @@ unfoldable pub value : List ℕ → ℕ → ℕ
 value [] x = 0
 value (a ∷ p) x = a ⊗ raise x (length p) ⊕ value p x
 
--- The coefficient at a place of the list, and 0 past its end.
+-- The coefficient at a place of the list, counted from 0 at its head, and 0 past its end.
 abbrev pub coefficient : List ℕ → ℕ → ℕ
 coefficient p i = get_or p i 0
 
@@ -20,7 +22,8 @@ coefficient p i = get_or p i 0
 abbrev pub shift : (ℕ → ℕ) → ℕ → ℕ
 shift f i = f (suc i)
 
--- The coefficient n of the product of two series: the sum of f j times g (n - j), for each j of 0 to n.
+-- The coefficient at place n of the product of two series, which are functions from a place to its coefficient: the
+-- sum of f j times g (n - j), for each j of 0 to n. Place 0 is the highest power in both, or the lowest in both.
 unfoldable pub convolution : (ℕ → ℕ) → (ℕ → ℕ) → ℕ → ℕ
 convolution f g zero = f 0 ⊗ g 0
 convolution f g (suc n) = f 0 ⊗ g (suc n) ⊕ convolution (shift f) g n
@@ -30,7 +33,7 @@ unfoldable pub values_from : (ℕ → ℕ) → ℕ → ℕ → List ℕ
 values_from f first zero = []
 values_from f first (suc count) = f first ∷ values_from f (suc first) count
 
--- The product of two polynomials that are not empty, of n and m coefficients: n + m - 1 coefficients, each the sum of
--- the products of a coefficient of p and one of q whose places add up to its own.
+-- The product of two polynomials of n and m coefficients: n + m - 1 coefficients (none where both are empty), each the
+-- sum of the products of a coefficient of p and one of q whose places add up to its own.
 unfoldable pub times : List ℕ → List ℕ → List ℕ
 times p q = values_from (convolution (coefficient p) (coefficient q)) 0 (length p + length q - 1)
