@@ -1,23 +1,25 @@
 -- Functions that take sums to sums. Two of them that agree at each power of 2 agree at every byte.
-use Rattle.std.proofs.Common.{◌≡◌, ℕ, zero, suc, ◌+◌, ◌-◌, ◌*◌, ◌/◌, ◌%◌, ◌^◌, ◌<◌, ◌≤◌, refl, sym, ap, subst, ◌∙◌, arith, bit_xor, Bool, true, false, ◌&&◌, eqb, inl, inr, ◌⊎◌}
-use Rattle.std.proofs.lemmas.Bool.{and_parts, eqb-true, cases_order}
+use Rattle.std.proofs.Common.{◌≡◌, ℕ, zero, suc, ◌+◌, ◌*◌, ◌/◌, ◌%◌, ◌^◌, ◌<◌, sym, ap, subst, ◌∙◌, arith, bit_xor, Bool, true, ◌&&◌, inl, inr}
+use Rattle.std.proofs.lemmas.Bool.{and_parts, cases_order}
 use Rattle.std.proofs.lemmas.Nat.Bits.{bit_at_xor, bit_at-lt}
-use Rattle.std.proofs.lemmas.Nat.{mod_below, xor_mod, pow_pos, shr_split, div_below}
+use Rattle.std.proofs.lemmas.Nat.{mod_below, pow_pos, shr_split, div_below}
 use lib.Bits.{xor_assoc, xor_comm, xor_self, xor_zero_r, xor_shifted}
-use Rattle.std.proofs.Math.Nat.{zero-mul, one-mul, mul_comm, pow-succ'}
+use Rattle.std.proofs.Math.Nat.{zero-mul, one-mul, pow-succ'}
 use Rattle.gf301.specs.Field.{◌⊕◌, bit}
 
+-- The middle two of four terms change places.
 pub xor_swap : (a b c d : ℕ) → (a ⊕ b) ⊕ (c ⊕ d) ≡ (a ⊕ c) ⊕ (b ⊕ d)
 xor_swap a b c d =
     xor_assoc a b (c ⊕ d)
     ∙ ap (bit_xor a) (sym (xor_assoc b c d) ∙ ap (λ x. x ⊕ d) (xor_comm b c) ∙ xor_assoc c b d)
     ∙ sym (xor_assoc a c (b ⊕ d))
 
--- a test of every number below n
+-- A test of every number below n.
 unfoldable pub all_below : ℕ → (ℕ → Bool) → Bool
 all_below zero f = true
 all_below (suc n) f = f n && all_below n f
 
+-- Where the test of every number below n passes, it passes at each of them.
 pub all_below_at : (n : ℕ) (f : ℕ → Bool) → all_below n f ≡ true → (i : ℕ) → i < n → f i ≡ true
 unfolding all_below
 all_below_at zero f e i h = absurd (omega arith)
@@ -27,13 +29,15 @@ all_below_at (suc n) f e i h =
       | inr r ↦ elim r [ inl l ↦ all_below_at n f (and_parts (f n) (all_below n f) e).1 i l | inr g ↦ absurd (omega arith) ]
     ]
 
+-- f takes sums to sums.
 abbrev pub Additive : (ℕ → ℕ) → Type 0
 Additive f = (a b : ℕ) → f (a ⊕ b) ≡ f a ⊕ f b
 
+-- Such a function takes 0 to 0.
 pub additive_zero : (f : ℕ → ℕ) → Additive f → f 0 ≡ 0
 additive_zero f h = ap f (sym (xor_self 0)) ∙ h 0 0 ∙ xor_self (f 0)
 
--- the digits 0 and 1 times c
+-- The digits 0 and 1 times c.
 pub digit_times : (x y c : ℕ) → x < 2 → y < 2 → (x + y) % 2 * c ≡ x * c ⊕ y * c
 digit_times zero zero c hx hy = simp (zero-mul)
 digit_times zero (suc zero) c hx hy = simp (zero-mul, one-mul)
@@ -43,20 +47,23 @@ digit_times zero (suc (suc y)) c hx hy = absurd (omega arith)
 digit_times (suc zero) (suc (suc y)) c hx hy = absurd (omega arith)
 digit_times (suc (suc x)) y c hx hy = absurd (omega arith)
 
+-- A bit of a sum, times c, is the sum of the two bits times c.
 pub bit_times : (a b i c : ℕ) → bit (a ⊕ b) i * c ≡ bit a i * c ⊕ bit b i * c
 bit_times a b i c = ap (λ x. x * c) (bit_at_xor a b i) ∙ digit_times (bit a i) (bit b i) c (bit_at-lt a i) (bit_at-lt b i)
 
--- a number of w + 1 bits is its highest bit and the rest
+-- A number of w + 1 bits is its highest bit and the rest.
 pub top_split : (w a : ℕ) → a < 2 ^ suc w → (q : ℕ) × (q < 2) × (a ≡ q * 2 ^ w ⊕ a % 2 ^ w)
 top_split w a h =
     let e : a < 2 * 2 ^ w = subst (λ x. a < x) (pow-succ' 2 w) h in
     (a / 2 ^ w, div_below a (2 ^ w) 2 (pow_pos w) e, sym (shr_split a w) ∙ sym (xor_shifted (a / 2 ^ w) w (a % 2 ^ w) (mod_below a (2 ^ w) (pow_pos w))))
 
+-- Additive functions that agree at p agree at the digits 0 and 1 times p.
 digit_agree : (f g : ℕ → ℕ) → Additive f → Additive g → (p q : ℕ) → q < 2 → f p ≡ g p → f (q * p) ≡ g (q * p)
 digit_agree f g hf hg p zero h e = simp (zero-mul) (additive_zero f hf ∙ sym (additive_zero g hg))
 digit_agree f g hf hg p (suc zero) h e = simp (one-mul) e
 digit_agree f g hf hg p (suc (suc q)) h e = absurd (omega arith)
 
+-- Additive functions that agree at each power of 2 below 2 ^ w agree at each number below it.
 pub additive_agree : (f g : ℕ → ℕ) → Additive f → Additive g → (w : ℕ) → ((i : ℕ) → i < w → f (2 ^ i) ≡ g (2 ^ i)) → (a : ℕ) → a < 2 ^ w → f a ≡ g a
 additive_agree f g hf hg zero e zero h = additive_zero f hf ∙ sym (additive_zero g hg)
 additive_agree f g hf hg zero e (suc a) h = absurd (omega arith)

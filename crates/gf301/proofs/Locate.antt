@@ -1,26 +1,25 @@
 -- The places of a list that are not 0, from the sums of powers of their locators.
-use Rattle.std.proofs.Common.{◌≡◌, ℕ, zero, suc, ◌+◌, ◌-◌, ◌*◌, ◌<◌, ◌≤◌, List, [], ◌∷◌, ◌++◌, length, get_or, replicate, refl, sym, ap, subst, ◌∙◌, arith, bit_xor, inl, inr, ◌⊎◌}
-use lib.Bits.{xor_assoc, xor_comm, xor_self, xor_zero_r}
+use Rattle.std.proofs.Common.{◌≡◌, ℕ, zero, suc, ◌+◌, ◌-◌, ◌<◌, ◌≤◌, List, [], ◌∷◌, length, get_or, refl, sym, ap, ◌∙◌, arith, bit_xor, inl, inr, ◌⊎◌}
+use lib.Bits.{xor_self, xor_zero_r}
 use Rattle.gf301.specs.Field.{◌⊕◌, ◌⊗◌, raise, power}
-use Rattle.gf301.specs.Polynomial.{value, shift, convolution, coefficient, times, Bytes}
-use Rattle.gf301.proofs.Lists.{plus, scale, nonzeros}
-use Rattle.gf301.proofs.FieldLaws.{product_sum_left, product_sum_right, product_assoc, product_comm, product_zero_left, product_zero_right, product_one_left, product_one_right, product_below, raise_below, raise_add, product_cancel, sum_zero, sum_below, power_apart}
-use Rattle.gf301.proofs.Weights.{weigh, weighted, weigh_sum, weigh_scale, weigh_same, weigh_weighted, weigh_zeros, length-weighted, bytes_weighted, nonzeros_weighted, distance, product_swap, bytes_head}
-use Rattle.std.proofs.Math.Nat.{pos_of_ne-zero, le_refl}
+use Rattle.gf301.specs.Polynomial.{value, convolution, coefficient, times}
+use Rattle.gf301.proofs.Lists.{nonzeros}
+use Rattle.gf301.proofs.FieldLaws.{product_sum_right, product_comm, product_zero_left, product_zero_right, product_one_left, raise_below, raise_add}
+use Rattle.gf301.proofs.Weights.{weigh, weighted, weigh_sum, weigh_scale, weigh_same, weigh_weighted, weigh_zeros, length-weighted, bytes_weighted, nonzeros_weighted, distance, product_swap}
 use Rattle.std.proofs.lemmas.Bool.{cases_eq}
-use Rattle.gf301.proofs.PolyLaws.{bytes_quotient, length_quotient, value_below, quotient, root_divides, value_times, length_times, factor_value, get_or-times, get_or-plus}
+use Rattle.gf301.proofs.PolyLaws.{value_times, length_times, factor_value, get_or-times}
 use Rattle.gf301.proofs.Series.{conv_cons, conv_single}
 
--- the sums of the powers from 1 on
+-- The sums of the powers from 1 on.
 unfoldable pub sums : List ℕ → ℕ → ℕ
 sums e i = weigh (λ x. raise x (suc i)) e
 
--- p, the highest power first, laid on s from the place u
+-- p, the highest power first, laid on s from the place u.
 unfoldable pub laid : List ℕ → (ℕ → ℕ) → ℕ → ℕ
 laid [] s u = 0
 laid (a ∷ p) s u = a ⊗ s (length p + u) ⊕ laid p s u
 
--- the coefficients of the product from the degree on
+-- The coefficients of the product from the degree on.
 pub conv_laid : (a : ℕ) (p : List ℕ) (s : ℕ → ℕ) (u : ℕ) → convolution (coefficient (a ∷ p)) s (length p + u) ≡ laid (a ∷ p) s u
 unfolding laid
 conv_laid a [] s u = conv_single a s (0 + u) ∙ sym (xor_zero_r (a ⊗ s (0 + u)))
@@ -30,7 +29,7 @@ conv_laid a (b ∷ p) s u =
     ∙ ap (λ n. a ⊗ s n ⊕ convolution (coefficient (b ∷ p)) s (length p + u)) (sym e)
     ∙ ap (bit_xor (a ⊗ s (suc (length p) + u))) (conv_laid b p s u)
 
--- laid on the sums, p weighs each place by its value there
+-- Laid on the sums, p weighs each place by its value there.
 pub laid_sums : (e p : List ℕ) (u : ℕ) → laid p (sums e) u ≡ weigh (λ x. raise x (suc u) ⊗ value p x) e
 unfolding laid sums value
 laid_sums e [] u = sym (weigh_same (λ x. raise x (suc u) ⊗ 0) (λ x. 0 ⊗ 0) (λ x. product_zero_right (raise x (suc u)) ∙ sym (product_zero_left 0)) e ∙ weigh_scale 0 (λ x. 0) e ∙ product_zero_left (weigh (λ x. 0) e))
@@ -43,7 +42,7 @@ laid_sums e (a ∷ p) u =
     ∙ ap (λ y. y ⊕ raise x (suc u) ⊗ value p x) (product_swap a (raise x (suc u)) (raise x (length p)))
     ∙ sym (product_sum_right (raise x (suc u)) (a ⊗ raise x (length p)) (value p x))) e
 
--- ---- what connects the sums is 0 at each place that isn't 0
+-- ---- What connects the sums is 0 at each place that isn't 0
 pub vanishes : (e : List ℕ) (a : ℕ) (p : List ℕ) (m k : ℕ) → length e ≤ 255 → nonzeros e ≤ m → length p + m ≤ k
     → ((i : ℕ) → length p ≤ i → i < k → convolution (coefficient (a ∷ p)) (sums e) i ≡ 0) → nonzeros (weighted (value (a ∷ p)) e) ≡ 0
 vanishes e a p m k h z n g =
@@ -54,7 +53,7 @@ vanishes e a p m k h z n g =
     (λ x. product_comm (value (a ∷ p) x) (raise x (1 + i)) ∙ ap (λ j. raise x j ⊗ value (a ∷ p) x) (let q : 1 + i ≡ suc i = omega arith in q)) e
     ∙ sym (laid_sums e (a ∷ p) i) ∙ sym (conv_laid a p (sums e) i) ∙ g (length p + i) (omega arith) (omega arith))
 
--- ---- and what is 0 at each of them connects the sums
+-- ---- And what is 0 at each of them connects the sums
 pub connects : (e : List ℕ) (a : ℕ) (p : List ℕ) → nonzeros (weighted (value (a ∷ p)) e) ≡ 0 → (i : ℕ) → length p ≤ i → convolution (coefficient (a ∷ p)) (sums e) i ≡ 0
 connects e a p z i h =
     let u = i - length p in
@@ -62,20 +61,23 @@ connects e a p z i h =
     ∙ weigh_same (λ x. raise x (suc u) ⊗ value (a ∷ p) x) (λ x. value (a ∷ p) x ⊗ raise x (suc u)) (λ x. product_comm (raise x (suc u)) (value (a ∷ p) x)) e
     ∙ sym (weigh_weighted (λ x. raise x (suc u)) (value (a ∷ p)) e) ∙ weigh_zeros (λ x. raise x (suc u)) (weighted (value (a ∷ p)) e) z
 
--- ---- the locator of a list: the product of the factors of its places that aren't 0
+-- ---- The locator of a list: the product of the factors of its places that aren't 0
 unfoldable pub locate : List ℕ → List ℕ
 locate [] = 1 ∷ []
 locate (zero ∷ e) = locate e
 locate (suc a ∷ e) = times (1 ∷ power (length e) ∷ []) (locate e)
 
+-- The first coefficient of a product with x - r.
 head_times : (r b : ℕ) (p : List ℕ) → get_or (times (1 ∷ r ∷ []) (b ∷ p)) 0 0 ≡ 1 ⊗ b
 unfolding convolution
 head_times r b p = get_or-times (1 ∷ r ∷ []) (b ∷ p) 0 (omega arith)
 
+-- It is 1 where the first coefficient of the other factor is.
 head_product : (r : ℕ) (p : List ℕ) → 0 < length p → get_or p 0 0 ≡ 1 → get_or (times (1 ∷ r ∷ []) p) 0 0 ≡ 1
 head_product r [] l h = absurd (omega arith)
 head_product r (b ∷ p) l h = head_times r b p ∙ ap (λ y. 1 ⊗ y) h ∙ product_one_left 1 (omega arith)
 
+-- The locator has one coefficient more than there are places that are not 0.
 pub length-locate : (e : List ℕ) → length (locate e) ≡ suc (nonzeros e)
 unfolding locate nonzeros
 length-locate [] = refl
@@ -85,23 +87,26 @@ length-locate (suc a ∷ e) =
     let l : length (times (1 ∷ power (length e) ∷ []) (locate e)) + 1 ≡ 2 + length (locate e) = length_times (1 ∷ power (length e) ∷ []) (locate e) (omega arith) in
     omega arith
 
+-- Its first coefficient is 1.
 pub head-locate : (e : List ℕ) → get_or (locate e) 0 0 ≡ 1
 unfolding locate
 head-locate [] = refl
 head-locate (zero ∷ e) = head-locate e
 head-locate (suc a ∷ e) = head_product (power (length e)) (locate e) (omega (arith, length-locate e)) (head-locate e)
 
+-- 0 before zeros.
 zeros_cons : (a : ℕ) (e : List ℕ) → a ≡ 0 → nonzeros e ≡ 0 → nonzeros (a ∷ e) ≡ 0
 unfolding nonzeros
 zeros_cons zero e h z = z
 zeros_cons (suc a) e h z = absurd (omega arith)
 
+-- A list of zeros has a head of 0 and a tail of zeros.
 zeros_parts : (a : ℕ) (e : List ℕ) → nonzeros (a ∷ e) ≡ 0 → (a ≡ 0) × (nonzeros e ≡ 0)
 unfolding nonzeros
 zeros_parts zero e h = (refl, h)
 zeros_parts (suc a) e h = absurd (omega arith)
 
--- a weight of 0 at a place stays 0 under a factor
+-- A weight of 0 at a place stays 0 under a factor.
 weighted_factor : (f c : ℕ → ℕ) (e : List ℕ) → nonzeros (weighted f e) ≡ 0 → nonzeros (weighted (λ x. c x ⊗ f x) e) ≡ 0
 unfolding weighted
 weighted_factor f c [] z = z
@@ -110,9 +115,11 @@ weighted_factor f c (a ∷ e) z =
     let p : (a ⊗ f x ≡ 0) × (nonzeros (weighted f e) ≡ 0) = zeros_parts (a ⊗ f x) (weighted f e) z in
     zeros_cons (a ⊗ (c x ⊗ f x)) (weighted (λ x. c x ⊗ f x) e) (product_swap a (c x) (f x) ∙ ap (λ y. c x ⊗ y) p.0 ∙ product_zero_right (c x)) (weighted_factor f c e p.1)
 
+-- Functions with the same values are equal.
 same_functions : {f g : ℕ → ℕ} → ((i : ℕ) → f i ≡ g i) → f ≡ g
 same_functions h = λ k i. h i k
 
+-- The locator is 0 at the locator of each place that is not 0.
 pub zeros-locate : (e : List ℕ) → nonzeros (weighted (value (locate e)) e) ≡ 0
 unfolding locate weighted nonzeros
 zeros-locate [] = refl
@@ -126,22 +133,26 @@ zeros-locate (suc a ∷ e) =
     (ap (λ y. suc a ⊗ y) (v r ∙ ap (λ y. y ⊗ value g r) (factor_value r r (raise_below 2 (length e)) (raise_below 2 (length e)) ∙ xor_self r) ∙ product_zero_left (value g r)) ∙ product_zero_right (suc a))
     (ap (λ f. nonzeros (weighted f e)) (same_functions v) ∙ weighted_factor (value g) (value (1 ∷ r ∷ [])) e (zeros-locate e))
 
--- ---- the value at a place, from a polynomial that is 0 at each other place that isn't 0
--- the element with i elements after it
+-- ---- The value at a place, from a polynomial that is 0 at each other place that isn't 0
+-- The element with i elements after it.
 unfoldable pub at_place : List ℕ → ℕ → ℕ
 at_place e i = get_or e (length e - suc i) 0
 
+-- The head has all the others after it.
 place_head : (a : ℕ) (e : List ℕ) → at_place (a ∷ e) (length e) ≡ a
 unfolding at_place
 place_head a e = ap (λ n. get_or (a ∷ e) n 0) (let q : suc (length e) - suc (length e) ≡ 0 = omega arith in q)
 
+-- A later element has as many after it with the head as without.
 place_tail : (a : ℕ) (e : List ℕ) (i : ℕ) → i < length e → at_place (a ∷ e) i ≡ at_place e i
 unfolding at_place
 place_tail a e i h = ap (λ n. get_or (a ∷ e) n 0) (let q : suc (length e) - suc i ≡ suc (length e - suc i) = omega arith in q)
 
+-- A smaller number is another one.
 below_not : {m n : ℕ} → m < n → m ≡ n → ⊥
 below_not h e = omega arith
 
+-- A sum whose every part is 0.
 weigh_nothing : (f : ℕ → ℕ) (e : List ℕ) → ((i : ℕ) → i < length e → at_place e i ⊗ f (power i) ≡ 0) → weigh f e ≡ 0
 unfolding weigh
 weigh_nothing f [] h = refl
@@ -149,6 +160,7 @@ weigh_nothing f (a ∷ e) h =
     ap (λ y. y ⊕ weigh f e) (ap (λ x. x ⊗ f (power (length e))) (sym (place_head a e)) ∙ h (length e) (omega arith))
     ∙ weigh_nothing f e (λ i l. ap (λ x. x ⊗ f (power i)) (sym (place_tail a e i l)) ∙ h i (omega arith))
 
+-- A sum of which one part is left.
 pub weigh_one : (f : ℕ → ℕ) (j : ℕ) (e : List ℕ) → j < length e → ((i : ℕ) → i < length e → (i ≡ j → ⊥) → at_place e i ⊗ f (power i) ≡ 0) → weigh f e ≡ at_place e j ⊗ f (power j)
 unfolding weigh
 weigh_one f j [] l h = absurd (omega arith)
@@ -165,7 +177,7 @@ weigh_one f j (a ∷ e) l h =
           ∙ ap (λ x. x ⊗ f (power j)) (sym (place_tail a e j m))
     ]
 
--- p laid on the sums gives the value at j times what is known
+-- p laid on the sums gives the value at j times what is known.
 pub value_from_sums : (e p : List ℕ) (j : ℕ) → j < length e → ((i : ℕ) → i < length e → (i ≡ j → ⊥) → (at_place e i ≡ 0) ⊎ (value p (power i) ≡ 0))
     → laid p (sums e) 0 ≡ at_place e j ⊗ (raise (power j) 1 ⊗ value p (power j))
 value_from_sums e p j l h =

@@ -1,27 +1,29 @@
 -- Laws of polynomials.
-use Rattle.std.proofs.Common.{◌≡◌, ℕ, zero, suc, ◌+◌, ◌-◌, ◌*◌, ◌<◌, ◌≤◌, List, [], ◌∷◌, ◌++◌, length, map, replicate, get_or, take, drop, drop-cons, zero-add, refl, sym, ap, subst, ◌∙◌, arith, bit_xor, inl, inr, ◌⊎◌, All, length-append}
+use Rattle.std.proofs.Common.{◌≡◌, ℕ, zero, suc, ◌+◌, ◌-◌, ◌<◌, ◌≤◌, List, [], ◌∷◌, ◌++◌, length, map, replicate, get_or, zero-add, refl, sym, ap, ◌∙◌, arith, bit_xor, length-append}
 use lib.Bits.{xor_assoc, xor_comm, xor_self, xor_zero_r}
-use Rattle.std.proofs.Math.Nat.{le_refl, pos_of_ne-zero, suc-add}
 use Rattle.std.proofs.lemmas.List.{length-map, length-replicate}
 use Rattle.std.proofs.lemmas.Grind.{same_number_lists}
 use Rattle.gf301.specs.Field.{◌⊕◌, ◌⊗◌, raise, power}
-use Rattle.gf301.specs.Polynomial.{value, coefficient, shift, convolution, values_from, times, Bytes}
+use Rattle.gf301.specs.Polynomial.{value, coefficient, convolution, values_from, times, Bytes}
 use Rattle.gf301.proofs.Lists.{plus, scale, nonzeros}
 use Rattle.gf301.proofs.Series.{conv_below, conv_comm, conv_nothing, conv_cons}
 use Rattle.gf301.proofs.Additive.{xor_swap}
-use Rattle.gf301.proofs.FieldLaws.{product_sum_left, product_sum_right, product_assoc, product_comm, product_zero_left, product_zero_right, product_one_left, product_one_right, product_below, product_cancel, product_positive, sum_zero, sum_below, raise_below, raise_positive, raise_swap, raise_add, power_apart}
-use Rattle.gf301.proofs.Weights.{weigh, value_weigh, distance, product_swap, bytes_head, bytes_tail, bytes_cons}
+use Rattle.gf301.proofs.FieldLaws.{product_sum_left, product_sum_right, product_assoc, product_comm, product_zero_left, product_zero_right, product_one_left, product_one_right, product_below, sum_zero, sum_below, raise_add}
+use Rattle.gf301.proofs.Weights.{value_weigh, distance, bytes_head, bytes_tail, bytes_cons}
 
+-- A sum is as long as its parts.
 pub length_plus : (p q : List ℕ) → length p ≡ length q → length (plus p q) ≡ length p
 unfolding plus
 length_plus [] q h = refl
 length_plus (a ∷ p) [] h = absurd (omega arith)
 length_plus (a ∷ p) (b ∷ q) h = ap suc (length_plus p q (omega arith))
 
+-- A multiple is as long.
 pub length_scale : (a : ℕ) (p : List ℕ) → length (scale a p) ≡ length p
 unfolding scale
 length_scale a p = length-map p (λ b. a ⊗ b)
 
+-- The value of a sum is the sum of the values.
 pub value_plus : (x : ℕ) (p q : List ℕ) → length p ≡ length q → value (plus p q) x ≡ value p x ⊕ value q x
 unfolding plus value
 value_plus x [] [] h = refl
@@ -35,6 +37,7 @@ value_plus x (a ∷ p) (b ∷ q) h =
     ∙ xor_swap (a ⊗ raise x (length p)) (b ⊗ raise x (length p)) (value p x) (value q x)
     ∙ ap (λ n. (a ⊗ raise x (length p) ⊕ value p x) ⊕ (b ⊗ raise x n ⊕ value q x)) k
 
+-- The value of a multiple is the multiple of the value.
 pub value_scale : (x a : ℕ) (p : List ℕ) → value (scale a p) x ≡ a ⊗ value p x
 unfolding scale value
 value_scale x a [] = sym (product_zero_right a)
@@ -44,11 +47,13 @@ value_scale x a (b ∷ p) =
     ∙ ap (λ y. y ⊕ a ⊗ value p x) (product_assoc a b (raise x (length p)))
     ∙ sym (product_sum_right a (b ⊗ raise x (length p)) (value p x))
 
+-- The value of zeros is 0.
 pub value_zeros : (x n : ℕ) → value (replicate n 0) x ≡ 0
 unfolding value
 value_zeros x zero = refl
 value_zeros x (suc n) = ap (λ y. y ⊕ value (replicate n 0) x) (product_zero_left (raise x (length (replicate n 0)))) ∙ value_zeros x n
 
+-- n zeros at the end multiply the value by x to the power n.
 pub value_shift : (x n : ℕ) (p : List ℕ) → value (p ++ replicate n 0) x ≡ value p x ⊗ raise x n
 unfolding value
 value_shift x n [] = value_zeros x n ∙ sym (product_zero_left (raise x n))
@@ -60,6 +65,7 @@ value_shift x n (a ∷ p) =
     ∙ ap (λ y. y ⊕ value p x ⊗ raise x n) (sym (product_assoc a (raise x (length p)) (raise x n)))
     ∙ sym (product_sum_left (a ⊗ raise x (length p)) (value p x) (raise x n))
 
+-- A coefficient of a sum.
 pub get_or-plus : (p q : List ℕ) (k : ℕ) → length p ≡ length q → get_or (plus p q) k 0 ≡ get_or p k 0 ⊕ get_or q k 0
 unfolding plus
 get_or-plus [] [] k h = refl
@@ -68,23 +74,26 @@ get_or-plus (a ∷ p) [] k h = absurd (omega arith)
 get_or-plus (a ∷ p) (b ∷ q) zero h = refl
 get_or-plus (a ∷ p) (b ∷ q) (suc k) h = get_or-plus p q k (omega arith)
 
+-- A coefficient of zeros.
 get_or-zeros : (n k : ℕ) → ◌≡◌ {A = ℕ} (get_or (replicate n 0) k 0) 0
 get_or-zeros zero k = refl
 get_or-zeros (suc n) zero = refl
 get_or-zeros (suc n) (suc k) = get_or-zeros n k
 
+-- A coefficient of a multiple, zeros after it.
 pub get_or-scale : (a : ℕ) (q : List ℕ) (n k : ℕ) → get_or (scale a q ++ replicate n 0) k 0 ≡ a ⊗ get_or q k 0
 unfolding scale
 get_or-scale a [] n k = get_or-zeros n k ∙ sym (product_zero_right a)
 get_or-scale a (b ∷ q) n zero = refl
 get_or-scale a (b ∷ q) n (suc k) = get_or-scale a q n k
 
--- ---- the list of a function's values
+-- ---- The list of a function's values
 pub length-values_from : (f : ℕ → ℕ) (first n : ℕ) → length (values_from f first n) ≡ n
 unfolding values_from
 length-values_from f first zero = refl
 length-values_from f first (suc n) = ap suc (length-values_from f (suc first) n)
 
+-- The element i is the value at first + i.
 pub get_or-values_from : (f : ℕ → ℕ) (first n i : ℕ) → i < n → get_or (values_from f first n) i 0 ≡ f (first + i)
 unfolding values_from
 get_or-values_from f first zero i h = absurd (omega arith)
@@ -92,6 +101,7 @@ get_or-values_from f first (suc n) zero h = ap f (let e : first ≡ first + 0 = 
 get_or-values_from f first (suc n) (suc i) h =
     get_or-values_from f (suc first) n i (omega arith) ∙ ap f (let e : suc first + i ≡ first + suc i = omega arith in e)
 
+-- One value more stands at the end.
 pub values_from_push : (f : ℕ → ℕ) (first n : ℕ) → values_from f first (suc n) ≡ values_from f first n ++ f (first + n) ∷ []
 unfolding values_from
 values_from_push f first zero = ap (λ k. f k ∷ []) (let e : first ≡ first + 0 = omega arith in e)
@@ -99,41 +109,47 @@ values_from_push f first (suc n) =
     ap (λ t. f first ∷ t) (values_from_push f (suc first) n)
     ∙ ap (λ k. f first ∷ values_from f (suc first) n ++ f k ∷ []) (let e : suc first + n ≡ first + suc n = omega arith in e)
 
+-- Values below 256 make a list of bytes.
 bytes_values_from : (f : ℕ → ℕ) → ((i : ℕ) → f i < 256) → (first n : ℕ) → Bytes (values_from f first n)
 unfolding values_from
 bytes_values_from f h first zero = λ k d l. absurd (omega arith)
 bytes_values_from f h first (suc n) = bytes_cons (f first) (values_from f (suc first) n) (h first) (bytes_values_from f h (suc first) n)
 
--- ---- the product
+-- ---- The product
 length_times_is : (p q : List ℕ) → length (times p q) ≡ length p + length q - 1
 unfolding times
 length_times_is p q = length-values_from (convolution (coefficient p) (coefficient q)) 0 (length p + length q - 1)
 
+-- A product has as many coefficients as its factors together, less one.
 pub length_times : (p q : List ℕ) → 0 < length q → length (times p q) + 1 ≡ length p + length q
 length_times p q h = omega (arith, length_times_is p q)
 
+-- A coefficient of a product.
 pub get_or-times : (p q : List ℕ) (n : ℕ) → n < length p + length q - 1 → get_or (times p q) n 0 ≡ convolution (coefficient p) (coefficient q) n
 unfolding times
 get_or-times p q n h =
     get_or-values_from (convolution (coefficient p) (coefficient q)) 0 (length p + length q - 1) n h
     ∙ ap (convolution (coefficient p) (coefficient q)) (zero-add n)
 
+-- A product has bytes as coefficients, whatever the factors are.
 pub bytes_times : (p q : List ℕ) → Bytes (times p q)
 unfolding times
 bytes_times p q =
     bytes_values_from (convolution (coefficient p) (coefficient q)) (conv_below (coefficient p) (coefficient q)) 0 (length p + length q - 1)
 
+-- The product with the empty list is zeros.
 pub times_nothing : (q : List ℕ) → 0 < length q → times [] q ≡ replicate (length q - 1) 0
 times_nothing q h =
     same_number_lists (times [] q) (replicate (length q - 1) 0)
     (length_times_is [] q ∙ (let e : 0 + length q - 1 ≡ length q - 1 = omega arith in e) ∙ sym (length-replicate (length q - 1) 0))
     (λ n l. get_or-times [] q n (omega (arith, length_times_is [] q)) ∙ conv_nothing (coefficient q) n ∙ sym (get_or-zeros (length q - 1) n))
 
+-- The first coefficient of a product.
 head_first : (a : ℕ) (p q : List ℕ) → convolution (coefficient (a ∷ p)) (coefficient q) 0 ≡ a ⊗ get_or q 0 0
 unfolding convolution
 head_first a p q = refl
 
--- the places of the product by its head
+-- The places of the product by its head.
 head_places : (a : ℕ) (p q : List ℕ) (n : ℕ) → 0 < length q → n < length p + length q
     → convolution (coefficient (a ∷ p)) (coefficient q) n ≡ get_or (scale a q ++ replicate (length p) 0) n 0 ⊕ get_or (0 ∷ times p q) n 0
 head_places a p q zero h l = head_first a p q ∙ sym (get_or-scale a q (length p) 0) ∙ sym (xor_zero_r (get_or (scale a q ++ replicate (length p) 0) 0 0))
@@ -142,6 +158,7 @@ head_places a p q (suc n) h l =
     ∙ ap (λ y. y ⊕ convolution (coefficient p) (coefficient q) n) (sym (get_or-scale a q (length p) (suc n)))
     ∙ ap (bit_xor (get_or (scale a q ++ replicate (length p) 0) (suc n) 0)) (sym (get_or-times p q n (omega arith)))
 
+-- The product by the head of its left factor: a x^n + p has (a x^n) q + p q.
 pub times_head : (a : ℕ) (p q : List ℕ) → 0 < length q → times (a ∷ p) q ≡ plus (scale a q ++ replicate (length p) 0) (0 ∷ times p q)
 times_head a p q h =
     let m = scale a q ++ replicate (length p) 0 in
@@ -152,6 +169,7 @@ times_head a p q h =
     same_number_lists (times (a ∷ p) q) (plus m t) (omega (arith, length_plus m t same))
     (λ n l. get_or-times (a ∷ p) q n (omega arith) ∙ head_places a p q n h (omega arith) ∙ sym (get_or-plus m t n same))
 
+-- The value of a product is the product of the values.
 pub value_times : (x : ℕ) (p q : List ℕ) → 0 < length q → value (times p q) x ≡ value p x ⊗ value q x
 unfolding value
 value_times x [] q h = ap (λ t. value t x) (times_nothing q h) ∙ value_zeros x (length q - 1) ∙ sym (product_zero_left (value q x))
@@ -165,6 +183,7 @@ value_times x (a ∷ p) q h =
     ∙ ap (λ y. y ⊕ value p x ⊗ value q x) (product_assoc a (value q x) (raise x (length p)) ∙ ap (λ y. a ⊗ y) (product_comm (value q x) (raise x (length p))) ∙ sym (product_assoc a (raise x (length p)) (value q x)))
     ∙ sym (product_sum_left (a ⊗ raise x (length p)) (value p x) (value q x))
 
+-- A sum of bytes is of bytes.
 pub bytes_plus : (p q : List ℕ) → Bytes p → Bytes q → Bytes (plus p q)
 unfolding plus
 bytes_plus [] q hp hq = λ k d l. absurd (omega arith)
@@ -172,16 +191,18 @@ bytes_plus (a ∷ p) [] hp hq = λ k d l. absurd (omega arith)
 bytes_plus (a ∷ p) (b ∷ q) hp hq =
     bytes_cons (a ⊕ b) (plus p q) (sum_below a b (bytes_head a p hp) (bytes_head b q hq)) (bytes_plus p q (bytes_tail a p hp) (bytes_tail b q hq))
 
+-- Zeros are bytes.
 pub bytes_zeros : (n : ℕ) → Bytes (replicate n 0)
 bytes_zeros zero = λ k d l. absurd (omega arith)
 bytes_zeros (suc n) = bytes_cons 0 (replicate n 0) (omega arith) (bytes_zeros n)
 
--- a product of each element, followed by bytes
+-- A product of each element, followed by bytes.
 bytes_scale_append : (a : ℕ) (p q : List ℕ) → Bytes q → Bytes (scale a p ++ q)
 unfolding scale
 bytes_scale_append a [] q h = h
 bytes_scale_append a (b ∷ p) q h = bytes_cons (a ⊗ b) (map (λ c. a ⊗ c) p ++ q) (product_below a b) (bytes_scale_append a p q h)
 
+-- The product is commutative.
 pub times_comm : (p q : List ℕ) → times p q ≡ times q p
 times_comm p q =
     let n : length p + length q - 1 ≡ length q + length p - 1 = omega arith in
@@ -190,12 +211,13 @@ times_comm p q =
     let l : i < length p + length q - 1 = omega (arith, length_times_is p q) in
     get_or-times p q i l ∙ conv_comm (coefficient p) (coefficient q) i ∙ sym (get_or-times q p i (omega arith)))
 
--- ---- two lists of one length are equal where their values agree
+-- ---- Two lists of one length are equal where their values agree
 nonzeros_parts : (a : ℕ) (e : List ℕ) → nonzeros (a ∷ e) ≡ 0 → (a ≡ 0) × (nonzeros e ≡ 0)
 unfolding nonzeros
 nonzeros_parts zero e h = (refl, h)
 nonzeros_parts (suc a) e h = absurd (omega arith)
 
+-- Lists of one length whose sum is zeros are equal.
 same_from_sum : (p q : List ℕ) → length p ≡ length q → nonzeros (plus p q) ≡ 0 → p ≡ q
 unfolding plus
 same_from_sum [] [] l h = refl
@@ -205,13 +227,14 @@ same_from_sum (a ∷ p) (b ∷ q) l h =
     let s : (a ⊕ b ≡ 0) × (nonzeros (plus p q) ≡ 0) = nonzeros_parts (a ⊕ b) (plus p q) h in
     ap (λ c. c ∷ p) (sum_zero a b s.0) ∙ ap (λ t. b ∷ t) (same_from_sum p q (omega arith) s.1)
 
+-- No more places than there are differ from 0.
 nonzeros-le-length : (e : List ℕ) → nonzeros e ≤ length e
 unfolding nonzeros
 nonzeros-le-length [] = omega arith
 nonzeros-le-length (zero ∷ e) = omega (arith, nonzeros-le-length e)
 nonzeros-le-length (suc a ∷ e) = omega (arith, nonzeros-le-length e)
 
--- with values that agree at 2^1 to 2^m, and at most m places that differ
+-- With values that agree at 2^1 to 2^m, and at most m places that differ.
 pub same_from_values : (p q : List ℕ) (m : ℕ) → length p ≡ length q → length p ≤ 255 → Bytes p → Bytes q → nonzeros (plus p q) ≤ m
     → ((i : ℕ) → i < m → value p (power (1 + i)) ≡ value q (power (1 + i))) → p ≡ q
 same_from_values p q m l h hp hq z v =
@@ -219,10 +242,12 @@ same_from_values p q m l h hp hq z v =
     (distance (length p) (plus p q) m 1 (length_plus p q l) h (bytes_plus p q hp hq) z
     (λ i b. sym (value_weigh (1 + i) (plus p q)) ∙ value_plus (power (1 + i)) p q l ∙ ap (λ y. y ⊕ value q (power (1 + i))) (v i b) ∙ xor_self (value q (power (1 + i)))))
 
+-- Lists of one length of at most 255 with the same values are equal.
 pub same_values : (p q : List ℕ) → length p ≡ length q → length p ≤ 255 → Bytes p → Bytes q → ((x : ℕ) → value p x ≡ value q x) → p ≡ q
 same_values p q l h hp hq v =
     same_from_values p q (length p) l h hp hq (omega (arith, nonzeros-le-length (plus p q), length_plus p q l)) (λ i b. v (power (1 + i)))
 
+-- The product is associative, up to 255 coefficients.
 pub times_assoc : (p q g : List ℕ) → 0 < length q → 0 < length g → length p + length q + length g ≤ 257 → times (times p q) g ≡ times p (times q g)
 times_assoc p q g hq hg h =
     let a : length (times p q) + 1 ≡ length p + length q = length_times p q hq in
@@ -233,28 +258,31 @@ times_assoc p q g hq hg h =
     (λ x. value_times x (times p q) g hg ∙ ap (λ y. y ⊗ value g x) (value_times x p q hq) ∙ product_assoc (value p x) (value q x) (value g x)
     ∙ ap (λ y. value p x ⊗ y) (sym (value_times x q g hg)) ∙ sym (value_times x p (times q g) (omega arith)))
 
+-- A value is a byte.
 pub value_below : (p : List ℕ) (x : ℕ) → value p x < 256
 unfolding value
 value_below [] x = omega arith
 value_below (a ∷ p) x = sum_below (a ⊗ raise x (length p)) (value p x) (product_below a (raise x (length p))) (value_below p x)
 
--- ---- the factor x - r
+-- ---- The factor x - r
 pub factor_value : (r x : ℕ) → r < 256 → x < 256 → value (1 ∷ r ∷ []) x ≡ x ⊕ r
 unfolding value raise
 factor_value r x hr hx =
     ap (λ y. y ⊕ (r ⊗ 1 ⊕ 0)) (product_one_left (x ⊗ 1) (product_below x 1) ∙ product_one_right x hx)
     ∙ ap (bit_xor x) (xor_zero_r (r ⊗ 1) ∙ product_one_right r hr)
 
--- division by x - r, where b is what is carried
+-- Division by x - r, where b is what is carried.
 unfoldable pub quotient : ℕ → ℕ → List ℕ → List ℕ
 quotient r b [] = []
 quotient r b (a ∷ p) = b ∷ quotient r (a ⊕ r ⊗ b) p
 
+-- The quotient, before its remainder, is as long as what follows the head.
 pub length_quotient : (r b : ℕ) (p : List ℕ) → length (quotient r b p) ≡ length p
 unfolding quotient
 length_quotient r b [] = refl
 length_quotient r b (a ∷ p) = ap suc (length_quotient r (a ⊕ r ⊗ b) p)
 
+-- The division carries the value 0 on.
 pub carry : (r b a : ℕ) (p : List ℕ) → value (b ∷ a ∷ p) r ≡ 0 → value ((a ⊕ r ⊗ b) ∷ p) r ≡ 0
 unfolding value raise
 carry r b a p h =
@@ -263,6 +291,7 @@ carry r b a p h =
     ∙ xor_assoc (b ⊗ (r ⊗ raise r (length p))) (a ⊗ raise r (length p)) (value p r)
     ∙ h
 
+-- Zeros add nothing.
 plus_zeros : (n : ℕ) (p : List ℕ) → length p ≡ n → plus (replicate n 0) p ≡ p
 unfolding plus
 plus_zeros zero [] h = refl
@@ -270,16 +299,19 @@ plus_zeros zero (a ∷ p) h = absurd (omega arith)
 plus_zeros (suc n) [] h = absurd (omega arith)
 plus_zeros (suc n) (a ∷ p) h = ap (λ t. a ∷ t) (plus_zeros n p (omega arith))
 
+-- What is carried is a byte.
 pub bytes_carry : (r b a : ℕ) (p : List ℕ) → Bytes (b ∷ a ∷ p) → Bytes ((a ⊕ r ⊗ b) ∷ p)
 bytes_carry r b a p h =
     let t : Bytes (a ∷ p) = bytes_tail b (a ∷ p) h in
     bytes_cons (a ⊕ r ⊗ b) p (sum_below a (r ⊗ b) (bytes_head a p t) (product_below r b)) (bytes_tail a p t)
 
+-- A quotient of bytes is of bytes.
 pub bytes_quotient : (r b : ℕ) (p : List ℕ) → Bytes (b ∷ p) → Bytes (quotient r b p)
 unfolding quotient
 bytes_quotient r b [] h = λ k d l. absurd (omega arith)
 bytes_quotient r b (a ∷ p) h = bytes_cons b (quotient r (a ⊕ r ⊗ b) p) (bytes_head b (a ∷ p) h) (bytes_quotient r (a ⊕ r ⊗ b) p (bytes_carry r b a p h))
 
+-- A polynomial with the root r is its quotient times x - r.
 pub root_divides : (r b : ℕ) (p : List ℕ) → Bytes (b ∷ p) → value (b ∷ p) r ≡ 0 → times (quotient r b p) (1 ∷ r ∷ []) ≡ b ∷ p
 unfolding quotient value raise plus scale
 root_divides r b [] hb h =
@@ -296,7 +328,7 @@ root_divides r b (a ∷ p) hb h =
     (xor_comm (b ⊗ r) c ∙ xor_assoc a (r ⊗ b) (b ⊗ r) ∙ ap (λ y. a ⊕ (y ⊕ b ⊗ r)) (product_comm r b) ∙ ap (bit_xor a) (xor_self (b ⊗ r)) ∙ xor_zero_r a)
     ∙ ap (λ t. b ∷ a ∷ t) (plus_zeros (length q) p (sym (length_quotient r c p)))
 
--- ---- a place more, as a loop over a list adds it
+-- ---- A place more, as a loop over a list adds it
 pub value_push : (p : List ℕ) (c x : ℕ) → c < 256 → value (p ++ c ∷ []) x ≡ value p x ⊗ x ⊕ c
 unfolding value raise
 value_push [] c x h = xor_zero_r (c ⊗ 1) ∙ product_one_right c h ∙ ap (λ y. y ⊕ c) (sym (product_zero_left x))

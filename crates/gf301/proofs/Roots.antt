@@ -1,36 +1,41 @@
 -- Roots of polynomials among the powers of 2: not more than the degree.
-use Rattle.std.proofs.Common.{◌≡◌, ℕ, zero, suc, ◌+◌, ◌-◌, ◌<◌, ◌≤◌, List, [], ◌∷◌, length, get_or, bit_xor, ◌≢◌, All, AllPairs, refl, sym, ap, subst, ◌∙◌, arith, inl, inr, ◌⊎◌}
+use Rattle.std.proofs.Common.{◌≡◌, ℕ, zero, suc, ◌<◌, ◌≤◌, List, [], ◌∷◌, length, get_or, bit_xor, ◌≢◌, All, AllPairs, refl, sym, ap, subst, ◌∙◌, arith, inl, inr}
 use lib.Bits.{xor_zero_r}
 use Rattle.std.proofs.Math.Nat.{pos_of_ne-zero, le_refl}
 use Rattle.std.proofs.lemmas.Bool.{cases_eq}
 use Rattle.gf301.specs.Field.{◌⊕◌, ◌⊗◌, raise, power}
-use Rattle.gf301.specs.Polynomial.{value, times, Bytes}
+use Rattle.gf301.specs.Polynomial.{value, Bytes}
 use Rattle.gf301.proofs.FieldLaws.{product_comm, product_one_right, product_zero_right, product_cancel, sum_zero, sum_below, raise_below, power_apart}
 use Rattle.gf301.proofs.Weights.{bytes_head, bytes_tail}
 use Rattle.gf301.proofs.PolyLaws.{carry, bytes_carry, quotient, length_quotient, bytes_quotient, root_divides, value_times, value_below, factor_value}
 
--- ---- a polynomial whose highest coefficient isn't 0 has no more roots among the powers below n than its degree
+-- ---- A polynomial whose highest coefficient isn't 0 has no more roots among the powers below n than its degree
 unfoldable pub roots_step : ℕ → ℕ → ℕ
 roots_step zero m = suc m
 roots_step (suc v) m = m
 
+-- The number of roots among the powers of 2 with exponents below n.
 unfoldable pub roots : List ℕ → ℕ → ℕ
 roots p zero = 0
 roots p (suc n) = roots_step (value p (power n)) (roots p n)
 
+-- What is not 0 is no root.
 positive_step : (v m : ℕ) → 0 < v → roots_step v m ≡ m
 unfolding roots_step
 positive_step zero m h = absurd (omega arith)
 positive_step (suc v) m h = refl
 
+-- What is 0 is a root.
 zero_step : (v m : ℕ) → v ≡ 0 → roots_step v m ≡ suc m
 unfolding roots_step
 zero_step zero m h = refl
 zero_step (suc v) m h = absurd (omega arith)
 
+-- A positive number is not 0.
 positive_not : {b : ℕ} → 0 < b → b ≡ 0 → ⊥
 positive_not l e = omega arith
 
+-- Where each root is kept, the number of roots does not fall.
 step_le : (v w m n : ℕ) → (v ≡ 0 → w ≡ 0) → m ≤ n → roots_step v m ≤ roots_step w n
 unfolding roots_step
 step_le zero zero m n h l = omega arith
@@ -38,12 +43,13 @@ step_le zero (suc w) m n h l = absurd (let e : suc w ≡ 0 = h refl in omega ari
 step_le (suc v) zero m n h l = omega arith
 step_le (suc v) (suc w) m n h l = l
 
+-- A constant other than 0 has no root.
 single_root : (b n : ℕ) → 0 < b → b < 256 → roots (b ∷ []) n ≡ 0
 unfolding roots roots_step value raise
 single_root b zero l h = refl
 single_root b (suc n) l h = ap (λ v. roots_step v (roots (b ∷ []) n)) (xor_zero_r (b ⊗ 1) ∙ product_one_right b h) ∙ positive_step b (roots (b ∷ []) n) l ∙ single_root b n l h
 
--- the quotient by x - r keeps the roots other than r
+-- The quotient by x - r keeps the roots other than r.
 kept_roots : (r b a : ℕ) (p : List ℕ) (n j : ℕ) → Bytes (b ∷ a ∷ p) → r ≡ power j → n ≤ j → j < 255 → value (b ∷ a ∷ p) r ≡ 0 → roots (b ∷ a ∷ p) n ≤ roots (quotient r b (a ∷ p)) n
 unfolding roots
 kept_roots r b a p zero j y e h l z = omega arith
@@ -56,14 +62,17 @@ kept_roots r b a p (suc n) j y e h l z =
     ∙ sym (value_times (power n) (quotient r b (a ∷ p)) (1 ∷ r ∷ []) (omega arith)) ∙ ap (λ t. value t (power n)) (root_divides r b (a ∷ p) y z) ∙ q))
     (kept_roots r b a p n j y e (omega arith) l z)
 
+-- The quotient by its head.
 quotient_more : (r b a : ℕ) (p : List ℕ) → quotient r b (a ∷ p) ≡ b ∷ quotient r (a ⊕ r ⊗ b) p
 unfolding quotient
 quotient_more r b a p = refl
 
+-- A constant other than 0 is nowhere 0.
 no_root : (b x : ℕ) → 0 < b → b < 256 → value (b ∷ []) x ≡ 0 → ⊥
 unfolding value raise
 no_root b x l h z = positive_not l (sym (product_one_right b h) ∙ sym (xor_zero_r (b ⊗ 1)) ∙ z)
 
+-- No more roots than the degree.
 pub roots_le : (n b : ℕ) (p : List ℕ) → n ≤ 255 → 0 < b → Bytes (b ∷ p) → roots (b ∷ p) n ≤ length p
 unfolding roots
 roots_le zero b p h l y = omega arith
@@ -84,12 +93,12 @@ roots_le (suc n) b (a ∷ p) h l y =
       | inr z ↦ subst (λ m. m ≤ suc (length p)) (sym (positive_step (value (b ∷ a ∷ p) (power n)) (roots (b ∷ a ∷ p) n) (pos_of_ne-zero z))) (roots_le n b (a ∷ p) (omega arith) l y)
     ]
 
--- ---- with as many different roots as coefficients, each coefficient is 0
+-- ---- With as many different roots as coefficients, each coefficient is 0
 all_zero_cons : (a : ℕ) (p : List ℕ) → a ≡ 0 → All (λ c. c ≡ 0) p → All (λ c. c ≡ 0) (a ∷ p)
 all_zero_cons a p e h zero d l = e
 all_zero_cons a p e h (suc k) d l = h k d (omega arith)
 
--- where a quotient by x - r is 0, and r is a root, the dividend is 0
+-- Where a quotient by x - r is 0, and r is a root, the dividend is 0.
 zeros_from_quotient : (r b : ℕ) (p : List ℕ) → Bytes (b ∷ p) → value (b ∷ p) r ≡ 0 → All (λ c. c ≡ 0) (quotient r b p) → All (λ c. c ≡ 0) (b ∷ p)
 unfolding quotient value raise
 zeros_from_quotient r b [] hb h z =
@@ -101,7 +110,7 @@ zeros_from_quotient r b (a ∷ p) hb h z =
     zeros_from_quotient r (a ⊕ r ⊗ b) p (bytes_carry r b a p hb) (carry r b a p h) (λ k d l. z (suc k) d (omega arith)) in
     all_zero_cons b (a ∷ p) e (subst (λ y. All (λ c. c ≡ 0) (y ∷ p)) c t)
 
--- the quotient by x - r keeps each other root
+-- The quotient by x - r keeps each other root.
 other_root : (r s b : ℕ) (p : List ℕ) → r < 256 → s < 256 → (r ≡ s → ⊥) → Bytes (b ∷ p) → value (b ∷ p) r ≡ 0 → value (b ∷ p) s ≡ 0 → value (quotient r b p) s ≡ 0
 other_root r s b p hr hs d hb zr zs =
     let q = quotient r b p in
@@ -109,6 +118,7 @@ other_root r s b p hr hs d hb zr zs =
     (product_comm (s ⊕ r) (value q s) ∙ ap (λ x. value q s ⊗ x) (sym (factor_value r s hr hs))
     ∙ sym (value_times s q (1 ∷ r ∷ []) (omega arith)) ∙ ap (λ t. value t s) (root_divides r b p hb zr) ∙ zs)
 
+-- With as many different roots as coefficients, each coefficient is 0.
 pub roots_are_few : (p roots : List ℕ) → Bytes p → Bytes roots → AllPairs (λ r s. r ≢ s) roots → All (λ r. value p r ≡ 0) roots → length p ≤ length roots → All (λ a. a ≡ 0) p
 roots_are_few [] rs hp hr d v l = λ k e h. absurd (omega arith)
 roots_are_few (b ∷ p) [] hp hr d v l = absurd (omega arith)

@@ -1,13 +1,13 @@
 -- Power series over the field, as functions from the power to its coefficient.
-use Rattle.std.proofs.Common.{◌≡◌, ℕ, zero, suc, ◌+◌, ◌-◌, ◌*◌, ◌<◌, ◌≤◌, List, [], ◌∷◌, ◌++◌, length, take, length-take, get_or, refl, sym, ap, subst, ◌∙◌, arith, bit_xor, inl, inr, ◌⊎◌}
+use Rattle.std.proofs.Common.{◌≡◌, ℕ, zero, suc, ◌+◌, ◌-◌, ◌<◌, ◌≤◌, List, [], ◌∷◌, ◌++◌, length, take, length-take, get_or, refl, sym, ap, ◌∙◌, arith, bit_xor}
 use Rattle.std.proofs.lemmas.List.{take_more}
-use lib.Bits.{xor_assoc, xor_comm, xor_self, xor_zero_r}
+use lib.Bits.{xor_assoc, xor_comm, xor_zero_r}
 use Rattle.gf301.specs.Field.{◌⊕◌, ◌⊗◌}
 use Rattle.gf301.specs.Polynomial.{shift, coefficient, convolution}
 use Rattle.gf301.proofs.Additive.{xor_swap}
-use Rattle.gf301.proofs.FieldLaws.{product_sum_left, product_sum_right, product_assoc, product_comm, product_zero_left, product_zero_right, product_one_left, product_one_right, product_below, product_cancel, sum_zero, sum_below}
-use Rattle.gf301.proofs.Weights.{product_swap}
+use Rattle.gf301.proofs.FieldLaws.{product_sum_left, product_sum_right, product_assoc, product_comm, product_zero_left, product_zero_right, product_below, sum_below}
 
+-- The product of series takes a sum on the left to a sum.
 pub conv_sum_left : (f h g : ℕ → ℕ) (n : ℕ) → convolution (λ i. f i ⊕ h i) g n ≡ convolution f g n ⊕ convolution h g n
 unfolding convolution
 conv_sum_left f h g zero = product_sum_left (f 0) (h 0) (g 0)
@@ -16,6 +16,7 @@ conv_sum_left f h g (suc n) =
     ∙ ap (bit_xor (f 0 ⊗ g (suc n) ⊕ h 0 ⊗ g (suc n))) (conv_sum_left (shift f) (shift h) g n)
     ∙ xor_swap (f 0 ⊗ g (suc n)) (h 0 ⊗ g (suc n)) (convolution (shift f) g n) (convolution (shift h) g n)
 
+-- And a multiple on the left to a multiple.
 pub conv_scale_left : (c : ℕ) (f g : ℕ → ℕ) (n : ℕ) → convolution (λ i. c ⊗ f i) g n ≡ c ⊗ convolution f g n
 unfolding convolution
 conv_scale_left c f g zero = product_assoc c (f 0) (g 0)
@@ -24,7 +25,7 @@ conv_scale_left c f g (suc n) =
     ∙ ap (bit_xor (c ⊗ (f 0 ⊗ g (suc n)))) (conv_scale_left c (shift f) g n)
     ∙ sym (product_sum_right c (f 0 ⊗ g (suc n)) (convolution (shift f) g n))
 
--- the other end of the sum
+-- The other end of the sum.
 pub conv_last : (f g : ℕ → ℕ) (n : ℕ) → convolution f g (suc n) ≡ f (suc n) ⊗ g 0 ⊕ convolution f (shift g) n
 unfolding convolution
 conv_last f g zero = xor_comm (f 0 ⊗ g 1) (f 1 ⊗ g 0)
@@ -34,6 +35,7 @@ conv_last f g (suc n) =
     ∙ ap (λ y. y ⊕ convolution (shift f) (shift g) n) (xor_comm (f 0 ⊗ g (suc (suc n))) (f (suc (suc n)) ⊗ g 0))
     ∙ xor_assoc (f (suc (suc n)) ⊗ g 0) (f 0 ⊗ g (suc (suc n))) (convolution (shift f) (shift g) n)
 
+-- The product of series is commutative.
 pub conv_comm : (f g : ℕ → ℕ) (n : ℕ) → convolution f g n ≡ convolution g f n
 unfolding convolution
 conv_comm f g zero = product_comm (f 0) (g 0)
@@ -42,6 +44,7 @@ conv_comm f g (suc n) =
     ∙ ap (bit_xor (g (suc n) ⊗ f 0)) (conv_comm (shift f) g n)
     ∙ sym (conv_last g f n)
 
+-- The product of series is associative.
 pub conv_assoc : (f g h : ℕ → ℕ) (n : ℕ) → convolution (convolution f g) h n ≡ convolution f (convolution g h) n
 unfolding convolution
 conv_assoc f g h zero = product_assoc (f 0) (g 0) (h 0)
@@ -54,6 +57,7 @@ conv_assoc f g h (suc n) =
     ∙ ap (λ y. y ⊕ convolution (shift f) (convolution g h) n)
     (ap (λ y. y ⊕ f 0 ⊗ convolution (shift g) h n) (product_assoc (f 0) (g 0) (h (suc n))) ∙ sym (product_sum_right (f 0) (g 0 ⊗ h (suc n)) (convolution (shift g) h n)))
 
+-- Up to the place n only the places up to n of the left factor count.
 pub conv_same_left : (f h g : ℕ → ℕ) (n : ℕ) → ((i : ℕ) → i ≤ n → f i ≡ h i) → convolution f g n ≡ convolution h g n
 unfolding convolution
 conv_same_left f h g zero e = ap (λ y. y ⊗ g 0) (e 0 (omega arith))
@@ -61,13 +65,15 @@ conv_same_left f h g (suc n) e =
     ap (λ y. y ⊗ g (suc n) ⊕ convolution (shift f) g n) (e 0 (omega arith))
     ∙ ap (bit_xor (h 0 ⊗ g (suc n))) (conv_same_left (shift f) (shift h) g n (λ i l. e (suc i) (omega arith)))
 
+-- And only those of the right factor.
 pub conv_same_right : (f g h : ℕ → ℕ) (n : ℕ) → ((i : ℕ) → i ≤ n → g i ≡ h i) → convolution f g n ≡ convolution f h n
 conv_same_right f g h n e = conv_comm f g n ∙ conv_same_left g h f n e ∙ conv_comm h f n
 
+-- Two left factors change places.
 pub conv_swap : (f g h : ℕ → ℕ) (n : ℕ) → convolution f (convolution g h) n ≡ convolution g (convolution f h) n
 conv_swap f g h n = sym (conv_assoc f g h n) ∙ conv_same_left (convolution f g) (convolution g f) h n (λ i l. conv_comm f g i) ∙ conv_assoc g f h n
 
--- a sum whose every part is 0
+-- A sum whose every part is 0.
 pub conv_zero : (f g : ℕ → ℕ) (n : ℕ) → ((i j : ℕ) → i + j ≡ n → f i ⊗ g j ≡ 0) → convolution f g n ≡ 0
 unfolding convolution
 conv_zero f g zero e = e 0 0 (omega arith)
@@ -75,7 +81,7 @@ conv_zero f g (suc n) e =
     ap (λ y. y ⊕ convolution (shift f) g n) (e 0 (suc n) (omega arith))
     ∙ conv_zero (shift f) g n (λ i j l. e (suc i) j (omega arith))
 
--- a sum of which the first part is left
+-- A sum of which the first part is left.
 pub conv_first : (f g : ℕ → ℕ) (n : ℕ) → ((i j : ℕ) → 0 < i → i + j ≡ n → f i ⊗ g j ≡ 0) → convolution f g n ≡ f 0 ⊗ g n
 unfolding convolution
 conv_first f g zero e = refl
@@ -83,31 +89,36 @@ conv_first f g (suc n) e =
     ap (bit_xor (f 0 ⊗ g (suc n))) (conv_zero (shift f) g n (λ i j l. e (suc i) j (omega arith) (omega arith)))
     ∙ xor_zero_r (f 0 ⊗ g (suc n))
 
+-- Each coefficient of a product is a byte.
 pub conv_below : (f g : ℕ → ℕ) (n : ℕ) → convolution f g n < 256
 unfolding convolution
 conv_below f g zero = product_below (f 0) (g 0)
 conv_below f g (suc n) = sum_below (f 0 ⊗ g (suc n)) (convolution (shift f) g n) (product_below (f 0) (g (suc n))) (conv_below (shift f) g n)
 
+-- A product with 0 on the right.
 product_zero_at : (a b : ℕ) → b ≡ 0 → a ⊗ b ≡ 0
 product_zero_at a b e = ap (λ y. a ⊗ y) e ∙ product_zero_right a
 
+-- A product with 0 on the left.
 product_at_zero : (a b : ℕ) → a ≡ 0 → a ⊗ b ≡ 0
 product_at_zero a b e = ap (λ y. y ⊗ b) e ∙ product_zero_left b
 
--- ---- coefficients from a list
+-- ---- Coefficients from a list
 pub conv_nothing : (s : ℕ → ℕ) (n : ℕ) → convolution (coefficient []) s n ≡ 0
 conv_nothing s n = conv_zero (coefficient []) s n (λ i j h. product_zero_left (s j))
 
+-- The product with a list, by its head.
 pub conv_cons : (a : ℕ) (p : List ℕ) (s : ℕ → ℕ) (n : ℕ) → convolution (coefficient (a ∷ p)) s (suc n) ≡ a ⊗ s (suc n) ⊕ convolution (coefficient p) s n
 unfolding convolution
 conv_cons a p s n = refl
 
+-- The product with a list of one coefficient.
 pub conv_single : (a : ℕ) (s : ℕ → ℕ) (n : ℕ) → convolution (coefficient (a ∷ [])) s n ≡ a ⊗ s n
 unfolding convolution
 conv_single a s zero = refl
 conv_single a s (suc n) = ap (bit_xor (a ⊗ s (suc n))) (conv_nothing s n) ∙ xor_zero_r (a ⊗ s (suc n))
 
--- ---- a coefficient more of the left factor
+-- ---- A coefficient more of the left factor
 pub conv_push : (p : List ℕ) (a : ℕ) (s : ℕ → ℕ) (n i : ℕ) → length p + i ≡ n → convolution (coefficient (p ++ a ∷ [])) s n ≡ convolution (coefficient p) s n ⊕ a ⊗ s i
 unfolding convolution
 conv_push [] a s n i h = conv_single a s n ∙ ap (λ m. a ⊗ s m) (let q : n ≡ i = omega arith in q) ∙ ap (λ y. y ⊕ a ⊗ s i) (sym (conv_nothing s n))
@@ -115,19 +126,21 @@ conv_push (b ∷ p) a s zero i h = absurd (omega arith)
 conv_push (b ∷ p) a s (suc n) i h =
     ap (bit_xor (b ⊗ s (suc n))) (conv_push p a s n i (omega arith)) ∙ sym (xor_assoc (b ⊗ s (suc n)) (convolution (coefficient p) s n) (a ⊗ s i))
 
+-- It does not count before its place.
 pub conv_push_past : (p : List ℕ) (a : ℕ) (s : ℕ → ℕ) (n : ℕ) → n < length p → convolution (coefficient (p ++ a ∷ [])) s n ≡ convolution (coefficient p) s n
 unfolding convolution
 conv_push_past [] a s n h = absurd (omega arith)
 conv_push_past (b ∷ p) a s zero h = refl
 conv_push_past (b ∷ p) a s (suc n) h = ap (bit_xor (b ⊗ s (suc n))) (conv_push_past p a s n (omega arith))
 
--- ---- a coefficient more of a list that is taken from the front
+-- ---- A coefficient more of a list that is taken from the front
 pub conv_more : (p : List ℕ) (s : ℕ → ℕ) (n i : ℕ) → i < length p → i ≤ n
     → convolution (coefficient (take (i + 1) p)) s n ≡ convolution (coefficient (take i p)) s n ⊕ get_or p i 0 ⊗ s (n - i)
 conv_more p s n i h l =
     let k : length (take i p) ≡ i = simp length-take (omega arith) in
     ap (λ t. convolution (coefficient t) s n) (take_more p i 0 h) ∙ conv_push (take i p) (get_or p i 0) s n (n - i) (omega arith)
 
+-- It does not count before its place.
 pub conv_more_past : (p : List ℕ) (s : ℕ → ℕ) (n i : ℕ) → i < length p → n < i
     → convolution (coefficient (take (i + 1) p)) s n ≡ convolution (coefficient (take i p)) s n
 conv_more_past p s n i h l =

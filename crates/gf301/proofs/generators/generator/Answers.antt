@@ -1,4 +1,4 @@
-use Rattle.std.proofs.Common.{◌≡◌, ◌≤◌, ℕ, suc, ◌+◌, ◌-◌, ◌<◌, length, List, [], ◌∷◌, ◌++◌, arith, sym, ap, ◌∙◌}
+use Rattle.std.proofs.Common.{◌≡◌, suc, ◌+◌, ◌-◌, length, [], ◌∷◌, ◌++◌, arith, sym, ap, ◌∙◌}
 use Rattle.gf301.specs.Field.{power}
 use Rattle.gf301.specs.Polynomial.{times}
 use Rattle.gf301.specs.Generator.{generator}

@@ -1,4 +1,4 @@
-use Rattle.std.proofs.Common.{◌≡◌, ◌+◌, ◌-◌, suc, arith, ap, subst, ◌∙◌}
+use Rattle.std.proofs.Common.{◌≡◌, ◌+◌, ◌-◌, suc, arith, ap, ◌∙◌}
 use Rattle.gf301.specs.Field.{power}
 use Rattle.gf301.specs.Polynomial.{value}
 use Rattle.gf301.specs.Generator.{generator}

@@ -1,4 +1,4 @@
-use lib.Bits.{xor_comm, xor_assoc, xor_self, xor_zero_r}
+use lib.Bits.{xor_comm}
 use Rattle.gf301.proofs.FieldLaws.{sum_below}
 use Rattle.gf301.proofs.laws.sum_laws.Goals as goal
 

@@ -1,4 +1,4 @@
-use Rattle.std.proofs.Common.{◌≡◌, ◌-◌, ◌<◌, ◌≤◌, length, take, get_or, sym, ap, ◌∙◌, arith, bit_xor}
+use Rattle.std.proofs.Common.{◌-◌, take, get_or, sym, ap, ◌∙◌, arith, bit_xor}
 use Rattle.std.proofs.lemmas.List.{get_or_past, take_all}
 use lib.Bits.{xor_zero_r}
 use Rattle.gf301.specs.Field.{◌⊕◌, ◌⊗◌}

@@ -1,4 +1,4 @@
-use Rattle.std.proofs.Common.{◌≡◌, ◌+◌, ◌-◌, ◌<◌, ◌≤◌, ◌++◌, ◌∷◌, [], ℕ, suc, length, sym, ap, ◌∙◌, arith, zero-add}
+use Rattle.std.proofs.Common.{◌≡◌, ◌+◌, ◌-◌, ◌++◌, ◌∷◌, [], suc, length, sym, ap, ◌∙◌, arith, zero-add}
 use Rattle.gf301.specs.Polynomial.{coefficient, convolution, values_from, times}
 use Rattle.gf301.proofs.PolyLaws.{length-values_from, values_from_push}
 use Rattle.gf301.proofs.polynomial.times.Goals as goal

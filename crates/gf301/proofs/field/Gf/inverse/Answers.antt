@@ -1,5 +1,5 @@
 use Rattle.std.proofs.Common.{◌≡◌, ◌<◌, ℕ, ◌+◌, ◌-◌, arith, sym, ap, subst, ◌∙◌}
-use Rattle.gf301.specs.Field.{◌⊗◌, raise, power}
+use Rattle.gf301.specs.Field.{◌⊗◌, power}
 use Rattle.gf301.proofs.FieldLaws.{raise_add, raise_below, power_255, inverse_only}
 use Rattle.gf301.proofs.field.Gf.inverse.Goals as goal
 

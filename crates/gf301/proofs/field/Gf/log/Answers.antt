@@ -1,4 +1,4 @@
-use Rattle.std.proofs.Common.{◌≡◌, ◌<◌, ℕ, get_or, arith, sym, ap, ◌∙◌}
+use Rattle.std.proofs.Common.{◌≡◌, ◌<◌, get_or, arith, sym, ap, ◌∙◌}
 use Rattle.gf301.specs.Field.{power}
 use Rattle.gf301.specs.declared.field.TheConstants.{LOGS}
 use Rattle.gf301.proofs.FieldLaws.{power_injective}

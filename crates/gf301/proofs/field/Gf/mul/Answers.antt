@@ -1,5 +1,5 @@
-use Rattle.std.proofs.Common.{◌≡◌, ◌<◌, ℕ, ◌+◌, ◌-◌, arith, sym, ap, ◌∙◌}
-use Rattle.gf301.specs.Field.{◌⊗◌, raise, power}
+use Rattle.std.proofs.Common.{◌+◌, sym, ap, ◌∙◌}
+use Rattle.gf301.specs.Field.{◌⊗◌, power}
 use Rattle.gf301.proofs.FieldLaws.{raise_add, product_zero_left, product_zero_right}
 use Rattle.gf301.proofs.field.Gf.mul.Goals as goal
 use Rattle.gf301.proofs.field.Gf.mul.Goals.{then-self-eq0-via-then-self-eq0, then-self-eq0-via-else-self-eq0+then-other-eq0}

@@ -1,4 +1,4 @@
-use Rattle.std.proofs.Common.{rules, ◌≡◌, ◌<◌, ◌%◌, ℕ, arith, ◌∙◌}
+use Rattle.std.proofs.Common.{◌%◌, arith, ◌∙◌}
 use Rattle.std.proofs.lemmas.Nat.{mod_below}
 use Rattle.gf301.proofs.Tables.{powers_at, power_mod}
 use Rattle.gf301.proofs.field.Gf.power_of_two.Goals as goal
