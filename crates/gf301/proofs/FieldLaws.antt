@@ -76,7 +76,7 @@ product_low_right a b = ap (λ x. modulo_301 7 (carryless 8 (a % 256) x)) (low b
 byte_below : (a : ℕ) → a % 256 < 2 ^ 8
 byte_below a = mod_below a 256 (omega arith)
 
--- ---- Tests that the checker computes over the powers of 2: 64 to 512 cases each, under a second in all
+-- ---- Tests that the checker computes over the powers of 2: 64 to 512 cases each
 comm_test : all_below 8 (λ i. all_below 8 (λ j. eqb (2 ^ i ⊗ 2 ^ j) (2 ^ j ⊗ 2 ^ i))) ≡ true
 unfolding all_below ◌⊗◌ carryless modulo_301
 comm_test = refl

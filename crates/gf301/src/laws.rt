@@ -37,7 +37,7 @@ pub fn powers_are_all_elements()
     ensures repeat { (e : ℕ) → power (e % 255) ≡ power e }
 {}
 
-/// Some powers and products by number, as they stand in other descriptions of this field.
+/// Some powers of 2 and some products by number.
 pub fn anchors()
     ensures power_8 { power 8 ≡ 45 }
     ensures power_15 { power 15 ≡ 228 }
