@@ -1,0 +1,2 @@
+pub mod Codeword
+pub mod Syndromes
