@@ -1,0 +1,2 @@
+pub mod Codewords
+pub mod Distance
