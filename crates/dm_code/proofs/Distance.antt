@@ -1,7 +1,7 @@
 -- The distance of two words, and that of two codewords.
 use Rattle.std.proofs.Common.{◌≡◌, ◌≢◌, ℕ, zero, suc, ◌+◌, ◌-◌, ◌*◌, ◌/◌, ◌<◌, ◌≤◌, List, [], ◌∷◌, ◌++◌, length, get_or, refl, sym, ap, subst, ◌∙◌, arith, inl, inr, ◌⊎◌, length-append, cond, true, false}
 use Rattle.std.proofs.lemmas.Bool.{cases_lt, cases_eq, eq-eqb, ne_eqb}
-use Rattle.std.proofs.lemmas.List.{get_or_append_left}
+use Rattle.std.proofs.lemmas.List.{get_or_append_left, append_cancel_left}
 use lib.Bits.{xor_self}
 use Rattle.gf301.specs.Field.{◌⊕◌, power}
 use Rattle.gf301.specs.Polynomial.{value, Bytes}
@@ -115,10 +115,11 @@ codewords_apart k v w cv cw l h n = elim (cases_lt k (distance v w)) [
     ]
 
 -- A codeword's front determines its checks.
-pub front_determines : (k : ℕ) (f c d : List ℕ) → IsCodeword k (f ++ c) → IsCodeword k (f ++ d) → length c ≡ k → length d ≡ k → length f + k ≤ 255 → f ++ c ≡ f ++ d
+pub front_determines : (k : ℕ) (f c d : List ℕ) → IsCodeword k (f ++ c) → IsCodeword k (f ++ d) → length c ≡ k → length d ≡ k → length f + k ≤ 255 → c ≡ d
 front_determines k f c d cc cd lc ld h =
-    codewords_one k (f ++ c) (f ++ d) (omega (arith, length-append f c, length-append f d)) (omega (arith, length-append f c)) cc cd
-    (omega (arith, distance_after f c d))
+    append_cancel_left f c d
+    (codewords_one k (f ++ c) (f ++ d) (omega (arith, length-append f c, length-append f d)) (omega (arith, length-append f c)) cc cd
+    (omega (arith, distance_after f c d)))
 
 -- At most one codeword is near a word.
 pub near_one : (k : ℕ) (w c d : List ℕ) → length w ≤ 255 → IsNear k w c → IsNear k w d → c ≡ d

@@ -1,2 +1,3 @@
 pub mod Codewords
 pub mod Distance
+pub mod Register
