@@ -1,3 +1,4 @@
 pub mod Codewords
 pub mod Distance
 pub mod Register
+pub mod SyndromeLaws

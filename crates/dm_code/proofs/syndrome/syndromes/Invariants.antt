@@ -1,7 +1,6 @@
 use Rattle.std.proofs.Common.{◌≡◌, ◌-◌}
-use Rattle.gf301.specs.Field.{power}
-use Rattle.gf301.specs.Polynomial.{value, values_from}
+use Rattle.dm_code.specs.Syndromes.{syndromes_of}
 use Rattle.dm_code.proofs.syndrome.syndromes.Given as goal
 
 abbrev pub invariant-loop-i : goal.invariant-loop-i
-invariant-loop-i l = l.values.items ≡ values_from (λ i. value l.word (power i)) 1 (l.i - 1)
+invariant-loop-i l = l.values.items ≡ syndromes_of l.word (l.i - 1)
