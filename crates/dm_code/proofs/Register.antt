@@ -1,12 +1,18 @@
 -- A shift register over the cells of a generator polynomial: a step keeps what the register is worth at its roots.
-use Rattle.std.proofs.Common.{◌≡◌, ℕ, zero, suc, ◌+◌, ◌-◌, ◌<◌, ◌≤◌, List, [], ◌∷◌, ◌++◌, length, get_or, map, refl, sym, ap, subst, ◌∙◌, arith, bit_xor}
+use Rattle.std.proofs.Common.{◌≡◌, ℕ, zero, suc, ◌+◌, ◌-◌, ◌<◌, ◌≤◌, List, [], ◌∷◌, ◌++◌, length, get_or, take, drop, map, refl, sym, ap, subst, ◌∙◌, arith, bit_xor}
 use Rattle.std.proofs.lemmas.List.{ext_get_or, length-append}
+use Rattle.std.proofs.Math.Seq.{take-length}
 use lib.Bits.{xor_assoc, xor_comm, xor_self, xor_zero_r}
-use Rattle.gf301.specs.Field.{◌⊕◌, ◌⊗◌, raise}
-use Rattle.gf301.specs.Polynomial.{value}
-use Rattle.gf301.proofs.FieldLaws.{product_sum_left, product_assoc, product_comm, product_zero_right, product_one_left, raise_below, sum_zero}
+use Rattle.gf301.specs.Field.{◌⊕◌, ◌⊗◌, raise, power}
+use Rattle.gf301.specs.Polynomial.{value, convolution, Bytes}
+use Rattle.gf301.specs.Generator.{generator}
+use Rattle.gf301.proofs.FieldLaws.{product_sum_left, product_assoc, product_comm, product_zero_left, product_zero_right, product_one_left, raise_add, raise_below, sum_zero}
 use Rattle.gf301.proofs.Lists.{plus, scale}
-use Rattle.gf301.proofs.PolyLaws.{length_plus, length_scale, value_plus, value_scale, get_or-plus, value_push}
+use Rattle.gf301.proofs.PolyLaws.{length_plus, length_scale, value_plus, value_scale, get_or-plus, value_push, get_or-times}
+use Rattle.gf301.proofs.GeneratorLaws.{generator_length}
+use Rattle.gf301.proofs.Weights.{bytes_head, bytes_tail, bytes_cons}
+use Rattle.dm_code.specs.Codeword.{IsCodeword}
+use Rattle.dm_code.proofs.Codewords.{codeword_from_values}
 
 get_or-push_zero : (p : List ℕ) (i : ℕ) → get_or (p ++ 0 ∷ []) i 0 ≡ get_or p i 0
 get_or-push_zero [] zero = refl
@@ -71,3 +77,50 @@ codeword_taken p r s d x n b h e =
     ap (λ v. v ⊗ y) (value_push p d x b) ∙ product_sum_left (value p x ⊗ x) d y
     ∙ ap (λ v. v ⊕ d ⊗ y) (product_assoc (value p x) x y ∙ ap (λ v. value p x ⊗ v) (product_comm x y) ∙ sym (product_assoc (value p x) y x) ∙ ap (λ v. v ⊗ x) h)
     ∙ sym e
+
+-- ---- from the generator to its taps, and from the register to a codeword
+generator_head : (k : ℕ) → get_or (generator k) 0 0 ≡ 1
+unfolding generator convolution
+generator_head zero = refl
+generator_head (suc k) =
+    get_or-times (1 ∷ power (suc k) ∷ []) (generator k) 0 (omega (arith, generator_length k))
+    ∙ ap (λ y. 1 ⊗ y) (generator_head k) ∙ product_one_left 1 (omega arith)
+
+whole : (g : List ℕ) → get_or g 0 0 ≡ 1 → 1 ∷ take (length g - 1) (drop 1 g) ≡ g
+whole [] h = absurd (omega arith)
+whole (a ∷ t) h =
+    ap (λ n. 1 ∷ take n t) (let e : length (a ∷ t) - 1 ≡ length t = omega arith in e) ∙ ap (λ u. 1 ∷ u) (take-length t) ∙ ap (λ y. y ∷ t) (sym h)
+
+-- The generator is 1 followed by its taps.
+pub taps_whole : (k : ℕ) (g : List ℕ) → g ≡ generator k → 1 ∷ take (length g - 1) (drop 1 g) ≡ generator k
+taps_whole k g e = whole g (ap (λ t. get_or t 0 0) e ∙ generator_head k) ∙ e
+
+pub taps_length : (k : ℕ) (g : List ℕ) → g ≡ generator k → length (take (length g - 1) (drop 1 g)) ≡ k
+taps_length k g e = omega (arith, ap length (taps_whole k g e), generator_length k)
+
+value_append : (p r : List ℕ) (x : ℕ) → value (p ++ r) x ≡ value p x ⊗ raise x (length r) ⊕ value r x
+unfolding value
+value_append [] r x = sym (ap (λ y. y ⊕ value r x) (product_zero_left (raise x (length r))))
+value_append (a ∷ p) r x =
+    ap (λ n. a ⊗ raise x n ⊕ value (p ++ r) x) (length-append p r)
+    ∙ ap (λ y. a ⊗ y ⊕ value (p ++ r) x) (raise_add x (length p) (length r))
+    ∙ ap (λ y. y ⊕ value (p ++ r) x) (sym (product_assoc a (raise x (length p)) (raise x (length r))))
+    ∙ ap (bit_xor ((a ⊗ raise x (length p)) ⊗ raise x (length r))) (value_append p r x)
+    ∙ sym (xor_assoc ((a ⊗ raise x (length p)) ⊗ raise x (length r)) (value p x ⊗ raise x (length r)) (value r x))
+    ∙ ap (λ y. y ⊕ value r x) (sym (product_sum_left (a ⊗ raise x (length p)) (value p x) (raise x (length r))))
+
+pub bytes_from : (p : List ℕ) → ((i : ℕ) → get_or p i 0 < 256) → Bytes p
+bytes_from [] h = λ k d l. absurd (omega arith)
+bytes_from (a ∷ p) h = bytes_cons a p (h 0) (bytes_from p (λ i. h (suc i)))
+
+bytes_append : (p r : List ℕ) → Bytes p → Bytes r → Bytes (p ++ r)
+bytes_append [] r hp hr = hr
+bytes_append (a ∷ p) r hp hr = bytes_cons a (p ++ r) (bytes_head a p hp) (bytes_append p r (bytes_tail a p hp) hr)
+
+-- Where the register is worth what was taken in, times the power of its length, both together are a codeword.
+pub completed : (k : ℕ) (front r : List ℕ) → k < 255 → Bytes front → Bytes r → length r ≡ k → length front + k ≤ 255
+    → ((i : ℕ) → i < k → value front (power (1 + i)) ⊗ raise (power (1 + i)) k ≡ value r (power (1 + i))) → IsCodeword k (front ++ r)
+completed k front r b hf hr l n h =
+    codeword_from_values k (front ++ r) b (omega (arith, length-append front r)) (omega (arith, length-append front r)) (bytes_append front r hf hr)
+    (λ i m. let x = power (1 + i) in
+    value_append front r x ∙ ap (λ j. value front x ⊗ raise x j ⊕ value r x) l ∙ ap (λ y. y ⊕ value r x) (h i m) ∙ xor_self (value r x))

@@ -20,10 +20,11 @@ pub fn encode(front: &[u8], k: usize) -> ArrayVec<u8, 68>
     ensures only { (c : List ℕ) → length c ≡ k → IsCodeword k (front.now ++ c) → c ≡ result.items }
 {
     let generator = generator(k);
+    let taps = &generator[1..];
     let mut register = empty_register(k);
     let cells = register.as_mut_slice();
     for codeword in front {
-        take_in(cells, &generator[1..], *codeword);
+        take_in(cells, taps, *codeword);
     }
     register
 }
