@@ -12,3 +12,6 @@ mod syndrome;
 
 pub use encoding::encode;
 pub use syndrome::syndromes;
+
+#[cfg(test)]
+mod tests;

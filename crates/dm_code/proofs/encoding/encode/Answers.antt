@@ -64,33 +64,21 @@ filled : (n : ℕ) (r s : List ℕ) → length r ≡ n → length s ≡ n → re
 filled n r s h g =
     ap (λ m. take m (s ++ drop (length s) r)) (h ∙ sym g) ∙ take-append_seam s (drop (length s) r)
 
-pub returns-clause-bytes : goal.returns-clause-bytes
-returns-clause-bytes c =
-    subst Bytes
-    (sym (filled c.args.k c.empty_register-register.result.items c.loop-codeword.cells (ap length c.empty_register-register.ensures ∙ length-replicate c.args.k 0) c.loop-codeword.invariant.count))
-    c.loop-codeword.invariant.bytes
-
-pub returns-clause-completes : goal.returns-clause-completes
-returns-clause-completes c =
+pub returns : goal.returns
+returns c =
     let k = c.args.k in
     let p = c.args.front.now in
     let j = c.loop-codeword.codeword-index in
     let s = c.loop-codeword.cells in
+    let kept = c.loop-codeword.invariant in
     let e : take j p ≡ p = ap (λ n. take n p) (let q : j ≡ length p = omega arith in q) ∙ take-length p in
-    subst (λ t. IsCodeword k (p ++ t))
-    (sym (filled k c.empty_register-register.result.items s (ap length c.empty_register-register.ensures ∙ length-replicate k 0) c.loop-codeword.invariant.count))
-    (completed k p s (omega arith) (bytes_from p (λ i. omega (arith, c.type_inv.front i))) c.loop-codeword.invariant.bytes c.loop-codeword.invariant.count (omega arith)
-    (λ i h. ap (λ t. value t (power (1 + i)) ⊗ raise (power (1 + i)) k) (sym e) ∙ c.loop-codeword.invariant.worth i h))
-
-pub returns-clause-only : goal.returns-clause-only
-returns-clause-only c = λ t l w.
-    let k = c.args.k in
-    let p = c.args.front.now in
-    let j = c.loop-codeword.codeword-index in
-    let s = c.loop-codeword.cells in
-    let e : take j p ≡ p = ap (λ n. take n p) (let q : j ≡ length p = omega arith in q) ∙ take-length p in
-    front_determines k p t s w
-    (completed k p s (omega arith) (bytes_from p (λ i. omega (arith, c.type_inv.front i))) c.loop-codeword.invariant.bytes c.loop-codeword.invariant.count (omega arith)
-    (λ i h. ap (λ t. value t (power (1 + i)) ⊗ raise (power (1 + i)) k) (sym e) ∙ c.loop-codeword.invariant.worth i h))
-    l c.loop-codeword.invariant.count (omega arith)
-    ∙ sym (filled k c.empty_register-register.result.items s (ap length c.empty_register-register.ensures ∙ length-replicate k 0) c.loop-codeword.invariant.count)
+    let out = filled k c.empty_register-register.result.items s (ap length c.empty_register-register.ensures ∙ length-replicate k 0) kept.count in
+    let done : IsCodeword k (p ++ s) =
+    completed k p s (omega arith) (bytes_from p (λ i. omega (arith, c.type_inv.front i))) kept.bytes kept.count (omega arith)
+    (λ i h. ap (λ t. value t (power (1 + i)) ⊗ raise (power (1 + i)) k) (sym e) ∙ kept.worth i h) in
+    record {
+      count = ap length out ∙ kept.count;
+      bytes = subst Bytes (sym out) kept.bytes;
+      completes = subst (λ t. IsCodeword k (p ++ t)) (sym out) done;
+      only = λ t l w. front_determines k p t s w done l kept.count (omega arith) ∙ sym out;
+    }

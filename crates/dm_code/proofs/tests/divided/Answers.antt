@@ -1,0 +1,7 @@
+use Rattle.std.proofs.Common.{◌≡◌, ◌<◌, ℕ, suc, length, ap, ◌∙◌, arith}
+use Rattle.gf301.specs.Generator.{generator}
+use Rattle.gf301.proofs.GeneratorLaws.{generator_length}
+use Rattle.dm_code.proofs.tests.divided.Goals as goal
+
+pub times-requires-clause-right_filled : goal.times-requires-clause-right_filled
+times-requires-clause-right_filled c = omega (arith, ap length (c.deref.ensures.0 ∙ c.generator-divisor.ensures), generator_length c.args.k)
