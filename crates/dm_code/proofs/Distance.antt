@@ -102,8 +102,8 @@ distance_nonzeros (a ∷ v) (b ∷ w) h =
 
 -- ---- codewords
 -- Two codewords of one length that differ in at most k places are one.
-pub codewords_one : (k : ℕ) (v w : List ℕ) → length v ≡ length w → length v ≤ 255 → IsCodeword k v → IsCodeword k w → distance v w ≤ k → v ≡ w
-codewords_one k v w l h cv cw d =
+pub codewords_one : (k : ℕ) (v w : List ℕ) → IsCodeword k v → IsCodeword k w → length v ≡ length w → length v ≤ 255 → distance v w ≤ k → v ≡ w
+codewords_one k v w cv cw l h d =
     same_from_values v w k l h (codeword_bytes k v cv) (codeword_bytes k w cw) (subst (λ n. n ≤ k) (distance_nonzeros v w l) d)
     (λ i b. codeword_values k v cv i b ∙ sym (codeword_values k w cw i b))
 
@@ -111,14 +111,14 @@ codewords_one k v w l h cv cw d =
 pub codewords_apart : (k : ℕ) (v w : List ℕ) → IsCodeword k v → IsCodeword k w → length v ≡ length w → length v ≤ 255 → v ≢ w → k + 1 ≤ distance v w
 codewords_apart k v w cv cw l h n = elim (cases_lt k (distance v w)) [
       | inl b ↦ omega arith
-      | inr b ↦ absurd (n (codewords_one k v w l h cv cw b))
+      | inr b ↦ absurd (n (codewords_one k v w cv cw l h b))
     ]
 
 -- A codeword's front determines its checks.
 pub front_determines : (k : ℕ) (f c d : List ℕ) → IsCodeword k (f ++ c) → IsCodeword k (f ++ d) → length c ≡ k → length d ≡ k → length f + k ≤ 255 → c ≡ d
 front_determines k f c d cc cd lc ld h =
     append_cancel_left f c d
-    (codewords_one k (f ++ c) (f ++ d) (omega (arith, length-append f c, length-append f d)) (omega (arith, length-append f c)) cc cd
+    (codewords_one k (f ++ c) (f ++ d) cc cd (omega (arith, length-append f c, length-append f d)) (omega (arith, length-append f c))
     (omega (arith, distance_after f c d)))
 
 -- At most one codeword is near a word.
@@ -126,4 +126,4 @@ pub near_one : (k : ℕ) (w c d : List ℕ) → length w ≤ 255 → IsNear k w 
 near_one k w c d h nc nd =
     let t : differing c d (length w) ≤ differing w c (length w) + differing w d (length w) = differing_triangle w c d (length w) in
     let e : distance c d ≡ differing c d (length w) = ap (differing c d) nc.long in
-    codewords_one k c d (nc.long ∙ sym nd.long) (omega (arith, nc.long)) nc.codeword nd.codeword (omega (arith, nc.close, nd.close))
+    codewords_one k c d nc.codeword nd.codeword (nc.long ∙ sym nd.long) (omega (arith, nc.long)) (omega (arith, nc.close, nd.close))

@@ -1,24 +1,31 @@
-//! Laws of the definitions: facts about codewords alone, whatever code reads or writes them.
+//! Laws of the definitions: facts about codewords alone, whatever code writes or reads them.
 
-ghost use Rattle.std.specs.Prelude.{◌≡◌, ◌≢◌, ◌+◌, ◌≤◌, ◌++◌, ℕ, List, length};
-ghost use Rattle.dm_code.specs.Codeword.{IsCodeword, IsNear, distance};
+ghost use Rattle.dm_code.specs.CodewordLaws.{CodewordsLieApart, CloseCodewordsAreOne, NearCodewordIsOne, FrontDeterminesChecks, CodewordsAreBytes, CodewordsHaveNoSyndromes};
 
 /// The distance law: two different codewords of k checks and one length of at most 255 differ in at least k + 1 places.
-pub fn codewords_are_apart()
-    ensures { (k : ℕ) (v w : List ℕ) → IsCodeword k v → IsCodeword k w → length v ≡ length w → length v ≤ 255 → v ≢ w
-        → k + 1 ≤ distance v w }
+/// So two that differ in at most k places are one.
+pub fn codewords_lie_apart()
+    ensures apart { CodewordsLieApart }
+    ensures one { CloseCodewordsAreOne }
 {
 }
 
-/// At most one codeword of k checks is near a word of at most 255 numbers.
-pub fn nearest_is_one()
-    ensures { (k : ℕ) (w c d : List ℕ) → length w ≤ 255 → IsNear k w c → IsNear k w d → c ≡ d }
+/// At most one codeword is near a word: since 2 (k / 2) is at most k, two that are would be too close to one another.
+pub fn near_codeword_is_one()
+    ensures { NearCodewordIsOne }
 {
 }
 
-/// The front of a codeword of k checks, all but its last k numbers, determines it.
-pub fn front_determines()
-    ensures { (k : ℕ) (front c d : List ℕ) → IsCodeword k (front ++ c) → IsCodeword k (front ++ d) → length c ≡ k
-        → length d ≡ k → length front + k ≤ 255 → c ≡ d }
+/// The front of a codeword of k checks, its data codewords, determines its last k codewords.
+pub fn front_determines_checks()
+    ensures { FrontDeterminesChecks }
+{
+}
+
+/// Which lists are codewords of k checks: none but lists of bytes, and those of more than k and at most 255 bytes whose
+/// values at 2^1 to 2^k are all 0.
+pub fn codewords_have_no_syndromes()
+    ensures bytes { CodewordsAreBytes }
+    ensures syndromes { CodewordsHaveNoSyndromes }
 {
 }
