@@ -1,7 +1,7 @@
 -- A word is a codeword exactly where its values at 2^1 to 2^k, the roots of the generator, are 0.
-use Rattle.std.proofs.Common.{◌≡◌, ℕ, zero, suc, ◌+◌, ◌-◌, ◌<◌, ◌≤◌, List, [], ◌∷◌, length, refl, sym, ap, subst, ◌∙◌, arith}
+use Rattle.std.proofs.Common.{◌≡◌, ℕ, zero, suc, ◌+◌, ◌<◌, ◌≤◌, List, [], ◌∷◌, length, sym, ap, subst, ◌∙◌, arith}
 use Rattle.std.proofs.Math.Nat.{le_refl}
-use Rattle.gf301.specs.Field.{◌⊕◌, ◌⊗◌, power}
+use Rattle.gf301.specs.Field.{◌⊗◌, power}
 use Rattle.gf301.specs.Polynomial.{value, times, Bytes}
 use Rattle.gf301.specs.Generator.{generator}
 use Rattle.gf301.proofs.FieldLaws.{product_comm, product_zero_right, product_one_right, product_cancel}

@@ -1,13 +1,12 @@
 -- The distance of two words, and that of two codewords.
-use Rattle.std.proofs.Common.{◌≡◌, ◌≢◌, ℕ, zero, suc, ◌+◌, ◌-◌, ◌*◌, ◌/◌, ◌<◌, ◌≤◌, List, [], ◌∷◌, ◌++◌, length, get_or, refl, sym, ap, subst, ◌∙◌, arith, inl, inr, ◌⊎◌, length-append, cond, true, false}
+use Rattle.std.proofs.Common.{◌≡◌, ◌≢◌, ℕ, zero, suc, ◌+◌, ◌<◌, ◌≤◌, List, [], ◌∷◌, ◌++◌, length, get_or, refl, sym, ap, subst, ◌∙◌, arith, inl, inr, length-append, cond}
 use Rattle.std.proofs.lemmas.Bool.{cases_lt, cases_eq, eq-eqb, ne_eqb}
 use Rattle.std.proofs.lemmas.List.{get_or_append_left, append_cancel_left}
 use lib.Bits.{xor_self}
-use Rattle.gf301.specs.Field.{◌⊕◌, power}
-use Rattle.gf301.specs.Polynomial.{value, Bytes}
+use Rattle.gf301.specs.Field.{◌⊕◌}
 use Rattle.gf301.proofs.FieldLaws.{sum_zero}
 use Rattle.gf301.proofs.Lists.{plus, nonzeros}
-use Rattle.gf301.proofs.PolyLaws.{length_plus, same_from_values}
+use Rattle.gf301.proofs.PolyLaws.{same_from_values}
 use Rattle.dm_code.specs.Codeword.{IsCodeword, IsNear, differs, differing, distance}
 use Rattle.dm_code.proofs.Codewords.{codeword_bytes, codeword_values}
 
@@ -20,15 +19,15 @@ differs_apart a b n = ap (λ t. cond t 0 1) (ne_eqb a b n)
 
 pub differs_le : (a b : ℕ) → differs a b ≤ 1
 differs_le a b = elim (cases_eq a b) [
-      | inl e ↦ omega (arith, differs_same a b e)
-      | inr n ↦ omega (arith, differs_apart a b n)
-    ]
+  | inl e ↦ omega (arith, differs_same a b e)
+  | inr n ↦ omega (arith, differs_apart a b n)
+]
 
 differs_triangle : (a b c : ℕ) → differs b c ≤ differs a b + differs a c
 differs_triangle a b c = elim (cases_eq a b) [
-      | inl e ↦ let h : differs b c ≡ differs a c = ap (λ x. differs x c) (sym e) in omega arith
-      | inr n ↦ omega (arith, differs_apart a b n, differs_le b c)
-    ]
+  | inl e ↦ let h : differs b c ≡ differs a c = ap (λ x. differs x c) (sym e) in omega arith
+  | inr n ↦ omega (arith, differs_apart a b n, differs_le b c)
+]
 
 -- ---- the first n places
 -- The places at which two words differ are at most those at which either differs from a third.
@@ -110,9 +109,9 @@ codewords_one k v w cv cw l h d =
 -- Two different ones differ in at least k + 1 places.
 pub codewords_apart : (k : ℕ) (v w : List ℕ) → IsCodeword k v → IsCodeword k w → length v ≡ length w → length v ≤ 255 → v ≢ w → k + 1 ≤ distance v w
 codewords_apart k v w cv cw l h n = elim (cases_lt k (distance v w)) [
-      | inl b ↦ omega arith
-      | inr b ↦ absurd (n (codewords_one k v w cv cw l h b))
-    ]
+  | inl b ↦ omega arith
+  | inr b ↦ absurd (n (codewords_one k v w cv cw l h b))
+]
 
 -- A codeword's front determines its checks.
 pub front_determines : (k : ℕ) (f c d : List ℕ) → IsCodeword k (f ++ c) → IsCodeword k (f ++ d) → length c ≡ k → length d ≡ k → length f + k ≤ 255 → c ≡ d

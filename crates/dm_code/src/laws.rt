@@ -7,25 +7,21 @@ ghost use Rattle.dm_code.specs.CodewordLaws.{CodewordsLieApart, CloseCodewordsAr
 pub fn codewords_lie_apart()
     ensures apart { CodewordsLieApart }
     ensures one { CloseCodewordsAreOne }
-{
-}
+{}
 
 /// At most one codeword is near a word: since 2 (k / 2) is at most k, two that are would be too close to one another.
 pub fn near_codeword_is_one()
     ensures { NearCodewordIsOne }
-{
-}
+{}
 
 /// The front of a codeword of k checks, its data codewords, determines its last k codewords.
 pub fn front_determines_checks()
     ensures { FrontDeterminesChecks }
-{
-}
+{}
 
 /// Which lists are codewords of k checks: none but lists of bytes, and those of more than k and at most 255 bytes whose
 /// values at 2^1 to 2^k are all 0.
 pub fn codewords_have_no_syndromes()
     ensures bytes { CodewordsAreBytes }
     ensures syndromes { CodewordsHaveNoSyndromes }
-{
-}
+{}

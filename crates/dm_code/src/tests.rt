@@ -48,8 +48,14 @@ fn zeros_have_zeros(rt: HostRuntime) {
 
 #[test]
 fn syndromes_of_a_block(rt: HostRuntime) {
-    assert_eq!(rt; syndromes(&[142, 164, 186, 114, 25, 5, 88, 102], 5).as_slice(), [0; 5].as_slice());
-    assert_eq!(rt; syndromes(&[142, 164, 186, 114, 25, 5, 88, 102 ^ 1], 5).as_slice(), [1; 5].as_slice());
+    assert_eq!(rt;
+        syndromes(&[142, 164, 186, 114, 25, 5, 88, 102], 5).as_slice(),
+        [0; 5].as_slice()
+    );
+    assert_eq!(rt;
+        syndromes(&[142, 164, 186, 114, 25, 5, 88, 102 ^ 1], 5).as_slice(),
+        [1; 5].as_slice()
+    );
     // the values of x^2 at 2, 4 and 8
     assert_eq!(rt; syndromes(&[1, 0, 0], 3).as_slice(), [4, 16, 64].as_slice());
 }

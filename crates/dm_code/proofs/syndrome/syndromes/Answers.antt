@@ -1,4 +1,4 @@
-use Rattle.std.proofs.Common.{◌≡◌, ◌+◌, ◌-◌, ◌<◌, ◌≤◌, ◌++◌, ◌∷◌, [], ℕ, suc, length, sym, ap, subst, ◌∙◌, arith}
+use Rattle.std.proofs.Common.{◌≡◌, ◌+◌, ◌-◌, ◌++◌, ◌∷◌, [], suc, length, sym, ap, subst, ◌∙◌, arith}
 use Rattle.gf301.specs.Field.{power}
 use Rattle.gf301.specs.Polynomial.{value, values_from, Bytes}
 use Rattle.dm_code.specs.Syndromes.{syndromes_of}

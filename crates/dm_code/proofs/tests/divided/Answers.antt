@@ -1,5 +1,4 @@
-use Rattle.std.proofs.Common.{◌≡◌, ◌<◌, ℕ, suc, length, ap, ◌∙◌, arith}
-use Rattle.gf301.specs.Generator.{generator}
+use Rattle.std.proofs.Common.{length, ap, ◌∙◌, arith}
 use Rattle.gf301.proofs.GeneratorLaws.{generator_length}
 use Rattle.dm_code.proofs.tests.divided.Goals as goal
 
