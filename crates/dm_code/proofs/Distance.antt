@@ -11,18 +11,22 @@ use Rattle.dm_code.specs.Codeword.{IsCodeword, IsNear, differs, differing, dista
 use Rattle.dm_code.proofs.Codewords.{codeword_bytes, codeword_values}
 
 -- ---- one place
+-- The same numbers count 0.
 pub differs_same : (a b : ℕ) → a ≡ b → differs a b ≡ 0
 differs_same a b e = ap (λ t. cond t 0 1) (eq-eqb a b e)
 
+-- Different ones count 1.
 pub differs_apart : (a b : ℕ) → (a ≡ b → ⊥) → differs a b ≡ 1
 differs_apart a b n = ap (λ t. cond t 0 1) (ne_eqb a b n)
 
+-- A place counts at most 1.
 pub differs_le : (a b : ℕ) → differs a b ≤ 1
 differs_le a b = elim (cases_eq a b) [
   | inl e ↦ omega (arith, differs_same a b e)
   | inr n ↦ omega (arith, differs_apart a b n)
 ]
 
+-- Numbers that differ do not both agree with a third.
 differs_triangle : (a b c : ℕ) → differs b c ≤ differs a b + differs a c
 differs_triangle a b c = elim (cases_eq a b) [
   | inl e ↦ let h : differs b c ≡ differs a c = ap (λ x. differs x c) (sym e) in omega arith
@@ -38,7 +42,7 @@ differing_triangle u v w (suc n) =
     let i : differing v w n ≤ differing u v n + differing u w n = differing_triangle u v w n in
     omega (arith, differs_triangle (get_or u n 0) (get_or v n 0) (get_or w n 0))
 
--- A step more adds at most one place.
+-- m places more add at most m.
 differing_more : (v w : List ℕ) (n m : ℕ) → differing v w (n + m) ≤ differing v w n + m
 unfolding differing
 differing_more v w n zero =
@@ -67,6 +71,7 @@ distance_after f c d =
     omega arith
 
 -- ---- the places at which two words differ are those at which their sum isn't 0
+-- The places counted from the head: the first one and those of the rest.
 differing_head : (a b : ℕ) (v w : List ℕ) (n : ℕ) → differing (a ∷ v) (b ∷ w) (suc n) ≡ differs a b + differing v w n
 unfolding differing
 differing_head a b v w zero = omega arith
@@ -74,16 +79,19 @@ differing_head a b v w (suc n) =
     let i : differing (a ∷ v) (b ∷ w) (suc n) ≡ differs a b + differing v w n = differing_head a b v w n in
     omega arith
 
+-- A first number that is 0 is not counted.
 nonzeros_zero : (a : ℕ) (e : List ℕ) → a ≡ 0 → nonzeros (a ∷ e) ≡ nonzeros e
 unfolding nonzeros
 nonzeros_zero zero e h = refl
 nonzeros_zero (suc a) e h = absurd (omega arith)
 
+-- Another one is.
 nonzeros_apart : (a : ℕ) (e : List ℕ) → (a ≡ 0 → ⊥) → nonzeros (a ∷ e) ≡ suc (nonzeros e)
 unfolding nonzeros
 nonzeros_apart zero e h = absurd (h refl)
 nonzeros_apart (suc a) e h = refl
 
+-- The distance is the number of places at which the sum is not 0.
 pub distance_nonzeros : (v w : List ℕ) → length v ≡ length w → distance v w ≡ nonzeros (plus v w)
 unfolding plus differing nonzeros
 distance_nonzeros [] [] h = refl
@@ -113,7 +121,7 @@ codewords_apart k v w cv cw l h n = elim (cases_lt k (distance v w)) [
   | inr b ↦ absurd (n (codewords_one k v w cv cw l h b))
 ]
 
--- A codeword's front determines its checks.
+-- A codeword's front determines the k codewords that follow it.
 pub front_determines : (k : ℕ) (f c d : List ℕ) → IsCodeword k (f ++ c) → IsCodeword k (f ++ d) → length c ≡ k → length d ≡ k → length f + k ≤ 255 → c ≡ d
 front_determines k f c d cc cd lc ld h =
     append_cancel_left f c d

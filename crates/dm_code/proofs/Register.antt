@@ -4,22 +4,24 @@ use Rattle.std.proofs.lemmas.List.{ext_get_or, length-append}
 use Rattle.std.proofs.Math.Seq.{take-length}
 use lib.Bits.{xor_assoc, xor_comm, xor_self, xor_zero_r}
 use Rattle.gf301.specs.Field.{◌⊕◌, ◌⊗◌, raise, power}
-use Rattle.gf301.specs.Polynomial.{value, convolution, Bytes}
+use Rattle.gf301.specs.Polynomial.{value, Bytes}
 use Rattle.gf301.specs.Generator.{generator}
 use Rattle.gf301.proofs.FieldLaws.{product_sum_left, product_assoc, product_comm, product_zero_left, product_zero_right, product_one_left, raise_add, raise_below, sum_zero}
 use Rattle.gf301.proofs.Lists.{plus, scale}
-use Rattle.gf301.proofs.PolyLaws.{length_plus, length_scale, value_plus, value_scale, get_or-plus, value_push, get_or-times}
-use Rattle.gf301.proofs.GeneratorLaws.{generator_length}
+use Rattle.gf301.proofs.PolyLaws.{length_plus, length_scale, value_plus, value_scale, get_or-plus, value_push}
+use Rattle.gf301.proofs.GeneratorLaws.{generator_length, generator_first}
 use Rattle.gf301.proofs.Weights.{bytes_head, bytes_tail, bytes_cons}
 use Rattle.dm_code.specs.Codeword.{IsCodeword}
 use Rattle.dm_code.proofs.Codewords.{codeword_from_values}
 
+-- A 0 at the end changes no number of a list.
 get_or-push_zero : (p : List ℕ) (i : ℕ) → get_or (p ++ 0 ∷ []) i 0 ≡ get_or p i 0
 get_or-push_zero [] zero = refl
 get_or-push_zero [] (suc i) = refl
 get_or-push_zero (a ∷ p) zero = refl
 get_or-push_zero (a ∷ p) (suc i) = get_or-push_zero p i
 
+-- A multiple of a polynomial has the multiples of its coefficients.
 get_or-scaled : (a : ℕ) (p : List ℕ) (i : ℕ) → get_or (scale a p) i 0 ≡ a ⊗ get_or p i 0
 unfolding scale
 get_or-scaled a [] i = sym (product_zero_right a)
@@ -43,9 +45,11 @@ tap_value : (t : List ℕ) (x : ℕ) → value (1 ∷ t) x ≡ 0 → value t x �
 unfolding value
 tap_value t x z = sym (sum_zero (1 ⊗ raise x (length t)) (value t x) z) ∙ product_one_left (raise x (length t)) (raise_below x (length t))
 
+-- Three parts of a sum, the last one first.
 regrouped : (u v w : ℕ) → u ⊕ (v ⊕ w) ≡ (w ⊕ u) ⊕ v
 regrouped u v w = ap (bit_xor u) (xor_comm v w) ∙ sym (xor_assoc u w v) ∙ ap (λ y. y ⊕ v) (xor_comm u w)
 
+-- What the register is worth after a step at a root, its first cell apart.
 worth : (a d : ℕ) (r t s : List ℕ) (x : ℕ) → length t ≡ suc (length r) → length s ≡ suc (length r)
     → ((i : ℕ) → i < length (a ∷ r) → get_or s i 0 ≡ get_or (a ∷ r) (suc i) 0 ⊕ (d ⊕ a) ⊗ get_or t i 0)
     → value (1 ∷ t) x ≡ 0 → value s x ≡ value (a ∷ r) x ⊗ x ⊕ d ⊗ raise x (suc (length r))
@@ -79,13 +83,7 @@ codeword_taken p r s d x n b h e =
     ∙ sym e
 
 -- ---- from the generator to its taps, and from the register to a codeword
-generator_head : (k : ℕ) → get_or (generator k) 0 0 ≡ 1
-unfolding generator convolution
-generator_head zero = refl
-generator_head (suc k) =
-    get_or-times (1 ∷ power (suc k) ∷ []) (generator k) 0 (omega (arith, generator_length k))
-    ∙ ap (λ y. 1 ⊗ y) (generator_head k) ∙ product_one_left 1 (omega arith)
-
+-- A list is its first number and the rest.
 whole : (g : List ℕ) → get_or g 0 0 ≡ 1 → 1 ∷ take (length g - 1) (drop 1 g) ≡ g
 whole [] h = absurd (omega arith)
 whole (a ∷ t) h =
@@ -93,11 +91,13 @@ whole (a ∷ t) h =
 
 -- The generator is 1 followed by its taps.
 pub taps_whole : (k : ℕ) (g : List ℕ) → g ≡ generator k → 1 ∷ take (length g - 1) (drop 1 g) ≡ generator k
-taps_whole k g e = whole g (ap (λ t. get_or t 0 0) e ∙ generator_head k) ∙ e
+taps_whole k g e = whole g (ap (λ t. get_or t 0 0) e ∙ generator_first k) ∙ e
 
+-- There are k of them.
 pub taps_length : (k : ℕ) (g : List ℕ) → g ≡ generator k → length (take (length g - 1) (drop 1 g)) ≡ k
 taps_length k g e = omega (arith, ap length (taps_whole k g e), generator_length k)
 
+-- The value of two lists joined: that of the first is multiplied by the power of the length of the second.
 value_append : (p r : List ℕ) (x : ℕ) → value (p ++ r) x ≡ value p x ⊗ raise x (length r) ⊕ value r x
 unfolding value
 value_append [] r x = sym (ap (λ y. y ⊕ value r x) (product_zero_left (raise x (length r))))
@@ -109,10 +109,12 @@ value_append (a ∷ p) r x =
     ∙ sym (xor_assoc ((a ⊗ raise x (length p)) ⊗ raise x (length r)) (value p x ⊗ raise x (length r)) (value r x))
     ∙ ap (λ y. y ⊕ value r x) (sym (product_sum_left (a ⊗ raise x (length p)) (value p x) (raise x (length r))))
 
+-- A list whose numbers are below 256 at each place is one of bytes.
 pub bytes_from : (p : List ℕ) → ((i : ℕ) → get_or p i 0 < 256) → Bytes p
 bytes_from [] h = λ k d l. absurd (omega arith)
 bytes_from (a ∷ p) h = bytes_cons a p (h 0) (bytes_from p (λ i. h (suc i)))
 
+-- Lists of bytes joined are one.
 bytes_append : (p r : List ℕ) → Bytes p → Bytes r → Bytes (p ++ r)
 bytes_append [] r hp hr = hr
 bytes_append (a ∷ p) r hp hr = bytes_cons a (p ++ r) (bytes_head a p hp) (bytes_append p r (bytes_tail a p hp) hr)

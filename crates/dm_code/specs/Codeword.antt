@@ -1,22 +1,23 @@
 -- The codewords of one Reed-Solomon block of ISO/IEC 16022, ECC 200, and how near a word is to them. A word is a list
--- of numbers of 0 to 255, the data codewords first and then k check codewords; as a polynomial it has the highest power
--- first.
-use Rattle.std.specs.Prelude.{◌≡◌, ℕ, zero, suc, ◌+◌, ◌/◌, ◌≤◌, List, length, get_or, nat_eq, cond}
+-- of numbers of 0 to 255: the data codewords of a block and then its k check codewords. As a polynomial it has the
+-- highest power first.
+use Rattle.std.specs.Prelude.{◌≡◌, ℕ, zero, suc, ◌+◌, ◌/◌, ◌≤◌, ◌==◌, if◌then◌else◌, List, length, slice_index}
 use Rattle.gf301.specs.Polynomial.{Bytes, times}
 use Rattle.gf301.specs.Generator.{generator}
 
--- A word is a codeword of k checks where it is a multiple of the generator for k check codewords.
+-- A word is a codeword of k checks where it is a multiple of the generator for k check codewords. The quotient has the
+-- word's length less k.
 abbrev pub IsCodeword : ℕ → List ℕ → Type 0
 IsCodeword k w = (q : List ℕ) × Bytes q × (w ≡ times q (generator k))
 
 -- 0 where two numbers are the same, else 1.
 abbrev pub differs : ℕ → ℕ → ℕ
-differs a b = cond (nat_eq a b) 0 1
+differs a b = if a == b then 0 else 1
 
--- How many of the first n places of two lists have different numbers.
+-- At how many of its first n places a word differs from another.
 unfoldable pub differing : List ℕ → List ℕ → ℕ → ℕ
 differing w c zero = 0
-differing w c (suc n) = differing w c n + differs (get_or w n 0) (get_or c n 0)
+differing w c (suc n) = differing w c n + differs (slice_index w n) (slice_index c n)
 
 -- The distance of two words of one length: the number of places at which they differ.
 abbrev pub distance : List ℕ → List ℕ → ℕ

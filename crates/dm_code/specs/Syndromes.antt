@@ -1,4 +1,4 @@
--- The syndromes of a word of one Reed-Solomon block.
+-- The syndromes of a word of one Reed-Solomon block of ISO/IEC 16022, ECC 200.
 use Rattle.std.specs.Prelude.{ℕ, List}
 use Rattle.gf301.specs.Field.{power}
 use Rattle.gf301.specs.Polynomial.{value, values_from}

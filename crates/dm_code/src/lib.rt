@@ -3,7 +3,8 @@
 //! A block is a list of codewords, bytes that stand for elements of [`gf301::Gf`]: first the data codewords, then k
 //! check codewords, 255 in all at the most. As a polynomial, the highest power first, it is a multiple of the generator
 //! polynomial for k ([`gf301::generator`]); such a list is a codeword of k checks. k is a number of 1 to 68. What the
-//! contracts say is defined in `specs/`: `Codeword` and `Syndromes`. Laws of these definitions are in [`laws`].
+//! contracts say is defined in `specs/`: `Codeword` and `Syndromes`. What holds of these definitions, whatever the code
+//! does, is stated in `CodewordLaws` there and proved in [`laws`].
 #![tactic(auto)]
 
 mod encoding;

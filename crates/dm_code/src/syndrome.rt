@@ -7,8 +7,8 @@ ghost use Rattle.dm_code.specs.Syndromes.{syndromes_of};
 use arrayvec::ArrayVec;
 use gf301::{Gf, value_at};
 
-/// The syndromes of the word `word` for k check codewords, k of 1 to 68: its values at 2^1 to 2^k, in this order. They
-/// are all 0 exactly where the word is a codeword of k checks.
+/// The syndromes of a word of a block with k check codewords, k of at most 68: its values at 2^1 to 2^k, in this order.
+/// They are all 0 exactly where the word, of more than k and at most 255 codewords, is a codeword of k checks.
 pub fn syndromes(word: &[u8], k: usize) -> ArrayVec<u8, 68>
     requires { k ≤ 68 }
     ensures values { result.items ≡ syndromes_of word.now k }
