@@ -1,6 +1,7 @@
-//! Laws of the definitions: facts about codewords alone, whatever code writes or reads them.
+//! Laws of the definitions: facts about codewords and the key equation alone, whatever code writes or reads them.
 
 ghost use Rattle.dm_code.specs.CodewordLaws.{CodewordsLieApart, CloseCodewordsAreOne, NearCodewordIsOne, FrontDeterminesChecks, CodewordsAreBytes, CodewordsHaveNoSyndromes};
+ghost use Rattle.dm_code.specs.KeyEquationLaws.{PairsAreMultiples, LeastPairIsOne, LeastPairIsThere};
 
 /// The distance law: two different codewords of k checks and one length of at most 255 differ in at least k + 1 places.
 /// So two that differ in at most k places are one.
@@ -24,4 +25,20 @@ pub fn front_determines_checks()
 pub fn codewords_have_no_syndromes()
     ensures bytes { CodewordsAreBytes }
     ensures syndromes { CodewordsHaveNoSyndromes }
+{}
+
+/// With 2 t at most the number of syndromes, every pair of the key equation is a multiple of the least pair: it is
+/// (q L, q W), where (L, W) is the least pair and q(0) = 1.
+pub fn pairs_are_multiples()
+    ensures { PairsAreMultiples }
+{}
+
+/// With 2 t at most the number of syndromes, two least pairs are equal as polynomials.
+pub fn least_pair_is_one()
+    ensures { LeastPairIsOne }
+{}
+
+/// Where there is a pair of the key equation, there is a least pair.
+pub fn least_pair_is_there()
+    ensures { LeastPairIsThere }
 {}

@@ -1,0 +1,52 @@
+-- What the answers of a correction rest on: a word is a codeword where its syndromes are 0, and then it is near to itself.
+use Rattle.std.proofs.Common.{◌≡◌, ℕ, zero, suc, ◌+◌, ◌/◌, ◌<◌, ◌≤◌, List, [], ◌∷◌, ◌++◌, length, get_or, take, drop, refl, sym, ap, subst, ◌∙◌, arith, All}
+use Rattle.std.proofs.lemmas.Grind.{common_steps}
+use Rattle.gf301.specs.Field.{power}
+use Rattle.gf301.specs.Polynomial.{Bytes, value}
+use Rattle.dm_code.specs.Codeword.{IsCodeword, IsNear, differing, distance}
+use Rattle.dm_code.specs.Syndromes.{syndromes_of}
+use Rattle.dm_code.proofs.Codewords.{codeword_values, codeword_from_values}
+use Rattle.dm_code.proofs.Distance.{differs_same}
+use Rattle.dm_code.proofs.SyndromeLaws.{syndromes_length, syndrome_at}
+
+-- Every number of the list is 0.
+abbrev pub AreZero : List ℕ → Type 0
+AreZero s = All (λ a. a ≡ 0) s
+
+zero_places : (p : List ℕ) → ((i : ℕ) → i < length p → get_or p i 0 ≡ 0) → AreZero p
+zero_places [] h i d l = absurd (omega arith)
+zero_places (a ∷ p) h zero d l = h 0 (omega arith)
+zero_places (a ∷ p) h (suc i) d l = zero_places p (λ j m. h (suc j) (omega arith)) i d (omega arith)
+
+-- With all syndromes 0 the word is a codeword ..
+pub codeword_from_syndromes : (k : ℕ) (w s : List ℕ) → k ≤ 68 → k < length w → length w ≤ 255 → Bytes w → s ≡ syndromes_of w k → AreZero s → IsCodeword k w
+codeword_from_syndromes k w s a b l h e z =
+    let n : length s ≡ k = ap length e ∙ syndromes_length w k in
+    codeword_from_values k w (omega arith) l (omega arith) h (λ i q. sym (syndrome_at w k i q) ∙ ap (λ t. get_or t i 0) (sym e) ∙ z i 0 (omega arith))
+
+-- .. and the syndromes of a codeword are 0.
+pub zero_syndromes : (k : ℕ) (w s : List ℕ) → s ≡ syndromes_of w k → IsCodeword k w → AreZero s
+zero_syndromes k w s e c =
+    let n : length s ≡ k = ap length e ∙ syndromes_length w k in
+    zero_places s (λ i h. ap (λ t. get_or t i 0) e ∙ syndrome_at w k i (omega arith) ∙ codeword_values k w c i (omega arith))
+
+differing_self : (w : List ℕ) (n : ℕ) → differing w w n ≡ 0
+unfolding differing
+differing_self w zero = refl
+differing_self w (suc n) =
+    let r : differing w w n ≡ 0 = differing_self w n in
+    omega (arith, differs_same (get_or w n 0) (get_or w n 0) refl)
+
+pub distance_self : (w f : List ℕ) → f ≡ w → distance w f ≡ 0
+distance_self w f e = ap (distance w) e ∙ differing_self w (length w)
+
+pub near_self : (k : ℕ) (w f : List ℕ) → f ≡ w → IsCodeword k w → IsNear k w f
+near_self k w f e c = record {
+  codeword = subst (IsCodeword k) (sym e) c;
+  long = ap length e;
+  close = subst (λ n. n ≤ k / 2) (sym (distance_self w f e)) (omega arith);
+}
+
+-- A list whose places were all written is what was written.
+pub refilled : (a b : List ℕ) → length b ≡ length a → take (length a) (b ++ drop (length b) a) ≡ b
+refilled a b h = grind (arith, common_steps)

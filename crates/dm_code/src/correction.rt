@@ -1,0 +1,127 @@
+//! Correction of a block.
+
+ghost use Rattle.std.specs.Prelude.{◌≡◌, ◌+◌, ◌*◌, ◌/◌, ◌<◌, ◌≤◌, List, ℕ, length, IsTrue, ◌↔◌, IfOk, IsOkAnd, MatchResult};
+ghost use Rattle.std.specs.List.{All};
+ghost use Rattle.gf301.specs.Polynomial.{Bytes};
+ghost use Rattle.dm_code.specs.Codeword.{IsCodeword, IsNear, distance};
+ghost use Rattle.dm_code.specs.Syndromes.{syndromes_of};
+ghost use Rattle.dm_code.specs.KeyEquation.{IsLeastPair};
+
+use arrayvec::ArrayVec;
+use gf301::Gf;
+
+use super::errors::{add_error, error_value, step, sum, trimmed};
+use super::key::{Key, KeySolver};
+use super::syndrome::syndromes;
+
+/// A corrected word.
+#[derive(Debug, PartialEq, Eq, Drop)]
+pub struct Fixed {
+    /// The codeword within the correction limit.
+    pub word: ArrayVec<u8, 255>,
+    /// The number of places at which it differs from the word that was given.
+    pub changed: u8,
+}
+
+/// No codeword lies within the correction limit of the word.
+#[derive(Clone, Copy, Debug, PartialEq, Eq)]
+pub struct BeyondLimit;
+
+/// The codeword of k check codewords that differs from the word in at most k div 2 places, and in how many. It is
+/// answered exactly where there is one, and [`BeyondLimit`] exactly where there is none; a word that is a codeword is
+/// answered with itself and 0. The word has k + 1 to 255 codewords, the data codewords first, and k is 1 to 68 (ISO/IEC
+/// 16022, error detection and correction).
+///
+/// No word of k + 1 codewords or more lies within k div 2 places of two codewords, so there is no choice. A word with
+/// more wrong codewords than that may lie near to another codeword, and is then corrected to it.
+pub fn correct<S: KeySolver>(solver: &S, word: &[u8], k: usize) -> Result<Fixed, BeyondLimit>
+    requires checks { 0 < k }
+    requires most { k ≤ 68 }
+    requires data { k < length word.now }
+    requires long { length word.now ≤ 255 }
+    ensures near { MatchResult result (λ fixed. IsNear k word.now fixed.word.items) (λ _. (c : List ℕ) → IsNear k word.now c → ⊥) }
+    ensures changed { IfOk result (λ fixed. fixed.changed ≡ distance word.now fixed.word.items) }
+    ensures itself { IsCodeword k word.now → IsOkAnd result (λ fixed. (fixed.word.items ≡ word.now) × (fixed.changed ≡ 0)) }
+{
+    let mut syndromes = syndromes(word, k);
+    if are_zero(&syndromes) {
+        return Ok(Fixed {
+            word: copy_of(word),
+            changed: 0,
+        });
+    }
+    let Some(key) = solver.solve(&syndromes, k / 2) else {
+        return Err(BeyondLimit);
+    };
+    let mut fixed = copy_of(word);
+    correct_errors(&mut fixed, &mut syndromes, &key);
+    let changed = differences(word, &fixed);
+    if are_zero(&syndromes) && usize::from(changed) <= k / 2 {
+        Ok(Fixed {
+            word: fixed,
+            changed,
+        })
+    } else {
+        Err(BeyondLimit)
+    }
+}
+
+/// Corrects the word at each place whose locator is a root of the error locator, and keeps its syndromes. Where a
+/// codeword is near, the word then is this codeword.
+fn correct_errors(word: &mut [u8], syndromes: &mut [u8], key: &Key)
+    requires checks { 0 < length syndromes.old }
+    requires long { length word.old ≤ 255 }
+    requires syndromes { syndromes.old ≡ syndromes_of word.old (length syndromes.old) }
+    requires key { IsLeastPair syndromes.old (length syndromes.old / 2) key.now.locator.items key.now.evaluator.items }
+    ensures near { (c : List ℕ) → IsNear (length syndromes.old) word.old c → word.new ≡ c }
+    ensures long { length word.new ≡ length word.old }
+    ensures bytes { Bytes word.new }
+    ensures kept { syndromes.new ≡ syndromes_of word.new (length syndromes.old) }
+{
+    let locator = trimmed(&key.locator);
+    let mut terms: ArrayVec<u8, 35> = copy_of(locator);
+    let terms = terms.as_mut_slice();
+    for place in (0..word.len()).rev() {
+        if sum(terms).0 == 0 {
+            let at = Gf::power_of_two((word.len() - 1 - place) as u16);
+            let value = error_value(locator, &key.evaluator, at);
+            word[place] = Gf(word[place]).add(value).0;
+            add_error(syndromes, value, at);
+        }
+        step(terms);
+    }
+}
+
+/// A copy of the list.
+fn copy_of<const N: usize>(list: &[u8]) -> ArrayVec<u8, N>
+    requires { length list.now ≤ N }
+    ensures { result.items ≡ list.now }
+{
+    let mut copy = ArrayVec::new();
+    for a in list {
+        copy.push(*a);
+    }
+    copy
+}
+
+/// Whether every number of the list is 0.
+fn are_zero(list: &[u8]) -> bool
+    ensures { IsTrue result ↔ All (λ a. a ≡ 0) list.now }
+{
+    list.iter().all(|a| *a == 0)
+}
+
+/// The number of places at which two words of one length differ.
+fn differences(word: &[u8], other: &[u8]) -> u8
+    requires same { length other.now ≡ length word.now }
+    requires long { length word.now ≤ 255 }
+    ensures { result ≡ distance word.now other.now }
+{
+    let mut count = 0;
+    for (i, c) in word.iter().enumerate() {
+        if *c != other[i] {
+            count += 1;
+        }
+    }
+    count
+}

@@ -1,0 +1,106 @@
+//! The key equation by elimination.
+
+ghost use Rattle.std.specs.Prelude.{◌≡◌, ◌+◌, ◌-◌, ◌*◌, ◌<◌, ◌≤◌, ℕ, length};
+ghost use Rattle.gf301.specs.Polynomial.{Bytes, coefficient, convolution};
+ghost use Rattle.arrayvec.specs.ArrayVec.{array_vec_len};
+ghost use Rattle.dm_code.specs.LinearSystem.{row};
+
+use arrayvec::ArrayVec;
+use gf301::Gf;
+
+use super::key::{Key, KeySolver};
+use super::system::{Row, solve};
+
+/// Solves the key equation by elimination. For each degree of the locator, from 0 on, its coefficients are the unknowns
+/// of a system of linear equations; the first system with a solution gives the least pair. The work grows with the
+/// fourth power of the number of syndromes.
+#[derive(Clone, Copy, Debug, PartialEq, Eq)]
+pub struct Elimination;
+
+impl KeySolver for Elimination {
+    fn solve(&self, s: &[u8], t: usize) -> Option<Key> {
+        for degree in 0..t + 1 {
+            let rows = rows_of(s, degree);
+            if let Some(solution) = solve(&rows, 34 - degree) {
+                return Some(key_of(s, &solution, degree));
+            }
+        }
+        None
+    }
+}
+
+/// The equations for a locator of a degree of at most `degree`: for each place from `degree` on, that the product of the
+/// locator and the syndromes has the coefficient 0 there.
+fn rows_of(s: &[u8], degree: usize) -> ArrayVec<Row, 68>
+    requires small { degree ≤ 34 }
+    requires few { length s.now ≤ 68 }
+    requires within { degree ≤ length s.now }
+    ensures long { array_vec_len result + degree ≡ length s.now }
+    ensures each { (i : ℕ) → i + degree < length s.now → (m : ℕ) → m ≤ degree → row result.items i (34 - degree + m) ≡ coefficient s.now (i + m) }
+{
+    let mut rows = ArrayVec::new();
+    for i in 0..s.len() - degree {
+        rows.push(row_of(s, degree, i));
+    }
+    rows
+}
+
+/// The equation of the place `i + degree`. Its unknowns are the coefficients of the locator, that of x^0 last.
+fn row_of(s: &[u8], degree: usize, i: usize) -> Row
+    requires small { degree ≤ 34 }
+    requires within { i + degree < length s.now }
+    ensures { (m : ℕ) → m ≤ degree → coefficient result (34 - degree + m) ≡ coefficient s.now (i + m) }
+{
+    let mut row = [0; 35];
+    for m in 0..degree + 1 {
+        row[34 - degree + m] = s[i + m];
+    }
+    row
+}
+
+/// The pair of a locator that solves the equations.
+fn key_of(s: &[u8], solution: &Row, degree: usize) -> Key
+    requires small { degree ≤ 34 }
+    requires within { degree ≤ length s.now }
+    ensures locator_long { array_vec_len result.locator ≡ degree + 1 }
+    ensures locator { (i : ℕ) → i ≤ degree → coefficient result.locator.items i ≡ coefficient solution.now (34 - i) }
+    ensures locator_bytes { Bytes result.locator.items }
+    ensures evaluator_long { array_vec_len result.evaluator ≡ degree }
+    ensures evaluator { (i : ℕ) → i < degree → coefficient result.evaluator.items i ≡ convolution (coefficient result.locator.items) (coefficient s.now) i }
+    ensures evaluator_bytes { Bytes result.evaluator.items }
+{
+    let mut locator: ArrayVec<u8, 35> = ArrayVec::new();
+    for i in 0..degree + 1 {
+        locator.push(solution[34 - i]);
+    }
+    let evaluator = evaluator_of(s, &locator, degree);
+    Key { locator, evaluator }
+}
+
+/// The first `count` coefficients of the product of the locator and the syndromes.
+fn evaluator_of(s: &[u8], locator: &[u8], count: usize) -> ArrayVec<u8, 34>
+    requires small { count ≤ 34 }
+    requires within { count ≤ length s.now }
+    ensures long { array_vec_len result ≡ count }
+    ensures each { (i : ℕ) → i < count → coefficient result.items i ≡ convolution (coefficient locator.now) (coefficient s.now) i }
+{
+    let mut evaluator: ArrayVec<u8, 34> = ArrayVec::new();
+    for i in 0..count {
+        evaluator.push(product_at(locator, s, i).0);
+    }
+    evaluator
+}
+
+/// The coefficient of x^n of the product of the locator and the syndromes.
+fn product_at(locator: &[u8], s: &[u8], n: usize) -> Gf
+    requires { n < length s.now }
+    ensures { result.0 ≡ convolution (coefficient locator.now) (coefficient s.now) n }
+{
+    let mut sum = Gf(0);
+    for (j, a) in locator.iter().enumerate() {
+        if j <= n {
+            sum = sum.add(Gf(*a).mul(Gf(s[n - j])));
+        }
+    }
+    sum
+}

@@ -1,0 +1,31 @@
+//! The key equation of a block, and what solves it.
+
+ghost use Rattle.std.specs.Prelude.{◌*◌, ◌≤◌, length, IfNone, IfSome};
+ghost use Rattle.dm_code.specs.KeyEquation.{IsLeastPair, NoPair};
+
+use arrayvec::ArrayVec;
+
+/// A pair of polynomials, both with the lowest power first. Zeros at the end of a list don't matter.
+#[derive(Debug, PartialEq, Eq, Drop)]
+pub struct Key {
+    /// The error locator, of a degree of at most 34. Its coefficient of x^0 is 1.
+    pub locator: ArrayVec<u8, 35>,
+    /// The error evaluator, of a degree below 34.
+    pub evaluator: ArrayVec<u8, 34>,
+}
+
+/// A way to solve the key equation of Reed-Solomon decoding.
+///
+/// The pair (L, W) solves it for the syndromes S, taken as coefficients with the lowest power first, where L(0) is 1,
+/// the degree of L is at most t, that of W below t, and L S - W a multiple of x^k, k being the number of syndromes. The
+/// least pair is the one in which the larger of deg L and deg W + 1 is least. By [`crate::laws`] there is one where
+/// there is any, it is one polynomial each, and every pair is a multiple of it.
+pub trait KeySolver {
+    /// The least pair for the syndromes `s` and the limit `t`, and None where there is no pair at all. There are at most
+    /// 68 syndromes, and 2 t is at most their number.
+    fn solve(&self, s: &[u8], t: usize) -> Option<Key>
+        requires few { length s.now ≤ 68 }
+        requires half { 2 * t ≤ length s.now }
+        ensures least { IfSome result (λ key. IsLeastPair s.now t key.locator.items key.evaluator.items) }
+        ensures none { IfNone result (NoPair s.now t) };
+}
