@@ -23,4 +23,8 @@ pub use key::{Key, KeySolver};
 pub use syndrome::syndromes;
 
 #[cfg(test)]
+mod correction_tests;
+#[cfg(test)]
+mod hostile;
+#[cfg(test)]
 mod tests;

@@ -1,0 +1,102 @@
+//! Tests of correction within the limit.
+
+ghost use Rattle.std.specs.Prelude.{◌+◌, ◌<◌, ◌≤◌, length};
+
+use super::{Elimination, KeySolver, correct, encode};
+
+/// A block of the symbol of side 10, with five check codewords.
+pub const WORD: [u8; 8] = [142, 164, 186, 114, 25, 5, 88, 102];
+
+/// The data and check codewords of the longest block with each number of check codewords, in square symbols of side 10
+/// to 52.
+pub const BLOCKS: [(usize, usize); 14] = [
+    (3, 5),
+    (5, 7),
+    (8, 10),
+    (12, 12),
+    (18, 14),
+    (22, 18),
+    (30, 20),
+    (36, 24),
+    (44, 28),
+    (62, 36),
+    (102, 42),
+    (114, 48),
+    (144, 56),
+    (174, 68),
+];
+
+/// Whether a damaged word is corrected to a word, with a count of changed places.
+pub fn is_corrected(damaged: &[u8], word: &[u8], k: usize, changed: usize) -> bool
+    requires checks { 0 < k }
+    requires most { k ≤ 68 }
+    requires data { k < length damaged.now }
+    requires long { length damaged.now ≤ 255 }
+{
+    match correct(&Elimination, damaged, k) {
+        Ok(fixed) => fixed.word.as_slice() == word && usize::from(fixed.changed) == changed,
+        Err(_) => false,
+    }
+}
+
+/// A codeword with `count` data codewords and k check codewords, at the first `count` + k places.
+pub fn codeword(count: usize, k: usize) -> [u8; 255]
+    requires checks { 1 ≤ k }
+    requires most { k ≤ 68 }
+    requires long { count + k ≤ 255 }
+{
+    let mut word = [0; 255];
+    for (i, place) in word.iter_mut().enumerate() {
+        *place = (i as u8).wrapping_mul(89).wrapping_add(57);
+    }
+    let checks = encode(&word[..count], k);
+    for (place, check) in word.iter_mut().skip(count).zip(checks.as_slice()) {
+        *place = *check;
+    }
+    word
+}
+
+#[test]
+fn two_of_five(rt: HostRuntime) {
+    assert!(rt; is_corrected(&WORD, &WORD, 5, 0));
+    assert!(rt; is_corrected(&[0, 0, 186, 114, 25, 5, 88, 102], &WORD, 5, 2));
+    assert!(rt; correct(&Elimination, &[0, 0, 0, 114, 25, 5, 88, 102], 5).is_err());
+}
+
+/// As many wrong codewords as each block corrects: at the first places, at the last, and at every second one.
+#[test]
+fn every_block_to_its_limit(rt: HostRuntime) {
+    for (count, k) in BLOCKS {
+        assert!(rt; 1 <= k && k <= 68 && 0 < count && count <= 255 - k);
+        let word = codeword(count, k);
+        let limit = k / 2;
+        for (first, step) in [(0, 1), (count + k - limit, 1), (0, 2)] {
+            let mut damaged = word;
+            for place in damaged.iter_mut().skip(first).step_by(step).take(limit) {
+                *place ^= 255;
+            }
+            let (damaged, word) = (&damaged[..count + k], &word[..count + k]);
+            assert!(rt; is_corrected(damaged, word, k, limit), "{k} checks, from place {first}, step {step}");
+        }
+    }
+}
+
+#[test]
+fn keys(rt: HostRuntime) {
+    match Elimination.solve(&[0; 68], 34) {
+        Some(key) => {
+            assert_eq!(rt; key.locator.as_slice(), [1].as_slice());
+            assert!(rt; key.evaluator.is_empty());
+        }
+        None => assert!(rt; false),
+    }
+    // an error of value 3 at the place with the locator 2: the syndromes are 3 * 2, 3 * 4, 3 * 8, 3 * 16
+    match Elimination.solve(&[6, 12, 24, 48], 2) {
+        Some(key) => {
+            assert_eq!(rt; key.locator.as_slice(), [1, 2].as_slice());
+            assert_eq!(rt; key.evaluator.as_slice(), [6].as_slice());
+        }
+        None => assert!(rt; false),
+    }
+    assert!(rt; Elimination.solve(&[0, 0, 0, 1], 2).is_none());
+}
