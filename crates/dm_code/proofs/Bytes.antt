@@ -1,6 +1,6 @@
 -- Lists of bytes, place by place.
 use Rattle.std.proofs.Common.{ℕ, suc, ◌<◌, List, [], ◌∷◌, length, get_or, arith}
-use Rattle.gf301.specs.Polynomial.{Bytes, coefficient}
+use Rattle.gf301.specs.Polynomial.{Bytes}
 use Rattle.gf301.proofs.Weights.{bytes_cons}
 
 -- A list whose places all hold bytes is one of bytes.

@@ -1,8 +1,7 @@
 -- What the answers of a correction rest on: a word is a codeword where its syndromes are 0, and then it is near to itself.
-use Rattle.std.proofs.Common.{◌≡◌, ℕ, zero, suc, ◌+◌, ◌/◌, ◌<◌, ◌≤◌, List, [], ◌∷◌, ◌++◌, length, get_or, take, drop, refl, sym, ap, subst, ◌∙◌, arith, All}
+use Rattle.std.proofs.Common.{◌≡◌, ℕ, zero, suc, ◌/◌, ◌<◌, ◌≤◌, List, [], ◌∷◌, ◌++◌, length, get_or, take, drop, refl, sym, ap, subst, ◌∙◌, arith, All}
 use Rattle.std.proofs.lemmas.Grind.{common_steps}
-use Rattle.gf301.specs.Field.{power}
-use Rattle.gf301.specs.Polynomial.{Bytes, value}
+use Rattle.gf301.specs.Polynomial.{Bytes}
 use Rattle.dm_code.specs.Codeword.{IsCodeword, IsNear, differing, distance}
 use Rattle.dm_code.specs.Syndromes.{syndromes_of}
 use Rattle.dm_code.proofs.Codewords.{codeword_values, codeword_from_values}
@@ -13,6 +12,7 @@ use Rattle.dm_code.proofs.SyndromeLaws.{syndromes_length, syndrome_at}
 abbrev pub AreZero : List ℕ → Type 0
 AreZero s = All (λ a. a ≡ 0) s
 
+-- A list that is 0 at each place.
 zero_places : (p : List ℕ) → ((i : ℕ) → i < length p → get_or p i 0 ≡ 0) → AreZero p
 zero_places [] h i d l = absurd (omega arith)
 zero_places (a ∷ p) h zero d l = h 0 (omega arith)
@@ -30,6 +30,7 @@ zero_syndromes k w s e c =
     let n : length s ≡ k = ap length e ∙ syndromes_length w k in
     zero_places s (λ i h. ap (λ t. get_or t i 0) e ∙ syndrome_at w k i (omega arith) ∙ codeword_values k w c i (omega arith))
 
+-- A word differs from itself nowhere.
 differing_self : (w : List ℕ) (n : ℕ) → differing w w n ≡ 0
 unfolding differing
 differing_self w zero = refl
@@ -37,9 +38,11 @@ differing_self w (suc n) =
     let r : differing w w n ≡ 0 = differing_self w n in
     omega (arith, differs_same (get_or w n 0) (get_or w n 0) refl)
 
+-- The distance of a word to itself is 0.
 pub distance_self : (w f : List ℕ) → f ≡ w → distance w f ≡ 0
 distance_self w f e = ap (distance w) e ∙ differing_self w (length w)
 
+-- A codeword is near to itself.
 pub near_self : (k : ℕ) (w f : List ℕ) → f ≡ w → IsCodeword k w → IsNear k w f
 near_self k w f e c = record {
   codeword = subst (IsCodeword k) (sym e) c;

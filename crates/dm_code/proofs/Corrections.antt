@@ -19,11 +19,13 @@ pub record AreTerms (l t : List ℕ) (j : ℕ) : Type 0 where
   pub long : length t ≡ length l
   pub each : (i : ℕ) → i < length l → get_or t i 0 ≡ get_or l i 0 ⊗ raise (power (length l - suc i)) j
 
+-- Every power of 1 is 1.
 raise_of_one : (n : ℕ) → raise 1 n ≡ 1
 unfolding raise
 raise_of_one zero = refl
 raise_of_one (suc n) = ap (λ y. 1 ⊗ y) (raise_of_one n) ∙ product_one_left 1 (omega arith)
 
+-- The same, by the list.
 terms_sum : (l t : List ℕ) (j : ℕ) → length t ≡ length l → ((i : ℕ) → i < length l → get_or t i 0 ≡ get_or l i 0 ⊗ raise (power (length l - suc i)) j) → value t 1 ≡ value l (power j)
 unfolding value
 terms_sum [] [] j n h = refl
@@ -41,20 +43,24 @@ terms_sum (a ∷ l) (b ∷ t) j n h =
 pub terms_value : (l t : List ℕ) (j : ℕ) → AreTerms l t j → value t 1 ≡ value l (power j)
 terms_value l t j h = terms_sum l t j h.long h.each
 
+-- A coefficient times the power 0 is itself.
 none_raised : (a x : ℕ) → a < 256 → a ≡ a ⊗ raise x 0
 unfolding raise
 none_raised a x h = sym (product_one_right a h)
 
+-- At 2^0 the terms are the coefficients.
 pub terms_start : (l t : List ℕ) → ((i : ℕ) → get_or l i 0 < 256) → t ≡ l → AreTerms l t 0
 terms_start l t b e = record {
   long = ap length e;
   each = λ i h. ap (λ u. get_or u i 0) e ∙ none_raised (get_or l i 0) (power (length l - suc i)) (b i);
 }
 
+-- One power more.
 more_raised : (a x j : ℕ) → (a ⊗ raise x j) ⊗ x ≡ a ⊗ raise x (suc j)
 unfolding raise
 more_raised a x j = product_assoc a (raise x j) x ∙ ap (λ y. a ⊗ y) (product_comm (raise x j) x)
 
+-- Each term times its power of 2 gives the terms at the double.
 pub terms_step : (l t u : List ℕ) (j k : ℕ) → AreTerms l t j → length u ≡ length t → ((i : ℕ) → i < length t → get_or u i 0 ≡ get_or t i 0 ⊗ power (length t - suc i)) → k ≡ suc j → AreTerms l u k
 terms_step l t u j k h n e q = record {
   long = n ∙ h.long;
@@ -64,6 +70,7 @@ terms_step l t u j k h n e q = record {
 }
 
 -- ---- a word with one place changed
+-- A change at a place adds to the value what was added there, times the power of the place.
 value_set : (w : List ℕ) (p y x : ℕ) → p < length w → value (slice_set w p (get_or w p 0 ⊕ y)) x ≡ value w x ⊕ y ⊗ raise x (length w - suc p)
 unfolding value
 value_set [] p y x h = absurd (omega arith)
@@ -92,6 +99,7 @@ syndromes_set w s t u k p y x h e q r n m =
     ∙ sym (value_set w p y (power (1 + i)) h) ∙ ap (λ v. value v (power (1 + i))) (sym r) ∙ sym (syndrome_at u k i ib))
 
 -- ---- what stands at a place afterwards
+-- What is added twice is gone.
 xor_same_left : (a y : ℕ) → a ⊕ (a ⊕ y) ≡ y
 xor_same_left a y = sym (xor_assoc a a y) ∙ ap (λ z. z ⊕ y) (xor_self a) ∙ xor_comm 0 y ∙ xor_zero_r y
 
@@ -123,9 +131,11 @@ pub record IsCorrectedFrom (l v w f s : List ℕ) (k p : ℕ) : Type 0 where
   pub done : (i : ℕ) → p ≤ i → i < length w → IsErrorValue l v (locator_at (length w) i) (get_or w i 0 ⊕ get_or f i 0)
   pub left : (i : ℕ) → i < p → get_or f i 0 ≡ get_or w i 0
 
+-- At first no place is corrected.
 pub corrected_start : (l v w s : List ℕ) (k : ℕ) → s ≡ syndromes_of w k → IsCorrectedFrom l v w w s k (length w)
 corrected_start l v w s k e = record { kept = e; done = λ i h q. absurd (omega arith); left = λ i h. refl }
 
+-- A place whose locator is no root stays as it is.
 pub apart_step : (l v w f s : List ℕ) (k q : ℕ) → IsCorrectedFrom l v w f s k (suc q) → (value l (locator_at (length w) q) ≡ 0 → ⊥) → IsCorrectedFrom l v w f s k q
 apart_step l v w f s k q c z = record {
   kept = c.kept;
@@ -137,6 +147,7 @@ apart_step l v w f s k q c z = record {
   left = λ i h. c.left i (omega arith);
 }
 
+-- At a place whose locator is a root, the value of the error is added.
 pub root_step : (l v w f g s t : List ℕ) (k q x y : ℕ) → IsCorrectedFrom l v w f s k (suc q) → length f ≡ length w → q < length w → x ≡ locator_at (length w) q → value l x ≡ 0
     → g ≡ slice_set f q (get_or f q 0 ⊕ y) → y < 256 → (0 < x ⊗ value (quotient x 0 l) x → (x ⊗ value (quotient x 0 l) x) ⊗ y ≡ value (first (coefficient v) (length l - 1)) x)
     → length t ≡ length s → ((i : ℕ) → i < length s → get_or t i 0 ≡ get_or s i 0 ⊕ y ⊗ raise x (suc i)) → IsCorrectedFrom l v w g t k q

@@ -1,6 +1,5 @@
 -- How many coefficients a polynomial has without the zeros at its end, and how that bounds its degree.
-use Rattle.std.proofs.Common.{◌≡◌, ℕ, zero, suc, ◌+◌, ◌<◌, ◌≤◌, List, [], ◌∷◌, refl, arith}
-use Rattle.gf301.specs.Polynomial.{coefficient}
+use Rattle.std.proofs.Common.{◌≡◌, ℕ, zero, suc, ◌≤◌, List, [], ◌∷◌, refl, arith}
 use Rattle.dm_code.specs.KeyEquation.{IsBelow}
 
 -- The extent with one coefficient more in front.
@@ -9,28 +8,33 @@ grown a (suc n) = suc (suc n)
 grown zero zero = zero
 grown (suc a) zero = 1
 
+-- No extent: the coefficient in front is 0 ..
 grown_zero : (a n : ℕ) → grown a n ≤ 0 → a ≡ 0
 unfolding grown
 grown_zero a (suc n) h = absurd (omega arith)
 grown_zero zero zero h = refl
 grown_zero (suc a) zero h = absurd (omega arith)
 
+-- One coefficient less has an extent less by one at least.
 grown_tail : (a n i : ℕ) → grown a n ≤ suc i → n ≤ i
 unfolding grown
 grown_tail a (suc n) i h = omega arith
 grown_tail a zero i h = omega arith
 
+-- .. and the rest has none.
 grown_tail_zero : (a n i : ℕ) → grown a n ≤ 0 → n ≤ i
 unfolding grown
 grown_tail_zero a (suc n) i h = absurd (omega arith)
 grown_tail_zero a zero i h = omega arith
 
+-- A 0 before a zero polynomial has no extent.
 grown_nothing : (a n : ℕ) → a ≡ 0 → n ≤ 0 → grown a n ≤ 0
 unfolding grown
 grown_nothing a (suc n) e h = absurd (omega arith)
 grown_nothing zero zero e h = omega arith
 grown_nothing (suc a) zero e h = absurd (omega arith)
 
+-- One coefficient more adds at most one.
 grown_most : (a n m : ℕ) → n ≤ m → grown a n ≤ suc m
 unfolding grown
 grown_most a (suc n) m h = omega arith

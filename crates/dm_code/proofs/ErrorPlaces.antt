@@ -23,16 +23,19 @@ abbrev pub locator_at : ℕ → ℕ → ℕ
 locator_at n i = power (n - suc i)
 
 -- ---- the true locator and evaluator are a pair
+-- The coefficients of the true locator are bytes.
 bytes_locate : (e : List ℕ) → Bytes (locate e)
 unfolding locate
 bytes_locate [] = bytes_cons 1 [] (omega arith) (λ k d h. absurd (omega arith))
 bytes_locate (zero ∷ e) = bytes_locate e
 bytes_locate (suc a ∷ e) = bytes_times (1 ∷ power (length e) ∷ []) (locate e)
 
+-- The true locator takes the power sums to a series without coefficients from its degree on.
 connects_sums : (e g : List ℕ) → length g ≡ suc (nonzeros e) → nonzeros (weighted (value g) e) ≡ 0 → (i : ℕ) → nonzeros e ≤ i → convolution (coefficient g) (sums e) i ≡ 0
 connects_sums e [] l z i h = absurd (omega arith)
 connects_sums e (a ∷ p) l z i h = connects e a p z i (omega arith)
 
+-- The true locator and the evaluator that it gives are a pair.
 pub true_pair : (e s : List ℕ) → ((i : ℕ) → i < length s → coefficient s i ≡ sums e i)
     → IsPair s (nonzeros e) (locate e) (first (convolution (coefficient (locate e)) (coefficient s)) (nonzeros e))
 true_pair e s h =
@@ -54,6 +57,7 @@ true_pair e s h =
     }
 
 -- ---- what connects the sums from d on is 0 at each place that isn't 0
+-- By the distance law: as many consecutive power sums are 0 as there are errors, so all weights are.
 vanishes_from : (e : List ℕ) (a : ℕ) (p : List ℕ) (d m k : ℕ) → length e ≤ 255 → nonzeros e ≤ m → length p ≤ d → d + m ≤ k
     → ((i : ℕ) → d ≤ i → i < k → convolution (coefficient (a ∷ p)) (sums e) i ≡ 0) → nonzeros (weighted (value (a ∷ p)) e) ≡ 0
 vanishes_from e a p d m k h z q n g =
@@ -67,11 +71,13 @@ vanishes_from e a p d m k h z q n g =
     ∙ sym (laid_sums e (a ∷ p) (o + i)) ∙ sym (conv_laid a p (sums e) (o + i))
     ∙ ap (convolution (coefficient (a ∷ p)) (sums e)) (let r : length p + (o + i) ≡ d + i = omega arith in r) ∙ g (d + i) (omega arith) (omega arith))
 
+-- Zeros are a zero and zeros.
 parts : (a : ℕ) (e : List ℕ) → nonzeros (a ∷ e) ≡ 0 → (a ≡ 0) × (nonzeros e ≡ 0)
 unfolding nonzeros
 parts zero e h = (refl, h)
 parts (suc a) e h = absurd (omega arith)
 
+-- Where all weights are 0, so is each.
 weighted_at : (f : ℕ → ℕ) (e : List ℕ) → nonzeros (weighted f e) ≡ 0 → (i : ℕ) → i < length e → get_or e i 0 ⊗ f (locator_at (length e) i) ≡ 0
 unfolding weighted
 weighted_at f [] z i h = absurd (omega arith)
@@ -81,10 +87,11 @@ weighted_at f (a ∷ e) z (suc i) h =
     ap (λ n. get_or e i 0 ⊗ f (power n)) (let r : length (a ∷ e) - suc (suc i) ≡ length e - suc i = omega arith in r)
     ∙ weighted_at f e (parts (a ⊗ f (power (length e))) (weighted f e) z).1 i (omega arith)
 
--- p is 0 at each place of e that isn't 0
+-- p is 0 at each place of e that isn't 0.
 abbrev pub Vanishes : List ℕ → List ℕ → Type 0
 Vanishes p e = (i : ℕ) → i < length e → 0 < get_or e i 0 → value p (locator_at (length e) i) ≡ 0
 
+-- Every pair whose bound and the number of errors together are at most the number of syndromes is 0 at the errors.
 pub pair_vanishes : (e s l w : List ℕ) (a : ℕ) (p : List ℕ) (d : ℕ) → Bytes e → length e ≤ 255 → d + nonzeros e ≤ length s → ((i : ℕ) → i < length s → coefficient s i ≡ sums e i)
     → IsPair s d l w → ((i : ℕ) → coefficient (a ∷ p) i ≡ coefficient l i) → length p ≤ d → Vanishes (a ∷ p) e
 pair_vanishes e s l w a p d b h n g q c m i y z =
@@ -95,22 +102,27 @@ pair_vanishes e s l w a p d b h n g q c m i y z =
     product_cancel (get_or e i 0) (value (a ∷ p) (locator_at (length e) i)) z (b i 0 y) (value_below (a ∷ p) (locator_at (length e) i)) (weighted_at (value (a ∷ p)) e v i y)
 
 -- ---- counting roots
+-- A value more counts no root less.
 step_more : (v m : ℕ) → m ≤ roots_step v m
 unfolding roots_step
 step_more zero m = omega arith
 step_more (suc v) m = omega arith
 
+-- A value that is 0 counts a root more.
 step_zero : (v m : ℕ) → v ≡ 0 → roots_step v m ≡ suc m
 unfolding roots_step
 step_zero zero m h = refl
 step_zero (suc v) m h = absurd (omega arith)
 
+-- What is 0 at the errors is 0 at the first, if it is one ..
 vanishes_head : (p e : List ℕ) (a : ℕ) → Vanishes p (a ∷ e) → 0 < a → value p (power (length e)) ≡ 0
 vanishes_head p e a h l = ap (λ n. value p (power n)) (let r : length e ≡ length (a ∷ e) - 1 = omega arith in r) ∙ h 0 (omega arith) l
 
+-- .. and at the others.
 vanishes_tail : (p e : List ℕ) (a : ℕ) → Vanishes p (a ∷ e) → Vanishes p e
 vanishes_tail p e a h i l z = ap (λ n. value p (power n)) (let r : length e - suc i ≡ length (a ∷ e) - suc (suc i) = omega arith in r) ∙ h (suc i) (omega arith) z
 
+-- There are as many roots as errors, at least.
 counted : (p e : List ℕ) → Vanishes p e → nonzeros e ≤ roots p (length e)
 unfolding nonzeros roots
 counted p [] h = omega arith
@@ -121,7 +133,7 @@ counted p (suc a ∷ e) h =
     let i : nonzeros e ≤ roots p (length e) = counted p e (vanishes_tail p e (suc a) h) in
     omega (arith, step_zero (value p (power (length e))) (roots p (length e)) (vanishes_head p e (suc a) h (omega arith)))
 
--- a root more, at a place that is 0
+-- A root more, at a place that is 0.
 counted_more : (p e : List ℕ) (i : ℕ) → Vanishes p e → i < length e → get_or e i 0 ≡ 0 → value p (locator_at (length e) i) ≡ 0 → suc (nonzeros e) ≤ roots p (length e)
 unfolding nonzeros roots
 counted_more p [] i h l z v = absurd (omega arith)
@@ -138,15 +150,17 @@ counted_more p (suc a ∷ e) (suc i) h l z v =
     counted_more p e i (vanishes_tail p e (suc a) h) (omega arith) z (ap (λ n. value p (power n)) (let r : length e - suc i ≡ length (suc a ∷ e) - suc (suc i) = omega arith in r) ∙ v) in
     omega (arith, step_zero (value p (power (length e))) (roots p (length e)) (vanishes_head p e (suc a) h (omega arith)))
 
--- with no more coefficients than errors, the roots are the places of the errors alone
+-- With no more coefficients than errors, the roots are the places of the errors alone.
 pub not_root : (e p : List ℕ) (i : ℕ) → length e ≤ 255 → Bytes (1 ∷ p) → length p ≤ nonzeros e → Vanishes (1 ∷ p) e → i < length e → get_or e i 0 ≡ 0 → 0 < value (1 ∷ p) (locator_at (length e) i)
 not_root e p i h b l v q z =
     pos_of_ne-zero (λ r. absurd (let c : suc (nonzeros e) ≤ roots (1 ∷ p) (length e) = counted_more (1 ∷ p) e i v q z r in omega (arith, roots_le (length e) 1 p h (omega arith) b)))
 
 -- ---- the quotient by a root is 0 at the other places, and not at this one
+-- A 0 before bytes.
 bytes_more : (p : List ℕ) → Bytes p → Bytes (0 ∷ p)
 bytes_more p b = bytes_cons 0 p (omega arith) b
 
+-- The quotient by x - r, times z - r, is the value.
 divided : (p : List ℕ) (r z : ℕ) → Bytes p → r < 256 → z < 256 → value p r ≡ 0 → value (quotient r 0 p) z ⊗ (z ⊕ r) ≡ value p z
 unfolding value
 divided p r z b h k y =
@@ -155,7 +169,7 @@ divided p r z b h k y =
     ∙ ap (λ t. value t z) (root_divides r 0 p (bytes_more p b) (ap (λ x. x ⊕ value p r) (product_zero_left (raise r (length p))) ∙ y))
     ∙ ap (λ x. x ⊕ value p z) (product_zero_left (raise z (length p)))
 
--- the quotient vanishes at the places of the errors but that of r
+-- The quotient vanishes at the places of the errors but that of r.
 pub quotient_vanishes : (e p : List ℕ) (i : ℕ) → length e ≤ 255 → Bytes p → Vanishes p e → i < length e → 0 < get_or e i 0
     → (k : ℕ) → k < length e → 0 < get_or e k 0 → (k ≡ i → ⊥) → value (quotient (locator_at (length e) i) 0 p) (locator_at (length e) k) ≡ 0
 quotient_vanishes e p i h b v l z k q y n =
@@ -168,17 +182,19 @@ quotient_vanishes e p i h b v l z k q y n =
     product_cancel (x ⊕ r) (value (quotient r 0 p) x) d (sum_below x r xb rb) (value_below (quotient r 0 p) x)
     (product_comm (x ⊕ r) (value (quotient r 0 p) x) ∙ divided p r x b rb xb (v i l z) ∙ v k q y)
 
--- its first coefficient is 0, and the rest is one by one
+-- Its first coefficient is 0, and the rest is one by one.
 quotient_zero : (r a : ℕ) (p : List ℕ) (x : ℕ) → value (quotient r 0 (a ∷ p)) x ≡ value (quotient r a p) x
 unfolding value quotient
 quotient_zero r a p x =
     ap (λ y. y ⊕ value (quotient r (a ⊕ r ⊗ 0) p) x) (product_zero_left (raise x (length (quotient r (a ⊕ r ⊗ 0) p))))
     ∙ ap (λ y. value (quotient r y p) x) (ap (bit_xor a) (product_zero_right r) ∙ xor_zero_r a)
 
+-- A step of synthetic division.
 quotient_more : (r b a : ℕ) (p : List ℕ) → quotient r b (a ∷ p) ≡ b ∷ quotient r (a ⊕ r ⊗ b) p
 unfolding quotient
 quotient_more r b a p = refl
 
+-- With an error, there are errors.
 pub nonzeros_positive : (e : List ℕ) (i : ℕ) → i < length e → 0 < get_or e i 0 → 0 < nonzeros e
 unfolding nonzeros
 nonzeros_positive [] i h z = absurd (omega arith)
@@ -186,7 +202,7 @@ nonzeros_positive (suc a ∷ e) i h z = omega arith
 nonzeros_positive (zero ∷ e) zero h z = absurd (omega arith)
 nonzeros_positive (zero ∷ e) (suc i) h z = nonzeros_positive e i (omega arith) z
 
--- a quotient of too small a degree isn't 0 at the last of the errors
+-- A quotient of too small a degree isn't 0 at the last of the errors.
 pub quotient_positive : (e p : List ℕ) (i : ℕ) → length e ≤ 255 → Bytes (1 ∷ p) → length p ≤ nonzeros e → Vanishes (1 ∷ p) e → i < length e → 0 < get_or e i 0
     → 0 < value (quotient (locator_at (length e) i) 0 (1 ∷ p)) (locator_at (length e) i)
 quotient_positive e [] i h b l v q z =

@@ -12,21 +12,25 @@ use Rattle.gf301.proofs.Locate.{sums, laid, laid_sums}
 use Rattle.dm_code.proofs.First.{first, length-first, first_push, first_same}
 use Rattle.dm_code.proofs.ErrorPlaces.{locator_at, Vanishes, not_root, quotient_vanishes, quotient_positive}
 
--- the value of the first n coefficients, the first one at the highest power
+-- The value of the first n coefficients, the first one at the highest power.
 abbrev early : (ℕ → ℕ) → ℕ → ℕ → ℕ
 early f n x = value (first f n) x
 
+-- Of no coefficients it is 0.
 early_nothing : (f : ℕ → ℕ) (x : ℕ) → early f 0 x ≡ 0
 unfolding first value
 early_nothing f x = refl
 
+-- The first coefficient apart.
 early_head : (f : ℕ → ℕ) (n x : ℕ) → early f (suc n) x ≡ f 0 ⊗ raise x n ⊕ early (shift f) n x
 unfolding first value
 early_head f n x = ap (λ m. f 0 ⊗ raise x m ⊕ early (shift f) n x) (length-first (shift f) n)
 
+-- The last coefficient apart.
 early_push : (f : ℕ → ℕ) (n x : ℕ) → f n < 256 → early f (suc n) x ≡ early f n x ⊗ x ⊕ f n
 early_push f n x h = ap (λ t. value t x) (first_push f n) ∙ value_push (first f n) (f n) x h
 
+-- Of a sum it is the sum.
 early_sum : (f g : ℕ → ℕ) (n x : ℕ) → early (λ i. f i ⊕ g i) n x ≡ early f n x ⊕ early g n x
 early_sum f g zero x = early_nothing (λ i. f i ⊕ g i) x ∙ sym (ap (λ y. y ⊕ early g 0 x) (early_nothing f x) ∙ early_nothing g x)
 early_sum f g (suc n) x =
@@ -35,6 +39,7 @@ early_sum f g (suc n) x =
     ∙ xor_swap (f 0 ⊗ raise x n) (g 0 ⊗ raise x n) (early (shift f) n x) (early (shift g) n x)
     ∙ ap (λ y. y ⊕ (g 0 ⊗ raise x n ⊕ early (shift g) n x)) (sym (early_head f n x)) ∙ ap (bit_xor (early f (suc n) x)) (sym (early_head g n x))
 
+-- Of a multiple it is the multiple.
 early_scale : (c : ℕ) (f : ℕ → ℕ) (n x : ℕ) → early (λ i. c ⊗ f i) n x ≡ c ⊗ early f n x
 early_scale c f zero x = early_nothing (λ i. c ⊗ f i) x ∙ sym (ap (λ y. c ⊗ y) (early_nothing f x) ∙ product_zero_right c)
 early_scale c f (suc n) x =
@@ -42,21 +47,25 @@ early_scale c f (suc n) x =
     ∙ ap (bit_xor (c ⊗ (f 0 ⊗ raise x n))) (early_scale c (shift f) n x)
     ∙ sym (product_sum_right c (f 0 ⊗ raise x n) (early (shift f) n x)) ∙ ap (λ y. c ⊗ y) (sym (early_head f n x))
 
+-- Series with the same coefficients are one.
 same_series : {f g : ℕ → ℕ} → ((i : ℕ) → f i ≡ g i) → f ≡ g
 same_series h = λ k i. h i k
 
+-- It is the same for the same coefficients.
 early_same : (f g : ℕ → ℕ) (n x : ℕ) → ((i : ℕ) → f i ≡ g i) → early f n x ≡ early g n x
 early_same f g n x h = ap (λ (k : ℕ → ℕ). early k n x) (same_series h)
 
+-- The product with one coefficient more in front.
 conv_first_two : (b : ℕ) (q : List ℕ) (s : ℕ → ℕ) (i : ℕ) → convolution (coefficient (b ∷ q)) s (suc i) ≡ b ⊗ s (suc i) ⊕ convolution (coefficient q) s i
 unfolding convolution
 conv_first_two b q s i = refl
 
+-- Its coefficient at 0.
 conv_zero_at : (b : ℕ) (q : List ℕ) (s : ℕ → ℕ) → convolution (coefficient (b ∷ q)) s 0 ≡ b ⊗ s 0
 unfolding convolution
 conv_zero_at b q s = refl
 
--- the head of the left factor
+-- The head of the left factor.
 conv_head_sum : (a c : ℕ) (p : List ℕ) (s : ℕ → ℕ) (i : ℕ) → convolution (coefficient ((a ⊕ c) ∷ p)) s i ≡ convolution (coefficient (a ∷ p)) s i ⊕ c ⊗ s i
 unfolding convolution
 conv_head_sum a c p s zero = product_sum_left a c (s 0)
@@ -64,23 +73,27 @@ conv_head_sum a c p s (suc i) =
     ap (λ y. y ⊕ convolution (coefficient p) s i) (product_sum_left a c (s (suc i)) ∙ xor_comm (a ⊗ s (suc i)) (c ⊗ s (suc i)))
     ∙ xor_assoc (c ⊗ s (suc i)) (a ⊗ s (suc i)) (convolution (coefficient p) s i) ∙ xor_comm (c ⊗ s (suc i)) (a ⊗ s (suc i) ⊕ convolution (coefficient p) s i)
 
+-- One coefficient more laid on the values.
 laid_cons : (b : ℕ) (t : List ℕ) (s : ℕ → ℕ) → laid (b ∷ t) s 0 ≡ b ⊗ s (length t) ⊕ laid t s 0
 unfolding laid
 laid_cons b t s = ap (λ n. b ⊗ s n ⊕ laid t s 0) (let r : length t + 0 ≡ length t = omega arith in r)
 
+-- Nothing laid on the values.
 laid_nothing : (s : ℕ → ℕ) → laid [] s 0 ≡ 0
 unfolding laid
 laid_nothing s = refl
 
+-- Nothing to divide.
 quotient_empty : (x b : ℕ) → quotient x b [] ≡ []
 unfolding quotient
 quotient_empty x b = refl
 
+-- A step of synthetic division.
 quotient_cons : (x b a : ℕ) (p : List ℕ) → quotient x b (a ∷ p) ≡ b ∷ quotient x (a ⊕ x ⊗ b) p
 unfolding quotient
 quotient_cons x b a p = refl
 
--- the quotient by x - r laid on the values is the value of the evaluator
+-- The quotient by x - r laid on the values is the value of the evaluator.
 pub quotient_evaluator : (x b : ℕ) (p : List ℕ) (s : ℕ → ℕ) → laid (quotient x b p) s 0 ≡ value (first (convolution (coefficient (b ∷ p)) s) (length p)) x
 quotient_evaluator x b [] s = ap (λ t. laid t s 0) (quotient_empty x b) ∙ laid_nothing s ∙ sym (early_nothing (convolution (coefficient (b ∷ [])) s) x)
 quotient_evaluator x b (a ∷ p) s =
@@ -102,6 +115,7 @@ quotient_evaluator x b (a ∷ p) s =
     ∙ sym (early_head (convolution (coefficient (b ∷ a ∷ p)) s) m x)
 
 -- ---- a sum of which one place is left
+-- A sum of zeros.
 weigh_none : (f : ℕ → ℕ) (e : List ℕ) → ((k : ℕ) → k < length e → get_or e k 0 ⊗ f (locator_at (length e) k) ≡ 0) → weigh f e ≡ 0
 unfolding weigh
 weigh_none f [] z = refl
@@ -109,6 +123,7 @@ weigh_none f (a ∷ e) z =
     ap (λ y. y ⊕ weigh f e) (ap (λ n. a ⊗ f (power n)) (let r : length e ≡ length (a ∷ e) - 1 = omega arith in r) ∙ z 0 (omega arith))
     ∙ weigh_none f e (λ k l. ap (λ n. get_or e k 0 ⊗ f (power n)) (let r : length e - suc k ≡ length (a ∷ e) - suc (suc k) = omega arith in r) ∙ z (suc k) (omega arith))
 
+-- A sum in which one place alone counts.
 weigh_single : (f : ℕ → ℕ) (e : List ℕ) (i : ℕ) → i < length e → ((k : ℕ) → k < length e → (k ≡ i → ⊥) → get_or e k 0 ⊗ f (locator_at (length e) k) ≡ 0) → weigh f e ≡ get_or e i 0 ⊗ f (locator_at (length e) i)
 unfolding weigh
 weigh_single f [] i h z = absurd (omega arith)
@@ -128,24 +143,29 @@ pub record IsErrorValue (l w : List ℕ) (x y : ℕ) : Type 0 where
   pub apart : 0 < value l x → y ≡ 0
   pub root : value l x ≡ 0 → 0 < x ⊗ value (quotient x 0 l) x → (x ⊗ value (quotient x 0 l) x) ⊗ y ≡ value (first (coefficient w) (length l - 1)) x
 
+-- Laid on the same values, it is the same.
 laid_same : (p : List ℕ) (s t : ℕ → ℕ) (u : ℕ) → ((i : ℕ) → i < length p + u → s i ≡ t i) → laid p s u ≡ laid p t u
 unfolding laid
 laid_same [] s t u h = refl
 laid_same (a ∷ p) s t u h =
     ap (λ y. a ⊗ y ⊕ laid p s u) (h (length p + u) (omega arith)) ∙ ap (bit_xor (a ⊗ t (length p + u))) (laid_same p s t u (λ i l. h i (omega arith)))
 
+-- The power 1 is the element.
 raise_one : (x : ℕ) → x < 256 → raise x 1 ≡ x
 unfolding raise
 raise_one x h = product_one_right x h
 
+-- A number is 0 or more.
 zero_or_positive : (a : ℕ) → (a ≡ 0) ⊎ (0 < a)
 zero_or_positive zero = inl refl
 zero_or_positive (suc a) = inr (omega arith)
 
+-- An element other than 0 can be divided out.
 cancelled : (a b c : ℕ) → 0 < a → a < 256 → b < 256 → c < 256 → a ⊗ b ≡ a ⊗ c → b ≡ c
 cancelled a b c h ha hb hc e =
     sum_zero b c (product_cancel a (b ⊕ c) h ha (sum_below b c hb hc) (product_sum_right a b c ∙ ap (λ y. y ⊕ a ⊗ c) e ∙ xor_self (a ⊗ c)))
 
+-- The quotient by the root, laid on the syndromes, leaves the error at this root alone.
 numerator : (e p s : List ℕ) (i : ℕ) → length e ≤ 255 → Bytes p → length p ≤ length s → ((k : ℕ) → k < length s → coefficient s k ≡ sums e k) → Vanishes p e → i < length e → 0 < get_or e i 0
     → laid (quotient (locator_at (length e) i) 0 p) (coefficient s) 0 ≡ (locator_at (length e) i ⊗ value (quotient (locator_at (length e) i) 0 p) (locator_at (length e) i)) ⊗ get_or e i 0
 numerator e p s i h b m g v q z =
@@ -161,12 +181,14 @@ numerator e p s i h b m g v q z =
     ])
     ∙ product_comm (get_or e i 0) (f x) ∙ ap (λ y. (y ⊗ value t x) ⊗ get_or e i 0) (raise_one x (raise_below 2 (length e - suc i)))
 
+-- The first 0 of a quotient adds nothing.
 laid_zero : (x b : ℕ) (p : List ℕ) (s : ℕ → ℕ) → laid (quotient x b p) s 0 ≡ laid (quotient x 0 (b ∷ p)) s 0
 unfolding quotient laid
 laid_zero x b p s =
     ap (λ c. laid (quotient x c p) s 0) (sym (ap (bit_xor b) (product_zero_right x) ∙ xor_zero_r b))
     ∙ sym (ap (λ y. y ⊕ laid (quotient x (b ⊕ x ⊗ 0) p) s 0) (product_zero_left (s (length (quotient x (b ⊕ x ⊗ 0) p) + 0))))
 
+-- The value of the evaluator is the quotient laid on the syndromes.
 evaluated : (p s w : List ℕ) (x : ℕ) → length p ≤ length s → ((k : ℕ) → k < length s → convolution (coefficient (1 ∷ p)) (coefficient s) k ≡ coefficient w k)
     → value (first (coefficient w) (length (1 ∷ p) - 1)) x ≡ laid (quotient x 0 (1 ∷ p)) (coefficient s) 0
 evaluated p s w x h e =
@@ -174,6 +196,7 @@ evaluated p s w x h e =
     ∙ ap (λ t. value t x) (first_same (coefficient w) (convolution (coefficient (1 ∷ p)) (coefficient s)) (length p) (λ i l. sym (e i (omega arith))))
     ∙ sym (quotient_evaluator x 1 p (coefficient s)) ∙ laid_zero x 1 p (coefficient s)
 
+-- The value that the pair gives at a place is the error there.
 pub error_found : (e p s w : List ℕ) (i y : ℕ) → length e ≤ 255 → Bytes e → Bytes (1 ∷ p) → length p ≤ nonzeros e → suc (length p) ≤ length s → ((k : ℕ) → k < length s → coefficient s k ≡ sums e k)
     → ((k : ℕ) → k < length s → convolution (coefficient (1 ∷ p)) (coefficient s) k ≡ coefficient w k)
     → Vanishes (1 ∷ p) e → i < length e → y < 256 → IsErrorValue (1 ∷ p) w (locator_at (length e) i) y → y ≡ get_or e i 0

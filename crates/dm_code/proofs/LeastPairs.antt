@@ -1,6 +1,6 @@
 -- Where there is a pair of the key equation, there is a least one: whether there is a pair within a bound is decided by
 -- going through the lists of bytes, and the first bound with one gives the least pair.
-use Rattle.std.proofs.Common.{◌≡◌, ℕ, zero, suc, ◌+◌, ◌-◌, ◌<◌, ◌≤◌, List, [], ◌∷◌, length, refl, sym, ap, subst, ◌∙◌, arith, inl, inr, ◌⊎◌}
+use Rattle.std.proofs.Common.{◌≡◌, ℕ, zero, suc, ◌<◌, ◌≤◌, List, [], ◌∷◌, length, refl, sym, ap, subst, ◌∙◌, arith, inl, inr, ◌⊎◌}
 use Rattle.std.proofs.lemmas.Bool.{cases_lt, cases_eq}
 use Rattle.std.proofs.lemmas.List.{get_or_past}
 use Rattle.std.proofs.Math.Nat.{le_refl}
@@ -48,14 +48,17 @@ Found P n = (l : List ℕ) × Bytes l × (length l ≡ n) × P l
 abbrev NotFound : (List ℕ → Type 0) → ℕ → Type 0
 NotFound P n = (l : List ℕ) → Bytes l → length l ≡ n → P l → ⊥
 
+-- The one list of no bytes hasn't it.
 none_empty : (P : List ℕ → Type 0) → (P [] → ⊥) → NotFound P 0
 none_empty P q [] b e p = q p
 none_empty P q (a ∷ l) b e p = absurd (omega arith)
 
+-- With no first byte it is there.
 none_longer : (P : List ℕ → Type 0) (n : ℕ) → ((a : ℕ) → a < 256 → Found (λ l. P (a ∷ l)) n → ⊥) → NotFound P (suc n)
 none_longer P n h [] b e p = absurd (omega arith)
 none_longer P n h (a ∷ l) b e p = h a (bytes_head a l b) (l, bytes_tail a l b, (let q : length l ≡ n = omega arith in q), p)
 
+-- One of the lists of n bytes has a property, or none.
 list_found : (n : ℕ) (P : List ℕ → Type 0) → ((l : List ℕ) → Decided (P l)) → Found P n ⊎ NotFound P n
 list_found zero P h =
     elim (h []) [
@@ -76,6 +79,7 @@ record Locates (s : List ℕ) (d : ℕ) (l : List ℕ) : Type 0 where
   one : coefficient l 0 ≡ 1
   gives : (i : ℕ) → i < length s → d ≤ i → convolution (coefficient l) (coefficient s) i ≡ 0
 
+-- It locates or doesn't.
 locates_decided : (s : List ℕ) (d : ℕ) (l : List ℕ) → Decided (Locates s d l)
 locates_decided s d l =
     let c = convolution (coefficient l) (coefficient s) in
@@ -90,6 +94,7 @@ locates_decided s d l =
       ]
     ]
 
+-- What locates has an evaluator, and so is a pair.
 pair_of : (s : List ℕ) (d : ℕ) (l : List ℕ) → Bytes l → length l ≡ suc d → Locates s d l → IsPair s d l (first (convolution (coefficient l) (coefficient s)) d)
 pair_of s d l b e p =
     let f = convolution (coefficient l) (coefficient s) in
@@ -101,6 +106,7 @@ pair_of s d l b e p =
       equation = λ i h. elim (cases_lt i d) [ inl q ↦ sym (first_at f d i q) | inr q ↦ p.gives i h q ∙ sym (first_past f d i q) ];
     }
 
+-- The first coefficients of a pair's locator locate.
 locates : (s g v : List ℕ) (d : ℕ) → IsPair s d g v → Locates s d (first (coefficient g) (suc d))
 locates s g v d p =
     let same = first_whole (coefficient g) (suc d) p.within.locator in
@@ -118,21 +124,28 @@ pair_decided s d =
     ]
 
 -- ---- the first bound
+-- The least pair has one of the first n bounds, or there is no pair within them.
 first_bound : (s : List ℕ) (t n : ℕ) → n ≤ suc t → ((l : List ℕ) × (w : List ℕ) × (d : ℕ) × IsLeastAt s t l w d) ⊎ ((d : ℕ) → d < n → (l w : List ℕ) → IsPair s d l w → ⊥)
 first_bound s t zero h = inr (λ d b l w p. absurd (omega arith))
 first_bound s t (suc n) h =
     elim (first_bound s t n (omega arith)) [
       | inl f ↦ inl f
       | inr none ↦ elim (pair_decided s n) [
-        | inl f ↦ inl (f.0, f.1, n, record {
-          within = omega arith;
-          pair = f.2;
-          least = λ g v e q. elim (cases_lt e n) [ inl b ↦ absurd (none e b g v q) | inr b ↦ b ];
-        })
+        | inl f ↦ inl (
+          f.0,
+          f.1,
+          n,
+          record {
+            within = omega arith;
+            pair = f.2;
+            least = λ g v e q. elim (cases_lt e n) [ inl b ↦ absurd (none e b g v q) | inr b ↦ b ];
+          },
+        )
         | inr missing ↦ inr (λ d b l w p. elim (cases_lt d n) [ inl c ↦ none d c l w p | inr c ↦ missing l w (subst (λ m. IsPair s m l w) (let e : d ≡ n = omega arith in e) p) ])
       ]
     ]
 
+-- Where there is a pair, there is a least pair.
 pub least_exists : (s g v : List ℕ) (t : ℕ) → IsPair s t g v → (l : List ℕ) × (w : List ℕ) × IsLeastPair s t l w
 least_exists s g v t p =
     elim (first_bound s t (suc t) (le_refl (suc t))) [

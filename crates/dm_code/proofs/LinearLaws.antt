@@ -1,12 +1,11 @@
 -- One column of elimination.
-use Rattle.std.proofs.Common.{◌≡◌, ℕ, zero, suc, ◌+◌, ◌-◌, ◌<◌, ◌≤◌, List, [], ◌∷◌, get_or, length, Option, Some, None, IfSome, IfNone, refl, sym, ap, subst, ◌∙◌, arith, bit_xor, inl, inr}
-use lib.Bits.{xor_assoc, xor_comm, xor_self, xor_zero_r}
-use Rattle.std.proofs.lemmas.Bool.{cases_eq}
+use Rattle.std.proofs.Common.{◌≡◌, ℕ, zero, suc, ◌+◌, ◌-◌, ◌<◌, ◌≤◌, List, length, Option, Some, None, IfSome, IfNone, refl, sym, ap, subst, ◌∙◌, arith, bit_xor}
+use lib.Bits.{xor_self, xor_zero_r}
 use Rattle.gf301.specs.Field.{◌⊕◌, ◌⊗◌}
 use Rattle.gf301.specs.Polynomial.{coefficient}
 use Rattle.dm_code.specs.LinearSystem.{dot, row, Solves, Unsolvable}
 use Rattle.gf301.proofs.Additive.{xor_swap}
-use Rattle.gf301.proofs.FieldLaws.{product_sum_left, product_sum_right, product_assoc, product_comm, product_zero_left, product_zero_right, product_one_left, product_one_right, product_one_middle, product_below, sum_zero, sum_below}
+use Rattle.gf301.proofs.FieldLaws.{product_sum_left, product_sum_right, product_assoc, product_comm, product_zero_left, product_zero_right, product_one_left, product_one_right, product_one_middle, product_below, sum_below}
 
 -- The rows after a multiple of the pivot row g has been added to each, y being the inverse of its coefficient at c.
 pub record Reduced (rows less : List (List ℕ)) (g : ℕ → ℕ) (y c : ℕ) : Type 0 where
@@ -14,6 +13,7 @@ pub record Reduced (rows less : List (List ℕ)) (g : ℕ → ℕ) (y c : ℕ) :
   pub long : length less ≡ length rows
   pub each : (k : ℕ) → k < length rows → (j : ℕ) → row less k j ≡ row rows k j ⊕ (row rows k c ⊗ y) ⊗ g j
 
+-- A sum of rows ..
 dot_sum : (f g v : ℕ → ℕ) (c n : ℕ) → dot (λ j. f j ⊕ g j) v c n ≡ dot f v c n ⊕ dot g v c n
 unfolding dot
 dot_sum f g v c zero = refl
@@ -22,6 +22,7 @@ dot_sum f g v c (suc n) =
     ∙ ap (bit_xor (f c ⊗ v c ⊕ g c ⊗ v c)) (dot_sum f g v (suc c) n)
     ∙ xor_swap (f c ⊗ v c) (g c ⊗ v c) (dot f v (suc c) n) (dot g v (suc c) n)
 
+-- .. and a multiple of a row.
 dot_scale : (x : ℕ) (f v : ℕ → ℕ) (c n : ℕ) → dot (λ j. x ⊗ f j) v c n ≡ x ⊗ dot f v c n
 unfolding dot
 dot_scale x f v c zero = sym (product_zero_right x)
@@ -30,6 +31,7 @@ dot_scale x f v c (suc n) =
     ∙ ap (bit_xor (x ⊗ (f c ⊗ v c))) (dot_scale x f v (suc c) n)
     ∙ sym (product_sum_right x (f c ⊗ v c) (dot f v (suc c) n))
 
+-- The same rows and unknowns from c on.
 pub dot_same : (f g v u : ℕ → ℕ) (c n : ℕ) → ((j : ℕ) → c ≤ j → f j ≡ g j) → ((j : ℕ) → c ≤ j → v j ≡ u j) → dot f v c n ≡ dot g u c n
 unfolding dot
 dot_same f g v u c zero h k = refl
@@ -37,22 +39,27 @@ dot_same f g v u c (suc n) h k =
     ap (λ y. y ⊗ v c ⊕ dot f v (suc c) n) (h c (omega arith)) ∙ ap (λ y. g c ⊗ y ⊕ dot f v (suc c) n) (k c (omega arith))
     ∙ ap (bit_xor (g c ⊗ u c)) (dot_same f g v u (suc c) n (λ j l. h j (omega arith)) (λ j l. k j (omega arith)))
 
+-- A product that is 0 can be left out.
 dot_head : (f v : ℕ → ℕ) (c n : ℕ) → f c ⊗ v c ≡ 0 → dot f v c (suc n) ≡ dot f v (suc c) n
 unfolding dot
 dot_head f v c n e = ap (λ y. y ⊕ dot f v (suc c) n) e
 
+-- The sum is a byte.
 dot_below : (f v : ℕ → ℕ) (c n : ℕ) → dot f v c n < 256
 unfolding dot
 dot_below f v c zero = omega arith
 dot_below f v c (suc n) = sum_below (f c ⊗ v c) (dot f v (suc c) n) (product_below (f c) (v c)) (dot_below f v (suc c) n)
 
+-- A coefficient that is 0 takes no unknown.
 free : (x y : ℕ) → x ≡ 0 → x ⊗ y ≡ 0
 free x y e = ap (λ z. z ⊗ y) e ∙ product_zero_left y
 
+-- The first place apart.
 dot_more : (f v : ℕ → ℕ) (c n : ℕ) → dot f v c (suc n) ≡ f c ⊗ v c ⊕ dot f v (suc c) n
 unfolding dot
 dot_more f v c n = refl
 
+-- A reduced row has the unknown c no more.
 reduced_head : (rows less : List (List ℕ)) (g : ℕ → ℕ) (y c : ℕ) → Reduced rows less g y c → (k : ℕ) → k < length rows → (x : ℕ) → row less k c ⊗ x ≡ 0
 reduced_head rows less g y c r k h x =
     let f = row rows k c in
@@ -60,6 +67,7 @@ reduced_head rows less g y c r k h x =
     ∙ ap (bit_xor (f ⊗ x)) (ap (λ z. z ⊗ x) (product_assoc f y (g c) ∙ ap (λ z. f ⊗ z) (product_comm y (g c) ∙ r.one)) ∙ product_assoc f 1 x ∙ product_one_middle f x)
     ∙ xor_self (f ⊗ x)
 
+-- A reduced row is the row plus a multiple of the pivot row.
 reduced_dot : (rows less : List (List ℕ)) (g v : ℕ → ℕ) (y c n : ℕ) → Reduced rows less g y c → (k : ℕ) → k < length rows
     → dot (row less k) v (suc c) n ≡ dot (row rows k) v c (suc n) ⊕ (row rows k c ⊗ y) ⊗ dot g v c (suc n)
 reduced_dot rows less g v y c n r k h =
@@ -68,7 +76,7 @@ reduced_dot rows less g v y c n r k h =
     ∙ dot_same (row less k) (λ j. row rows k j ⊕ z ⊗ g j) v v c (suc n) (λ j l. r.each k h j) (λ j l. refl)
     ∙ dot_sum (row rows k) (λ j. z ⊗ g j) v c (suc n) ∙ ap (bit_xor (dot (row rows k) v c (suc n))) (dot_scale z g v c (suc n))
 
--- a solution of the rows solves the reduced rows
+-- A solution of the rows solves the reduced rows.
 pub solves_reduced : (rows less : List (List ℕ)) (p y c n : ℕ) (v : ℕ → ℕ) → p < length rows → Reduced rows less (row rows p) y c → Solves rows c (suc n) v → Solves less (suc c) n v
 solves_reduced rows less p y c n v l r s = record {
   last = ap v (let e : suc c + n ≡ c + suc n = omega arith in e) ∙ s.last;
@@ -79,7 +87,7 @@ solves_reduced rows less p y c n v l r s = record {
       ∙ ap (λ x. z ⊗ x) (s.each p l) ∙ product_zero_right z;
 }
 
--- and a solution of the reduced rows gives one of the rows
+-- And a solution of the reduced rows gives one of the rows.
 pub solves_back : (rows less : List (List ℕ)) (p y c n : ℕ) (v u : ℕ → ℕ) → p < length rows → Reduced rows less (row rows p) y c → Solves less (suc c) n v
     → ((j : ℕ) → suc c ≤ j → u j ≡ v j) → u c ≡ y ⊗ dot (row rows p) v (suc c) (suc n) → dot (row rows p) v (suc c) (suc n) < 256 → Solves rows c (suc n) u
 solves_back rows less p y c n v u l r s h e b =
@@ -99,33 +107,38 @@ solves_back rows less p y c n v u l r s h e b =
           ∙ dot_same (row less k) (row less k) u v (suc c) (suc n) (λ j q. refl) h ∙ s.each k (omega (arith, r.long));
     }
 
--- where the column is 0 in each row, its unknown is free
+-- Where the column is 0 in each row, its unknown is free.
 pub solves_later : (rows : List (List ℕ)) (c n : ℕ) (v : ℕ → ℕ) → ((k : ℕ) → k < length rows → row rows k c ≡ 0) → Solves rows c (suc n) v → Solves rows (suc c) n v
 solves_later rows c n v z s = record {
   last = ap v (let e : suc c + n ≡ c + suc n = omega arith in e) ∙ s.last;
   each = λ k h. sym (dot_head (row rows k) v c (suc n) (free (row rows k c) (v c) (z k h))) ∙ s.each k h;
 }
 
+-- And back: any value of it solves the rows.
 pub solves_sooner : (rows : List (List ℕ)) (c n : ℕ) (v : ℕ → ℕ) → ((k : ℕ) → k < length rows → row rows k c ≡ 0) → Solves rows (suc c) n v → Solves rows c (suc n) v
 solves_sooner rows c n v z s = record {
   last = ap v (let e : c + suc n ≡ suc c + n = omega arith in e) ∙ s.last;
   each = λ k h. dot_head (row rows k) v c (suc n) (free (row rows k c) (v c) (z k h)) ∙ s.each k h;
 }
 
+-- The place before, by its number.
 pub dot_step : (f v : ℕ → ℕ) (c n d m : ℕ) → d ≡ suc c → m ≡ suc n → dot f v c m ≡ f c ⊗ v c ⊕ dot f v d n
 dot_step f v c n d m e q = ap (dot f v c) q ∙ dot_more f v c n ∙ ap (λ x. f c ⊗ v c ⊕ dot f v x n) (sym e)
 
 -- ---- the last column
+-- The last unknown, which is 1, alone.
 last_dot : (f v : ℕ → ℕ) (c : ℕ) → v c ≡ 1 → dot f v c 1 ≡ f c ⊗ 1
 unfolding dot
 last_dot f v c e = xor_zero_r (f c ⊗ v c) ∙ ap (λ x. f c ⊗ x) e
 
+-- Rows of zeros are solved ..
 pub solves_last : (rows : List (List ℕ)) (c : ℕ) (v : ℕ → ℕ) → v c ≡ 1 → ((k : ℕ) → k < length rows → row rows k c ≡ 0) → Solves rows c 0 v
 solves_last rows c v e z = record {
   last = ap v (let q : c + 0 ≡ c = omega arith in q) ∙ e;
   each = λ k h. last_dot (row rows k) v c e ∙ free (row rows k c) 1 (z k h);
 }
 
+-- .. and others aren't.
 pub last_pivot : (rows : List (List ℕ)) (c p : ℕ) (v : ℕ → ℕ) → p < length rows → 0 < row rows p c → row rows p c < 256 → Solves rows c 0 v → ⊥
 last_pivot rows c p v h l b s =
     let z : row rows p c ≡ 0 =
@@ -133,15 +146,18 @@ last_pivot rows c p v h l b s =
     omega arith
 
 -- ---- the same with numbers that are equal by arithmetic
+-- Equal places and counts.
 at : (rows : List (List ℕ)) (c d m n : ℕ) (v : ℕ → ℕ) → c ≡ d → m ≡ n → Solves rows c m v → Solves rows d n v
 at rows c d m n v e q s = subst (λ x. Solves rows d x v) q (subst (λ x. Solves rows x m v) e s)
 
+-- From the unknowns from c on to those after it ..
 pub column_down : (rows less kept : List (List ℕ)) (p y c : ℕ) (v : ℕ → ℕ) → c < 34 → p < length rows → Reduced rows less (row rows p) y c → kept ≡ less → Solves rows c (34 - c) v → Solves kept (c + 1) (34 - (c + 1)) v
 column_down rows less kept p y c v h l r k s =
     subst (λ x. Solves x (c + 1) (34 - (c + 1)) v) (sym k)
     (at less (suc c) (c + 1) (33 - c) (34 - (c + 1)) v (omega arith) (omega arith)
     (solves_reduced rows less p y c (33 - c) v l r (at rows c c (34 - c) (suc (33 - c)) v refl (omega arith) s)))
 
+-- .. and back.
 pub column_up : (rows less kept : List (List ℕ)) (p y c : ℕ) (v u : ℕ → ℕ) → c < 34 → p < length rows → Reduced rows less (row rows p) y c → kept ≡ less → Solves kept (c + 1) (34 - (c + 1)) v
     → ((j : ℕ) → c < j → u j ≡ v j) → u c ≡ y ⊗ dot (row rows p) v (c + 1) (35 - (c + 1)) → Solves rows c (34 - c) u
 column_up rows less kept p y c v u h l r k s o e =
@@ -152,17 +168,21 @@ column_up rows less kept p y c v u h l r k s o e =
     (at less (c + 1) (suc c) (34 - (c + 1)) (33 - c) v (omega arith) (omega arith) (subst (λ x. Solves x (c + 1) (34 - (c + 1)) v) k s))
     o (e ∙ ap (λ x. y ⊗ x) z) (dot_below (row rows p) v (suc c) (suc (33 - c))))
 
+-- The same for a column of zeros ..
 pub free_down : (rows : List (List ℕ)) (c : ℕ) (v : ℕ → ℕ) → c < 34 → ((k : ℕ) → k < length rows → row rows k c ≡ 0) → Solves rows c (34 - c) v → Solves rows (c + 1) (34 - (c + 1)) v
 free_down rows c v h z s = at rows (suc c) (c + 1) (33 - c) (34 - (c + 1)) v (omega arith) (omega arith) (solves_later rows c (33 - c) v z (at rows c c (34 - c) (suc (33 - c)) v refl (omega arith) s))
 
+-- .. and back.
 pub free_up : (rows : List (List ℕ)) (c : ℕ) (v : ℕ → ℕ) → c < 34 → ((k : ℕ) → k < length rows → row rows k c ≡ 0) → Solves rows (c + 1) (34 - (c + 1)) v → Solves rows c (34 - c) v
 free_up rows c v h z s = at rows c c (suc (33 - c)) (34 - c) v refl (omega arith) (solves_sooner rows c (33 - c) v z (at rows (c + 1) (suc c) (34 - (c + 1)) (33 - c) v (omega arith) (omega arith) s))
 
+-- So a solution of the unknowns after c is one from c on ..
 pub free_some : (rows : List (List ℕ)) (c : ℕ) (o : Option (List ℕ)) → c < 34 → ((k : ℕ) → k < length rows → row rows k c ≡ 0)
     → IfSome o (λ v. Solves rows (c + 1) (34 - (c + 1)) (coefficient v)) → IfSome o (λ v. Solves rows c (34 - c) (coefficient v))
 free_some rows c (Some v) h z m = free_up rows c (coefficient v) h z m
 free_some rows c None h z m = tt
 
+-- .. and where those have none, neither have these.
 pub free_none : (rows : List (List ℕ)) (c : ℕ) (o : Option (List ℕ)) → c < 34 → ((k : ℕ) → k < length rows → row rows k c ≡ 0)
     → IfNone o (Unsolvable rows (c + 1) (34 - (c + 1))) → IfNone o (Unsolvable rows c (34 - c))
 free_none rows c (Some v) h z m = tt

@@ -1,36 +1,40 @@
 -- Every pair is a multiple of the least pair.
-use Rattle.std.proofs.Common.{◌≡◌, ℕ, zero, suc, ◌+◌, ◌-◌, ◌*◌, ◌<◌, ◌≤◌, List, [], ◌∷◌, get_or, refl, sym, ap, subst, ◌∙◌, arith, bit_xor, inl, inr, ◌⊎◌}
-use Rattle.std.proofs.lemmas.Bool.{cases_lt, cases_order, cases_eq}
+use Rattle.std.proofs.Common.{◌≡◌, ℕ, zero, suc, ◌<◌, ◌≤◌, List, [], ◌∷◌, refl, sym, ap, ◌∙◌, arith, bit_xor, inl, inr}
+use Rattle.std.proofs.lemmas.Bool.{cases_lt, cases_eq}
 use Rattle.std.proofs.Math.Nat.{pos_of_ne-zero}
 use lib.Bits.{xor_assoc, xor_comm, xor_self, xor_zero_r}
 use Rattle.gf301.specs.Field.{◌⊕◌, ◌⊗◌}
-use Rattle.gf301.proofs.FieldLaws.{product_zero_left, product_zero_right, product_one_left, product_one_right, product_comm, product_inverse, product_cancel, inverse_of, sum_zero, sum_below, product_below}
+use Rattle.gf301.proofs.FieldLaws.{product_zero_left, product_zero_right, product_one_left, product_one_right, product_comm, product_inverse, inverse_of, sum_zero, sum_below, product_below}
 use Rattle.gf301.specs.Polynomial.{shift, convolution, coefficient}
-use Rattle.gf301.proofs.Series.{conv_sum_left, conv_scale_left, conv_below, conv_comm, conv_swap, conv_same_left, conv_same_right, conv_zero}
+use Rattle.gf301.proofs.Series.{conv_sum_left, conv_scale_left, conv_below, conv_comm, conv_swap, conv_same_right, conv_zero}
 
--- l and w are a pair for the first k coefficients of s, of length d
+-- l and w are a pair for the first k coefficients of s, of length d.
 pub record IsSeriesPair (l w s : ℕ → ℕ) (d k : ℕ) : Type 0 where
   pub one : l 0 ≡ 1
   pub degree : (i : ℕ) → d < i → l i ≡ 0
   pub short : (i : ℕ) → d ≤ i → w i ≡ 0
   pub gives : (i : ℕ) → i < k → convolution l s i ≡ w i
 
+-- A pair of which no pair has a smaller bound.
 abbrev pub IsLeastSeries : (ℕ → ℕ) → (ℕ → ℕ) → (ℕ → ℕ) → ℕ → ℕ → Type 0
 IsLeastSeries l w s d k = IsSeriesPair l w s d k × ((g v : ℕ → ℕ) (e : ℕ) → IsSeriesPair g v s e k → d ≤ e)
 
+-- The product with a sum.
 conv_sum_right : (f g h : ℕ → ℕ) (n : ℕ) → convolution f (λ i. g i ⊕ h i) n ≡ convolution f g n ⊕ convolution f h n
 conv_sum_right f g h n =
     conv_comm f (λ i. g i ⊕ h i) n ∙ conv_sum_left g h f n ∙ ap (λ y. y ⊕ convolution h f n) (conv_comm g f n) ∙ ap (bit_xor (convolution f g n)) (conv_comm h f n)
 
+-- The product with a series that begins with 0.
 conv_head : (f g : ℕ → ℕ) (n : ℕ) → f 0 ≡ 0 → convolution f g (suc n) ≡ convolution (shift f) g n
 unfolding convolution
 conv_head f g n e = ap (λ y. y ⊗ g (suc n) ⊕ convolution (shift f) g n) e ∙ ap (λ y. y ⊕ convolution (shift f) g n) (product_zero_left (g (suc n)))
 
+-- The first coefficient of a product.
 conv_at_zero : (f g : ℕ → ℕ) → convolution f g 0 ≡ f 0 ⊗ g 0
 unfolding convolution
 conv_at_zero f g = refl
 
--- a series that begins with 1 can be divided out
+-- A series that begins with 1 can be divided out.
 unit_zero : (l f : ℕ → ℕ) (k : ℕ) → l 0 ≡ 1 → ((i : ℕ) → f i < 256) → ((i : ℕ) → i < k → convolution l f i ≡ 0) → (i : ℕ) → i < k → f i ≡ 0
 unit_zero l f zero e b h i m = absurd (omega arith)
 unit_zero l f (suc k) e b h zero m = sym (ap (λ y. y ⊗ f 0) e ∙ product_one_left (f 0) (b 0)) ∙ sym (conv_at_zero l f) ∙ h 0 m
@@ -39,7 +43,7 @@ unit_zero l f (suc k) e b h (suc i) m =
     unit_zero l (shift f) k e (λ i. b (suc i))
     (λ i q. conv_comm l (shift f) i ∙ sym (conv_head f l i z) ∙ conv_comm f l (suc i) ∙ h (suc i) (omega arith)) i (omega arith)
 
--- where a * w = l * b, and the pair l, w is given, a and b solve the same equation
+-- Where a * w = l * b, and the pair l, w is given, a and b solve the same equation.
 same_equation : (l w s a b : ℕ → ℕ) (d k : ℕ) → IsSeriesPair l w s d k → ((i : ℕ) → b i < 256) → ((n : ℕ) → convolution a w n ≡ convolution l b n) → (i : ℕ) → i < k → convolution a s i ≡ b i
 same_equation l w s a b d k p hb e i h =
     sum_zero (convolution a s i) (b i)
@@ -48,18 +52,22 @@ same_equation l w s a b d k p hb e i h =
     ∙ ap (λ y. y ⊕ convolution l b n) (conv_swap l a s n ∙ conv_same_right a (convolution l s) w n (λ j r. p.gives j (omega arith)) ∙ e n)
     ∙ xor_self (convolution l b n)) i h)
 
+-- A series that is 0 first and later.
 pub zero_everywhere : (f : ℕ → ℕ) → f 0 ≡ 0 → ((i : ℕ) → f (suc i) ≡ 0) → (i : ℕ) → f i ≡ 0
 zero_everywhere f z h zero = z
 zero_everywhere f z h (suc i) = h i
 
+-- Where a * w = l * b, the first coefficients agree ..
 pub head_equation : (l w a b : ℕ → ℕ) → l 0 ≡ 1 → b 0 < 256 → ((n : ℕ) → convolution a w n ≡ convolution l b n) → b 0 ≡ a 0 ⊗ w 0
 head_equation l w a b o h e =
     sym (product_one_left (b 0) h) ∙ ap (λ y. y ⊗ b 0) (sym o) ∙ sym (conv_at_zero l b) ∙ sym (e 0) ∙ conv_at_zero a w
 
+-- .. and where they are 0, x can be divided out.
 pub shift_equation : (l w a b : ℕ → ℕ) → a 0 ≡ 0 → b 0 ≡ 0 → ((n : ℕ) → convolution a w n ≡ convolution l b n) → (n : ℕ) → convolution (shift a) w n ≡ convolution l (shift b) n
 shift_equation l w a b za zb e n =
     sym (conv_head a w n za) ∙ e (suc n) ∙ conv_comm l b (suc n) ∙ conv_head b l n zb ∙ conv_comm (shift b) l n
 
+-- Divided by its first coefficient, a solution of the equation is a pair.
 scaled_pair : (l w s : ℕ → ℕ) (d k c : ℕ) (a b : ℕ → ℕ) → IsSeriesPair l w s d k → 0 < a 0 → ((i : ℕ) → a i < 256) → ((i : ℕ) → b i < 256)
     → ((i : ℕ) → c < i → a i ≡ 0) → ((i : ℕ) → c ≤ i → b i ≡ 0) → ((n : ℕ) → convolution a w n ≡ convolution l b n)
     → IsSeriesPair (λ i. inverse_of (a 0) ⊗ a i) (λ i. inverse_of (a 0) ⊗ b i) s c k
@@ -70,7 +78,7 @@ scaled_pair l w s d k c a b p h ha hb da db e = record {
   gives = λ i q. conv_scale_left (inverse_of (a 0)) a s i ∙ ap (λ y. inverse_of (a 0) ⊗ y) (same_equation l w s a b d k p hb e i q);
 }
 
--- what is shorter than the least pair is nothing: first its heads
+-- What is shorter than the least pair is nothing: first its heads.
 heads_nothing : (l w s : ℕ → ℕ) (d k : ℕ) → IsLeastSeries l w s d k → (c : ℕ) → c < d → (a b : ℕ → ℕ) → ((i : ℕ) → a i < 256) → ((i : ℕ) → b i < 256)
     → ((i : ℕ) → c < i → a i ≡ 0) → ((i : ℕ) → c ≤ i → b i ≡ 0) → ((n : ℕ) → convolution a w n ≡ convolution l b n) → (a 0 ≡ 0) × (b 0 ≡ 0)
 heads_nothing l w s d k p c h a b ha hb da db e =
@@ -81,6 +89,7 @@ heads_nothing l w s d k p c h a b ha hb da db e =
     ] in
     (z, head_equation l w a b p.0.one (hb 0) e ∙ ap (λ x. x ⊗ w 0) z ∙ product_zero_left (w 0))
 
+-- .. then all of it.
 pub nothing_shorter : (l w s : ℕ → ℕ) (d k : ℕ) → IsLeastSeries l w s d k → (c : ℕ) → c < d → (a b : ℕ → ℕ) → ((i : ℕ) → a i < 256) → ((i : ℕ) → b i < 256)
     → ((i : ℕ) → c < i → a i ≡ 0) → ((i : ℕ) → c ≤ i → b i ≡ 0) → ((n : ℕ) → convolution a w n ≡ convolution l b n)
     → ((i : ℕ) → a i ≡ 0) × ((i : ℕ) → b i ≡ 0)
@@ -94,13 +103,16 @@ nothing_shorter l w s d k p (suc c) h a b ha hb da db e =
     (shift_equation l w a b z.0 z.1 e) in
     (zero_everywhere a z.0 r.0, zero_everywhere b z.1 r.1)
 
+-- a and b are q times l and w.
 abbrev IsSeriesMultiple : (ℕ → ℕ) → (ℕ → ℕ) → (ℕ → ℕ) → (ℕ → ℕ) → Type 0
 IsSeriesMultiple l w a b = (q : List ℕ) × ((i : ℕ) → a i ≡ convolution (coefficient q) l i) × ((i : ℕ) → b i ≡ convolution (coefficient q) w i)
 
+-- Nothing is 0 times them.
 no_multiple : (l w a b : ℕ → ℕ) → ((i : ℕ) → a i ≡ 0) → ((i : ℕ) → b i ≡ 0) → IsSeriesMultiple l w a b
 no_multiple l w a b za zb =
     ([], (λ i. za i ∙ sym (conv_zero (coefficient []) l i (λ j m q. product_zero_left (l m)))), (λ i. zb i ∙ sym (conv_zero (coefficient []) w i (λ j m q. product_zero_left (w m)))))
 
+-- x more in front of the factor.
 cons_multiple : (x : ℕ) (q : List ℕ) (l a : ℕ → ℕ) → a 0 ≡ x ⊗ l 0 → ((i : ℕ) → a (suc i) ⊕ x ⊗ l (suc i) ≡ convolution (coefficient q) l i) → (i : ℕ) → a i ≡ convolution (coefficient (x ∷ q)) l i
 unfolding convolution
 cons_multiple x q l a z h zero = z
@@ -108,15 +120,18 @@ cons_multiple x q l a z h (suc i) =
     sym (xor_zero_r (a (suc i))) ∙ ap (bit_xor (a (suc i))) (sym (xor_self (x ⊗ l (suc i)))) ∙ sym (xor_assoc (a (suc i)) (x ⊗ l (suc i)) (x ⊗ l (suc i)))
     ∙ ap (λ y. y ⊕ x ⊗ l (suc i)) (h i) ∙ xor_comm (convolution (coefficient q) l i) (x ⊗ l (suc i))
 
+-- A sum of zeros.
 pub both_zero : (x a b : ℕ) → a ≡ 0 → b ≡ 0 → a ⊕ x ⊗ b ≡ 0
 both_zero x a b p q = ap (λ y. y ⊕ x ⊗ b) p ∙ ap (λ y. x ⊗ y) q ∙ product_zero_right x
 
+-- Less x times the least pair, the equation still holds.
 pub less_equation : (l w a b : ℕ → ℕ) (x : ℕ) → ((n : ℕ) → convolution a w n ≡ convolution l b n) → (n : ℕ) → convolution (λ i. a i ⊕ x ⊗ l i) w n ≡ convolution l (λ i. b i ⊕ x ⊗ w i) n
 less_equation l w a b x e n =
     conv_sum_left a (λ i. x ⊗ l i) w n ∙ ap (λ y. y ⊕ convolution (λ i. x ⊗ l i) w n) (e n)
     ∙ ap (bit_xor (convolution l b n)) (conv_scale_left x l w n ∙ ap (λ y. x ⊗ y) (conv_comm l w n) ∙ sym (conv_scale_left x w l n) ∙ conv_comm (λ i. x ⊗ w i) l n)
     ∙ sym (conv_sum_right l b (λ i. x ⊗ w i) n)
 
+-- What solves the equation with the least pair is a multiple of it: its first coefficient is that of the factor, and the rest is shorter.
 pub multiples : (l w s : ℕ → ℕ) (d k : ℕ) → IsLeastSeries l w s d k → (c : ℕ) (a b : ℕ → ℕ) → ((i : ℕ) → a i < 256) → ((i : ℕ) → b i < 256)
     → ((i : ℕ) → c ≤ i → a i ≡ 0) → ((i : ℕ) → c ≤ suc i → b i ≡ 0) → ((n : ℕ) → convolution a w n ≡ convolution l b n) → IsSeriesMultiple l w a b
 multiples l w s d k p zero a b ha hb da db e = no_multiple l w a b (λ i. da i (omega arith)) (λ i. db i (omega arith))

@@ -1,9 +1,9 @@
 -- The errors of a word near to a codeword: there is a pair of the key equation, and what its least pair corrects is that
 -- codeword.
-use Rattle.std.proofs.Common.{◌≡◌, ℕ, zero, suc, ◌+◌, ◌-◌, ◌/◌, ◌<◌, ◌≤◌, List, [], ◌∷◌, length, get_or, refl, sym, ap, subst, ◌∙◌, arith, bit_xor}
+use Rattle.std.proofs.Common.{◌≡◌, ℕ, suc, ◌+◌, ◌-◌, ◌/◌, ◌<◌, ◌≤◌, List, [], ◌∷◌, length, get_or, sym, ap, subst, ◌∙◌, arith, bit_xor}
 use Rattle.std.proofs.lemmas.List.{ext_get_or}
 use lib.Bits.{xor_assoc, xor_comm, xor_self, xor_zero_r}
-use Rattle.gf301.specs.Field.{◌⊕◌, ◌⊗◌, raise, power}
+use Rattle.gf301.specs.Field.{◌⊕◌, raise, power}
 use Rattle.gf301.specs.Polynomial.{Bytes, value, coefficient, convolution}
 use Rattle.gf301.proofs.Lists.{plus, nonzeros}
 use Rattle.gf301.proofs.FieldLaws.{sum_below}
@@ -11,13 +11,13 @@ use Rattle.gf301.proofs.Weights.{weigh, value_weigh, bytes_cons}
 use Rattle.gf301.proofs.PolyLaws.{length_plus, bytes_plus, get_or-plus, value_plus}
 use Rattle.gf301.proofs.Series.{conv_same_left}
 use Rattle.gf301.proofs.Locate.{sums, locate}
-use Rattle.dm_code.specs.Codeword.{IsCodeword, IsNear, distance, differing}
+use Rattle.dm_code.specs.Codeword.{IsNear}
 use Rattle.dm_code.specs.Syndromes.{syndromes_of}
-use Rattle.dm_code.specs.KeyEquation.{IsPair, IsLeastPair, NoPair, IsBelow}
+use Rattle.dm_code.specs.KeyEquation.{IsLeastPair, NoPair, IsBelow}
 use Rattle.dm_code.specs.KeyEquationLaws.{IsSamePolynomial}
-use Rattle.dm_code.proofs.Codewords.{codeword_bytes, codeword_values, codeword_from_values}
+use Rattle.dm_code.proofs.Codewords.{codeword_bytes, codeword_values}
 use Rattle.dm_code.proofs.Distance.{distance_nonzeros}
-use Rattle.dm_code.proofs.SyndromeLaws.{syndromes_length, syndrome_at}
+use Rattle.dm_code.proofs.SyndromeLaws.{syndrome_at}
 use Rattle.dm_code.proofs.Bytes.{bytes_places}
 use Rattle.dm_code.proofs.First.{first}
 use Rattle.dm_code.proofs.Pairs.{wider, pair_within, byte_at, IsLeastAt, least_at}
@@ -37,6 +37,7 @@ syndromes_sums w s c h n i l =
     ∙ sym (value_plus (power (1 + i)) w c (sym n.long)) ∙ value_weigh (1 + i) (plus w c)
     ∙ ap (λ j. weigh (λ x. raise x j) (plus w c)) (let q : 1 + i ≡ suc i = omega arith in q)
 
+-- The errors of a word near to a codeword are at most k / 2.
 errors_few : (k : ℕ) (w c : List ℕ) → IsNear k w c → nonzeros (plus w c) ≤ k / 2
 errors_few k w c n = subst (λ m. m ≤ k / 2) (distance_nonzeros w c (sym n.long)) n.close
 
@@ -53,17 +54,21 @@ pub record IsTrimmed (l t : List ℕ) : Type 0 where
   pub same : IsSamePolynomial l t
   pub tight : (n : ℕ) → IsBelow n l → length t ≤ n
 
+-- A trimmed locator begins with 1.
 trimmed_head : (l t : List ℕ) → IsTrimmed l t → coefficient l 0 ≡ 1 → (p : List ℕ) × (t ≡ 1 ∷ p)
 trimmed_head l [] h o = absurd (let r : 0 ≡ 1 = sym (h.same 0) ∙ o in omega arith)
 trimmed_head l (a ∷ p) h o = (p, ap (λ y. y ∷ p) (sym (h.same 0) ∙ o))
 
+-- A list whose coefficients are bytes.
 bytes_coefficients : (p : List ℕ) → ((i : ℕ) → coefficient p i < 256) → Bytes p
 bytes_coefficients [] h = λ k d l. absurd (omega arith)
 bytes_coefficients (a ∷ p) h = bytes_cons a p (h 0) (bytes_coefficients p (λ i. h (suc i)))
 
+-- A sum with 0.
 xor_nothing : (a : ℕ) → 0 ⊕ a ≡ a
 xor_nothing a = xor_comm 0 a ∙ xor_zero_r a
 
+-- What was added to both can be left out.
 xor_same : (a b c : ℕ) → a ⊕ b ≡ a ⊕ c → b ≡ c
 xor_same a b c e =
     sym (ap (λ y. y ⊕ b) (xor_self a)) ∙ xor_assoc a a b ∙ ap (bit_xor a) e ∙ sym (xor_assoc a a c) ∙ ap (λ y. y ⊕ c) (xor_self a)
@@ -73,15 +78,18 @@ pub record IsCorrected (l v w f : List ℕ) : Type 0 where
   pub long : length f ≡ length w
   pub each : (i : ℕ) → i < length w → IsErrorValue l v (locator_at (length w) i) (get_or w i 0 ⊕ get_or f i 0)
 
+-- What is added twice is gone.
 xor_again : (a b : ℕ) → a ⊕ (a ⊕ b) ≡ b
 xor_again a b = xor_same a (a ⊕ (a ⊕ b)) b (sym (xor_assoc a a (a ⊕ b)) ∙ ap (λ y. y ⊕ (a ⊕ b)) (xor_self a) ∙ xor_nothing (a ⊕ b))
 
+-- A corrected word is of bytes.
 pub corrected_bytes : (l v w f : List ℕ) → ((i : ℕ) → get_or w i 0 < 256) → IsCorrected l v w f → Bytes f
 corrected_bytes l v w f b m =
     bytes_places f (λ i h.
     subst (λ z. z < 256) (xor_again (get_or w i 0) (get_or f i 0))
     (sum_below (get_or w i 0) (get_or w i 0 ⊕ get_or f i 0) (b i) (m.each i (omega (arith, m.long))).byte))
 
+-- The same for a trimmed locator and its bound.
 corrected_by : (w s c l v p f : List ℕ) (d : ℕ) → 0 < length s → Bytes w → Bytes f → length w ≤ 255 → AreSyndromes w s → IsLeastAt s (length s / 2) l v d → IsTrimmed l (1 ∷ p)
     → IsCorrected (1 ∷ p) v w f → IsNear (length s) w c → f ≡ c
 corrected_by w s c l v p f d kp wb fb h y q t m n =

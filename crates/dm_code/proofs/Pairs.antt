@@ -20,6 +20,7 @@ byte_at p h i =
     elim (cases_lt i (length p)) [ inl l ↦ h i 0 l | inr l ↦ subst (λ x. x < 256) (sym (get_or_past p i 0 l)) (omega arith) ]
 
 -- ---- the bound of a least pair
+-- A bound that is greater holds as well.
 pub wider : (l w : List ℕ) (d t : ℕ) → d ≤ t → IsWithin d l w → IsWithin t l w
 wider l w d t h b = record { locator = λ i q. b.locator i (omega arith); evaluator = λ i q. b.evaluator i (omega arith) }
 
@@ -39,9 +40,11 @@ pub record IsLeastAt (s : List ℕ) (t : ℕ) (l w : List ℕ) (d : ℕ) : Type 
   pub pair : IsPair s d l w
   pub least : (g v : List ℕ) (e : ℕ) → IsPair s e g v → d ≤ e
 
+-- The larger of deg l and deg w + 1.
 bound : List ℕ → List ℕ → ℕ
 bound l w = max (extent l - 1) (extent w)
 
+-- A pair is within its bound ..
 within_bound : (l w : List ℕ) → IsWithin (bound l w) l w
 unfolding bound
 within_bound l w = record {
@@ -49,10 +52,12 @@ within_bound l w = record {
   evaluator = below_extent (max (extent l - 1) (extent w)) w (omega arith);
 }
 
+-- .. and every bound that holds is at least that.
 bound_most : (l w : List ℕ) (d : ℕ) → IsWithin d l w → bound l w ≤ d
 unfolding bound
 bound_most l w d b = omega (arith, extent_most (suc d) l b.locator, extent_most d w b.evaluator)
 
+-- The least pair has a bound that no pair is below ..
 pub least_at : (s l w : List ℕ) (t : ℕ) → IsLeastPair s t l w → (d : ℕ) × IsLeastAt s t l w d
 least_at s l w t p =
     let m : bound l w ≤ t = bound_most l w t p.pair.within in (
@@ -67,6 +72,7 @@ least_at s l w t p =
       },
     )
 
+-- .. and a pair with such a bound is the least.
 pub least_from_at : (s l w : List ℕ) (t d : ℕ) → IsLeastAt s t l w d → IsLeastPair s t l w
 least_from_at s l w t d p = record {
   pair = pair_within s l w d t p.pair (wider l w d t p.within p.pair.within);
@@ -74,6 +80,7 @@ least_from_at s l w t d p = record {
 }
 
 -- ---- two pairs have l v = g w: they agree below k by the equation, and from k on by their degrees
+-- So they agree everywhere.
 pub crossed : (s l w g v : List ℕ) (d e : ℕ) → d + e ≤ length s → IsPair s d l w → IsPair s e g v → (n : ℕ) → convolution (coefficient g) (coefficient w) n ≡ convolution (coefficient l) (coefficient v) n
 crossed s l w g v d e h p q n =
     elim (cases_lt n (length s)) [
@@ -93,18 +100,22 @@ crossed s l w g v d e h p q n =
     ]
 
 -- ---- pairs of series as pairs of lists of bytes
+-- A byte is its low byte.
 low_same : (x : ℕ) → x < 256 → x % 256 ≡ x
 low_same x h = omega arith
 
+-- Low bytes have the same products.
 low_conv : (f s : ℕ → ℕ) (n : ℕ) → convolution (λ i. f i % 256) s n ≡ convolution f s n
 unfolding convolution
 low_conv f s zero = product_low_left (f 0) (s 0)
 low_conv f s (suc n) = ap (λ y. y ⊕ convolution (λ i. f (suc i) % 256) s n) (product_low_left (f 0) (s (suc n))) ∙ ap (λ y. f 0 ⊗ s (suc n) ⊕ y) (low_conv (shift f) s n)
 
+-- The first coefficient of a product.
 at_zero : (f g : ℕ → ℕ) → convolution f g 0 ≡ f 0 ⊗ g 0
 unfolding convolution
 at_zero f g = refl
 
+-- A pair of series as a pair of lists.
 pub listed : (s : List ℕ) (f v : ℕ → ℕ) (e : ℕ) → IsSeriesPair f v (coefficient s) e (length s) → IsPair s e (first (λ i. f i % 256) (suc e)) (first (λ i. v i % 256) e)
 listed s f v e p =
     let cf : (i : ℕ) → coefficient (first (λ i. f i % 256) (suc e)) i ≡ f i % 256 = first_whole (λ i. f i % 256) (suc e) (λ i h. ap (λ x. x % 256) (p.degree i (omega arith))) in
@@ -123,6 +134,7 @@ listed s f v e p =
           ∙ low_conv f (coefficient s) i ∙ p.gives i h ∙ sym (low_same (v i) b) ∙ sym (cv i);
     }
 
+-- The least pair is least among pairs of series.
 series_least : (s l w : List ℕ) (t d : ℕ) → IsLeastAt s t l w d → IsLeastSeries (coefficient l) (coefficient w) (coefficient s) d (length s)
 series_least s l w t d p = (
   record { one = p.pair.one; degree = λ i h. p.pair.within.locator i (omega arith); short = p.pair.within.evaluator; gives = p.pair.equation },
@@ -130,6 +142,7 @@ series_least s l w t d p = (
 )
 
 -- ---- every pair is a multiple of the least one
+-- The same for the bound of the least pair.
 multiple_at : (s l w g v : List ℕ) (t d : ℕ) → 2 * t ≤ length s → IsLeastAt s t l w d → IsPair s t g v → IsMultiple l w g v
 multiple_at s l w g v t d h p q =
     let r : (f : List ℕ) × ((i : ℕ) → coefficient g i ≡ convolution (coefficient f) (coefficient l) i) × ((i : ℕ) → coefficient v i ≡ convolution (coefficient f) (coefficient w) i) =
@@ -152,14 +165,17 @@ multiple_at s l w g v t d h p q =
       evaluator = λ i. r.2 i ∙ e (coefficient w) i;
     }
 
+-- Every pair is a multiple of the least pair.
 pub every_multiple : (s l w g v : List ℕ) (t : ℕ) → 2 * t ≤ length s → IsLeastPair s t l w → IsPair s t g v → IsMultiple l w g v
 every_multiple s l w g v t h p q =
     let a = least_at s l w t p in multiple_at s l w g v t a.0 h a.1 q
 
 -- ---- two least pairs are equal as polynomials: their difference, with the factor x divided out, is shorter than either
+-- Elements whose sum is 0 are the same.
 sum_same : (a b : ℕ) → a < 256 → b < 256 → a ⊕ 1 ⊗ b ≡ 0 → b ≡ a
 sum_same a b ha hb h = sym (sum_zero a (1 ⊗ b) h ∙ product_one_left b hb)
 
+-- A difference that begins with 0 is nothing.
 shorter_nothing : (l w s : ℕ → ℕ) (d c k : ℕ) (a b : ℕ → ℕ) → IsLeastSeries l w s d k → d ≡ c → ((i : ℕ) → a i < 256) → ((i : ℕ) → b i < 256) → a 0 ≡ 0 → b 0 ≡ 0
     → ((i : ℕ) → d < i → a i ≡ 0) → ((i : ℕ) → d ≤ i → b i ≡ 0) → ((n : ℕ) → convolution a w n ≡ convolution l b n) → ((i : ℕ) → a i ≡ 0) × ((i : ℕ) → b i ≡ 0)
 shorter_nothing l w s d zero k a b m h ab bb za zb da db y =
@@ -170,6 +186,7 @@ shorter_nothing l w s d (suc c) k a b m h ab bb za zb da db y =
     (shift_equation l w a b za zb y) in
     (zero_everywhere a za r.0, zero_everywhere b zb r.1)
 
+-- So two least pairs differ in nothing.
 differ : (s l w g v : List ℕ) (d c : ℕ) → IsLeastSeries (coefficient l) (coefficient w) (coefficient s) d (length s) → IsPair s d l w → IsPair s d g v
     → ((n : ℕ) → convolution (coefficient g) (coefficient w) n ≡ convolution (coefficient l) (coefficient v) n) → d ≡ c
     → ((i : ℕ) → coefficient g i ⊕ 1 ⊗ coefficient l i ≡ 0) × ((i : ℕ) → coefficient v i ⊕ 1 ⊗ coefficient w i ≡ 0)
@@ -185,6 +202,7 @@ differ s l w g v d c m p q x h =
     let db : (i : ℕ) → d ≤ i → b i ≡ 0 = λ i r. both_zero 1 (coefficient v i) (coefficient w i) (q.within.evaluator i r) (p.within.evaluator i r) in
     shorter_nothing (coefficient l) (coefficient w) (coefficient s) d c (length s) a b m h ab bb za zb da db y
 
+-- The same for their bounds.
 one_at : (s l w g v : List ℕ) (t d e : ℕ) → 2 * t ≤ length s → IsLeastAt s t l w d → IsLeastAt s t g v e → IsSamePolynomial l g × IsSamePolynomial w v
 one_at s l w g v t d e h p q =
     let a : d ≤ e = p.least g v e q.pair in
@@ -196,6 +214,7 @@ one_at s l w g v t d e h p q =
       λ i. sum_same (coefficient v i) (coefficient w i) (byte_at v r.evaluator_bytes i) (byte_at w p.pair.evaluator_bytes i) (z.1 i),
     )
 
+-- Two least pairs are equal as polynomials.
 pub one_least : (s l w g v : List ℕ) (t : ℕ) → 2 * t ≤ length s → IsLeastPair s t l w → IsLeastPair s t g v → IsSamePolynomial l g × IsSamePolynomial w v
 one_least s l w g v t h p q =
     let a = least_at s l w t p in let b = least_at s g v t q in one_at s l w g v t a.0 b.0 h a.1 b.1

@@ -1,6 +1,5 @@
 -- The key equation as a system of linear equations.
-use Rattle.std.proofs.Common.{◌≡◌, ℕ, zero, suc, ◌+◌, ◌-◌, ◌<◌, ◌≤◌, List, length, sym, ap, ◌∙◌, arith, bit_xor, inl, inr}
-use Rattle.std.proofs.lemmas.Bool.{cases_lt}
+use Rattle.std.proofs.Common.{◌≡◌, ℕ, zero, suc, ◌+◌, ◌-◌, ◌<◌, ◌≤◌, List, length, sym, ap, ◌∙◌, arith, bit_xor}
 use Rattle.std.proofs.lemmas.List.{get_or_past}
 use Rattle.gf301.specs.Field.{◌⊕◌, ◌⊗◌}
 use Rattle.gf301.specs.Polynomial.{coefficient, convolution, shift}
@@ -10,7 +9,7 @@ use lib.Bits.{xor_zero_r}
 use Rattle.gf301.proofs.FieldLaws.{product_zero_right}
 use Rattle.gf301.proofs.Series.{conv_comm, conv_same_left}
 
--- the first values meet coefficients above the degree
+-- The first values meet coefficients above the degree.
 conv_skip : (s l : ℕ → ℕ) (o e : ℕ) → ((j : ℕ) → e < j → l j ≡ 0) → convolution s l (o + e) ≡ convolution (λ m. s (o + m)) l e
 unfolding convolution
 conv_skip s l zero e z = ap (convolution s l) (let r : 0 + e ≡ e = omega arith in r) ∙ conv_same_left s (λ m. s (0 + m)) l e (λ i h. ap s (let r : i ≡ 0 + i = omega arith in r))
@@ -20,6 +19,7 @@ conv_skip s l (suc o) e z =
     ∙ conv_skip (shift s) l o e z
     ∙ conv_same_left (λ m. s (suc (o + m))) (λ m. s (suc o + m)) l e (λ i h. ap s (let r : suc (o + i) ≡ suc o + i = omega arith in r))
 
+-- A row of values and reversed unknowns is a coefficient of the product.
 dot_conv : (f v s l : ℕ → ℕ) (c e : ℕ) → ((m : ℕ) → m ≤ e → f (c + m) ≡ s m) → ((m : ℕ) → m ≤ e → v (c + m) ≡ l (e - m)) → dot f v c (suc e) ≡ convolution s l e
 unfolding dot convolution
 dot_conv f v s l c zero h k =
@@ -35,11 +35,12 @@ dot_conv f v s l c (suc e) h k =
     (λ m b. ap f (let r : suc c + m ≡ c + suc m = omega arith in r) ∙ h (suc m) (omega arith))
     (λ m b. ap v (let r : suc c + m ≡ c + suc m = omega arith in r) ∙ k (suc m) (omega arith) ∙ ap l (let r : suc e - suc m ≡ e - m = omega arith in r)))
 
--- the rows of the degree e
+-- The rows of the degree e.
 pub record IsSystem (s : List ℕ) (e : ℕ) (rows : List (List ℕ)) : Type 0 where
   pub long : length rows + e ≡ length s
   pub each : (i : ℕ) → i + e < length s → (m : ℕ) → m ≤ e → row rows i (34 - e + m) ≡ coefficient s (i + m)
 
+-- Each row of the system is a coefficient of the product of locator and values.
 system_dot : (s : List ℕ) (e : ℕ) (rows : List (List ℕ)) (v l : ℕ → ℕ) (i : ℕ) → e ≤ 34 → IsSystem s e rows → ((j : ℕ) → e < j → l j ≡ 0) → ((j : ℕ) → j ≤ e → l j ≡ v (34 - j))
     → i < length rows → dot (row rows i) v (34 - e) (suc e) ≡ convolution l (coefficient s) (i + e)
 system_dot s e rows v l i h y z k b =
@@ -48,6 +49,7 @@ system_dot s e rows v l i h y z k b =
     (λ m q. ap v (let r : 34 - e + m ≡ 34 - (e - m) = omega arith in r) ∙ sym (k (e - m) (omega arith)))
     ∙ sym (conv_skip (coefficient s) l i e z) ∙ conv_comm (coefficient s) l (i + e)
 
+-- Where the system has no solution, nothing of this degree connects the values.
 pub unsolvable_none : (s : List ℕ) (e : ℕ) (rows : List (List ℕ)) → e ≤ 34 → IsSystem s e rows → Unsolvable rows (34 - e) e → (g : ℕ → ℕ) → Connects g (coefficient s) e (length s) → ⊥
 unsolvable_none s e rows h y u g c =
     let v = λ (m : ℕ). g (34 - m) in
@@ -56,6 +58,7 @@ unsolvable_none s e rows h y u g c =
       each = λ i b. system_dot s e rows v g i h y c.degree (λ j q. ap g (let r : j ≡ 34 - (34 - j) = omega arith in r)) b ∙ c.gives (i + e) (omega arith) (omega (arith, y.long));
     })
 
+-- A solution of the system connects them.
 pub solved_connects : (s : List ℕ) (e : ℕ) (rows : List (List ℕ)) (v l : List ℕ) → e ≤ 34 → IsSystem s e rows → Solves rows (34 - e) e (coefficient v) → length l ≡ e + 1 → ((i : ℕ) → i ≤ e → coefficient l i ≡ coefficient v (34 - i))
     → Connects (coefficient l) (coefficient s) e (length s)
 solved_connects s e rows v l h y u n k =

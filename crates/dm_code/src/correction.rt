@@ -7,12 +7,11 @@ ghost use Rattle.dm_code.specs.Codeword.{IsCodeword, IsNear, distance};
 ghost use Rattle.dm_code.specs.Syndromes.{syndromes_of};
 ghost use Rattle.dm_code.specs.KeyEquation.{IsLeastPair};
 
-use arrayvec::ArrayVec;
-use gf301::Gf;
-
 use super::errors::{add_error, error_value, step, sum, trimmed};
 use super::key::{Key, KeySolver};
 use super::syndrome::syndromes;
+use arrayvec::ArrayVec;
+use gf301::Gf;
 
 /// A corrected word.
 #[derive(Debug, PartialEq, Eq, Drop)]
@@ -30,7 +29,7 @@ pub struct BeyondLimit;
 /// The codeword of k check codewords that differs from the word in at most k div 2 places, and in how many. It is
 /// answered exactly where there is one, and [`BeyondLimit`] exactly where there is none; a word that is a codeword is
 /// answered with itself and 0. The word has k + 1 to 255 codewords, the data codewords first, and k is 1 to 68 (ISO/IEC
-/// 16022, error detection and correction).
+/// 16022, error checking and correction).
 ///
 /// No word of k + 1 codewords or more lies within k div 2 places of two codewords, so there is no choice. A word with
 /// more wrong codewords than that may lie near to another codeword, and is then corrected to it.

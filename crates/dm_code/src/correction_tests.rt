@@ -76,7 +76,10 @@ fn every_block_to_its_limit(rt: HostRuntime) {
                 *place ^= 255;
             }
             let (damaged, word) = (&damaged[..count + k], &word[..count + k]);
-            assert!(rt; is_corrected(damaged, word, k, limit), "{k} checks, from place {first}, step {step}");
+            assert!(rt;
+                is_corrected(damaged, word, k, limit),
+                "{k} checks, from place {first}, step {step}"
+            );
         }
     }
 }

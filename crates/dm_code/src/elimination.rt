@@ -5,11 +5,10 @@ ghost use Rattle.gf301.specs.Polynomial.{Bytes, coefficient, convolution};
 ghost use Rattle.arrayvec.specs.ArrayVec.{array_vec_len};
 ghost use Rattle.dm_code.specs.LinearSystem.{row};
 
-use arrayvec::ArrayVec;
-use gf301::Gf;
-
 use super::key::{Key, KeySolver};
 use super::system::{Row, solve};
+use arrayvec::ArrayVec;
+use gf301::Gf;
 
 /// Solves the key equation by elimination. For each degree of the locator, from 0 on, its coefficients are the unknowns
 /// of a system of linear equations; the first system with a solution gives the least pair. The work grows with the

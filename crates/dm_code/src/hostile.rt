@@ -1,9 +1,8 @@
 //! Tests of words at and beyond the correction limit.
 
-use gf301::generator;
-
 use super::correction_tests::{BLOCKS, WORD, codeword, is_corrected};
 use super::{Elimination, correct};
+use gf301::generator;
 
 /// Each codeword replaced by each other value.
 #[test]
@@ -41,7 +40,10 @@ fn every_three_places_of_five_checks(rt: HostRuntime) {
                 damaged[i] ^= 255;
                 damaged[j] ^= 255;
                 damaged[m] ^= 255;
-                assert!(rt; correct(&Elimination, &damaged, 5).is_err(), "{i}, {j} and {m}");
+                assert!(rt;
+                    correct(&Elimination, &damaged, 5).is_err(),
+                    "{i}, {j} and {m}"
+                );
             }
         }
     }
@@ -59,7 +61,10 @@ fn every_four_places_of_seven_checks(rt: HostRuntime) {
                     damaged[b] ^= 255;
                     damaged[c] ^= 255;
                     damaged[d] ^= 255;
-                    assert!(rt; correct(&Elimination, &damaged[..12], 7).is_err(), "{a}, {b}, {c} and {d}");
+                    assert!(rt;
+                        correct(&Elimination, &damaged[..12], 7).is_err(),
+                        "{a}, {b}, {c} and {d}"
+                    );
                 }
             }
         }

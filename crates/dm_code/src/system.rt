@@ -8,9 +8,6 @@ ghost use Rattle.dm_code.specs.LinearSystem.{dot, row, Solves, Unsolvable};
 use arrayvec::ArrayVec;
 use gf301::Gf;
 
-
-
-
 /// An equation, a coefficient for each unknown: the sum of the products of coefficients and unknowns is 0. The last
 /// unknown is 1.
 pub type Row = [u8; 35];

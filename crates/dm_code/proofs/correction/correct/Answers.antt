@@ -1,4 +1,4 @@
-use Rattle.std.proofs.Common.{◌≡◌, ◌+◌, ◌*◌, ◌/◌, ◌≤◌, ◌++◌, ℕ, List, length, take, drop, refl, sym, ap, subst, ◌∙◌, arith, IsTrue, true, false}
+use Rattle.std.proofs.Common.{◌≡◌, ◌*◌, ◌/◌, ◌≤◌, ◌++◌, length, take, drop, refl, sym, ap, subst, ◌∙◌, arith, IsTrue, false}
 use Rattle.dm_code.specs.Codeword.{IsCodeword, IsNear, distance}
 use Rattle.dm_code.specs.Syndromes.{syndromes_of}
 use Rattle.dm_code.specs.KeyEquation.{IsLeastPair, NoPair}

@@ -1,4 +1,4 @@
-use Rattle.std.proofs.Common.{◌≡◌, ◌+◌, ◌≤◌, suc, get_or, refl, sym, ap, ◌∙◌, arith}
+use Rattle.std.proofs.Common.{◌≡◌, ◌+◌, suc, get_or, refl, ap, ◌∙◌, arith}
 use Rattle.dm_code.specs.Codeword.{differing}
 use Rattle.dm_code.proofs.Distance.{differs_same, differs_apart}
 use Rattle.dm_code.proofs.correction.differences.Goals as goal

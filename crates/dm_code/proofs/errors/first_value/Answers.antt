@@ -1,4 +1,4 @@
-use Rattle.std.proofs.Common.{◌≡◌, ap, ◌∙◌, arith}
+use Rattle.std.proofs.Common.{ap, ◌∙◌, arith}
 use Rattle.gf301.specs.Field.{◌⊕◌, ◌⊗◌}
 use Rattle.dm_code.proofs.Horner.{first_value_start, first_value_step}
 use Rattle.dm_code.proofs.errors.first_value.Goals as goal

@@ -1,4 +1,4 @@
-use Rattle.std.proofs.Common.{◌≡◌, ◌<◌, length, get_or, ap, ◌∙◌, arith}
+use Rattle.std.proofs.Common.{◌<◌, length, get_or, ap, ◌∙◌, arith}
 use Rattle.gf301.specs.Field.{◌⊕◌}
 use Rattle.dm_code.proofs.Horner.{sum_start, sum_step}
 use Rattle.dm_code.proofs.errors.sum.Goals as goal

@@ -1,4 +1,4 @@
-use Rattle.std.proofs.Common.{◌≡◌, refl}
+use Rattle.std.proofs.Common.{refl}
 use Rattle.dm_code.proofs.LinearLaws.{solves_last, last_pivot}
 use Rattle.dm_code.proofs.system.last_unknown.Goals as goal
 
