@@ -1,4 +1,5 @@
--- What holds of the key equation of one Reed-Solomon block: its pairs are the multiples of one of them, the least pair.
+-- What holds of the key equation of one Reed-Solomon block: there is a least pair where there is a pair, and with 2 t at
+-- most the number of syndromes it is one, and each pair is a multiple of it.
 use Rattle.std.specs.Prelude.{◌≡◌, ℕ, ◌*◌, ◌≤◌, List, length}
 use Rattle.gf301.specs.Polynomial.{Bytes, coefficient, convolution}
 use Rattle.dm_code.specs.KeyEquation.{IsPair, IsLeastPair}

@@ -31,8 +31,10 @@ pub struct BeyondLimit;
 /// answered with itself and 0. The word has k + 1 to 255 codewords, the data codewords first, and k is 1 to 68 (ISO/IEC
 /// 16022, error checking and correction).
 ///
-/// No word of k + 1 codewords or more lies within k div 2 places of two codewords, so there is no choice. A word with
-/// more wrong codewords than that may lie near to another codeword, and is then corrected to it.
+/// No word of at most 255 codewords lies within k div 2 places of two codewords, so there is no choice. A word with more
+/// wrong codewords than that may lie near to another codeword, and is then corrected to it.
+///
+/// For a word of n codewords, with t for k div 2, the work is some n k + n t + 5 t t products and that of the solver.
 pub fn correct<S: KeySolver>(solver: &S, word: &[u8], k: usize) -> Result<Fixed, BeyondLimit>
     requires checks { 0 < k }
     requires most { k ≤ 68 }
@@ -65,8 +67,8 @@ pub fn correct<S: KeySolver>(solver: &S, word: &[u8], k: usize) -> Result<Fixed,
     }
 }
 
-/// Corrects the word at each place whose locator is a root of the error locator, and keeps its syndromes. Where a
-/// codeword is near, the word then is this codeword.
+/// Corrects the word at each place whose locator is a root of the error locator. Where a codeword is near, the word then
+/// is this codeword. The syndromes are kept those of the word, so that the answer is tested without new ones.
 fn correct_errors(word: &mut [u8], syndromes: &mut [u8], key: &Key)
     requires checks { 0 < length syndromes.old }
     requires long { length word.old ≤ 255 }

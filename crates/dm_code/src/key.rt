@@ -5,10 +5,11 @@ ghost use Rattle.dm_code.specs.KeyEquation.{IsLeastPair, NoPair};
 
 use arrayvec::ArrayVec;
 
-/// A pair of polynomials, both with the lowest power first. Zeros at the end of a list don't matter.
+/// A pair of polynomials, both with the lowest power first. Zeros at the end of a list don't matter to what it means;
+/// `==` compares the lists as they are.
 #[derive(Debug, PartialEq, Eq, Drop)]
 pub struct Key {
-    /// The error locator, of a degree of at most 34. Its coefficient of x^0 is 1.
+    /// The error locator, of a degree of at most 34. In an answer of a [`KeySolver`] its coefficient of x^0 is 1.
     pub locator: ArrayVec<u8, 35>,
     /// The error evaluator, of a degree below 34.
     pub evaluator: ArrayVec<u8, 34>,
@@ -18,8 +19,9 @@ pub struct Key {
 ///
 /// The pair (L, W) solves it for the syndromes S, taken as coefficients with the lowest power first, where L(0) is 1,
 /// the degree of L is at most t, that of W below t, and L S - W a multiple of x^k, k being the number of syndromes. The
-/// least pair is the one in which the larger of deg L and deg W + 1 is least. By [`crate::laws`] there is one where
-/// there is any, it is one polynomial each, and every pair is a multiple of it.
+/// least pair is the one in which the larger of deg L and deg W + 1 is least. By [`crate::laws`] there is a least pair
+/// where there is a pair at all; where 2 t is at most k, its two polynomials are determined, and every pair is a multiple
+/// of it.
 pub trait KeySolver {
     /// The least pair for the syndromes `s` and the limit `t`, and None where there is no pair at all. There are at most
     /// 68 syndromes, and 2 t is at most their number.

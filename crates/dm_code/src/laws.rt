@@ -10,7 +10,8 @@ pub fn codewords_lie_apart()
     ensures one { CloseCodewordsAreOne }
 {}
 
-/// At most one codeword is near a word: since 2 (k / 2) is at most k, two that are would be too close to one another.
+/// At most one codeword is near a word of at most 255 numbers: since 2 (k / 2) is at most k, two that are would be too
+/// close to one another.
 pub fn near_codeword_is_one()
     ensures { NearCodewordIsOne }
 {}
@@ -20,8 +21,8 @@ pub fn front_determines_checks()
     ensures { FrontDeterminesChecks }
 {}
 
-/// Which lists are codewords of k checks: none but lists of bytes, and those of more than k and at most 255 bytes whose
-/// values at 2^1 to 2^k are all 0.
+/// Which lists are codewords of k checks: they are lists of bytes, and a list of more than k and at most 255 bytes is one
+/// exactly where its values at 2^1 to 2^k are all 0.
 pub fn codewords_have_no_syndromes()
     ensures bytes { CodewordsAreBytes }
     ensures syndromes { CodewordsHaveNoSyndromes }

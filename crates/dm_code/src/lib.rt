@@ -1,10 +1,17 @@
-//! One Reed-Solomon block of ISO/IEC 16022, ECC 200: its check codewords, its syndromes, and its correction.
+//! One Reed-Solomon block of ISO/IEC 16022, ECC 200: its check codewords, its syndromes, their key equation, and its
+//! correction.
 //!
 //! A block is a list of codewords, bytes that stand for elements of [`gf301::Gf`]: first the data codewords, then k
 //! check codewords, 255 in all at the most. As a polynomial, the highest power first, it is a multiple of the generator
-//! polynomial for k ([`gf301::generator`]); such a list is a codeword of k checks. k is a number of 1 to 68. What the
-//! contracts say is defined in `specs/`: `Codeword` and `Syndromes`. What holds of these definitions, whatever the code
-//! does, is stated in `CodewordLaws` there and proved in [`laws`].
+//! polynomial for k ([`gf301::generator`]); such a list is a codeword of k checks. k is a number of 1 to 68.
+//!
+//! [`encode`] makes the check codewords of a block. [`correct`] gives the codeword within k div 2 wrong codewords of a
+//! word, or says that there is none; it takes the [`syndromes`], has a [`KeySolver`] solve the key equation for them,
+//! and finds the wrong places and what is wrong there from the answer.
+//!
+//! What the contracts say is defined in `specs/`: `Codeword`, `Syndromes` and `KeyEquation`. What holds of these
+//! definitions, whatever the code does, is stated in `CodewordLaws` and `KeyEquationLaws` there and proved in [`laws`].
+//! `LinearSystem` serves the private functions of the elimination alone.
 #![tactic(auto)]
 
 mod correction;
