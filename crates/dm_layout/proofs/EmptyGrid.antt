@@ -1,0 +1,205 @@
+-- The grid without codewords: correct borders, fixed square, all else light.
+use Rattle.std.proofs.Common.{◌≡◌, ◌≢◌, ℕ, ◌+◌, ◌-◌, ◌*◌, ◌%◌, ◌<◌, ◌≤◌, Bool, true, false, ◌&&◌, ◌||◌, cond, nat_eq, nat_lt, refl, sym, ◌∙◌, ap, subst, arith}
+use Rattle.std.proofs.lemmas.Bool.{eqb-true, eqb-false}
+use Rattle.std.proofs.Math.Nat.{mul-le-mul_right}
+use Rattle.dm_layout.specs.Sizes.{SizeRow, IsRow, regions_across}
+use Rattle.dm_layout.specs.Grid.{GridView, IsGrid, cell_at, with_cell}
+use Rattle.dm_layout.specs.Border.{is_border, border_is_dark, symbol_line, mapping_line, is_fixed_dark, empty_colour, empty_grid, mapped_cell, fixed_is_dark, HasFixedSquare}
+use Rattle.dm_layout.proofs.TableRows.{row_facts}
+use Rattle.dm_layout.proofs.GridLemmas.{cell_after, grid_with_cell, grid_of_square, cell_of_square, same_grids}
+use Rattle.dm_layout.proofs.BorderLemmas.{mapped_line, IsFromMapping, IsImage, image_of_mapping, image_is_no_border, symbol_line_parts}
+
+-- one more row of borders is drawn
+pub drawn_above_more : (r row : ℕ) (border dark : Bool) → cond (nat_eq r row && border) dark (nat_lt r row && border && dark) ≡ nat_lt r (row + 1) && border && dark
+drawn_above_more r row true true = grind arith
+drawn_above_more r row true false = grind arith
+drawn_above_more r row false true = grind arith
+drawn_above_more r row false false = grind arith
+
+-- a region is no larger than the mapping square, and with its border no larger than the symbol
+pub sides_of : (s : SizeRow) → IsRow s → (s.region_side ≤ s.mapping) × (s.region_side + 2 ≤ s.side)
+sides_of s h =
+    let facts = row_facts s h in
+    let m : 1 * s.region_side ≤ regions_across s * s.region_side = mul-le-mul_right s.region_side facts.across in
+    let n : 1 * (s.region_side + 2) ≤ regions_across s * (s.region_side + 2) = mul-le-mul_right (s.region_side + 2) facts.across in
+    (omega (arith, m, facts.mapping), omega (arith, n, facts.side))
+
+-- a line of the last region
+last_region : (s : SizeRow) (place : ℕ) → IsRow s → place < s.region_side →
+    symbol_line s.region_side (s.mapping - s.region_side + place) ≡ s.side - s.region_side - 2 + (place + 1)
+last_region s place h l =
+    let facts = row_facts s h in
+    let d = s.region_side in
+    let q = regions_across s - 1 in
+    let p : regions_across s ≡ q + 1 = omega (arith, facts.across) in
+    let m : s.mapping ≡ (q + 1) * d = facts.mapping ∙ ap (λ x. x * d) p in
+    let n : s.side ≡ (q + 1) * (d + 2) = facts.side ∙ ap (λ x. x * (d + 2)) p in
+    let e : q * d + place ≡ s.mapping - d + place = omega (arith, m) in
+    let f : q * (d + 2) + (place + 1) ≡ s.side - d - 2 + (place + 1) = omega (arith, n) in
+    ap (symbol_line d) (sym e) ∙ symbol_line_parts d q place l ∙ f
+
+-- where the last two lines of the mapping square lie
+pub last_line : (s : SizeRow) → IsRow s → symbol_line s.region_side (s.mapping - 1) ≡ s.side - 2
+last_line s h =
+    let facts = row_facts s h in
+    let bounds = sides_of s h in
+    let e : s.mapping - s.region_side + (s.region_side - 1) ≡ s.mapping - 1 = omega (arith, facts.least, bounds.0) in
+    let f : s.side - s.region_side - 2 + (s.region_side - 1 + 1) ≡ s.side - 2 = omega (arith, facts.least, bounds.1) in
+    ap (symbol_line s.region_side) (sym e) ∙ last_region s (s.region_side - 1) h (omega (arith, facts.least)) ∙ f
+
+pub line_before_last : (s : SizeRow) → IsRow s → symbol_line s.region_side (s.mapping - 2) ≡ s.side - 3
+line_before_last s h =
+    let facts = row_facts s h in
+    let bounds = sides_of s h in
+    let e : s.mapping - s.region_side + (s.region_side - 2) ≡ s.mapping - 2 = omega (arith, facts.least, bounds.0) in
+    let f : s.side - s.region_side - 2 + (s.region_side - 2 + 1) ≡ s.side - 3 = omega (arith, facts.least, bounds.1) in
+    ap (symbol_line s.region_side) (sym e) ∙ last_region s (s.region_side - 2) h (omega (arith, facts.least)) ∙ f
+
+-- the two dark cells of the fixed square, in the mapping square
+dark_pair : (n a b : ℕ) → n % 4 ≡ 2 → a < n → b < n → is_fixed_dark n a b ≡ (nat_eq a (n - 2) && nat_eq b (n - 2)) || (nat_eq a (n - 1) && nat_eq b (n - 1))
+dark_pair n a b two la lb = grind arith
+
+-- two tests that follow from one another answer alike
+same_tests : (a b c e : ℕ) → (a ≡ b → c ≡ e) → (c ≡ e → a ≡ b) → nat_eq a b ≡ nat_eq c e
+same_tests a b c e f g = by_first (nat_eq a b) refl
+  where
+    by_first : (t : Bool) → nat_eq a b ≡ t → t ≡ nat_eq c e
+    by_first true h = let k = f (eqb-true a b h) in grind arith
+    by_first false h = let k : c ≢ e = λ q. eqb-false a b h (g q) in grind arith
+
+-- a line of the symbol is where a line of the mapping square lies
+line_is : (s : SizeRow) (x k m : ℕ) → IsRow s → IsFromMapping s x → k < s.mapping → symbol_line s.region_side k ≡ m → nat_eq x m ≡ nat_eq (mapping_line s.region_side x) k
+line_is s x k m h from l e =
+    same_tests x m (mapping_line s.region_side x) k
+    (λ q. ap (mapping_line s.region_side) (q ∙ sym e) ∙ (mapped_line s k h l).back)
+    (λ q. sym from.back ∙ ap (symbol_line s.region_side) q ∙ e)
+
+-- the dark cells of the fixed square, in the symbol
+pub fixed_in_symbol : (s : SizeRow) (r c : ℕ) → IsRow s → IsImage s r c → s.mapping % 4 ≡ 2 →
+    is_fixed_dark s.mapping (mapping_line s.region_side r) (mapping_line s.region_side c) ≡ (nat_eq r (s.side - 3) && nat_eq c (s.side - 3)) || (nat_eq r (s.side - 2) && nat_eq c (s.side - 2))
+fixed_in_symbol s r c h image two =
+    let facts = row_facts s h in
+    let bounds = sides_of s h in
+    let first : s.mapping - 2 < s.mapping = omega (arith, facts.least, bounds.0) in
+    let second : s.mapping - 1 < s.mapping = omega (arith, facts.least, bounds.0) in
+    let r2 = line_is s r (s.mapping - 2) (s.side - 3) h image.row first (line_before_last s h) in
+    let c2 = line_is s c (s.mapping - 2) (s.side - 3) h image.column first (line_before_last s h) in
+    let r1 = line_is s r (s.mapping - 1) (s.side - 2) h image.row second (last_line s h) in
+    let c1 = line_is s c (s.mapping - 1) (s.side - 2) h image.column second (last_line s h) in
+    dark_pair s.mapping (mapping_line s.region_side r) (mapping_line s.region_side c) two image.row.below image.column.below
+    ∙ four r2 c2 r1 c1
+  where
+    four : {a a' b b' e e' f f' : Bool} → a ≡ a' → b ≡ b' → e ≡ e' → f ≡ f' → (a' && b') || (e' && f') ≡ (a && b) || (e && f)
+    four p q u v = cc
+
+-- the cells of the fixed square belong to no border
+pub fixed_is_no_border : (s : SizeRow) → IsRow s → (is_border s (s.side - 3) (s.side - 3) ≡ false) × (is_border s (s.side - 2) (s.side - 2) ≡ false)
+fixed_is_no_border s h =
+    let facts = row_facts s h in
+    let bounds = sides_of s h in
+    let first : s.mapping - 2 < s.mapping = omega (arith, facts.least, bounds.0) in
+    let second : s.mapping - 1 < s.mapping = omega (arith, facts.least, bounds.0) in (
+      subst (λ x. is_border s x x ≡ false) (line_before_last s h) (image_is_no_border s (s.mapping - 2) (s.mapping - 2) h first first),
+      subst (λ x. is_border s x x ≡ false) (last_line s h) (image_is_no_border s (s.mapping - 1) (s.mapping - 1) h second second),
+    )
+
+-- ---- the grid is complete
+
+-- the cells are those of the borders, and all else is light
+abbrev pub IsBordered : SizeRow → GridView → Type 0
+IsBordered s g = (r c : ℕ) → r < s.side → c < s.side → cell_at g r c ≡ is_border s r c && border_is_dark s r c
+
+-- without a fixed square
+pub empty_without : (g : GridView) → IsGrid g → IsBordered g.size g → g.size.mapping % 4 ≢ 2 → g ≡ empty_grid g.size
+empty_without g grid cells other =
+    same_grids g (empty_grid g.size) grid (grid_of_square g.size (empty_colour g.size) grid.row) refl
+    (λ r c lr lc.
+    cells r c lr lc ∙ plain (is_border g.size r c) (border_is_dark g.size r c) (is_fixed_dark g.size.mapping (mapping_line g.size.region_side r) (mapping_line g.size.region_side c)) (none (mapping_line g.size.region_side r) (mapping_line g.size.region_side c))
+    ∙ sym (cell_of_square g.size (empty_colour g.size) r c lr lc))
+  where
+    plain : (border dark fixed : Bool) → fixed ≡ false → border && dark ≡ cond border dark fixed
+    plain true dark fixed e = refl
+    plain false dark fixed e = sym e
+
+    none : (a b : ℕ) → is_fixed_dark g.size.mapping a b ≡ false
+    none a b = let n = g.size.mapping in grind arith
+
+-- with the fixed square
+pub empty_with : (g : GridView) → IsGrid g → IsBordered g.size g → g.size.mapping % 4 ≡ 2 →
+    with_cell (with_cell g (g.size.side - 3) (g.size.side - 3) true) (g.size.side - 2) (g.size.side - 2) true ≡ empty_grid g.size
+empty_with g grid cells two =
+    same_grids g2 (empty_grid g.size) (grid_with_cell g1 (g.size.side - 2) (g.size.side - 2) true grid1 second) (grid_of_square g.size (empty_colour g.size) grid.row) refl
+    (λ r c lr lc.
+    cell_after g1 (g.size.side - 2) (g.size.side - 2) true r c grid1 second second
+    ∙ ap (λ b. cond (nat_eq r (g.size.side - 2) && nat_eq c (g.size.side - 2)) true b)
+    (cell_after g (g.size.side - 3) (g.size.side - 3) true r c grid first first ∙ ap (λ b. cond (nat_eq r (g.size.side - 3) && nat_eq c (g.size.side - 3)) true b) (cells r c lr lc))
+    ∙ marked (is_border g.size r c) (border_is_dark g.size r c) (is_fixed_dark g.size.mapping (mapping_line g.size.region_side r) (mapping_line g.size.region_side c))
+    (nat_eq r (g.size.side - 3) && nat_eq c (g.size.side - 3)) (nat_eq r (g.size.side - 2) && nat_eq c (g.size.side - 2))
+    (apart r c (g.size.side - 3) (fixed_is_no_border g.size grid.row).0) (apart r c (g.size.side - 2) (fixed_is_no_border g.size grid.row).1)
+    (λ e. fixed_in_symbol g.size r c grid.row (image_of_mapping g.size r c grid.row lr lc e) two)
+    ∙ sym (cell_of_square g.size (empty_colour g.size) r c lr lc))
+  where
+    first : g.size.side - 3 < g.size.side
+    first = let bounds = sides_of g.size grid.row in omega (arith, bounds.1)
+
+    second : g.size.side - 2 < g.size.side
+    second = let bounds = sides_of g.size grid.row in omega (arith, bounds.1)
+
+    g1 : GridView
+    g1 = with_cell g (g.size.side - 3) (g.size.side - 3) true
+
+    grid1 : IsGrid (with_cell g (g.size.side - 3) (g.size.side - 3) true)
+    grid1 = grid_with_cell g (g.size.side - 3) (g.size.side - 3) true grid first
+
+    g2 : GridView
+    g2 = with_cell (with_cell g (g.size.side - 3) (g.size.side - 3) true) (g.size.side - 2) (g.size.side - 2) true
+
+    marked : (border dark fixed t1 t2 : Bool) → (border ≡ true → t1 ≡ false) → (border ≡ true → t2 ≡ false) → (border ≡ false → fixed ≡ t1 || t2) →
+        cond t2 true (cond t1 true (border && dark)) ≡ cond border dark fixed
+    marked true dark fixed t1 t2 p q r = ap (λ b. cond b true (cond t1 true dark)) (q refl) ∙ ap (λ b. cond b true dark) (p refl)
+    marked false dark fixed true true p q r = sym (r refl)
+    marked false dark fixed true false p q r = sym (r refl)
+    marked false dark fixed false true p q r = sym (r refl)
+    marked false dark fixed false false p q r = sym (r refl)
+
+    apart : (r c a : ℕ) → is_border g.size a a ≡ false → is_border g.size r c ≡ true → nat_eq r a && nat_eq c a ≡ false
+    apart r c a outside inside = by_both (nat_eq r a) (nat_eq c a) refl refl
+      where
+        clash : r ≡ a → c ≡ a → true ≡ false
+        clash e f = sym inside ∙ ap (λ x. is_border g.size x c) e ∙ ap (is_border g.size a) f ∙ outside
+
+        by_both : (s t : Bool) → nat_eq r a ≡ s → nat_eq c a ≡ t → s && t ≡ false
+        by_both true true p q = clash (eqb-true r a p) (eqb-true c a q)
+        by_both true false p q = refl
+        by_both false t p q = refl
+
+-- before the first row nothing is drawn
+pub none_above : (r : ℕ) (border dark : Bool) → false ≡ nat_lt r 0 && border && dark
+none_above r border dark = let e : nat_lt r 0 ≡ false = grind arith in ap (λ b. b && border && dark) (sym e)
+
+-- after the last row all borders are drawn
+pub all_above : (s : SizeRow) (g : GridView) (row : ℕ) → s.side ≤ row → ((r c : ℕ) → r < s.side → c < s.side → cell_at g r c ≡ nat_lt r row && is_border s r c && border_is_dark s r c) → IsBordered s g
+all_above s g row far cells r c lr lc =
+    let below : r < row = omega arith in
+    let e : nat_lt r row ≡ true = grind arith in
+    cells r c lr lc ∙ ap (λ b. b && is_border s r c && border_is_dark s r c) e
+
+-- ---- what the empty grid is
+
+-- it has no border fault: each border cell has its colour
+pub empty_border : (s : SizeRow) (r c : ℕ) → r < s.side → c < s.side → is_border s r c ≡ true → cell_at (empty_grid s) r c ≡ border_is_dark s r c
+empty_border s r c lr lc e = cell_of_square s (empty_colour s) r c lr lc ∙ ap (λ b. cond b (border_is_dark s r c) (is_fixed_dark s.mapping (mapping_line s.region_side r) (mapping_line s.region_side c))) e
+
+-- it has the fixed square, and every other mapping cell is light
+pub empty_mapped : (s : SizeRow) (r c : ℕ) → IsRow s → r < s.mapping → c < s.mapping → mapped_cell (empty_grid s) r c ≡ is_fixed_dark s.mapping r c
+empty_mapped s r c h lr lc =
+    let d = s.region_side in
+    let row = mapped_line s r h lr in
+    let column = mapped_line s c h lc in
+    cell_of_square s (empty_colour s) (symbol_line d r) (symbol_line d c) row.below column.below
+    ∙ ap (λ b. cond b (border_is_dark s (symbol_line d r) (symbol_line d c)) (is_fixed_dark s.mapping (mapping_line d (symbol_line d r)) (mapping_line d (symbol_line d c)))) (image_is_no_border s r c h lr lc)
+    ∙ ap (λ x. is_fixed_dark s.mapping x (mapping_line d (symbol_line d c))) row.back
+    ∙ ap (is_fixed_dark s.mapping r) column.back
+
+pub empty_fixed : (s : SizeRow) → IsRow s → HasFixedSquare (empty_grid s)
+empty_fixed s h r c lr lc fixed = empty_mapped s r c h lr lc ∙ ap (λ b. b && fixed_is_dark r c) fixed

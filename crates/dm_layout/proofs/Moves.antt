@@ -1,0 +1,91 @@
+-- One move of the walk, in terms of what is left to place.
+use Rattle.std.proofs.Common.{◌≡◌, ℕ, zero, suc, ◌+◌, ◌-◌, ◌<◌, ◌≤◌, Bool, true, false, List, [], ◌∷◌, ◌++◌, refl, sym, ◌∙◌, ap, arith}
+use Rattle.std.specs.Prelude.{Option, Some, None}
+use Rattle.std.specs.Option.{option_to_list}
+use Rattle.dm_layout.specs.declared.sweep.Cursor.{Cursor}
+use Rattle.dm_layout.specs.declared.sweep.Leg.{Leg}
+use Rattle.dm_layout.specs.declared.sweep.Leg.TheVariants.{Turn, Up, Down}
+use Rattle.std.specs.Prelude.{nat_lt, nat_le, ◌||◌}
+use Rattle.dm_layout.specs.declared.shape.Cell.{Cell}
+use Rattle.dm_layout.specs.declared.shape.Shape.{Shape}
+use Rattle.dm_layout.specs.Placement.{cells_of}
+use Rattle.dm_layout.specs.Walking.{candidates, candidates_at, candidate_at, moved_at, is_over_at, inside_at, to, placed, is_over_of, candidate_of, moved_of, is_left_out, fill}
+
+at_more : (m n : ℕ) (l : Leg) (u v : ℕ) → is_over_at n l u v ≡ false → candidates_at (suc m) n l u v ≡ option_to_list (candidate_at n l u v) ++ candidates m n (moved_at n l u v)
+unfolding candidates_at candidates
+at_more m n Turn u v e = rw (e, candidates_at) refl
+at_more m n Up u v e = ap (λ (r : List Shape). option_to_list (inside_at n u v) ++ r) (turn (nat_lt u 4 || nat_le n v))
+  where
+    turn : (b : Bool) → elim b as (λ _. List Shape) [ true ↦ candidates_at m n Down (u - 1) (v + 5) | false ↦ candidates_at m n Up (u - 2) (v + 2) ] ≡ candidates m n (elim b as (λ _. Cursor) [ true ↦ to Down (u - 1) (v + 5) | false ↦ to Up (u - 2) (v + 2) ])
+    turn true = refl
+    turn false = refl
+at_more m n Down u v e = ap (λ (r : List Shape). option_to_list (inside_at n u v) ++ r) (turn (nat_le n u || nat_lt v 4))
+  where
+    turn : (b : Bool) → elim b as (λ _. List Shape) [ true ↦ candidates_at m n Turn (u + 5) (v - 1) | false ↦ candidates_at m n Down (u + 2) (v - 2) ] ≡ candidates m n (elim b as (λ _. Cursor) [ true ↦ to Turn (u + 5) (v - 1) | false ↦ to Down (u + 2) (v - 2) ])
+    turn true = refl
+    turn false = refl
+
+pub candidates-more : (m n : ℕ) (c : Cursor) → 0 < m → is_over_of n c ≡ false → candidates m n c ≡ option_to_list (candidate_of n c) ++ candidates (m - 1) n (moved_of n c)
+unfolding candidates
+candidates-more zero n c h e = absurd (omega arith)
+candidates-more (suc m) n c h e =
+    let g : m ≡ suc m - 1 = omega arith in
+    at_more m n c.leg c.row c.column e ∙ ap (λ (j : ℕ). option_to_list (candidate_of n c) ++ candidates j n (moved_of n c)) g
+
+pub candidates-none : (n : ℕ) (c : Cursor) → candidates 0 n c ≡ []
+unfolding candidates candidates_at
+candidates-none n c = refl
+
+at_over : (m n : ℕ) (l : Leg) (u v : ℕ) → is_over_at n l u v ≡ true → candidates_at m n l u v ≡ []
+unfolding candidates_at
+at_over zero n l u v e = refl
+at_over (suc m) n Turn u v e = rw (e, candidates_at) refl
+at_over (suc m) n Up u v e = cc
+at_over (suc m) n Down u v e = cc
+
+pub candidates-over : (m n : ℕ) (c : Cursor) → is_over_of n c ≡ true → candidates m n c ≡ []
+unfolding candidates
+candidates-over m n c e = at_over m n c.leg c.row c.column e
+
+pub placed-none : (n : ℕ) (t : List ℕ) → placed n t [] ≡ []
+unfolding placed
+placed-none n t = refl
+
+pub placed-taken : (n : ℕ) (t : List ℕ) (s : Shape) (rest : List Shape) → is_left_out t s ≡ true → placed n t (s ∷ rest) ≡ placed n t rest
+unfolding placed
+placed-taken n t s rest e = rw (e, placed) refl
+
+pub placed-free : (n : ℕ) (t : List ℕ) (s : Shape) (rest : List Shape) → is_left_out t s ≡ false → placed n t (s ∷ rest) ≡ s ∷ placed n (fill t (cells_of n s)) rest
+unfolding placed
+placed-free n t s rest e = rw (e, placed) refl
+
+-- what is left before a move, by the shape that the move comes by
+pub after_none : (m n : ℕ) (t : List ℕ) (c : Cursor) → 0 < m → is_over_of n c ≡ false → candidate_of n c ≡ None → placed n t (candidates m n c) ≡ placed n t (candidates (m - 1) n (moved_of n c))
+after_none m n t c h e f =
+    ap (placed n t) (candidates-more m n c h e ∙ ap (λ (o : Option Shape). option_to_list o ++ candidates (m - 1) n (moved_of n c)) f)
+
+pub after_some : (m n : ℕ) (t : List ℕ) (c : Cursor) (s : Shape) → 0 < m → is_over_of n c ≡ false → candidate_of n c ≡ Some s → placed n t (candidates m n c) ≡ placed n t (s ∷ candidates (m - 1) n (moved_of n c))
+after_some m n t c s h e f =
+    ap (placed n t) (candidates-more m n c h e ∙ ap (λ (o : Option Shape). option_to_list o ++ candidates (m - 1) n (moved_of n c)) f)
+
+pub left_none : (m n : ℕ) (t : List ℕ) (c d : Cursor) (o r : Option Shape) → 0 < m → is_over_of n c ≡ false → o ≡ candidate_of n c → o ≡ None → d ≡ moved_of n c → r ≡ None → placed n t (candidates m n c) ≡ option_to_list r ++ placed n t (candidates (m - 1) n d)
+left_none m n t c d o r h e f g q k =
+    after_none m n t c h e (sym f ∙ g) ∙ ap (λ (x : Cursor). placed n t (candidates (m - 1) n x)) (sym q)
+    ∙ ap (λ (x : Option Shape). option_to_list x ++ placed n t (candidates (m - 1) n d)) (sym k)
+
+pub left_taken : (m n : ℕ) (t : List ℕ) (c d : Cursor) (o : Option Shape) (s : Shape) (b : Bool) → 0 < m → is_over_of n c ≡ false → o ≡ candidate_of n c → o ≡ Some s → d ≡ moved_of n c → b ≡ is_left_out t s → b ≡ true → placed n t (candidates m n c) ≡ placed n t (candidates (m - 1) n d)
+left_taken m n t c d o s b h e f g q k l =
+    after_some m n t c s h e (sym f ∙ g) ∙ placed-taken n t s _ (sym k ∙ l) ∙ ap (λ (x : Cursor). placed n t (candidates (m - 1) n x)) (sym q)
+
+pub left_free : (m n : ℕ) (t u : List ℕ) (c d : Cursor) (o : Option Shape) (s : Shape) (b : Bool) (cs : List Cell) → 0 < m → is_over_of n c ≡ false → o ≡ candidate_of n c → o ≡ Some s → d ≡ moved_of n c → b ≡ is_left_out t s → b ≡ false → u ≡ fill t cs → cs ≡ cells_of n s → placed n t (candidates m n c) ≡ s ∷ placed n u (candidates (m - 1) n d)
+left_free m n t u c d o s b cs h e f g q k l v w =
+    after_some m n t c s h e (sym f ∙ g) ∙ placed-free n t s _ (sym k ∙ l)
+    ∙ ap (λ (x : Cursor). s ∷ placed n (fill t (cells_of n s)) (candidates (m - 1) n x)) (sym q)
+    ∙ ap (λ (x : List ℕ). s ∷ placed n x (candidates (m - 1) n d)) (sym (v ∙ ap (fill t) w))
+
+pub nothing_at_zero : (m n : ℕ) (t : List ℕ) (c : Cursor) → m ≤ 0 → placed n t (candidates m n c) ≡ []
+nothing_at_zero zero n t c h = ap (placed n t) (candidates-none n c) ∙ placed-none n t
+nothing_at_zero (suc m) n t c h = absurd (omega arith)
+
+pub nothing_at_end : (m n : ℕ) (t : List ℕ) (c : Cursor) (b : Bool) → b ≡ is_over_of n c → b ≡ true → placed n t (candidates m n c) ≡ []
+nothing_at_end m n t c b e f = ap (placed n t) (candidates-over m n c (sym e ∙ f)) ∙ placed-none n t

@@ -1,0 +1,77 @@
+-- A grid has no border fault exactly where its border cells have their colours.
+use Rattle.std.proofs.Common.{◌≡◌, ℕ, zero, suc, ◌+◌, ◌<◌, Bool, true, false, cond, not, ◌&&◌, nat_eq, refl, sym, ◌∙◌, arith, subst, eq-eqb, add-zero, zero-add}
+use Rattle.std.specs.Prelude.{sum_by, count_by}
+use Rattle.std.specs.Bool.{beq}
+use Rattle.std.specs.List.{range_with_len, list_all}
+use Rattle.std.proofs.lemmas.Bool.{and_parts, eqb-true}
+use Rattle.std.proofs.lemmas.List.Folds.{sum_by-zero}
+use Rattle.dm_layout.specs.Grid.{GridView, cell_at}
+use Rattle.dm_layout.specs.Border.{is_border, border_is_dark, is_fault, border_fault_count}
+
+-- the border cells of a grid have their colours
+abbrev pub IsBordered : GridView → Type 0
+IsBordered grid =
+    (row column : ℕ) → row < grid.size.side → column < grid.size.side → is_border grid.size row column ≡ true → cell_at grid row column ≡ border_is_dark grid.size row column
+
+-- ---- sums of nothing
+
+all_at : (f : ℕ → Bool) (from len x : ℕ) → list_all f (range_with_len from len) ≡ true → x < len → f (from + x) ≡ true
+all_at f from zero x h l = absurd (omega arith)
+all_at f from (suc len) zero h l = rw add-zero (and_parts _ _ h).0
+all_at f from (suc len) (suc x) h l =
+    let e : from + 1 + x ≡ from + suc x = omega arith in
+    subst (λ (j : ℕ). f j ≡ true) e (all_at f (from + 1) len x (and_parts _ _ h).1 (omega arith))
+
+all_from : (f : ℕ → Bool) (from len : ℕ) → ((x : ℕ) → x < len → f (from + x) ≡ true) → list_all f (range_with_len from len) ≡ true
+all_from f from zero h = refl
+all_from f from (suc len) h =
+    let first : f from ≡ true = rw add-zero at (h 0 (omega arith)) in
+    let rest : list_all f (range_with_len (from + 1) len) ≡ true = all_from f (from + 1) len (λ x l.
+    let e : from + suc x ≡ from + 1 + x = omega arith in
+    subst (λ (j : ℕ). f j ≡ true) e (h (suc x) (omega arith))) in
+    rw (first, rest) refl
+
+sum_at : (f : ℕ → ℕ) (len x : ℕ) → sum_by f (range_with_len 0 len) ≡ 0 → x < len → f x ≡ 0
+sum_at f len x h l =
+    let t : list_all (λ (i : ℕ). nat_eq (f i) 0) (range_with_len 0 len) ≡ true = sym (sum_by-zero f (range_with_len 0 len)) ∙ eq-eqb (sum_by f (range_with_len 0 len)) 0 h in
+    eqb-true _ _ (subst (λ (j : ℕ). nat_eq (f j) 0 ≡ true) (zero-add x) (all_at (λ (i : ℕ). nat_eq (f i) 0) 0 len x t l))
+
+sum_from : (f : ℕ → ℕ) (len : ℕ) → ((x : ℕ) → x < len → f x ≡ 0) → sum_by f (range_with_len 0 len) ≡ 0
+sum_from f len h =
+    let t : list_all (λ (i : ℕ). nat_eq (f i) 0) (range_with_len 0 len) ≡ true =
+    all_from (λ (i : ℕ). nat_eq (f i) 0) 0 len (λ x l. subst (λ (j : ℕ). nat_eq (f j) 0 ≡ true) (sym (zero-add x)) (eq-eqb (f x) 0 (h x l))) in
+    eqb-true _ _ (sum_by-zero f (range_with_len 0 len) ∙ t)
+
+-- ---- one cell
+
+abbrev fault_of : Bool → Bool → Bool → ℕ
+fault_of b x y = cond (b && not (beq x y)) 1 0
+
+fault_none : (b x y : Bool) → fault_of b x y ≡ 0 → b ≡ true → x ≡ y
+fault_none true true true h e = refl
+fault_none true true false h e = absurd (omega arith)
+fault_none true false true h e = absurd (omega arith)
+fault_none true false false h e = refl
+fault_none false x y h e = cc
+
+none_fault : (b x y : Bool) → (b ≡ true → x ≡ y) → fault_of b x y ≡ 0
+none_fault true true true h = refl
+none_fault true true false h = let e : true ≡ false = h refl in cc
+none_fault true false true h = let e : false ≡ true = h refl in cc
+none_fault true false false h = refl
+none_fault false x y h = refl
+
+-- ---- the whole grid
+
+pub no_faults : (grid : GridView) → IsBordered grid → border_fault_count grid ≡ 0
+no_faults grid h =
+    sum_from (λ (row : ℕ). count_by (is_fault grid row) (range_with_len 0 grid.size.side)) grid.size.side (λ row lr.
+    sum_from (λ (column : ℕ). cond (is_fault grid row column) 1 0) grid.size.side (λ column lc.
+    none_fault (is_border grid.size row column) (cell_at grid row column) (border_is_dark grid.size row column) (h row column lr lc)))
+
+pub bordered_of_no_faults : (grid : GridView) → border_fault_count grid ≡ 0 → IsBordered grid
+bordered_of_no_faults grid h row column lr lc b =
+    let r : count_by (is_fault grid row) (range_with_len 0 grid.size.side) ≡ 0 =
+    sum_at (λ (i : ℕ). count_by (is_fault grid i) (range_with_len 0 grid.size.side)) grid.size.side row h lr in
+    let c : cond (is_fault grid row column) 1 0 ≡ 0 = sum_at (λ (j : ℕ). cond (is_fault grid row j) 1 0) grid.size.side column r lc in
+    fault_none (is_border grid.size row column) (cell_at grid row column) (border_is_dark grid.size row column) c b

@@ -1,0 +1,156 @@
+-- The list of all places, by word and then by bit.
+use Rattle.std.proofs.Common.{◌≡◌, ℕ, zero, suc, ◌+◌, ◌-◌, ◌*◌, ◌/◌, ◌%◌, ◌<◌, ◌≤◌, List, [], ◌∷◌, ◌++◌, length, get_or, refl, sym, ◌∙◌, ap, arith, subst, length-append, add-zero, Bool, true, false}
+use Rattle.std.proofs.lemmas.List.{get_or-append-add, get_or_append_left}
+use Rattle.dm_layout.specs.declared.shape.Cell.{Cell}
+use Rattle.dm_layout.specs.declared.cells.Place.{Place}
+use Rattle.dm_layout.specs.declared.shape.Shape.{Shape}
+use Rattle.dm_layout.specs.declared.shape.Shape.TheVariants.{Corner1}
+use Rattle.dm_layout.specs.Placement.{At, cells_of, bits_from, places_from, shapes, place, places_in_order, IsPlace, NoPlace, OnePlace, EachCellOnce, IsPlaceList}
+use Rattle.dm_layout.specs.Border.{is_fixed}
+use Rattle.dm_layout.specs.Sizes.{SizeRow, codeword_count}
+use Rattle.std.specs.Prelude.{Some}
+use Rattle.std.proofs.lemmas.Option.{slice_get-get_or}
+use Rattle.std.specs.Bool.{MatchBool}
+use Rattle.std.proofs.lemmas.Bool.{MatchBool-at_true, MatchBool-at_false}
+use Rattle.dm_layout.proofs.OnePlace.{eight}
+
+-- a place by its word, its bit and its cell
+abbrev pub lies_in : ℕ → ℕ → Cell → Place
+lies_in w b x = record { word = w; bit = b; row = x.row; column = x.column }
+
+bits_at : (w k : ℕ) (xs : List Cell) (b : ℕ) (d : Place) → b < length xs → get_or (bits_from w k xs) b d ≡ lies_in w (k + b + 1) (get_or xs b (At 0 0))
+bits_at w k [] b d l = absurd (omega arith)
+bits_at w k (x ∷ xs) zero d l = ap (λ (j : ℕ). lies_in w (j + 1) x) (sym (add-zero k))
+bits_at w k (x ∷ xs) (suc b) d l =
+    let e : suc k + b ≡ k + suc b = omega arith in
+    bits_at w (suc k) xs b d (omega arith) ∙ ap (λ (j : ℕ). lies_in w (j + 1) (get_or xs b (At 0 0))) e
+
+length-bits : (w k : ℕ) (xs : List Cell) → length (bits_from w k xs) ≡ length xs
+length-bits w k [] = refl
+length-bits w k (x ∷ xs) = ap suc (length-bits w (suc k) xs)
+
+pub length-places_from : (n w : ℕ) (ss : List Shape) → length (places_from n w ss) ≡ 8 * length ss
+length-places_from n w [] = refl
+length-places_from n w (s ∷ ss) =
+    let a = length-append (bits_from w 0 (cells_of n s)) (places_from n (suc w) ss) in
+    let b = length-bits w 0 (cells_of n s) in
+    let e = eight n s in
+    let c = length-places_from n (suc w) ss in
+    omega (arith, a, b, c, e)
+
+places_from-at : (n w : ℕ) (ss : List Shape) (j b : ℕ) (d : Place) → j < length ss → b < 8 → get_or (places_from n w ss) (8 * j + b) d ≡ lies_in (w + j) (b + 1) (get_or (cells_of n (get_or ss j Corner1)) b (At 0 0))
+places_from-at n w [] j b d l lb = absurd (omega arith)
+places_from-at n w (s ∷ ss) zero b d l lb =
+    let e = eight n s in
+    let f = length-bits w 0 (cells_of n s) in
+    let z : 8 * 0 + b ≡ b = omega arith in
+    let y : 0 + b ≡ b = omega arith in
+    ap (λ (i : ℕ). get_or (bits_from w 0 (cells_of n s) ++ places_from n (suc w) ss) i d) z
+    ∙ get_or_append_left (bits_from w 0 (cells_of n s)) (places_from n (suc w) ss) d b (omega arith)
+    ∙ bits_at w 0 (cells_of n s) b d (omega arith)
+    ∙ ap (λ (i : ℕ). lies_in w (i + 1) (get_or (cells_of n s) b (At 0 0))) y
+    ∙ ap (λ (i : ℕ). lies_in i (b + 1) (get_or (cells_of n s) b (At 0 0))) (sym (add-zero w))
+places_from-at n w (s ∷ ss) (suc j) b d l lb =
+    let e = eight n s in
+    let f = length-bits w 0 (cells_of n s) in
+    let z : 8 * suc j + b ≡ length (bits_from w 0 (cells_of n s)) + (8 * j + b) = omega arith in
+    let y : suc w + j ≡ w + suc j = omega arith in
+    ap (λ (i : ℕ). get_or (bits_from w 0 (cells_of n s) ++ places_from n (suc w) ss) i d) z
+    ∙ get_or-append-add (bits_from w 0 (cells_of n s)) (places_from n (suc w) ss) (8 * j + b) d
+    ∙ places_from-at n (suc w) ss j b d (omega arith) lb
+    ∙ ap (λ (i : ℕ). lies_in i (b + 1) (get_or (cells_of n (get_or ss j Corner1)) b (At 0 0))) y
+
+pub length-places_in_order : (n : ℕ) → length (places_in_order n) ≡ 8 * length (shapes n)
+unfolding places_in_order
+length-places_in_order n = length-places_from n 0 (shapes n)
+
+-- the place of a bit of a word stands in the list where its number says
+pub place_at : (n w bit : ℕ) (d : Place) → w < length (shapes n) → 1 ≤ bit → bit ≤ 8 → get_or (places_in_order n) (8 * w + (bit - 1)) d ≡ lies_in w bit (place n w bit)
+unfolding places_in_order place
+place_at n w bit d l lo hi =
+    let e : bit - 1 + 1 ≡ bit = omega arith in
+    let z : 0 + w ≡ w = omega arith in
+    places_from-at n 0 (shapes n) w (bit - 1) d l (omega arith)
+    ∙ ap (λ (i : ℕ). lies_in i (bit - 1 + 1) (get_or (cells_of n (get_or (shapes n) w Corner1)) (bit - 1) (At 0 0))) z
+    ∙ ap (λ (i : ℕ). lies_in w i (get_or (cells_of n (get_or (shapes n) w Corner1)) (bit - 1) (At 0 0))) e
+
+-- ---- each item of the list is a place
+
+-- each of these is the place of its bit
+abbrev pub ArePlaces : ℕ → List Place → Type 0
+ArePlaces n [] = Unit {0}
+ArePlaces n (p ∷ rest) = IsPlace n p.word p.bit (At p.row p.column) × ArePlaces n rest
+
+places_by_index : (n : ℕ) (ps : List Place) → ((i : ℕ) (d : Place) → i < length ps → IsPlace n (get_or ps i d).word (get_or ps i d).bit (At (get_or ps i d).row (get_or ps i d).column)) → ArePlaces n ps
+places_by_index n [] h = tt
+places_by_index n (p ∷ ps) h = (h 0 p (omega arith), places_by_index n ps (λ i d l. h (suc i) d (omega arith)))
+
+pub all_are_places : (n : ℕ) → ArePlaces n (places_in_order n)
+all_are_places n = places_by_index n (places_in_order n) (λ i d l.
+    let c = length-places_in_order n in
+    let lw : i / 8 < length (shapes n) = omega (arith, c) in
+    let lo : 1 ≤ i % 8 + 1 = omega arith in
+    let hi : i % 8 + 1 ≤ 8 = omega arith in
+    let e = place_at n (i / 8) (i % 8 + 1) d lw lo hi in
+    let k : 8 * (i / 8) + (i % 8 + 1 - 1) ≡ i = omega arith in
+    let f : get_or (places_in_order n) i d ≡ lies_in (i / 8) (i % 8 + 1) (place n (i / 8) (i % 8 + 1)) = ap (λ (j : ℕ). get_or (places_in_order n) j d) (sym k) ∙ e in
+    subst (λ (p : Place). IsPlace n p.word p.bit (At p.row p.column)) (sym f)
+    (record { word_in = lw; from_one = lo; to_eight = hi; there = refl }))
+
+-- ---- a cell holds one bit
+
+pub one_bit : (n : ℕ) (r c w b v e : ℕ) → EachCellOnce n → IsPlace n w b (At r c) → IsPlace n v e (At r c) → (v ≡ w) × (e ≡ b)
+one_bit n r c w b v e law p q =
+    let inside = law.inside w b (At r c) p in
+    by_law (is_fixed n r c) (law.once r c inside.0 inside.1)
+  where
+    by_law : (fixed : Bool) → MatchBool fixed (NoPlace n (At r c)) (OnePlace n (At r c)) → (v ≡ w) × (e ≡ b)
+    by_law true none = absurd (none w b p)
+    by_law false one =
+        let x = one.3 w b p in
+        let y = one.3 v e q in
+        (y.0 ∙ sym x.0, y.1 ∙ sym x.1)
+
+-- no bit lies in the fixed square
+pub none_fixed : (n : ℕ) (r c w b : ℕ) → EachCellOnce n → is_fixed n r c ≡ true → IsPlace n w b (At r c) → ⊥
+none_fixed n r c w b law f p =
+    let inside = law.inside w b (At r c) p in
+    MatchBool-at_true (NoPlace n (At r c)) (OnePlace n (At r c)) f (law.once r c inside.0 inside.1) w b p
+
+-- any other cell holds one
+pub some_bit : (n : ℕ) (r c : ℕ) → EachCellOnce n → r < n → c < n → is_fixed n r c ≡ false → OnePlace n (At r c)
+some_bit n r c law lr lc f = MatchBool-at_false (NoPlace n (At r c)) (OnePlace n (At r c)) f (law.once r c lr lc)
+
+-- what is known of the place with which a list of places begins
+pub record IsHere (s : SizeRow) (p : Place) : Type 0 where
+  pub place : IsPlace s.mapping p.word p.bit (At p.row p.column)
+  pub word : p.word < codeword_count s
+  pub from_one : 1 ≤ p.bit
+  pub to_eight : p.bit ≤ 8
+  pub row : p.row < s.mapping
+  pub column : p.column < s.mapping
+
+pub is_here : (s : SizeRow) (p : Place) (ps rest : List Place) → EachCellOnce s.mapping → length (shapes s.mapping) ≡ codeword_count s → ps ≡ p ∷ rest → ArePlaces s.mapping ps → IsHere s p
+is_here s p ps rest law count e are =
+    let a = subst (λ (xs : List Place). ArePlaces s.mapping xs) e are in
+    let inside = law.inside p.word p.bit (At p.row p.column) a.0 in
+    record {
+      place = a.0;
+      word = omega (arith, a.0.word_in, count);
+      from_one = a.0.from_one;
+      to_eight = a.0.to_eight;
+      row = inside.0;
+      column = inside.1;
+    }
+
+-- ---- the list of all places
+
+pub is_place_list : (n : ℕ) → IsPlaceList n (places_in_order n)
+is_place_list n = record {
+  count = length-places_in_order n;
+  in_order = λ w b cell p.
+      let lo = p.from_one in
+      let hi = p.to_eight in
+      let k : 8 * w + (b - 1) < length (places_in_order n) = omega (arith, length-places_in_order n, p.word_in) in
+      slice_get-get_or (places_in_order n) (8 * w + (b - 1)) (lies_in w b cell) k ∙ ap Some (place_at n w b (lies_in w b cell) p.word_in lo hi ∙ ap (lies_in w b) p.there);
+}

@@ -1,0 +1,14 @@
+use Rattle.dm_layout.proofs.Moves.{left_none, left_taken, left_free}
+use Rattle.dm_layout.proofs.sweep.Walk.step.Goals as goal
+
+pub returns-in_err-shape-clause-left : goal.returns-in_err-shape-clause-left
+returns-in_err-shape-clause-left c =
+    left_none _ _ _ _ _ _ _ c.requires.more c.requires.on c.candidate-found.ensures.value c.in_err-shape.was c.moved-self.ensures.moved c.from_residual.ensures
+
+pub returns-then-is_filled-clause-left : goal.returns-then-is_filled-clause-left
+returns-then-is_filled-clause-left c =
+    left_taken _ _ _ _ _ _ _ _ c.requires.more c.requires.on c.candidate-found.ensures.value c.in_ok-shape.was c.moved-self.ensures.moved c.is_filled.ensures c.if-is_filled.true
+
+pub returns-clause-left : goal.returns-clause-left
+returns-clause-left c =
+    left_free _ _ _ _ _ _ _ _ _ _ c.requires.more c.requires.on c.candidate-found.ensures.value c.in_ok-shape.was c.moved-self.ensures.moved c.is_filled.ensures c.if-is_filled.false c.fill_cells.ensures c.cells.ensures.value

@@ -1,0 +1,11 @@
+pub mod Sizes
+pub mod Grid
+pub mod Words
+pub mod Border
+pub mod Blocks
+pub mod Placement
+pub mod Sweep
+pub mod Walking
+pub mod Holds
+pub mod BorderWalk
+pub mod Equality

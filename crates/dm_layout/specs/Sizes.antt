@@ -1,0 +1,103 @@
+-- The square sizes of ECC 200, as one table: ISO/IEC 16022, symbol sizes and capacities.
+use Rattle.std.specs.Prelude.{◌≡◌, ℕ, ◌+◌, ◌/◌, List, [], ◌∷◌, nat_eq, nat_le, Option, Some, find}
+
+-- a row of the table
+pub record SizeRow : Type 0 where
+  -- the cells of a side of the whole symbol, borders among them
+  pub side : ℕ
+  -- how many regions the symbol has; they lie in a square
+  pub regions : ℕ
+  -- the cells of a side of one region, without its border
+  pub region_side : ℕ
+  -- the cells of a side of the mapping square: the regions put together without their borders
+  pub mapping : ℕ
+  -- the data codewords of the symbol
+  pub data_count : ℕ
+  -- the check codewords of the symbol
+  pub check_count : ℕ
+  -- the Reed-Solomon blocks into which the codewords are dealt
+  pub blocks : ℕ
+  -- how many wrong codewords can be corrected in a block
+  pub limit : ℕ
+
+-- the row with these eight numbers, in the order of the columns above
+abbrev pub row_of : ℕ → ℕ → ℕ → ℕ → ℕ → ℕ → ℕ → ℕ → SizeRow
+row_of side regions region_side mapping data_count check_count blocks limit =
+    record {
+      side = side;
+      regions = regions;
+      region_side = region_side;
+      mapping = mapping;
+      data_count = data_count;
+      check_count = check_count;
+      blocks = blocks;
+      limit = limit;
+    }
+
+-- the sizes, by rising side
+unfoldable pub size_table : List SizeRow
+size_table =
+    row_of 10 1 8 8 3 5 1 2
+    ∷ row_of 12 1 10 10 5 7 1 3
+    ∷ row_of 14 1 12 12 8 10 1 5
+    ∷ row_of 16 1 14 14 12 12 1 6
+    ∷ row_of 18 1 16 16 18 14 1 7
+    ∷ row_of 20 1 18 18 22 18 1 9
+    ∷ row_of 22 1 20 20 30 20 1 10
+    ∷ row_of 24 1 22 22 36 24 1 12
+    ∷ row_of 26 1 24 24 44 28 1 14
+    ∷ row_of 32 4 14 28 62 36 1 18
+    ∷ row_of 36 4 16 32 86 42 1 21
+    ∷ row_of 40 4 18 36 114 48 1 24
+    ∷ row_of 44 4 20 40 144 56 1 28
+    ∷ row_of 48 4 22 44 174 68 1 34
+    ∷ row_of 52 4 24 48 204 84 2 21
+    ∷ []
+
+-- the largest side of the table
+abbrev pub largest_side : ℕ
+largest_side = 52
+
+-- the most data codewords of a symbol of the table
+abbrev pub most_data : ℕ
+most_data = 204
+
+-- the most codewords of a symbol of the table, data and check together
+abbrev pub most_codewords : ℕ
+most_codewords = 288
+
+-- the most blocks of a symbol of the table
+abbrev pub most_blocks : ℕ
+most_blocks = 2
+
+-- the row of a side, if the table has one
+abbrev pub row_with_side : ℕ → Option SizeRow
+row_with_side side = find (λ row. nat_eq row.side side) size_table
+
+-- the row of the smallest size with at least `count` data codewords, if there is one; the table rises
+abbrev pub row_for_words : ℕ → Option SizeRow
+row_for_words count = find (λ row. nat_le count row.data_count) size_table
+
+-- the row stands in the table
+abbrev pub IsRow : SizeRow → Type 0
+IsRow row = row_with_side row.side ≡ Some row
+
+-- how many regions stand side by side
+abbrev pub regions_across : SizeRow → ℕ
+regions_across row = row.mapping / row.region_side
+
+-- how many codewords a symbol of this size has, data and check together
+abbrev pub codeword_count : SizeRow → ℕ
+codeword_count row = row.data_count + row.check_count
+
+-- how many data codewords a block has
+abbrev pub block_data : SizeRow → ℕ
+block_data row = row.data_count / row.blocks
+
+-- how many check codewords a block has
+abbrev pub block_check : SizeRow → ℕ
+block_check row = row.check_count / row.blocks
+
+-- how many codewords a block has
+abbrev pub block_length : SizeRow → ℕ
+block_length row = codeword_count row / row.blocks

@@ -1,0 +1,106 @@
+-- The sweep by which ISO/IEC 16022 (module placement) fills the mapping square of side n, turn by turn, over a table of filled cells.
+-- It knows nothing of the sums r + c and of the congruence of 5r + c, by which the closed form is given; both share the cells of a shape.
+-- That the sweep places the shapes of the closed form is a law.
+use Rattle.std.specs.Prelude.{◌≡◌, ℕ, zero, suc, ◌+◌, ◌*◌, ◌%◌, Bool, true, false, not, ◌&&◌, ◌||◌, nat_eq, nat_lt, List, [], ◌∷◌, ◌++◌, get_or, set, replicate, ℤ, pos, negsuc, ◌+ℤ◌, ◌-ℤ◌, int_lt, int_le}
+use Rattle.std.specs.List.{list_any}
+use Rattle.dm_layout.specs.declared.shape.Cell.{Cell}
+use Rattle.dm_layout.specs.declared.shape.Shape.{Shape}
+use Rattle.dm_layout.specs.declared.shape.Shape.TheVariants.{Standard, Corner1, Corner2, Corner3, Corner4}
+use Rattle.dm_layout.specs.Placement.{cells_of}
+
+-- ---- the turns. Row and column are whole numbers, since a turn leaves the square on all sides.
+
+-- the corner with which a turn begins at row r, column c, if it begins with one
+abbrev pub corner_at : ℕ → ℕ → ℕ → List Shape
+corner_at n r c =
+    elim (nat_eq r n && nat_eq c 0) [
+      | true ↦ Corner1 ∷ []
+      | false ↦ elim (nat_eq (r + 2) n && nat_eq c 0 && not (nat_eq (n % 4) 0)) [
+        | true ↦ Corner2 ∷ []
+        | false ↦ elim (nat_eq (r + 2) n && nat_eq c 0 && nat_eq (n % 8) 4) [
+          | true ↦ Corner3 ∷ []
+          | false ↦ elim (nat_eq r (n + 4) && nat_eq c 2 && nat_eq (n % 8) 0) [ true ↦ Corner4 ∷ [] | false ↦ [] ]
+        ]
+      ]
+    ]
+
+-- the corner of a turn that begins left of the square is none
+abbrev pub corner_of_turn : ℕ → ℤ → ℤ → List Shape
+corner_of_turn n (pos r) (pos c) = corner_at n r c
+corner_of_turn n (pos r) (negsuc c) = []
+corner_of_turn n (negsuc r) c = []
+
+-- the standard shape whose anchor the sweep comes by, if that cell lies inside the square
+abbrev pub inside_at : ℕ → ℤ → ℤ → List Shape
+inside_at n (pos r) (pos c) = elim (nat_lt r n && nat_lt c n) [ true ↦ Standard r c ∷ [] | false ↦ [] ]
+inside_at n (pos r) (negsuc c) = []
+inside_at n (negsuc r) c = []
+
+-- the three parts of a turn
+pub data Part : Type 0 where
+  Corner : Part
+  Upwards : Part
+  Downwards : Part
+
+-- the shapes that the turns come by, in at most so many moves, whether their cells are filled or not.
+-- A turn is its corner; then upwards the cells (r, c), (r-2, c+2), (r-4, c+4), .. until the row is below 0 or the column is n or more,
+-- and from there one row down and three columns right; then downwards likewise by two rows down and two columns left until the row
+-- is n or more or the column is below 0, and from there three rows down and one column right. Turns go on while row or column is below n.
+unfoldable pub comes_by : ℕ → ℕ → Part → ℤ → ℤ → List Shape
+comes_by zero n part r c = []
+comes_by (suc k) n Corner r c =
+    elim (int_lt r (pos n) || int_lt c (pos n)) [ true ↦ corner_of_turn n r c ++ comes_by k n Upwards r c | false ↦ [] ]
+comes_by (suc k) n Upwards r c =
+    inside_at n r c
+    ++ elim (int_lt (r -ℤ pos 2) (pos 0) || int_le (pos n) (c +ℤ pos 2)) [
+      | true ↦ comes_by k n Downwards (r -ℤ pos 2 +ℤ pos 1) (c +ℤ pos 2 +ℤ pos 3)
+      | false ↦ comes_by k n Upwards (r -ℤ pos 2) (c +ℤ pos 2)
+    ]
+comes_by (suc k) n Downwards r c =
+    inside_at n r c
+    ++ elim (int_le (pos n) (r +ℤ pos 2) || int_lt (c -ℤ pos 2) (pos 0)) [
+      | true ↦ comes_by k n Corner (r +ℤ pos 2 +ℤ pos 3) (c -ℤ pos 2 +ℤ pos 1)
+      | false ↦ comes_by k n Downwards (r +ℤ pos 2) (c -ℤ pos 2)
+    ]
+
+-- ---- the table of filled cells: for each row the list of its filled columns
+
+-- nothing is filled
+abbrev pub nothing_filled : ℕ → List (List ℕ)
+nothing_filled n = replicate n []
+
+-- whether a cell is filled
+abbrev pub is_filled : List (List ℕ) → ℕ → ℕ → Bool
+is_filled table r c = list_any (nat_eq c) (get_or table r [])
+
+-- the table with these cells filled too
+abbrev pub fill : List (List ℕ) → List Cell → List (List ℕ)
+fill table [] = table
+fill table (x ∷ rest) = fill (set table x.row (x.column ∷ get_or table x.row [])) rest
+
+-- a standard shape is left out where its anchor is filled; a corner never is
+abbrev pub is_left_out : List (List ℕ) → Shape → Bool
+is_left_out table (Standard r c) = is_filled table r c
+is_left_out table Corner1 = false
+is_left_out table Corner2 = false
+is_left_out table Corner3 = false
+is_left_out table Corner4 = false
+
+-- of these shapes, in turn, those that are placed, each of which fills its cells
+unfoldable pub placed : ℕ → List (List ℕ) → List Shape → List Shape
+placed n table [] = []
+placed n table (s ∷ rest) =
+    elim (is_left_out table s) [ true ↦ placed n table rest | false ↦ s ∷ placed n (fill table (cells_of n s)) rest ]
+
+-- what the sweep places in at most so many moves, from row 4, column 0 with nothing filled
+unfoldable pub sweep_within : ℕ → ℕ → List Shape
+sweep_within moves n = placed n (nothing_filled n) (comes_by moves n Corner (pos 4) (pos 0))
+
+-- what the sweep places: it ends within n * n moves, so further moves place nothing
+abbrev pub sweep : ℕ → List Shape
+sweep n = sweep_within (n * n) n
+
+-- the sweep places the shapes of this list, and ends: further moves place nothing more
+pub record Sweeps (n : ℕ) (placed_shapes : List Shape) : Type 0 where
+  pub places : sweep n ≡ placed_shapes
+  pub ends : (more : ℕ) → sweep_within (n * n + more) n ≡ sweep n

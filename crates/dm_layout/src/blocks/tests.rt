@@ -1,0 +1,33 @@
+use super::*;
+use crate::size::Size;
+
+#[test]
+fn two_blocks_take_turns(rt: HostRuntime) {
+    let mut list = [0; 288];
+    for (place, word) in list.iter_mut().enumerate() {
+        *word = (place % 251) as u8;
+    }
+    let size = Size::of_side(52).expect(&rt, "side 52");
+    assert_eq!(rt; size.data_count() + size.check_count(), 288);
+    assert_eq!(rt; size.blocks(), 2);
+    let words = Words::new(size, &list);
+    assert_eq!(rt; words.list().len(), 288);
+    assert_eq!(rt; words.data_part().len(), 204);
+
+    let odd = block(&words, 1);
+    assert_eq!(rt; odd.len(), 144);
+    for (step, word) in odd.as_slice().iter().enumerate() {
+        assert_eq!(rt; *word as usize, (2 * step + 1) % 251);
+    }
+}
+
+#[test]
+fn a_block_is_put_beside_the_other(rt: HostRuntime) {
+    let size = Size::of_side(52).expect(&rt, "side 52");
+    assert_eq!(rt; size.data_count() + size.check_count(), 288);
+    assert_eq!(rt; size.blocks(), 2);
+    let mut words = Words::new(size, &[7; 288]);
+    put_block(&mut words, 1, &[9; 144]);
+    assert_eq!(rt; block(&words, 0).as_slice(), [7; 144].as_slice());
+    assert_eq!(rt; block(&words, 1).as_slice(), [9; 144].as_slice());
+}

@@ -1,0 +1,89 @@
+//! All bits of the codewords of a symbol, and where they lie.
+
+ghost use Rattle.std.specs.Prelude.{◌≡◌, List};
+ghost use Rattle.std.specs.Iterator.{YieldsFirst, item_count};
+ghost use Rattle.dm_layout.specs.Placement.{places_in_order};
+ghost use Rattle.dm_layout.specs.Walking.{places_left, CellsAreSafe};
+ghost use Rattle.dm_layout.specs.declared.cells.Place.{Place};
+
+use crate::shape::Cell;
+use crate::size::Size;
+use crate::sweep::Walk;
+use std::marker::Model;
+
+/// One bit of one codeword of a symbol, and the cell of the mapping square in which it lies.
+#[derive(Clone, Copy, Debug, PartialEq, Eq)]
+pub struct Place {
+    /// The codeword, in the order of the symbol, from 0.
+    pub word: u16,
+    /// The bit, from 1, the highest, to 8, the lowest.
+    pub bit: u8,
+    /// The row in the mapping square, from 0 at the top.
+    pub row: u16,
+    /// The column in the mapping square, from 0 at the left.
+    pub column: u16,
+}
+
+/// The places of all bits of all codewords of a symbol, by codeword and then by bit: an iterator, which ends
+/// after 8 places for each codeword (ISO/IEC 16022, module placement).
+#[derive(Drop)]
+pub struct Cells {
+    walk: Walk,
+    /// The cells of the current codeword.
+    current: [Cell; 8],
+    /// How many codewords the walk has given, the current one among them.
+    taken: u16,
+    /// How many bits of the current codeword have been given.
+    bit: u8,
+}
+
+impl Model for Cells {
+    ghost Value = { List Place };
+
+    ghost view = { λ s. places_left s.current s.taken s.bit s.walk };
+
+    ghost invariant = { λ s. CellsAreSafe s.current s.taken s.bit s.walk };
+}
+
+impl Cells {
+    /// All places of a symbol of this size.
+    pub fn new(size: Size) -> Cells
+        ensures { result ≡ places_in_order size.mapping }
+    {
+        Cells {
+            walk: Walk::new(size.mapping()),
+            current: [Cell { row: 0, column: 0 }; 8],
+            taken: 0,
+            bit: 8,
+        }
+    }
+}
+
+impl Iterator for Cells {
+    type Item = Place;
+
+    ghost next_gives = { YieldsFirst (λ s. s) };
+
+    ghost remaining = { item_count (λ s. s) };
+
+    /// The next place.
+    #[inline]
+    fn next(&mut self) -> Option<Place> {
+        if self.bit == 8 {
+            self.current = self.walk.next_cells()?;
+            self.taken += 1;
+            self.bit = 0;
+        }
+        let cell = self.current[self.bit as usize];
+        self.bit += 1;
+        Some(Place {
+            word: self.taken - 1,
+            bit: self.bit,
+            row: cell.row,
+            column: cell.column,
+        })
+    }
+}
+
+#[cfg(test)]
+mod tests;

@@ -1,0 +1,4 @@
+//! Facts about the definitions alone.
+
+pub mod blocks;
+pub mod placement;

@@ -1,0 +1,18 @@
+//! Facts about the definitions of the blocks.
+
+ghost use Rattle.dm_layout.specs.Blocks.{BlocksTellWords, BlocksTellData, DataComesFirst};
+
+/// Codewords of one size whose blocks are the same are the same.
+pub fn blocks_tell_the_codewords()
+    ensures { BlocksTellWords }
+{}
+
+/// Codewords of one size whose blocks have the same data codewords have the same data codewords.
+pub fn blocks_tell_the_data()
+    ensures { BlocksTellData }
+{}
+
+/// The data codewords of a block come first in it: they are the symbol's data codewords at its places.
+pub fn data_comes_first_in_a_block()
+    ensures { DataComesFirst }
+{}

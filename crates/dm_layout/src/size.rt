@@ -1,0 +1,206 @@
+//! The sizes of square symbols: ISO/IEC 16022, symbol sizes and capacities.
+#![tactic(auto, unfolding(crate::specs::Sizes::size_table))]
+
+ghost use Rattle.std.specs.Prelude.{◌≡◌, ◌+◌, ◌*◌, ◌/◌, ◌%◌, ◌<◌, ◌≤◌, ◌↔◌, All, IfSome, IfNone};
+ghost use Rattle.dm_layout.specs.Sizes.{size_table, row_with_side, row_for_words, IsRow, codeword_count, block_data, block_check, block_length, regions_across, largest_side, most_data, most_codewords, most_blocks};
+
+use std::marker::Model;
+
+/// The largest side of a symbol, in cells.
+pub const LARGEST_SIDE: usize = 52;
+
+/// The most codewords of a symbol, data and check together.
+pub const MOST_CODEWORDS: usize = 288;
+
+/// A size of a square symbol: a row of the standard's table of sizes and capacities.
+#[derive(Clone, Copy, Debug, PartialEq, Eq)]
+pub struct Size {
+    side: u16,
+    regions: u16,
+    region_side: u16,
+    mapping: u16,
+    data_count: u16,
+    check_count: u16,
+    blocks: u16,
+    limit: u16,
+}
+
+impl Model for Size {
+    ghost use Rattle.dm_layout.specs.Sizes.{SizeRow, row_of, IsRow};
+
+    ghost Value = { SizeRow };
+
+    ghost view = { λ s. row_of s.side s.regions s.region_side s.mapping s.data_count s.check_count s.blocks s.limit };
+
+    ghost invariant = { λ s. IsRow (row_of s.side s.regions s.region_side s.mapping s.data_count s.check_count s.blocks s.limit) };
+
+    ghost inverse = { λ r. record { side = r.side; regions = r.regions; region_side = r.region_side; mapping = r.mapping; data_count = r.data_count; check_count = r.check_count; blocks = r.blocks; limit = r.limit } };
+}
+
+/// A row of the table: side, regions, region side, mapping side, data, check, blocks, limit.
+macro_rules! row {
+    ($side:literal $regions:literal $region_side:literal $mapping:literal $data:literal $check:literal $blocks:literal $limit:literal) => {
+        Size {
+            side: $side,
+            regions: $regions,
+            region_side: $region_side,
+            mapping: $mapping,
+            data_count: $data,
+            check_count: $check,
+            blocks: $blocks,
+            limit: $limit,
+        }
+    };
+}
+
+const TABLE: [Size; 15] = [
+    row!(10 1 8 8 3 5 1 2),
+    row!(12 1 10 10 5 7 1 3),
+    row!(14 1 12 12 8 10 1 5),
+    row!(16 1 14 14 12 12 1 6),
+    row!(18 1 16 16 18 14 1 7),
+    row!(20 1 18 18 22 18 1 9),
+    row!(22 1 20 20 30 20 1 10),
+    row!(24 1 22 22 36 24 1 12),
+    row!(26 1 24 24 44 28 1 14),
+    row!(32 4 14 28 62 36 1 18),
+    row!(36 4 16 32 86 42 1 21),
+    row!(40 4 18 36 114 48 1 24),
+    row!(44 4 20 40 144 56 1 28),
+    row!(48 4 22 44 174 68 1 34),
+    row!(52 4 24 48 204 84 2 21),
+];
+
+/// All sizes, by rising side.
+pub fn table() -> [Size; 15]
+    ensures { result ≡ size_table }
+{
+    TABLE
+}
+
+/// The first size of the table that has at least `count` data codewords.
+fn first_with(count: u16) -> Option<Size>
+    ensures { result ≡ row_for_words count }
+{
+    TABLE.iter().copied().find(|size| count <= size.data_count)
+}
+
+impl Size {
+    /// The size with this side in cells, or None where the table has none.
+    pub fn of_side(side: u16) -> Option<Size>
+        ensures { result ≡ row_with_side side }
+    {
+        TABLE.iter().copied().find(|size| size.side == side)
+    }
+
+    /// The smallest size with at least `count` data codewords, or None where no size has as many.
+    pub fn for_words(count: u16) -> Option<Size>
+        ensures value { result ≡ row_for_words count }
+        ensures row { IfSome result IsRow }
+        ensures enough { IfSome result (λ size. count ≤ size.data_count) }
+        ensures smallest { IfSome result (λ size. All (λ row. count ≤ row.data_count → size.side ≤ row.side) size_table) }
+        ensures none { IfNone result (most_data < count) }
+    {
+        first_with(count)
+    }
+
+    /// The cells of a side of the symbol, borders among them.
+    pub fn side(self) -> u16
+        ensures value { result ≡ self.side }
+        ensures row { IsRow self }
+        ensures most { self.side ≤ largest_side }
+    {
+        self.side
+    }
+
+    /// How many regions the symbol has.
+    pub fn regions(self) -> u16
+        ensures value { result ≡ self.regions }
+        ensures square { self.regions ≡ regions_across self * regions_across self }
+    {
+        self.regions
+    }
+
+    /// The cells of a side of one region, without its border.
+    pub fn region_side(self) -> u16
+        ensures value { result ≡ self.region_side }
+        ensures even { self.region_side % 2 ≡ 0 }
+        ensures least { 8 ≤ self.region_side }
+        ensures most { self.region_side ≤ largest_side }
+        ensures side { self.side ≡ regions_across self * (self.region_side + 2) }
+    {
+        self.region_side
+    }
+
+    /// The cells of a side of the mapping square: all regions put together without their borders.
+    pub fn mapping(self) -> u16
+        ensures value { result ≡ self.mapping }
+        ensures row { IsRow self }
+        ensures regions { self.mapping ≡ regions_across self * self.region_side }
+        ensures even { self.mapping % 2 ≡ 0 }
+        ensures least { 8 ≤ self.mapping }
+        ensures below { self.mapping < self.side }
+    {
+        self.mapping
+    }
+
+    /// How many data codewords the symbol has.
+    pub fn data_count(self) -> u16
+        ensures value { result ≡ self.data_count }
+        ensures some { 0 < self.data_count }
+        ensures most { self.data_count ≤ most_data }
+        ensures dealt { self.blocks * block_data self ≡ self.data_count }
+    {
+        self.data_count
+    }
+
+    /// How many check codewords the symbol has.
+    pub fn check_count(self) -> u16
+        ensures value { result ≡ self.check_count }
+        ensures all { codeword_count self ≡ self.mapping * self.mapping / 8 }
+        ensures most { codeword_count self ≤ most_codewords }
+        ensures dealt { self.blocks * block_check self ≡ self.check_count }
+    {
+        self.check_count
+    }
+
+    /// How many blocks the codewords of the symbol are dealt into.
+    pub fn blocks(self) -> u16
+        ensures value { result ≡ self.blocks }
+        ensures some { 0 < self.blocks }
+        ensures most { self.blocks ≤ most_blocks }
+        ensures dealt { self.blocks * block_length self ≡ codeword_count self }
+    {
+        self.blocks
+    }
+
+    /// How many data codewords a block has.
+    pub fn block_data(self) -> u16
+        ensures value { result ≡ block_data self }
+        ensures some { 0 < block_data self }
+        ensures length { block_data self + block_check self ≡ block_length self }
+    {
+        self.data_count / self.blocks
+    }
+
+    /// How many check codewords a block has, 5 to 68.
+    pub fn block_check(self) -> u16
+        ensures value { result ≡ block_check self }
+        ensures some { 5 ≤ block_check self }
+        ensures most { block_check self ≤ 68 }
+        ensures length { block_length self ≤ 255 }
+    {
+        self.check_count / self.blocks
+    }
+
+    /// How many wrong codewords can be corrected in a block: half of its check codewords, rounded down.
+    pub fn limit(self) -> u16
+        ensures value { result ≡ self.limit }
+        ensures half { self.limit ≡ block_check self / 2 }
+    {
+        self.limit
+    }
+}
+
+#[cfg(test)]
+mod tests;

@@ -1,0 +1,103 @@
+//! The codewords of a symbol.
+
+ghost use Rattle.std.specs.Prelude.{◌≡◌, ◌<◌, length, set};
+ghost use Rattle.dm_layout.specs.Sizes.{codeword_count};
+ghost use Rattle.dm_layout.specs.Words.{WordsView, IsWords, data_of};
+
+use crate::size::{MOST_CODEWORDS, Size};
+use arrayvec::ArrayVec;
+use std::marker::Model;
+
+/// The codewords of a symbol of some [`Size`]: exactly its data codewords and then its check codewords,
+/// in the order in which they are placed.
+#[derive(Clone, Debug, Drop)]
+pub struct Words {
+    size: Size,
+    list: ArrayVec<u8, MOST_CODEWORDS>,
+}
+
+impl Model for Words {
+    ghost use Rattle.dm_layout.specs.Words.{WordsView, IsWords};
+
+    ghost Value = { WordsView };
+
+    ghost view = { λ w. record { size = w.size; list = w.list.items } };
+
+    ghost invariant = { λ w. IsWords (record { size = w.size; list = w.list.items }) };
+}
+
+impl Words {
+    /// The codewords `list` of a symbol of this size, data and then checks, in the order of the symbol: as
+    /// many as the size's data and check codewords together.
+    pub fn new(size: Size, list: &[u8]) -> Words
+        requires { length list.now ≡ codeword_count size }
+        ensures value { result ≡ record { size = size; list = list.now } }
+        ensures words { IsWords result }
+    {
+        // That they fit is known from the size's methods.
+        let _checks = size.check_count();
+        let _side = size.side();
+        let mut words = ArrayVec::new();
+        for word in list {
+            words.push(*word);
+        }
+        Words { size, list: words }
+    }
+
+    /// The size of the symbol.
+    pub fn size(&self) -> Size
+        ensures value { result ≡ self.now.size }
+        ensures words { IsWords self.now }
+    {
+        self.size
+    }
+
+    /// All codewords, in the order of the symbol.
+    pub fn list(&self) -> &[u8]
+        ensures value { result.now ≡ self.now.list }
+        ensures words { IsWords self.now }
+    {
+        self.list.as_slice()
+    }
+
+    /// The data codewords.
+    pub fn data_part(&self) -> &[u8]
+        ensures value { result.now ≡ data_of self.now }
+        ensures words { IsWords self.now }
+    {
+        &self.list.as_slice()[..self.size.data_count() as usize]
+    }
+
+    /// Puts a codeword at a place, counted from 0.
+    pub(crate) fn put(&mut self, place: usize, word: u8)
+        requires { place < length self.old.list }
+        ensures value { self.new ≡ record { size = self.old.size; list = set self.old.list place word } }
+        ensures words { IsWords self.new }
+    {
+        self.list.as_mut_slice()[place] = word;
+    }
+}
+
+impl PartialEq for Words {
+    ghost use Rattle.std.specs.Prelude.{◌≡◌, ◌↔◌, IsTrue};
+    ghost use Rattle.dm_layout.specs.Equality.{equal_words};
+    ghost use Rattle.dm_layout.specs.Equality.{words_per};
+
+    ghost eq = { equal_words };
+
+    ghost laws = { words_per };
+
+    /// Whether the sides agree, and all codewords.
+    fn eq(&self, other: &Words) -> bool
+        ensures value { result ≡ equal_words self.now other.now }
+        ensures same { IsTrue result ↔ (self.now ≡ other.now) }
+    {
+        self.size().side() == other.size().side() && self.list() == other.list()
+    }
+}
+
+impl Eq for Words {
+    ghost use Rattle.dm_layout.specs.Equality.{words_equiv};
+
+    ghost laws = { words_equiv };
+}
