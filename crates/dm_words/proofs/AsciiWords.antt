@@ -1,0 +1,228 @@
+-- The ASCII words of a message.
+use Rattle.std.proofs.Common.{◌≡◌, ℕ, zero, suc, ◌+◌, ◌-◌, ◌*◌, ◌/◌, ◌%◌, ◌<◌, ◌≤◌, List, [], ◌∷◌, ◌++◌, length, refl, sym, ap, subst, ◌∙◌, arith, Bool, true, false, cond, ltb, ◌&&◌, Some}
+use Rattle.std.specs.Prelude.{IsTrue}
+use Rattle.std.specs.List.{AllByRecursion}
+use Rattle.std.proofs.lemmas.Bool.Decides.{nat_tests}
+use Rattle.std.proofs.lemmas.List.{append-nil}
+use Rattle.dm_words.specs.declared.codeword.Codeword.TheVariants as codeword
+use Rattle.dm_words.specs.declared.item.Item.{Item}
+use Rattle.dm_words.specs.declared.item.Item.TheVariants.{Byte, Fnc1}
+use Rattle.dm_words.specs.Codewords.{codeword_of}
+use Rattle.dm_words.specs.Joined.{Piece, spelled, gathered, AreJoined}
+use Rattle.dm_words.specs.Ascii.{IsAsciiUnit, character, digits, fnc1, raised, is_digit, digit_pair, single, ascii, IsOneDigit, BeginsWithDigit, IsGreedy, IsAscii}
+use Rattle.dm_words.specs.Pads.{further_pads, pads, padded}
+use Rattle.dm_words.specs.Base256.{AreBytes}
+use Rattle.dm_words.specs.Spells.{IsPart, ascii as ascii_part, IsEnd, nothing, pad, Spells}
+use Rattle.dm_words.specs.Messages.{IsItem}
+use Rattle.dm_words.proofs.Segments.{AreBytes-append}
+
+-- Each item has a byte of 0 to 255.
+abbrev pub AreItems : List Item → Type 0
+AreItems m = AllByRecursion IsItem m
+
+-- ---- the words of a unit mean it
+
+-- The codeword of a byte below 128.
+character_of : (b : ℕ) → b < 128 → codeword_of (b + 1) ≡ Some (codeword.Character b)
+character_of b lt = grind (arith, nat_tests)
+
+-- The codeword of a number below 100.
+digits_of : (n : ℕ) → n < 100 → codeword_of (130 + n) ≡ Some (codeword.Digits n)
+digits_of n lt = grind (arith, nat_tests)
+
+-- ---- the form by the front spells the message
+
+-- The codewords of a byte alone are a unit that means it.
+single_spells : (b : ℕ) → b < 256 → (after : List ℕ) → IsAsciiUnit (single b) (Byte b ∷ [])
+single_spells b lt after = by_test (ltb b 128) refl where
+  by_test : (t : Bool) → ltb b 128 ≡ t → IsAsciiUnit (cond t ((b + 1) ∷ []) (235 ∷ (b - 127) ∷ [])) (Byte b ∷ [])
+  by_test true e = character (b + 1) b (character_of b (grind (arith, nat_tests))) refl refl
+  by_test false e =
+      let le : 128 ≤ b = grind (arith, nat_tests) in
+      let w : b - 127 ≡ (b - 128) + 1 = omega arith in
+      let is : Byte b ≡ Byte ((b - 128) + 128) = ap Byte (omega arith) in
+      raised 235 (b - 127) (b - 128) refl (rw w (character_of (b - 128) (omega arith))) refl (ap (λ (i : Item). i ∷ []) is)
+
+-- The codeword of two digits is a unit that means them.
+pair_spells : (b c : ℕ) → is_digit b ≡ true → is_digit c ≡ true → IsAsciiUnit (digit_pair b c ∷ []) (Byte b ∷ Byte c ∷ [])
+pair_spells b c hb hc =
+    let lb : (48 ≤ b) × (b ≤ 57) = grind (arith, nat_tests) in
+    let lc : (48 ≤ c) × (c ≤ 57) = grind (arith, nat_tests) in
+    let n = 10 * (b - 48) + (c - 48) in
+    let first : Byte b ≡ Byte (48 + (10 * (b - 48) + (c - 48)) / 10) = ap Byte (omega arith) in
+    let second : Byte c ≡ Byte (48 + (10 * (b - 48) + (c - 48)) % 10) = ap Byte (omega arith) in
+    digits (130 + n) n (digits_of n (omega arith)) refl (rw (← first, ← second) refl)
+
+-- What begins with a digit still does with more behind it.
+BeginsWithDigit-append : (x y : List Item) → BeginsWithDigit x → BeginsWithDigit (x ++ y)
+BeginsWithDigit-append [] y h = absurd h
+BeginsWithDigit-append (Byte b ∷ x) y h = h
+BeginsWithDigit-append (Fnc1 ∷ x) y h = absurd h
+
+-- The units of a message.
+record HasUnits (m : List Item) (words : List ℕ) : Type 0 where
+  units : List (Piece (List Item))
+  each : AllByRecursion (λ u. IsAsciiUnit u.words u.what) units
+  greedy : IsGreedy units
+  items : m ≡ gathered units
+  whole : words ≡ spelled units
+
+-- A unit before greedy ones, where it is no single digit before a digit.
+greedy_more : (u : Piece (List Item)) (us : List (Piece (List Item))) → (IsOneDigit u.what → BeginsWithDigit (gathered us) → ⊥) → IsGreedy us → IsGreedy (u ∷ us)
+greedy_more u [] apart g = tt
+greedy_more u (v ∷ us) apart g = ((λ one begins. apart one (BeginsWithDigit-append v.what (gathered us) begins)), g)
+
+-- A unit before the units of a message.
+one_more : (words : List ℕ) (items m : List Item) (rest : List ℕ) → IsAsciiUnit words items → (IsOneDigit items → BeginsWithDigit m → ⊥) → HasUnits m rest → HasUnits (items ++ m) (words ++ rest)
+one_more words items m rest u apart h =
+    let p : Piece (List Item) = record { words = words; what = items } in
+    record {
+      units = p ∷ h.units;
+      each = (u, h.each);
+      greedy = greedy_more p h.units (λ one begins. apart one (rw h.items begins)) h.greedy;
+      items = ap (λ (r : List Item). items ++ r) h.items;
+      whole = ap (λ (r : List ℕ). words ++ r) h.whole;
+    }
+
+-- Two bytes that aren't taken together aren't both digits.
+not_both : (b c : ℕ) (s t : Bool) → is_digit b ≡ s → is_digit c ≡ t → (s && t) ≡ false → IsTrue (is_digit b) → IsTrue (is_digit c) → ⊥
+not_both b c s t es et e hb hc = grind (arith, nat_tests)
+
+-- The form by the front of a message is a joining of such units.
+units_of : (m : List Item) → AreItems m → HasUnits m (ascii m)
+units_of [] fit = record { units = []; each = tt; greedy = tt; items = refl; whole = refl }
+units_of (Fnc1 ∷ m) fit = one_more (232 ∷ []) (Fnc1 ∷ []) m (ascii m) (fnc1 232 refl refl refl) (λ one begins. one) (units_of m fit.1)
+units_of (Byte b ∷ []) fit = subst (HasUnits (Byte b ∷ [])) (append-nil (single b)) (one_more (single b) (Byte b ∷ []) [] [] (single_spells b fit.0 []) (λ one begins. begins) (units_of [] tt))
+units_of (Byte b ∷ Fnc1 ∷ m) fit = one_more (single b) (Byte b ∷ []) (Fnc1 ∷ m) (ascii (Fnc1 ∷ m)) (single_spells b fit.0 []) (λ one begins. begins) (units_of (Fnc1 ∷ m) fit.1)
+units_of (Byte b ∷ Byte c ∷ m) fit = both (is_digit b) (is_digit c) refl refl (units_of m fit.1.1) (units_of (Byte c ∷ m) fit.1) where
+  both : (s t : Bool) → is_digit b ≡ s → is_digit c ≡ t → HasUnits m (ascii m) → HasUnits (Byte c ∷ m) (ascii (Byte c ∷ m))
+      → HasUnits (Byte b ∷ Byte c ∷ m) (cond (s && t) (digit_pair b c ∷ ascii m) (single b ++ ascii (Byte c ∷ m)))
+  both true true es et h k = one_more (digit_pair b c ∷ []) (Byte b ∷ Byte c ∷ []) m (ascii m) (pair_spells b c es et) (λ one begins. one) h
+  both true false es et h k = one_more (single b) (Byte b ∷ []) (Byte c ∷ m) (ascii (Byte c ∷ m)) (single_spells b fit.0 []) (not_both b c true false es et refl) k
+  both false t es et h k = one_more (single b) (Byte b ∷ []) (Byte c ∷ m) (ascii (Byte c ∷ m)) (single_spells b fit.0 []) (not_both b c false t es et refl) k
+
+-- Units are parts wherever they stand.
+joined_units : (place : ℕ) (us : List (Piece (List Item))) (after : List ℕ) → AllByRecursion (λ u. IsAsciiUnit u.words u.what) us → AreJoined IsPart place us after
+joined_units place [] after h = tt
+joined_units place (u ∷ us) after h = (ascii_part h.0, joined_units (place + length u.words) us after h.1)
+
+-- Pads are an end.
+pub pads_end : (place n : ℕ) → IsEnd (pads place n)
+pads_end place zero = nothing refl
+pads_end place (suc n) = pad 129 (further_pads (place + 1) n) refl refl
+
+-- The form by the front of a message, with pads, spells it.
+pub ascii_spells : (m : List Item) (count : ℕ) → AreItems m → Spells (padded (ascii m) count) m
+ascii_spells m count fit =
+    let h = units_of m fit in
+    let after = pads (length (ascii m) + 1) (count - length (ascii m)) in
+    record { parts = h.units; after = after; whole = ap (λ (r : List ℕ). r ++ after) h.whole; joined = joined_units 1 h.units after h.each; ended = pads_end (length (ascii m) + 1) (count - length (ascii m)); items = h.items }
+
+-- The form by the front of a message is its ASCII form.
+pub is_ascii : (m : List Item) → AreItems m → IsAscii m (ascii m)
+is_ascii m fit = let h = units_of m fit in record { units = h.units; each = h.each; greedy = h.greedy; items = h.items; whole = h.whole }
+
+-- Each codeword of a byte alone is a codeword.
+single_bytes : (b : ℕ) → b < 256 → AreBytes (single b)
+single_bytes b lt = by_test (ltb b 128) refl where
+  by_test : (t : Bool) → ltb b 128 ≡ t → AreBytes (cond t ((b + 1) ∷ []) (235 ∷ (b - 127) ∷ []))
+  by_test true e = (let l : b < 128 = grind (arith, nat_tests) in omega arith, tt)
+  by_test false e = (omega arith, (omega arith, tt))
+
+-- So is the codeword of two digits.
+pair_byte : (b c : ℕ) → is_digit b ≡ true → is_digit c ≡ true → digit_pair b c < 256
+pair_byte b c hb hc =
+    let lb : b ≤ 57 = grind (arith, nat_tests) in
+    let lc : c ≤ 57 = grind (arith, nat_tests) in
+    omega arith
+
+-- The form by the front of a message is a list of codewords.
+pub ascii_bytes : (m : List Item) → AreItems m → AreBytes (ascii m)
+ascii_bytes [] fit = tt
+ascii_bytes (Fnc1 ∷ m) fit = (omega arith, ascii_bytes m fit.1)
+ascii_bytes (Byte b ∷ []) fit = single_bytes b fit.0
+ascii_bytes (Byte b ∷ Fnc1 ∷ m) fit = AreBytes-append (single b) (ascii (Fnc1 ∷ m)) (single_bytes b fit.0) (ascii_bytes (Fnc1 ∷ m) fit.1)
+ascii_bytes (Byte b ∷ Byte c ∷ m) fit = both (is_digit b) (is_digit c) refl refl (ascii_bytes m fit.1.1) (ascii_bytes (Byte c ∷ m) fit.1) where
+  both : (s t : Bool) → is_digit b ≡ s → is_digit c ≡ t → AreBytes (ascii m) → AreBytes (ascii (Byte c ∷ m)) → AreBytes (cond (s && t) (digit_pair b c ∷ ascii m) (single b ++ ascii (Byte c ∷ m)))
+  both true true es et h k = (pair_byte b c es et, h)
+  both true false es et h k = AreBytes-append (single b) (ascii (Byte c ∷ m)) (single_bytes b fit.0) k
+  both false t es et h k = AreBytes-append (single b) (ascii (Byte c ∷ m)) (single_bytes b fit.0) k
+
+-- ---- and it is the only one
+
+-- Which codewords are characters.
+pub character_is : (w b : ℕ) → codeword_of w ≡ Some (codeword.Character b) → (w ≡ b + 1) × (b < 128)
+character_is w b e = grind (arith, nat_tests)
+
+-- Which codewords are digit pairs.
+pub digits_are : (w n : ℕ) → codeword_of w ≡ Some (codeword.Digits n) → (w ≡ n + 130) × (n < 100)
+digits_are w n e = grind (arith, nat_tests)
+
+-- Which codeword is FNC1.
+fnc1_is : (w : ℕ) → codeword_of w ≡ Some (codeword.Fnc1) → w ≡ 232
+fnc1_is w e = grind (arith, nat_tests)
+
+-- Which codeword is the Upper Shift.
+shift_is : (w : ℕ) → codeword_of w ≡ Some (codeword.UpperShift) → w ≡ 235
+shift_is w e = grind (arith, nat_tests)
+
+-- A byte that isn't taken together with the next one stands alone.
+ascii_single : (b : ℕ) (rest : List Item) → (IsTrue (is_digit b) → BeginsWithDigit rest → ⊥) → ascii (Byte b ∷ rest) ≡ single b ++ ascii rest
+ascii_single b [] apart = sym (append-nil (single b))
+ascii_single b (Fnc1 ∷ rest) apart = refl
+ascii_single b (Byte c ∷ rest) apart = not_pair (is_digit b) (is_digit c) apart where
+  not_pair : (s t : Bool) → (IsTrue s → IsTrue t → ⊥) → cond (s && t) (digit_pair b c ∷ ascii rest) (single b ++ ascii (Byte c ∷ rest)) ≡ single b ++ ascii (Byte c ∷ rest)
+  not_pair true true no_pair = absurd (no_pair refl refl)
+  not_pair true false no_pair = refl
+  not_pair false t no_pair = refl
+
+-- Two digits at the front are taken together.
+ascii_pair : (b c : ℕ) (rest : List Item) → is_digit b ≡ true → is_digit c ≡ true → ascii (Byte b ∷ Byte c ∷ rest) ≡ digit_pair b c ∷ ascii rest
+ascii_pair b c rest hb hc = rw (hb, hc) refl
+
+-- What the items of units begin with, their first unit begins with.
+first_begins : (u : Piece (List Item)) (us : List (Piece (List Item))) → IsAsciiUnit u.words u.what → BeginsWithDigit (gathered (u ∷ us)) → BeginsWithDigit u.what
+first_begins u us (character w b k e i) h = rw i (let g = rw i at h in g)
+first_begins u us (digits w n k e i) h = rw i (let g = rw i at h in g)
+first_begins u us (fnc1 w k e i) h = rw i (let g = rw i at h in g)
+first_begins u us (raised s w b k l e i) h = rw i (let g = rw i at h in g)
+
+-- No single digit stands before what the further units mean, where that begins with a digit.
+apart_from : (u : Piece (List Item)) (us : List (Piece (List Item))) → AllByRecursion (λ u. IsAsciiUnit u.words u.what) us → IsGreedy (u ∷ us) → IsOneDigit u.what → BeginsWithDigit (gathered us) → ⊥
+apart_from u [] each greedy one begins = begins
+apart_from u (v ∷ us) each greedy one begins = greedy.0 one (first_begins v us each.0 begins)
+
+-- The units behind a greedy front are greedy.
+greedy_rest : (u : Piece (List Item)) (us : List (Piece (List Item))) → IsGreedy (u ∷ us) → IsGreedy us
+greedy_rest u [] g = tt
+greedy_rest u (v ∷ us) g = g.1
+
+-- The form of what a unit means and a rest begins with the unit.
+unit_first : (words : List ℕ) (items rest : List Item) → IsAsciiUnit words items → (IsOneDigit items → BeginsWithDigit rest → ⊥) → ascii (items ++ rest) ≡ words ++ ascii rest
+unit_first words items rest (character w b k e i) apart =
+    let is = character_is w b k in
+    let one : single b ≡ w ∷ [] = (let t : ltb b 128 ≡ true = grind (arith, nat_tests) in rw (t, is.0) refl) in
+    let far = rw i at apart in
+    rw (i, e) (ascii_single b rest far ∙ ap (λ (r : List ℕ). r ++ ascii rest) one)
+unit_first words items rest (digits w n k e i) apart =
+    let is = digits_are w n k in
+    let hb : is_digit (48 + n / 10) ≡ true = (let l : n / 10 ≤ 9 = omega arith in grind (arith, nat_tests)) in
+    let hc : is_digit (48 + n % 10) ≡ true = (let l : n % 10 ≤ 9 = omega arith in grind (arith, nat_tests)) in
+    let value : digit_pair (48 + n / 10) (48 + n % 10) ≡ w = omega (arith, is.0) in
+    rw (i, e) (ascii_pair (48 + n / 10) (48 + n % 10) rest hb hc ∙ ap (λ (v : ℕ). v ∷ ascii rest) value)
+unit_first words items rest (fnc1 w k e i) apart = rw (i, e, fnc1_is w k) refl
+unit_first words items rest (raised s w b k l e i) apart =
+    let is = character_is w b l in
+    let none : IsTrue (is_digit (b + 128)) → BeginsWithDigit rest → ⊥ = λ h g. (let t : is_digit (b + 128) ≡ false = grind (arith, nat_tests) in cc) in
+    let two : single (b + 128) ≡ s ∷ w ∷ [] = (let t : ltb (b + 128) 128 ≡ false = grind (arith, nat_tests) in let v : b + 128 - 127 ≡ w = omega (arith, is.0) in rw (t, v, shift_is s k) refl) in
+    rw (i, e) (ascii_single (b + 128) rest none ∙ ap (λ (r : List ℕ). r ++ ascii rest) two)
+
+-- Greedy units are the form by the front of what they mean.
+units_are : (us : List (Piece (List Item))) → AllByRecursion (λ u. IsAsciiUnit u.words u.what) us → IsGreedy us → spelled us ≡ ascii (gathered us)
+units_are [] each greedy = refl
+units_are (u ∷ us) each greedy =
+    ap (λ (r : List ℕ). u.words ++ r) (units_are us each.1 (greedy_rest u us greedy)) ∙ sym (unit_first u.words u.what (gathered us) each.0 (apart_from u us each.1 greedy))
+
+-- The ASCII form of a message is the form by its front.
+pub ascii_only : (m : List Item) (words : List ℕ) → IsAscii m words → words ≡ ascii m
+ascii_only m words h = h.whole ∙ units_are h.units h.each h.greedy ∙ ap ascii (sym h.items)

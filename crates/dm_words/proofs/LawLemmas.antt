@@ -1,0 +1,39 @@
+-- The laws, as lemmas with the same statements.
+use Rattle.std.proofs.Common.{◌≡◌, ℕ, ◌<◌, ◌≤◌, ◌↔◌, List, length, sym, subst}
+use Rattle.std.proofs.lemmas.List.Elements.{recursion_from_All, All-from_recursion}
+use Rattle.dm_words.specs.declared.item.Item.{Item}
+use Rattle.dm_words.specs.declared.c40.set.CodeSet.{CodeSet}
+use Rattle.dm_words.specs.Messages.{IsItem, IsMessage}
+use Rattle.dm_words.specs.Ascii.{ascii, IsAscii}
+use Rattle.dm_words.specs.Pads.{padded}
+use Rattle.dm_words.specs.Values.{IsRest}
+use Rattle.dm_words.specs.Spells.{Spells}
+use Rattle.dm_words.specs.Laws.{HasOneAnswer, AreCodewords, AreRunValues, BeginsNoSpelling}
+use Rattle.dm_words.proofs.WholeReading as reading
+use Rattle.dm_words.proofs.AsciiWords as form
+use Rattle.dm_words.proofs.PadWords.{length-padded, padded_bytes}
+use Rattle.dm_words.proofs.Values.{rest_begins_no_spelling, no_spelling_is_rest}
+
+-- Codewords spell one message or are refused with one fault.
+pub one_answer : (words : List ℕ) → AreCodewords words → HasOneAnswer words
+one_answer words fit = reading.one_answer words (recursion_from_All (λ w. w < 256) words fit)
+
+-- The ASCII form of a message with pads spells it.
+pub ascii_spells : (m : List Item) (count : ℕ) → IsMessage m → length (ascii m) ≤ count → Spells (padded (ascii m) count) m
+ascii_spells m count fit le = form.ascii_spells m count (recursion_from_All IsItem m fit)
+
+-- It is so many words.
+pub ascii_count : (m : List Item) (count : ℕ) → length (ascii m) ≤ count → length (padded (ascii m) count) ≡ count
+ascii_count m count le = length-padded (ascii m) count le
+
+-- They are codewords.
+pub ascii_codewords : (m : List Item) (count : ℕ) → IsMessage m → AreCodewords (padded (ascii m) count)
+ascii_codewords m count fit = All-from_recursion (λ w. w < 256) (padded (ascii m) count) (padded_bytes (ascii m) count (form.ascii_bytes m (recursion_from_All IsItem m fit)))
+
+-- The two wordings of the ASCII form agree.
+pub ascii_is_greedy : (m : List Item) (words : List ℕ) → IsMessage m → IsAscii m words ↔ (words ≡ ascii m)
+ascii_is_greedy m words fit = ((λ h. form.ascii_only m words h), (λ e. subst (λ (w : List ℕ). IsAscii m w) (sym e) (form.is_ascii m (recursion_from_All IsItem m fit))))
+
+-- What can stand behind the last whole spelling has none at its front, and nothing else has none.
+pub rest_has_no_spelling : (set : CodeSet) (values : List ℕ) → AreRunValues values → IsRest set values ↔ BeginsNoSpelling set values
+rest_has_no_spelling set values fit = ((λ r. rest_begins_no_spelling set values r), (λ none. no_spelling_is_rest set values fit none))

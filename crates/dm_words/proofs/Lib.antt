@@ -1,0 +1,14 @@
+pub mod Walks
+pub mod Values
+pub mod Pairs
+pub mod Runs
+pub mod Segments
+pub mod Parts
+pub mod WholeReading
+pub mod PartLoops
+pub mod RunLoops
+pub mod SegmentLoops
+pub mod AsciiWords
+pub mod PadWords
+pub mod ItemBytes
+pub mod LawLemmas

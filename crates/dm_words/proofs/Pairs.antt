@@ -1,0 +1,123 @@
+-- The pairs of a run, as they are found, are those that stand there.
+use Rattle.std.proofs.Common.{◌≡◌, ◌≢◌, ℕ, ◌+◌, ◌-◌, ◌*◌, ◌/◌, ◌%◌, ◌<◌, ◌≤◌, List, [], ◌∷◌, length, take, drop, get_or, refl, ap, subst, arith, Bool, true, false, cond, eqb, ltb, inl, inr, ◌⊎◌}
+use Rattle.std.proofs.lemmas.Bool.{eqb-true, ltb-false}
+use Rattle.std.proofs.lemmas.Bool.Decides.{nat_tests}
+use Rattle.std.proofs.lemmas.List.{get_or-drop}
+use Rattle.dm_words.specs.declared.c40.pair.PairsEnd.{PairsEnd}
+use Rattle.dm_words.specs.declared.c40.pair.PairsEnd.TheVariants as stop
+use Rattle.dm_words.specs.Runs.{IsPair}
+use Rattle.dm_words.specs.Scan.Walk.{Step, Takes, Stops}
+use Rattle.dm_words.specs.Scan.Fronts.{values_of, pair_by, pair_front}
+use Rattle.dm_words.proofs.Walks.{IsSound, IsComplete}
+
+-- Each word is 0 to 255.
+abbrev pub IsBytes : List ℕ → Type 0
+IsBytes words = (i : ℕ) → get_or words i 0 < 256
+
+-- So is each of the later ones.
+pub IsBytes-drop : (n : ℕ) (words : List ℕ) → IsBytes words → IsBytes (drop n words)
+IsBytes-drop n words h i = rw get_or-drop (h (n + i))
+
+-- Why no pair stands at the front of the words.
+pub data IsStop (words : List ℕ) (kind : PairsEnd) : Type 0 where
+  over : words ≡ [] → kind ≡ stop.SymbolEnd → IsStop words kind
+  one_left : (w : ℕ) → w ≢ 254 → words ≡ w ∷ [] → kind ≡ stop.SymbolEnd → IsStop words kind
+  unlatched : (more : List ℕ) → words ≡ 254 ∷ more → kind ≡ stop.Unlatch → IsStop words kind
+  bad : (v w : ℕ) (more : List ℕ) → v ≢ 254 → (256 * v + w ≡ 0) ⊎ (64000 < 256 * v + w) → words ≡ v ∷ w ∷ more → kind ≡ stop.BadPair → IsStop words kind
+
+-- A pair is right wherever it stands.
+abbrev pub PairRight : ℕ → List ℕ → List ℕ → List ℕ → Type 0
+PairRight place words after values = IsPair words values
+
+-- The first so many words are a pair with these values.
+abbrev Right : List ℕ → ℕ → List ℕ → Type 0
+Right words n values = IsPair (take n words) values × (0 < n) × (n ≤ length words)
+
+-- What is found at the front is right.
+abbrev Judged : List ℕ → Step (List ℕ) PairsEnd → Type 0
+Judged words (Takes n values) = Right words n values
+Judged words (Stops kind) = IsStop words kind
+
+-- The three values of a number of 1 to 64000 are below 40.
+digits_small : (n : ℕ) → (let m = n - 1 in 0 < n) → n ≤ 64000 → ((n - 1) / 1600 < 40) × ((n - 1) / 40 % 40 < 40) × ((n - 1) % 40 < 40)
+digits_small n pos le = (omega arith, omega arith, omega arith)
+
+-- A number is made of its three values.
+digits_join : (n : ℕ) → 0 < n → n ≡ 1600 * ((n - 1) / 1600) + 40 * ((n - 1) / 40 % 40) + (n - 1) % 40 + 1
+digits_join n pos = omega arith
+
+-- By the number of two words.
+judged_number : (v w : ℕ) (more : List ℕ) (a b : Bool) → w < 256 → v ≢ 254 → eqb (256 * v + w) 0 ≡ a → ltb 64000 (256 * v + w) ≡ b
+    → Judged (v ∷ w ∷ more) (cond a (Stops stop.BadPair) (cond b (Stops stop.BadPair) (Takes 2 (values_of (256 * v + w)))))
+judged_number v w more true b small ne ea eb = bad v w more ne (inl (eqb-true _ _ ea)) refl refl
+judged_number v w more false true small ne ea eb = bad v w more ne (inr (grind (arith, nat_tests))) refl refl
+judged_number v w more false false small ne ea eb =
+    let pos : 0 < 256 * v + w = grind (arith, nat_tests) in
+    let le : 256 * v + w ≤ 64000 = ltb-false _ _ eb in
+    let d = digits_small (256 * v + w) pos le in
+    let is : IsPair (v ∷ w ∷ []) (values_of (256 * v + w)) = record { high = v; low = w; is_byte = small; a = _; b = _; c = _; a_small = d.0; b_small = d.1; c_small = d.2; number = digits_join (256 * v + w) pos; words_are = refl; values_are = refl } in
+    (is, omega arith, omega arith)
+
+-- By the first of two words.
+judged_two : (v w : ℕ) (more : List ℕ) (a : Bool) → w < 256 → eqb v 254 ≡ a → Judged (v ∷ w ∷ more) (cond a (Stops stop.Unlatch) (pair_by (256 * v + w)))
+judged_two v w more true small e = let is : v ≡ 254 = eqb-true _ _ e in unlatched (w ∷ more) (ap (λ (x : ℕ). x ∷ w ∷ more) is) refl
+judged_two v w more false small e = judged_number v w more _ _ small (λ is. (let t : eqb v 254 ≡ true = rw is refl in cc)) refl refl
+
+-- By the one word that is left.
+judged_one : (v : ℕ) (a : Bool) → eqb v 254 ≡ a → Judged (v ∷ []) (cond a (Stops stop.Unlatch) (Stops stop.SymbolEnd))
+judged_one v true e = let is : v ≡ 254 = eqb-true _ _ e in unlatched [] (ap (λ (x : ℕ). x ∷ []) is) refl
+judged_one v false e = one_left v (λ is. (let t : eqb v 254 ≡ true = rw is refl in cc)) refl refl
+
+-- By the words.
+judged : (place : ℕ) (words : List ℕ) → IsBytes words → Judged words (pair_front place words)
+judged place [] fit = over refl refl
+judged place (v ∷ []) fit = judged_one v _ refl
+judged place (v ∷ w ∷ more) fit = judged_two v w more _ (fit 1) refl
+
+-- A pair that is found is a pair.
+pub pair_sound : IsSound pair_front PairRight IsBytes
+pair_sound = record {
+  right = λ place words n values fit e. let P : Step (List ℕ) PairsEnd → Type 0 = λ s. Judged words s in subst P e (judged place words fit);
+  fits = IsBytes-drop;
+}
+
+-- Where no pair is found, none stands.
+pub stop_sound : (place : ℕ) (words : List ℕ) (kind : PairsEnd) → IsBytes words → pair_front place words ≡ Stops kind → IsStop words kind
+stop_sound place words kind fit e = let P : Step (List ℕ) PairsEnd → Type 0 = λ s. Judged words s in subst P e (judged place words fit)
+
+-- ---- the other way
+
+-- The three values of a number are those that it was made of.
+values_again : (n a b c : ℕ) → a < 40 → b < 40 → c < 40 → n ≡ 1600 * a + 40 * b + c + 1 → ((n - 1) / 1600 ≡ a) × ((n - 1) / 40 % 40 ≡ b) × ((n - 1) % 40 ≡ c)
+values_again n a b c la lb lc e = (omega arith, omega arith, omega arith)
+
+-- A pair doesn't begin with the unlatch.
+not_unlatch : (v w n : ℕ) → 256 * v + w ≡ n → n ≤ 64000 → eqb v 254 ≡ false
+not_unlatch v w n e le = let ne : v ≢ 254 = omega arith in grind (arith, nat_tests)
+
+-- A pair that stands at the front is found.
+pub pair_complete : IsComplete pair_front PairRight
+pair_complete place words after values p =
+    let n = 256 * p.high + p.low in
+    let le : n ≤ 64000 = omega (arith, p.number, p.a_small, p.b_small, p.c_small) in
+    let pos : 0 < n = omega (arith, p.number) in
+    let x : eqb p.high 254 ≡ false = not_unlatch p.high p.low n refl le in
+    let y : eqb (256 * p.high + p.low) 0 ≡ false = grind (arith, nat_tests) in
+    let z : ltb 64000 (256 * p.high + p.low) ≡ false = grind (arith, nat_tests) in
+    let d = values_again (256 * p.high + p.low) p.a p.b p.c p.a_small p.b_small p.c_small p.number in
+    rw (p.words_are, p.values_are) ((rw (x, y, z, d.0, d.1, d.2) refl), omega arith)
+
+-- Where none stands, none is found.
+pub stop_complete : (place : ℕ) (words : List ℕ) (kind : PairsEnd) → IsStop words kind → pair_front place words ≡ Stops kind
+stop_complete place words kind (over e is) = rw (e, is) refl
+stop_complete place words kind (one_left w ne e is) = (let t : eqb w 254 ≡ false = grind (arith, nat_tests) in rw (e, is, t) refl)
+stop_complete place words kind (unlatched [] e is) = rw (e, is) refl
+stop_complete place words kind (unlatched (w ∷ more) e is) = rw (e, is) refl
+stop_complete place words kind (bad v w more ne h e is) =
+    let t : eqb v 254 ≡ false = grind (arith, nat_tests) in rw (e, is, t) (bad_number v w h) where
+      bad_number : (v w : ℕ) → (256 * v + w ≡ 0) ⊎ (64000 < 256 * v + w) → pair_by (256 * v + w) ≡ Stops stop.BadPair
+      bad_number v w (inl h) = rw h refl
+      bad_number v w (inr h) =
+          let y : eqb (256 * v + w) 0 ≡ false = (let p : 0 < 256 * v + w = omega arith in grind (arith, nat_tests)) in
+          let z : ltb 64000 (256 * v + w) ≡ true = grind (arith, nat_tests) in
+          rw (y, z) refl

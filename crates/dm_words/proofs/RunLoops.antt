@@ -1,0 +1,87 @@
+-- Reading the pairs and the items of a run in loops.
+use Rattle.std.proofs.Common.{◌≡◌, ℕ, ◌+◌, ◌<◌, ◌≤◌, List, [], ◌∷◌, ◌++◌, length, drop, refl, sym, ap, ◌∙◌, append_assoc, arith, None}
+use Rattle.std.proofs.lemmas.List.{append-nil, length-drop, drop-drop}
+use Rattle.dm_words.specs.declared.c40.set.CodeSet.{CodeSet}
+use Rattle.dm_words.specs.declared.c40.pair.PairsEnd.{PairsEnd}
+use Rattle.dm_words.specs.declared.c40.pair.PairsEnd.TheVariants as stop
+use Rattle.dm_words.specs.declared.c40.value.Rest.{Rest}
+use Rattle.dm_words.specs.declared.c40.value.Rest.TheVariants as left
+use Rattle.dm_words.specs.declared.item.Item.{Item}
+use Rattle.dm_words.specs.Scan.Walk.{Takes, Stops, Walked, and_before, flat}
+use Rattle.dm_words.specs.Scan.Fronts.{pair_front, spelling_front, pairs_from, items_from, pairs_in, items_in, run_front, run_fault, run_unless, end_length}
+use Rattle.dm_words.proofs.Walks.{walk_all-takes, walk_all-stops}
+use Rattle.dm_words.proofs.Values.{ItemRight, Anything, item_sound}
+use Rattle.dm_words.proofs.Pairs.{IsBytes, IsBytes-drop, PairRight, pair_sound}
+
+-- One turn: what was read, and what is still read.
+pub record GoesOn {A : Type 0} {S : Type 0} (total : List A) (front : List A) (rest : List A) (place : ℕ) (why : S) (total_place : ℕ) (total_why : S) : Type 0 where
+  pub values : total ≡ front ++ rest
+  pub place_is : total_place ≡ place
+  pub why_is : total_why ≡ why
+
+-- What the pairs before an index gave, and the pairs from there on, are the pairs of the words.
+abbrev pub PairsGoOn : List ℕ → Walked (List ℕ) PairsEnd → List ℕ → ℕ → Type 0
+PairsGoOn words total front at = GoesOn (flat total.taken) front (flat (pairs_from at (drop at words)).taken) (pairs_from at (drop at words)).place (pairs_from at (drop at words)).why total.place total.why
+
+-- One turn of the loop over the pairs.
+pub pairs_turn : (words : List ℕ) (at a b d : ℕ) (old new : List ℕ) (total : Walked (List ℕ) PairsEnd) → IsBytes words → at ≤ length words → pair_front at (drop at words) ≡ Takes 2 (a ∷ b ∷ d ∷ [])
+    → new ≡ ((old ++ a ∷ []) ++ b ∷ []) ++ d ∷ [] → PairsGoOn words total old at → PairsGoOn words total new (at + 2) × (at + 2 ≤ length words)
+pairs_turn words at a b d old new total fit le e is so_far =
+    let r = pair_sound.right at (drop at words) 2 (a ∷ b ∷ d ∷ []) (IsBytes-drop at words fit) e in
+    let one = walk_all-takes pair_front PairRight IsBytes stop.SymbolEnd pair_sound at (drop at words) 2 (a ∷ b ∷ d ∷ []) (IsBytes-drop at words fit) e in
+    let rest : drop 2 (drop at words) ≡ drop (at + 2) words = drop-drop 2 at words in
+    let two : pairs_from at (drop at words) ≡ and_before (a ∷ b ∷ d ∷ []) (pairs_from (at + 2) (drop (at + 2) words)) = one ∙ ap (λ (ws : List ℕ). and_before (a ∷ b ∷ d ∷ []) (pairs_from (at + 2) ws)) rest in
+    let before = rw two at so_far in
+    let joined : old ++ ((a ∷ b ∷ d ∷ []) ++ flat (pairs_from (at + 2) (drop (at + 2) words)).taken) ≡ new ++ flat (pairs_from (at + 2) (drop (at + 2) words)).taken = rw is (simp append_assoc) in
+    (record { values = before.values ∙ joined; place_is = before.place_is; why_is = before.why_is }, omega (arith, r.2, length-drop at words))
+
+-- All was read.
+pub record Stopped {A S : Type 0} (total front : List A) (at : ℕ) (why : S) (total_place : ℕ) (total_why : S) : Type 0 where
+  pub values : front ≡ total
+  pub place_is : at ≡ total_place
+  pub why_is : why ≡ total_why
+
+-- The end of the loop over the pairs.
+pub pairs_stop : (words : List ℕ) (at : ℕ) (old : List ℕ) (t : PairsEnd) (total : Walked (List ℕ) PairsEnd) → pair_front at (drop at words) ≡ Stops t → PairsGoOn words total old at
+    → Stopped (flat total.taken) old at t total.place total.why
+pairs_stop words at old t total e so_far =
+    let one = walk_all-stops pair_front PairRight IsBytes stop.SymbolEnd at (drop at words) t e in
+    let before = rw one at so_far in
+    record { values = sym (before.values ∙ append-nil old); place_is = sym before.place_is; why_is = sym before.why_is }
+
+-- What the values before an index gave, and the items from there on, are the items of the values.
+abbrev pub ItemsGoOn : CodeSet → List ℕ → List Item → Walked Item Rest → List Item → ℕ → Type 0
+ItemsGoOn set values first total front at = GoesOn (first ++ total.taken) front (items_from set at (drop at values)).taken (items_from set at (drop at values)).place (items_from set at (drop at values)).why total.place total.why
+
+-- One turn of the loop over the items.
+pub items_turn : (set : CodeSet) (values : List ℕ) (at n : ℕ) (item : Item) (first old new : List Item) (total : Walked Item Rest) → at ≤ length values → spelling_front set at (drop at values) ≡ Takes n item
+    → new ≡ old ++ item ∷ [] → ItemsGoOn set values first total old at → ItemsGoOn set values first total new (at + n) × (0 < n) × (at + n ≤ length values)
+items_turn set values at n item first old new total le e is so_far =
+    let r = (item_sound set).right at (drop at values) n item tt e in
+    let one = walk_all-takes (spelling_front set) (ItemRight set) Anything left.Complete (item_sound set) at (drop at values) n item tt e in
+    let rest : drop n (drop at values) ≡ drop (at + n) values = drop-drop n at values in
+    let two : items_from set at (drop at values) ≡ and_before item (items_from set (at + n) (drop (at + n) values)) = one ∙ ap (λ (ws : List ℕ). and_before item (items_from set (at + n) ws)) rest in
+    let before = rw two at so_far in
+    let joined : old ++ (item ∷ (items_from set (at + n) (drop (at + n) values)).taken) ≡ new ++ (items_from set (at + n) (drop (at + n) values)).taken = rw is (simp append_assoc) in
+    (record { values = before.values ∙ joined; place_is = before.place_is; why_is = before.why_is }, r.1, omega (arith, r.2, length-drop at values))
+
+-- The end of the loop over the items.
+pub items_stop : (set : CodeSet) (values : List ℕ) (at : ℕ) (first old : List Item) (k : Rest) (total : Walked Item Rest) → spelling_front set at (drop at values) ≡ Stops k → ItemsGoOn set values first total old at
+    → Stopped (first ++ total.taken) old at k total.place total.why
+items_stop set values at first old k total e so_far =
+    let one = walk_all-stops (spelling_front set) (ItemRight set) Anything left.Complete at (drop at values) k e in
+    let before = rw one at so_far in
+    record { values = sym (before.values ∙ append-nil old); place_is = sym before.place_is; why_is = sym before.why_is }
+
+-- A run from what the two loops found.
+pub run_is : (set : CodeSet) (place : ℕ) (words values : List ℕ) (count : ℕ) (t : PairsEnd) (read : ℕ) (k : Rest)
+    → values ≡ flat (pairs_in words).taken → count ≡ (pairs_in words).place → t ≡ (pairs_in words).why → read ≡ (items_in set values).place → k ≡ (items_in set values).why
+    → run_front set place words ≡ run_unless (run_fault place count t read k) (1 + count + end_length t) (items_in set values).taken
+unfolding run_front
+run_is set place words values count t read k v c tt' r kk = rw (r, kk, c, tt', v) refl
+
+-- A run with no fault and no unlatch has no word for its end.
+pub closing_none : (t : PairsEnd) (place count values : ℕ) (k : Rest) → run_fault place count t values k ≡ None → (t ≡ stop.Unlatch → ⊥) → end_length t ≡ 0
+closing_none stop.Unlatch place count values k e other = absurd (other refl)
+closing_none stop.SymbolEnd place count values k e other = refl
+closing_none stop.BadPair place count values k e other = refl

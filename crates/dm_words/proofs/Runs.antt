@@ -1,0 +1,313 @@
+-- A run, as it is found, is one that stands there.
+use Rattle.std.proofs.Common.{◌≡◌, ◌≢◌, ℕ, suc, ◌+◌, ◌*◌, ◌<◌, ◌≤◌, List, [], ◌∷◌, ◌++◌, length, take, drop, refl, sym, ap, subst, ◌∙◌, append_assoc, arith, Option, Some, None, zero-add, inl, inr}
+use Rattle.std.specs.List.{AllByRecursion}
+use Rattle.std.proofs.lemmas.List.{take_at, drop_at, length-append}
+use Rattle.dm_words.specs.declared.codeword.Codeword.TheVariants as codeword
+use Rattle.dm_words.specs.declared.c40.set.CodeSet.{CodeSet}
+use Rattle.dm_words.specs.declared.c40.pair.PairsEnd.{PairsEnd}
+use Rattle.dm_words.specs.declared.c40.pair.PairsEnd.TheVariants as stop
+use Rattle.dm_words.specs.declared.c40.value.Rest.{Rest}
+use Rattle.dm_words.specs.declared.c40.value.Rest.TheVariants as left
+use Rattle.dm_words.specs.declared.item.Item.{Item}
+use Rattle.dm_words.specs.declared.fault.WordFault.{WordFault}
+use Rattle.dm_words.specs.Codewords.{codeword_of}
+use Rattle.dm_words.specs.Joined.{Piece, spelled, gathered, whats, AreJoined}
+use Rattle.dm_words.specs.declared.fault.WordFault.TheVariants as fault
+use Rattle.dm_words.specs.Values.{IsSpelling, IsFiller, AreValues}
+use Rattle.dm_words.specs.Runs.{IsPair, IsRunEnd, unlatch, symbol_end, last_word, IsRun, EndsRun, BeginsBadPair, StopsPairs, pair_place, IsRunFault, value, upper_shift, triplet, unfinished, IsFaultyRun}
+use Rattle.dm_words.specs.Scan.Walk.{Step, Takes, Stops, Walked, flat}
+use Rattle.dm_words.specs.Scan.Fronts.{pair_front, spelling_front, run_fault, end_length, run_unless, pairs_in, items_in, run_front}
+use Rattle.dm_words.proofs.Walks.{Walks, walks, walk-joined}
+use Rattle.dm_words.proofs.Values.{ItemRight, Anything, AreSmall, IsRestOf, item_sound, rest_sound, item_complete, rest_complete}
+use Rattle.dm_words.proofs.Pairs.{IsBytes, PairRight, IsStop, over, one_left, unlatched, bad, pair_sound, stop_sound, pair_complete, stop_complete}
+
+module _ {B : Type 0} where
+  -- What the pieces stand for, joined in two ways.
+  pub flat-whats : (ps : List (Piece (List B))) → flat (whats ps) ≡ gathered ps
+  flat-whats [] = refl
+  flat-whats (p ∷ ps) = ap (λ (r : List B). p.what ++ r) (flat-whats ps)
+
+module _ {A : Type 0} (R : List ℕ → A → Type 0) where
+  -- What is right wherever it stands.
+  each_right : (place : ℕ) (ps : List (Piece A)) (after : List ℕ) → AreJoined (λ place words after a. R words a) place ps after → AllByRecursion (λ p. R p.words p.what) ps
+  each_right place [] after h = tt
+  each_right place (p ∷ ps) after h = (h.0, each_right (place + length p.words) ps after h.1)
+
+  -- And the other way round.
+  joined_right : (place : ℕ) (ps : List (Piece A)) (after : List ℕ) → AllByRecursion (λ p. R p.words p.what) ps → AreJoined (λ place words after a. R words a) place ps after
+  joined_right place [] after h = tt
+  joined_right place (p ∷ ps) after h = (h.0, joined_right (place + length p.words) ps after h.1)
+
+-- ---- what is found is right
+
+-- A run has no fault only where its rest is complete and no bad pair follows.
+no_fault : (place n values : ℕ) (t : PairsEnd) (k : Rest) → run_fault place n t values k ≡ None → (k ≡ left.Complete) × (t ≢ stop.BadPair)
+no_fault place n values t (left.Meaningless i) e = absurd cc
+no_fault place n values t left.WrongUpperShift e = absurd cc
+no_fault place n values stop.BadPair left.Waiting e = absurd cc
+no_fault place n values stop.SymbolEnd left.Waiting e = absurd cc
+no_fault place n values stop.Unlatch left.Waiting e = absurd cc
+no_fault place n values stop.BadPair left.Complete e = absurd cc
+no_fault place n values stop.SymbolEnd left.Complete e = (refl, λ h. cc)
+no_fault place n values stop.Unlatch left.Complete e = (refl, λ h. cc)
+
+-- The pairs stop where they end or before a bad one.
+stops_pairs : (words : List ℕ) (t : PairsEnd) → IsStop words t → StopsPairs words
+stops_pairs words t (over e is) = inl (record { end = []; after = []; ended = symbol_end refl refl; whole = e })
+stops_pairs words t (one_left w ne e is) = inl (record { end = []; after = w ∷ []; ended = last_word w ne refl refl; whole = e })
+stops_pairs words t (unlatched more e is) = inl (record { end = 254 ∷ []; after = more; ended = unlatch refl; whole = e })
+stops_pairs words t (bad v w more ne h e is) = inr (record { high = v; low = w; more = more; no_unlatch = ne; is_bad = h; whole = e })
+
+-- The pairs stop before a bad pair.
+bad_pair : (words : List ℕ) (t : PairsEnd) → IsStop words t → t ≡ stop.BadPair → BeginsBadPair words
+bad_pair words t (over e is) b = absurd cc
+bad_pair words t (one_left w ne e is) b = absurd cc
+bad_pair words t (unlatched more e is) b = absurd cc
+bad_pair words t (bad v w more ne h e is) b = record { high = v; low = w; more = more; no_unlatch = ne; is_bad = h; whole = e }
+
+-- The pairs stop before no bad pair, so the run ends.
+no_bad_pair : (words : List ℕ) (t : PairsEnd) → IsStop words t → t ≢ stop.BadPair → EndsRun words
+no_bad_pair words t (over e is) b = record { end = []; after = []; ended = symbol_end refl refl; whole = e }
+no_bad_pair words t (one_left w ne e is) b = record { end = []; after = w ∷ []; ended = last_word w ne refl refl; whole = e }
+no_bad_pair words t (unlatched more e is) b = record { end = 254 ∷ []; after = more; ended = unlatch refl; whole = e }
+no_bad_pair words t (bad v w more ne h e is) b = absurd (b is)
+
+-- The fault that is found is the one that is there.
+fault_is : (set : CodeSet) (place n values : ℕ) (t : PairsEnd) (k : Rest) (rest words : List ℕ) (f : WordFault) → IsRestOf set rest k → IsStop words t → run_fault place n t values k ≡ Some f → IsRunFault set place values rest n words f
+fault_is set place n values t (left.Meaningless i) rest words f r s e = value i r (stops_pairs words t s) cc
+fault_is set place n values t left.WrongUpperShift rest words f r s e = upper_shift r (stops_pairs words t s) cc
+fault_is set place n values stop.BadPair left.Waiting rest words f r s e = triplet (inr r) (bad_pair words _ s refl) cc
+fault_is set place n values stop.BadPair left.Complete rest words f r s e = triplet (inl r) (bad_pair words _ s refl) cc
+fault_is set place n values stop.SymbolEnd left.Waiting rest words f r s e = unfinished r (no_bad_pair words _ s (λ h. cc)) cc
+fault_is set place n values stop.Unlatch left.Waiting rest words f r s e = unfinished r (no_bad_pair words _ s (λ h. cc)) cc
+fault_is set place n values stop.SymbolEnd left.Complete rest words f r s e = absurd cc
+fault_is set place n values stop.Unlatch left.Complete rest words f r s e = absurd cc
+
+-- What the pairs of a run give is below 40.
+run_values-right : (a b : List ℕ) → AreSmall (a ++ b) → AreSmall b
+run_values-right [] b h = h
+run_values-right (v ∷ a) b h = run_values-right a b h.1
+
+-- Values below 40, joined.
+run_values-append : (a b : List ℕ) → AreSmall a → AreSmall b → AreSmall (a ++ b)
+run_values-append [] b ha hb = hb
+run_values-append (v ∷ a) b ha hb = (ha.0, run_values-append a b ha.1 hb)
+
+-- The values of pairs are below 40.
+pairs_run_values : (ps : List (Piece (List ℕ))) → AllByRecursion (λ p. IsPair p.words p.what) ps → AreSmall (gathered ps)
+pairs_run_values [] h = tt
+pairs_run_values (p ∷ ps) h =
+    let one : AreSmall p.what = rw h.0.values_are (h.0.a_small, (h.0.b_small, (h.0.c_small, tt))) in
+    run_values-append p.what (gathered ps) one (pairs_run_values ps h.1)
+
+-- So many words of a run, and what stands behind them.
+pub record RunTakes (set : CodeSet) (words : List ℕ) (n : ℕ) (items : List Item) : Type 0 where
+  pub right : IsRun set (take n words) (drop n words) items
+  pub some : 0 < n
+  pub within : n ≤ length words
+
+-- What is found behind a latch is right.
+abbrev pub RunJudged : CodeSet → ℕ → List ℕ → Step (List Item) (Option WordFault) → Type 0
+RunJudged set place words (Takes n items) = RunTakes set words n items
+RunJudged set place words (Stops None) = ⊥
+RunJudged set place words (Stops (Some f)) = IsFaultyRun set place words f
+
+-- A list that is a front and a back, cut behind the front.
+pub cut : (words front back : List ℕ) (n : ℕ) → words ≡ front ++ back → n ≡ length front → (take n words ≡ front) × (drop n words ≡ back) × (n ≤ length words)
+cut words front back n e len = rw e (take_at front back n (sym len), drop_at front back n (sym len), omega (arith, len, length-append front back))
+
+module _ (set : CodeSet) (place w : ℕ) (is_latch : codeword_of w ≡ Some (codeword.Latch set)) (words : List ℕ) (pw : Walked (List ℕ) PairsEnd) (p : Walks pair_front PairRight IsBytes 0 words pw)
+    (vw : Walked Item Rest) (v : Walks (spelling_front set) (ItemRight set) Anything 0 (flat pw.taken) vw) where
+  -- The values of the pairs are the values of the spellings and a rest.
+  joined_values : gathered p.pieces ≡ spelled v.pieces ++ v.after
+  joined_values = sym (flat-whats p.pieces) ∙ sym (ap flat p.taken) ∙ v.whole
+
+  -- Each spelling is one.
+  spellings_right : AllByRecursion (λ p. IsSpelling set p.words p.what) v.pieces
+  spellings_right = each_right (IsSpelling set) 0 v.pieces v.after v.joined
+
+  -- Each pair is one.
+  pairs_right : AllByRecursion (λ p. IsPair p.words p.what) p.pieces
+  pairs_right = each_right IsPair 0 p.pieces p.after p.joined
+
+  -- The rest is of the kind that was found.
+  rest_is : IsRestOf set v.after vw.why
+  rest_is = rest_sound set vw.place v.after vw.why (run_values-right (spelled v.pieces) v.after (subst AreSmall joined_values (pairs_run_values p.pieces pairs_right))) v.stopped
+
+  -- The pairs stop as was found.
+  stop_is : IsStop p.after pw.why
+  stop_is = stop_sound pw.place p.after pw.why p.fits p.stopped
+
+  -- A run with this end.
+  run_taken : (end more : List ℕ) (n : ℕ) → p.after ≡ end ++ more → IsRunEnd end more → IsFiller set v.after → n ≡ 1 + length (spelled p.pieces) + length end → RunTakes set (w ∷ words) n vw.taken
+  run_taken end more n e ended filler len =
+      let front : List ℕ = w ∷ (spelled p.pieces ++ end) in
+      let whole : w ∷ words ≡ front ++ more = ap (λ (r : List ℕ). w ∷ r) (p.whole ∙ ap (λ (r : List ℕ). spelled p.pieces ++ r) e ∙ sym (append_assoc (spelled p.pieces) end more)) in
+      let c = cut (w ∷ words) front more n whole (omega (arith, len, length-append (spelled p.pieces) end)) in
+      let values : AreValues set (gathered p.pieces) vw.taken = record { spellings = v.pieces; each = spellings_right; filler = v.after; ended = filler; whole = joined_values; items_are = v.taken } in
+      let run : IsRun set front more vw.taken = record { latch = w; is_latch = is_latch; pairs = p.pieces; each = pairs_right; end = end; ended = ended; whole = refl; values = values } in
+      record { right = rw (c.0, c.1) run; some = omega (arith, len); within = c.2 }
+
+  -- A run, by the end of its pairs.
+  taken_by : (t : PairsEnd) (tw : List ℕ) → p.after ≡ tw → IsStop tw t → t ≢ stop.BadPair → IsFiller set v.after → RunTakes set (w ∷ words) (1 + pw.place + end_length t) vw.taken
+  taken_by t tw e (over h is) good filler = rw is (run_taken [] p.after (1 + pw.place + 0) refl (symbol_end refl (e ∙ h)) filler (omega (arith, p.place_is)))
+  taken_by t tw e (one_left x ne h is) good filler = rw is (run_taken [] p.after (1 + pw.place + 0) refl (last_word x ne refl (e ∙ h)) filler (omega (arith, p.place_is)))
+  taken_by t tw e (unlatched more h is) good filler = rw is (run_taken (254 ∷ []) more (1 + pw.place + 1) (e ∙ h) (unlatch refl) filler (omega (arith, p.place_is)))
+  taken_by t tw e (bad x y more ne b h is) good filler = absurd (good is)
+
+  -- A run or a faulty run, by the fault that was found.
+  judged_by : (f : Option WordFault) → run_fault place pw.place pw.why vw.place vw.why ≡ f → RunJudged set place (w ∷ words) (run_unless f (1 + pw.place + end_length pw.why) vw.taken)
+  judged_by None e = let h = no_fault place pw.place vw.place pw.why vw.why e in taken_by pw.why p.after refl stop_is h.1 (subst (IsRestOf set v.after) h.0 rest_is)
+  judged_by (Some f) e =
+      let a : pw.place ≡ length (spelled p.pieces) = omega (arith, p.place_is) in
+      let b : vw.place ≡ length (spelled v.pieces) = omega (arith, v.place_is) in
+      let same : run_fault place (length (spelled p.pieces)) pw.why (length (spelled v.pieces)) vw.why ≡ Some f = rw (← a, ← b) e in
+      record {
+        latch = w;
+        is_latch = is_latch;
+        pairs = p.pieces;
+        each = pairs_right;
+        others = p.after;
+        whole = ap (λ (r : List ℕ). w ∷ r) p.whole;
+        spellings = v.pieces;
+        each_spelling = spellings_right;
+        rest = v.after;
+        values = joined_values;
+        is_fault = fault_is set place (length (spelled p.pieces)) (length (spelled v.pieces)) pw.why vw.why v.after p.after f rest_is stop_is same;
+      }
+
+-- A run that is found is a run, and a faulty one is faulty.
+pub run_judged : (set : CodeSet) (place w : ℕ) (words : List ℕ) → codeword_of w ≡ Some (codeword.Latch set) → IsBytes words → RunJudged set place (w ∷ words) (run_front set place words)
+unfolding run_front
+run_judged set place w words is_latch fit =
+    judged_by set place w is_latch words (pairs_in words)
+    (walks pair_front PairRight IsBytes stop.SymbolEnd pair_sound (suc (length words)) 0 words (omega arith) fit)
+    (items_in set (flat (pairs_in words).taken))
+    (walks (spelling_front set) (ItemRight set) Anything left.Complete (item_sound set) (suc (length (flat (pairs_in words).taken))) 0 (flat (pairs_in words).taken) (omega arith) tt)
+    (run_fault place (pairs_in words).place (pairs_in words).why (items_in set (flat (pairs_in words).taken)).place (items_in set (flat (pairs_in words).taken)).why) refl
+
+-- ---- what is right is found
+
+-- What is found behind a latch, from the pairs and the spellings that stand there.
+run_again : (set : CodeSet) (place : ℕ) (pairs : List (Piece (List ℕ))) (others : List ℕ) (t : PairsEnd) (spellings : List (Piece Item)) (rest : List ℕ) (kind : Rest)
+    → AllByRecursion (λ p. IsPair p.words p.what) pairs → IsStop others t → AllByRecursion (λ p. IsSpelling set p.words p.what) spellings → IsRestOf set rest kind → gathered pairs ≡ spelled spellings ++ rest
+    → run_front set place (spelled pairs ++ others) ≡ run_unless (run_fault place (length (spelled pairs)) t (length (spelled spellings)) kind) (1 + length (spelled pairs) + end_length t) (whats spellings)
+unfolding run_front
+run_again set place pairs others t spellings rest kind each stop_right each_spelling rest_right whole =
+    let p : pairs_in (spelled pairs ++ others) ≡ record { taken = whats pairs; place = length (spelled pairs); why = t } =
+    walk-joined pair_front PairRight IsBytes stop.SymbolEnd pair_complete (suc (length (spelled pairs ++ others))) 0 pairs others t (joined_right IsPair 0 pairs others each)
+    (stop_complete (0 + length (spelled pairs)) others t stop_right) (omega arith) ∙ ap (λ (k : ℕ). record { taken = whats pairs; place = k; why = t }) (zero-add (length (spelled pairs))) in
+    let v : items_in set (spelled spellings ++ rest) ≡ record { taken = whats spellings; place = length (spelled spellings); why = kind } =
+    walk-joined (spelling_front set) (ItemRight set) Anything left.Complete (item_complete set) (suc (length (spelled spellings ++ rest))) 0 spellings rest kind (joined_right (IsSpelling set) 0 spellings rest each_spelling)
+    (rest_complete set (0 + length (spelled spellings)) rest kind rest_right) (omega arith) ∙ ap (λ (k : ℕ). record { taken = whats spellings; place = k; why = kind }) (zero-add (length (spelled spellings))) in
+    let values : flat (whats pairs) ≡ spelled spellings ++ rest = flat-whats pairs ∙ whole in
+    rw (p, values, v) refl
+
+-- A run and what stands behind it, from its latch on.
+pub record RunFound (set : CodeSet) (place : ℕ) (words : List ℕ) (answer : Step (List Item) (Option WordFault)) : Type 0 where
+  pub latch : ℕ
+  pub others : List ℕ
+  pub whole : words ≡ latch ∷ others
+  pub is_latch : codeword_of latch ≡ Some (codeword.Latch set)
+  pub found : run_front set place others ≡ answer
+
+-- The pairs stop at the end of a run, and not before a bad pair.
+end_found : (end after : List ℕ) → IsRunEnd end after → (t : PairsEnd) × IsStop (end ++ after) t × (end_length t ≡ length end) × (t ≢ stop.BadPair)
+end_found end after (unlatch e) = (stop.Unlatch, rw e (unlatched after refl refl), rw e refl, λ h. cc)
+end_found end after (symbol_end e h) = (stop.SymbolEnd, rw (e, h) (over refl refl), rw e refl, λ h2. cc)
+end_found end after (last_word w ne e h) = (stop.SymbolEnd, rw (e, h) (one_left w ne refl refl), rw e refl, λ h2. cc)
+
+-- A run with no bad pair and nothing but a lone shift left has no fault.
+fault_none : (place n values : ℕ) (t : PairsEnd) → t ≢ stop.BadPair → run_fault place n t values left.Complete ≡ None
+fault_none place n values stop.Unlatch ne = refl
+fault_none place n values stop.SymbolEnd ne = refl
+fault_none place n values stop.BadPair ne = absurd (ne refl)
+
+pub run_complete : (set : CodeSet) (place : ℕ) (words after : List ℕ) (items : List Item) → IsRun set words after items → RunFound set place (words ++ after) (Takes (length words) items) × (0 < length words)
+run_complete set place words after items r =
+    let t = end_found r.end after r.ended in
+    let again = run_again set place r.pairs (r.end ++ after) t.0 r.values.spellings r.values.filler left.Complete r.each t.1 r.values.each r.values.ended r.values.whole in
+    let len : 1 + length (spelled r.pairs) + end_length t.0 ≡ length words = omega (arith, t.2, ap length r.whole, length-append (spelled r.pairs) r.end) in
+    let none_there = fault_none place (length (spelled r.pairs)) (length (spelled r.values.spellings)) t.0 t.3 in (
+      record {
+        latch = r.latch;
+        others = spelled r.pairs ++ (r.end ++ after);
+        whole = ap (λ (x : List ℕ). x ++ after) r.whole ∙ ap (λ (x : List ℕ). r.latch ∷ x) (append_assoc (spelled r.pairs) r.end after);
+        is_latch = r.is_latch;
+        found = again ∙ rw (none_there, len, r.values.items_are) refl;
+      },
+      omega (arith, len),
+    )
+
+-- What a fault of a run tells of the end of its pairs and of the rest of its values.
+record FaultFound (set : CodeSet) (place values : ℕ) (rest : List ℕ) (n : ℕ) (words : List ℕ) (f : WordFault) : Type 0 where
+  end : PairsEnd
+  kind : Rest
+  stops : IsStop words end
+  left_so : IsRestOf set rest kind
+  found : run_fault place n end values kind ≡ Some f
+
+-- How the pairs stop.
+stop_of : (words : List ℕ) → StopsPairs words → (t : PairsEnd) × IsStop words t
+stop_of words (inl e) = let f = end_found e.end e.after e.ended in (f.0, rw e.whole f.1)
+stop_of words (inr b) = (stop.BadPair, bad b.high b.low b.more b.no_unlatch b.is_bad b.whole refl)
+
+-- An Upper Shift that waits is the fault where no bad pair follows.
+fault_unfinished : (place n values : ℕ) (t : PairsEnd) → t ≢ stop.BadPair → run_fault place n t values left.Waiting ≡ Some (fault.Unfinished (pair_place place (values + 1)))
+fault_unfinished place n values stop.Unlatch ne = refl
+fault_unfinished place n values stop.SymbolEnd ne = refl
+fault_unfinished place n values stop.BadPair ne = absurd (ne refl)
+
+-- The fault that is there tells how the pairs stop and what the rest is.
+fault_found : (set : CodeSet) (place values : ℕ) (rest : List ℕ) (n : ℕ) (words : List ℕ) (f : WordFault) → IsRunFault set place values rest n words f → FaultFound set place values rest n words f
+fault_found set place values rest n words f (value index b st is) = let t = stop_of words st in record { end = t.0; kind = left.Meaningless index; stops = t.1; left_so = b; found = ap Some (sym is) }
+fault_found set place values rest n words f (upper_shift b st is) = let t = stop_of words st in record { end = t.0; kind = left.WrongUpperShift; stops = t.1; left_so = b; found = ap Some (sym is) }
+fault_found set place values rest n words f (triplet (inl r) b is) = record { end = stop.BadPair; kind = left.Complete; stops = bad b.high b.low b.more b.no_unlatch b.is_bad b.whole refl; left_so = r; found = ap Some (sym is) }
+fault_found set place values rest n words f (triplet (inr r) b is) = record { end = stop.BadPair; kind = left.Waiting; stops = bad b.high b.low b.more b.no_unlatch b.is_bad b.whole refl; left_so = r; found = ap Some (sym is) }
+fault_found set place values rest n words f (unfinished r e is) =
+    let t = end_found e.end e.after e.ended in
+    record { end = t.0; kind = left.Waiting; stops = rw e.whole t.1; left_so = r; found = fault_unfinished place n values t.0 t.3 ∙ ap Some (sym is) }
+
+-- A faulty run that stands at the front is found.
+pub fault_complete : (set : CodeSet) (place : ℕ) (words : List ℕ) (f : WordFault) → IsFaultyRun set place words f → RunFound set place words (Stops (Some f))
+fault_complete set place words f r =
+    let g = fault_found set place (length (spelled r.spellings)) r.rest (length (spelled r.pairs)) r.others f r.is_fault in
+    record {
+      latch = r.latch;
+      others = spelled r.pairs ++ r.others;
+      whole = r.whole;
+      is_latch = r.is_latch;
+      found = run_again set place r.pairs r.others g.end r.spellings r.rest g.kind r.each g.stops r.each_spelling g.left_so r.values ∙ rw g.found refl;
+    }
+
+-- ---- how many items a run has
+
+-- Two codewords have three values.
+pairs_room : (ps : List (Piece (List ℕ))) → AllByRecursion (λ p. IsPair p.words p.what) ps → 2 * length (gathered ps) ≡ 3 * length (spelled ps)
+pairs_room [] h = refl
+pairs_room (p ∷ ps) h =
+    let one = pair_room p.words p.what h.0 in
+    omega (arith, one, pairs_room ps h.1, length-append p.what (gathered ps), length-append p.words (spelled ps)) where
+      pair_room : (words values : List ℕ) → IsPair words values → 2 * length values ≡ 3 * length words
+      pair_room words values p = rw (p.words_are, p.values_are) refl
+
+-- Each spelling has a value.
+items_room : (set : CodeSet) (ps : List (Piece Item)) → AllByRecursion (λ p. IsSpelling set p.words p.what) ps → length (whats ps) ≤ length (spelled ps)
+items_room set [] h = omega arith
+items_room set (p ∷ ps) h =
+    let one = (item_complete set 0 p.words [] p.what h.0).1 in
+    omega (arith, one, items_room set ps h.1, length-append p.words (spelled ps))
+
+-- A run has at most two items for each word.
+pub run_room : (set : CodeSet) (words after : List ℕ) (items : List Item) → IsRun set words after items → length items ≤ 2 * length words
+run_room set words after items r =
+    omega (
+      arith,
+      ap length r.values.items_are,
+      items_room set r.values.spellings r.values.each,
+      ap length r.values.whole,
+      length-append (spelled r.values.spellings) r.values.filler,
+      pairs_room r.pairs r.each,
+      ap length r.whole,
+      length-append (spelled r.pairs) r.end,
+    )

@@ -1,0 +1,14 @@
+use Rattle.std.proofs.Common.{◌≡◌, ◌-◌, ◌++◌, ◌≤◌, length, drop}
+use Rattle.dm_words.specs.declared.limits.TheConstants.{MOST_DATA}
+use Rattle.dm_words.specs.Ascii.{ascii}
+use Rattle.dm_words.proofs.ascii.ascii_words.Given as goal
+
+abbrev pub invariant-loop-at : goal.invariant-loop-at
+invariant-loop-at l = record {
+  in_range : l.at ≤ length l.items;
+  room : length l.words.items ≤ MOST_DATA;
+  so_far : ascii l.items ≡ l.words.items ++ ascii (drop l.at l.items);
+}
+
+abbrev pub decreases-loop-at : goal.decreases-loop-at
+decreases-loop-at l = length l.items - l.at

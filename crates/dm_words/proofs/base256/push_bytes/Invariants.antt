@@ -1,0 +1,10 @@
+use Rattle.std.proofs.Common.{◌≡◌, ◌+◌, ◌++◌, length, drop, take}
+use Rattle.dm_words.specs.Base256.{byte_items}
+use Rattle.dm_words.specs.Scan.Fronts.{plain}
+use Rattle.dm_words.proofs.base256.push_bytes.Given as goal
+
+abbrev pub invariant-loop-i : goal.invariant-loop-i
+invariant-loop-i l = record {
+  len : length l.message ≡ length l.fn.message + l.i;
+  so_far : l.message ≡ l.fn.message ++ byte_items (take l.i (plain (l.start + 1) (drop l.start l.words)));
+}

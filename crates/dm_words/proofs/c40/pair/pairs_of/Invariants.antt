@@ -1,0 +1,16 @@
+use Rattle.std.proofs.Common.{◌≡◌, ◌-◌, ◌*◌, ◌≤◌, length, All}
+use Rattle.dm_words.specs.Scan.Answers.{IsSmall}
+use Rattle.dm_words.specs.Scan.Fronts.{pairs_in}
+use Rattle.dm_words.proofs.RunLoops.{PairsGoOn}
+use Rattle.dm_words.proofs.c40.pair.pairs_of.Given as goal
+
+abbrev pub invariant-loop-a : goal.invariant-loop-a
+invariant-loop-a l = record {
+  in_range : l.at ≤ length l.words;
+  room : 2 * length l.values.items ≡ 3 * l.at;
+  small : All IsSmall l.values.items;
+  so_far : PairsGoOn l.words (pairs_in l.words) l.values.items l.at;
+}
+
+abbrev pub decreases-loop-a : goal.decreases-loop-a
+decreases-loop-a l = length l.words - l.at

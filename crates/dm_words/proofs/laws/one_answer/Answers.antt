@@ -1,0 +1,5 @@
+use Rattle.dm_words.proofs.LawLemmas.{one_answer}
+use Rattle.dm_words.proofs.laws.one_answer.Goals as goal
+
+pub returns : goal.returns
+returns c = λ words fit. one_answer words fit

@@ -1,0 +1,5 @@
+use Rattle.dm_words.proofs.ItemBytes.{spelled_is_message}
+use Rattle.dm_words.proofs.laws.spelled_is_message.Goals as goal
+
+pub returns : goal.returns
+returns c = λ words m s. spelled_is_message words m s

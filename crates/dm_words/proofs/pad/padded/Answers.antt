@@ -1,0 +1,13 @@
+use Rattle.std.proofs.Common.{arith}
+use Rattle.dm_words.proofs.PadWords.{pads_more}
+use Rattle.dm_words.proofs.pad.padded.Goals as goal
+
+pub loop-place-preserved : goal.loop-place-preserved
+loop-place-preserved c =
+    let v = c.loop-place.invariant in
+    let e = c.push-in-loop-place.ensures in
+    record {
+      start = omega (arith, v.start);
+      len = omega (arith, v.len, e.len);
+      so_far = pads_more c.args.words.now c.loop-place.place c.loop-place.all.items c.push-in-loop-place.new.self.items c.pad.result v.start c.pad.ensures v.so_far e.items;
+    }

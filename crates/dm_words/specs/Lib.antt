@@ -1,0 +1,14 @@
+pub mod Rows
+pub mod Joined
+pub mod Messages
+pub mod Codewords
+pub mod CodeSets
+pub mod Ascii
+pub mod Pads
+pub mod Values
+pub mod Runs
+pub mod Base256
+pub mod Spells
+pub mod Refused
+pub mod Laws
+pub mod Scan

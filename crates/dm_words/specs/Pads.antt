@@ -1,0 +1,20 @@
+-- Pads (ISO/IEC 16022, pad character and its 253-state randomising).
+use Rattle.std.specs.Prelude.{ℕ, zero, suc, ◌+◌, ◌-◌, ◌*◌, ◌%◌, List, [], ◌∷◌, ◌++◌, length, nat_le, if◌then◌else◌}
+
+-- A pad other than the first, at a place, which counts from 1.
+abbrev pub pad_at : ℕ → ℕ
+pad_at place = let n = 129 + ((149 * place) % 253 + 1) in if nat_le n 254 then n else n - 254
+
+-- So many pads from a place on, none of them the first of the symbol.
+abbrev pub further_pads : ℕ → ℕ → List ℕ
+further_pads place zero = []
+further_pads place (suc n) = pad_at place ∷ further_pads (place + 1) n
+
+-- So many pads from a place on. The first of the symbol is 129.
+abbrev pub pads : ℕ → ℕ → List ℕ
+pads place zero = []
+pads place (suc n) = 129 ∷ further_pads (place + 1) n
+
+-- The words, not more than so many, followed by pads up to so many words.
+abbrev pub padded : List ℕ → ℕ → List ℕ
+padded words count = words ++ pads (length words + 1) (count - length words)

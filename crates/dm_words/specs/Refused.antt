@@ -1,0 +1,35 @@
+-- Which data codewords of a symbol are refused, and with which fault. The words are all data codewords of the symbol, so their end is
+-- its end, and each is 0 to 255.
+use Rattle.std.specs.Prelude.{◌≡◌, ◌≢◌, ℕ, ◌+◌, List, [], ◌∷◌, ◌++◌, length, Some, None}
+use Rattle.dm_words.specs.declared.item.Item.{Item}
+use Rattle.dm_words.specs.declared.fault.WordFault.{WordFault}
+use Rattle.dm_words.specs.declared.fault.WordFault.TheVariants as fault
+use Rattle.dm_words.specs.declared.codeword.Codeword.TheVariants as codeword
+use Rattle.dm_words.specs.declared.c40.set.CodeSet.{CodeSet}
+use Rattle.dm_words.specs.Codewords.{codeword_of}
+use Rattle.dm_words.specs.Joined.{Piece, spelled, AreJoined}
+use Rattle.dm_words.specs.Runs.{IsFaultyRun}
+use Rattle.dm_words.specs.Base256.{IsFaultySegment}
+use Rattle.dm_words.specs.Spells.{IsPart}
+
+-- What is wrong at a place, with the words from there on.
+pub data IsFault (place : ℕ) (words : List ℕ) (why : WordFault) : Type 0 where
+  -- a codeword that is not used
+  reserved : (w : ℕ) (more : List ℕ) → codeword_of w ≡ None → words ≡ w ∷ more → why ≡ fault.Reserved place → IsFault place words why
+  -- a codeword that begins what is left out
+  left_out : (w : ℕ) (more : List ℕ) → codeword_of w ≡ Some codeword.LeftOut → words ≡ w ∷ more → why ≡ fault.LeftOut w place → IsFault place words why
+  -- an Upper Shift as the last word
+  unfinished : (w : ℕ) → codeword_of w ≡ Some codeword.UpperShift → words ≡ w ∷ [] → why ≡ fault.Unfinished place → IsFault place words why
+  -- an Upper Shift before a word that is no character
+  upper_shift : (s w : ℕ) (more : List ℕ) → codeword_of s ≡ Some codeword.UpperShift → ((b : ℕ) → codeword_of w ≢ Some (codeword.Character b))
+      → words ≡ s ∷ w ∷ more → why ≡ fault.UpperShift place → IsFault place words why
+  faulty_run : (set : CodeSet) → IsFaultyRun set place words why → IsFault place words why
+  faulty_segment : IsFaultySegment place words → why ≡ fault.Length place → IsFault place words why
+
+-- The words are parts, joined, and then something that is wrong, with this fault.
+pub record Refused (words : List ℕ) (why : WordFault) : Type 0 where
+  pub parts : List (Piece (List Item))
+  pub after : List ℕ
+  pub joined : AreJoined IsPart 1 parts after
+  pub whole : words ≡ spelled parts ++ after
+  pub faulty : IsFault (1 + length (spelled parts)) after why

@@ -1,0 +1,51 @@
+-- What the private functions that look at the front of a list answer.
+use Rattle.std.specs.Prelude.{◌≡◌, ℕ, ◌+◌, ◌<◌, ◌≤◌, length, drop, List, [], ◌∷◌, ◌++◌, Option, Some, None, Result, Ok, Err}
+use Rattle.dm_words.specs.declared.item.Item.{Item}
+use Rattle.dm_words.specs.declared.fault.WordFault.{WordFault}
+use Rattle.dm_words.specs.declared.ascii.Unit.{Unit}
+use Rattle.dm_words.specs.declared.ascii.Unit.TheVariants as unit
+use Rattle.dm_words.specs.declared.c40.pair.Pair.{Pair}
+use Rattle.dm_words.specs.declared.c40.pair.Pair.TheVariants as pair
+use Rattle.dm_words.specs.declared.c40.pair.PairsEnd.{PairsEnd}
+use Rattle.dm_words.specs.declared.c40.value.Spelling.{Spelling}
+use Rattle.dm_words.specs.declared.c40.value.Spelling.TheVariants as item
+use Rattle.dm_words.specs.declared.c40.value.Rest.{Rest}
+use Rattle.dm_words.specs.Ascii.{single, ascii}
+use Rattle.dm_words.specs.Scan.Walk.{Step, Takes, Stops}
+
+-- The part of so many words was taken and its items stand behind the old ones; or there was the end; or a fault.
+abbrev pub Took : Result (Option ℕ) WordFault → List Item → List Item → Step (List Item) (Option WordFault) → Type 0
+Took (Ok None) old new step = (step ≡ Stops None) × (new ≡ old)
+Took (Ok (Some n)) old new step = (items : List Item) × (step ≡ Takes n items) × (new ≡ old ++ items)
+Took (Err f) old new step = step ≡ Stops (Some f)
+
+-- The same where the end cannot come.
+abbrev pub TookSome : Result ℕ WordFault → List Item → List Item → Step (List Item) (Option WordFault) → Type 0
+TookSome (Ok n) old new step = (items : List Item) × (step ≡ Takes n items) × (new ≡ old ++ items)
+TookSome (Err f) old new step = step ≡ Stops (Some f)
+
+-- A value of a run.
+abbrev pub IsSmall : ℕ → Type 0
+IsSmall v = v < 40
+
+-- The pair is the one at the front.
+abbrev pub GivesPair : Pair → Step (List ℕ) PairsEnd → Type 0
+GivesPair (pair.Values a b c) step = (step ≡ Takes 2 (a ∷ b ∷ c ∷ [])) × (a < 40) × (b < 40) × (c < 40)
+GivesPair (pair.Stops end) step = step ≡ Stops end
+
+-- The spelling is the one at the front.
+abbrev pub GivesItem : Spelling → Step Item Rest → Type 0
+GivesItem (item.Takes n i) step = step ≡ Takes n i
+GivesItem (item.Stops rest) step = step ≡ Stops rest
+
+-- The unit is that of a byte alone.
+abbrev pub IsSingle : Unit → ℕ → Type 0
+IsSingle (unit.One w) b = single b ≡ w ∷ []
+IsSingle (unit.Digits w) b = ⊥
+IsSingle (unit.Raised w) b = single b ≡ 235 ∷ w ∷ []
+
+-- The ASCII codewords of the items from an index on begin with the unit.
+abbrev pub BeginsAscii : Unit → List Item → ℕ → Type 0
+BeginsAscii (unit.One w) items at = ascii (drop at items) ≡ w ∷ ascii (drop (at + 1) items)
+BeginsAscii (unit.Digits w) items at = (ascii (drop at items) ≡ w ∷ ascii (drop (at + 2) items)) × (at + 2 ≤ length items)
+BeginsAscii (unit.Raised w) items at = ascii (drop at items) ≡ 235 ∷ w ∷ ascii (drop (at + 1) items)

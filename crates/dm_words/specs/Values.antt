@@ -1,0 +1,79 @@
+-- The values of a run of C40, Text or X12, and the items that they spell.
+use Rattle.std.specs.Prelude.{◌≡◌, ℕ, ◌+◌, List, [], ◌∷◌, ◌++◌, Option, Some, None, ◌⊎◌}
+use Rattle.std.specs.List.{AllByRecursion}
+use Rattle.dm_words.specs.declared.item.Item.{Item}
+use Rattle.dm_words.specs.declared.item.Item.TheVariants.{Byte, Fnc1}
+use Rattle.dm_words.specs.declared.c40.set.CodeSet.{CodeSet}
+use Rattle.dm_words.specs.declared.c40.set.Shift.{Shift}
+use Rattle.dm_words.specs.declared.c40.set.Basic.TheVariants as basic
+use Rattle.dm_words.specs.declared.c40.set.Shifted.{Shifted}
+use Rattle.dm_words.specs.declared.c40.set.Shifted.TheVariants as shifted
+use Rattle.dm_words.specs.CodeSets.{basic_of, shifted_of}
+use Rattle.dm_words.specs.Joined.{Piece, spelled, whats}
+
+-- A shift and a value, which together mean this; `None` is nothing.
+pub record IsShifted (set : CodeSet) (values : List ℕ) (meaning : Option Shifted) : Type 0 where
+  pub first : ℕ
+  pub second : ℕ
+  pub shift : Shift
+  pub is_shift : basic_of set first ≡ Some (basic.Shift shift)
+  pub means : shifted_of set shift second ≡ meaning
+  pub whole : values ≡ first ∷ second ∷ []
+
+-- The Upper Shift: Shift 2 and 30.
+abbrev pub IsUpperShift : CodeSet → List ℕ → Type 0
+IsUpperShift set values = IsShifted set values (Some shifted.UpperShift)
+
+-- A basic value, or a shift and a value, that gives a byte.
+pub data IsCharacter (set : CodeSet) (values : List ℕ) (byte : ℕ) : Type 0 where
+  plain : (v : ℕ) → basic_of set v ≡ Some (basic.Character byte) → values ≡ v ∷ [] → IsCharacter set values byte
+  by_shift : IsShifted set values (Some (shifted.Character byte)) → IsCharacter set values byte
+
+-- The spelling of an item: a character; Shift 2 and 27, which is FNC1; or an Upper Shift and a character, whose byte it raises by 128.
+pub data IsSpelling (set : CodeSet) (values : List ℕ) (item : Item) : Type 0 where
+  character : (b : ℕ) → IsCharacter set values b → item ≡ Byte b → IsSpelling set values item
+  fnc1 : IsShifted set values (Some shifted.Fnc1) → item ≡ Fnc1 → IsSpelling set values item
+  raised : (upper more : List ℕ) (b : ℕ) → IsUpperShift set upper → IsCharacter set more b → values ≡ upper ++ more → item ≡ Byte (b + 128) → IsSpelling set values item
+
+-- At most one lone shift, which means nothing.
+pub data IsFiller (set : CodeSet) (values : List ℕ) : Type 0 where
+  nothing : values ≡ [] → IsFiller set values
+  lone_shift : (v : ℕ) (shift : Shift) → basic_of set v ≡ Some (basic.Shift shift) → values ≡ v ∷ [] → IsFiller set values
+
+-- The values are spellings of these items, joined, and then at most one lone shift.
+pub record AreValues (set : CodeSet) (values : List ℕ) (items : List Item) : Type 0 where
+  pub spellings : List (Piece Item)
+  pub each : AllByRecursion (λ p. IsSpelling set p.words p.what) spellings
+  pub filler : List ℕ
+  pub ended : IsFiller set filler
+  pub whole : values ≡ spelled spellings ++ filler
+  pub items_are : items ≡ whats spellings
+
+-- An Upper Shift that waits for its character, alone or before one lone shift.
+pub record IsWaiting (set : CodeSet) (values : List ℕ) : Type 0 where
+  pub upper : List ℕ
+  pub filler : List ℕ
+  pub is_upper : IsUpperShift set upper
+  pub ended : IsFiller set filler
+  pub whole : values ≡ upper ++ filler
+
+-- The values begin with a shift and a value without meaning, an Upper Shift before them or not; that value stands at this index.
+pub data BeginsWithoutMeaning (set : CodeSet) (values : List ℕ) (index : ℕ) : Type 0 where
+  at_once : (two more : List ℕ) → IsShifted set two None → values ≡ two ++ more → index ≡ 1 → BeginsWithoutMeaning set values index
+  after_upper_shift : (upper two more : List ℕ) → IsUpperShift set upper → IsShifted set two None → values ≡ upper ++ (two ++ more) → index ≡ 3 → BeginsWithoutMeaning set values index
+
+-- The values begin with an Upper Shift and then FNC1 or an Upper Shift.
+pub record BeginsWrongUpperShift (set : CodeSet) (values : List ℕ) : Type 0 where
+  pub upper : List ℕ
+  pub two : List ℕ
+  pub more : List ℕ
+  pub is_upper : IsUpperShift set upper
+  pub is_wrong : IsShifted set two (Some shifted.Fnc1) ⊎ IsUpperShift set two
+  pub whole : values ≡ upper ++ (two ++ more)
+
+-- What can stand behind the last whole spelling. Values of a run are 0 to 39.
+pub data IsRest (set : CodeSet) (values : List ℕ) : Type 0 where
+  complete : IsFiller set values → IsRest set values
+  waiting : IsWaiting set values → IsRest set values
+  meaningless : (index : ℕ) → BeginsWithoutMeaning set values index → IsRest set values
+  wrong_upper_shift : BeginsWrongUpperShift set values → IsRest set values

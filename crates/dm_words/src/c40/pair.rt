@@ -1,0 +1,87 @@
+//! The pairs of a run: two codewords for three values.
+
+ghost use Rattle.std.specs.Prelude.{◌≡◌, ◌≤◌, ◌*◌, length, drop, All};
+ghost use Rattle.dm_words.specs.Scan.Walk.{flat};
+ghost use Rattle.dm_words.specs.Scan.Fronts.{pair_front, pairs_in};
+ghost use Rattle.dm_words.specs.Scan.Answers.{GivesPair, IsSmall};
+
+use crate::limits::{MOST_DATA, MOST_VALUES};
+use arrayvec::ArrayVec;
+
+const UNLATCH: u8 = 254;
+
+/// Why no pair stands at the front: the unlatch stands there, no two codewords are left, or its number is 0 or more than 64000.
+#[derive(Clone, Copy)]
+pub enum PairsEnd {
+    Unlatch,
+    SymbolEnd,
+    BadPair,
+}
+
+/// The three values of a pair, or why there is none.
+#[derive(Clone, Copy)]
+pub enum Pair {
+    Values(u8, u8, u8),
+    Stops(PairsEnd),
+}
+
+/// The pair at an index.
+fn pair_at(words: &[u8], at: usize) -> Pair
+    requires { at ≤ length words.now }
+    ensures { GivesPair result (pair_front at (drop at words.now)) }
+{
+    let Some(high) = words.get(at) else {
+        return Pair::Stops(PairsEnd::SymbolEnd);
+    };
+    if *high == UNLATCH {
+        return Pair::Stops(PairsEnd::Unlatch);
+    }
+    let Some(low) = words.get(at + 1) else {
+        return Pair::Stops(PairsEnd::SymbolEnd);
+    };
+    let number = *high as u16 * 256 + *low as u16;
+    if number == 0 || number > 64000 {
+        return Pair::Stops(PairsEnd::BadPair);
+    }
+    let n = number - 1;
+    Pair::Values((n / 1600) as u8, (n / 40 % 40) as u8, (n % 40) as u8)
+}
+
+/// The values of all pairs of a run, the number of their codewords, and why no further pair follows.
+#[derive(Drop)]
+pub struct Pairs {
+    pub values: ArrayVec<u8, MOST_VALUES>,
+    pub count: usize,
+    pub end: PairsEnd,
+}
+
+/// The pairs at the front of the words.
+pub fn pairs_of(words: &[u8]) -> Pairs
+    requires { length words.now ≤ MOST_DATA }
+    ensures values { result.values.items ≡ flat (pairs_in words.now).taken }
+    ensures count { result.count ≡ (pairs_in words.now).place }
+    ensures end { result.end ≡ (pairs_in words.now).why }
+    ensures small { All IsSmall result.values.items }
+    ensures within { result.count ≤ length words.now }
+    ensures three_of_two { 2 * length result.values.items ≡ 3 * result.count }
+{
+    let mut values = ArrayVec::new();
+    let mut at = 0;
+    loop {
+        match pair_at(words, at) {
+            Pair::Values(a, b, c) => {
+                values.push(a);
+                values.push(b);
+                values.push(c);
+                at += 2;
+            }
+            Pair::Stops(end) => {
+                return Pairs {
+                    values,
+                    count: at,
+                    end,
+                };
+            }
+        }
+    }
+}

@@ -1,0 +1,64 @@
+//! Runs: a latch, pairs and an end.
+
+ghost use Rattle.std.specs.Prelude.{◌≡◌, ◌+◌, ◌*◌, ◌/◌, ◌^◌, ◌≤◌, ◌<◌, length, drop};
+ghost use Rattle.dm_words.specs.Runs.{pair_place as pair_place_of};
+ghost use Rattle.dm_words.specs.Scan.Fronts.{run_fault, run_front};
+ghost use Rattle.dm_words.specs.Scan.Answers.{TookSome};
+
+use crate::c40::pair::{PairsEnd, pairs_of};
+use crate::c40::set::CodeSet;
+use crate::c40::value::{Rest, Spelled, read_values};
+use crate::fault::WordFault;
+use crate::limits::{MOST_DATA, MOST_VALUES};
+use crate::message::Message;
+
+/// The place of the pair that holds the value of an index, in a run whose latch stands at a place.
+fn pair_place(place: u16, index: u16) -> u16
+    requires { place + 1 + 2 * (index / 3) < 2 ^ 16 }
+    ensures { result ≡ pair_place_of place index }
+{
+    place + 1 + 2 * (index / 3)
+}
+
+/// What is wrong with the run whose latch stands at a place, if anything is: the first value that offends; where none does, a bad
+/// pair; where there is none, an Upper Shift that waits. The pairs have so many codewords.
+fn fault_of(place: u16, pair_words: usize, end: PairsEnd, spelled: Spelled) -> Option<WordFault>
+    requires place { place ≤ MOST_DATA }
+    requires pair_words { pair_words ≤ MOST_DATA }
+    requires values { spelled.count ≤ MOST_VALUES }
+    ensures { result ≡ run_fault place pair_words end spelled.count spelled.rest }
+{
+    let count = spelled.count as u16;
+    match (spelled.rest, end) {
+        (Rest::Meaningless(behind), _) => {
+            Some(WordFault::Value(pair_place(place, count + behind as u16)))
+        }
+        (Rest::WrongUpperShift, _) => Some(WordFault::UpperShift(pair_place(place, count + 1))),
+        (_, PairsEnd::BadPair) => Some(WordFault::Triplet(place + 1 + pair_words as u16)),
+        (Rest::Waiting, _) => Some(WordFault::Unfinished(pair_place(place, count + 1))),
+        (Rest::Complete, _) => None,
+    }
+}
+
+/// Takes the run whose latch stands at an index: adds its items to the message, and gives the number of its codewords.
+pub fn run_part(
+    set: CodeSet,
+    words: &[u8],
+    at: usize,
+    message: &mut Message,
+) -> Result<usize, WordFault>
+    requires in_range { at < length words.now }
+    requires short { length words.now ≤ MOST_DATA }
+    requires room { length message.old ≤ 2 * at }
+    ensures { TookSome result message.old message.new (run_front set (at + 1) (drop (at + 1) words.now)) }
+{
+    let pairs = pairs_of(&words[at + 1..]);
+    let spelled = read_values(set, pairs.values.as_slice(), message);
+    if let Some(fault) = fault_of(at as u16 + 1, pairs.count, pairs.end, spelled) {
+        return Err(fault);
+    }
+    match pairs.end {
+        PairsEnd::Unlatch => Ok(1 + pairs.count + 1),
+        _ => Ok(1 + pairs.count),
+    }
+}

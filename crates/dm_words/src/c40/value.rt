@@ -1,0 +1,105 @@
+//! The values of a run, and the items that they spell.
+
+ghost use Rattle.std.specs.Prelude.{◌≡◌, ◌+◌, ◌≤◌, ◌++◌, length, drop, All};
+ghost use Rattle.dm_words.specs.Scan.Fronts.{spelling_front, raised_front, items_in};
+ghost use Rattle.dm_words.specs.Scan.Answers.{GivesItem, IsSmall};
+
+use crate::c40::set::{Basic, CodeSet, Shifted, basic_meaning, shifted_meaning};
+use crate::item::Item;
+use crate::limits::MOST_ITEMS;
+use crate::message::Message;
+
+/// What stands behind the last whole spelling.
+#[derive(Clone, Copy)]
+pub enum Rest {
+    /// Nothing, or one lone shift, which is dropped.
+    Complete,
+    /// An Upper Shift whose character doesn't come, alone or before one lone shift.
+    Waiting,
+    /// An Upper Shift before FNC1 or another Upper Shift.
+    WrongUpperShift,
+    /// A shift before a value without meaning, with or without an Upper Shift. The value stands so many values on.
+    Meaningless(u8),
+}
+
+/// The item at the front and the number of its values, or what stands there instead.
+#[derive(Clone, Copy)]
+pub enum Spelling {
+    Takes(usize, Item),
+    Stops(Rest),
+}
+
+/// The spelling at an index.
+fn spelling_at(set: CodeSet, values: &[u8], at: usize) -> Spelling
+    requires in_range { at ≤ length values.now }
+    requires small { All IsSmall values.now }
+    ensures { GivesItem result (spelling_front set at (drop at values.now)) }
+{
+    let Some(first) = values.get(at) else {
+        return Spelling::Stops(Rest::Complete);
+    };
+    let shift = match basic_meaning(set, *first) {
+        Basic::Character(byte) => return Spelling::Takes(1, Item::Byte(byte)),
+        Basic::Shift(shift) => shift,
+    };
+    let Some(second) = values.get(at + 1) else {
+        return Spelling::Stops(Rest::Complete);
+    };
+    match shifted_meaning(set, shift, *second) {
+        Some(Shifted::Character(byte)) => Spelling::Takes(2, Item::Byte(byte)),
+        Some(Shifted::Fnc1) => Spelling::Takes(2, Item::Fnc1),
+        Some(Shifted::UpperShift) => raised_at(set, values, at + 2),
+        None => Spelling::Stops(Rest::Meaningless(1)),
+    }
+}
+
+/// The spelling whose Upper Shift ends before an index.
+fn raised_at(set: CodeSet, values: &[u8], at: usize) -> Spelling
+    requires in_range { at ≤ length values.now }
+    requires small { All IsSmall values.now }
+    ensures { GivesItem result (raised_front set (drop at values.now)) }
+{
+    let Some(third) = values.get(at) else {
+        return Spelling::Stops(Rest::Waiting);
+    };
+    let shift = match basic_meaning(set, *third) {
+        Basic::Character(byte) => return Spelling::Takes(3, Item::Byte(byte + 128)),
+        Basic::Shift(shift) => shift,
+    };
+    let Some(fourth) = values.get(at + 1) else {
+        return Spelling::Stops(Rest::Waiting);
+    };
+    match shifted_meaning(set, shift, *fourth) {
+        Some(Shifted::Character(byte)) => Spelling::Takes(4, Item::Byte(byte + 128)),
+        Some(Shifted::Fnc1 | Shifted::UpperShift) => Spelling::Stops(Rest::WrongUpperShift),
+        None => Spelling::Stops(Rest::Meaningless(3)),
+    }
+}
+
+/// How many values are in whole spellings, and what stands behind them.
+#[derive(Clone, Copy)]
+pub struct Spelled {
+    pub count: usize,
+    pub rest: Rest,
+}
+
+/// Adds the items that the values spell to the message, up to the first rest.
+pub fn read_values(set: CodeSet, values: &[u8], message: &mut Message) -> Spelled
+    requires small { All IsSmall values.now }
+    requires room { length message.old + length values.now ≤ MOST_ITEMS }
+    ensures items { message.new ≡ message.old ++ (items_in set values.now).taken }
+    ensures count { result.count ≡ (items_in set values.now).place }
+    ensures rest { result.rest ≡ (items_in set values.now).why }
+    ensures within { result.count ≤ length values.now }
+{
+    let mut at = 0;
+    loop {
+        match spelling_at(set, values, at) {
+            Spelling::Takes(count, item) => {
+                message.add(item);
+                at += count;
+            }
+            Spelling::Stops(rest) => return Spelled { count: at, rest },
+        }
+    }
+}

@@ -1,0 +1,27 @@
+//! Why codewords spell no message, and why a message has no ASCII codewords.
+
+/// Why a list of data codewords spells no message. A place counts the data codewords of the symbol from 1.
+#[derive(Clone, Copy, Debug, PartialEq, Eq)]
+pub enum WordFault {
+    /// A codeword at this place that ASCII encodation does not use: 0 or 242 to 255.
+    Reserved(u16),
+    /// This codeword, at this place, begins what is left out here: structured append (233), reader programming (234), macro 05
+    /// (236), macro 06 (237), EDIFACT (240) or ECI (241).
+    LeftOut(u8, u16),
+    /// An Upper Shift that is followed by something other than its character. The place is that of the codeword 235, or in a
+    /// run that of the pair that holds the value 30 of the first Upper Shift.
+    UpperShift(u16),
+    /// A pair of a run whose number is 0 or more than 64000; the place is that of its first codeword.
+    Triplet(u16),
+    /// A shift that is followed by a value without meaning in its set; the place is that of the pair that holds this value.
+    Value(u16),
+    /// A Base 256 length that is missing, that has no right second number, or that passes the end of the symbol; the place is
+    /// that of the latch 231.
+    Length(u16),
+    /// An Upper Shift whose character does not come. The place is as for `UpperShift`.
+    Unfinished(u16),
+}
+
+/// The ASCII codewords of the message are more than `MOST_CODEWORDS`.
+#[derive(Clone, Copy, Debug, PartialEq, Eq)]
+pub struct TooLong;

@@ -1,0 +1,52 @@
+//! Laws about the definitions alone. No function here has a body or makes a call.
+
+ghost use Rattle.std.specs.Prelude.{◌≡◌, ℕ, ◌≤◌, ◌↔◌, List, length};
+ghost use Rattle.dm_words.specs.declared.item.Item.{Item};
+ghost use Rattle.dm_words.specs.declared.c40.set.CodeSet.{CodeSet};
+ghost use Rattle.dm_words.specs.declared.c40.set.Shift.{Shift};
+ghost use Rattle.dm_words.specs.Messages.{IsMessage};
+ghost use Rattle.dm_words.specs.Rows.{IsTable};
+ghost use Rattle.dm_words.specs.Codewords.{codeword_rows};
+ghost use Rattle.dm_words.specs.CodeSets.{basic_rows, shifted_rows};
+ghost use Rattle.dm_words.specs.Ascii.{ascii, IsAscii};
+ghost use Rattle.dm_words.specs.Pads.{padded};
+ghost use Rattle.dm_words.specs.Values.{IsRest};
+ghost use Rattle.dm_words.specs.Spells.{Spells};
+ghost use Rattle.dm_words.specs.Laws.{HasOneAnswer, AreCodewords, AreRunValues, BeginsNoSpelling};
+
+/// A list of codewords, however long, spells exactly one message and is refused with no fault, or is refused with exactly one
+/// fault and spells none.
+pub fn one_answer()
+    ensures { (words : List ℕ) → AreCodewords words → HasOneAnswer words }
+{}
+
+/// What codewords spell is a message: its bytes are 0 to 255.
+pub fn spelled_is_message()
+    ensures { (words : List ℕ) (m : List Item) → Spells words m → IsMessage m }
+{}
+
+/// The ASCII form of a message, with pads up to any number of codewords that holds it, is so many codewords, and they spell the
+/// message.
+pub fn ascii_spells()
+    ensures message { (m : List Item) (count : ℕ) → IsMessage m → length (ascii m) ≤ count → Spells (padded (ascii m) count) m }
+    ensures count { (m : List Item) (count : ℕ) → length (ascii m) ≤ count → length (padded (ascii m) count) ≡ count }
+    ensures codewords { (m : List Item) (count : ℕ) → IsMessage m → AreCodewords (padded (ascii m) count) }
+{}
+
+/// The ASCII form by the front of the message is the one joining of units in which no unit that is one digit stands before a unit
+/// that begins with a digit.
+pub fn ascii_is_greedy()
+    ensures { (m : List Item) (words : List ℕ) → IsMessage m → IsAscii m words ↔ (words ≡ ascii m) }
+{}
+
+/// What can stand behind the last whole spelling of a run is exactly what has no whole spelling at its front.
+pub fn rest_has_no_spelling()
+    ensures { (set : CodeSet) (values : List ℕ) → AreRunValues values → IsRest set values ↔ BeginsNoSpelling set values }
+{}
+
+/// In the tables each row has as many codewords or values as bytes or numbers, and none stands in two rows.
+pub fn tables_are_sound()
+    ensures codewords { IsTable codeword_rows }
+    ensures basic { (set : CodeSet) → IsTable (basic_rows set) }
+    ensures shifted { (set : CodeSet) (shift : Shift) → IsTable (shifted_rows set shift) }
+{}

@@ -1,0 +1,25 @@
+//! Data codewords and messages of Data Matrix ECC 200 (ISO/IEC 16022): which message a list of data codewords spells, in the
+//! encodations ASCII, C40, Text, X12 and Base 256, why other lists are refused, and the ASCII codewords of a message.
+#![tactic(auto)]
+
+mod ascii;
+mod base256;
+mod c40;
+mod codeword;
+mod fault;
+mod item;
+pub mod laws;
+mod limits;
+mod message;
+mod pad;
+mod reading;
+#[cfg(test)]
+mod tests;
+
+pub use ascii::ascii_words;
+pub use fault::{TooLong, WordFault};
+pub use item::Item;
+pub use limits::{MOST_DATA, MOST_ITEMS};
+pub use message::Message;
+pub use pad::padded;
+pub use reading::message_of;

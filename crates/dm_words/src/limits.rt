@@ -1,0 +1,10 @@
+//! How much a symbol holds. A larger table of sizes changes these three lines.
+
+/// The most data codewords of a symbol.
+pub const MOST_DATA: usize = 204;
+
+/// The most items of a message: two for each data codeword.
+pub const MOST_ITEMS: usize = 408;
+
+/// The most values of a run: three for each two codewords.
+pub const MOST_VALUES: usize = 306;

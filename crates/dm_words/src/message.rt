@@ -1,0 +1,71 @@
+//! Messages.
+
+ghost use Rattle.std.specs.Prelude.{◌≡◌, ◌<◌, ◌≤◌, ◌++◌, ◌∷◌, [], length, OnOk, OnErr, IfErr, IsOk, ◌↔◌};
+ghost use Rattle.dm_words.specs.Messages.{IsMessage};
+
+use crate::item::Item;
+use crate::limits::MOST_ITEMS;
+use arrayvec::ArrayVec;
+use std::marker::Model;
+
+/// A list of at most `MOST_ITEMS` items. The empty message is a message. In contracts it is the list of its items.
+#[derive(Clone, Debug, Default, Drop, PartialEq, Eq)]
+pub struct Message {
+    list: ArrayVec<Item, MOST_ITEMS>,
+}
+
+impl Model for Message {
+    ghost use Rattle.std.specs.Prelude.{List};
+    ghost use Rattle.dm_words.specs.declared.item.Item.{Item};
+    ghost use Rattle.dm_words.specs.Messages.{IsMessage};
+
+    ghost Value = { List Item };
+
+    ghost view = { λ m. m.list.items };
+
+    ghost invariant = { λ m. IsMessage m.list.items };
+
+    ghost inverse = { λ items. record { list = record { items = items } } };
+}
+
+impl Message {
+    /// The empty message.
+    pub fn new() -> Self
+        ensures { result ≡ [] }
+    {
+        Message {
+            list: ArrayVec::new(),
+        }
+    }
+
+    /// Adds an item at the end. Gives the item back exactly where `MOST_ITEMS` are there, and then changes nothing.
+    pub fn push(&mut self, item: Item) -> Result<(), Item>
+        ensures room { IsOk result ↔ (length self.old < MOST_ITEMS) }
+        ensures added { OnOk result (self.new ≡ self.old ++ item ∷ []) }
+        ensures unchanged { OnErr result (self.new ≡ self.old) }
+        ensures given_back { IfErr result (λ i. i ≡ item) }
+    {
+        if self.list.is_full() {
+            return Err(item);
+        }
+        self.list.push(item);
+        Ok(())
+    }
+
+    /// Adds an item at the end, where there is room.
+    pub(crate) fn add(&mut self, item: Item)
+        requires { length self.old < MOST_ITEMS }
+        ensures { self.new ≡ self.old ++ item ∷ [] }
+    {
+        self.list.push(item);
+    }
+
+    /// The items, in order: at most `MOST_ITEMS`, with bytes of 0 to 255.
+    pub fn items(&self) -> &[Item]
+        ensures value { result.now ≡ self.now }
+        ensures most { length self.now ≤ MOST_ITEMS }
+        ensures bytes { IsMessage self.now }
+    {
+        self.list.as_slice()
+    }
+}

@@ -1,0 +1,44 @@
+//! Pads (ISO/IEC 16022, pad character).
+
+ghost use Rattle.std.specs.Prelude.{◌≡◌, ◌≤◌, length};
+ghost use Rattle.dm_words.specs.Pads.{padded as padded_words, pad_at};
+
+use crate::limits::MOST_DATA;
+use arrayvec::ArrayVec;
+use dm_layout::Size;
+
+const FIRST_PAD: u8 = 129;
+
+/// The pad at a place, which isn't the first pad of the symbol.
+fn pad(place: u16) -> u8
+    requires { place ≤ MOST_DATA }
+    ensures { result ≡ pad_at place }
+{
+    let number = 129 + (149 * place as u32) % 253 + 1;
+    if number <= 254 {
+        number as u8
+    } else {
+        (number - 254) as u8
+    }
+}
+
+/// The words, followed by pads up to the data codewords of the size: the first pad is 129, each further one is randomised by its
+/// place. The words are those of a message, at most as many as the size has data codewords.
+pub fn padded(words: &[u8], size: Size) -> ArrayVec<u8, MOST_DATA>
+    requires { length words.now ≤ size.data_count }
+    ensures words { result.items ≡ padded_words words.now size.data_count }
+    ensures count { length result.items ≡ size.data_count }
+{
+    let count = size.data_count() as usize;
+    let mut all = ArrayVec::new();
+    for word in words {
+        all.push(*word);
+    }
+    if words.len() < count {
+        all.push(FIRST_PAD);
+        for place in words.len() + 2..count + 1 {
+            all.push(pad(place as u16));
+        }
+    }
+    all
+}

@@ -1,0 +1,100 @@
+//! Reading: the message that data codewords spell, or the fault with which they are refused.
+
+ghost use Rattle.std.specs.Prelude.{◌≡◌, ◌+◌, ◌≤◌, ◌<◌, ◌*◌, ◌↔◌, List, length, drop, Ok, Err, IfOk};
+ghost use Rattle.dm_words.specs.declared.item.Item.{Item};
+ghost use Rattle.dm_words.specs.declared.fault.WordFault.{WordFault};
+ghost use Rattle.dm_words.specs.Messages.{IsMessage};
+ghost use Rattle.dm_words.specs.Spells.{Spells};
+ghost use Rattle.dm_words.specs.Refused.{Refused};
+ghost use Rattle.dm_words.specs.Scan.Fronts.{reading, part_front, raised_unit};
+ghost use Rattle.dm_words.specs.Scan.Answers.{Took, TookSome};
+
+use crate::base256::segment_part;
+use crate::c40::run::run_part;
+use crate::codeword::{Codeword, meaning};
+use crate::fault::WordFault;
+use crate::item::Item;
+use crate::limits::MOST_DATA;
+use crate::message::Message;
+
+/// Takes the part at an index: adds its items to the message, and gives the number of its codewords; `None` at the end.
+fn next_part(words: &[u8], at: usize, message: &mut Message) -> Result<Option<usize>, WordFault>
+    requires in_range { at ≤ length words.now }
+    requires short { length words.now ≤ MOST_DATA }
+    requires room { length message.old ≤ 2 * at }
+    ensures { Took result message.old message.new (part_front (at + 1) (drop at words.now)) }
+{
+    let place = at as u16 + 1;
+    let Some(first) = words.get(at) else {
+        return Ok(None);
+    };
+    match meaning(*first) {
+        Some(Codeword::Pad) => Ok(None),
+        Some(Codeword::Character(byte)) => {
+            message.add(Item::Byte(byte));
+            Ok(Some(1))
+        }
+        Some(Codeword::Digits(number)) => {
+            message.add(Item::Byte(48 + number / 10));
+            message.add(Item::Byte(48 + number % 10));
+            Ok(Some(1))
+        }
+        Some(Codeword::Fnc1) => {
+            message.add(Item::Fnc1);
+            Ok(Some(1))
+        }
+        Some(Codeword::UpperShift) => Ok(Some(raised_part(words, at, message)?)),
+        Some(Codeword::Latch(set)) => Ok(Some(run_part(set, words, at, message)?)),
+        Some(Codeword::Base256) => Ok(Some(segment_part(words, at, message)?)),
+        Some(Codeword::LeftOut) => Err(WordFault::LeftOut(*first, place)),
+        None => Err(WordFault::Reserved(place)),
+    }
+}
+
+/// Takes the Upper Shift at an index and its character: adds the byte to the message, and gives the number of its codewords.
+fn raised_part(words: &[u8], at: usize, message: &mut Message) -> Result<usize, WordFault>
+    requires in_range { at < length words.now }
+    requires short { length words.now ≤ MOST_DATA }
+    requires room { length message.old ≤ 2 * at }
+    ensures { TookSome result message.old message.new (raised_unit (at + 1) (drop (at + 1) words.now)) }
+{
+    let place = at as u16 + 1;
+    let Some(second) = words.get(at + 1) else {
+        return Err(WordFault::Unfinished(place));
+    };
+    match meaning(*second) {
+        Some(Codeword::Character(byte)) => {
+            message.add(Item::Byte(byte + 128));
+            Ok(2)
+        }
+        _ => Err(WordFault::UpperShift(place)),
+    }
+}
+
+/// The message that the words spell, or the first fault.
+fn read_all(words: &[u8]) -> Result<Message, WordFault>
+    requires { length words.now ≤ MOST_DATA }
+    ensures exact { result ≡ reading words.now }
+    ensures two_for_each_codeword { IfOk result (λ m. length m ≤ 2 * length words.now) }
+{
+    let mut message = Message::new();
+    let mut at = 0;
+    while let Some(count) = next_part(words, at, &mut message)? {
+        at += count;
+    }
+    Ok(message)
+}
+
+/// The message that the data codewords of a symbol spell, in any of the five encodations, or the fault with which they are
+/// refused. The list is the whole data part, at most `MOST_DATA` codewords, so its end is the end of the symbol. What follows the
+/// first pad is ignored. The first part from the left that is faulty decides; `WordFault` says when each fault comes.
+/// ISO/IEC 16022, encodation schemes.
+pub fn message_of(words: &[u8]) -> Result<Message, WordFault>
+    requires { length words.now ≤ MOST_DATA }
+    ensures message { (m : List Item) → (result ≡ Ok m) ↔ Spells words.now m }
+    ensures fault { (why : WordFault) → (result ≡ Err why) ↔ Refused words.now why }
+    ensures two_for_each_codeword { IfOk result (λ m. length m ≤ 2 * length words.now) }
+    ensures bytes { IfOk result IsMessage }
+{
+    read_all(words)
+}

@@ -1,0 +1,261 @@
+//! Worked examples: codewords and the messages they spell, or the faults with which they are refused.
+
+ghost use Rattle.std.specs.Prelude.{◌≤◌};
+
+use super::*;
+use dm_layout::Size;
+use std::test::*;
+
+/// Whether the codewords spell these items.
+fn spells(words: &[u8], items: &[Item]) -> bool {
+    if words.len() > MOST_DATA {
+        return false;
+    }
+    match message_of(words) {
+        Ok(message) => message.items() == items,
+        Err(_) => false,
+    }
+}
+
+/// Whether the codewords spell these bytes.
+fn spells_bytes(words: &[u8], bytes: &[u8]) -> bool {
+    if words.len() > MOST_DATA {
+        return false;
+    }
+    let Ok(message) = message_of(words) else {
+        return false;
+    };
+    let items = message.items();
+    items.len() == bytes.len()
+        && items
+            .iter()
+            .zip(bytes)
+            .all(|(item, byte)| *item == Item::Byte(*byte))
+}
+
+/// Whether the codewords are refused with this fault.
+fn is_refused(words: &[u8], fault: WordFault) -> bool {
+    words.len() <= MOST_DATA && message_of(words) == Err(fault)
+}
+
+#[test]
+fn reads_messages(rt: HostRuntime) {
+    let rows: [(&[u8], &[u8]); 46] = [
+        (&[], b""),
+        (&[1, 128], b"\x00\x7F"),
+        (&[130, 229], b"0099"),
+        (&[235, 128], b"\xFF"),
+        (&[129, 0, 255], b""),
+        (&[142, 52, 129], b"123"),
+        (&[230, 91, 11], b"AIM"),
+        (&[239, 91, 11], b"aim"),
+        (&[230, 91, 11, 91, 11, 91, 11, 66], b"AIMAIMAIMA"),
+        (&[230, 90, 241], b"AI"),
+        (&[230, 91, 11, 254, 66], b"AIMA"),
+        (&[230, 10, 255], b"\xC1"),
+        (&[230, 250, 0], b"ZZZ"),
+        (&[239, 12, 183], b"Aa"),
+        (&[230, 12, 183], b"aA"),
+        (&[230, 10, 254], b"\xB9"),
+        (&[230, 254, 66], b"A"),
+        (&[238, 0, 43], b"\r*>"),
+        (&[238, 91, 11, 254, 66], b"AIMA"),
+        (&[230], b""),
+        (&[230, 254], b""),
+        (&[230, 129], b""),
+        (&[230, 91], b"Z"),
+        (&[230, 91, 11, 91], b"AIMZ"),
+        (&[230, 91, 11, 230], b"AIM"),
+        (&[231, 45, 65], b"\x80"),
+        (&[231, 44, 65], b"\x80"),
+        (&[66, 231, 193], b"A"),
+        (&[231, 44], b""),
+        (&[142, 164, 186], b"123456"),
+        (&[66, 129, 70], b"A"),
+        (&[129, 175, 70], b""),
+        (&[66, 74, 78], b"AIM"),
+        (&[235, 66, 129], b"\xC1"),
+        (&[230, 19, 110], b" 09"),
+        (&[239, 19, 110], b" 09"),
+        (&[238, 19, 110], b" 09"),
+        (&[239, 93, 192], b"azz"),
+        (&[238, 93, 192], b"AZZ"),
+        (&[230, 0, 1, 194, 60], b"\x00\x1F  "),
+        (&[239, 0, 1, 194, 60], b"\x00\x1F  "),
+        (&[230, 6, 66, 87, 184, 9, 138, 137, 195], b"!/:@[_"),
+        (&[239, 6, 66, 87, 184, 9, 138, 137, 195], b"!/:@[_"),
+        (&[239, 10, 244], b"\xA0"),
+        (&[230, 12, 131, 194, 60], b"`\x7F  "),
+        (&[239, 12, 131, 6, 171, 16, 187, 194, 60], b"`AZ{\x7F  "),
+    ];
+    for (words, bytes) in rows {
+        assert!(rt; spells_bytes(words, bytes));
+    }
+    assert!(rt; spells(&[230, 10, 135], &[Item::Fnc1, Item::Byte(b'A')]));
+    assert!(rt; spells(&[239, 10, 124], &[Item::Fnc1, Item::Byte(b' ')]));
+    assert!(rt;
+        spells(
+            &[49, 232, 50],
+            &[Item::Byte(b'0'), Item::Fnc1, Item::Byte(b'1')]
+        )
+    );
+}
+
+#[test]
+fn refuses(rt: HostRuntime) {
+    let rows: [(&[u8], WordFault); 46] = [
+        (&[66, 0], WordFault::Reserved(2)),
+        (&[242], WordFault::Reserved(1)),
+        (&[240, 66, 129], WordFault::LeftOut(240, 1)),
+        (&[235], WordFault::Unfinished(1)),
+        (&[66, 66, 235], WordFault::Unfinished(3)),
+        (&[235, 130, 129], WordFault::UpperShift(1)),
+        (&[230, 250, 1], WordFault::Triplet(2)),
+        (&[230, 0, 0], WordFault::Triplet(2)),
+        (&[230, 87, 199, 0, 0], WordFault::Triplet(4)),
+        (&[238, 0, 0], WordFault::Triplet(2)),
+        (&[230, 10, 161], WordFault::Value(2)),
+        (&[230, 10, 161, 0, 0], WordFault::Value(2)),
+        (&[230, 10, 242, 169, 60], WordFault::UpperShift(2)),
+        (&[230, 87, 199], WordFault::Unfinished(2)),
+        (&[230, 10, 241], WordFault::Unfinished(2)),
+        (&[239, 235], WordFault::Unfinished(2)),
+        (&[231, 47, 65], WordFault::Length(1)),
+        (&[66, 66, 231], WordFault::Length(3)),
+        (&[230, 91, 11, 231], WordFault::Length(4)),
+        (&[231], WordFault::Length(1)),
+        (&[231, 45], WordFault::Length(1)),
+        (&[233], WordFault::LeftOut(233, 1)),
+        (&[234], WordFault::LeftOut(234, 1)),
+        (&[236], WordFault::LeftOut(236, 1)),
+        (&[237], WordFault::LeftOut(237, 1)),
+        (&[241], WordFault::LeftOut(241, 1)),
+        (&[230, 5, 4], WordFault::Value(2)),
+        (&[239, 5, 4], WordFault::Value(2)),
+        (&[230, 10, 204], WordFault::Value(2)),
+        (&[230, 11, 28], WordFault::Value(2)),
+        (&[230, 11, 68], WordFault::Value(2)),
+        (&[239, 10, 164], WordFault::Value(2)),
+        (&[239, 10, 204], WordFault::Value(2)),
+        (&[239, 11, 28], WordFault::Value(2)),
+        (&[239, 11, 68], WordFault::Value(2)),
+        (&[230, 17, 132], WordFault::Value(2)),
+        (&[239, 17, 132], WordFault::Value(2)),
+        (&[230, 10, 242, 187, 252], WordFault::UpperShift(2)),
+        (&[230, 19, 58, 187, 199], WordFault::UpperShift(4)),
+        (&[230, 10, 242, 175, 124], WordFault::Value(4)),
+        (&[231, 37], WordFault::Length(1)),
+        (&[231, 38], WordFault::Length(1)),
+        (&[231, 38, 193], WordFault::Length(1)),
+        (&[231, 38, 194, 92], WordFault::Length(1)),
+        (&[231, 39, 193, 92], WordFault::Length(1)),
+        (&[66, 255], WordFault::Reserved(2)),
+    ];
+    for (words, fault) in rows {
+        assert!(rt; is_refused(words, fault));
+    }
+    for codeword in 242..256u16 {
+        assert!(rt; is_refused(&[codeword as u8], WordFault::Reserved(1)));
+    }
+}
+
+/// Whether the ASCII codewords of these items, with pads up to the size of this side, are these.
+fn writes(items: &[Item], side: u16, expected: &[u8]) -> bool {
+    let Some(size) = Size::of_side(side) else {
+        return false;
+    };
+    let mut message = Message::new();
+    for item in items {
+        if message.push(*item).is_err() {
+            return false;
+        }
+    }
+    let Ok(words) = ascii_words(&message) else {
+        return false;
+    };
+    words.len() <= size.data_count() as usize
+        && padded(words.as_slice(), size).as_slice() == expected
+}
+
+#[test]
+fn writes_ascii(rt: HostRuntime) {
+    let rows: [(&[Item], &[u8]); 6] = [
+        (&[], &[129, 175, 70]),
+        (&[Item::Byte(b'A')], &[66, 129, 70]),
+        (&[Item::Byte(193)], &[235, 66, 129]),
+        (&[Item::Byte(128)], &[235, 1, 129]),
+        (&[Item::Byte(255)], &[235, 128, 129]),
+        (
+            &[Item::Byte(b'1'), Item::Byte(b'2'), Item::Byte(b'3')],
+            &[142, 52, 129],
+        ),
+    ];
+    for (items, words) in rows {
+        assert!(rt; writes(items, 10, words));
+    }
+    assert!(rt;
+        writes(
+            &[Item::Fnc1, Item::Byte(b'0'), Item::Byte(b'1')],
+            10,
+            &[232, 131, 129]
+        )
+    );
+    assert!(rt;
+        writes(
+            &[Item::Byte(b'0'), Item::Fnc1, Item::Byte(b'1')],
+            10,
+            &[49, 232, 50]
+        )
+    );
+    assert!(rt;
+        writes(
+            &[Item::Byte(b'1'), Item::Byte(b'2')],
+            12,
+            &[142, 129, 70, 220, 115]
+        )
+    );
+}
+
+#[test]
+fn fills_a_message(rt: HostRuntime) {
+    let mut digits = Message::new();
+    for _ in 0..MOST_ITEMS {
+        assert!(rt; digits.push(Item::Byte(b'7')).is_ok());
+    }
+    assert_eq!(rt; digits.push(Item::Fnc1), Err(Item::Fnc1));
+    assert_eq!(rt; digits.items().len(), MOST_ITEMS);
+    let Ok(words) = ascii_words(&digits) else {
+        assert!(rt; false);
+        return;
+    };
+    assert_eq!(rt; words.as_slice(), [207; 204].as_slice());
+    assert!(rt; message_of(words.as_slice()) == Ok(digits));
+
+    let mut letters = Message::new();
+    for _ in 0..205 {
+        assert!(rt; letters.push(Item::Byte(b'A')).is_ok());
+    }
+    assert!(rt; ascii_words(&letters) == Err(TooLong));
+}
+
+/// The codeword of a Base 256 value at a place.
+fn randomised(value: u8, place: u32) -> u8
+    requires { place ≤ 204 }
+{
+    ((value as u32 + (149 * place) % 255 + 1) % 256) as u8
+}
+
+#[test]
+fn fills_a_segment(rt: HostRuntime) {
+    let mut words = [231u8; 204];
+    words[1] = randomised(202, 2);
+    for place in 3..205u32 {
+        words[place as usize - 1] = randomised(255, place);
+    }
+    assert!(rt; spells_bytes(&words, &[255; 202]));
+    let Ok(message) = message_of(&words) else {
+        assert!(rt; false);
+        return;
+    };
+    assert!(rt; ascii_words(&message) == Err(TooLong));
+}
