@@ -1,0 +1,13 @@
+pub mod SizeFacts
+pub mod HeldWords
+pub mod Below
+pub mod Distances
+pub mod SymbolBlocks
+pub mod NormalGrids
+pub mod Readings
+pub mod NormalReadings
+pub mod Completion
+pub mod Counts
+pub mod TurnedCells
+pub mod WriteSteps
+pub mod ReadSteps

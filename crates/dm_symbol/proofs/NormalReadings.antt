@@ -1,0 +1,182 @@
+-- What is read from a normal grid.
+use Rattle.std.proofs.Common.{◌≡◌, ◌↔◌, ℕ, zero, suc, ◌+◌, ◌*◌, ◌/◌, ◌<◌, ◌≤◌, List, [], ◌∷◌, map, replicate, length, get_or, IsSome, Result, Ok, Err, inl, inr, refl, sym, ap, subst, ◌∙◌, arith}
+use Rattle.std.specs.List.{range_with_len}
+use Rattle.dm_words.specs.declared.item.Item.{Item}
+use Rattle.dm_code.specs.Codeword.{IsNear, distance, differing}
+use Rattle.dm_layout.specs.Sizes.{SizeRow, block_check}
+use Rattle.dm_layout.specs.Grid.{GridView}
+use Rattle.dm_layout.specs.Border.{border_fault_count}
+use Rattle.dm_words.specs.Messages.{IsMessage}
+use Rattle.dm_symbol.specs.declared.reading.Reading.{Reading}
+use Rattle.dm_symbol.specs.declared.reading.ReadFault.{ReadFault}
+use Rattle.dm_symbol.specs.declared.normalising.NormalFault.{NormalFault}
+use Rattle.dm_symbol.specs.declared.normalising.NormalFault.TheVariants.{Read, TooLong}
+use Rattle.dm_symbol.specs.Blocks.{block_at, distances}
+use Rattle.dm_symbol.specs.NormalGrid.{IsNormalGrid, HasNormalGrid}
+use Rattle.dm_symbol.specs.Reading.{IsCorrected, Reads, ReadAnswer, reading_of, IsReadAs}
+use Rattle.dm_symbol.specs.Normal.{HasNormal, HasNoNormal, NormalAnswer}
+use Rattle.dm_symbol.proofs.Distances.{differing_same}
+use Rattle.dm_symbol.proofs.NormalGrids.{normal_words_spell, normal_grid_is_one, normal_message_is_one}
+use Rattle.dm_symbol.proofs.Readings.{one_given, one_message, answer_of_read, read_by_answer, read_is_message}
+
+-- `Err` forgets nothing.
+err_is : (a b : ReadFault) → ◌≡◌ {A = Result Reading ReadFault} (Err a) (Err b) → a ≡ b
+err_is a b e = cc
+
+-- No word differs from itself.
+distance_to_itself : (word : List ℕ) → distance word word ≡ 0
+distance_to_itself word = differing_same word word (length word) (λ i h. refl)
+
+-- The words of a normal grid are their own corrected codewords.
+pub normal_is_corrected : (m : List Item) (grid : GridView) → (n : IsNormalGrid m grid) → IsCorrected grid n.words n.words
+normal_is_corrected m grid n = record {
+  words_held = n.laid.holds;
+  of_size = n.laid.holds.codewords;
+  near = λ b hb. record { codeword = n.checked b hb; long = refl; close = omega (arith, distance_to_itself (block_at grid.size n.words b)) };
+}
+
+-- A normal grid is read as its message for every limit.
+pub normal_reads : (m : List Item) (grid : GridView) (limit : ℕ) → IsMessage m → IsNormalGrid m grid → Reads grid limit m
+normal_reads m grid limit h n = record {
+  border = omega (arith, n.laid.border);
+  words = n.words;
+  c = n.words;
+  corrected = normal_is_corrected m grid n;
+  spelled = normal_words_spell m grid h n;
+}
+
+-- A list made by a function that is always 0.
+map_to_zero : (f : ℕ → ℕ) (a n : ℕ) → ((b : ℕ) → f b ≡ 0) → map f (range_with_len a n) ≡ replicate n 0
+map_to_zero f a zero e = refl
+map_to_zero f a (suc n) e = ap (λ x. x ∷ map f (range_with_len (a + 1) n)) (e a) ∙ ap (λ xs. 0 ∷ xs) (map_to_zero f (a + 1) n e)
+
+-- Nothing is corrected in a normal grid.
+pub normal_answer : (m : List Item) (grid : GridView) (limit : ℕ) → IsMessage m → IsNormalGrid m grid
+    → ReadAnswer grid limit (Ok (reading_of m (replicate grid.size.blocks 0) 0))
+unfolding normal_reads
+normal_answer m grid limit h n =
+    let by : ReadAnswer grid limit (Ok (reading_of m (distances grid.size n.words n.words) (border_fault_count grid))) = answer_of_read grid limit m (normal_reads m grid limit h n) in
+    let none : distances grid.size n.words n.words ≡ replicate grid.size.blocks 0 =
+    map_to_zero (λ b. distance (block_at grid.size n.words b) (block_at grid.size n.words b)) 0 grid.size.blocks (λ b. distance_to_itself (block_at grid.size n.words b)) in
+    subst (λ faults. ReadAnswer grid limit (Ok (reading_of m (replicate grid.size.blocks 0) faults))) n.laid.border
+    (subst (λ counts. ReadAnswer grid limit (Ok (reading_of m counts (border_fault_count grid)))) none by)
+
+-- A normal grid has one answer.
+pub normal_is_read : (m : List Item) (grid : GridView) (limit : ℕ) (answer : Result Reading ReadFault) → IsMessage m → IsNormalGrid m grid
+    → ReadAnswer grid limit answer ↔ (answer ≡ Ok (reading_of m (replicate grid.size.blocks 0) 0))
+normal_is_read m grid limit answer h n =
+    (λ a. one_given grid limit _ _ a (normal_answer m grid limit h n), λ e. subst (λ a. ReadAnswer grid limit a) (sym e) (normal_answer m grid limit h n))
+
+-- Normal grids are equal exactly where their messages are.
+pub normal_grids_tell : (m n : List Item) (g h : GridView) → IsMessage m → IsMessage n → IsNormalGrid m g → IsNormalGrid n h → (g ≡ h) ↔ (m ≡ n)
+normal_grids_tell m n g h hm hn ng nh =
+    (λ e. normal_message_is_one m n h hm hn (subst (λ x. IsNormalGrid m x) e ng) nh, λ e. normal_grid_is_one n g h (subst (λ x. IsNormalGrid x g) e ng) nh)
+
+-- A message with a normal grid isn't too long for one.
+pub normal_grid_fits : (m : List Item) (g : GridView) → IsNormalGrid m g → HasNormalGrid m
+normal_grid_fits m g n = subst IsSome (sym n.smallest) refl
+
+-- The normal grid of what is read is one.
+pub one_normal : (grid n o : GridView) (k l : ℕ) → HasNormal grid k n → HasNormal grid l o → n ≡ o
+one_normal grid n o k l hn ho =
+    let same = one_message grid k l hn.message ho.message hn.read ho.read in
+    normal_grid_is_one ho.message n o (subst (λ m. IsNormalGrid m n) same hn.normal_grid) ho.normal_grid
+
+-- A grid that is read as a message with a normal grid isn't read as one that has none.
+not_too_long : (grid n : GridView) (k l : ℕ) → HasNormal grid k n → HasNoNormal grid l → ⊥
+not_too_long grid n k l h none =
+    let same = one_message grid k l h.message none.message h.read none.read in
+    none.too_long (subst HasNormalGrid same (normal_grid_fits h.message n h.normal_grid))
+
+-- A grid that is read has no fault of reading.
+no_fault : (grid : GridView) (limit : ℕ) (m : List Item) (why : ReadFault) → Reads grid limit m → ReadAnswer grid limit (Err why) → ⊥
+no_fault grid limit m why r a = read_by_answer grid limit (Err why) m a r
+
+-- What `normal` answers is one.
+pub one_normal_answer : (grid : GridView) (limit : ℕ) (a b : Result GridView NormalFault) → NormalAnswer grid limit a → NormalAnswer grid limit b → a ≡ b
+one_normal_answer grid limit a b (NormalAnswer.normal n h e) (NormalAnswer.normal o k f) = e ∙ ap (λ x. Ok x) (one_normal grid n o limit limit h k) ∙ sym f
+one_normal_answer grid limit a b (NormalAnswer.normal n h e) (NormalAnswer.too_long k f) = absurd (not_too_long grid n limit limit h k)
+one_normal_answer grid limit a b (NormalAnswer.normal n h e) (NormalAnswer.fault why k f) = absurd (no_fault grid limit h.message why h.read k)
+one_normal_answer grid limit a b (NormalAnswer.too_long h e) (NormalAnswer.normal o k f) = absurd (not_too_long grid o limit limit k h)
+one_normal_answer grid limit a b (NormalAnswer.too_long h e) (NormalAnswer.too_long k f) = e ∙ sym f
+one_normal_answer grid limit a b (NormalAnswer.too_long h e) (NormalAnswer.fault why k f) = absurd (no_fault grid limit h.message why h.read k)
+one_normal_answer grid limit a b (NormalAnswer.fault why h e) (NormalAnswer.normal o k f) = absurd (no_fault grid limit k.message why k.read h)
+one_normal_answer grid limit a b (NormalAnswer.fault why h e) (NormalAnswer.too_long k f) = absurd (no_fault grid limit k.message why k.read h)
+one_normal_answer grid limit a b (NormalAnswer.fault why h e) (NormalAnswer.fault other k f) =
+    let same = one_given grid limit (Err why) (Err other) h k in
+    let inner : why ≡ other = err_is why other same in
+    e ∙ ap (λ x. Err (Read x)) inner ∙ sym f
+
+-- A normal grid has itself as its normal grid.
+pub normal_of_normal : (grid normal : GridView) (limit other : ℕ) → HasNormal grid limit normal → HasNormal normal other normal
+normal_of_normal grid normal limit other h = record {
+  message = h.message;
+  read = normal_reads h.message normal other (read_is_message grid limit h.message h.read) h.normal_grid;
+  normal_grid = h.normal_grid;
+}
+
+-- So the answer for a normal grid is the grid itself.
+pub twice_is_once : (grid normal : GridView) (limit other : ℕ) (answer : Result GridView NormalFault) → HasNormal grid limit normal
+    → NormalAnswer normal other answer ↔ (answer ≡ Ok normal)
+twice_is_once grid normal limit other answer h =
+    let itself : NormalAnswer normal other (Ok normal) = NormalAnswer.normal normal (normal_of_normal grid normal limit other h) refl in
+    (λ a. one_normal_answer normal other answer (Ok normal) a itself, λ e. subst (λ a. NormalAnswer normal other a) (sym e) itself)
+
+-- Two read grids have equal normal grids exactly where their messages are equal.
+pub equal_normals : (g h a b : GridView) (i j k l : ℕ) (m n : List Item) → Reads g i m → Reads h j n → HasNormal g k a → HasNormal h l b → (a ≡ b) ↔ (m ≡ n)
+equal_normals g h a b i j k l m n hm hn ha hb =
+    let na : IsNormalGrid m a = subst (λ x. IsNormalGrid x a) (one_message g k i ha.message m ha.read hm) ha.normal_grid in
+    let nb : IsNormalGrid n b = subst (λ x. IsNormalGrid x b) (one_message h l j hb.message n hb.read hn) hb.normal_grid in
+    normal_grids_tell m n a b (read_is_message g i m hm) (read_is_message h j n hn) na nb
+
+-- ---- what an answer of `normal` says
+
+-- Two answers that are equal say the same, and answers of two kinds aren't equal.
+ok_is : (a b : GridView) → ◌≡◌ {A = Result GridView NormalFault} (Ok a) (Ok b) → a ≡ b
+ok_is a b e = cc
+
+-- A fault is no grid.
+err_no_ok : (a : GridView) (f : NormalFault) → ◌≡◌ {A = Result GridView NormalFault} (Err f) (Ok a) → ⊥
+err_no_ok a f e = cc
+
+-- A grid is no fault.
+ok_no_err : (a : GridView) (f : NormalFault) → ◌≡◌ {A = Result GridView NormalFault} (Ok a) (Err f) → ⊥
+ok_no_err a f e = cc
+
+-- One fault of reading.
+read_is : (a b : ReadFault) → ◌≡◌ {A = Result GridView NormalFault} (Err (Read a)) (Err (Read b)) → a ≡ b
+read_is a b e = cc
+
+-- A fault of reading isn't that the message is too long.
+read_no_too_long : (a : ReadFault) → ◌≡◌ {A = Result GridView NormalFault} (Err (Read a)) (Err TooLong) → ⊥
+read_no_too_long a e = cc
+
+-- The normal grid.
+pub says_normal : (grid : GridView) (limit : ℕ) (answer : Result GridView NormalFault) → NormalAnswer grid limit answer → (n : GridView)
+    → (answer ≡ Ok n) ↔ HasNormal grid limit n
+says_normal grid limit answer a n = (λ e. told answer a e, λ h. one_normal_answer grid limit answer (Ok n) a (NormalAnswer.normal n h refl))
+  where
+    told : (answer : Result GridView NormalFault) → NormalAnswer grid limit answer → answer ≡ Ok n → HasNormal grid limit n
+    told answer (NormalAnswer.normal o h e) f = subst (HasNormal grid limit) (ok_is o n (sym e ∙ f)) h
+    told answer (NormalAnswer.too_long h e) f = absurd (err_no_ok n TooLong (sym e ∙ f))
+    told answer (NormalAnswer.fault why h e) f = absurd (err_no_ok n (Read why) (sym e ∙ f))
+
+-- That there is none.
+pub says_too_long : (grid : GridView) (limit : ℕ) (answer : Result GridView NormalFault) → NormalAnswer grid limit answer
+    → (answer ≡ Err TooLong) ↔ HasNoNormal grid limit
+says_too_long grid limit answer a = (λ e. told answer a e, λ h. one_normal_answer grid limit answer (Err TooLong) a (NormalAnswer.too_long h refl))
+  where
+    told : (answer : Result GridView NormalFault) → NormalAnswer grid limit answer → answer ≡ Err TooLong → HasNoNormal grid limit
+    told answer (NormalAnswer.normal o h e) f = absurd (ok_no_err o TooLong (sym e ∙ f))
+    told answer (NormalAnswer.too_long h e) f = h
+    told answer (NormalAnswer.fault why h e) f = absurd (read_no_too_long why (sym e ∙ f))
+
+-- The fault of reading.
+pub says_fault : (grid : GridView) (limit : ℕ) (answer : Result GridView NormalFault) → NormalAnswer grid limit answer → (why : ReadFault)
+    → (answer ≡ Err (Read why)) ↔ ReadAnswer grid limit (Err why)
+says_fault grid limit answer a why = (λ e. told answer a e, λ h. one_normal_answer grid limit answer (Err (Read why)) a (NormalAnswer.fault why h refl))
+  where
+    told : (answer : Result GridView NormalFault) → NormalAnswer grid limit answer → answer ≡ Err (Read why) → ReadAnswer grid limit (Err why)
+    told answer (NormalAnswer.normal o h e) f = absurd (ok_no_err o (Read why) (sym e ∙ f))
+    told answer (NormalAnswer.too_long h e) f = absurd (read_no_too_long why (sym f ∙ e))
+    told answer (NormalAnswer.fault other h e) f = subst (λ x. ReadAnswer grid limit (Err x)) (read_is other why (sym e ∙ f)) h

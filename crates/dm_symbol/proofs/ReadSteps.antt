@@ -1,0 +1,88 @@
+-- The answers of a reading, from what was lifted and corrected.
+use Rattle.std.proofs.Common.{◌≡◌, ◌↔◌, ℕ, ◌<◌, ◌≤◌, List, length, Result, Ok, Err, refl, sym, ap, subst, ◌∙◌, arith}
+use Rattle.arrayvec.specs.ArrayVec.{ArrayVec}
+use Rattle.dm_words.specs.declared.item.Item.{Item}
+use Rattle.dm_words.specs.declared.fault.WordFault.{WordFault}
+use Rattle.dm_layout.specs.Sizes.{SizeRow}
+use Rattle.dm_layout.specs.Grid.{GridView}
+use Rattle.dm_layout.specs.Border.{border_fault_count}
+use Rattle.dm_layout.specs.Words.{WordsView, data_of}
+use Rattle.dm_layout.specs.Holds.{Holds}
+use Rattle.dm_words.specs.Spells.{Spells}
+use Rattle.dm_words.specs.Refused.{Refused}
+use Rattle.dm_symbol.specs.declared.reading.Reading.{Reading}
+use Rattle.dm_symbol.specs.declared.reading.ReadFault.{ReadFault}
+use Rattle.dm_symbol.specs.declared.reading.ReadFault.TheVariants as fault
+use Rattle.dm_symbol.specs.Blocks.{symbol, AreWordsOf, AreHeld, BlocksAreNear, data_part, distances}
+use Rattle.dm_symbol.specs.Reading.{IsCorrected, Reads, IsFirstBeyond, ReadAnswer, reading_of, IsReadAs}
+use Rattle.dm_symbol.proofs.Readings.{one_given, read_by_answer, reads_by_answer}
+
+-- Words that a grid holds are of its size.
+held_words : (grid : GridView) (w : WordsView) → Holds grid w → AreHeld grid w.list
+held_words grid w h = subst (λ x. Holds grid x) (ap (λ s. symbol s w.list) h.same_size) h
+
+-- The first block that can't be corrected.
+pub block_answer : (grid : GridView) (limit : ℕ) (w : WordsView) (b : ℕ) → border_fault_count grid ≤ limit → Holds grid w → IsFirstBeyond w.size w.list b
+    → ReadAnswer grid limit (Err (fault.Block b))
+block_answer grid limit w b few h first =
+    ReadAnswer.block w.list b few (held_words grid w h) (subst (λ s. IsFirstBeyond s w.list b) h.same_size first) refl
+
+module _ (grid : GridView) (limit : ℕ) (w v : WordsView) (few : border_fault_count grid ≤ limit) (h : Holds grid w) (same : v.size ≡ w.size)
+    (of_size : AreWordsOf w.size v.list) (near : BlocksAreNear w.size w.list v.list) where
+  -- The corrected words.
+  are_corrected : IsCorrected grid w.list v.list
+  are_corrected = record {
+    words_held = held_words grid w h;
+    of_size = subst (λ s. AreWordsOf s v.list) h.same_size of_size;
+    near = subst (λ s. BlocksAreNear s w.list v.list) h.same_size near;
+  }
+
+  -- Their data part.
+  data_of_grid : data_of v ≡ data_part grid.size v.list
+  data_of_grid = ap (λ s. data_part s v.list) (same ∙ h.same_size)
+
+  -- The answer where the data part is refused.
+  pub words_answer : (why : WordFault) → Refused (data_of v) why → ReadAnswer grid limit (Err (fault.Words why))
+  words_answer why refused = ReadAnswer.words w.list v.list why few are_corrected (subst (λ words. Refused words why) data_of_grid refused) refl
+
+  -- The answer where it spells a message.
+  pub message_answer : (m : List Item) (counts : ArrayVec ℕ) (faults : ℕ) → counts.items ≡ distances w.size w.list v.list → faults ≡ border_fault_count grid
+      → Spells (data_of v) m → ReadAnswer grid limit (Ok (record { message = m; corrected = counts; border_faults = faults }))
+  message_answer m counts faults counted border spelled =
+      let all : counts.items ≡ distances grid.size w.list v.list = subst (λ s. counts.items ≡ distances s w.list v.list) h.same_size counted in
+      ReadAnswer.message w.list v.list m few are_corrected (subst (λ words. Spells words m) data_of_grid spelled)
+      (ap (λ xs. Ok (reading_of m xs faults)) all ∙ ap (λ n. Ok (reading_of m (distances grid.size w.list v.list) n)) border)
+
+-- What an answer says of the message.
+pub says_message : (grid : GridView) (limit : ℕ) (answer : Result Reading ReadFault) → ReadAnswer grid limit answer → (m : List Item) → IsReadAs answer m ↔ Reads grid limit m
+says_message grid limit answer a m = (λ is. reads_by_answer grid limit answer m a is, λ r. read_by_answer grid limit answer m a r)
+
+-- Two answers that are equal say the same, and answers of two kinds aren't equal.
+same : (a b : ℕ) → ◌≡◌ {A = Result Reading ReadFault} (Err (fault.Border a)) (Err (fault.Border b)) → a ≡ b
+same a b e = cc
+
+-- A block is no border.
+block_no_border : (n b : ℕ) → ◌≡◌ {A = Result Reading ReadFault} (Err (fault.Block b)) (Err (fault.Border n)) → ⊥
+block_no_border n b e = cc
+
+-- Words are no border.
+words_no_border : (n : ℕ) (why : WordFault) → ◌≡◌ {A = Result Reading ReadFault} (Err (fault.Words why)) (Err (fault.Border n)) → ⊥
+words_no_border n why e = cc
+
+-- A message is no border.
+message_no_border : (n : ℕ) (r : Reading) → ◌≡◌ {A = Result Reading ReadFault} (Ok r) (Err (fault.Border n)) → ⊥
+message_no_border n r e = cc
+
+-- What an answer says of the border.
+pub says_border : (grid : GridView) (limit : ℕ) (answer : Result Reading ReadFault) → ReadAnswer grid limit answer → (count : ℕ)
+    → (answer ≡ Err (fault.Border count)) ↔ ((limit < border_fault_count grid) × (count ≡ border_fault_count grid))
+says_border grid limit answer a count = (λ e. told answer a e, λ p. one_given grid limit answer (Err (fault.Border count)) a (border_answer p.0 p.1))
+  where
+    border_answer : limit < border_fault_count grid → count ≡ border_fault_count grid → ReadAnswer grid limit (Err (fault.Border count))
+    border_answer more e = ReadAnswer.border more (ap (λ n. Err (fault.Border n)) e)
+
+    told : (answer : Result Reading ReadFault) → ReadAnswer grid limit answer → answer ≡ Err (fault.Border count) → (limit < border_fault_count grid) × (count ≡ border_fault_count grid)
+    told answer (ReadAnswer.border more e) f = (more, same count (border_fault_count grid) (sym f ∙ e))
+    told answer (ReadAnswer.block u b few hu first e) f = absurd (block_no_border count b (sym e ∙ f))
+    told answer (ReadAnswer.words u c why few hu refused e) f = absurd (words_no_border count why (sym e ∙ f))
+    told answer (ReadAnswer.message u c m few hu spelled e) f = absurd (message_no_border count (reading_of m (distances grid.size u c) (border_fault_count grid)) (sym e ∙ f))

@@ -1,0 +1,146 @@
+-- What is read from a grid is one.
+use Rattle.std.proofs.Common.{◌≡◌, ℕ, ◌+◌, ◌*◌, ◌/◌, ◌<◌, ◌≤◌, List, [], ◌∷◌, map, replicate, length, get_or, Result, Ok, Err, inl, inr, refl, sym, ap, subst, ◌∙◌, arith}
+use Rattle.std.specs.List.{All, range_with_len}
+use Rattle.std.proofs.lemmas.Bool.{cases_lt, cases_order}
+use Rattle.dm_words.specs.declared.item.Item.{Item}
+use Rattle.dm_words.specs.declared.fault.WordFault.{WordFault}
+use Rattle.dm_code.specs.Codeword.{IsCodeword, IsNear, distance, differing}
+use Rattle.dm_layout.specs.Sizes.{SizeRow, IsRow, block_check, block_length}
+use Rattle.dm_layout.specs.Grid.{GridView, IsGrid}
+use Rattle.dm_layout.specs.Border.{border_fault_count}
+use Rattle.dm_layout.specs.Words.{IsWords}
+use Rattle.dm_layout.specs.Holds.{Holds}
+use Rattle.dm_words.specs.Spells.{Spells}
+use Rattle.dm_words.specs.Refused.{Refused}
+use Rattle.dm_words.specs.Laws.{HasOneAnswer}
+use Rattle.dm_words.specs.Messages.{IsMessage}
+use Rattle.dm_symbol.specs.declared.reading.Reading.{Reading}
+use Rattle.dm_symbol.specs.declared.reading.ReadFault.{ReadFault}
+use Rattle.dm_symbol.specs.declared.reading.ReadFault.TheVariants as fault
+use Rattle.dm_symbol.specs.Blocks.{AreWordsOf, AreHeld, BlocksAreNear, block_at, data_part, distances}
+use Rattle.dm_symbol.specs.NormalGrid.{IsNormalGrid}
+use Rattle.dm_symbol.specs.Reading.{IsCorrected, Reads, HasNear, IsFirstBeyond, ReadAnswer, reading_of, IsReadAs}
+use Rattle.dm_symbol.proofs.Distances.{differing_over, differing_turned, differing_same}
+use Rattle.dm_symbol.proofs.SymbolBlocks.{same_blocks}
+use Rattle.dm_symbol.proofs.NormalGrids.{data_is_bytes, one_spelled, normal_words_spell}
+use Rattle.dm_symbol.proofs.SizeFacts.{Facts, size_facts}
+use Rattle.dm_symbol.proofs.Below.{codewords_apart, block_lengths, held_words_are_one, one_answer, spelled_is_message}
+
+-- At most one codeword is near a block.
+pub near_is_one : (k : ℕ) (block c d : List ℕ) → length block ≤ 255 → IsNear k block c → IsNear k block d → c ≡ d
+near_is_one k block c d short hc hd =
+    let n = length block in
+    let way = differing_over c block d n in
+    let turned = differing_turned c block n in
+    codewords_apart k c d hc.codeword hd.codeword (hc.long ∙ sym hd.long) (omega (arith, hc.long, short))
+    (subst (λ j. differing c d j ≤ k) (sym hc.long) (omega (arith, way, turned, hc.close, hd.close)))
+
+-- The words that a grid holds and the codewords near them are one.
+pub corrected_is_one : (grid : GridView) (u c v d : List ℕ) → IsCorrected grid u c → IsCorrected grid v d → (u ≡ v) × (c ≡ d)
+corrected_is_one grid u c v d hu hv =
+    let same : v ≡ u = held_words_are_one grid v u hv.words_held hu.words_held in
+    let near : BlocksAreNear grid.size u d = subst (λ w. BlocksAreNear grid.size w d) same hv.near in
+    let f = size_facts grid.size hu.of_size.row in (
+      sym same,
+      same_blocks grid.size c d hu.of_size hv.of_size (λ b hb.
+          near_is_one (block_check grid.size) (block_at grid.size u b) (block_at grid.size c b) (block_at grid.size d b)
+          (omega (arith, block_lengths grid.size u hu.words_held.codewords b hb, f.short)) (hu.near b hb) (near b hb)),
+    )
+
+-- A grid is read as at most one message.
+pub one_message : (grid : GridView) (k l : ℕ) (m n : List Item) → Reads grid k m → Reads grid l n → m ≡ n
+one_message grid k l m n hm hn =
+    let same : hm.c ≡ hn.c = (corrected_is_one grid hm.words hm.c hn.words hn.c hm.corrected hn.corrected).1 in
+    one_spelled (data_part grid.size hn.c) m n (data_is_bytes grid.size hn.c hn.corrected.of_size)
+    (subst (λ c. Spells (data_part grid.size c) m) same hm.spelled) hn.spelled
+
+-- What is read is a message.
+pub read_is_message : (grid : GridView) (limit : ℕ) (m : List Item) → Reads grid limit m → IsMessage m
+read_is_message grid limit m h = spelled_is_message (data_part grid.size h.c) m h.spelled
+
+-- Bytes are refused with at most one fault, and not where they spell a message.
+one_refused : (words : List ℕ) (a b : WordFault) → All (λ w. w < 256) words → Refused words a → Refused words b → a ≡ b
+one_refused words a b bytes ha hb =
+    elim (one_answer words bytes) [
+      | inl s ↦ absurd (s.not_refused a ha)
+      | inr r ↦ r.only a ha ∙ sym (r.only b hb)
+    ]
+
+-- Bytes that spell a message aren't refused.
+spelled_not_refused : (words : List ℕ) (m : List Item) (why : WordFault) → All (λ w. w < 256) words → Spells words m → Refused words why → ⊥
+spelled_not_refused words m why bytes hm hw =
+    elim (one_answer words bytes) [
+      | inl s ↦ s.not_refused why hw
+      | inr r ↦ r.not_spelled m hm
+    ]
+
+-- The first block that no codeword is near is one.
+first_is_one : (size : SizeRow) (words : List ℕ) (a b : ℕ) → IsFirstBeyond size words a → IsFirstBeyond size words b → a ≡ b
+first_is_one size words a b ha hb =
+    elim (cases_order a b) [
+      | inl e ↦ e
+      | inr other ↦ elim other [ inl h ↦ absurd (ha.beyond (hb.first a h)) | inr h ↦ absurd (hb.beyond (ha.first b h)) ]
+    ]
+
+-- Corrected words have no block that no codeword is near.
+none_beyond : (grid : GridView) (v u c : List ℕ) (b : ℕ) → AreHeld grid v → IsFirstBeyond grid.size v b → IsCorrected grid u c → ⊥
+none_beyond grid v u c b hv first h =
+    let same : u ≡ v = held_words_are_one grid u v h.words_held hv in
+    let near : BlocksAreNear grid.size v c = subst (λ w. BlocksAreNear grid.size w c) same h.near in
+    first.beyond (block_at grid.size c b, near b first.in_symbol)
+
+-- The data part of the same codewords isn't both spelled and refused.
+not_both : (grid : GridView) (u c v d : List ℕ) (m : List Item) (why : WordFault) → IsCorrected grid u c → IsCorrected grid v d
+    → Spells (data_part grid.size c) m → Refused (data_part grid.size d) why → ⊥
+not_both grid u c v d m why hu hv spelled refused =
+    let same = (corrected_is_one grid u c v d hu hv).1 in
+    spelled_not_refused (data_part grid.size d) m why (data_is_bytes grid.size d hv.of_size) (subst (λ w. Spells (data_part grid.size w) m) same spelled) refused
+
+-- A grid has at most one answer for a limit.
+pub one_given : (grid : GridView) (limit : ℕ) (a b : Result Reading ReadFault) → ReadAnswer grid limit a → ReadAnswer grid limit b → a ≡ b
+one_given grid limit a b (ReadAnswer.border h e) (ReadAnswer.border k f) = e ∙ sym f
+one_given grid limit a b (ReadAnswer.border h e) (ReadAnswer.block v y k hv first f) = absurd (omega (arith, h, k))
+one_given grid limit a b (ReadAnswer.border h e) (ReadAnswer.words v d why k hv refused f) = absurd (omega (arith, h, k))
+one_given grid limit a b (ReadAnswer.border h e) (ReadAnswer.message v d n k hv spelled f) = absurd (omega (arith, h, k))
+one_given grid limit a b (ReadAnswer.block u x h hu first e) (ReadAnswer.border k f) = absurd (omega (arith, h, k))
+one_given grid limit a b (ReadAnswer.block u x h hu first e) (ReadAnswer.block v y k hv other f) =
+    let same : v ≡ u = held_words_are_one grid v u hv hu in
+    let is_first : IsFirstBeyond grid.size u y = subst (λ w. IsFirstBeyond grid.size w y) same other in
+    e ∙ ap (λ block. Err (fault.Block block)) (first_is_one grid.size u x y first is_first) ∙ sym f
+one_given grid limit a b (ReadAnswer.block u x h hu first e) (ReadAnswer.words v d why k hv refused f) = absurd (none_beyond grid u v d x hu first hv)
+one_given grid limit a b (ReadAnswer.block u x h hu first e) (ReadAnswer.message v d n k hv spelled f) = absurd (none_beyond grid u v d x hu first hv)
+one_given grid limit a b (ReadAnswer.words u c why h hu refused e) (ReadAnswer.border k f) = absurd (omega (arith, h, k))
+one_given grid limit a b (ReadAnswer.words u c why h hu refused e) (ReadAnswer.block v y k hv first f) = absurd (none_beyond grid v u c y hv first hu)
+one_given grid limit a b (ReadAnswer.words u c why h hu refused e) (ReadAnswer.words v d other k hv too f) =
+    let same = (corrected_is_one grid u c v d hu hv).1 in
+    let refused_too : Refused (data_part grid.size d) why = subst (λ w. Refused (data_part grid.size w) why) same refused in
+    e ∙ ap (λ x. Err (fault.Words x)) (one_refused (data_part grid.size d) why other (data_is_bytes grid.size d hv.of_size) refused_too too) ∙ sym f
+one_given grid limit a b (ReadAnswer.words u c why h hu refused e) (ReadAnswer.message v d n k hv spelled f) = absurd (not_both grid v d u c n why hv hu spelled refused)
+one_given grid limit a b (ReadAnswer.message u c m h hu spelled e) (ReadAnswer.border k f) = absurd (omega (arith, h, k))
+one_given grid limit a b (ReadAnswer.message u c m h hu spelled e) (ReadAnswer.block v y k hv first f) = absurd (none_beyond grid v u c y hv first hu)
+one_given grid limit a b (ReadAnswer.message u c m h hu spelled e) (ReadAnswer.words v d why k hv refused f) = absurd (not_both grid u c v d m why hu hv spelled refused)
+one_given grid limit a b (ReadAnswer.message u c m h hu spelled e) (ReadAnswer.message v d n k hv other f) =
+    let same = corrected_is_one grid u c v d hu hv in
+    let message : m ≡ n = one_message grid limit limit m n (record { border = h; words = u; c = c; corrected = hu; spelled = spelled }) (record { border = k; words = v; c = d; corrected = hv; spelled = other }) in
+    e ∙ ap (λ x. Ok (reading_of x (distances grid.size u c) (border_fault_count grid))) message
+    ∙ ap (λ x. Ok (reading_of n (distances grid.size x c) (border_fault_count grid))) same.0
+    ∙ ap (λ x. Ok (reading_of n (distances grid.size v x) (border_fault_count grid))) same.1
+    ∙ sym f
+
+-- The answer to a grid that is read as a message.
+pub answer_of_read : (grid : GridView) (limit : ℕ) (m : List Item) → (r : Reads grid limit m)
+    → ReadAnswer grid limit (Ok (reading_of m (distances grid.size r.words r.c) (border_fault_count grid)))
+answer_of_read grid limit m r = ReadAnswer.message r.words r.c m r.border r.corrected r.spelled refl
+
+-- The answer is a reading of a message exactly where the grid is read as it.
+pub read_by_answer : (grid : GridView) (limit : ℕ) (answer : Result Reading ReadFault) (m : List Item) → ReadAnswer grid limit answer → Reads grid limit m → IsReadAs answer m
+read_by_answer grid limit answer m h r = subst (λ a. IsReadAs a m) (one_given grid limit _ _ (answer_of_read grid limit m r) h) refl
+
+-- Where the answer is a reading of a message, the grid is read as it.
+pub reads_by_answer : (grid : GridView) (limit : ℕ) (answer : Result Reading ReadFault) (m : List Item) → ReadAnswer grid limit answer → IsReadAs answer m → Reads grid limit m
+reads_by_answer grid limit answer m (ReadAnswer.border h e) is = absurd (subst (λ a. IsReadAs a m) e is)
+reads_by_answer grid limit answer m (ReadAnswer.block u x h hu first e) is = absurd (subst (λ a. IsReadAs a m) e is)
+reads_by_answer grid limit answer m (ReadAnswer.words u c why h hu refused e) is = absurd (subst (λ a. IsReadAs a m) e is)
+reads_by_answer grid limit answer m (ReadAnswer.message u c n h hu spelled e) is =
+    let same : n ≡ m = subst (λ a. IsReadAs a m) e is in
+    record { border = h; words = u; c = c; corrected = hu; spelled = subst (λ x. Spells (data_part grid.size c) x) same spelled }

@@ -1,0 +1,255 @@
+-- Cells that are turned over.
+use Rattle.std.proofs.Common.{◌≡◌, ℕ, zero, suc, ◌+◌, ◌-◌, ◌*◌, ◌/◌, ◌%◌, ◌^◌, ◌<◌, ◌≤◌, Bool, true, false, not, ◌&&◌, cond, eqb, List, length, get_or, Some, inl, inr, refl, sym, ap, subst, ◌∙◌, arith, add-suc}
+use Rattle.std.specs.Bool.{beq, MatchBool}
+use Rattle.std.specs.Int.{bit_at}
+use Rattle.std.specs.List.{range_with_len}
+use Rattle.std.proofs.Math.Nat.{div-mul-le_self, pow-suc, mul-add}
+use Rattle.std.proofs.lemmas.Bool.{cases_Bool, cases_eq, cases_lt, cases_order, and_parts, and_from, not-true, not_from_false, eqb-true, eqb-false, true≢false, false≢true}
+use Rattle.std.proofs.lemmas.Nat.{div_below, le-div, same_from_place, mul-add-lt, div-add-mod', mod_below}
+use Rattle.std.proofs.lemmas.Nat.Bits.{bit_at_lowest, bit_at-suc}
+use Rattle.dm_words.specs.declared.item.Item.{Item}
+use Rattle.dm_code.specs.Codeword.{IsCodeword, IsNear, distance, differing}
+use Rattle.dm_layout.specs.declared.shape.Cell.{Cell}
+use Rattle.dm_layout.specs.Sizes.{SizeRow, IsRow, row_with_side, codeword_count, block_check, block_length, regions_across}
+use Rattle.dm_layout.specs.Grid.{GridView, IsGrid, cell_at}
+use Rattle.dm_layout.specs.Border.{border_fault_count, is_fault, is_border, border_is_dark, symbol_line, mapped_cell}
+use Rattle.dm_layout.specs.Words.{IsWords}
+use Rattle.dm_layout.specs.Placement.{place, shapes, At, IsPlace, NoPlace, OnePlace, EachCellOnce}
+use Rattle.dm_layout.specs.Holds.{Holds, bit_of}
+use Rattle.dm_words.specs.Messages.{IsMessage}
+use Rattle.dm_symbol.specs.Blocks.{AreWordsOf, AreHeld, block_at}
+use Rattle.dm_symbol.specs.NormalGrid.{IsNormalGrid}
+use Rattle.dm_symbol.specs.Reading.{Reads, IsCorrected}
+use Rattle.dm_symbol.specs.Laws.{turned_cells}
+use Rattle.dm_symbol.proofs.Counts.{cells_grow, none_pass, count_cells, IsWitness, differing_below_cells}
+use Rattle.dm_symbol.proofs.Distances.{differing_turned}
+use Rattle.dm_symbol.proofs.NormalGrids.{some_is, normal_words_spell}
+use Rattle.dm_symbol.proofs.SizeFacts.{Facts, size_facts}
+use Rattle.dm_symbol.proofs.HeldWords.{every_grid_holds}
+use Rattle.dm_symbol.proofs.Below.{block_places, block_lengths, each_cell_once, shape_count}
+
+-- ---- bits
+
+-- Two different numbers below 2 ^ k differ in one of their k low bits.
+pub bit_differs : (k x y : ℕ) → x < 2 ^ k → y < 2 ^ k → (x ≡ y → ⊥) → (j : ℕ) × (j < k) × (bit_at x j ≡ bit_at y j → ⊥)
+bit_differs zero x y hx hy other = absurd (other (omega (arith, hx, hy)))
+bit_differs (suc k) x y hx hy other =
+    elim (cases_eq (x % 2) (y % 2)) [
+      | inl e ↦
+          let rest = bit_differs k (x / 2) (y / 2) (omega (arith, hx, pow-suc 2 k)) (omega (arith, hy, pow-suc 2 k)) (λ h. other (omega (arith, e, h))) in
+          (suc rest.0, omega (arith, rest.1), λ h. rest.2 (sym (bit_at-suc x rest.0) ∙ h ∙ bit_at-suc y rest.0))
+      | inr differ ↦ (0, omega arith, λ h. differ (sym (bit_at_lowest x) ∙ h ∙ bit_at_lowest y))
+    ]
+
+-- ---- lines
+
+-- Two mapping lines that are moved to one symbol line are one.
+pub line_is_one : (d x y : ℕ) → 0 < d → symbol_line d x ≡ symbol_line d y → x ≡ y
+line_is_one d x y hd e =
+    elim (cases_order x y) [
+      | inl same ↦ same
+      | inr other ↦
+          elim other [
+            | inl h ↦ absurd (omega (arith, e, h, le-div (x / d) y d hd (omega (arith, h, div-mul-le_self x d))))
+            | inr h ↦ absurd (omega (arith, e, h, le-div (y / d) x d hd (omega (arith, h, div-mul-le_self y d))))
+          ]
+    ]
+
+-- A mapping line is moved into the symbol.
+pub line_within : (d across x : ℕ) → 0 < d → x < across * d → symbol_line d x < across * (d + 2)
+line_within d across x hd h = omega (arith, h, div_below x d across hd h, mul-add across d 2)
+
+-- ---- colours
+
+-- Two colours that aren't one differ.
+colours_differ : (a b : Bool) → (a ≡ b → ⊥) → not (beq a b) ≡ true
+colours_differ true true h = absurd (h refl)
+colours_differ true false h = refl
+colours_differ false true h = refl
+colours_differ false false h = absurd (h refl)
+
+-- A border cell of the wrong colour that had the right one has changed.
+fault_shows : (p a b d : Bool) → (p && not (beq a d)) ≡ false → (p && not (beq b d)) ≡ true → not (beq a b) ≡ true
+fault_shows false a b d right wrong = absurd (false≢true wrong)
+fault_shows true true true true right wrong = absurd (false≢true wrong)
+fault_shows true true true false right wrong = absurd (true≢false right)
+fault_shows true true false d right wrong = refl
+fault_shows true false true d right wrong = refl
+fault_shows true false false true right wrong = absurd (true≢false right)
+fault_shows true false false false right wrong = absurd (false≢true wrong)
+
+-- Bits with one colour are one.
+bit_is_one : (a b : ℕ) → a < 2 → b < 2 → eqb a 1 ≡ eqb b 1 → a ≡ b
+bit_is_one a b ha hb e =
+    elim (cases_Bool (eqb a 1)) [
+      | inl t ↦ eqb-true a 1 t ∙ sym (eqb-true b 1 (sym e ∙ t))
+      | inr f ↦
+          let na : a ≡ 1 → ⊥ = eqb-false a 1 f in
+          let nb : b ≡ 1 → ⊥ = eqb-false b 1 (sym e ∙ f) in
+          elim (cases_lt 0 a) [
+            | inl h ↦ absurd (na (omega (arith, h, ha)))
+            | inr h ↦ elim (cases_lt 0 b) [ inl k ↦ absurd (nb (omega (arith, k, hb))) | inr k ↦ omega (arith, h, k) ]
+          ]
+    ]
+
+-- Two lists of codewords that differ in a codeword have a bit of it in which they differ.
+colour_differs : (u v : List ℕ) (word : ℕ) → get_or u word 0 < 256 → get_or v word 0 < 256 → (get_or u word 0 ≡ get_or v word 0 → ⊥)
+    → (bit : ℕ) × (1 ≤ bit) × (bit ≤ 8) × (bit_of u word bit ≡ bit_of v word bit → ⊥)
+colour_differs u v word hu hv other =
+    let d = bit_differs 8 (get_or u word 0) (get_or v word 0) hu hv other in
+    let back : 8 - (8 - d.0) ≡ d.0 = omega (arith, d.1) in (
+      8 - d.0,
+      omega (arith, d.1),
+      omega arith,
+      λ h.
+          let same : eqb (bit_at (get_or u word 0) d.0) 1 ≡ eqb (bit_at (get_or v word 0) d.0) 1 =
+          subst (λ j. eqb (bit_at (get_or u word 0) j) 1 ≡ eqb (bit_at (get_or v word 0) j) 1) back h in
+          d.2 (bit_is_one (bit_at (get_or u word 0) d.0) (bit_at (get_or v word 0) d.0) (omega arith) (omega arith) same),
+    )
+
+-- ---- the cells of a block's codewords
+
+-- A bit of codeword i of block b lies in the symbol cell.
+record LiesAt (size : SizeRow) (b i r c : ℕ) : Type 0 where
+  bit : ℕ
+  from_one : 1 ≤ bit
+  to_eight : bit ≤ 8
+  row : symbol_line size.region_side (place size.mapping (i * size.blocks + b) bit).row ≡ r
+  column : symbol_line size.region_side (place size.mapping (i * size.blocks + b) bit).column ≡ c
+
+-- A cell is its row and its column.
+same_cell : (x y : Cell) → x.row ≡ y.row → x.column ≡ y.column → x ≡ y
+same_cell x y e f = ap (λ r. At r x.column) e ∙ ap (λ c. At y.row c) f
+
+-- One of two cases, each of which gives the same.
+of_match : (b : Bool) (P Q R : Type 0) → MatchBool b P Q → (P → R) → (Q → R) → R
+of_match true P Q R h p q = p h
+of_match false P Q R h p q = q h
+
+-- A place of a block is a place of the symbol.
+in_symbol : (size : SizeRow) → Facts size → (b i : ℕ) → b < size.blocks → i < block_length size → i * size.blocks + b < codeword_count size
+in_symbol size f b i hb hi = omega (arith, mul-add-lt i size.blocks b (block_length size) hi hb, f.words_dealt)
+
+-- Each bit of each codeword of a block has its place.
+is_place : (size : SizeRow) → IsRow size → (b i bit : ℕ) → b < size.blocks → i < block_length size → 1 ≤ bit → bit ≤ 8
+    → IsPlace size.mapping (i * size.blocks + b) bit (place size.mapping (i * size.blocks + b) bit)
+is_place size row b i bit hb hi low high = record {
+  word_in = omega (arith, in_symbol size (size_facts size row) b i hb hi, shape_count size row);
+  from_one = low;
+  to_eight = high;
+  there = refl;
+}
+
+-- A symbol cell holds a bit of at most one codeword of a block.
+one_lies : (size : SizeRow) → IsRow size → (b : ℕ) → b < size.blocks → (i j r c : ℕ) → i < block_length size → j < block_length size
+    → LiesAt size b i r c → LiesAt size b j r c → i ≡ j
+one_lies size row b hb i j r c hi hj li lj =
+    let f = size_facts size row in
+    let side : 0 < size.region_side = omega (arith, f.some_side) in
+    let x = place size.mapping (i * size.blocks + b) li.bit in
+    let y = place size.mapping (j * size.blocks + b) lj.bit in
+    let px = is_place size row b i li.bit hb hi li.from_one li.to_eight in
+    let py = is_place size row b j lj.bit hb hj lj.from_one lj.to_eight in
+    let same : y ≡ x = same_cell y x (line_is_one size.region_side y.row x.row side (lj.row ∙ sym li.row)) (line_is_one size.region_side y.column x.column side (lj.column ∙ sym li.column)) in
+    let py_at : IsPlace size.mapping (j * size.blocks + b) lj.bit x = subst (λ cell. IsPlace size.mapping (j * size.blocks + b) lj.bit cell) same py in
+    let each = each_cell_once size row in
+    let inside = each.inside (i * size.blocks + b) li.bit x px in
+    of_match _ (NoPlace size.mapping x) (OnePlace size.mapping x) (i ≡ j) (each.once x.row x.column inside.0 inside.1)
+    (λ none. absurd (none (i * size.blocks + b) li.bit px))
+    (λ one.
+    let ei = (one.3 (i * size.blocks + b) li.bit px).0 in
+    let ej = (one.3 (j * size.blocks + b) lj.bit py_at).0 in
+    (same_from_place i b j b size.blocks hb hb (ei ∙ sym ej)).0)
+
+-- The test that a cell has changed.
+abbrev changed : GridView → GridView → ℕ → ℕ → Bool
+changed g h row column = not (beq (cell_at g row column) (cell_at h row column))
+
+module _ (size : SizeRow) (rows others : List (List Bool)) (u v : List ℕ) where
+  -- the grid before, and the grid after
+  abbrev before : GridView
+  before = record { size = size; rows = rows }
+
+  abbrev after : GridView
+  after = record { size = size; rows = others }
+
+  -- A changed codeword has a changed cell.
+  changed_cell : AreHeld before u → AreHeld after v → (b : ℕ) → b < size.blocks → (i : ℕ) → i < block_length size
+      → (get_or (block_at size v b) i 0 ≡ get_or (block_at size u b) i 0 → ⊥) → IsWitness size.side (changed before after) (LiesAt size b) i
+  changed_cell held_u held_v b hb i hi other =
+      let row = held_u.square.row in
+      let f = size_facts size row in
+      let word = i * size.blocks + b in
+      let within = in_symbol size f b i hb hi in
+      let at_u = block_places size u held_u.codewords b i hb hi in
+      let at_v = block_places size v held_v.codewords b i hb hi in
+      let d = colour_differs u v word (held_u.codewords.bytes word 0 (omega (arith, within, held_u.codewords.count)))
+      (held_v.codewords.bytes word 0 (omega (arith, within, held_v.codewords.count))) (λ e. other (at_v ∙ sym e ∙ sym at_u)) in
+      let cell = place size.mapping word d.0 in
+      let here = is_place size row b i d.0 hb hi d.1 d.2 in
+      let inside = (each_cell_once size row).inside word d.0 cell here in
+      let side : 0 < size.region_side = omega (arith, f.some_side) in
+      let of_u = held_u.bits word d.0 cell here in
+      let of_v = held_v.bits word d.0 cell here in
+      record {
+        row = symbol_line size.region_side cell.row;
+        column = symbol_line size.region_side cell.column;
+        row_in = omega (arith, f.side, line_within size.region_side (regions_across size) cell.row side (omega (arith, inside.0, f.mapping)));
+        column_in = omega (arith, f.side, line_within size.region_side (regions_across size) cell.column side (omega (arith, inside.1, f.mapping)));
+        passes = colours_differ _ _ (λ e. d.3 (sym of_u ∙ e ∙ of_v));
+        belongs = record { bit = d.0; from_one = d.1; to_eight = d.2; row = refl; column = refl };
+      }
+
+  -- A block differs in at most as many codewords as cells have changed.
+  block_changes : AreHeld before u → AreHeld after v → (b : ℕ) → b < size.blocks → distance (block_at size v b) (block_at size u b) ≤ turned_cells before after
+  block_changes held_u held_v b hb =
+      let long = block_lengths size v held_v.codewords b hb in
+      subst (λ k. differing (block_at size v b) (block_at size u b) k ≤ turned_cells before after) (sym long)
+      (differing_below_cells size.side (LiesAt size b) (block_at size v b) (block_at size u b) (block_length size)
+      (changed before after) (one_lies size held_u.square.row b hb) (changed_cell held_u held_v b hb))
+
+-- A grid that has no border fault gets at most as many as cells change.
+border_changes : (size : SizeRow) (rows others : List (List Bool)) → border_fault_count (record { size = size; rows = rows }) ≡ 0
+    → border_fault_count (record { size = size; rows = others }) ≤ turned_cells (record { size = size; rows = rows }) (record { size = size; rows = others })
+border_changes size rows others none =
+    let g : GridView = record { size = size; rows = rows } in
+    let h : GridView = record { size = size; rows = others } in
+    cells_grow size.side (is_fault h) (changed g h) (λ r c hr hc wrong.
+    fault_shows (is_border size r c) (cell_at g r c) (cell_at h r c) (border_is_dark size r c) (none_pass size.side (is_fault g) r c none hr hc) wrong)
+
+-- A normal grid of which so many cells are turned over is read as its message.
+turned_reads : (m : List Item) (normal : GridView) (others : List (List Bool)) (limit : ℕ) → IsMessage m → IsNormalGrid m normal
+    → IsGrid (record { size = normal.size; rows = others }) → turned_cells normal (record { size = normal.size; rows = others }) ≤ normal.size.limit
+    → normal.size.limit ≤ limit → Reads (record { size = normal.size; rows = others }) limit m
+turned_reads m normal others limit h n is_grid few at_least =
+    let size = normal.size in
+    let f = size_facts size n.laid.holds.square.row in
+    let held = every_grid_holds (record { size = size; rows = others }) is_grid in
+    record {
+      border = omega (arith, border_changes size normal.rows others n.laid.border, few, at_least);
+      words = held.0;
+      c = n.words;
+      corrected = record {
+        words_held = held.1;
+        of_size = n.laid.holds.codewords;
+        near = λ b hb. record {
+          codeword = n.checked b hb;
+          long = block_lengths size n.words n.laid.holds.codewords b hb ∙ sym (block_lengths size held.0 held.1.codewords b hb);
+          close = omega (arith, block_changes size normal.rows others n.words held.0 n.laid.holds held.1 b hb, few, f.half);
+        };
+      };
+      spelled = normal_words_spell m normal h n;
+    }
+
+-- A side has one size.
+size_by_side : (a b : SizeRow) → IsRow a → IsRow b → a.side ≡ b.side → a ≡ b
+size_by_side a b ha hb e = some_is a b (sym ha ∙ ap row_with_side e ∙ hb)
+
+-- The law of turned cells.
+pub turned_cells_are_read : (m : List Item) (normal grid : GridView) (limit : ℕ) → IsMessage m → IsNormalGrid m normal → IsGrid grid
+    → grid.size.side ≡ normal.size.side → turned_cells normal grid ≤ normal.size.limit → normal.size.limit ≤ limit → Reads grid limit m
+turned_cells_are_read m normal grid limit h n is_grid side few at_least =
+    let same : grid.size ≡ normal.size = size_by_side grid.size normal.size is_grid.row n.laid.holds.square.row side in
+    let whole : ◌≡◌ {A = GridView} grid (record { size = normal.size; rows = grid.rows }) = ap (λ (s : SizeRow). let g : GridView = record { size = s; rows = grid.rows } in g) same in
+    subst (λ g. Reads g limit m) (sym whole)
+    (turned_reads m normal grid.rows limit h n (subst IsGrid whole is_grid) (subst (λ g. turned_cells normal g ≤ normal.size.limit) whole few) at_least)

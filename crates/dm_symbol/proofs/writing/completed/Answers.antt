@@ -1,0 +1,17 @@
+use Rattle.std.proofs.Common.{◌≡◌, ◌∙◌, subst, sym, arith}
+use Rattle.dm_symbol.specs.Blocks.{data_part}
+use Rattle.dm_symbol.proofs.Completion.{next_completed}
+use Rattle.dm_symbol.proofs.writing.completed.Goals as goal
+
+pub loop-b-preserved : goal.loop-b-preserved
+loop-b-preserved c =
+    let size = c.args.size in
+    let after = c.complete_block.new.words.list in
+    let same = c.loop-b.invariant.size in
+    let kept : data_part size after ≡ data_part size c.loop-b.words.list = subst (λ s. data_part s after ≡ data_part s c.loop-b.words.list) same c.complete_block.ensures.data_words in
+    record {
+      size = c.complete_block.ensures.size ∙ same;
+      data_words = kept ∙ c.loop-b.invariant.data_words;
+      checked = next_completed size c.loop-b.words.size c.loop-b.words.list after c.loop-b.b same (omega (arith, c.loop-b-test.true, c.blocks-b-end.ensures.value))
+          c.loop-b.invariant.checked c.complete_block.ensures.checked c.complete_block.ensures.others;
+    }

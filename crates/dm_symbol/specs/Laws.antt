@@ -1,0 +1,56 @@
+-- What holds of all messages and grids. The bytes of a message are numbers of 0 to 255.
+use Rattle.std.specs.Prelude.{◌≡◌, ℕ, ◌≤◌, List, Bool, Result, Ok, Err, not, replicate, ◌↔◌, sum_by, count_by}
+use Rattle.std.specs.Bool.{beq}
+use Rattle.std.specs.List.{range_with_len}
+use Rattle.dm_words.specs.declared.item.Item.{Item}
+use Rattle.dm_layout.specs.Grid.{GridView, IsGrid, cell_at}
+use Rattle.dm_words.specs.Messages.{IsMessage}
+use Rattle.dm_symbol.specs.declared.reading.Reading.{Reading}
+use Rattle.dm_symbol.specs.declared.reading.ReadFault.{ReadFault}
+use Rattle.dm_symbol.specs.declared.normalising.NormalFault.{NormalFault}
+use Rattle.dm_symbol.specs.NormalGrid.{IsNormalGrid}
+use Rattle.dm_symbol.specs.Reading.{Reads, ReadAnswer, reading_of}
+use Rattle.dm_symbol.specs.Normal.{HasNormal, NormalAnswer}
+
+-- Two normal grids are equal exactly where their messages are.
+abbrev pub NormalGridsTellMessages : Type 0
+NormalGridsTellMessages = (m n : List Item) (g h : GridView) → IsMessage m → IsMessage n → IsNormalGrid m g → IsNormalGrid n h → (g ≡ h) ↔ (m ≡ n)
+
+-- A grid is read as at most one message, whatever the limits.
+abbrev pub OneMessageIsRead : Type 0
+OneMessageIsRead = (grid : GridView) (k l : ℕ) (m n : List Item) → Reads grid k m → Reads grid l n → m ≡ n
+
+-- A grid has at most one answer for a limit.
+abbrev pub OneAnswerIsGiven : Type 0
+OneAnswerIsGiven = (grid : GridView) (limit : ℕ) (a b : Result Reading ReadFault) → ReadAnswer grid limit a → ReadAnswer grid limit b → a ≡ b
+
+-- A grid has at most one answer of `normal` for a limit.
+abbrev pub OneNormalAnswerIsGiven : Type 0
+OneNormalAnswerIsGiven = (grid : GridView) (limit : ℕ) (a b : Result GridView NormalFault) → NormalAnswer grid limit a → NormalAnswer grid limit b → a ≡ b
+
+-- The normal grid of a message is read as it for every limit, with nothing corrected in any block and no border fault, and has no
+-- other answer.
+abbrev pub NormalGridIsRead : Type 0
+NormalGridIsRead = (m : List Item) (grid : GridView) (limit : ℕ) (answer : Result Reading ReadFault) → IsMessage m → IsNormalGrid m grid
+    → ReadAnswer grid limit answer ↔ (answer ≡ Ok (reading_of m (replicate grid.size.blocks 0) 0))
+
+-- At how many cells two grids of one side differ.
+abbrev pub turned_cells : GridView → GridView → ℕ
+turned_cells g h =
+    sum_by (λ row. count_by (λ column. not (beq (cell_at g row column) (cell_at h row column))) (range_with_len 0 g.size.side)) (range_with_len 0 g.size.side)
+
+-- Where at most as many cells of a normal grid are turned over as codewords can be corrected in a block of its size, what comes out is
+-- read as the same message, for every border limit of at least that correction limit.
+abbrev pub TurnedCellsAreRead : Type 0
+TurnedCellsAreRead = (m : List Item) (normal grid : GridView) (limit : ℕ) → IsMessage m → IsNormalGrid m normal → IsGrid grid
+    → grid.size.side ≡ normal.size.side → turned_cells normal grid ≤ normal.size.limit → normal.size.limit ≤ limit → Reads grid limit m
+
+-- Normalising twice is once: where the answer is a normal grid, the answer for that grid is the grid itself, for every limit.
+abbrev pub NormalTwiceIsOnce : Type 0
+NormalTwiceIsOnce = (grid normal : GridView) (limit other : ℕ) (answer : Result GridView NormalFault) → HasNormal grid limit normal
+    → NormalAnswer normal other answer ↔ (answer ≡ Ok normal)
+
+-- Two read grids have equal normal grids exactly where their messages are equal, whatever the limits.
+abbrev pub EqualNormalGridsMeanEqualMessages : Type 0
+EqualNormalGridsMeanEqualMessages = (g h a b : GridView) (i j k l : ℕ) (m n : List Item) → Reads g i m → Reads h j n → HasNormal g k a → HasNormal h l b
+    → (a ≡ b) ↔ (m ≡ n)

@@ -1,0 +1,16 @@
+pub mod Blocks
+pub mod NormalGrid
+pub mod Reading
+pub mod Normal
+pub mod Laws
+pub use Rattle.dm_layout.specs.Sizes
+pub use Rattle.dm_layout.specs.Grid
+pub use Rattle.dm_layout.specs.Words
+pub use Rattle.dm_layout.specs.Border
+pub use Rattle.dm_layout.specs.Holds
+pub use Rattle.dm_words.specs.Messages
+pub use Rattle.dm_words.specs.Ascii
+pub use Rattle.dm_words.specs.Pads
+pub use Rattle.dm_words.specs.Spells
+pub use Rattle.dm_words.specs.Refused
+pub use Rattle.dm_code.specs.Codeword

@@ -1,0 +1,27 @@
+-- The normal grid of what a grid says.
+use Rattle.std.specs.Prelude.{◌≡◌, ℕ, List, Result, Ok, Err}
+use Rattle.dm_words.specs.declared.item.Item.{Item}
+use Rattle.dm_layout.specs.Grid.{GridView}
+use Rattle.dm_symbol.specs.declared.reading.ReadFault.{ReadFault}
+use Rattle.dm_symbol.specs.declared.normalising.NormalFault.{NormalFault}
+use Rattle.dm_symbol.specs.declared.normalising.NormalFault.TheVariants.{Read, TooLong}
+use Rattle.dm_symbol.specs.NormalGrid.{IsNormalGrid, HasNormalGrid}
+use Rattle.dm_symbol.specs.Reading.{Reads, ReadAnswer}
+
+-- the grid is read as a message, and this is the normal grid of that message
+pub record HasNormal (grid : GridView) (limit : ℕ) (normal : GridView) : Type 0 where
+  pub message : List Item
+  pub read : Reads grid limit message
+  pub normal_grid : IsNormalGrid message normal
+
+-- the grid is read as a message that has no normal grid
+pub record HasNoNormal (grid : GridView) (limit : ℕ) : Type 0 where
+  pub message : List Item
+  pub read : Reads grid limit message
+  pub too_long : HasNormalGrid message → ⊥
+
+-- the answer for a grid: the normal grid of the message as which it is read; that this message has none; or the fault of reading
+pub data NormalAnswer (grid : GridView) (limit : ℕ) (answer : Result GridView NormalFault) : Type 0 where
+  normal : (n : GridView) → HasNormal grid limit n → answer ≡ Ok n → NormalAnswer grid limit answer
+  too_long : HasNoNormal grid limit → answer ≡ Err TooLong → NormalAnswer grid limit answer
+  fault : (why : ReadFault) → ReadAnswer grid limit (Err why) → answer ≡ Err (Read why) → NormalAnswer grid limit answer

@@ -1,0 +1,37 @@
+//! Laws of the definitions. No function here has a body or makes a call.
+
+ghost use Rattle.dm_symbol.specs.Laws.{NormalGridsTellMessages, OneMessageIsRead, OneAnswerIsGiven, OneNormalAnswerIsGiven, NormalGridIsRead, TurnedCellsAreRead, NormalTwiceIsOnce, EqualNormalGridsMeanEqualMessages};
+
+/// Two normal grids are equal exactly where their messages are.
+pub fn normal_grids_tell_messages()
+    ensures { NormalGridsTellMessages }
+{}
+
+/// A grid is read as at most one message, whatever the limits, and has at most one answer of reading and one of normalising for a
+/// limit.
+pub fn one_message_is_read()
+    ensures message { OneMessageIsRead }
+    ensures answer { OneAnswerIsGiven }
+    ensures normal { OneNormalAnswerIsGiven }
+{}
+
+/// The normal grid of a message is read as it for every limit, with nothing corrected.
+pub fn normal_grid_is_read()
+    ensures { NormalGridIsRead }
+{}
+
+/// Where at most as many cells of a normal grid are turned over as codewords can be corrected in a block of its size, what comes out is
+/// read as the same message, for every border limit of at least that correction limit.
+pub fn turned_cells_are_read()
+    ensures { TurnedCellsAreRead }
+{}
+
+/// Normalising twice is once.
+pub fn normal_twice_is_once()
+    ensures { NormalTwiceIsOnce }
+{}
+
+/// Two read grids have equal normal grids exactly where their messages are equal.
+pub fn equal_normal_grids_mean_equal_messages()
+    ensures { EqualNormalGridsMeanEqualMessages }
+{}

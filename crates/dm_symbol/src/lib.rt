@@ -1,0 +1,19 @@
+//! Whole symbols of Data Matrix ECC 200 (ISO/IEC 16022): the normal grid of a message, the message of a grid, and the normal grid
+//! of what a grid says.
+#![tactic(auto)]
+
+pub mod laws;
+mod limit;
+mod normalising;
+mod reading;
+mod writing;
+
+pub use dm_layout::{Grid, GridFault, Size};
+pub use dm_words::{Item, Message, TooLong, WordFault};
+pub use limit::usual_limit;
+pub use normalising::{NormalFault, normal};
+pub use reading::{ReadFault, Reading, read};
+pub use writing::write;
+
+#[cfg(test)]
+mod tests;

@@ -1,0 +1,82 @@
+//! Writing: the normal grid of a message.
+
+ghost use Rattle.std.specs.Prelude.{◌≡◌, ◌≢◌, ◌++◌, ◌<◌, ◌↔◌, ℕ, length, take, IfOk, IsErr, IsOk, OnErr};
+ghost use Rattle.dm_code.specs.Codeword.{IsCodeword};
+ghost use Rattle.dm_layout.specs.Sizes.{codeword_count, block_check};
+ghost use Rattle.dm_layout.specs.Grid.{GridView};
+ghost use Rattle.dm_symbol.specs.Blocks.{AreWordsOf, BlocksAreCodewords, block_at, data_part};
+ghost use Rattle.dm_symbol.specs.NormalGrid.{IsNormalGrid, HasNormalGrid};
+
+use arrayvec::ArrayVec;
+use dm_code::encode;
+use dm_layout::{Grid, Size, Words, block, lay, put_block};
+use dm_words::{Message, TooLong, ascii_words, padded};
+
+/// The most codewords of a symbol, data and check together.
+const MOST_CODEWORDS: usize = 288;
+
+/// The normal grid of a message: its ASCII codewords, pads and check codewords, laid in the smallest symbol that holds them (ISO/IEC
+/// 16022, symbol construction). `TooLong` comes exactly where the message has none, since its ASCII codewords are more than the data
+/// codewords of the largest size.
+pub fn write(message: &Message) -> Result<Grid, TooLong>
+    ensures normal { IfOk result (λ grid. IsNormalGrid message.now grid) }
+    ensures one { IfOk result (λ grid. (other : GridView) → IsNormalGrid message.now other → other ≡ grid) }
+    ensures fits { IsOk result ↔ HasNormalGrid message.now }
+    ensures none { OnErr result ((grid : GridView) → IsNormalGrid message.now grid → ⊥) }
+{
+    let words = ascii_words(message)?;
+    let Some(size) = Size::for_words(words.len() as u16) else {
+        return Err(TooLong);
+    };
+    Ok(lay(&completed(&padded(&words, size), size)))
+}
+
+/// The codewords of a symbol of this size with these data codewords: the check codewords make each block a codeword.
+fn completed(data_words: &[u8], size: Size) -> Words
+    requires { length data_words.now ≡ size.data_count }
+    ensures size { result.size ≡ size }
+    ensures data_words { data_part size result.list ≡ data_words.now }
+    ensures checked { BlocksAreCodewords size result.list }
+{
+    let mut words = Words::new(size, &with_room(data_words, size));
+    for b in 0..size.blocks() as usize {
+        complete_block(&mut words, b);
+    }
+    words
+}
+
+/// The data codewords, and 0 at the place of each check codeword.
+fn with_room(data_words: &[u8], size: Size) -> ArrayVec<u8, MOST_CODEWORDS>
+    requires { length data_words.now ≡ size.data_count }
+    ensures count { length result.items ≡ codeword_count size }
+    ensures front { take size.data_count result.items ≡ data_words.now }
+{
+    let count = usize::from(size.data_count() + size.check_count());
+    let mut list = ArrayVec::new();
+    for word in data_words {
+        list.push(*word);
+    }
+    for _ in data_words.len()..count {
+        list.push(0);
+    }
+    list
+}
+
+/// Puts the check codewords of one block: its data codewords stay, and the block becomes a codeword.
+fn complete_block(words: &mut Words, b: usize)
+    requires { b < words.old.size.blocks }
+    ensures size { words.new.size ≡ words.old.size }
+    ensures words { AreWordsOf words.old.size words.new.list }
+    ensures data_words { data_part words.old.size words.new.list ≡ data_part words.old.size words.old.list }
+    ensures checked { IsCodeword (block_check words.old.size) (block_at words.old.size words.new.list b) }
+    ensures others { (a : ℕ) → a < words.old.size.blocks → a ≢ b → block_at words.old.size words.new.list a ≡ block_at words.old.size words.old.list a }
+{
+    let size = words.size();
+    let mut list = block(words, b);
+    list.truncate(size.block_data() as usize);
+    let checks = encode(&list, size.block_check() as usize);
+    for check in checks.as_slice() {
+        list.push(*check);
+    }
+    put_block(words, b, &list);
+}
