@@ -1,0 +1,14 @@
+-- The exit statuses.
+use Rattle.std.specs.Prelude.{ℕ}
+use Rattle.dm_tool.specs.declared.ending.Ending.{Ending}
+use Rattle.dm_tool.specs.declared.ending.Ending.TheVariants.{Answered, Refused, Usage, ReadFailed, WriteFailed, TooMuchInput, NoMemory}
+
+-- 0 where the line was answered, 1 where it was refused, 2 for another command line, 3 for what the devices or the memory refused
+abbrev pub status_of : Ending → ℕ
+status_of Answered = 0
+status_of Refused = 1
+status_of Usage = 2
+status_of ReadFailed = 3
+status_of WriteFailed = 3
+status_of TooMuchInput = 3
+status_of NoMemory = 3
