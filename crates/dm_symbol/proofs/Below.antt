@@ -1,29 +1,26 @@
 -- What the layers below promise, as the proofs here cite it.
-use Rattle.std.proofs.Common.{◌≡◌, ℕ, ◌+◌, ◌*◌, ◌/◌, ◌<◌, ◌≤◌, List, length, get_or, ap, Some}
+use Rattle.std.proofs.Common.{◌≡◌, ℕ, ◌+◌, ◌*◌, ◌<◌, ◌≤◌, List, length, get_or, ap}
 use Rattle.std.specs.List.{All}
 use Rattle.dm_words.specs.declared.item.Item.{Item}
 use Rattle.dm_code.specs.Codeword.{IsCodeword, distance}
-use Rattle.dm_layout.specs.Sizes.{SizeRow, IsRow, row_for_words, most_data, codeword_count, block_data, block_check, block_length, regions_across}
-use Rattle.dm_layout.specs.Grid.{GridView, IsGrid}
-use Rattle.dm_layout.specs.Blocks.{block_of}
+use Rattle.dm_layout.specs.Sizes.{SizeRow, IsRow, codeword_count, block_length}
+use Rattle.dm_layout.specs.Grid.{GridView}
 use Rattle.dm_layout.specs.Placement.{shapes, EachCellOnce}
-use Rattle.dm_layout.specs.Holds.{Holds, IsLaid}
+use Rattle.dm_layout.specs.Holds.{IsLaid}
 use Rattle.dm_layout.specs.Words.{WordsView}
 use Rattle.dm_words.specs.Ascii.{ascii}
 use Rattle.dm_words.specs.Pads.{padded}
 use Rattle.dm_words.specs.Spells.{Spells}
 use Rattle.dm_words.specs.Laws.{HasOneAnswer}
-use Rattle.dm_words.specs.Messages.{IsMessage, IsItem}
+use Rattle.dm_words.specs.Messages.{IsMessage}
 use Rattle.dm_symbol.specs.Blocks.{symbol, AreWordsOf, AreHeld, block_at}
 use Rattle.dm_code.proofs.Distance.{codewords_one}
 use Rattle.dm_layout.proofs.BlockLemmas.{word_of_block, length_of_block}
 use Rattle.dm_layout.proofs.Reading.{one_list}
 use Rattle.dm_layout.proofs.Laid.{one_laid}
 use Rattle.dm_layout.proofs.PlacementRows.{once_at_row, count_at_row}
-use Rattle.dm_words.proofs.WholeReading.{one_answer as one_answer_of}
 use Rattle.dm_words.proofs.ItemBytes.{spelled_is_message as spelled_is_message_of}
-use Rattle.dm_words.proofs.AsciiWords.{ascii_spells as ascii_spells_padded}
-use Rattle.std.proofs.lemmas.List.Elements.{recursion_from_All}
+use Rattle.dm_words.proofs.LawLemmas.{one_answer as one_answer_of, ascii_spells as ascii_spells_padded}
 
 -- Two codewords of k checks and one length that differ in at most k places are equal.
 pub codewords_apart : (k : ℕ) (c d : List ℕ) → IsCodeword k c → IsCodeword k d → length c ≡ length d → length c ≤ 255 → distance c d ≤ k → c ≡ d
@@ -56,11 +53,11 @@ shape_count size row = count_at_row size row
 
 -- Codewords spell one message, or are refused with one fault.
 pub one_answer : (words : List ℕ) → All (λ w. w < 256) words → HasOneAnswer words
-one_answer words h = one_answer_of words (recursion_from_All (λ w. w < 256) words h)
+one_answer words h = one_answer_of words h
 
 -- The ASCII form of a message, with pads, spells the message.
 pub ascii_spells : (m : List Item) (count : ℕ) → IsMessage m → length (ascii m) ≤ count → Spells (padded (ascii m) count) m
-ascii_spells m count h fits = ascii_spells_padded m count (recursion_from_All IsItem m h)
+ascii_spells m count h fits = ascii_spells_padded m count h fits
 
 -- What is spelled is a message.
 pub spelled_is_message : (words : List ℕ) (m : List Item) → Spells words m → IsMessage m

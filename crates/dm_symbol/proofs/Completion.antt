@@ -1,12 +1,12 @@
 -- Check codewords are put, and the data codewords stay.
-use Rattle.std.proofs.Common.{◌≡◌, ◌≢◌, ℕ, ◌+◌, ◌-◌, ◌*◌, ◌/◌, ◌%◌, ◌<◌, ◌≤◌, List, ◌++◌, length, get_or, take, min, inl, inr, refl, sym, ap, subst, ◌∙◌, arith, mul_comm}
+use Rattle.std.proofs.Common.{◌≡◌, ◌≢◌, ℕ, ◌+◌, ◌/◌, ◌%◌, ◌<◌, List, ◌++◌, length, get_or, take, inl, inr, sym, ap, subst, ◌∙◌, arith, mul_comm}
 use Rattle.std.proofs.lemmas.Bool.{cases_eq}
-use Rattle.std.proofs.lemmas.List.{ext_get_or, get_or-take, get_or_append_left, length-take, length-take-le}
+use Rattle.std.proofs.lemmas.List.{ext_get_or, get_or-take, get_or_append_left, length-take-le}
 use Rattle.std.proofs.lemmas.Nat.{mod_below, div_below}
 use Rattle.dm_code.specs.Codeword.{IsCodeword}
-use Rattle.dm_layout.specs.Sizes.{SizeRow, codeword_count, block_data, block_check, block_length}
+use Rattle.dm_layout.specs.Sizes.{SizeRow, codeword_count, block_data, block_check}
 use Rattle.dm_symbol.specs.Blocks.{AreWordsOf, block_at, data_part}
-use Rattle.dm_symbol.proofs.SizeFacts.{Facts, size_facts}
+use Rattle.dm_symbol.proofs.SizeFacts.{size_facts}
 use Rattle.dm_symbol.proofs.SymbolBlocks.{place_in_block}
 use Rattle.dm_symbol.proofs.Below.{block_lengths}
 

@@ -1,10 +1,10 @@
 -- Counts of the cells of a square.
-use Rattle.std.proofs.Common.{◌≡◌, ℕ, zero, suc, ◌+◌, ◌<◌, ◌≤◌, Bool, true, false, not, ◌&&◌, cond, eqb, List, [], ◌∷◌, length, get_or, inl, inr, refl, sym, subst, ◌∙◌, zero-add, arith}
+use Rattle.std.proofs.Common.{◌≡◌, ℕ, zero, suc, ◌+◌, ◌<◌, ◌≤◌, Bool, true, false, not, ◌&&◌, cond, eqb, List, get_or, inl, inr, refl, sym, subst, ◌∙◌, zero-add, arith}
 use Rattle.std.specs.List.{range_with_len, sum_by, count_by}
 use Rattle.std.proofs.lemmas.List.Sums.{sum_by-cons, get_or-le-sum_by}
 use Rattle.std.proofs.lemmas.List.FromFn.{get_or-range_with_len, length-range_with_len}
 use Rattle.std.proofs.lemmas.Bool.{cases_Bool, cases_eq, cond-true, cond-false, eqb-true, eq-eqb, and_parts, and_from, and_right, not_from_false, not_from_true}
-use Rattle.dm_code.specs.Codeword.{differs, differing}
+use Rattle.dm_code.specs.Codeword.{differing}
 use Rattle.dm_symbol.proofs.Distances.{differs_same, differs_most}
 
 -- A sum of larger terms is larger.

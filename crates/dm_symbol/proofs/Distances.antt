@@ -1,7 +1,7 @@
 -- Distances of words.
-use Rattle.std.proofs.Common.{◌≡◌, ℕ, zero, suc, ◌+◌, ◌-◌, ◌<◌, ◌≤◌, Bool, true, false, cond, eqb, List, length, get_or, refl, sym, inl, inr, arith}
+use Rattle.std.proofs.Common.{◌≡◌, ℕ, zero, suc, ◌+◌, ◌-◌, ◌<◌, ◌≤◌, eqb, List, get_or, refl, sym, inl, inr, arith}
 use Rattle.std.proofs.lemmas.Bool.{cases_Bool, cases_eq, cases_lt, eq-eqb, ne_eqb, cond-true, cond-false}
-use Rattle.dm_code.specs.Codeword.{differs, differing, distance}
+use Rattle.dm_code.specs.Codeword.{differs, differing}
 
 -- Equal numbers count nothing.
 pub differs_same : (a b : ℕ) → a ≡ b → differs a b ≡ 0

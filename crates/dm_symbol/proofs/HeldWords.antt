@@ -1,12 +1,11 @@
 -- Every grid holds some codewords.
-use Rattle.std.proofs.Common.{◌≡◌, ℕ, ◌+◌, ◌*◌, ◌<◌, ◌≤◌, Bool, true, false, List, [], ◌∷◌, map, length, refl, sym, subst, ◌∙◌, arith}
+use Rattle.std.proofs.Common.{ℕ, ◌<◌, ◌≤◌, Bool, true, false, List, [], ◌∷◌, map, refl, sym, subst, ◌∙◌, arith}
 use Rattle.std.specs.List.{All}
 use Rattle.std.proofs.lemmas.List.Elements.{All-map, All-from_get_or}
 use Rattle.dm_layout.specs.declared.shape.Shape.{Shape}
 use Rattle.dm_layout.specs.declared.shape.Shape.TheVariants.{Standard, Corner1, Corner2, Corner3, Corner4}
 use Rattle.dm_layout.specs.Grid.{GridView, IsGrid}
 use Rattle.dm_layout.specs.Border.{mapped_cell}
-use Rattle.dm_layout.specs.Words.{IsWords}
 use Rattle.dm_layout.specs.Placement.{cells_of, shapes, places_in_order}
 use Rattle.dm_layout.proofs.Bits.{digit, number_of}
 use Rattle.dm_layout.proofs.PlacementRows.{count_at_row}

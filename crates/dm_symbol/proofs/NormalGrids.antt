@@ -1,16 +1,14 @@
 -- A message has one normal grid, and a normal grid one message.
-use Rattle.std.proofs.Common.{◌≡◌, ℕ, ◌+◌, ◌<◌, ◌≤◌, List, length, Some, Option, inl, inr, refl, sym, ap, subst, ◌∙◌, arith}
+use Rattle.std.proofs.Common.{◌≡◌, ℕ, ◌<◌, List, length, Some, inl, inr, sym, ap, subst, ◌∙◌}
 use Rattle.std.proofs.lemmas.List.Elements.{All-take}
 use Rattle.dm_words.specs.declared.item.Item.{Item}
-use Rattle.dm_layout.specs.Sizes.{SizeRow, IsRow}
-use Rattle.dm_layout.specs.Grid.{GridView, IsGrid}
-use Rattle.dm_layout.specs.Words.{IsWords}
-use Rattle.dm_layout.specs.Holds.{Holds, IsLaid}
+use Rattle.dm_layout.specs.Sizes.{SizeRow}
+use Rattle.dm_layout.specs.Grid.{GridView}
+use Rattle.dm_layout.specs.Holds.{IsLaid}
 use Rattle.dm_words.specs.Ascii.{ascii}
 use Rattle.dm_words.specs.Pads.{padded}
 use Rattle.std.specs.List.{All}
 use Rattle.dm_words.specs.Spells.{Spells}
-use Rattle.dm_words.specs.Laws.{HasOneAnswer}
 use Rattle.dm_words.specs.Messages.{IsMessage}
 use Rattle.dm_symbol.specs.Blocks.{symbol, AreWordsOf, BlocksAreCodewords, data_part}
 use Rattle.dm_symbol.specs.NormalGrid.{IsNormalGrid}

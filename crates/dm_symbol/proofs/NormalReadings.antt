@@ -1,9 +1,8 @@
 -- What is read from a normal grid.
-use Rattle.std.proofs.Common.{◌≡◌, ◌↔◌, ℕ, zero, suc, ◌+◌, ◌*◌, ◌/◌, ◌<◌, ◌≤◌, List, [], ◌∷◌, map, replicate, length, get_or, IsSome, Result, Ok, Err, inl, inr, refl, sym, ap, subst, ◌∙◌, arith}
+use Rattle.std.proofs.Common.{◌≡◌, ◌↔◌, ℕ, zero, suc, ◌+◌, List, ◌∷◌, map, replicate, length, IsSome, Result, Ok, Err, refl, sym, ap, subst, ◌∙◌, arith}
 use Rattle.std.specs.List.{range_with_len}
 use Rattle.dm_words.specs.declared.item.Item.{Item}
-use Rattle.dm_code.specs.Codeword.{IsNear, distance, differing}
-use Rattle.dm_layout.specs.Sizes.{SizeRow, block_check}
+use Rattle.dm_code.specs.Codeword.{distance}
 use Rattle.dm_layout.specs.Grid.{GridView}
 use Rattle.dm_layout.specs.Border.{border_fault_count}
 use Rattle.dm_words.specs.Messages.{IsMessage}
@@ -13,7 +12,7 @@ use Rattle.dm_symbol.specs.declared.normalising.NormalFault.{NormalFault}
 use Rattle.dm_symbol.specs.declared.normalising.NormalFault.TheVariants.{Read, TooLong}
 use Rattle.dm_symbol.specs.Blocks.{block_at, distances}
 use Rattle.dm_symbol.specs.NormalGrid.{IsNormalGrid, HasNormalGrid}
-use Rattle.dm_symbol.specs.Reading.{IsCorrected, Reads, ReadAnswer, reading_of, IsReadAs}
+use Rattle.dm_symbol.specs.Reading.{IsCorrected, Reads, ReadAnswer, reading_of}
 use Rattle.dm_symbol.specs.Normal.{HasNormal, HasNoNormal, NormalAnswer}
 use Rattle.dm_symbol.proofs.Distances.{differing_same}
 use Rattle.dm_symbol.proofs.NormalGrids.{normal_words_spell, normal_grid_is_one, normal_message_is_one}

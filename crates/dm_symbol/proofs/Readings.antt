@@ -1,29 +1,25 @@
 -- What is read from a grid is one.
-use Rattle.std.proofs.Common.{◌≡◌, ℕ, ◌+◌, ◌*◌, ◌/◌, ◌<◌, ◌≤◌, List, [], ◌∷◌, map, replicate, length, get_or, Result, Ok, Err, inl, inr, refl, sym, ap, subst, ◌∙◌, arith}
-use Rattle.std.specs.List.{All, range_with_len}
-use Rattle.std.proofs.lemmas.Bool.{cases_lt, cases_order}
+use Rattle.std.proofs.Common.{◌≡◌, ℕ, ◌<◌, ◌≤◌, List, length, Result, Ok, Err, inl, inr, refl, sym, ap, subst, ◌∙◌, arith}
+use Rattle.std.specs.List.{All}
+use Rattle.std.proofs.lemmas.Bool.{cases_order}
 use Rattle.dm_words.specs.declared.item.Item.{Item}
 use Rattle.dm_words.specs.declared.fault.WordFault.{WordFault}
-use Rattle.dm_code.specs.Codeword.{IsCodeword, IsNear, distance, differing}
-use Rattle.dm_layout.specs.Sizes.{SizeRow, IsRow, block_check, block_length}
-use Rattle.dm_layout.specs.Grid.{GridView, IsGrid}
+use Rattle.dm_code.specs.Codeword.{IsNear, differing}
+use Rattle.dm_layout.specs.Sizes.{SizeRow, block_check}
+use Rattle.dm_layout.specs.Grid.{GridView}
 use Rattle.dm_layout.specs.Border.{border_fault_count}
-use Rattle.dm_layout.specs.Words.{IsWords}
-use Rattle.dm_layout.specs.Holds.{Holds}
 use Rattle.dm_words.specs.Spells.{Spells}
 use Rattle.dm_words.specs.Refused.{Refused}
-use Rattle.dm_words.specs.Laws.{HasOneAnswer}
 use Rattle.dm_words.specs.Messages.{IsMessage}
 use Rattle.dm_symbol.specs.declared.reading.Reading.{Reading}
 use Rattle.dm_symbol.specs.declared.reading.ReadFault.{ReadFault}
 use Rattle.dm_symbol.specs.declared.reading.ReadFault.TheVariants as fault
-use Rattle.dm_symbol.specs.Blocks.{AreWordsOf, AreHeld, BlocksAreNear, block_at, data_part, distances}
-use Rattle.dm_symbol.specs.NormalGrid.{IsNormalGrid}
-use Rattle.dm_symbol.specs.Reading.{IsCorrected, Reads, HasNear, IsFirstBeyond, ReadAnswer, reading_of, IsReadAs}
-use Rattle.dm_symbol.proofs.Distances.{differing_over, differing_turned, differing_same}
+use Rattle.dm_symbol.specs.Blocks.{AreHeld, BlocksAreNear, block_at, data_part, distances}
+use Rattle.dm_symbol.specs.Reading.{IsCorrected, Reads, IsFirstBeyond, ReadAnswer, reading_of, IsReadAs}
+use Rattle.dm_symbol.proofs.Distances.{differing_over, differing_turned}
 use Rattle.dm_symbol.proofs.SymbolBlocks.{same_blocks}
-use Rattle.dm_symbol.proofs.NormalGrids.{data_is_bytes, one_spelled, normal_words_spell}
-use Rattle.dm_symbol.proofs.SizeFacts.{Facts, size_facts}
+use Rattle.dm_symbol.proofs.NormalGrids.{data_is_bytes, one_spelled}
+use Rattle.dm_symbol.proofs.SizeFacts.{size_facts}
 use Rattle.dm_symbol.proofs.Below.{codewords_apart, block_lengths, held_words_are_one, one_answer, spelled_is_message}
 
 -- At most one codeword is near a block.

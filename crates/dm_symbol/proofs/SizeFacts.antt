@@ -1,11 +1,11 @@
 -- How the numbers of a row of the table of sizes hang together.
-use Rattle.std.proofs.Common.{◌≡◌, ℕ, ◌+◌, ◌*◌, ◌/◌, ◌<◌, ◌≤◌, Bool, true, false, cond, ◌&&◌, List, [], ◌∷◌, length, Option, Some, None, refl, ap, sym, subst, nat_eq, nat_le, arith}
+use Rattle.std.proofs.Common.{◌≡◌, ℕ, ◌+◌, ◌*◌, ◌/◌, ◌<◌, ◌≤◌, Bool, true, false, cond, ◌&&◌, List, [], ◌∷◌, Some, refl, ap, subst, nat_eq, nat_le}
 use Rattle.std.specs.Prelude.{find}
 use Rattle.std.specs.List.{AllByRecursion, list_all}
-use Rattle.std.proofs.lemmas.Bool.{and_parts, eqb-true, leb-true, leb-false, cases_Bool, cond-true, cond-false}
+use Rattle.std.proofs.lemmas.Bool.{and_parts, eqb-true, leb-true}
 use Rattle.std.proofs.lemmas.List.Sums.{AllPass-from_list_all}
 use Rattle.std.proofs.lemmas.List.Elements.{recursion_from_All}
-use Rattle.dm_layout.specs.Sizes.{SizeRow, IsRow, size_table, row_with_side, row_for_words, most_data, codeword_count, block_data, block_check, block_length, regions_across}
+use Rattle.dm_layout.specs.Sizes.{SizeRow, IsRow, size_table, row_for_words, most_data, codeword_count, block_data, block_check, block_length, regions_across}
 
 -- What holds of each row holds of a row that is found, which passes the test.
 found : (P : SizeRow → Type 0) (p : SizeRow → Bool) (rows : List SizeRow) (row : SizeRow) → AllByRecursion P rows → find p rows ≡ Some row → P row × (p row ≡ true)

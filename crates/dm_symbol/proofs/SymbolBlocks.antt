@@ -1,13 +1,12 @@
 -- The words of a symbol by its blocks.
-use Rattle.std.proofs.Common.{◌≡◌, ℕ, zero, suc, ◌+◌, ◌-◌, ◌*◌, ◌/◌, ◌%◌, ◌<◌, ◌≤◌, List, length, get_or, take, refl, sym, ap, subst, ◌∙◌, arith, rules, mul_comm}
-use Rattle.std.proofs.lemmas.List.{ext_get_or, get_or-take, length-take-le}
+use Rattle.std.proofs.Common.{◌≡◌, ℕ, ◌+◌, ◌*◌, ◌/◌, ◌%◌, ◌<◌, ◌≤◌, List, length, get_or, sym, ap, ◌∙◌, arith, mul_comm}
+use Rattle.std.proofs.lemmas.List.{ext_get_or, get_or-take}
 use Rattle.std.proofs.lemmas.Nat.{div-add-mod', mod_below, mul-add-lt, div_below}
-use Rattle.dm_code.specs.Codeword.{IsCodeword, distance, differing}
-use Rattle.dm_layout.specs.Sizes.{SizeRow, IsRow, codeword_count, block_data, block_check, block_length}
-use Rattle.dm_layout.specs.Words.{IsWords}
+use Rattle.dm_code.specs.Codeword.{distance}
+use Rattle.dm_layout.specs.Sizes.{SizeRow, codeword_count, block_data, block_check, block_length}
 use Rattle.dm_symbol.specs.Blocks.{AreWordsOf, BlocksAreCodewords, block_at, data_part}
 use Rattle.dm_symbol.proofs.Distances.{differing_front}
-use Rattle.dm_symbol.proofs.SizeFacts.{Facts, size_facts}
+use Rattle.dm_symbol.proofs.SizeFacts.{size_facts}
 use Rattle.dm_symbol.proofs.Below.{block_places, block_lengths, codewords_apart}
 
 -- Place j of a symbol is place j div B of block j mod B.

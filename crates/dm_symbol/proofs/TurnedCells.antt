@@ -1,28 +1,25 @@
 -- Cells that are turned over.
-use Rattle.std.proofs.Common.{◌≡◌, ℕ, zero, suc, ◌+◌, ◌-◌, ◌*◌, ◌/◌, ◌%◌, ◌^◌, ◌<◌, ◌≤◌, Bool, true, false, not, ◌&&◌, cond, eqb, List, length, get_or, Some, inl, inr, refl, sym, ap, subst, ◌∙◌, arith, add-suc}
+use Rattle.std.proofs.Common.{◌≡◌, ℕ, zero, suc, ◌+◌, ◌-◌, ◌*◌, ◌/◌, ◌%◌, ◌^◌, ◌<◌, ◌≤◌, Bool, true, false, not, ◌&&◌, eqb, List, get_or, inl, inr, refl, sym, ap, subst, ◌∙◌, arith}
 use Rattle.std.specs.Bool.{beq, MatchBool}
 use Rattle.std.specs.Int.{bit_at}
-use Rattle.std.specs.List.{range_with_len}
 use Rattle.std.proofs.Math.Nat.{div-mul-le_self, pow-suc, mul-add}
-use Rattle.std.proofs.lemmas.Bool.{cases_Bool, cases_eq, cases_lt, cases_order, and_parts, and_from, not-true, not_from_false, eqb-true, eqb-false, true≢false, false≢true}
-use Rattle.std.proofs.lemmas.Nat.{div_below, le-div, same_from_place, mul-add-lt, div-add-mod', mod_below}
+use Rattle.std.proofs.lemmas.Bool.{cases_Bool, cases_eq, cases_lt, cases_order, eqb-true, eqb-false, true≢false, false≢true}
+use Rattle.std.proofs.lemmas.Nat.{div_below, le-div, same_from_place, mul-add-lt}
 use Rattle.std.proofs.lemmas.Nat.Bits.{bit_at_lowest, bit_at-suc}
 use Rattle.dm_words.specs.declared.item.Item.{Item}
-use Rattle.dm_code.specs.Codeword.{IsCodeword, IsNear, distance, differing}
+use Rattle.dm_code.specs.Codeword.{distance, differing}
 use Rattle.dm_layout.specs.declared.shape.Cell.{Cell}
-use Rattle.dm_layout.specs.Sizes.{SizeRow, IsRow, row_with_side, codeword_count, block_check, block_length, regions_across}
+use Rattle.dm_layout.specs.Sizes.{SizeRow, IsRow, row_with_side, codeword_count, block_length, regions_across}
 use Rattle.dm_layout.specs.Grid.{GridView, IsGrid, cell_at}
-use Rattle.dm_layout.specs.Border.{border_fault_count, is_fault, is_border, border_is_dark, symbol_line, mapped_cell}
-use Rattle.dm_layout.specs.Words.{IsWords}
-use Rattle.dm_layout.specs.Placement.{place, shapes, At, IsPlace, NoPlace, OnePlace, EachCellOnce}
-use Rattle.dm_layout.specs.Holds.{Holds, bit_of}
+use Rattle.dm_layout.specs.Border.{border_fault_count, is_fault, is_border, border_is_dark, symbol_line}
+use Rattle.dm_layout.specs.Placement.{place, At, IsPlace, NoPlace, OnePlace}
+use Rattle.dm_layout.specs.Holds.{bit_of}
 use Rattle.dm_words.specs.Messages.{IsMessage}
-use Rattle.dm_symbol.specs.Blocks.{AreWordsOf, AreHeld, block_at}
+use Rattle.dm_symbol.specs.Blocks.{AreHeld, block_at}
 use Rattle.dm_symbol.specs.NormalGrid.{IsNormalGrid}
-use Rattle.dm_symbol.specs.Reading.{Reads, IsCorrected}
+use Rattle.dm_symbol.specs.Reading.{Reads}
 use Rattle.dm_symbol.specs.Laws.{turned_cells}
-use Rattle.dm_symbol.proofs.Counts.{cells_grow, none_pass, count_cells, IsWitness, differing_below_cells}
-use Rattle.dm_symbol.proofs.Distances.{differing_turned}
+use Rattle.dm_symbol.proofs.Counts.{cells_grow, none_pass, IsWitness, differing_below_cells}
 use Rattle.dm_symbol.proofs.NormalGrids.{some_is, normal_words_spell}
 use Rattle.dm_symbol.proofs.SizeFacts.{Facts, size_facts}
 use Rattle.dm_symbol.proofs.HeldWords.{every_grid_holds}
@@ -161,6 +158,10 @@ one_lies size row b hb i j r c hi hj li lj =
     let ej = (one.3 (j * size.blocks + b) lj.bit py_at).0 in
     (same_from_place i b j b size.blocks hb hb (ei ∙ sym ej)).0)
 
+-- What is equal to different numbers differs.
+differ_too : (a b x y : ℕ) → a ≡ x → b ≡ y → (b ≡ a → ⊥) → x ≡ y → ⊥
+differ_too a b x y p q other e = other (q ∙ sym e ∙ sym p)
+
 -- The test that a cell has changed.
 abbrev changed : GridView → GridView → ℕ → ℕ → Bool
 changed g h row column = not (beq (cell_at g row column) (cell_at h row column))
@@ -184,7 +185,8 @@ module _ (size : SizeRow) (rows others : List (List Bool)) (u v : List ℕ) wher
       let at_u = block_places size u held_u.codewords b i hb hi in
       let at_v = block_places size v held_v.codewords b i hb hi in
       let d = colour_differs u v word (held_u.codewords.bytes word 0 (omega (arith, within, held_u.codewords.count)))
-      (held_v.codewords.bytes word 0 (omega (arith, within, held_v.codewords.count))) (λ e. other (at_v ∙ sym e ∙ sym at_u)) in
+      (held_v.codewords.bytes word 0 (omega (arith, within, held_v.codewords.count)))
+      (differ_too (get_or (block_at size u b) i 0) (get_or (block_at size v b) i 0) (get_or u word 0) (get_or v word 0) at_u at_v other) in
       let cell = place size.mapping word d.0 in
       let here = is_place size row b i d.0 hb hi d.1 d.2 in
       let inside = (each_cell_once size row).inside word d.0 cell here in

@@ -1,16 +1,16 @@
 -- What is laid is a normal grid.
-use Rattle.std.proofs.Common.{◌≡◌, ℕ, ◌<◌, ◌≤◌, List, length, Option, Some, None, IsSome, Result, Ok, Err, IsOk, IsErr, OnErr, ◌↔◌, refl, sym, ap, subst, ◌∙◌, arith}
+use Rattle.std.proofs.Common.{◌≡◌, ℕ, ◌<◌, List, length, Option, Some, None, IsSome, Result, Ok, Err, IsOk, IsErr, OnErr, ◌↔◌, refl, sym, ap, subst, ◌∙◌, arith}
 use Rattle.dm_words.specs.declared.item.Item.{Item}
 use Rattle.dm_layout.specs.Sizes.{SizeRow, row_for_words, most_data}
 use Rattle.dm_layout.specs.Grid.{GridView}
 use Rattle.dm_layout.specs.Words.{WordsView}
-use Rattle.dm_layout.specs.Holds.{Holds, IsLaid}
+use Rattle.dm_layout.specs.Holds.{IsLaid}
 use Rattle.dm_words.specs.Ascii.{ascii}
 use Rattle.dm_words.specs.Pads.{padded}
 use Rattle.dm_symbol.specs.Blocks.{symbol, BlocksAreCodewords, data_part}
 use Rattle.dm_symbol.specs.NormalGrid.{IsNormalGrid, HasNormalGrid}
 use Rattle.std.proofs.lemmas.Bool.{false≢true}
-use Rattle.dm_symbol.proofs.SizeFacts.{Facts, size_facts, holds_that_many}
+use Rattle.dm_symbol.proofs.SizeFacts.{size_facts, holds_that_many}
 use Rattle.dm_symbol.proofs.NormalReadings.{normal_grid_fits}
 
 -- What holds anyway holds of an Err.

@@ -1,6 +1,6 @@
 -- The Reed-Solomon blocks of a whole symbol (ISO/IEC 16022, error correction): block b of B has the codewords at the places j with
 -- j mod B = b, data codewords first.
-use Rattle.std.specs.Prelude.{◌≡◌, ℕ, ◌<◌, ◌≤◌, List, map, take}
+use Rattle.std.specs.Prelude.{ℕ, ◌<◌, List, map, take}
 use Rattle.std.specs.List.{range_with_len}
 use Rattle.dm_code.specs.Codeword.{IsCodeword, IsNear, distance}
 use Rattle.dm_layout.specs.Sizes.{SizeRow, block_check}

@@ -1,5 +1,5 @@
 -- What holds of all messages and grids. The bytes of a message are numbers of 0 to 255.
-use Rattle.std.specs.Prelude.{◌≡◌, ℕ, ◌≤◌, List, Bool, Result, Ok, Err, not, replicate, ◌↔◌, sum_by, count_by}
+use Rattle.std.specs.Prelude.{◌≡◌, ℕ, ◌≤◌, List, Result, Ok, not, replicate, ◌↔◌, sum_by, count_by}
 use Rattle.std.specs.Bool.{beq}
 use Rattle.std.specs.List.{range_with_len}
 use Rattle.dm_words.specs.declared.item.Item.{Item}

@@ -1,5 +1,8 @@
-//! Whole symbols of Data Matrix ECC 200 (ISO/IEC 16022): the normal grid of a message, the message of a grid, and the normal grid
-//! of what a grid says.
+//! Whole symbols of Data Matrix ECC 200 (ISO/IEC 16022): the normal grid of a message ([`write()`]), the message of a grid
+//! ([`read()`]), and the normal grid of what a grid says ([`normal()`]).
+//!
+//! What the contracts say is defined in `specs/`: `Blocks`, `NormalGrid`, `Reading` and `Normal`; `Laws` has the laws of these
+//! definitions, which the functions of [`laws`] prove. No call takes memory.
 #![tactic(auto)]
 
 pub mod laws;

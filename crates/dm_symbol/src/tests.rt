@@ -49,17 +49,17 @@ fn grid_of(rt: &impl Abort, side: u16, list: &[u8]) -> Grid {
 fn completed_grid(rt: &impl Abort, side: u16, data_words: &[u8]) -> Grid {
     let size = size_of(rt, side);
     assert!(rt; data_words.len() == usize::from(size.data_count()));
-    let mut list: ArrayVec<u8, 288> = ArrayVec::new();
-    for place in 0..usize::from(size.data_count() + size.check_count()) {
-        let word = if place < data_words.len() {
-            data_words[place]
-        } else {
-            0
-        };
-        assert!(rt; list.try_push(word).is_ok());
+    let mut list = [0; 288];
+    for (place, word) in data_words.iter().enumerate() {
+        assert!(rt; place < 288);
+        list[place] = *word;
     }
-    let mut words = Words::new(size, &list);
+    let count = usize::from(size.data_count() + size.check_count());
+    assert!(rt; count <= 288);
+    let mut words = Words::new(size, &list[..count]);
     for b in 0..usize::from(size.blocks()) {
+        let size = words.size();
+        assert!(rt; b < usize::from(size.blocks()));
         let mut codewords = block(&words, b);
         codewords.truncate(usize::from(size.block_data()));
         for check in encode(&codewords, usize::from(size.block_check())).as_slice() {
@@ -69,6 +69,12 @@ fn completed_grid(rt: &impl Abort, side: u16, data_words: &[u8]) -> Grid {
         put_block(&mut words, b, &codewords);
     }
     lay(&words)
+}
+
+/// The codeword as which Base 256 writes a value at a place of the symbol.
+fn randomised(value: u8, place: u16) -> u8 {
+    let shift = 149 * u32::from(place) % 255 + 1;
+    ((u32::from(value) + shift) % 256) as u8
 }
 
 /// The grid whose cells are these characters, row by row: 1 is dark, 0 light.
@@ -232,11 +238,15 @@ fn reads_runs_and_normalises(rt: HostRuntime) {
     assert!(rt; is_grid(&normal(&c40, 2), &once));
     assert!(rt; is_grid(&normal(&once, 0), &once));
     assert!(rt; says(&read(&once, 2), b"AIM", &[0], 0));
-    for data_words in [[231, 45, 65], [231, 44, 65]] {
+    for (data_words, normal_words) in [
+        ([231, 45, 65], [235, 1, 129]),
+        ([231, 44, 65], [235, 1, 129]),
+        ([230, 10, 255], [235, 66, 129]),
+    ] {
         let Ok(grid) = normal(&completed_grid(&rt, 10, &data_words), 2) else {
             panic!(rt; "refused");
         };
-        assert_eq!(rt; lift(&grid).data_part(), [235, 1, 129].as_slice());
+        assert_eq!(rt; lift(&grid).data_part(), normal_words.as_slice());
     }
 }
 
@@ -276,7 +286,7 @@ fn reads_what_has_no_normal_grid(rt: HostRuntime) {
     data_words[1] = 202;
     for place in 2..205u16 {
         let i = usize::from(place - 1);
-        data_words[i] = ((u16::from(data_words[i]) + 149 * place % 255 + 1) % 256) as u8;
+        data_words[i] = randomised(data_words[i], place);
     }
     let grid = completed_grid(&rt, 52, &data_words);
     assert!(rt; says(&read(&grid, 13), &[255; 202], &[0, 0], 0));

@@ -1,9 +1,9 @@
-use Rattle.std.proofs.Common.{◌≡◌, ◌<◌, ◌≤◌, ◌∙◌, ℕ, length, sym, ap, subst, arith}
+use Rattle.std.proofs.Common.{◌≡◌, ◌<◌, ◌∙◌, length, sym, ap, subst, arith}
 use Rattle.std.proofs.lemmas.List.FromFn.{fill_by_all}
 use Rattle.dm_code.specs.Codeword.{IsNear, distance}
 use Rattle.dm_layout.specs.Sizes.{block_check, block_length}
 use Rattle.dm_symbol.specs.Blocks.{block_at}
-use Rattle.dm_symbol.proofs.SizeFacts.{Facts, size_facts, blocks_of_size}
+use Rattle.dm_symbol.proofs.SizeFacts.{size_facts, blocks_of_size}
 use Rattle.dm_symbol.proofs.reading.correct_blocks.Goals as goal
 
 pub correct-requires-clause-data : goal.correct-requires-clause-data

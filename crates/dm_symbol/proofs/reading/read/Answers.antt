@@ -4,8 +4,7 @@ use Rattle.dm_layout.specs.Border.{border_fault_count}
 use Rattle.dm_layout.specs.Words.{data_of}
 use Rattle.dm_words.specs.Spells.{Spells}
 use Rattle.dm_words.specs.Refused.{Refused}
-use Rattle.dm_symbol.specs.Reading.{ReadAnswer}
-use Rattle.dm_symbol.proofs.SizeFacts.{Facts, size_facts}
+use Rattle.dm_symbol.proofs.SizeFacts.{size_facts}
 use Rattle.dm_symbol.proofs.ReadSteps.{block_answer, words_answer, message_answer, says_message, says_border}
 use Rattle.dm_symbol.proofs.reading.read.Goals as goal
 

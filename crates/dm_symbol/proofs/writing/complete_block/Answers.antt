@@ -1,4 +1,4 @@
-use Rattle.std.proofs.Common.{◌≡◌, ◌++◌, List, ℕ, take, sym, subst, arith}
+use Rattle.std.proofs.Common.{◌≡◌, ◌++◌, take, subst, arith}
 use Rattle.std.proofs.lemmas.Grind.{common_steps}
 use Rattle.dm_layout.specs.Sizes.{block_data}
 use Rattle.dm_symbol.specs.Blocks.{AreWordsOf, block_at}

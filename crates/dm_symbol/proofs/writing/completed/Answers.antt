@@ -1,4 +1,4 @@
-use Rattle.std.proofs.Common.{◌≡◌, ◌∙◌, subst, sym, arith}
+use Rattle.std.proofs.Common.{◌≡◌, ◌∙◌, subst, arith}
 use Rattle.dm_symbol.specs.Blocks.{data_part}
 use Rattle.dm_symbol.proofs.Completion.{next_completed}
 use Rattle.dm_symbol.proofs.writing.completed.Goals as goal

@@ -1,7 +1,7 @@
 use Rattle.std.proofs.Common.{◌≡◌, ◌<◌, ℕ}
 use Rattle.dm_code.specs.Codeword.{IsCodeword}
 use Rattle.dm_layout.specs.Sizes.{block_check}
-use Rattle.dm_symbol.specs.Blocks.{AreWordsOf, block_at, data_part}
+use Rattle.dm_symbol.specs.Blocks.{block_at, data_part}
 use Rattle.dm_symbol.proofs.writing.completed.Given as goal
 
 -- the blocks before b are codewords

@@ -1,4 +1,4 @@
-use Rattle.std.proofs.Common.{◌≡◌, ◌+◌, length, take}
+use Rattle.std.proofs.Common.{◌≡◌, length, take}
 use Rattle.dm_symbol.proofs.writing.with_room.Given as goal
 
 abbrev pub invariant-loop-word : goal.invariant-loop-word

@@ -1,10 +1,9 @@
 use Rattle.std.proofs.Common.{◌≡◌, ◌∙◌, length, refl, sym, ap, Some}
 use Rattle.dm_layout.specs.Sizes.{row_for_words}
-use Rattle.dm_layout.specs.Holds.{IsLaid}
 use Rattle.dm_words.specs.Ascii.{ascii}
 use Rattle.dm_words.specs.Pads.{padded}
 use Rattle.dm_symbol.specs.Blocks.{data_part}
-use Rattle.dm_symbol.specs.NormalGrid.{IsNormalGrid, HasNormalGrid}
+use Rattle.dm_symbol.specs.NormalGrid.{HasNormalGrid}
 use Rattle.dm_symbol.proofs.NormalGrids.{normal_grid_is_one}
 use Rattle.dm_symbol.proofs.WriteSteps.{on_err, err_fits_none, laid_is_normal, too_long_fits_none, too_long_has_none}
 use Rattle.dm_symbol.proofs.writing.write.Goals as goal
