@@ -1,1 +1,15 @@
 pub mod PlainLines
+pub mod KnownBytes
+pub mod Joinings
+pub mod OpenLineSteps
+pub mod SpellingBytes
+pub mod MessageTexts
+pub mod Texts
+pub mod LineCuts
+pub mod RecordSteps
+pub mod CellTexts
+pub mod OpenRecordTexts
+pub mod RecordStates
+pub mod RecordAnswers
+pub mod RecordGrids
+pub mod RecordCuts

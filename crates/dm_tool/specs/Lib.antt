@@ -1,3 +1,15 @@
 pub mod Ending
 pub mod Lines
 pub mod Written
+pub mod Devices
+pub mod Readers
+pub mod Spellings
+pub mod MessageLines
+pub mod LineFacts
+pub mod OpenLines
+pub mod Texts
+pub mod LineFeeds
+pub mod Records
+pub mod RecordFacts
+pub mod RecordFeeds
+pub mod OpenRecords

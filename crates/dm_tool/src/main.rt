@@ -1,13 +1,32 @@
 //! `dm_tool`: one message line in, the Data Matrix symbol that says it out.
 #![tactic(auto)]
 
+mod cell_text;
+mod device;
 mod ending;
+mod grid_feed;
 mod input;
+pub mod laws;
+mod line_feed;
+mod message_line;
+mod open_line;
+mod record;
+mod sink;
+mod source;
+mod spelling;
 #[cfg(test)]
 mod tests;
+mod text;
 mod written;
 
+pub use device::Failed;
 use ending::Ending;
+pub use grid_feed::{Fed, GridFeed};
+pub use line_feed::{LineFed, LineFeed};
+pub use message_line::{LineFault, message_from, message_text};
+pub use record::RecordFault;
+pub use sink::{Sink, ToWrite};
+pub use source::{FromRead, Source};
 use std::io::Write;
 use std::process::ExitCode;
 use std::{env, io};

@@ -1,5 +1,8 @@
 //! Worked answers: lines, and what the standard's rules make of them.
 
+mod marks;
+mod texts;
+
 use super::ending::Ending;
 use super::written::{is_refusal, write_text};
 

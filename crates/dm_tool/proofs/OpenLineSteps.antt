@@ -1,0 +1,227 @@
+-- The facts of an open line, as the line grows and as it ends.
+use Rattle.std.proofs.Common.{◌≡◌, ◌∙◌, ◌+◌, ◌≤◌, ◌<◌, min, ℕ, Bool, true, false, List, [], ◌∷◌, ◌++◌, Option, Some, None, Result, Ok, Err, refl, sym, ap, subst, append_assoc, append-nil, length, length-append, arith, inl, inr}
+use Rattle.std.specs.Prelude.{nat_le, if◌then◌else◌, ok_or, ◌↔◌}
+use Rattle.std.proofs.lemmas.Bool.{cases_lt, leb-true, leb-false}
+use Rattle.dm_symbol.specs.declared.Item.{Item}
+use Rattle.dm_symbol.specs.declared.Item.TheVariants.{Byte}
+use Rattle.dm_tool.specs.declared.message_line.LineFault.{LineFault}
+use Rattle.dm_tool.specs.declared.message_line.LineFault.TheVariants.{BadEscape, TooLong}
+use Rattle.dm_tool.specs.Spellings.{IsSpelling, plain, IsJoining, IsJoined}
+use Rattle.dm_tool.specs.MessageLines.{IsBadEscape, IsLine, most_bytes, most_items}
+use Rattle.dm_tool.specs.LineFacts.{CanBecomeSpelling, LineFacts, IsFaultyLine, IsGoodLine, AreLineFacts, kept}
+use Rattle.dm_tool.specs.OpenLines.{BeginsNoSpelling}
+use Rattle.dm_tool.proofs.Joinings.{front_longest, joining_append, joining_one, joining_unique, spelling_some}
+
+-- a line that stands before what makes it longer by one byte
+grown : (line front rest : List ℕ) (b : ℕ) → line ≡ front ++ rest → line ++ b ∷ [] ≡ front ++ (rest ++ b ∷ [])
+grown line front rest b e = ap (λ l. l ++ b ∷ []) e ∙ append_assoc front rest (b ∷ [])
+
+-- the empty line
+pub none_begun : BeginsNoSpelling []
+none_begun piece more item e h =
+    let some = spelling_some piece item h in
+    let long : 0 ≡ length piece + length more = ap length e ∙ length-append piece more in absurd (omega arith)
+
+-- nothing can become a space
+pub nothing_can : CanBecomeSpelling []
+nothing_can = (32 ∷ [], Byte 32, plain 32 (omega arith) (omega arith) (λ e. omega arith) refl refl)
+
+pub good_none : IsGoodLine [] 0 (Some []) []
+good_none = record {
+  front = [];
+  items = [];
+  longest = record { whole = refl; joined = ([], refl); longest = λ other after e j. front_longest [] j.0 [] [] other after refl none_begun e j.1 };
+  joining = refl;
+  can_become = nothing_can;
+  count_is = refl;
+  known_is = refl;
+}
+
+-- a byte with which the pending bytes are still no spelling
+pub good_begun : (line pending : List ℕ) (b n : ℕ) (known : Option (List Item)) → IsGoodLine line n known pending
+    → CanBecomeSpelling (pending ++ b ∷ []) → BeginsNoSpelling (pending ++ b ∷ []) → IsGoodLine (line ++ b ∷ []) n known (pending ++ b ∷ [])
+good_begun line pending b n known good can none =
+    let whole = grown line good.front pending b good.longest.whole in
+    record {
+      front = good.front;
+      items = good.items;
+      longest = record {
+        whole = whole;
+        joined = good.longest.joined;
+        longest = λ other after e j. front_longest good.items j.0 good.front (pending ++ b ∷ []) other after good.joining none (sym whole ∙ e) j.1;
+      };
+      joining = good.joining;
+      can_become = can;
+      count_is = good.count_is;
+      known_is = good.known_is;
+    }
+
+counted : (n front pending line : ℕ) → n ≡ min front most_bytes → line ≡ front + (pending + 1) → min (n + (pending + 1)) most_bytes ≡ min line most_bytes
+counted n front pending line e f = omega arith
+
+-- a byte with which the pending bytes are a spelling
+pub good_whole : (line pending : List ℕ) (b n : ℕ) (known more : Option (List Item)) (item : Item) → IsGoodLine line n known pending
+    → IsSpelling (pending ++ b ∷ []) item → ((all : List Item) → known ≡ kept all → more ≡ kept (all ++ item ∷ []))
+    → IsGoodLine (line ++ b ∷ []) (min (n + (length pending + 1)) most_bytes) more []
+good_whole line pending b n known more item good spelling pushed =
+    let whole = grown line good.front pending b good.longest.whole in
+    let joining : IsJoining (line ++ b ∷ []) (good.items ++ item ∷ []) = subst (λ l. IsJoining l (good.items ++ item ∷ [])) (sym whole)
+    (joining_append good.items (item ∷ []) good.front (pending ++ b ∷ []) good.joining (joining_one (pending ++ b ∷ []) item spelling)) in
+    let long : length (line ++ b ∷ []) ≡ length good.front + (length pending + 1) =
+    ap length whole ∙ length-append good.front (pending ++ b ∷ []) ∙ ap (λ k. length good.front + k) (length-append pending (b ∷ [])) in
+    record {
+      front = line ++ b ∷ [];
+      items = good.items ++ item ∷ [];
+      longest = record {
+        whole = sym (append-nil (line ++ b ∷ []));
+        joined = (good.items ++ item ∷ [], joining);
+        longest = λ other after e j. let parts : length (line ++ b ∷ []) ≡ length other + length after = ap length e ∙ length-append other after in omega arith;
+      };
+      joining = joining;
+      can_become = nothing_can;
+      count_is = counted n (length good.front) (length pending) (length (line ++ b ∷ [])) good.count_is long;
+      known_is = pushed good.items good.known_is;
+    }
+
+column_is : (n front : ℕ) → n ≡ min front most_bytes → min (n + 1) most_bytes ≡ min (front + 1) most_bytes
+column_is n front e = omega arith
+
+-- a byte with which the pending bytes can become no spelling
+pub good_fault : (line pending : List ℕ) (b n : ℕ) (known : Option (List Item)) → IsGoodLine line n known pending
+    → ((more : List ℕ) → BeginsNoSpelling ((pending ++ b ∷ []) ++ more)) → IsFaultyLine (line ++ b ∷ []) (min (n + 1) most_bytes)
+good_fault line pending b n known good none =
+    let whole = grown line good.front pending b good.longest.whole in
+    let now : BeginsNoSpelling (pending ++ b ∷ []) = subst BeginsNoSpelling (append-nil (pending ++ b ∷ [])) (none []) in
+    record {
+      front = good.front;
+      rest = pending ++ b ∷ [];
+      longest = record {
+        whole = whole;
+        joined = good.longest.joined;
+        longest = λ other after e j. front_longest good.items j.0 good.front (pending ++ b ∷ []) other after good.joining now (sym whole ∙ e) j.1;
+      };
+      broken = λ more j.
+          let all : good.front ++ ((pending ++ b ∷ []) ++ more) ≡ ((line ++ b ∷ []) ++ more) ++ [] =
+          sym (append_assoc good.front (pending ++ b ∷ []) more) ∙ ap (λ l. l ++ more) (sym whole) ∙ sym (append-nil ((line ++ b ∷ []) ++ more)) in
+          let less : length ((line ++ b ∷ []) ++ more) ≤ length good.front = front_longest good.items j.0 good.front ((pending ++ b ∷ []) ++ more) ((line ++ b ∷ []) ++ more) []
+          good.joining (none more) all j.1 in
+          let long : length ((line ++ b ∷ []) ++ more) ≡ length (line ++ b ∷ []) + length more = length-append (line ++ b ∷ []) more in
+          let before : length (line ++ b ∷ []) ≡ length good.front + (length pending + 1) =
+          ap length whole ∙ length-append good.front (pending ++ b ∷ []) ∙ ap (λ k. length good.front + k) (length-append pending (b ∷ [])) in
+          absurd (omega arith);
+      column_is = column_is n (length good.front) good.count_is;
+    }
+
+-- a front that is no longer than the line is a front of the line
+cut : (other line t after : List ℕ) → line ++ t ≡ other ++ after → length other ≤ length line → (s : List ℕ) × (line ≡ other ++ s)
+cut [] line t after e le = (line, refl)
+cut (x ∷ o) [] t after e le = absurd (omega arith)
+cut (x ∷ o) (y ∷ l) t after e le =
+    let tail : l ++ t ≡ o ++ after = cc in
+    let head : y ≡ x = cc in
+    let less : length o ≤ length l = omega arith in
+    let r = cut o l t after tail less in (r.0, ap (λ k. k ∷ l) head ∙ ap (λ k. x ∷ k) r.1)
+
+no_more : (after : List ℕ) → length after ≡ 0 → after ≡ []
+no_more [] e = refl
+no_more (x ∷ after) e = absurd (omega arith)
+
+-- a byte after a fault
+pub faulty_more : (line : List ℕ) (b column : ℕ) → IsFaultyLine line column → IsFaultyLine (line ++ b ∷ []) column
+faulty_more line b column faulty = record {
+  front = faulty.front;
+  rest = faulty.rest ++ b ∷ [];
+  longest = record {
+    whole = grown line faulty.front faulty.rest b faulty.longest.whole;
+    joined = faulty.longest.joined;
+    longest = λ other after e j.
+        let parts : length line + 1 ≡ length other + length after = sym (length-append line (b ∷ [])) ∙ ap length e ∙ length-append other after in
+        elim (cases_lt (length line) (length other)) [
+          | inl lt ↦
+              let none : after ≡ [] = no_more after (omega arith) in
+              let same : other ≡ line ++ b ∷ [] = sym (append-nil other) ∙ ap (λ l. other ++ l) (sym none) ∙ sym e in
+              absurd (faulty.broken (b ∷ []) (subst IsJoined same j))
+          | inr le ↦ let r = cut other line (b ∷ []) after e le in faulty.longest.longest other r.0 r.1 j
+        ];
+  };
+  broken = λ more j. faulty.broken (b ∷ more) (subst IsJoined (append_assoc line (b ∷ []) more) j);
+  column_is = faulty.column_is;
+}
+
+-- the end of a line with a fault
+pub faulty_end : (line : List ℕ) (column : ℕ) → IsFaultyLine line column → IsBadEscape line column
+faulty_end line column faulty = record {
+  front = faulty.front;
+  rest = faulty.rest;
+  longest = faulty.longest;
+  broken = λ j. faulty.broken [] (subst IsJoined (sym (append-nil line)) j);
+  column_is = faulty.column_is;
+}
+
+-- the end of a line in the middle of a spelling
+pub pending_end : (line pending : List ℕ) (n : ℕ) (known : Option (List Item)) → IsGoodLine line n known pending → 0 < length pending
+    → IsBadEscape line (min (n + 1) most_bytes)
+pending_end line pending n known good some = record {
+  front = good.front;
+  rest = pending;
+  longest = good.longest;
+  broken = λ j.
+      let less = good.longest.longest line [] (sym (append-nil line)) j in
+      let parts : length line ≡ length good.front + length pending = ap length good.longest.whole ∙ length-append good.front pending in
+      absurd (omega arith);
+  column_is = column_is n (length good.front) good.count_is;
+}
+
+-- what is kept of items that are whole
+answer_kept : (items : List Item) (line : List ℕ) → IsJoining line items → (t : Bool) → nat_le (length items) most_items ≡ t
+    → IsLine line (ok_or (if t then Some items else None) TooLong)
+answer_kept items line j true e = (j, leb-true (length items) most_items e)
+answer_kept items line j false e = (items, j, leb-false (length items) most_items e)
+
+-- the end of a line of whole spellings
+pub whole_end : (line : List ℕ) (n : ℕ) (known : Option (List Item)) → IsGoodLine line n known [] → IsLine line (ok_or known TooLong)
+whole_end line n known good =
+    let joining : IsJoining line good.items = subst (λ l. IsJoining l good.items) (sym (good.longest.whole ∙ append-nil good.front)) good.joining in
+    rw good.known_is (answer_kept good.items line joining (nat_le (length good.items) most_items) refl)
+
+fault_column : (line : List ℕ) (a b : ℕ) → IsBadEscape line a → IsBadEscape line b → a ≡ b
+fault_column line a b p q =
+    let one = q.longest.longest p.front p.rest p.longest.whole p.longest.joined in
+    let two = p.longest.longest q.front q.rest q.longest.whole q.longest.joined in
+    p.column_is ∙ ap (λ n. min (n + 1) most_bytes) (omega arith) ∙ sym q.column_is
+
+-- a line means one thing
+pub line_unique : (line : List ℕ) (a b : Result (List Item) LineFault) → IsLine line a → IsLine line b → a ≡ b
+line_unique line (Ok xs) (Ok ys) p q = ap Ok (joining_unique xs ys line p.0 q.0)
+line_unique line (Ok xs) (Err TooLong) p q = let same = ap length (joining_unique xs q.0 line p.0 q.1) in absurd (omega arith)
+line_unique line (Ok xs) (Err (BadEscape n)) p q = absurd (q.broken (xs, p.0))
+line_unique line (Err TooLong) (Ok ys) p q = let same = ap length (joining_unique p.0 ys line p.1 q.0) in absurd (omega arith)
+line_unique line (Err TooLong) (Err TooLong) p q = refl
+line_unique line (Err TooLong) (Err (BadEscape n)) p q = absurd (q.broken (p.0, p.1))
+line_unique line (Err (BadEscape m)) (Ok ys) p q = absurd (p.broken (ys, q.0))
+line_unique line (Err (BadEscape m)) (Err TooLong) p q = absurd (p.broken (q.0, q.1))
+line_unique line (Err (BadEscape m)) (Err (BadEscape n)) p q = ap (λ k. Err (BadEscape k)) (fault_column line m n p q)
+
+-- an answer is the only one
+pub line_only : (line : List ℕ) (a : Result (List Item) LineFault) → IsLine line a → (b : Result (List Item) LineFault) → (a ≡ b) ↔ IsLine line b
+line_only line a p b = (λ e. subst (IsLine line) e p, λ q. line_unique line a b p q)
+
+-- a line with a fault has a byte
+pub faulty_some : (line : List ℕ) (column : ℕ) → IsFaultyLine line column → line ≡ [] → ⊥
+faulty_some line column faulty e = faulty.broken [] ([], ap (λ l. l ++ []) e)
+
+-- a line has no byte where none is counted and none is pending
+pub good_empty : (line pending : List ℕ) (n : ℕ) (known : Option (List Item)) → IsGoodLine line n known pending → n ≡ 0 → length pending ≡ 0 → line ≡ []
+good_empty line pending n known good zero_n zero_p =
+    let parts : length line ≡ length good.front + length pending = ap length good.longest.whole ∙ length-append good.front pending in
+    no_more line (let c = good.count_is in omega arith)
+
+pub good_empty_counts : (line pending : List ℕ) (n : ℕ) (known : Option (List Item)) → IsGoodLine line n known pending → line ≡ [] → (n ≡ 0) × (length pending ≡ 0)
+good_empty_counts line pending n known good e =
+    let parts : length line ≡ length good.front + length pending = ap length good.longest.whole ∙ length-append good.front pending in
+    let none : length line ≡ 0 = ap length e in
+    let c = good.count_is in (omega arith, omega arith)
+
+-- the facts of the empty line are those of no other
+pub facts_empty : (line : List ℕ) (facts : LineFacts) → AreLineFacts line facts → line ≡ [] → AreLineFacts [] facts
+facts_empty line facts h e = subst (λ l. AreLineFacts l facts) e h

@@ -1,0 +1,115 @@
+-- Texts in which a record stands open, as they grow.
+use Rattle.std.proofs.Common.{◌≡◌, ◌≢◌, ◌∙◌, ℕ, true, false, not, List, [], ◌∷◌, ◌++◌, refl, sym, ap, append_assoc, append-nil}
+use Rattle.std.specs.Prelude.{◌&&◌}
+use Rattle.std.proofs.lemmas.Grind.{flat_map-append}
+use Rattle.dm_tool.specs.Texts.{lf, HasNoLf, ended}
+use Rattle.dm_tool.specs.Records.{AreLfs, AreFullLines, IsOpenRecord, IsClosedRecord}
+use Rattle.dm_tool.specs.RecordFacts.{RecordFacts, AreRecordFacts, contents_of, facts_of_record, is_nothing}
+use Rattle.dm_tool.proofs.Texts.{no_lf_append}
+use Rattle.dm_tool.proofs.RecordSteps.{character_facts, character_is, end_is, end_step, no_lines, nothing_lines}
+
+-- no record
+pub none_open : AreRecordFacts [] (facts_of_record [] [])
+none_open = record {
+  lines = [];
+  rest = [];
+  open_record = record { blank = []; are_lfs = tt; whole = refl; full = tt; rest_no_lf = tt };
+  facts_are = refl;
+}
+
+-- what stands before what is more
+more_of : (text blank a rest : List ℕ) (b : ℕ) → text ≡ blank ++ (a ++ rest) → text ++ b ∷ [] ≡ blank ++ (a ++ (rest ++ b ∷ []))
+more_of text blank a rest b e =
+    ap (λ l. l ++ b ∷ []) e ∙ append_assoc blank (a ++ rest) (b ∷ []) ∙ ap (λ l. blank ++ l) (append_assoc a rest (b ∷ []))
+
+-- a character more
+pub grown_character : (text : List ℕ) (f g : RecordFacts) (lines : List (List ℕ)) (rest : List ℕ) (b : ℕ) → AreRecordFacts text f → b ≢ lf
+    → f ≡ facts_of_record lines rest → g ≡ facts_of_record lines (rest ++ b ∷ []) → AreRecordFacts (text ++ b ∷ []) g
+grown_character text f g lines rest b known n e h =
+    let old = known.open_record in
+    record {
+      lines = known.lines;
+      rest = known.rest ++ b ∷ [];
+      open_record = record {
+        blank = old.blank;
+        are_lfs = old.are_lfs;
+        whole = more_of text old.blank (ended known.lines) known.rest b old.whole;
+        full = old.full;
+        rest_no_lf = no_lf_append known.rest (b ∷ []) old.rest_no_lf (n, tt);
+      };
+      facts_are = h ∙ character_is lines rest b ∙ ap (λ k. character_facts k b) (sym e ∙ known.facts_are) ∙ sym (character_is known.lines known.rest b);
+    }
+
+ended_more : (lines : List (List ℕ)) (line : List ℕ) → ended (lines ++ line ∷ []) ≡ ended lines ++ (line ++ lf ∷ [])
+ended_more lines line = flat_map-append (λ l. l ++ lf ∷ []) lines (line ∷ []) ∙ ap (λ l. ended lines ++ l) (append-nil (line ++ lf ∷ []))
+
+full_more : (lines : List (List ℕ)) (line : List ℕ) → AreFullLines lines → line ≢ [] → HasNoLf line → AreFullLines (lines ++ line ∷ [])
+full_more [] line h n k = ((n, k), tt)
+full_more (l ∷ lines) line h n k = (h.0, full_more lines line h.1 n k)
+
+not_ended : (lines : List (List ℕ)) (rest : List ℕ) → (is_nothing rest && not (is_nothing lines)) ≡ true → (rest ≡ []) × (lines ≢ [])
+not_ended lines (x ∷ r) e = cc
+not_ended [] [] e = cc
+not_ended (l ∷ lines) [] e = (refl, λ h. cc)
+
+-- lines that stand with nothing before an LF
+by_rest : (text : List ℕ) (f g : RecordFacts) (lines : List (List ℕ)) (x : ℕ) (r : List ℕ) (theirs : List (List ℕ)) (rest : List ℕ)
+    → IsOpenRecord text theirs rest → f ≡ facts_of_record theirs rest → f ≡ facts_of_record lines (x ∷ r)
+    → g ≡ facts_of_record (lines ++ (x ∷ r) ∷ []) [] → AreRecordFacts (text ++ lf ∷ []) g
+by_rest text f g lines x r [] [] old known e h =
+    let same : no_lines (contents_of lines (x ∷ r)) ≡ true = ap (λ k. no_lines k.contents) (sym e ∙ known) in
+    let none = (nothing_lines lines (x ∷ r) same).1 in cc
+by_rest text f g lines x r (l ∷ theirs) [] old known e h =
+    let never : true ≡ false = ap (λ k. k.ended) (sym known ∙ e) in cc
+by_rest text f g lines x r theirs (y ∷ s) old known e h = record {
+  lines = theirs ++ (y ∷ s) ∷ [];
+  rest = [];
+  open_record = record {
+    blank = old.blank;
+    are_lfs = old.are_lfs;
+    whole = more_of text old.blank (ended theirs) (y ∷ s) lf old.whole ∙ ap (λ l. old.blank ++ l) (sym (ended_more theirs (y ∷ s)) ∙ sym (append-nil (ended (theirs ++ (y ∷ s) ∷ []))));
+    full = full_more theirs (y ∷ s) old.full (λ k. cc) old.rest_no_lf;
+    rest_no_lf = tt;
+  };
+  facts_are =
+      h ∙ end_is lines x r ∙ ap (λ k. let f : RecordFacts = record { ended = true; contents = end_step k.contents } in f) (sym e ∙ known) ∙ sym (end_is theirs y s);
+}
+
+-- an LF more, after a line
+pub grown_end : (text : List ℕ) (f g : RecordFacts) (lines : List (List ℕ)) (x : ℕ) (r : List ℕ) → AreRecordFacts text f
+    → f ≡ facts_of_record lines (x ∷ r) → g ≡ facts_of_record (lines ++ (x ∷ r) ∷ []) [] → AreRecordFacts (text ++ lf ∷ []) g
+grown_end text f g lines x r known e h = by_rest text f g lines x r known.lines known.rest known.open_record known.facts_are e h
+
+lfs_more : (blank : List ℕ) → AreLfs blank → AreLfs (blank ++ lf ∷ [])
+lfs_more [] h = (refl, tt)
+lfs_more (b ∷ blank) h = (h.0, lfs_more blank h.1)
+
+-- an LF more, before all lines
+pub grown_blank : (text : List ℕ) (f : RecordFacts) → AreRecordFacts text f → no_lines f.contents ≡ true → AreRecordFacts (text ++ lf ∷ []) f
+grown_blank text f known none =
+    let old = known.open_record in
+    let both = nothing_lines known.lines known.rest (ap (λ k. no_lines k.contents) (sym known.facts_are) ∙ none) in
+    let is : text ≡ old.blank = old.whole ∙ ap (λ l. old.blank ++ (ended l ++ known.rest)) both.0 ∙ ap (λ l. old.blank ++ ([] ++ l)) both.1 ∙ append-nil old.blank in
+    record {
+      lines = [];
+      rest = [];
+      open_record = record { blank = old.blank ++ lf ∷ []; are_lfs = lfs_more old.blank old.are_lfs; whole = ap (λ l. l ++ lf ∷ []) is ∙ sym (append-nil (old.blank ++ lf ∷ [])); full = tt; rest_no_lf = tt };
+      facts_are = known.facts_are ∙ ap (λ l. facts_of_record l known.rest) both.0 ∙ ap (λ l. facts_of_record [] l) both.1;
+    }
+
+-- an LF more, after an LF
+pub closed_by : (text : List ℕ) (f : RecordFacts) → AreRecordFacts text f → f.ended ≡ true
+    → (lines : List (List ℕ)) × IsClosedRecord (text ++ lf ∷ []) lines × (f ≡ facts_of_record lines [])
+closed_by text f known e =
+    let old = known.open_record in
+    let both = not_ended known.lines known.rest (ap (λ k. k.ended) (sym known.facts_are) ∙ e) in (
+      known.lines,
+      record {
+        blank = old.blank;
+        are_lfs = old.are_lfs;
+        whole = more_of text old.blank (ended known.lines) known.rest lf old.whole ∙ ap (λ l. old.blank ++ (ended known.lines ++ (l ++ lf ∷ []))) both.0;
+        full = old.full;
+        some = both.1;
+      },
+      known.facts_are ∙ ap (λ l. facts_of_record known.lines l) both.0,
+    )

@@ -1,0 +1,120 @@
+-- What the first bytes of a spelling can be.
+use Rattle.std.proofs.Common.{◌≡◌, ◌∙◌, ◌≢◌, ◌+◌, ◌*◌, ◌≤◌, ℕ, suc, List, [], ◌∷◌, ◌++◌, refl, sym, ap, length, arith}
+use Rattle.dm_symbol.specs.declared.Item.{Item}
+use Rattle.dm_symbol.specs.declared.Item.TheVariants.{Byte}
+use Rattle.dm_tool.specs.Spellings.{IsHexDigit, figure, IsSpelling, plain, backslash, fnc1, byte}
+use Rattle.dm_tool.specs.LineFacts.{CanBecomeSpelling}
+use Rattle.dm_tool.specs.OpenLines.{BeginsNoSpelling}
+
+-- the bytes begin with a spelling of one of the four kinds
+data Begins (bytes : List ℕ) : Type 0 where
+  with_plain : (c : ℕ) (rest : List ℕ) → 32 ≤ c → c ≤ 126 → c ≢ 92 → bytes ≡ c ∷ rest → Begins bytes
+  with_backslash : (rest : List ℕ) → bytes ≡ 92 ∷ 92 ∷ rest → Begins bytes
+  with_fnc1 : (rest : List ℕ) → bytes ≡ 92 ∷ 70 ∷ rest → Begins bytes
+  with_byte : (s t u v : ℕ) (rest : List ℕ) → IsHexDigit s u → IsHexDigit t v → bytes ≡ 92 ∷ 120 ∷ s ∷ t ∷ rest → Begins bytes
+
+begins : (bytes piece more : List ℕ) (item : Item) → bytes ≡ piece ++ more → IsSpelling piece item → Begins bytes
+begins bytes piece more item e (plain c l h n p i) = with_plain c more l h n (e ∙ ap (λ q. q ++ more) p)
+begins bytes piece more item e (backslash p i) = with_backslash more (e ∙ ap (λ q. q ++ more) p)
+begins bytes piece more item e (fnc1 p i) = with_fnc1 more (e ∙ ap (λ q. q ++ more) p)
+begins bytes piece more item e (byte s t u v hs ht p i) = with_byte s t u v more hs ht (e ∙ ap (λ q. q ++ more) p)
+
+none_if : (bytes : List ℕ) → (Begins bytes → ⊥) → BeginsNoSpelling bytes
+none_if bytes never piece more item e h = never (begins bytes piece more item e h)
+
+-- the first four elements of equal lists
+first : (a b : ℕ) (x y : List ℕ) → a ∷ x ≡ b ∷ y → a ≡ b
+first a b x y e = cc
+
+next : (a b : ℕ) (x y : List ℕ) → a ∷ x ≡ b ∷ y → x ≡ y
+next a b x y e = cc
+
+lone : (a b : ℕ) (y : List ℕ) → a ∷ [] ≡ b ∷ y → y ≡ []
+lone a b y e = cc
+
+-- a backslash alone
+backslash_alone : Begins (92 ∷ []) → ⊥
+backslash_alone (with_plain c rest l h n e) = n (sym (first 92 c [] rest e))
+backslash_alone (with_backslash rest e) = let s : 1 ≡ suc (suc (length rest)) = ap length e in omega arith
+backslash_alone (with_fnc1 rest e) = let s : 1 ≡ suc (suc (length rest)) = ap length e in omega arith
+backslash_alone (with_byte s t u v rest a b e) = let s : 1 ≡ suc (suc (suc (suc (length rest)))) = ap length e in omega arith
+
+pub backslash_none : BeginsNoSpelling (92 ∷ [])
+backslash_none = none_if (92 ∷ []) backslash_alone
+
+pub backslash_can : CanBecomeSpelling (92 ∷ [])
+backslash_can = (92 ∷ [], Byte 92, backslash refl refl)
+
+-- a backslash and x
+hexadecimal_alone : Begins (92 ∷ 120 ∷ []) → ⊥
+hexadecimal_alone (with_plain c rest l h n e) = n (sym (first 92 c (120 ∷ []) rest e))
+hexadecimal_alone (with_backslash rest e) = let s = first 120 92 [] rest (next 92 92 (120 ∷ []) (92 ∷ rest) e) in omega arith
+hexadecimal_alone (with_fnc1 rest e) = let s = first 120 70 [] rest (next 92 92 (120 ∷ []) (70 ∷ rest) e) in omega arith
+hexadecimal_alone (with_byte s t u v rest a b e) = let s : 2 ≡ suc (suc (suc (suc (length rest)))) = ap length e in omega arith
+
+pub hexadecimal_none : BeginsNoSpelling (92 ∷ 120 ∷ [])
+hexadecimal_none = none_if (92 ∷ 120 ∷ []) hexadecimal_alone
+
+zero_digit : IsHexDigit 48 0
+zero_digit = figure (omega arith) refl
+
+pub hexadecimal_can : CanBecomeSpelling (92 ∷ 120 ∷ [])
+hexadecimal_can = (48 ∷ 48 ∷ [], Byte 0, byte 48 48 0 0 zero_digit zero_digit refl refl)
+
+-- a backslash, x and a digit
+digit_alone : (d : ℕ) → Begins (92 ∷ 120 ∷ d ∷ []) → ⊥
+digit_alone d (with_plain c rest l h n e) = n (sym (first 92 c (120 ∷ d ∷ []) rest e))
+digit_alone d (with_backslash rest e) = let s = first 120 92 (d ∷ []) rest (next 92 92 (120 ∷ d ∷ []) (92 ∷ rest) e) in omega arith
+digit_alone d (with_fnc1 rest e) = let s = first 120 70 (d ∷ []) rest (next 92 92 (120 ∷ d ∷ []) (70 ∷ rest) e) in omega arith
+digit_alone d (with_byte s t u v rest a b e) = let s : 3 ≡ suc (suc (suc (suc (length rest)))) = ap length e in omega arith
+
+pub digit_none : (d : ℕ) → BeginsNoSpelling (92 ∷ 120 ∷ d ∷ [])
+digit_none d = none_if (92 ∷ 120 ∷ d ∷ []) (digit_alone d)
+
+pub digit_can : (d u : ℕ) → IsHexDigit d u → CanBecomeSpelling (92 ∷ 120 ∷ d ∷ [])
+digit_can d u h = (48 ∷ [], Byte (16 * u + 0), byte d 48 u 0 h zero_digit refl refl)
+
+-- a byte outside 32 to 126
+foreign_first : (b : ℕ) (more : List ℕ) → (32 ≤ b → b ≤ 126 → ⊥) → b ≢ 92 → Begins (b ∷ more) → ⊥
+foreign_first b more out n (with_plain c rest l h _ e) = let s = first b c more rest e in out (omega arith) (omega arith)
+foreign_first b more out n (with_backslash rest e) = n (first b 92 more (92 ∷ rest) e)
+foreign_first b more out n (with_fnc1 rest e) = n (first b 92 more (70 ∷ rest) e)
+foreign_first b more out n (with_byte s t u v rest _ _ e) = n (first b 92 more (120 ∷ s ∷ t ∷ rest) e)
+
+pub foreign_none : (b : ℕ) (more : List ℕ) → (32 ≤ b → b ≤ 126 → ⊥) → b ≢ 92 → BeginsNoSpelling (b ∷ more)
+foreign_none b more out n = none_if (b ∷ more) (foreign_first b more out n)
+
+-- a backslash and a byte that is none of the backslash, F and x
+stray_second : (b : ℕ) (more : List ℕ) → b ≢ 92 → b ≢ 70 → b ≢ 120 → Begins (92 ∷ b ∷ more) → ⊥
+stray_second b more n m o (with_plain c rest l h k e) = k (sym (first 92 c (b ∷ more) rest e))
+stray_second b more n m o (with_backslash rest e) = n (first b 92 more rest (next 92 92 (b ∷ more) (92 ∷ rest) e))
+stray_second b more n m o (with_fnc1 rest e) = m (first b 70 more rest (next 92 92 (b ∷ more) (70 ∷ rest) e))
+stray_second b more n m o (with_byte s t u v rest _ _ e) = o (first b 120 more (s ∷ t ∷ rest) (next 92 92 (b ∷ more) (120 ∷ s ∷ t ∷ rest) e))
+
+pub stray_none : (b : ℕ) (more : List ℕ) → b ≢ 92 → b ≢ 70 → b ≢ 120 → BeginsNoSpelling (92 ∷ b ∷ more)
+stray_none b more n m o = none_if (92 ∷ b ∷ more) (stray_second b more n m o)
+
+-- a backslash, x and a byte that is no digit
+no_first_digit : (b : ℕ) (more : List ℕ) → ((u : ℕ) → IsHexDigit b u → ⊥) → Begins (92 ∷ 120 ∷ b ∷ more) → ⊥
+no_first_digit b more never (with_plain c rest l h k e) = k (sym (first 92 c (120 ∷ b ∷ more) rest e))
+no_first_digit b more never (with_backslash rest e) = let s = first 120 92 (b ∷ more) rest (next 92 92 (120 ∷ b ∷ more) (92 ∷ rest) e) in omega arith
+no_first_digit b more never (with_fnc1 rest e) = let s = first 120 70 (b ∷ more) rest (next 92 92 (120 ∷ b ∷ more) (70 ∷ rest) e) in omega arith
+no_first_digit b more never (with_byte s t u v rest hs ht e) =
+    let same : b ≡ s = first b s more (t ∷ rest) (next 120 120 (b ∷ more) (s ∷ t ∷ rest) (next 92 92 (120 ∷ b ∷ more) (120 ∷ s ∷ t ∷ rest) e)) in
+    never u (rw same hs)
+
+pub first_digit_none : (b : ℕ) (more : List ℕ) → ((u : ℕ) → IsHexDigit b u → ⊥) → BeginsNoSpelling (92 ∷ 120 ∷ b ∷ more)
+first_digit_none b more never = none_if (92 ∷ 120 ∷ b ∷ more) (no_first_digit b more never)
+
+-- a backslash, x, a byte and a byte that is no digit
+no_second_digit : (d b : ℕ) (more : List ℕ) → ((u : ℕ) → IsHexDigit b u → ⊥) → Begins (92 ∷ 120 ∷ d ∷ b ∷ more) → ⊥
+no_second_digit d b more never (with_plain c rest l h k e) = k (sym (first 92 c (120 ∷ d ∷ b ∷ more) rest e))
+no_second_digit d b more never (with_backslash rest e) = let s = first 120 92 (d ∷ b ∷ more) rest (next 92 92 (120 ∷ d ∷ b ∷ more) (92 ∷ rest) e) in omega arith
+no_second_digit d b more never (with_fnc1 rest e) = let s = first 120 70 (d ∷ b ∷ more) rest (next 92 92 (120 ∷ d ∷ b ∷ more) (70 ∷ rest) e) in omega arith
+no_second_digit d b more never (with_byte s t u v rest hs ht e) =
+    let digits : d ∷ b ∷ more ≡ s ∷ t ∷ rest = next 120 120 (d ∷ b ∷ more) (s ∷ t ∷ rest) (next 92 92 (120 ∷ d ∷ b ∷ more) (120 ∷ s ∷ t ∷ rest) e) in
+    let same : b ≡ t = first b t more rest (next d s (b ∷ more) (t ∷ rest) digits) in
+    never v (rw same ht)
+
+pub second_digit_none : (d b : ℕ) (more : List ℕ) → ((u : ℕ) → IsHexDigit b u → ⊥) → BeginsNoSpelling (92 ∷ 120 ∷ d ∷ b ∷ more)
+second_digit_none d b more never = none_if (92 ∷ 120 ∷ d ∷ b ∷ more) (no_second_digit d b more never)

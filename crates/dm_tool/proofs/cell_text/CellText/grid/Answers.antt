@@ -1,0 +1,23 @@
+use Rattle.std.proofs.Common.{◌∙◌, ap, map}
+use Rattle.dm_tool.specs.OpenRecords.{is_dark}
+use Rattle.dm_tool.proofs.RecordGrids.{is_grid, no_grid, not_square}
+use Rattle.dm_tool.proofs.cell_text.CellText.grid.Goals as goal
+use Rattle.dm_tool.proofs.cell_text.CellText.grid.Goals.{then-self-via-then-self, then-self-via-else-self+then-self-2, then-self-via-else-self+else-self-2+then-self-3}
+
+pub returns-then-self : goal.returns-then-self
+returns-then-self c lines rest h = not_square c.args.self lines rest h (λ d l f. elim c.then-self.branch [
+  | then-self-via-then-self w ↦ let e = w.if-self.true in cc
+  | then-self-via-else-self+then-self-2 w ↦ w.if-self-2.true l
+  | then-self-via-else-self+else-self-2+then-self-3 w ↦ w.if-self-3.true f
+])
+
+pub returns-in-Ok : goal.returns-in-Ok
+returns-in-Ok c lines rest h =
+    is_grid c.args.self lines rest c.as_slice-2.result.now c.in-Ok.grid h c.if-self.false c.if-self-2.false c.if-self-3.false
+    (c.as_slice-2.ensures.value ∙ c.cells_of-cells.ensures ∙ ap (map is_dark) c.as_slice.ensures.value) c.in-Ok.ensures.size c.in-Ok.ensures.cells
+
+pub returns-in-Err : goal.returns-in-Err
+returns-in-Err c lines rest h =
+    no_grid c.args.self lines rest c.as_slice-2.result.now c.in-Err.field-0 h c.if-self.false c.if-self-2.false c.if-self-3.false
+    (c.as_slice-2.ensures.value ∙ c.cells_of-cells.ensures ∙ ap (map is_dark) c.as_slice.ensures.value)
+    (λ e. c.in-Err.ensures.not_square.0 e) (λ e. (c.in-Err.ensures.no_such_size.0 e).1)

@@ -1,0 +1,38 @@
+-- What a message line means: its message, or its fault.
+use Rattle.std.specs.Prelude.{◌≡◌, ◌≤◌, ◌<◌, ◌+◌, ◌-◌, ◌^◌, min, ℕ, List, ◌++◌, length, Result, Ok, Err}
+use Rattle.dm_symbol.specs.declared.Item.{Item}
+use Rattle.dm_tool.specs.declared.message_line.LineFault.{LineFault}
+use Rattle.dm_tool.specs.declared.message_line.LineFault.TheVariants.{BadEscape, TooLong}
+use Rattle.dm_tool.specs.Spellings.{IsJoined, IsJoining}
+
+-- The most items of a message.
+abbrev pub most_items : ℕ
+most_items = 408
+
+-- The most that a count or a column in a line reaches.
+abbrev pub most_bytes : ℕ
+most_bytes = 2 ^ 64 - 1
+
+-- The longest front of a line that is spellings, joined, and what is after it.
+pub record IsLongestFront (line front rest : List ℕ) : Type 0 where
+  pub whole : line ≡ front ++ rest
+  pub joined : IsJoined front
+  pub longest : (other after : List ℕ) → line ≡ other ++ after → IsJoined other → length other ≤ length front
+
+-- The column after some bytes. Columns count bytes from 1.
+abbrev pub column_after : List ℕ → ℕ
+column_after front = min (length front + 1) most_bytes
+
+-- The line is no joining of spellings, and this is the column after its longest front that is one.
+pub record IsBadEscape (line : List ℕ) (column : ℕ) : Type 0 where
+  pub front : List ℕ
+  pub rest : List ℕ
+  pub longest : IsLongestFront line front rest
+  pub broken : IsJoined line → ⊥
+  pub column_is : column ≡ column_after front
+
+-- What a line means: the items whose spellings it joins, where they are not too many; else its fault.
+abbrev pub IsLine : List ℕ → Result (List Item) LineFault → Type 0
+IsLine line (Ok items) = IsJoining line items × (length items ≤ most_items)
+IsLine line (Err TooLong) = (items : List Item) × IsJoining line items × (most_items < length items)
+IsLine line (Err (BadEscape column)) = IsBadEscape line column

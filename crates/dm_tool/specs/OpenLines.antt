@@ -1,0 +1,33 @@
+-- What the bytes of a spelling come to, one after another.
+use Rattle.std.specs.Prelude.{◌≡◌, ℕ, List, [], ◌∷◌, ◌++◌}
+use Rattle.dm_symbol.specs.declared.Item.{Item}
+use Rattle.dm_tool.specs.Spellings.{IsSpelling}
+use Rattle.dm_tool.specs.LineFacts.{CanBecomeSpelling, LineFacts, Faulty, Good}
+use Rattle.dm_tool.specs.declared.spelling.Pending.{Pending}
+use Rattle.dm_tool.specs.declared.spelling.Pending.TheVariants as begun
+use Rattle.dm_tool.specs.declared.spelling.Next.{Next}
+use Rattle.dm_tool.specs.declared.spelling.Next.TheVariants as next
+use Rattle.dm_tool.specs.declared.open_line.State.{State}
+use Rattle.dm_tool.specs.declared.open_line.State.TheVariants as state
+
+-- No spelling stands at the front of these bytes.
+abbrev pub BeginsNoSpelling : List ℕ → Type 0
+BeginsNoSpelling bytes = (piece more : List ℕ) (item : Item) → bytes ≡ piece ++ more → IsSpelling piece item → ⊥
+
+-- The bytes of a spelling that is begun.
+abbrev pub pending_bytes : Pending → List ℕ
+pending_bytes begun.Nothing = []
+pending_bytes begun.Backslash = 92 ∷ []
+pending_bytes begun.Hexadecimal = 92 ∷ 120 ∷ []
+pending_bytes (begun.Digit first) = 92 ∷ 120 ∷ first ∷ []
+
+-- What these bytes come to: a spelling, the beginning of one, or neither, whatever follows.
+abbrev pub IsNext : List ℕ → Next → Type 0
+IsNext bytes (next.Whole item) = IsSpelling bytes item
+IsNext bytes (next.Begun pending) = (pending_bytes pending ≡ bytes) × CanBecomeSpelling bytes × BeginsNoSpelling bytes
+IsNext bytes next.Fault = (more : List ℕ) → BeginsNoSpelling (bytes ++ more)
+
+-- The facts that a state stands for.
+abbrev pub facts_of : State → LineFacts
+facts_of (state.Faulty column) = Faulty column
+facts_of (state.Good good) = Good good.front good.items (pending_bytes good.pending)

@@ -1,0 +1,48 @@
+-- The spellings of items in a message line, and the text of a message.
+use Rattle.std.specs.Prelude.{◌≡◌, ◌≢◌, ◌≤◌, ◌<◌, ◌+◌, ◌*◌, ◌/◌, ◌%◌, ◌==◌, ◌&&◌, nat_le, nat_lt, if◌then◌else◌, ℕ, List, [], ◌∷◌, ◌++◌, flat_map}
+use Rattle.dm_symbol.specs.declared.Item.{Item}
+use Rattle.dm_symbol.specs.declared.Item.TheVariants.{Byte, Fnc1}
+
+-- A hexadecimal digit, of either case, and its value.
+pub data IsHexDigit (digit value : ℕ) : Type 0 where
+  -- 0 to 9
+  figure : value < 10 → digit ≡ 48 + value → IsHexDigit digit value
+  -- A to F
+  upper : 10 ≤ value → value < 16 → digit + 10 ≡ 65 + value → IsHexDigit digit value
+  -- a to f
+  lower : 10 ≤ value → value < 16 → digit + 10 ≡ 97 + value → IsHexDigit digit value
+
+-- A spelling of an item. 92 is the backslash, 70 is F and 120 is x.
+pub data IsSpelling (piece : List ℕ) (item : Item) : Type 0 where
+  -- a byte of 32 to 126 other than the backslash stands for itself
+  plain : (b : ℕ) → 32 ≤ b → b ≤ 126 → b ≢ 92 → piece ≡ b ∷ [] → item ≡ Byte b → IsSpelling piece item
+  backslash : piece ≡ 92 ∷ 92 ∷ [] → item ≡ Byte 92 → IsSpelling piece item
+  fnc1 : piece ≡ 92 ∷ 70 ∷ [] → item ≡ Fnc1 → IsSpelling piece item
+  -- two hexadecimal digits name any byte
+  byte : (first second high low : ℕ) → IsHexDigit first high → IsHexDigit second low
+      → piece ≡ 92 ∷ 120 ∷ first ∷ second ∷ [] → item ≡ Byte (16 * high + low) → IsSpelling piece item
+
+-- The line is spellings of these items, joined.
+abbrev pub IsJoining : List ℕ → List Item → Type 0
+IsJoining line [] = line ≡ []
+IsJoining line (item ∷ items) = (piece : List ℕ) × (rest : List ℕ) × IsSpelling piece item × (line ≡ piece ++ rest) × IsJoining rest items
+
+-- The line is spellings, joined.
+abbrev pub IsJoined : List ℕ → Type 0
+IsJoined line = (items : List Item) × IsJoining line items
+
+-- The digit of a value below 16, in upper case.
+abbrev pub upper_digit : ℕ → ℕ
+upper_digit value = if nat_lt value 10 then 48 + value else 55 + value
+
+-- How an item is written.
+abbrev pub spelled : Item → List ℕ
+spelled (Byte b) =
+    if b == 92 then 92 ∷ 92 ∷ []
+    else if nat_le 32 b && nat_le b 126 then b ∷ []
+    else 92 ∷ 120 ∷ upper_digit (b / 16) ∷ upper_digit (b % 16) ∷ []
+spelled Fnc1 = 92 ∷ 70 ∷ []
+
+-- The text of a message.
+abbrev pub text_of : List Item → List ℕ
+text_of items = flat_map spelled items

@@ -1,0 +1,31 @@
+//! What all devices share: a failure, and how failures are counted.
+ghost use Rattle.std.specs.Prelude.{◌≡◌, IfOk, OnErr, IsErr, Ok};
+ghost use Rattle.dm_tool.specs.Devices.{Counts, HasRisen};
+
+use std::io;
+
+/// A device failed.
+#[derive(Clone, Copy, Debug, PartialEq, Eq)]
+pub struct Failed;
+
+/// The answer of a device, of which each error is a failure and is counted.
+///
+/// The count stays at `u64::MAX` once it is there.
+pub(crate) fn counted<T>(failures: &mut u64, answer: io::Result<T>) -> Result<T, Failed>
+    ensures ok { IfOk answer (λ x. result ≡ Ok x) }
+    ensures err { OnErr answer (IsErr result) }
+    ensures count { Counts failures.old failures.new result }
+{
+    match answer {
+        Ok(value) => Ok(value),
+        Err(_) => Err(failure(failures)),
+    }
+}
+
+/// One more failure.
+pub(crate) fn failure(failures: &mut u64) -> Failed
+    ensures { HasRisen failures.old failures.new }
+{
+    *failures = failures.saturating_add(1);
+    Failed
+}

@@ -1,0 +1,93 @@
+//! Grids from pieces of a text.
+ghost use Rattle.std.specs.Prelude.{◌≡◌, ◌++◌, [], ℕ, List, IfNone, IfSome};
+ghost use Rattle.dm_tool.specs.Texts.{last_line};
+ghost use Rattle.dm_tool.specs.Records.{AreLfs, record_of};
+ghost use Rattle.dm_tool.specs.RecordFacts.{AreRecordFacts, facts_of_record};
+ghost use Rattle.dm_tool.specs.RecordFeeds.{ClosesRecord, IsLastRecord, LeavesRecordOpen};
+
+use crate::record::{OpenRecord, RecordFault};
+use dm_symbol::Grid;
+use std::marker::Model;
+
+/// Cuts a text that comes in pieces into records, the longest runs of lines that are not empty. It holds
+/// the record that stands open, and no more of it than a grid can have: once a byte other than 0, 1 and LF
+/// has come, or the record is too large, that alone.
+#[derive(Drop)]
+pub struct GridFeed {
+    record: OpenRecord,
+}
+
+impl Model for GridFeed {
+    ghost use Rattle.std.specs.Prelude.{ℕ, List};
+    ghost use Rattle.dm_tool.specs.RecordFacts.{RecordFacts, AreRecordFacts};
+
+    // The facts of the open record.
+    ghost Value = { RecordFacts };
+
+    ghost view = { λ f. f.record };
+
+    // They are the facts of some text.
+    ghost invariant = { λ f. (text : List ℕ) × AreRecordFacts text f.record };
+}
+
+/// What one call of [`GridFeed::feed`] came to.
+#[derive(Drop)]
+pub struct Fed {
+    /// How many bytes of the piece were taken.
+    pub taken: usize,
+    /// The record that they close, if they close one: its grid, or why it is none.
+    pub closed: Option<Result<Grid, RecordFault>>,
+}
+
+impl GridFeed {
+    /// A feed in which no record stands open.
+    pub fn new() -> Self
+        ensures { AreRecordFacts [] result }
+    {
+        GridFeed {
+            record: OpenRecord::new(),
+        }
+    }
+
+    /// Takes bytes up to and with the first one that closes a record, the LF of an empty line after it, and
+    /// gives that record. Where the piece closes none, all of it is taken. A record that is no grid leaves
+    /// the feed ready for the next one.
+    pub fn feed(&mut self, piece: &[u8]) -> Fed
+        ensures open { IfNone result.closed (LeavesRecordOpen self.old piece.now result.taken self.new) }
+        ensures closed { IfSome result.closed (λ answer. ClosesRecord self.old piece.now result.taken answer self.new) }
+        ensures some_text { (text : List ℕ) × AreRecordFacts text self.old }
+    {
+        let Some(end) = self.record.take(piece) else {
+            return Fed {
+                taken: piece.len(),
+                closed: None,
+            };
+        };
+        Fed {
+            taken: end + 1,
+            closed: Some(self.close()),
+        }
+    }
+
+    /// Closes the record that is open, if one is. The feed is as new then.
+    pub fn finish(&mut self) -> Option<Result<Grid, RecordFault>>
+        ensures none { IfNone result ((text : List ℕ) → AreRecordFacts text self.old → AreLfs text) }
+        ensures last { IfSome result (λ answer. (text : List ℕ) → AreRecordFacts text self.old → IsLastRecord text answer) }
+        ensures empty { AreRecordFacts [] self.new }
+        ensures some_text { (text : List ℕ) × AreRecordFacts text self.old }
+    {
+        if self.record.is_empty() {
+            return None;
+        }
+        Some(self.close())
+    }
+
+    /// The record ends, and none stands open.
+    fn close(&mut self) -> Result<Grid, RecordFault>
+        ensures answer { (lines : List (List ℕ)) (rest : List ℕ) → self.old ≡ facts_of_record lines rest
+            → result ≡ record_of (lines ++ last_line rest) }
+        ensures empty { AreRecordFacts [] self.new }
+    {
+        std::mem::replace(&mut self.record, OpenRecord::new()).close()
+    }
+}

@@ -1,0 +1,39 @@
+//! Laws of the definitions. Their functions do nothing.
+ghost use Rattle.std.specs.Prelude.{◌≡◌, ◌≤◌, ℕ, List, [], Ok, length};
+ghost use Rattle.std.specs.List.{concat};
+ghost use Rattle.dm_symbol.specs.declared.Item.{Item};
+ghost use Rattle.dm_symbol.specs.Messages.{IsMessage};
+ghost use Rattle.dm_tool.specs.Spellings.{text_of};
+ghost use Rattle.dm_tool.specs.MessageLines.{IsLine, most_items};
+ghost use Rattle.dm_tool.specs.LineFacts.{LineFacts, AreLineFacts};
+ghost use Rattle.dm_tool.specs.RecordFacts.{RecordFacts, AreRecordFacts};
+ghost use Rattle.dm_tool.specs.RecordFeeds.{AreRecordsFed, AreRecordsOfText, RecordAnswer};
+ghost use Rattle.dm_tool.specs.LineFeeds.{AreLinesFed, AreOfText, LineAnswer};
+
+/// The text of a message is read as the message.
+pub fn text_is_read_back()
+    ensures { (message : List Item) → IsMessage message → length message ≤ most_items
+        → IsLine (text_of message) (Ok message) }
+{}
+
+/// How a text is cut into pieces changes nothing for its message lines: what the pieces, fed to a feed
+/// in which no line stands open, close and leave open is that of the text that they are together; and it
+/// is the same for all ways to cut that text.
+pub fn line_cuts_change_nothing()
+    ensures text { (pieces : List (List ℕ)) (answers : List LineAnswer) (old new : LineFacts) → AreLineFacts [] old
+        → AreLinesFed old pieces answers new → AreOfText (concat pieces) answers new }
+    ensures same { (pieces others : List (List ℕ)) (answers theirs : List LineAnswer) (old new end : LineFacts)
+        → AreLineFacts [] old → concat pieces ≡ concat others
+        → AreLinesFed old pieces answers new → AreLinesFed old others theirs end → (answers ≡ theirs) × (new ≡ end) }
+{}
+
+/// How a text is cut into pieces changes nothing for its records: what the pieces, fed to a feed in which no
+/// record stands open, close and leave open is that of the text that they are together, and it is the same
+/// for all ways to cut that text.
+pub fn record_cuts_change_nothing()
+    ensures text { (pieces : List (List ℕ)) (answers : List RecordAnswer) (old new : RecordFacts) → AreRecordFacts [] old
+        → AreRecordsFed old pieces answers new → AreRecordsOfText (concat pieces) answers new }
+    ensures same { (pieces others : List (List ℕ)) (answers theirs : List RecordAnswer) (old new end : RecordFacts)
+        → AreRecordFacts [] old → concat pieces ≡ concat others
+        → AreRecordsFed old pieces answers new → AreRecordsFed old others theirs end → (answers ≡ theirs) × (new ≡ end) }
+{}

@@ -1,0 +1,96 @@
+//! Message lines from pieces of a text.
+ghost use Rattle.std.specs.Prelude.{◌≡◌, [], ℕ, List, IfNone, IfSome, IsSome, ◌↔◌, ◌≢◌};
+ghost use Rattle.dm_tool.specs.MessageLines.{IsLine};
+ghost use Rattle.dm_tool.specs.LineFacts.{AreLineFacts};
+ghost use Rattle.dm_tool.specs.LineFeeds.{ClosesLine, LeavesLineOpen};
+
+use crate::message_line::LineFault;
+use crate::open_line::OpenLine;
+use crate::text::line_end;
+use dm_symbol::Message;
+use std::marker::Model;
+
+/// Cuts a text that comes in pieces into message lines. It holds what is known of the line that stands
+/// open: its items while they are at most 408, the bytes of a spelling that is begun, a count, or the
+/// column of its fault.
+#[derive(Drop)]
+pub struct LineFeed {
+    line: OpenLine,
+}
+
+impl Model for LineFeed {
+    ghost use Rattle.std.specs.Prelude.{ℕ, List};
+    ghost use Rattle.dm_tool.specs.LineFacts.{LineFacts, AreLineFacts};
+
+    // The facts of the open line.
+    ghost Value = { LineFacts };
+
+    ghost view = { λ f. f.line };
+
+    // They are the facts of some line.
+    ghost invariant = { λ f. (line : List ℕ) × AreLineFacts line f.line };
+}
+
+/// What one call of [`LineFeed::feed`] came to.
+#[derive(Drop)]
+pub struct LineFed {
+    /// How many bytes of the piece were taken.
+    pub taken: usize,
+    /// The line that they close, if they close one: its message, or why it is none.
+    pub closed: Option<Result<Message, LineFault>>,
+}
+
+impl LineFeed {
+    /// A feed in which no line stands open.
+    pub fn new() -> Self
+        ensures { AreLineFacts [] result }
+    {
+        LineFeed {
+            line: OpenLine::new(),
+        }
+    }
+
+    /// Takes bytes up to and with the first LF, and gives the line that it closes. Where the piece has
+    /// no LF, all of it is taken. A line that is no message leaves the feed ready for the next one.
+    pub fn feed(&mut self, piece: &[u8]) -> LineFed
+        ensures open { IfNone result.closed (LeavesLineOpen self.old piece.now result.taken self.new) }
+        ensures closed { IfSome result.closed (λ line. ClosesLine self.old piece.now result.taken line self.new) }
+        ensures some_line { (line : List ℕ) × AreLineFacts line self.old }
+    {
+        let Some(end) = line_end(piece) else {
+            self.line.take(piece);
+            return LineFed {
+                taken: piece.len(),
+                closed: None,
+            };
+        };
+        self.line.take(&piece[..end]);
+        LineFed {
+            taken: end + 1,
+            closed: Some(self.close()),
+        }
+    }
+
+    /// Closes the line that is open, if one is: where the text ends, its bytes after the last LF are a
+    /// line, if there are any. The feed is as new then.
+    pub fn finish(&mut self) -> Option<Result<Message, LineFault>>
+        ensures none { IfNone result (AreLineFacts [] self.old) }
+        ensures line { IfSome result (λ closed. (line : List ℕ) → AreLineFacts line self.old → IsLine line closed) }
+        ensures some { (line : List ℕ) → AreLineFacts line self.old → (IsSome result ↔ (line ≢ [])) }
+        ensures empty { AreLineFacts [] self.new }
+        ensures some_line { (line : List ℕ) × AreLineFacts line self.old }
+    {
+        if self.line.is_empty() {
+            return None;
+        }
+        Some(self.close())
+    }
+
+    /// The line ends, and the next one begins.
+    fn close(&mut self) -> Result<Message, LineFault>
+        ensures line { (line : List ℕ) → AreLineFacts line self.old → IsLine line result }
+        ensures empty { AreLineFacts [] self.new }
+    {
+        std::mem::replace(&mut self.line, OpenLine::new()).close()
+    }
+}

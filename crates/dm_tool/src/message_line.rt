@@ -1,0 +1,84 @@
+//! The texts of messages.
+ghost use Rattle.std.specs.Prelude.{◌≡◌, ◌↔◌, ◌≤◌, ◌<◌, ◌*◌, ◌+◌, ◌++◌, List, Result, length};
+ghost use Rattle.dm_symbol.specs.declared.Item.{Item as AnItem};
+ghost use Rattle.dm_tool.specs.Spellings.{spelled, text_of, upper_digit};
+ghost use Rattle.dm_tool.specs.MessageLines.{IsLine};
+
+use crate::open_line::OpenLine;
+use arrayvec::ArrayVec;
+use dm_symbol::{Item, Message};
+
+/// Why a line is no message.
+#[derive(Clone, Copy, Debug, PartialEq, Eq)]
+pub enum LineFault {
+    /// A byte that is outside 32 to 126, or a backslash that begins none of `\\`, `\F` and `\xHH`:
+    /// the column of the first one, which counts bytes from 1. A column above `u64::MAX` is given as
+    /// that.
+    BadEscape(u64),
+    /// More than 408 items.
+    TooLong,
+}
+
+/// The message that a line spells. The line is one without its LF.
+///
+/// Bytes 32 to 126 other than the backslash stand for themselves, `\\` is the backslash, `\F` is FNC1,
+/// and `\xHH` is the byte of two hexadecimal digits, of either case. `BadEscape` comes where a line
+/// has anything else, and then `TooLong` where it has more than 408 items.
+pub fn message_from(line: &[u8]) -> Result<Message, LineFault>
+    ensures { (answer : Result (List AnItem) LineFault) → (result ≡ answer) ↔ IsLine line.now answer }
+{
+    let mut open = OpenLine::new();
+    open.take(line);
+    open.close()
+}
+
+/// The text of a message: a line that spells it, without an LF.
+///
+/// Bytes 32 to 126 are written as themselves, the backslash as `\\`, other bytes as `\xHH` with
+/// upper-case digits, and FNC1 as `\F`.
+pub fn message_text(message: &Message) -> ArrayVec<u8, 1632>
+    ensures { result.items ≡ text_of message.now }
+{
+    let mut text = ArrayVec::new();
+    for item in message.items() {
+        spell(&mut text, *item);
+    }
+    text
+}
+
+/// Appends how an item is written.
+fn spell(text: &mut ArrayVec<u8, 1632>, item: Item)
+    requires { length text.old.items + 4 ≤ 1632 }
+    ensures text { text.new.items ≡ text.old.items ++ spelled item }
+    ensures room { length text.new.items ≤ length text.old.items + 4 }
+{
+    match item {
+        Item::Fnc1 => {
+            text.push(b'\\');
+            text.push(b'F');
+        }
+        Item::Byte(b'\\') => {
+            text.push(b'\\');
+            text.push(b'\\');
+        }
+        Item::Byte(byte @ b' '..=b'~') => text.push(byte),
+        Item::Byte(byte) => {
+            text.push(b'\\');
+            text.push(b'x');
+            text.push(upper_digit(byte / 16));
+            text.push(upper_digit(byte % 16));
+        }
+    }
+}
+
+/// The hexadecimal digit of a value, in upper case.
+fn upper_digit(value: u8) -> u8
+    requires { value < 16 }
+    ensures { result ≡ upper_digit value }
+{
+    if value < 10 {
+        b'0' + value
+    } else {
+        b'A' - 10 + value
+    }
+}

@@ -1,0 +1,162 @@
+//! A record of a grid text that is read byte by byte.
+ghost use Rattle.std.specs.Prelude.{◌≡◌, ◌≢◌, ◌∷◌, ◌++◌, [], ℕ, Bool, true, false, List, IsTrue, ◌↔◌, ◌+◌, ◌<◌, IfNone, IfSome, length, take};
+ghost use Rattle.std.specs.Bool.{OnTrue, OnFalse};
+ghost use Rattle.dm_tool.specs.Records.{IsClosedRecord, is_foreign, record_of};
+ghost use Rattle.dm_tool.specs.RecordFacts.{AreRecordFacts, facts_of_record};
+ghost use Rattle.dm_tool.specs.Texts.{last_line};
+ghost use Rattle.dm_tool.specs.OpenRecords.{EndsAt};
+
+use crate::cell_text::CellText;
+use crate::text::LF;
+use dm_symbol::Grid;
+use std::marker::Model;
+
+/// Why a record is no grid. Of several faults the first is given, over the whole record.
+#[derive(Clone, Copy, Debug, PartialEq, Eq)]
+pub enum RecordFault {
+    /// A byte other than 0, 1 and LF stands in it.
+    Character,
+    /// A line is longer than the largest side, or there are more lines than that.
+    Large,
+    /// The lines are not all as long as they are many.
+    NotSquare,
+    /// The lines make a square of this side, which no size has.
+    NoSuchSize(u16),
+}
+
+/// What stands in an open record.
+#[derive(Drop)]
+enum Contents {
+    Foreign,
+    Large,
+    Cells(CellText),
+}
+
+/// A record whose end has not come, or none.
+#[derive(Drop)]
+pub(crate) struct OpenRecord {
+    /// Its last byte is LF.
+    ended: bool,
+    contents: Contents,
+}
+
+impl Model for OpenRecord {
+    ghost use Rattle.dm_tool.specs.RecordFacts.{RecordFacts};
+    ghost use Rattle.dm_tool.specs.OpenRecords.{IsRecordState, contents_seen};
+
+    ghost Value = { RecordFacts };
+
+    ghost view = { λ r. record { ended = r.ended; contents = contents_seen r.contents } };
+
+    ghost invariant = { λ r. IsRecordState r.ended r.contents };
+}
+
+impl OpenRecord {
+    /// No record.
+    pub(crate) fn new() -> Self
+        ensures { AreRecordFacts [] result }
+    {
+        OpenRecord {
+            ended: false,
+            contents: Contents::Cells(CellText::new()),
+        }
+    }
+
+    /// One more byte; whether it closes the record, which then stays as it is.
+    pub(crate) fn push(&mut self, byte: u8) -> bool
+        ensures open { OnFalse result ((text : List ℕ) → AreRecordFacts text self.old → AreRecordFacts (text ++ byte ∷ []) self.new) }
+        ensures same { OnTrue result (self.new ≡ self.old) }
+        ensures closes { OnTrue result ((text : List ℕ) → AreRecordFacts text self.old
+            → (lines : List (List ℕ)) × IsClosedRecord (text ++ byte ∷ []) lines × (self.old ≡ facts_of_record lines [])) }
+    {
+        if byte != LF {
+            self.push_character(byte);
+            return false;
+        }
+        if self.ended {
+            return true;
+        }
+        self.end_line();
+        false
+    }
+
+    /// More bytes, up to and with the first one that closes the record: how many stand before it, where one
+    /// does. The record is then as it was before that byte.
+    pub(crate) fn take(&mut self, bytes: &[u8]) -> Option<usize>
+        ensures open { IfNone result ((text : List ℕ) → AreRecordFacts text self.old → AreRecordFacts (text ++ bytes.now) self.new) }
+        ensures within { IfSome result (λ end. end < length bytes.now) }
+        ensures closes { IfSome result (λ end. (text : List ℕ) → AreRecordFacts text self.old → EndsAt (text ++ take end bytes.now) (text ++ take (end + 1) bytes.now) self.new) }
+    {
+        for (i, byte) in bytes.iter().enumerate() {
+            if self.push(*byte) {
+                return Some(i);
+            }
+        }
+        None
+    }
+
+    /// A byte that is no LF.
+    fn push_character(&mut self, byte: u8)
+        requires { byte ≢ 10 }
+        ensures { (text : List ℕ) → AreRecordFacts text self.old → AreRecordFacts (text ++ byte ∷ []) self.new }
+    {
+        let ended = self.ended;
+        self.ended = false;
+        if is_foreign(byte) {
+            self.contents = Contents::Foreign;
+            return;
+        }
+        if let Contents::Cells(cells) = &mut self.contents {
+            if !cells.push(byte, ended) {
+                self.contents = Contents::Large;
+            }
+        }
+    }
+
+    /// An LF after a line, or before all lines.
+    fn end_line(&mut self)
+        requires { self.old.ended ≡ false }
+        ensures { (text : List ℕ) → AreRecordFacts text self.old → AreRecordFacts (text ++ 10 ∷ []) self.new }
+    {
+        match &mut self.contents {
+            Contents::Cells(cells) => {
+                if cells.is_empty() {
+                    return;
+                }
+                cells.end_line();
+                self.ended = true;
+            }
+            _ => self.ended = true,
+        }
+    }
+
+    /// Whether no record is open.
+    pub(crate) fn is_empty(&self) -> bool
+        ensures { (lines : List (List ℕ)) (rest : List ℕ) → self.now ≡ facts_of_record lines rest
+            → (IsTrue result ↔ (lines ++ last_line rest ≡ [])) }
+    {
+        match &self.contents {
+            Contents::Cells(cells) => cells.is_empty(),
+            _ => false,
+        }
+    }
+
+    /// The record ends.
+    pub(crate) fn close(self) -> Result<Grid, RecordFault>
+        ensures { (lines : List (List ℕ)) (rest : List ℕ) → self ≡ facts_of_record lines rest
+            → result ≡ record_of (lines ++ last_line rest) }
+    {
+        match self.contents {
+            Contents::Foreign => Err(RecordFault::Character),
+            Contents::Large => Err(RecordFault::Large),
+            Contents::Cells(cells) => cells.grid(),
+        }
+    }
+}
+
+/// Whether a character is neither 0 nor 1.
+fn is_foreign(character: u8) -> bool
+    ensures { result ≡ is_foreign character }
+{
+    !(character == b'0' || character == b'1')
+}
