@@ -17,7 +17,7 @@ row_text_of row = map character_of row ++ 10 ∷ []
 abbrev pub grid_text_of : List (List Bool) → List ℕ
 grid_text_of rows = flat_map row_text_of rows
 
--- the refusal of a message that has no symbol of side 10, and an empty line
+-- the refusal of a message whose normal grid has not side 10, or that has none, and an empty line
 abbrev pub too_long_text : List ℕ
 too_long_text = codes "\\no 14 too-long" ++ 10 ∷ 10 ∷ []
 

@@ -6,7 +6,7 @@ ghost use Rattle.dm_tool.specs.Ending.{status_of};
 /// How the program ends.
 #[derive(Clone, Copy, Debug, PartialEq, Eq)]
 pub enum Ending {
-    /// The line was answered by its symbol, or there was none.
+    /// The line was answered by its symbol, or there was no line.
     Answered,
     /// The line was refused.
     Refused,

@@ -41,7 +41,7 @@ fn line_of(text: &[u8]) -> Option<&[u8]>
     }
 }
 
-/// The one line of the input without its LF, or None where the input is empty. An input of more than one line, or a
+/// The one line of the input without its LF, or None where the input is empty; the buffer has `ROOM` bytes. An input of more than one line, or a
 /// line of more than `LONGEST_LINE` bytes, is too much.
 pub fn only_line<'a, R: Read>(
     input: &mut R,

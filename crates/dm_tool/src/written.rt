@@ -15,7 +15,7 @@ pub type Answer = ArrayVec<u8, 111>;
 /// The answer to a message line of at most 256 bytes and without LF: the normal grid of its message, a text of ten
 /// lines of 0 and 1, and an empty line; or the refusal and an empty line. A byte of the line stands for itself where
 /// it is of 32 to 126 and not the backslash; any other is refused with its column, from 1. A message whose symbol has
-/// another side than 10 is refused as too long.
+/// another side than 10, or that fits no symbol, is refused as too long.
 pub fn write_text(line: &[u8]) -> Answer
     requires short { length line.now ≤ 256 }
     requires one { HasNoLf line.now }
