@@ -1,9 +1,13 @@
-pub mod PlainLines
 pub mod KnownBytes
 pub mod Joinings
 pub mod OpenLineSteps
 pub mod SpellingBytes
 pub mod MessageTexts
+pub mod CommandWalks
+pub mod CommandNumbers
+pub mod CommandMatches
+pub mod CommandNames
+pub mod CommandTasks
 pub mod Texts
 pub mod LineCuts
 pub mod RecordSteps
@@ -13,3 +17,11 @@ pub mod RecordStates
 pub mod RecordAnswers
 pub mod RecordGrids
 pub mod RecordCuts
+pub mod RecordTexts
+pub mod LineTexts
+pub mod Standings
+pub mod AnswerTexts
+pub mod TableLines
+pub mod Outcomes
+pub mod OneAnswer
+pub mod OneText

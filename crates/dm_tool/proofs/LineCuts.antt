@@ -13,14 +13,14 @@ use Rattle.dm_tool.proofs.Joinings.{joining_append, joining_one, joining_unique}
 use Rattle.dm_tool.proofs.OpenLineSteps.{line_unique}
 
 -- the rest of a piece after its first line
-rest_of : (piece before after : List ℕ) (taken : ℕ) → piece ≡ before ++ lf ∷ after → taken ≡ length before + 1 → drop taken piece ≡ after
+pub rest_of : (piece before after : List ℕ) (taken : ℕ) → piece ≡ before ++ lf ∷ after → taken ≡ length before + 1 → drop taken piece ≡ after
 rest_of piece before after taken e n =
     let cut : piece ≡ (before ++ lf ∷ []) ++ after = e ∙ sym (append_assoc before (lf ∷ []) after) in
     let long : length (before ++ lf ∷ []) ≡ taken = length-append before (lf ∷ []) ∙ sym n in
     ap (drop taken) cut ∙ drop_at (before ++ lf ∷ []) after taken long
 
 -- pieces fed to a feed in which a line stands open
-fed_after : (u : List ℕ) (old new : LineFacts) (pieces : List (List ℕ)) (answers : List LineAnswer) → AreLinesFed old pieces answers new
+pub fed_after : (u : List ℕ) (old new : LineFacts) (pieces : List (List ℕ)) (answers : List LineAnswer) → AreLinesFed old pieces answers new
     → AreLineFacts u old → HasNoLf u → AreOfText (u ++ concat pieces) answers new
 fed_after u old new pieces answers (no_piece facts) known h = record {
   lines = [];

@@ -11,7 +11,7 @@ use Rattle.dm_tool.proofs.Texts.{split_more, split_unique}
 -- ---- empty lines
 
 -- an empty line for each LF
-blanks : List ℕ → List (List ℕ)
+pub blanks : List ℕ → List (List ℕ)
 blanks [] = []
 blanks (b ∷ bytes) = [] ∷ blanks bytes
 
@@ -25,21 +25,21 @@ unfolding blanks
 blanks_no_lf [] = tt
 blanks_no_lf (b ∷ bytes) = (tt, blanks_no_lf bytes)
 
-after_blanks : (bytes : List ℕ) (lines : List (List ℕ)) (records : List (List (List ℕ))) → AreRecords lines records → AreRecords (blanks bytes ++ lines) records
+pub after_blanks : (bytes : List ℕ) (lines : List (List ℕ)) (records : List (List (List ℕ))) → AreRecords lines records → AreRecords (blanks bytes ++ lines) records
 unfolding blanks
 after_blanks [] lines records h = h
 after_blanks (b ∷ bytes) lines records h = empty_line (blanks bytes ++ lines) records (after_blanks bytes lines records h)
 
-full_no_lf : (lines : List (List ℕ)) → AreFullLines lines → AllByRecursion HasNoLf lines
+pub full_no_lf : (lines : List (List ℕ)) → AreFullLines lines → AllByRecursion HasNoLf lines
 full_no_lf [] h = tt
 full_no_lf (l ∷ lines) h = (h.0.1, full_no_lf lines h.1)
 
-full_some : (lines : List (List ℕ)) → AreFullLines lines → AllByRecursion (λ l. l ≢ []) lines
+pub full_some : (lines : List (List ℕ)) → AreFullLines lines → AllByRecursion (λ l. l ≢ []) lines
 full_some [] h = tt
 full_some (l ∷ lines) h = (h.0.0, full_some lines h.1)
 
 -- lines before a text that is split
-split_lines : (lines more : List (List ℕ)) (text rest : List ℕ) → AllByRecursion HasNoLf lines → IsSplit text more rest → IsSplit (ended lines ++ text) (lines ++ more) rest
+pub split_lines : (lines more : List (List ℕ)) (text rest : List ℕ) → AllByRecursion HasNoLf lines → IsSplit text more rest → IsSplit (ended lines ++ text) (lines ++ more) rest
 split_lines [] more text rest h s = s
 split_lines (l ∷ lines) more text rest h s =
     subst (λ t. IsSplit t (l ∷ (lines ++ more)) rest) (sym (append_assoc (l ++ lf ∷ []) (ended lines) text ∙ append_assoc l (lf ∷ []) (ended lines ++ text)))
@@ -49,7 +49,7 @@ rest_alone : (rest : List ℕ) → HasNoLf rest → IsSplit rest [] rest
 rest_alone rest h = record { whole = refl; lines_no_lf = tt; rest_no_lf = h }
 
 -- the lines of a text in which a record stands open
-split_open : (text : List ℕ) (lines : List (List ℕ)) (rest : List ℕ) → (o : IsOpenRecord text lines rest) → IsSplit text (blanks o.blank ++ lines) rest
+pub split_open : (text : List ℕ) (lines : List (List ℕ)) (rest : List ℕ) → (o : IsOpenRecord text lines rest) → IsSplit text (blanks o.blank ++ lines) rest
 split_open text lines rest o =
     let inner = split_lines lines [] rest rest (full_no_lf lines o.full) (rest_alone rest o.rest_no_lf) in
     let outer = split_lines (blanks o.blank) (lines ++ []) (ended lines ++ rest) rest (blanks_no_lf o.blank) inner in
@@ -67,7 +67,7 @@ ends_blank (b ∷ bytes) = elim (ends_blank bytes) [
 -- ---- pieces
 
 -- nothing more than an open record
-open_text : (text : List ℕ) (new : RecordFacts) → AreRecordFacts text new → AreRecordsOfText text [] new
+pub open_text : (text : List ℕ) (new : RecordFacts) → AreRecordFacts text new → AreRecordsOfText text [] new
 open_text text new known =
     let o = known.open_record in
     record {
@@ -124,7 +124,7 @@ closed_before text later lines answers new c t =
       left = t.left;
     }
 
-fed_after : (u : List ℕ) (old new : RecordFacts) (pieces : List (List ℕ)) (answers : List RecordAnswer) → AreRecordsFed old pieces answers new
+pub fed_after : (u : List ℕ) (old new : RecordFacts) (pieces : List (List ℕ)) (answers : List RecordAnswer) → AreRecordsFed old pieces answers new
     → AreRecordFacts u old → AreRecordsOfText (u ++ concat pieces) answers new
 fed_after u old new pieces answers (no_piece facts) known = subst (λ l. AreRecordsOfText l [] facts) (sym (append-nil u)) (open_text u facts known)
 fed_after u old new pieces answers (leaves_open _ mid _ piece taken more _ now later) known =
@@ -150,11 +150,11 @@ tail_blank : (front : List (List ℕ)) → AllByRecursion (λ l. l ≢ []) (fron
 tail_blank [] h = h.0 refl
 tail_blank (x ∷ front) h = tail_blank front h.1
 
-blank_is_none : (a : List (List ℕ)) → (a ≡ []) ⊎ ((f : List (List ℕ)) × (a ≡ f ++ [] ∷ [])) → AllByRecursion (λ l. l ≢ []) a → a ≡ []
+pub blank_is_none : (a : List (List ℕ)) → (a ≡ []) ⊎ ((f : List (List ℕ)) × (a ≡ f ++ [] ∷ [])) → AllByRecursion (λ l. l ≢ []) a → a ≡ []
 blank_is_none a (inl e) h = e
 blank_is_none a (inr s) h = absurd (tail_blank s.0 (subst (AllByRecursion (λ l. l ≢ [])) s.1 h))
 
-later_blank : (x : List ℕ) (a : List (List ℕ)) → ((x ∷ a) ≡ []) ⊎ ((f : List (List ℕ)) × (x ∷ a ≡ f ++ [] ∷ [])) → (a ≡ []) ⊎ ((f : List (List ℕ)) × (a ≡ f ++ [] ∷ []))
+pub later_blank : (x : List ℕ) (a : List (List ℕ)) → ((x ∷ a) ≡ []) ⊎ ((f : List (List ℕ)) × (x ∷ a ≡ f ++ [] ∷ [])) → (a ≡ []) ⊎ ((f : List (List ℕ)) × (a ≡ f ++ [] ∷ []))
 later_blank x a (inl e) = let n : x ∷ a ≡ [] = e in cc
 later_blank x a (inr ([], e)) = let n : a ≡ [] = cc in inl n
 later_blank x a (inr (y ∷ f, e)) = let n : a ≡ f ++ [] ∷ [] = cc in inr (f, n)
@@ -174,7 +174,7 @@ front_blank : (c d b : List (List ℕ)) → c ++ d ≡ b → AllByRecursion (λ 
 front_blank c d b e h hc = blank_is_none c hc (front_full c d (subst (AllByRecursion (λ l. l ≢ [])) (sym e) h))
 
 -- the last empty line is one
-last_blank_unique : (a b c d : List (List ℕ)) → a ++ b ≡ c ++ d → AllByRecursion (λ l. l ≢ []) b → AllByRecursion (λ l. l ≢ []) d
+pub last_blank_unique : (a b c d : List (List ℕ)) → a ++ b ≡ c ++ d → AllByRecursion (λ l. l ≢ []) b → AllByRecursion (λ l. l ≢ []) d
     → (a ≡ []) ⊎ ((f : List (List ℕ)) × (a ≡ f ++ [] ∷ [])) → (c ≡ []) ⊎ ((f : List (List ℕ)) × (c ≡ f ++ [] ∷ [])) → (a ≡ c) × (b ≡ d)
 last_blank_unique [] b [] d e hb hd ha hc = (refl, e)
 last_blank_unique [] b (y ∷ c) d e hb hd ha hc = let n = front_blank (y ∷ c) d b (sym e) hb hc in cc
@@ -204,12 +204,12 @@ some_first : (a b c : List (List ℕ)) → a ≢ [] → AreFullLines a → a ++ 
 some_first [] b c n h e = n refl
 some_first (x ∷ a) b c n h e = let k : x ≡ [] = cc in h.0.0 k
 
-none_first : (a b : List (List ℕ)) → a ≢ [] → a ++ b ≡ [] → ⊥
+pub none_first : (a b : List (List ℕ)) → a ≢ [] → a ++ b ≡ [] → ⊥
 none_first [] b n e = n refl
 none_first (x ∷ a) b n e = cc
 
 -- the records of lines are one
-records_unique : (l m : List (List ℕ)) (r s : List (List (List ℕ))) → AreRecords l r → AreRecords m s → l ≡ m → r ≡ s
+pub records_unique : (l m : List (List ℕ)) (r s : List (List (List ℕ))) → AreRecords l r → AreRecords m s → l ≡ m → r ≡ s
 records_unique _ _ _ _ no_line no_line e = refl
 records_unique _ _ _ _ no_line (empty_line m s h) e = cc
 records_unique _ _ _ _ no_line (longest_run c d s n f b h) e = absurd (none_first c d n (sym e))
@@ -231,6 +231,11 @@ blank_front [] (y ∷ b) (x ∷ l) m h k e = let n : x ≡ [] = cc in absurd (h.
 blank_front (x ∷ a) [] l [] h k e = cc
 blank_front (x ∷ a) [] l (y ∷ m) h k e = let n : y ≡ [] = cc in absurd (k.0.0 n)
 blank_front (x ∷ a) (y ∷ b) l m h k e = let tail : blanks a ++ l ≡ blanks b ++ m = cc in blank_front a b l m h k tail
+
+-- empty lines and lines that aren't, that are lines that aren't
+pub after_blank_front : (a : List ℕ) (l m : List (List ℕ)) → AreFullLines l → AreFullLines m → blanks a ++ l ≡ m → l ≡ m
+unfolding blanks
+after_blank_front a l m h k e = blank_front a [] l m h k e
 
 -- the facts of a text are one
 pub record_facts_unique : (text : List ℕ) (f g : RecordFacts) → AreRecordFacts text f → AreRecordFacts text g → f ≡ g

@@ -1,6 +1,6 @@
-pub mod Ending
-pub mod Lines
-pub mod Written
+pub mod CommandLine
+pub mod CommandReads
+pub mod Endings
 pub mod Devices
 pub mod Readers
 pub mod Spellings
@@ -13,3 +13,7 @@ pub mod Records
 pub mod RecordFacts
 pub mod RecordFeeds
 pub mod OpenRecords
+pub mod Refusals
+pub mod Answers
+pub mod Runs
+pub mod Standings

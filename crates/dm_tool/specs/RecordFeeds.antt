@@ -1,5 +1,5 @@
 -- What feeding pieces of a text to a grid feed does.
-use Rattle.std.specs.Prelude.{◌≡◌, ◌≢◌, ◌≤◌, ◌⊎◌, ℕ, List, [], ◌∷◌, ◌++◌, length, take, drop, map, Result}
+use Rattle.std.specs.Prelude.{◌≡◌, ◌≢◌, ◌≤◌, ◌<◌, ◌⊎◌, ℕ, List, [], ◌∷◌, ◌++◌, length, take, drop, map, Result}
 use Rattle.std.specs.List.{AllByRecursion}
 use Rattle.dm_symbol.specs.Grid.{GridView}
 use Rattle.dm_tool.specs.declared.record.RecordFault.{RecordFault}
@@ -24,6 +24,7 @@ pub record IsAnsweredRecord (text : List ℕ) (answer : RecordAnswer) : Type 0 w
 
 -- A byte of the piece closes a record: the piece is taken up to and with it, and no record stands open then.
 pub record ClosesRecord (old : RecordFacts) (piece : List ℕ) (taken : ℕ) (answer : RecordAnswer) (new : RecordFacts) : Type 0 where
+  pub some : 0 < taken
   pub within : taken ≤ length piece
   pub answered : (text : List ℕ) → AreRecordFacts text old → IsAnsweredRecord (text ++ take taken piece) answer
   pub empty : AreRecordFacts [] new

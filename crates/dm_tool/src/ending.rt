@@ -1,46 +1,36 @@
 //! How the program ends: its status, and its line on standard error.
-
 ghost use Rattle.std.specs.Prelude.{◌≡◌};
-ghost use Rattle.dm_tool.specs.Ending.{status_of};
+ghost use Rattle.dm_tool.specs.Endings.{IsEndingOf, IsEndingOfCall};
 
-/// How the program ends.
-#[derive(Clone, Copy, Debug, PartialEq, Eq)]
-pub enum Ending {
-    /// The line was answered by its symbol, or there was no line.
-    Answered,
-    /// The line was refused.
-    Refused,
-    /// The command line isn't one that the program knows.
-    Usage,
-    ReadFailed,
-    WriteFailed,
-    TooMuchInput,
-    NoMemory,
+use crate::task::{CallFault, RunFault, Tally};
+
+/// The exit status after a run, and the line for standard error without its LF, empty where there
+/// is none.
+///
+/// The status is 0 where nothing was refused, 1 where something was, and 3 where the run failed.
+pub fn ending(outcome: &Result<Tally, RunFault>) -> (u8, &'static str)
+    ensures { IsEndingOf outcome.now result.0 result.1.now }
+{
+    match outcome {
+        Ok(tally) if tally.refused == 0 => (0, ""),
+        Ok(_) => (1, ""),
+        Err(RunFault::Read) => (3, "dm_tool: read failed"),
+        Err(RunFault::Write) => (3, "dm_tool: write failed"),
+        Err(RunFault::TooMuchInput) => (3, "dm_tool: too much input"),
+    }
 }
 
-impl Ending {
-    /// The exit status.
-    pub fn status(self) -> u8
-        ensures { result ≡ status_of self }
-    {
-        match self {
-            Ending::Answered => 0,
-            Ending::Refused => 1,
-            Ending::Usage => 2,
-            Ending::ReadFailed | Ending::WriteFailed | Ending::TooMuchInput | Ending::NoMemory => 3,
-        }
-    }
-
-    /// The line for standard error with its LF, empty where there is none.
-    pub fn line(self) -> &'static str {
-        match self {
-            Ending::Answered | Ending::Refused => "",
-            Ending::Usage =>
-                "dm_tool: usage: dm_tool read|check|normal [--border N] | write | table\n",
-            Ending::ReadFailed => "dm_tool: read failed\n",
-            Ending::WriteFailed => "dm_tool: write failed\n",
-            Ending::TooMuchInput => "dm_tool: too much input\n",
-            Ending::NoMemory => "dm_tool: no memory\n",
-        }
+/// The exit status where no task was run, and the line for standard error.
+///
+/// The status is 2 for a command line that the program doesn't know, and 3 where there was no memory.
+pub(crate) fn call_ending(fault: CallFault) -> (u8, &'static str)
+    ensures { IsEndingOfCall fault result.0 result.1.now }
+{
+    match fault {
+        CallFault::Usage => (
+            2,
+            "dm_tool: usage: dm_tool read|check|normal [--border N] | write | table",
+        ),
+        CallFault::Memory => (3, "dm_tool: no memory"),
     }
 }

@@ -3,11 +3,17 @@ ghost use Rattle.std.specs.Prelude.{◌≡◌, ◌≤◌, ℕ, List, [], Ok, len
 ghost use Rattle.std.specs.List.{concat};
 ghost use Rattle.dm_symbol.specs.declared.Item.{Item};
 ghost use Rattle.dm_symbol.specs.Messages.{IsMessage};
+ghost use Rattle.clap.specs.Faults.{fault_of};
+ghost use Rattle.clap.specs.Simple.{subcommand_of};
+ghost use Rattle.dm_tool.specs.CommandLine.{NamesOneTask, dm_app};
 ghost use Rattle.dm_tool.specs.Spellings.{text_of};
 ghost use Rattle.dm_tool.specs.MessageLines.{IsLine, most_items};
 ghost use Rattle.dm_tool.specs.LineFacts.{LineFacts, AreLineFacts};
 ghost use Rattle.dm_tool.specs.RecordFacts.{RecordFacts, AreRecordFacts};
 ghost use Rattle.dm_tool.specs.RecordFeeds.{AreRecordsFed, AreRecordsOfText, RecordAnswer};
+ghost use Rattle.dm_tool.specs.declared.task.Task.{Task};
+ghost use Rattle.dm_tool.specs.declared.task.Tally.{Tally};
+ghost use Rattle.dm_tool.specs.Runs.{IsDone, IsOut};
 ghost use Rattle.dm_tool.specs.LineFeeds.{AreLinesFed, AreOfText, LineAnswer};
 
 /// The text of a message is read as the message.
@@ -36,4 +42,16 @@ pub fn record_cuts_change_nothing()
     ensures same { (pieces others : List (List ℕ)) (answers theirs : List RecordAnswer) (old new end : RecordFacts)
         → AreRecordFacts [] old → concat pieces ≡ concat others
         → AreRecordsFed old pieces answers new → AreRecordsFed old others theirs end → (answers ≡ theirs) × (new ≡ end) }
+{}
+
+/// What is written for a text as a whole, and how many are answered and refused, is one thing; so is what is
+/// written for a text that may go on.
+pub fn one_text_is_written()
+    ensures out { (task : Task) (text a b : List ℕ) (s t : Tally) → IsOut task text a s → IsOut task text b t → (a ≡ b) × (s ≡ t) }
+    ensures done { (task : Task) (text a b : List ℕ) → IsDone task text a → IsDone task text b → a ≡ b }
+{}
+
+/// Words in which clap finds no fault name one task: a border among them is always the text of a limit.
+pub fn faultless_words_name_one_task()
+    ensures { (words : List (List ℕ)) → fault_of dm_app words ≡ [] → NamesOneTask (subcommand_of dm_app words) }
 {}

@@ -1,82 +1,92 @@
-//! `dm_tool`: one message line in, the Data Matrix symbol that says it out.
+//! `dm_tool`: reads, checks, normalises and writes square Data Matrix symbols (ISO/IEC 16022, ECC 200), as texts.
+//!
+//! A text of grids comes as records of lines of 0 and 1, a text of messages as lines. [`run`] answers each record or line; the
+//! feeds [`GridFeed`] and [`LineFeed`] cut texts that come in pieces. What the contracts say is defined in `specs/`: `Runs` and
+//! `Answers` for what is written, `Records` and `MessageLines` for what is read.
 #![tactic(auto)]
 
+mod answer;
+mod answering;
 mod cell_text;
+mod command_line;
 mod device;
 mod ending;
 mod grid_feed;
-mod input;
 pub mod laws;
 mod line_feed;
 mod message_line;
 mod open_line;
+mod printed;
 mod record;
+mod refusal;
+mod running;
 mod sink;
 mod source;
 mod spelling;
+mod table;
+mod task;
 #[cfg(test)]
 mod tests;
 mod text;
-mod written;
 
+pub use command_line::task_of;
 pub use device::Failed;
-use ending::Ending;
+use ending::call_ending;
+pub use ending::ending;
 pub use grid_feed::{Fed, GridFeed};
 pub use line_feed::{LineFed, LineFeed};
 pub use message_line::{LineFault, message_from, message_text};
 pub use record::RecordFault;
+pub use running::run;
 pub use sink::{Sink, ToWrite};
 pub use source::{FromRead, Source};
-use std::io::Write;
+use std::io::{BufReader, Write};
 use std::process::ExitCode;
 use std::{env, io};
-use written::{is_refusal, write_text};
+pub use task::{CallFault, RunFault, Tally, Task};
 
-/// Whether the command line is `dm_tool write`.
-fn asks_to_write(rt: &HostRuntime) -> Result<bool, Ending> {
-    let words = match env::args(rt) {
-        Ok(words) => words,
-        Err(error) if error.kind() == io::ErrorKind::OutOfMemory => return Err(Ending::NoMemory),
-        Err(_) => return Err(Ending::Usage),
+/// The most bytes of input that are read.
+const MOST_INPUT: u64 = 1 << 30;
+
+/// The task of the program's own command line. A word that isn't UTF-8 is none of any task.
+fn task_of_call(rt: &HostRuntime) -> Result<Task, CallFault> {
+    let given = match env::args(rt) {
+        Ok(given) => given,
+        Err(error) if error.kind() == io::ErrorKind::OutOfMemory => return Err(CallFault::Memory),
+        Err(_) => return Err(CallFault::Usage),
     };
-    let mut count = 0usize;
-    let mut is_known = false;
-    for word in words {
-        if count == 1 {
-            is_known = word.as_str() == "write";
-        }
-        count = count.saturating_add(1);
+    let mut texts = Vec::new(rt.alloc());
+    for text in given {
+        texts.push(text).map_err(|_| CallFault::Memory)?;
     }
-    Ok(is_known && count == 2)
+    let mut words = Vec::new(rt.alloc());
+    for text in texts.as_slice() {
+        words.push(text.as_str()).map_err(|_| CallFault::Memory)?;
+    }
+    task_of(rt.alloc(), words.as_slice())
 }
 
-fn put<W: Write>(output: &mut W, bytes: &[u8]) -> Result<(), Ending> {
-    output.write_all(bytes).map_err(|_| Ending::WriteFailed)?;
-    output.flush().map_err(|_| Ending::WriteFailed)
+/// Does a task over the standard streams.
+fn run_over_streams(rt: &HostRuntime, task: Task) -> Result<(u8, &'static str), CallFault> {
+    let input = BufReader::new(rt.alloc(), rt.stdin()).map_err(|_| CallFault::Memory)?;
+    let mut source = FromRead::new(input);
+    let mut sink = ToWrite::new(rt.stdout());
+    Ok(ending(&run(task, &mut source, &mut sink, MOST_INPUT)))
 }
 
-fn run(rt: &HostRuntime) -> Result<Ending, Ending> {
-    if !asks_to_write(rt)? {
-        return Err(Ending::Usage);
-    }
-    let mut buffer = [0; input::ROOM];
-    let Some(line) = input::only_line(&mut rt.stdin(), &mut buffer)? else {
-        return Ok(Ending::Answered);
-    };
-    let answer = write_text(line);
-    put(&mut rt.stdout(), answer.as_slice())?;
-    Ok(if is_refusal(&answer) {
-        Ending::Refused
-    } else {
-        Ending::Answered
-    })
+/// Does what the command line asks for, and gives the status and the line for standard error.
+fn ended(rt: &HostRuntime) -> Result<(u8, &'static str), CallFault> {
+    run_over_streams(rt, task_of_call(rt)?)
 }
 
 fn main(rt: HostRuntime) -> ExitCode {
-    let ending = match run(&rt) {
+    let (status, line) = match ended(&rt) {
         Ok(ending) => ending,
-        Err(ending) => ending,
+        Err(fault) => call_ending(fault),
     };
-    let _ = rt.stderr().write_all(ending.line().as_bytes());
-    ExitCode::from(ending.status())
+    if !line.is_empty() {
+        let _ = rt.stderr().write_all(line.as_bytes());
+        let _ = rt.stderr().write_all(b"\n");
+    }
+    ExitCode::from(status)
 }

@@ -22,6 +22,6 @@ pub enum WordFault {
     Unfinished(u16),
 }
 
-/// The ASCII codewords of the message are more than `MOST_CODEWORDS`.
+/// The ASCII codewords of the message are more than `MOST_DATA`.
 #[derive(Clone, Copy, Debug, PartialEq, Eq)]
 pub struct TooLong;

@@ -19,6 +19,7 @@ invariant_of-self-2 c =
 
 pub returns-clause-closed : goal.returns-clause-closed
 returns-clause-closed c = record {
+  some = omega arith;
   within = omega (arith, c.in-Some.ensures.within);
   answered = λ text facts.
       let ends = c.in-Some.ensures.closes text (rw (← c.self.view_is) at facts) in

@@ -1,0 +1,80 @@
+-- What clap's getter reads of a border's text that passed its parser is the limit that the text writes.
+use Rattle.std.proofs.Common.{◌≡◌, ◌∙◌, ◌<◌, ◌^◌, ◌==◌, ℕ, Bool, true, false, cond, drop, refl, sym, ap, subst, List, [], ◌∷◌, Option, Some, None, Result, Ok, Err, codes, arith}
+use Rattle.std.specs.Prelude.{option_and_then, slice_get, find, unwrap_or}
+use Rattle.std.specs.Str.{bytes_eq}
+use Rattle.std.specs.Str.Parse.{IsNumeral, ParsesUnsigned, digits_value, starts_with_minus, without_leading_plus}
+use Rattle.std.proofs.lemmas.Bool.{ne_eqb}
+use Rattle.std.proofs.lemmas.Str.Parse.{digit_from_value}
+use Rattle.std.proofs.lemmas.Int.{ints}
+use Rattle.clap.specs.Lexer.{without_minus}
+use Rattle.clap.specs.Matches.{ReadsOne}
+use Rattle.clap.specs.Walk.{Row, Text, first_of, one_of, row_text}
+use Rattle.dm_tool.specs.CommandLine.{GivesLimit, IsBorderLimit}
+use Rattle.dm_tool.specs.CommandReads.{IsReadable}
+
+-- the text without a first minus, by the test that the parser makes
+without_minus-cond : (t : Text) → without_minus t ≡ cond (starts_with_minus t) (drop 1 t) t
+without_minus-cond [] = refl
+without_minus-cond (x ∷ xs) = go (x == 45)
+  where
+    go : (b : Bool) → unwrap_or (cond b (Some xs) None) (x ∷ xs) ≡ cond b xs (x ∷ xs)
+    go true = refl
+    go false = refl
+
+-- digits have no plus before them
+no_plus : (ds : Text) → IsNumeral 10 ds → without_leading_plus ds ≡ ds
+no_plus [] h = refl
+no_plus (d ∷ ds) h =
+    let plus : (d == 43) ≡ false = ne_eqb _ _ (λ e. omega (arith, digit_from_value d h.1.0)) in
+    ap (λ (b : Bool). drop (cond b 1 0) (d ∷ ds)) plus
+
+-- the number read from a limit's text is that limit
+limit_number : {E : Type 0} (G : Text → Result ℕ E → Type 0) → ((u : Text) (x : Result ℕ E) → G u x → ParsesUnsigned 16 10 u x)
+    → (t : Text) (r : Option ℕ) (n : ℕ) → ReadsOne G (without_minus t) r → IsBorderLimit t n → r ≡ Some n
+limit_number {E} G parses t r n read limit =
+    go (starts_with_minus t) refl r (subst (λ (u : Text). ReadsOne G u r) (without_minus-cond t) read)
+  where
+    go : (b : Bool) → starts_with_minus t ≡ b → (o : Option ℕ) → ReadsOne G (cond (starts_with_minus t) (drop 1 t) t) o → o ≡ Some n
+    go true minus (Some v) h =
+        let numeral : IsNumeral 10 (drop 1 t) = rw minus at limit.0 in
+        let value = rw minus at limit.1 in
+        let parsed = parses (drop 1 t) (Ok v) (rw minus at h) in
+        let is : v ≡ digits_value 10 (drop 1 t) = parsed.1 ∙ ap (digits_value 10) (no_plus (drop 1 t) numeral) in
+        let same : v ≡ n = omega (arith, ints) in
+        ap Some same
+    go true minus None h =
+        let numeral : IsNumeral 10 (drop 1 t) = rw minus at limit.0 in
+        let value = rw minus at limit.1 in
+        let same = no_plus (drop 1 t) numeral in
+        let small : digits_value 10 (drop 1 t) < 2 ^ 16 = omega (arith, ints) in
+        absurd (parses (drop 1 t) (Err h.0) (rw minus at h.1) (rw same numeral, rw same small))
+    go false minus (Some v) h =
+        let value = rw minus at limit.1 in
+        let parsed = parses t (Ok v) (rw minus at h) in
+        let same : v ≡ n = omega (arith, ints) in
+        ap Some same
+    go false minus None h =
+        let numeral = rw minus at limit.0 in
+        let value = rw minus at limit.1 in
+        absurd (parses t (Err h.0) (rw minus at h.1) (numeral, omega (arith, ints)))
+
+-- where there is no first value, nothing is read
+none_of : (rows : List Row) → first_of (codes "border") rows ≡ None → one_of (codes "border") rows ≡ None
+none_of rows = go (find (λ r. bytes_eq r.id (codes "border")) rows)
+  where
+    go : (o : Option Row) → option_and_then (λ r. slice_get r.values 0) o ≡ None → option_and_then row_text o ≡ None
+    go None e = refl
+    go (Some r) e = rw e refl
+
+-- what the getter reads is the limit that the matches give
+pub limit_read : {E : Type 0} (G : Text → Result ℕ E → Type 0) → ((u : Text) (x : Result ℕ E) → G u x → ParsesUnsigned 16 10 u x)
+    → (rows : List Row) (r : Option ℕ) → (one_of (codes "border") rows ≡ None → r ≡ None)
+    → ((t : Text) → one_of (codes "border") rows ≡ Some t → ReadsOne G t r) → IsReadable rows → GivesLimit rows r
+limit_read {E} G parses rows r none value readable = go (first_of (codes "border") rows) refl
+  where
+    go : (o : Option Text) → first_of (codes "border") rows ≡ o → GivesLimit rows r
+    go None is = subst (GivesLimit rows) (sym (none (none_of rows is))) is
+    go (Some text) is =
+        let found = readable text is in
+        let number = limit_number {E = E} G parses text r found.1.0 (value (without_minus text) found.0) found.1.1 in
+        subst (GivesLimit rows) (sym number) (text, is, found.1.1)

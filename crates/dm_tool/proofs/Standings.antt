@@ -1,0 +1,295 @@
+-- What stands between the bytes of a text that is answered as it comes, at its next byte and at its end.
+use Rattle.std.proofs.Common.{◌≡◌, ◌≢◌, ◌∙◌, ◌<◌, ◌≤◌, ◌+◌, ◌↔◌, ◌⊎◌, inl, inr, ℕ, zero, suc, List, [], ◌∷◌, ◌++◌, refl, sym, ap, subst, append-nil, map, length, drop, arith, Option, Some, IsSome, Result, Ok, Err, OnOk, OnErr}
+use Rattle.std.specs.Io.KnownBytes.{Appends, Keeps}
+use Rattle.dm_tool.specs.Devices.{AppendsFront}
+use Rattle.dm_tool.proofs.KnownBytes.{appends_kept}
+use Rattle.dm_tool.specs.declared.task.Task.{Task}
+use Rattle.dm_tool.specs.declared.task.Task.TheVariants.{Read, Check, Normal, Write, Table}
+use Rattle.dm_tool.specs.declared.answering.Answering.{Answering}
+use Rattle.dm_tool.specs.declared.answering.Answering.TheVariants.{Records, Lines}
+use Rattle.dm_tool.specs.Texts.{last_line}
+use Rattle.dm_tool.specs.Records.{AreLfs, record_of}
+use Rattle.dm_tool.specs.RecordFacts.{RecordFacts, AreRecordFacts}
+use Rattle.dm_tool.specs.RecordFeeds.{RecordAnswer, ClosesRecord, IsLastBlank, IsLastRecord, LeavesRecordOpen}
+use Rattle.dm_tool.specs.LineFacts.{LineFacts, AreLineFacts}
+use Rattle.dm_tool.specs.LineFeeds.{LineAnswer, AreAnswered, ClosesLine, LeavesLineOpen}
+use Rattle.dm_tool.specs.MessageLines.{IsLine}
+use Rattle.dm_tool.specs.Answers.{Answer, AnswersRecords, IsRecordAnswer, IsWriteAnswer}
+use Rattle.dm_tool.specs.Runs.{AreAllAnswers, AreAnswersTo, AreAnswersToRecords, AreClosedAnswers, AreClosedLines, AreMatched, IsAnswerToLine, IsAnswerToRecord, IsDone, IsOut, HasEnded, tally_of, written}
+use Rattle.dm_tool.specs.declared.task.Tally.{Tally}
+use Rattle.dm_tool.specs.Standings.{Ends, Goes, Stands}
+use Rattle.dm_tool.proofs.RecordTexts.{all_closed, last_closed, record_is_closed, records_stay_open}
+use Rattle.dm_tool.proofs.LineTexts.{line_is_closed, lines_stay_open}
+
+-- ---- lists that are matched
+
+-- one match after another
+pub matched_append : {A B : Type 0} (R : A → B → Type 0) (xs more : List A) (ys others : List B) → AreMatched R xs ys → AreMatched R more others
+    → AreMatched R (xs ++ more) (ys ++ others)
+matched_append R [] more [] others p q = q
+matched_append R [] more (y ∷ ys) others p q = absurd p
+matched_append R (x ∷ xs) more [] others p q = absurd p
+matched_append R (x ∷ xs) more (y ∷ ys) others p q = (p.0, matched_append R xs more ys others p.1 q)
+
+-- records whose grids or faults are matched
+matched_records : (task : Task) (records : List (List (List ℕ))) (answers : List Answer) → AreMatched (IsRecordAnswer task) (map record_of records) answers
+    → AreMatched (IsAnswerToRecord task) records answers
+matched_records task [] [] h = tt
+matched_records task [] (y ∷ answers) h = absurd h
+matched_records task (x ∷ records) [] h = absurd h
+matched_records task (x ∷ records) (y ∷ answers) h = (h.0, matched_records task records answers h.1)
+
+-- lines whose messages or faults are matched
+matched_lines : (lines : List (List ℕ)) (messages : List LineAnswer) (answers : List Answer) → AreAnswered lines messages → AreMatched IsWriteAnswer messages answers
+    → AreMatched IsAnswerToLine lines answers
+matched_lines [] [] [] p q = tt
+matched_lines [] [] (y ∷ answers) p q = absurd q
+matched_lines [] (x ∷ messages) answers p q = absurd p
+matched_lines (l ∷ lines) [] answers p q = absurd p
+matched_lines (l ∷ lines) (x ∷ messages) [] p q = absurd q
+matched_lines (l ∷ lines) (x ∷ messages) (y ∷ answers) p q = ((x, p.0, q.0), matched_lines lines messages answers p.1 q.1)
+
+-- ---- tasks of grids
+
+answers_of_grids : (task : Task) (lines : List (List ℕ)) (answers : List Answer) → AnswersRecords task → AreAnswersToRecords task lines answers → AreAnswersTo task lines answers
+answers_of_grids (Read border) lines answers g h = h
+answers_of_grids (Check border) lines answers g h = h
+answers_of_grids (Normal border) lines answers g h = h
+answers_of_grids Write lines answers g h = absurd g
+answers_of_grids Table lines answers g h = absurd g
+
+closed_of_grids : (task : Task) (lines closed : List (List ℕ)) → AnswersRecords task → (after : List (List ℕ)) × IsLastBlank lines closed after → AreClosedLines task lines closed
+closed_of_grids (Read border) lines closed g h = h
+closed_of_grids (Check border) lines closed g h = h
+closed_of_grids (Normal border) lines closed g h = h
+closed_of_grids Write lines closed g h = absurd g
+closed_of_grids Table lines closed g h = absurd g
+
+-- ---- the next byte
+
+-- the rest of one byte of which some was taken
+one_taken : (byte taken : ℕ) → 0 < taken → taken ≤ 1 → drop taken (byte ∷ []) ≡ []
+one_taken byte zero p q = absurd (omega arith)
+one_taken byte (suc zero) p q = refl
+one_taken byte (suc (suc n)) p q = absurd (omega arith)
+
+pub record_open : (task : Task) (old new : RecordFacts) (piece : List ℕ) (taken : ℕ) → LeavesRecordOpen old piece taken new
+    → Goes (Records task old) piece [] (Records task new)
+record_open asked old new piece taken now task text answers s = (
+  s.0,
+  s.1,
+  s.2 ++ [],
+  records_stay_open text s.2 old new piece taken s.3 now,
+  matched_append (IsRecordAnswer task) s.2 [] answers [] s.4 tt,
+)
+
+pub record_closed : (asked : Task) (old new : RecordFacts) (byte taken : ℕ) (grid : RecordAnswer) (answer : Answer) → ClosesRecord old (byte ∷ []) taken grid new
+    → IsRecordAnswer asked grid answer → Goes (Records asked old) (byte ∷ []) (answer ∷ []) (Records asked new)
+record_closed asked old new byte taken grid answer now is task text answers s = (
+  s.0,
+  s.1,
+  s.2 ++ grid ∷ [],
+  record_is_closed text s.2 old new (byte ∷ []) taken grid s.3 now (one_taken byte taken now.some now.within),
+  matched_append (IsRecordAnswer task) s.2 (grid ∷ []) answers (answer ∷ []) s.4 (subst (λ t. IsRecordAnswer t grid answer) s.0 is, tt),
+)
+
+pub line_open : (old new : LineFacts) (piece : List ℕ) (taken : ℕ) → LeavesLineOpen old piece taken new → Goes (Lines old) piece [] (Lines new)
+line_open old new piece taken now task text answers s = (
+  s.0,
+  s.1 ++ [],
+  lines_stay_open text s.1 old new piece taken s.2 now,
+  matched_append IsWriteAnswer s.1 [] answers [] s.3 tt,
+)
+
+-- the line that one byte closes is closed by its last byte
+one_line : (byte taken : ℕ) (before after : List ℕ) → byte ∷ [] ≡ before ++ 10 ∷ after → taken ≡ length before + 1 → drop taken (byte ∷ []) ≡ []
+one_line byte taken [] after e n = ap (λ k. drop k (byte ∷ [])) n
+one_line byte taken (b ∷ []) after e n = cc
+one_line byte taken (b ∷ c ∷ before) after e n = cc
+
+pub line_closed : (old new : LineFacts) (byte taken : ℕ) (message : LineAnswer) (answer : Answer) → ClosesLine old (byte ∷ []) taken message new
+    → IsWriteAnswer message answer → Goes (Lines old) (byte ∷ []) (answer ∷ []) (Lines new)
+line_closed old new byte taken message answer now is task text answers s = (
+  s.0,
+  s.1 ++ message ∷ [],
+  line_is_closed text s.1 old new (byte ∷ []) taken message s.2 now (one_line byte taken now.before now.after now.piece_is now.taken_is),
+  matched_append IsWriteAnswer s.1 (message ∷ []) answers (answer ∷ []) s.3 (is, tt),
+)
+
+-- ---- the end
+
+pub records_end : (asked : Task) (facts : RecordFacts) → ((u : List ℕ) → AreRecordFacts u facts → AreLfs u) → Ends (Records asked facts) []
+records_end asked facts none task text answers s =
+    let t = s.3 in
+    record {
+      lines = t.lines;
+      rest = t.rest;
+      split = t.split;
+      answered = subst (λ a. AreAnswersTo task (t.lines ++ last_line t.rest) a) (sym (append-nil answers))
+          (answers_of_grids task (t.lines ++ last_line t.rest) answers s.1
+          (t.records, all_closed text s.2 facts t none, matched_records task t.records answers (subst (λ r. AreMatched (IsRecordAnswer task) r answers) t.answered s.4)));
+    }
+
+pub last_record_ends : (asked : Task) (facts : RecordFacts) (grid : RecordAnswer) (answer : Answer) → ((u : List ℕ) → AreRecordFacts u facts → IsLastRecord u grid)
+    → IsRecordAnswer asked grid answer → Ends (Records asked facts) (answer ∷ [])
+last_record_ends asked facts grid answer last is task text answers s =
+    let t = s.3 in
+    let these = t.after ++ last_line t.rest in
+    let closed = last_closed text s.2 facts grid t last in
+    let now : IsAnswerToRecord task these answer = subst (λ g. IsRecordAnswer task g answer) closed.1 (subst (λ a. IsRecordAnswer a grid answer) s.0 is) in
+    let before = matched_records task t.records answers (subst (λ r. AreMatched (IsRecordAnswer task) r answers) t.answered s.4) in
+    record {
+      lines = t.lines;
+      rest = t.rest;
+      split = t.split;
+      answered = answers_of_grids task (t.lines ++ last_line t.rest) (answers ++ answer ∷ []) s.1 (
+        t.records ++ these ∷ [],
+        closed.0,
+        matched_append (IsAnswerToRecord task) t.records (these ∷ []) answers (answer ∷ []) before (now, tt),
+      );
+    }
+
+pub lines_end : (facts : LineFacts) → ((line : List ℕ) → AreLineFacts line facts → line ≡ []) → Ends (Lines facts) []
+lines_end facts none task text answers s =
+    let t = s.2 in
+    let rest = none t.rest t.left in
+    record {
+      lines = t.lines;
+      rest = t.rest;
+      split = t.split;
+      answered = subst (λ w. AreAnswersTo w (t.lines ++ last_line t.rest) (answers ++ [])) (sym s.0)
+          (subst (λ r. AreMatched IsAnswerToLine (t.lines ++ last_line r) (answers ++ [])) (sym rest)
+          (matched_append IsAnswerToLine t.lines [] answers [] (matched_lines t.lines s.1 answers t.answered s.3) tt));
+    }
+
+-- some bytes are the line that the end closes
+last_line_is : (rest : List ℕ) → rest ≢ [] → last_line rest ≡ rest ∷ []
+last_line_is [] n = absurd (n refl)
+last_line_is (b ∷ rest) n = refl
+
+pub last_line_ends : (facts : LineFacts) (message : LineAnswer) (answer : Answer) → ((line : List ℕ) → AreLineFacts line facts → (line ≢ []) × IsLine line message)
+    → IsWriteAnswer message answer → Ends (Lines facts) (answer ∷ [])
+last_line_ends facts message answer last is task text answers s =
+    let t = s.2 in
+    let here = last t.rest t.left in
+    record {
+      lines = t.lines;
+      rest = t.rest;
+      split = t.split;
+      answered = subst (λ w. AreAnswersTo w (t.lines ++ last_line t.rest) (answers ++ answer ∷ [])) (sym s.0)
+          (subst (λ l. AreMatched IsAnswerToLine (t.lines ++ l) (answers ++ answer ∷ [])) (sym (last_line_is t.rest here.0))
+          (matched_append IsAnswerToLine t.lines (t.rest ∷ []) answers (answer ∷ []) (matched_lines t.lines s.1 answers t.answered s.3) ((message, here.1, is), tt)));
+    }
+
+-- ---- what is written
+
+-- the answers so far are those to what is closed
+stands_closed : (task : Task) (state : Answering) (text : List ℕ) (answers : List Answer) → Stands task state text answers → AreClosedAnswers task text answers
+stands_closed task (Records asked facts) text answers s =
+    let t = s.3 in
+    record {
+      lines = t.lines;
+      rest = t.rest;
+      split = t.split;
+      closed = t.before;
+      are_closed = closed_of_grids task t.lines t.before s.1 (t.after, t.last_blank);
+      answered = answers_of_grids task t.before answers s.1
+          (t.records, t.are_records, matched_records task t.records answers (subst (λ r. AreMatched (IsRecordAnswer task) r answers) t.answered s.4));
+    }
+stands_closed task (Lines facts) text answers s =
+    let t = s.2 in
+    record {
+      lines = t.lines;
+      rest = t.rest;
+      split = t.split;
+      closed = t.lines;
+      are_closed = subst (λ w. AreClosedLines w t.lines t.lines) (sym s.0) refl;
+      answered = subst (λ w. AreAnswersTo w t.lines answers) (sym s.0) (matched_lines t.lines s.1 answers t.answered s.3);
+    }
+
+-- a task with an input isn't the table
+pub not_table : (task : Task) (state : Answering) (text : List ℕ) (answers : List Answer) → Stands task state text answers → task ≢ Table
+not_table task (Records asked facts) text answers s e = subst AnswersRecords e s.1
+not_table task (Lines facts) text answers s e = let n : Write ≡ Table = sym s.0 ∙ e in cc
+
+done_by : (task : Task) (text : List ℕ) (answers : List Answer) → task ≢ Table → AreClosedAnswers task text answers → IsDone task text (written answers)
+done_by (Read border) text answers n h = (answers, h, refl)
+done_by (Check border) text answers n h = (answers, h, refl)
+done_by (Normal border) text answers n h = (answers, h, refl)
+done_by Write text answers n h = (answers, h, refl)
+done_by Table text answers n h = absurd (n refl)
+
+out_by : (task : Task) (text : List ℕ) (answers : List Answer) → task ≢ Table → AreAllAnswers task text answers → IsOut task text (written answers) (tally_of answers)
+out_by (Read border) text answers n h = (answers, h, refl, refl)
+out_by (Check border) text answers n h = (answers, h, refl, refl)
+out_by (Normal border) text answers n h = (answers, h, refl, refl)
+out_by Write text answers n h = (answers, h, refl, refl)
+out_by Table text answers n h = absurd (n refl)
+
+-- the answers so far, joined, are what is done
+pub stands_done : (task : Task) (state : Answering) (text : List ℕ) (answers : List Answer) → Stands task state text answers → IsDone task text (written answers)
+stands_done task state text answers s = done_by task text answers (not_table task state text answers s) (stands_closed task state text answers s)
+
+-- with the last answer they are all that is written
+pub ends_out : (task : Task) (state : Answering) (text : List ℕ) (answers last : List Answer) → Stands task state text answers → Ends state last
+    → IsOut task text (written (answers ++ last)) (tally_of (answers ++ last))
+ends_out task state text answers last s h = out_by task text (answers ++ last) (not_table task state text answers s) (h task text answers s)
+
+-- the source of a task with an input has ended
+pub stands_ended : (task : Task) (state : Answering) (text : List ℕ) (answers : List Answer) (Ended : Type 0) → Stands task state text answers → Ended
+    → HasEnded task Ended
+stands_ended (Read border) state text answers Ended s h = h
+stands_ended (Check border) state text answers Ended s h = h
+stands_ended (Normal border) state text answers Ended s h = h
+stands_ended Write state text answers Ended s h = h
+stands_ended Table state text answers Ended s h = tt
+
+-- ---- what the feeds tell
+
+-- a line that isn't some is none
+pub none_left : (line : List ℕ) → ((line ≢ []) → ⊥) → line ≡ []
+none_left [] h = refl
+none_left (b ∷ line) h = absurd (h (λ e. cc))
+
+-- a line that is closed at the end is some
+pub some_left : {X : Type 0} (x : X) (line : List ℕ) → IsSome (Some x) ↔ (line ≢ []) → line ≢ []
+some_left x line h = h.0 refl
+
+-- reading, checking and normalising are tasks of grids
+pub one_of_grids : (task : Task) → ((border : Option ℕ) × (task ≡ Read border)) ⊎ (((border : Option ℕ) × (task ≡ Check border)) ⊎ ((border : Option ℕ) × (task ≡ Normal border))) → AnswersRecords task
+one_of_grids task (inl is) = subst AnswersRecords (sym is.1) tt
+one_of_grids task (inr (inl is)) = subst AnswersRecords (sym is.1) tt
+one_of_grids task (inr (inr is)) = subst AnswersRecords (sym is.1) tt
+
+-- ---- what the sink takes
+
+-- what is written for one answer
+written_one : (answer : Answer) → written (answer ∷ []) ≡ answer.text
+written_one answer = append-nil answer.text
+
+-- one answer is written and counted
+pub one_more : {X E : Type 0} (Goes : List Answer → Type 0) (result : Result X E) (answer : Answer) (a b : Option (List ℕ)) (s t : Tally) → Goes (answer ∷ [])
+    → OnOk result (Appends a b answer.text) → OnOk result ((answers : List Answer) → s ≡ tally_of answers → t ≡ tally_of (answers ++ answer ∷ []))
+    → OnOk result ((more : List Answer) × Goes more × Appends a b (written more) × ((answers : List Answer) → s ≡ tally_of answers → t ≡ tally_of (answers ++ more)))
+one_more Goes (Ok x) answer a b s t goes took counted = (answer ∷ [], goes, subst (Appends a b) (sym (written_one answer)) took, counted)
+one_more Goes (Err e) answer a b s t goes took counted = tt
+
+-- a beginning of one answer is written
+pub one_begun : {X E : Type 0} (Goes : List Answer → Type 0) (result : Result X E) (answer : Answer) (a b : Option (List ℕ)) → Goes (answer ∷ [])
+    → OnErr result (AppendsFront a b answer.text) → OnErr result ((more : List Answer) × Goes more × AppendsFront a b (written more))
+one_begun Goes (Ok x) answer a b goes took = tt
+one_begun Goes (Err e) answer a b goes took = (answer ∷ [], goes, subst (AppendsFront a b) (sym (written_one answer)) took)
+
+-- a flush after the last answer changes no byte
+pub all_flushed : {X E : Type 0} {Goes : List Answer → Type 0} {Counted : List Answer → Type 0} (result : Result X E) (a b c : Option (List ℕ))
+    → (last : List Answer) × Goes last × Appends a b (written last) × Counted last → Keeps b c
+    → OnOk result ((last : List Answer) × Goes last × Appends a c (written last) × Counted last)
+all_flushed (Ok x) a b c all same = (all.0, all.1, appends_kept a b c (written all.0) all.2 same, all.3)
+all_flushed (Err e) a b c all same = tt
+
+-- where it fails, all is written
+pub not_flushed : {X E : Type 0} {Goes : List Answer → Type 0} {Counted : List Answer → Type 0} (result : Result X E) (a b c : Option (List ℕ))
+    → (last : List Answer) × Goes last × Appends a b (written last) × Counted last → Keeps b c
+    → OnErr result ((last : List Answer) × Goes last × AppendsFront a c (written last))
+not_flushed (Ok x) a b c all same = tt
+not_flushed (Err e) a b c all same = (all.0, all.1, (written all.0, [], sym (append-nil (written all.0)), appends_kept a b c (written all.0) all.2 same))

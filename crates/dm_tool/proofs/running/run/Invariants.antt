@@ -1,0 +1,19 @@
+use Rattle.std.proofs.Common.{◌≡◌, ◌+◌, ◌≤◌, List, ℕ, length}
+use Rattle.std.specs.Io.KnownBytes.{Appends}
+use Rattle.dm_tool.specs.Answers.{Answer}
+use Rattle.dm_tool.specs.Runs.{tally_of, written}
+use Rattle.dm_tool.specs.Standings.{Stands}
+use Rattle.dm_tool.proofs.running.run.Given as goal
+
+abbrev pub invariant-bytes : goal.invariant-bytes
+invariant-bytes g l = record {
+  read_well : g.I.Source.failed l.source ≡ g.I.Source.failed l.initial.source;
+  wrote_well : g.O.Sink.failed l.sink ≡ g.O.Sink.failed l.initial.sink;
+  room : l.tally.answered + l.tally.refused + l.left ≤ l.most;
+  so_far : (text : List ℕ) × (answers : List Answer) × g.I.Source.gave l.initial.source l.source text × (length text + l.left ≡ l.most)
+      × Stands l.fn.task l.answering text answers × Appends (g.O.Sink.contents l.initial.sink) (g.O.Sink.contents l.sink) (written answers)
+      × (l.tally ≡ tally_of answers);
+}
+
+abbrev pub decreases-bytes : goal.decreases-bytes
+decreases-bytes g l = l.left

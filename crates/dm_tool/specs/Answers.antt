@@ -1,0 +1,137 @@
+-- What is written for records and lines, and the table of sizes.
+use Rattle.std.specs.Prelude.{◌≡◌, ◌/◌, ℕ, Bool, true, false, List, [], ◌∷◌, ◌++◌, map, flat_map, codes, if◌then◌else◌, Option, Some, None, Result, Ok, Err}
+use Rattle.std.specs.Fmt.{decimal}
+use Rattle.dm_symbol.specs.declared.Item.{Item}
+use Rattle.dm_symbol.specs.declared.Reading.{Reading}
+use Rattle.dm_symbol.specs.declared.ReadFault.{ReadFault}
+use Rattle.dm_symbol.specs.declared.NormalFault.{NormalFault}
+use Rattle.dm_symbol.specs.Sizes.{SizeRow, size_table}
+use Rattle.dm_symbol.specs.Grid.{GridView}
+use Rattle.dm_symbol.specs.Reading.{ReadAnswer}
+use Rattle.dm_symbol.specs.Normal.{NormalAnswer}
+use Rattle.dm_symbol.specs.NormalGrid.{IsNormalGrid, HasNormalGrid}
+use Rattle.dm_tool.specs.declared.task.Task.{Task}
+use Rattle.dm_tool.specs.declared.task.Task.TheVariants.{Read, Check, Normal, Write, Table}
+use Rattle.dm_tool.specs.Texts.{lf, ended}
+use Rattle.dm_tool.specs.Spellings.{text_of}
+use Rattle.dm_tool.specs.RecordFeeds.{RecordAnswer}
+use Rattle.dm_tool.specs.LineFeeds.{LineAnswer}
+use Rattle.dm_tool.specs.Refusals.{record_refusal, read_refusal, normal_refusal, line_refusal, too_long_refusal}
+
+-- What is written for one record or line, its LFs included, and whether it is a refusal.
+pub record Answer : Type 0 where
+  pub text : List ℕ
+  pub refused : Bool
+
+-- ---- texts
+
+-- The character of a cell: 1, which is 49, where it is dark, and 0.
+abbrev pub character_of : Bool → ℕ
+character_of dark = if dark then 49 else 48
+
+-- The rows of a grid, each followed by LF.
+abbrev pub grid_text : List (List Bool) → List ℕ
+grid_text rows = ended (map (map character_of) rows)
+
+-- Numbers in decimal, with single spaces between.
+abbrev pub spaced : List ℕ → List ℕ
+spaced [] = []
+spaced (number ∷ numbers) = decimal number ++ flat_map (λ next. codes " " ++ decimal next) numbers
+
+-- How damaged a grid of this side is: the number of border faults, and for each block at how many places it was corrected.
+abbrev pub check_text : ℕ → Reading → List ℕ
+check_text side reading =
+    codes "ok " ++ decimal side ++ codes " border " ++ decimal reading.border_faults ++ codes " corrected " ++ spaced reading.corrected.items
+
+-- ---- answers
+
+-- A line.
+abbrev pub line_answer : List ℕ → Answer
+line_answer line = record { text = line ++ lf ∷ []; refused = false }
+
+-- A refusal.
+abbrev pub refusal_answer : List ℕ → Answer
+refusal_answer refusal = record { text = refusal ++ lf ∷ []; refused = true }
+
+-- A grid, and an empty line.
+abbrev pub grid_answer : GridView → Answer
+grid_answer grid = record { text = grid_text grid.rows ++ lf ∷ []; refused = false }
+
+-- A refusal, and an empty line.
+abbrev pub blank_refusal_answer : List ℕ → Answer
+blank_refusal_answer refusal = record { text = refusal ++ lf ∷ lf ∷ []; refused = true }
+
+-- The message of a grid, or why it is not read.
+abbrev pub reading_answer : Result Reading ReadFault → Answer
+reading_answer (Ok reading) = line_answer (text_of reading.message)
+reading_answer (Err why) = refusal_answer (read_refusal why)
+
+-- How damaged a grid of this side is, or why it is not read.
+abbrev pub checking_answer : ℕ → Result Reading ReadFault → Answer
+checking_answer side (Ok reading) = line_answer (check_text side reading)
+checking_answer side (Err why) = refusal_answer (read_refusal why)
+
+-- The normal grid of what a grid says, or why there is none.
+abbrev pub normalising_answer : Result GridView NormalFault → Answer
+normalising_answer (Ok grid) = grid_answer grid
+normalising_answer (Err why) = blank_refusal_answer (normal_refusal why)
+
+-- The border limit for a grid of this side: the number given, else a quarter of the side.
+abbrev pub limit_for : Option ℕ → ℕ → ℕ
+limit_for (Some limit) side = limit
+limit_for None side = side / 4
+
+-- What is written for a record whose message is asked for.
+abbrev pub IsReadAnswer : Option ℕ → RecordAnswer → Answer → Type 0
+IsReadAnswer border (Ok grid) answer =
+    (reading : Result Reading ReadFault) × ReadAnswer grid (limit_for border grid.size.side) reading × (answer ≡ reading_answer reading)
+IsReadAnswer border (Err why) answer = answer ≡ refusal_answer (record_refusal why)
+
+-- What is written for a record of which it is asked how damaged it is.
+abbrev pub IsCheckAnswer : Option ℕ → RecordAnswer → Answer → Type 0
+IsCheckAnswer border (Ok grid) answer =
+    (reading : Result Reading ReadFault) × ReadAnswer grid (limit_for border grid.size.side) reading × (answer ≡ checking_answer grid.size.side reading)
+IsCheckAnswer border (Err why) answer = answer ≡ refusal_answer (record_refusal why)
+
+-- What is written for a record whose normal grid is asked for.
+abbrev pub IsNormalAnswer : Option ℕ → RecordAnswer → Answer → Type 0
+IsNormalAnswer border (Ok grid) answer =
+    (normal : Result GridView NormalFault) × NormalAnswer grid (limit_for border grid.size.side) normal × (answer ≡ normalising_answer normal)
+IsNormalAnswer border (Err why) answer = answer ≡ blank_refusal_answer (record_refusal why)
+
+-- The task answers records: it is none of the other two.
+abbrev pub AnswersRecords : Task → Type 0
+AnswersRecords (Read border) = Unit {0}
+AnswersRecords (Check border) = Unit {0}
+AnswersRecords (Normal border) = Unit {0}
+AnswersRecords Write = ⊥
+AnswersRecords Table = ⊥
+
+-- What is written for a record.
+abbrev pub IsRecordAnswer : Task → RecordAnswer → Answer → Type 0
+IsRecordAnswer (Read border) record_answer answer = IsReadAnswer border record_answer answer
+IsRecordAnswer (Check border) record_answer answer = IsCheckAnswer border record_answer answer
+IsRecordAnswer (Normal border) record_answer answer = IsNormalAnswer border record_answer answer
+IsRecordAnswer Write record_answer answer = ⊥
+IsRecordAnswer Table record_answer answer = ⊥
+
+-- What is written for a message: its normal grid, or that it has none.
+pub data IsMessageAnswer (message : List Item) (answer : Answer) : Type 0 where
+  normal_grid : (grid : GridView) → IsNormalGrid message grid → answer ≡ grid_answer grid → IsMessageAnswer message answer
+  too_long : (HasNormalGrid message → ⊥) → answer ≡ blank_refusal_answer too_long_refusal → IsMessageAnswer message answer
+
+-- What is written for a message line.
+abbrev pub IsWriteAnswer : LineAnswer → Answer → Type 0
+IsWriteAnswer (Ok message) answer = IsMessageAnswer message answer
+IsWriteAnswer (Err why) answer = answer ≡ blank_refusal_answer (line_refusal why)
+
+-- ---- the table
+
+-- The numbers of a size.
+abbrev pub numbers_of : SizeRow → List ℕ
+numbers_of size =
+    size.side ∷ size.regions ∷ size.region_side ∷ size.mapping ∷ size.data_count ∷ size.check_count ∷ size.blocks ∷ size.limit ∷ []
+
+-- The table of sizes: a line for each, by rising side.
+abbrev pub table_text : List ℕ
+table_text = ended (map (λ size. spaced (numbers_of size)) size_table)

@@ -1,0 +1,61 @@
+-- The program's command line, in the words of clap, and the task that its matches name.
+use Rattle.std.specs.Prelude.{◌≡◌, ◌<◌, ◌^◌, ℕ, true, List, map, Option, Some, None, codes, pos}
+use Rattle.std.specs.Str.Parse.{IsNumeral, signed_digits_value, without_leading_sign}
+use Rattle.std.specs.Borrow.{Bor}
+use Rattle.clap.specs.Walk.{Row, Rule, Text, first_of}
+use Rattle.clap.specs.Simple.{App, Shape, new_app, new_rule, new_shape, with_rule, with_subcommand}
+use Rattle.clap.specs.declared.builder.value_parser.ValueParser.TheVariants as vp
+use Rattle.dm_tool.specs.declared.task.Task.{Task}
+use Rattle.dm_tool.specs.declared.task.Task.TheVariants.{Read, Check, Normal, Write, Table}
+
+-- the texts of the words
+abbrev pub texts_of : List (Bor Text) → List Text
+texts_of = map (λ s. s.now)
+
+-- the option `--border N`, N a number of 0 to 65535
+abbrev pub border_rule : Rule
+border_rule = record (new_rule (codes "border")) {
+  long = Some (codes "border");
+  parser = Some (vp.Signed (pos 0) (pos 65535));
+}
+
+-- a subcommand with this option
+abbrev pub with_border : Text → Shape
+with_border name = (with_rule (new_app name) border_rule).top
+
+-- the command, which wants a subcommand and has none for help
+abbrev pub top_app : App
+top_app = let a = new_app (codes "dm_tool") in
+    record a { top = record a.top { subcommand_required = true; disable_help_subcommand = true } }
+
+-- the command with its five subcommands
+abbrev pub dm_app : App
+dm_app = with_subcommand (with_subcommand (with_subcommand (with_subcommand (with_subcommand top_app
+    (with_border (codes "read"))) (with_border (codes "check"))) (with_border (codes "normal")))
+    (new_shape (codes "write"))) (new_shape (codes "table"))
+
+-- the text is decimal digits, after one sign or none, which with that sign write n, a number of 0 to 65535: `+007` is 7, and `-0` is 0
+abbrev pub IsBorderLimit : Text → ℕ → Type 0
+IsBorderLimit text n = IsNumeral 10 (without_leading_sign text) × (signed_digits_value 10 text ≡ pos n) × (n < 2 ^ 16)
+
+-- the matches have no text for the border, or have one that writes this limit; a text that writes none gives no limit
+abbrev pub GivesLimit : List Row → Option ℕ → Type 0
+GivesLimit rows None = first_of (codes "border") rows ≡ None
+GivesLimit rows (Some n) = (text : Text) × (first_of (codes "border") rows ≡ Some text) × IsBorderLimit text n
+
+-- the subcommand of this name and with these matches is this task
+abbrev pub IsTaskOf : Text → List Row → Task → Type 0
+IsTaskOf name rows (Read limit) = (name ≡ codes "read") × GivesLimit rows limit
+IsTaskOf name rows (Check limit) = (name ≡ codes "check") × GivesLimit rows limit
+IsTaskOf name rows (Normal limit) = (name ≡ codes "normal") × GivesLimit rows limit
+IsTaskOf name rows Write = name ≡ codes "write"
+IsTaskOf name rows Table = name ≡ codes "table"
+
+-- the matches name this task by their subcommand
+abbrev pub NamesTask : Option (Text × List Row) → Task → Type 0
+NamesTask None task = ⊥
+NamesTask (Some found) task = IsTaskOf found.0 found.1 task
+
+-- the matches name one task
+abbrev pub NamesOneTask : Option (Text × List Row) → Type 0
+NamesOneTask matches = (task : Task) × NamesTask matches task × ((other : Task) → NamesTask matches other → other ≡ task)

@@ -1,0 +1,136 @@
+-- What is written for a whole text, and how reading and writing it ends.
+use Rattle.std.specs.Prelude.{◌≡◌, ◌≢◌, ◌≤◌, ◌⊎◌, ℕ, not, List, [], ◌∷◌, ◌++◌, length, count_by, flat_map}
+use Rattle.dm_tool.specs.declared.task.Task.{Task}
+use Rattle.dm_tool.specs.declared.task.Task.TheVariants.{Write, Table}
+use Rattle.dm_tool.specs.declared.task.Tally.{Tally}
+use Rattle.dm_tool.specs.Texts.{IsSplit, last_line}
+use Rattle.dm_tool.specs.Records.{AreRecords, record_of}
+use Rattle.dm_tool.specs.RecordFeeds.{IsLastBlank}
+use Rattle.dm_tool.specs.MessageLines.{IsLine}
+use Rattle.dm_tool.specs.LineFeeds.{LineAnswer}
+use Rattle.dm_tool.specs.Answers.{Answer, IsRecordAnswer, IsWriteAnswer, table_text}
+
+-- ---- what is written for a text
+
+-- Two lists of one length, whose members match in order.
+abbrev pub AreMatched : {A B : Type 0} → (A → B → Type 0) → List A → List B → Type 0
+AreMatched Matches [] [] = Unit {0}
+AreMatched Matches (x ∷ xs) (y ∷ ys) = Matches x y × AreMatched Matches xs ys
+AreMatched Matches _ _ = ⊥
+
+-- The answer to the lines of a record.
+abbrev pub IsAnswerToRecord : Task → List (List ℕ) → Answer → Type 0
+IsAnswerToRecord task lines answer = IsRecordAnswer task (record_of lines) answer
+
+-- The answer to a message line.
+abbrev pub IsAnswerToLine : List ℕ → Answer → Type 0
+IsAnswerToLine line answer = (message : LineAnswer) × IsLine line message × IsWriteAnswer message answer
+
+-- The answers to the records in some lines, in order.
+abbrev pub AreAnswersToRecords : Task → List (List ℕ) → List Answer → Type 0
+AreAnswersToRecords task lines answers =
+    (records : List (List (List ℕ))) × AreRecords lines records × AreMatched (IsAnswerToRecord task) records answers
+
+-- The answers to all records or message lines of some lines, in order.
+abbrev pub AreAnswersTo : Task → List (List ℕ) → List Answer → Type 0
+AreAnswersTo Write lines answers = AreMatched IsAnswerToLine lines answers
+AreAnswersTo task lines answers = AreAnswersToRecords task lines answers
+
+-- The answers to all records or message lines of a text. The end of the text closes the last one.
+pub record AreAllAnswers (task : Task) (text : List ℕ) (answers : List Answer) : Type 0 where
+  pub lines : List (List ℕ)
+  pub rest : List ℕ
+  pub split : IsSplit text lines rest
+  pub answered : AreAnswersTo task (lines ++ last_line rest) answers
+
+-- Of the lines of a text that LF ends, the front in which every record or message line is closed: for message lines all of them, for
+-- records those up to the last empty line.
+abbrev pub AreClosedLines : Task → List (List ℕ) → List (List ℕ) → Type 0
+AreClosedLines Write lines closed = closed ≡ lines
+AreClosedLines task lines closed = (after : List (List ℕ)) × IsLastBlank lines closed after
+
+-- The answers to the records or message lines that are closed within a text: a record by an empty line after it, a message line by its LF.
+pub record AreClosedAnswers (task : Task) (text : List ℕ) (answers : List Answer) : Type 0 where
+  pub lines : List (List ℕ)
+  pub rest : List ℕ
+  pub split : IsSplit text lines rest
+  pub closed : List (List ℕ)
+  pub are_closed : AreClosedLines task lines closed
+  pub answered : AreAnswersTo task closed answers
+
+-- What is written for answers: their texts, joined.
+abbrev pub written : List Answer → List ℕ
+written answers = flat_map (λ a. a.text) answers
+
+-- How many answers are no refusals, and how many are.
+abbrev pub tally_of : List Answer → Tally
+tally_of answers = record { answered = count_by (λ a. not a.refused) answers; refused = count_by (λ a. a.refused) answers }
+
+-- What is written for a text as a whole, and the tally: the answers to all of its records or lines, joined. For the table the text counts as
+-- empty: the table is written, and nothing is counted.
+abbrev pub IsOut : Task → List ℕ → List ℕ → Tally → Type 0
+IsOut Table text out tally = (text ≡ []) × (out ≡ table_text) × (tally ≡ tally_of [])
+IsOut task text out tally = (answers : List Answer) × AreAllAnswers task text answers × (out ≡ written answers) × (tally ≡ tally_of answers)
+
+-- What is written for a text that may go on: the answers to the records or lines that are closed within it, joined. For the table, whose
+-- text counts as empty, it is the table.
+abbrev pub IsDone : Task → List ℕ → List ℕ → Type 0
+IsDone Table text done = (text ≡ []) × (done ≡ table_text)
+IsDone task text done = (answers : List Answer) × AreClosedAnswers task text answers × (done ≡ written answers)
+
+-- ---- how it ends
+
+-- Between two moments a source gave exactly these bytes (`Gave`) and saw its end (`Ended`), and a sink took exactly these bytes (`Took`) or a
+-- beginning of them (`TookFront`).
+
+-- The source has come to its end. For the table, which reads nothing, this counts as so.
+abbrev pub HasEnded : Task → Type 0 → Type 0
+HasEnded Table Ended = Unit {0}
+HasEnded task Ended = Ended
+
+-- All was answered: the source gave a text of at most `most` bytes and ended, and what is written for this text as a whole was taken.
+pub record IsAnswered (task : Task) (most : ℕ) (Gave : List ℕ → Type 0) (Ended : Type 0) (Took : List ℕ → Type 0) (tally : Tally) : Type 0 where
+  pub text : List ℕ
+  pub gave : Gave text
+  pub ended : HasEnded task Ended
+  pub within : length text ≤ most
+  pub out : List ℕ
+  pub is_out : IsOut task text out tally
+  pub took : Took out
+
+-- The task reads. The source gave a text of at most `most` bytes, and exactly what is done by then was taken.
+pub record IsDoneSoFar (task : Task) (most : ℕ) (Gave Took : List ℕ → Type 0) : Type 0 where
+  pub reads : task ≢ Table
+  pub text : List ℕ
+  pub gave : Gave text
+  pub within : length text ≤ most
+  pub done : List ℕ
+  pub is_done : IsDone task text done
+  pub took : Took done
+
+-- The task reads. The source gave `most` bytes and one more, and exactly what is done by the first `most` was taken.
+pub record IsTooMuch (task : Task) (most : ℕ) (Gave Took : List ℕ → Type 0) : Type 0 where
+  pub reads : task ≢ Table
+  pub text : List ℕ
+  pub byte : ℕ
+  pub gave : Gave (text ++ byte ∷ [])
+  pub full : length text ≡ most
+  pub done : List ℕ
+  pub is_done : IsDone task text done
+  pub took : Took done
+
+-- A beginning was taken of what is done by a text.
+abbrev pub IsBegunDone : Task → List ℕ → (List ℕ → Type 0) → Type 0
+IsBegunDone task text TookFront = (done : List ℕ) × IsDone task text done × TookFront done
+
+-- A beginning was taken of what is written for a text as a whole.
+abbrev pub IsBegunOut : Task → List ℕ → (List ℕ → Type 0) → Type 0
+IsBegunOut task text TookFront = (out : List ℕ) × (tally : Tally) × IsOut task text out tally × TookFront out
+
+-- The source gave a text of at most `most` bytes, and a beginning was taken of what is done by then, or, if the source had ended, of what
+-- is written for the text as a whole. Which of the sink's calls failed isn't told.
+pub record IsBroken (task : Task) (most : ℕ) (Gave : List ℕ → Type 0) (Ended : Type 0) (TookFront : List ℕ → Type 0) : Type 0 where
+  pub text : List ℕ
+  pub gave : Gave text
+  pub within : length text ≤ most
+  pub began : IsBegunDone task text TookFront ⊎ (HasEnded task Ended × IsBegunOut task text TookFront)

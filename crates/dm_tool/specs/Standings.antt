@@ -1,0 +1,29 @@
+-- What stands between the bytes of a text that is answered as it comes.
+use Rattle.std.specs.Prelude.{◌≡◌, ℕ, List, ◌++◌}
+use Rattle.dm_tool.specs.declared.task.Task.{Task}
+use Rattle.dm_tool.specs.declared.task.Task.TheVariants.{Write}
+use Rattle.dm_tool.specs.declared.answering.Answering.{Answering}
+use Rattle.dm_tool.specs.declared.answering.Answering.TheVariants.{Records, Lines}
+use Rattle.dm_tool.specs.RecordFeeds.{RecordAnswer, AreRecordsOfText}
+use Rattle.dm_tool.specs.LineFeeds.{LineAnswer, AreOfText}
+use Rattle.dm_tool.specs.Answers.{Answer, AnswersRecords, IsRecordAnswer, IsWriteAnswer}
+use Rattle.dm_tool.specs.Runs.{AreAllAnswers, AreMatched}
+
+-- After a text, these are the answers to what is closed within it, and this is what stands open.
+abbrev pub Stands : Task → Answering → List ℕ → List Answer → Type 0
+Stands task (Records asked facts) text answers =
+    (asked ≡ task) × AnswersRecords task × (records : List RecordAnswer) × AreRecordsOfText text records facts × AreMatched (IsRecordAnswer task) records answers
+Stands task (Lines facts) text answers =
+    (task ≡ Write) × (lines : List LineAnswer) × AreOfText text lines facts × AreMatched IsWriteAnswer lines answers
+
+-- Some text has come.
+abbrev pub StandsAnywhere : Answering → Type 0
+StandsAnywhere state = (task : Task) × (text : List ℕ) × (answers : List Answer) × Stands task state text answers
+
+-- More of the text closes what has these answers.
+abbrev pub Goes : Answering → List ℕ → List Answer → Answering → Type 0
+Goes old piece more new = (task : Task) (text : List ℕ) (answers : List Answer) → Stands task old text answers → Stands task new (text ++ piece) (answers ++ more)
+
+-- The end of the text closes what has these answers.
+abbrev pub Ends : Answering → List Answer → Type 0
+Ends old last = (task : Task) (text : List ℕ) (answers : List Answer) → Stands task old text answers → AreAllAnswers task text (answers ++ last)

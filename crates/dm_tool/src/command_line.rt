@@ -1,0 +1,137 @@
+//! The command line, as clap reads it.
+ghost use Rattle.std.specs.Prelude.{◌≡◌, ◌≢◌, ◌↔◌, [], true, false, IfOk, OnOk, IfSome, IfNone, IsErrOf};
+ghost use Rattle.clap.specs.Faults.{fault_of};
+ghost use Rattle.clap.specs.Takes.{takes};
+ghost use Rattle.clap.specs.Walk.{rule_of, rows_of};
+ghost use Rattle.clap.specs.Matches.{found_of};
+ghost use Rattle.clap.specs.Values.{kind_of};
+ghost use Rattle.clap.specs.Simple.{app_of, shape_of, subcommand_of, subcommand_rows_of, new_shape, with_subcommand};
+ghost use Rattle.clap.specs.declared.builder.command.Command.TheViews.{out-Command};
+ghost use Rattle.dm_tool.specs.CommandLine.{GivesLimit, IsTaskOf, NamesTask, border_rule, dm_app, texts_of, top_app, with_border as bordered};
+ghost use Rattle.dm_tool.specs.CommandReads.{HasNoTask, IsReadable};
+
+use crate::task::{CallFault, Task};
+use clap::error::ErrorKind;
+use clap::{Arg, ArgMatches, Command, Error};
+use std::alloc::{AllocError, Global};
+
+/// The option `--border N`.
+fn border<'a>(alloc: Global) -> Arg<'a>
+    ensures rule { rule_of result ≡ border_rule }
+    ensures local { result.global ≡ false }
+{
+    Arg::new(alloc, "border")
+        .long("border")
+        .value_parser(clap::value_parser!(u16))
+}
+
+/// A subcommand with that option.
+fn with_border<'a>(alloc: Global, name: &'a str) -> Result<Command<'a>, AllocError>
+    ensures shape { IfOk result (λ c. shape_of c ≡ bordered name.entry.now) }
+    ensures local { IfOk result (λ c. (out-Command c).has_globals ≡ false) }
+{
+    Command::new(alloc, name).arg(border(alloc))
+}
+
+/// A subcommand with no option.
+fn plain<'a>(alloc: Global, name: &'a str) -> Command<'a>
+    ensures shape { shape_of result ≡ new_shape name.entry.now }
+    ensures local { (out-Command result).has_globals ≡ false }
+{
+    Command::new(alloc, name)
+}
+
+/// The command before its subcommands are joined to it.
+fn top<'a>(alloc: Global) -> Command<'a>
+    ensures { app_of result ≡ top_app }
+{
+    Command::new(alloc, "dm_tool")
+        .subcommand_required(true)
+        .disable_help_subcommand(true)
+}
+
+/// The command with one more subcommand.
+fn joined<'a>(command: Command<'a>, sub: Command<'a>) -> Result<Command<'a>, AllocError>
+    requires { (out-Command sub).has_globals ≡ false }
+    ensures { IfOk result (λ c. app_of c ≡ with_subcommand (app_of command.entry) (shape_of sub.entry)) }
+{
+    command.subcommand(sub)
+}
+
+/// The command with its five subcommands.
+fn command<'a>(alloc: Global) -> Result<Command<'a>, AllocError>
+    ensures { IfOk result (λ c. app_of c ≡ dm_app) }
+{
+    let with_read = joined(top(alloc), with_border(alloc, "read")?)?;
+    let with_check = joined(with_read, with_border(alloc, "check")?)?;
+    let with_normal = joined(with_check, with_border(alloc, "normal")?)?;
+    let with_write = joined(with_normal, plain(alloc, "write"))?;
+    joined(with_write, plain(alloc, "table"))
+}
+
+/// The border limit among the matches of a subcommand.
+fn limit_in(matches: &ArgMatches<'_>) -> Option<u16>
+    ensures { IsReadable (rows_of (found_of matches.now)) → GivesLimit (rows_of (found_of matches.now)) result }
+{
+    matches.get_one::<u16>("border")
+}
+
+/// The task of a subcommand, by its name and its matches.
+fn task_in(name: &str, matches: &ArgMatches<'_>) -> Option<Task>
+    ensures some { IfSome result (λ t. IsReadable (rows_of (found_of matches.now))
+        → IsTaskOf name.now (rows_of (found_of matches.now)) t) }
+    ensures none { IfNone result (HasNoTask name.now) }
+{
+    match name {
+        "read" => Some(Task::Read(limit_in(matches))),
+        "check" => Some(Task::Check(limit_in(matches))),
+        "normal" => Some(Task::Normal(limit_in(matches))),
+        "write" => Some(Task::Write),
+        "table" => Some(Task::Table),
+        _ => None,
+    }
+}
+
+/// What an error of clap says of the call.
+fn fault_in(error: Error) -> CallFault
+    ensures { (result ≡ CallFault.Memory) ↔ (kind_of error ≡ ErrorKind.OutOfMemory) }
+{
+    if error.kind() == ErrorKind::OutOfMemory {
+        CallFault::Memory
+    } else {
+        CallFault::Usage
+    }
+}
+
+/// The task that the matches of the command name.
+fn named(matches: &ArgMatches<'_>) -> Option<Task>
+    ensures some { IfSome result (λ t. (found : _) → subcommand_rows_of matches.now ≡ Some found
+        → IsReadable found.1 → IsTaskOf found.0 found.1 t) }
+    ensures none { IfNone result ((found : _) → subcommand_rows_of matches.now ≡ Some found → HasNoTask found.0) }
+{
+    let (name, inner) = matches.subcommand()?;
+    task_in(name, inner)
+}
+
+/// The task of a command line, whose first word is the program's name.
+///
+/// It is `CallFault::Usage` where clap finds a fault in the words, a wish for help among them, and
+/// `CallFault::Memory` where there was no memory to take them apart.
+pub fn task_of<'a>(alloc: Global, words: &'a [&'a str]) -> Result<Task, CallFault>
+    ensures task { IfOk result (NamesTask (subcommand_of dm_app (texts_of words.entry.now))) }
+    ensures taken { OnOk result (fault_of dm_app (texts_of words.entry.now) ≡ []) }
+    ensures usage { IsErrOf result CallFault.Usage → fault_of dm_app (texts_of words.entry.now) ≢ [] }
+    ensures takes { takes dm_app (texts_of words.entry.now) ≡ true → ¬ (IsErrOf result CallFault.Usage) }
+{
+    let command = match command(alloc) {
+        Ok(command) => command,
+        Err(_) => return Err(CallFault::Memory),
+    };
+    match command.try_get_matches_from(words) {
+        Err(error) => Err(fault_in(error)),
+        Ok(matches) => match named(&matches) {
+            Some(task) => Ok(task),
+            None => Err(CallFault::Usage),
+        },
+    }
+}

@@ -1,0 +1,78 @@
+//! Words, numbers and grids as text.
+ghost use Rattle.std.specs.Prelude.{◌≡◌, ◌≤◌, ◌<◌, ◌++◌, ◌∷◌, [], ◌+◌, ◌*◌, get_or, length, map};
+ghost use Rattle.std.specs.Fmt.{decimal};
+ghost use Rattle.dm_tool.specs.Answers.{character_of, grid_text, spaced};
+
+use arrayvec::ArrayVec;
+use dm_symbol::Grid;
+
+/// The text of an answer. The longest is that of a grid of the largest side, and an empty line.
+pub(crate) type AnswerText = ArrayVec<u8, 2757>;
+
+/// Appends bytes.
+pub(crate) fn push_all(text: &mut AnswerText, bytes: &[u8])
+    requires { length text.old.items + length bytes.now ≤ 2757 }
+    ensures { text.new.items ≡ text.old.items ++ bytes.now }
+{
+    let _room = text.try_extend_from_slice(bytes);
+}
+
+/// Appends a number in decimal digits.
+pub(crate) fn push_decimal(text: &mut AnswerText, number: u64)
+    requires { length text.old.items + 20 ≤ 2757 }
+    ensures text { text.new.items ≡ text.old.items ++ decimal number }
+    ensures length { length text.new.items ≤ length text.old.items + 20 }
+{
+    if number >= 10 {
+        push_decimal(text, number / 10);
+    }
+    text.push(b'0' + (number % 10) as u8);
+}
+
+/// Appends numbers in decimal digits, with single spaces between.
+pub(crate) fn push_spaced(text: &mut AnswerText, numbers: &[u16])
+    requires room { length text.old.items ≤ 2600 }
+    requires few { length numbers.now ≤ 8 }
+    ensures text { text.new.items ≡ text.old.items ++ spaced numbers.now }
+    ensures length { length text.new.items ≤ length text.old.items + 6 * length numbers.now }
+{
+    for (i, number) in numbers.iter().enumerate() {
+        if i > 0 {
+            text.push(b' ');
+        }
+        push_decimal(text, u64::from(*number));
+    }
+}
+
+/// The rows of a grid, each followed by LF.
+pub(crate) fn grid_text(grid: &Grid) -> AnswerText
+    ensures text { result.items ≡ grid_text grid.now.rows }
+    ensures room { length result.items < 2757 }
+{
+    let side = grid.size().side();
+    let mut text = AnswerText::new();
+    for row in 0..side {
+        push_row(&mut text, grid, row);
+    }
+    text
+}
+
+/// Appends a row of a grid and LF.
+fn push_row(text: &mut AnswerText, grid: &Grid, row: u16)
+    requires row { row < grid.now.size.side }
+    requires width { length (get_or grid.now.rows row []) ≡ grid.now.size.side }
+    requires room { length text.old.items + grid.now.size.side < 2757 }
+    ensures { text.new.items ≡ text.old.items ++ map character_of (get_or grid.now.rows row []) ++ 10 ∷ [] }
+{
+    for column in 0..grid.size().side() {
+        text.push(character(grid.cell(row, column)));
+    }
+    text.push(b'\n');
+}
+
+/// The character of a cell.
+fn character(dark: bool) -> u8
+    ensures { result ≡ character_of dark }
+{
+    if dark { b'1' } else { b'0' }
+}

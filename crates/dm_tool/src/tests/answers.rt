@@ -1,0 +1,386 @@
+//! What is written for single records and lines, and the table of sizes.
+
+use super::marks::modules;
+use crate::answer::{Answer, answer_to_line, answer_to_record};
+use crate::grid_feed::GridFeed;
+use crate::message_line::message_from;
+use crate::record::RecordFault;
+use crate::table::table_text;
+use crate::task::Task;
+use dm_symbol::Grid;
+use std::process::Abort;
+
+/// Rows of modules of side 10, what is written where the grid is read, and where it is checked. But for the first four, all
+/// codewords are right. The modules come from another program.
+static GRIDS: [([u64; 10], &[u8], &[u8]); 17] = [
+    // Two of the codewords of `123456` are 0.
+    (
+        [
+            0x2aa, 0x22d, 0x204, 0x219, 0x208, 0x209, 0x3b0, 0x3d9, 0x274, 0x3ff,
+        ],
+        b"123456\n",
+        b"ok 10 border 0 corrected 2\n",
+    ),
+    // Three of them are 0.
+    (
+        [
+            0x2aa, 0x20d, 0x204, 0x219, 0x208, 0x209, 0x3b0, 0x399, 0x204, 0x3ff,
+        ],
+        b"\\no 6 block 0\n",
+        b"\\no 6 block 0\n",
+    ),
+    // The border alone is dark.
+    (
+        [
+            0x2aa, 0x201, 0x200, 0x201, 0x200, 0x201, 0x200, 0x201, 0x200, 0x3ff,
+        ],
+        b"\\no 7 reserved 1\n",
+        b"\\no 7 reserved 1\n",
+    ),
+    // The grid of `123456`, its bottom row all light.
+    (
+        [
+            0x2aa, 0x32d, 0x304, 0x31d, 0x308, 0x20f, 0x3b0, 0x3d9, 0x274, 0x0,
+        ],
+        b"\\no 5 border 10\n",
+        b"\\no 5 border 10\n",
+    ),
+    // Data codewords 230, 91 and 11.
+    (
+        [
+            0x2aa, 0x2bb, 0x2e0, 0x2c7, 0x214, 0x277, 0x3de, 0x213, 0x212, 0x3ff,
+        ],
+        b"AIM\n",
+        b"ok 10 border 0 corrected 0\n",
+    ),
+    // Data codewords 230, 10 and 255.
+    (
+        [
+            0x2aa, 0x27b, 0x24e, 0x297, 0x294, 0x20f, 0x3d4, 0x2f9, 0x3f0, 0x3ff,
+        ],
+        b"\\xC1\n",
+        b"ok 10 border 0 corrected 0\n",
+    ),
+    // Data codewords 231, 45 and 65.
+    (
+        [
+            0x2aa, 0x215, 0x36e, 0x357, 0x23c, 0x3c7, 0x3a4, 0x337, 0x30a, 0x3ff,
+        ],
+        b"\\x80\n",
+        b"ok 10 border 0 corrected 0\n",
+    ),
+    // Data codewords 231, 44 and 65.
+    (
+        [
+            0x2aa, 0x21d, 0x37a, 0x33f, 0x254, 0x39f, 0x25c, 0x231, 0x302, 0x3ff,
+        ],
+        b"\\x80\n",
+        b"ok 10 border 0 corrected 0\n",
+    ),
+    // Data codewords 66, 0 and 129.
+    (
+        [
+            0x2aa, 0x213, 0x23a, 0x233, 0x250, 0x243, 0x3e4, 0x3d3, 0x304, 0x3ff,
+        ],
+        b"\\no 7 reserved 2\n",
+        b"\\no 7 reserved 2\n",
+    ),
+    // Data codewords 240, 66 and 129.
+    (
+        [
+            0x2aa, 0x297, 0x220, 0x2bf, 0x2c6, 0x249, 0x3d8, 0x245, 0x382, 0x3ff,
+        ],
+        b"\\no 8 left-out 240 1\n",
+        b"\\no 8 left-out 240 1\n",
+    ),
+    // Data codewords 235, 130 and 129.
+    (
+        [
+            0x2aa, 0x31b, 0x23c, 0x287, 0x3e4, 0x3ab, 0x26c, 0x3d1, 0x202, 0x3ff,
+        ],
+        b"\\no 9 upper-shift 1\n",
+        b"\\no 9 upper-shift 1\n",
+    ),
+    // Data codewords 230, 250 and 1.
+    (
+        [
+            0x2aa, 0x391, 0x3e0, 0x29f, 0x27c, 0x26f, 0x264, 0x219, 0x20a, 0x3ff,
+        ],
+        b"\\no 10 triplet 2\n",
+        b"\\no 10 triplet 2\n",
+    ),
+    // Data codewords 230, 10 and 161.
+    (
+        [
+            0x2aa, 0x219, 0x24e, 0x2b7, 0x2a4, 0x277, 0x37e, 0x25d, 0x24c, 0x3ff,
+        ],
+        b"\\no 11 value 2\n",
+        b"\\no 11 value 2\n",
+    ),
+    // Data codewords 231, 47 and 65.
+    (
+        [
+            0x2aa, 0x21f, 0x35c, 0x3cf, 0x2ac, 0x37f, 0x262, 0x329, 0x30e, 0x3ff,
+        ],
+        b"\\no 12 length 1\n",
+        b"\\no 12 length 1\n",
+    ),
+    // Data codewords 66, 66 and 231.
+    (
+        [
+            0x2aa, 0x2f7, 0x232, 0x29b, 0x258, 0x2db, 0x350, 0x3ed, 0x346, 0x3ff,
+        ],
+        b"\\no 12 length 3\n",
+        b"\\no 12 length 3\n",
+    ),
+    // Data codewords 66, 66 and 235.
+    (
+        [
+            0x2aa, 0x2bf, 0x218, 0x283, 0x228, 0x2db, 0x2d0, 0x37f, 0x3d4, 0x3ff,
+        ],
+        b"\\no 13 unfinished 3\n",
+        b"\\no 13 unfinished 3\n",
+    ),
+    // Data codewords 230, 87 and 199.
+    (
+        [
+            0x2aa, 0x2f7, 0x288, 0x3d7, 0x214, 0x2e7, 0x2a2, 0x2e3, 0x286, 0x3ff,
+        ],
+        b"\\no 13 unfinished 2\n",
+        b"\\no 13 unfinished 2\n",
+    ),
+];
+
+/// Rows of modules of side 52: a Base 256 segment of 202 bytes of 255, which is all of the data.
+static LARGE: [u64; 52] = [
+    0xaaaaaaaaaaaaa,
+    0xe15841ef9a62f,
+    0xef35e6bc96070,
+    0xea062de7b2b4f,
+    0xa632c72d26e6c,
+    0xc2ed4af3f1f9f,
+    0x8db0893e37374,
+    0xdd1f76e05a7b5,
+    0xe898dfad4183a,
+    0xbda703f4b4381,
+    0x893e4928d8c06,
+    0xabc334781a09d,
+    0xde12402a4a58c,
+    0x819f62771f5a5,
+    0xeefeb522529da,
+    0xf1cffbeec9c21,
+    0xce916bbef8e64,
+    0x8ce9346d8a64d,
+    0x811c863195370,
+    0xe84907e3f2d63,
+    0xa19d743123be6,
+    0xb5f8a8e4e0729,
+    0xec22bea02bfd0,
+    0xa14d15e45bdb5,
+    0xe65cacad1479c,
+    0xfffffffffffff,
+    0xaaaaaaaaaaaaa,
+    0xb27d9fe3d7b4f,
+    0xe3d99dab16d22,
+    0xee9ca5787c657,
+    0xba919026923b4,
+    0x9507266647a79,
+    0xd7f3f5b62f3c4,
+    0xa66eeaf2b4feb,
+    0x95666a238b65c,
+    0xc74554688f22b,
+    0xa0e0f32cc7f38,
+    0xb03877ecd1b6f,
+    0xeeef683b1fe9e,
+    0xddbcb4fcf8c95,
+    0xa1624eb910130,
+    0xd85c1d670d387,
+    0xdb5ff527fbc88,
+    0xaa39dd7485ae5,
+    0xb7d665a896e5a,
+    0xdf9c796d0bc97,
+    0x8a8485b33cbf8,
+    0xd0c8b1fcd25af,
+    0x9f86b4a8c7b02,
+    0xbe630fe0f4ad3,
+    0x81b7a72988140,
+    0xfffffffffffff,
+];
+
+/// The normal grid of `AIM`, and an empty line.
+static AIM: &[u8] =
+    b"1010101010\n1011101111\n1001011000\n1010101011\n1001000000\n1010111011\n1000100100\n1100111101\n1010010010\n1111111111\n\n";
+
+/// The normal grid of byte 128, and an empty line.
+static RAISED: &[u8] =
+    b"1010101010\n1000011101\n1000100000\n1001101111\n1110110100\n1101101011\n1100110000\n1111011011\n1100000000\n1111111111\n\n";
+
+/// Lines, and what is written for them.
+static LINES: [(&[u8], &[u8]); 10] = [
+    (
+        b"123456",
+        b"1010101010\n1100101101\n1100000100\n1100011101\n1100001000\n1000001111\n1110110000\n1111011001\n1001110100\n1111111111\n\n",
+    ),
+    (
+        b"A",
+        b"1010101010\n1101100011\n1000110100\n1001101011\n1001010000\n1001001011\n1101001100\n1100111101\n1100001000\n1111111111\n\n",
+    ),
+    (
+        b"",
+        b"1010101010\n1101101001\n1101000010\n1111000101\n1010001000\n1110100001\n1001011010\n1010111101\n1110000000\n1111111111\n\n",
+    ),
+    (
+        b"AIM",
+        b"1010101010\n1011101111\n1001011000\n1010101011\n1001000000\n1010111011\n1000100100\n1100111101\n1010010010\n1111111111\n\n",
+    ),
+    (
+        b"\\x80",
+        b"1010101010\n1000011101\n1000100000\n1001101111\n1110110100\n1101101011\n1100110000\n1111011011\n1100000000\n1111111111\n\n",
+    ),
+    (
+        b"\\x41",
+        b"1010101010\n1101100011\n1000110100\n1001101011\n1001010000\n1001001011\n1101001100\n1100111101\n1100001000\n1111111111\n\n",
+    ),
+    (b"\\q", b"\\no 15 escape 1\n\n"),
+    (b"ab\\x4", b"\\no 15 escape 3\n\n"),
+    (b"\\x41\\q", b"\\no 15 escape 5\n\n"),
+    (b"A\tB", b"\\no 15 escape 2\n\n"),
+];
+
+/// The grid of these rows of modules, as a record's.
+fn grid_of(rt: &impl Abort, rows: &[u64]) -> Result<Grid, RecordFault> {
+    let side = u16::try_from(rows.len()).unwrap_or(0);
+    Ok(Grid::new(side, &modules(rows)).ok().expect(rt, "a grid"))
+}
+
+/// The answer is this text, and a refusal exactly where it begins as one.
+fn is_answer(rt: &impl Abort, answer: &Answer, text: &[u8]) {
+    assert!(rt; answer.text() == text);
+    assert_eq!(rt; answer.is_refusal(), text.starts_with(b"\\no "));
+}
+
+#[test]
+fn grids_are_read_and_checked(rt: HostRuntime) {
+    for (rows, read, check) in GRIDS {
+        let grid = grid_of(&rt, &rows);
+        is_answer(&rt, &answer_to_record(Task::Read(None), &grid), read);
+        is_answer(&rt, &answer_to_record(Task::Check(None), &grid), check);
+    }
+}
+
+#[test]
+fn borders_are_borne(rt: HostRuntime) {
+    let (rows, _, _) = GRIDS[3];
+    let grid = grid_of(&rt, &rows);
+    let table = [
+        (Task::Read(Some(2)), b"\\no 5 border 10\n".as_slice()),
+        (Task::Read(Some(9)), b"\\no 5 border 10\n".as_slice()),
+        (Task::Read(Some(10)), b"123456\n".as_slice()),
+        (
+            Task::Check(Some(10)),
+            b"ok 10 border 10 corrected 0\n".as_slice(),
+        ),
+        (Task::Normal(Some(2)), b"\\no 5 border 10\n\n".as_slice()),
+        (Task::Normal(Some(10)), LINES[0].1),
+    ];
+    for (task, text) in table {
+        is_answer(&rt, &answer_to_record(task, &grid), text);
+    }
+}
+
+#[test]
+fn grids_are_normalised(rt: HostRuntime) {
+    let table = [
+        (4, AIM),
+        (6, RAISED),
+        (7, RAISED),
+        (1, b"\\no 6 block 0\n\n".as_slice()),
+        (2, b"\\no 7 reserved 1\n\n".as_slice()),
+    ];
+    for (i, text) in table {
+        let (rows, _, _) = GRIDS[i];
+        is_answer(
+            &rt,
+            &answer_to_record(Task::Normal(None), &grid_of(&rt, &rows)),
+            text,
+        );
+    }
+}
+
+#[test]
+fn a_large_grid_is_answered(rt: HostRuntime) {
+    let grid = grid_of(&rt, &LARGE);
+    let read = answer_to_record(Task::Read(None), &grid);
+    assert!(rt; !read.is_refusal());
+    assert_eq!(rt; read.text().len(), 809);
+    let line = read.text().strip_suffix(b"\n").expect(&rt, "a line");
+    assert!(rt; line.chunks(4).all(|piece| piece == b"\\xFF".as_slice()));
+    is_answer(
+        &rt,
+        &answer_to_record(Task::Check(None), &grid),
+        b"ok 52 border 0 corrected 0 0\n",
+    );
+    is_answer(
+        &rt,
+        &answer_to_record(Task::Normal(None), &grid),
+        b"\\no 14 too-long\n\n",
+    );
+}
+
+#[test]
+fn records_are_answered(rt: HostRuntime) {
+    let table = [
+        (b"10x\n".as_slice(), b"\\no 1 character\n\n".as_slice()),
+        (
+            b"00000000000000000000000000000000000000000000000000000\n".as_slice(),
+            b"\\no 2 large\n\n".as_slice(),
+        ),
+        (b"10\n1\n".as_slice(), b"\\no 3 shape\n\n".as_slice()),
+        (
+            b"1010\n0101\n1010\n0101\n".as_slice(),
+            b"\\no 4 side 4\n\n".as_slice(),
+        ),
+    ];
+    for (text, refusal) in table {
+        let mut feed = GridFeed::new();
+        assert!(rt; feed.feed(text).closed.is_none());
+        let record = feed.finish().expect(&rt, "a record");
+        let line = refusal.strip_suffix(b"\n").expect(&rt, "an empty line");
+        is_answer(&rt, &answer_to_record(Task::Read(None), &record), line);
+        is_answer(&rt, &answer_to_record(Task::Check(None), &record), line);
+        is_answer(&rt, &answer_to_record(Task::Normal(None), &record), refusal);
+    }
+}
+
+#[test]
+fn lines_are_answered(rt: HostRuntime) {
+    for (line, text) in LINES {
+        is_answer(&rt, &answer_to_line(&message_from(line)), text);
+    }
+    let digits = [b'7'; 409];
+    let letters = [b'A'; 205];
+    for line in [digits.as_slice(), letters.as_slice()] {
+        is_answer(
+            &rt,
+            &answer_to_line(&message_from(line)),
+            b"\\no 14 too-long\n\n",
+        );
+    }
+    let largest = answer_to_line(&message_from(&digits[..408]));
+    assert!(rt; !largest.is_refusal());
+    assert_eq!(rt; largest.text().len(), 2757);
+}
+
+#[test]
+fn sizes_are_listed(rt: HostRuntime) {
+    let text = table_text();
+    assert!(rt;
+        text.as_slice()
+            .starts_with(b"10 1 8 8 3 5 1 2\n12 1 10 10 5 7 1 3\n")
+    );
+    assert!(rt;
+        text.as_slice()
+            .ends_with(b"\n48 4 22 44 174 68 1 34\n52 4 24 48 204 84 2 21\n")
+    );
+    assert_eq!(rt; text.iter().filter(|byte| **byte == b'\n').count(), 15);
+}
