@@ -2,7 +2,7 @@
 PREFIX ?= /usr/local
 TOOL := crates/dm_tool/out/dm_tool
 
-.PHONY: build test install
+.PHONY: build test install bench
 
 # Proves the program and all that it stands on, and leaves it at crates/dm_tool/out/dm_tool.
 build:
@@ -15,3 +15,7 @@ test:
 
 install: build
 	install -D $(TOOL) $(DESTDIR)$(PREFIX)/bin/dm_tool
+
+# Times the program that `make build` left, beside ZXing, zint and libdmtx where these are installed.
+bench:
+	bench/run

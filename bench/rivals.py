@@ -1,0 +1,95 @@
+"""The programs that are timed beside ours: each is built from a small source of this folder where its package is there."""
+import os
+import re
+import shutil
+import subprocess
+import zipfile
+
+HERE = os.path.dirname(os.path.abspath(__file__))
+
+
+def version_of(package):
+    """The version of an installed Debian package, as its authors number it, or nothing."""
+    if not shutil.which("dpkg-query"):
+        return ""
+    told = subprocess.run(["dpkg-query", "-W", "-f=${Version}", package], capture_output=True, text=True)
+    number = re.match(r"[0-9.]*[0-9]", told.stdout)
+    return " " + number.group() if number else ""
+
+
+def version_in(jar):
+    """The version that a Java library says of itself, or nothing."""
+    if not zipfile.is_zipfile(jar):
+        return ""
+    with zipfile.ZipFile(jar) as library:
+        number = re.search(r"Bundle-Version: ([0-9.]+)", library.read("META-INF/MANIFEST.MF").decode())
+    return " " + number.group(1) if number else ""
+
+
+def printed_by(words):
+    """What a command prints. Where it fails, this program ends with what it said."""
+    done = subprocess.run(words, stdout=subprocess.PIPE, text=True)
+    if done.returncode:
+        raise SystemExit(f"{words[0]} failed with status {done.returncode}")
+    return done.stdout
+
+
+class Zxing:
+    """ZXing's decoder, in a Java program that hands it bit matrices."""
+
+    def __init__(self, jar, folder):
+        self.jar = jar
+        self.folder = folder
+        self.name = "ZXing" + version_in(jar)
+
+    def missing(self):
+        """The packages without which it can't be timed."""
+        tools = ["default-jdk-headless"] if not (shutil.which("javac") and shutil.which("java")) else []
+        return tools + ([] if os.path.isfile(self.jar) else ["libzxing-core-java"])
+
+    def build(self):
+        """Compiles the Java program into the folder."""
+        printed_by(["javac", "-cp", self.jar, "-d", self.folder, os.path.join(HERE, "ZxingReads.java")])
+
+    def timed(self, grids, lines, rounds):
+        """How many grids it doesn't read as their lines, and the best round's seconds."""
+        path = os.pathsep.join([self.jar, self.folder])
+        told = printed_by(["java", "-XX:+UseSerialGC", "-cp", path, "ZxingReads", grids, lines, str(rounds)])
+        wrong, nanoseconds = told.split()
+        return int(wrong), int(nanoseconds) * 1e-9
+
+
+class Encoder:
+    """An encoder of a C library, in a program that hands it lines. `same` is whether it is told to use ASCII encodation,
+    so that its symbols have to be the same as ours; `rest` says what it may choose otherwise."""
+
+    def __init__(self, library, way, folder):
+        self.library = library
+        self.way = way
+        self.package = f"lib{library}-dev"
+        self.same = library == "dmtx"
+        self.rest = ", the same as its own" if self.same else "; for the rest zint chose EDIFACT, and they are refused"
+        self.name = " ".join([("lib" if self.same else "") + library + version_of(self.package), *way])
+        self.built = os.path.join(folder, library + "_writes")
+        self.notes = []
+
+    def missing(self):
+        """The packages without which it can't be timed."""
+        if not shutil.which("cc"):
+            return ["gcc", self.package]
+        test = ["cc", "-fsyntax-only", "-include", self.library + ".h", "-x", "c", os.devnull]
+        return [self.package] if subprocess.run(test, stderr=subprocess.DEVNULL).returncode else []
+
+    def build(self):
+        """Compiles the C program into the folder."""
+        source = os.path.join(HERE, f"{self.library}_writes.c")
+        printed_by(["cc", "-O2", "-o", self.built, source, "-l" + self.library])
+
+    def timed(self, lines, grids, rounds):
+        """Writes the symbols of a file of lines. The best round's seconds."""
+        return float(printed_by([self.built, lines, grids, str(rounds), *self.way]))
+
+
+def encoders(folder):
+    """zint at its usual and its faster choice of encodations, and libdmtx in ASCII encodation."""
+    return [Encoder("zint", [], folder), Encoder("zint", ["fast"], folder), Encoder("dmtx", [], folder)]
