@@ -1,11 +1,12 @@
 //! Records and message lines, answered as their text comes.
-ghost use Rattle.std.specs.Prelude.{◌≡◌, ◌∷◌, [], IfNone, IfSome};
+ghost use Rattle.std.specs.Prelude.{◌≡◌, ◌≢◌, ◌∷◌, [], IfNone, IfSome};
 ghost use Rattle.dm_tool.specs.Standings.{Ends, Goes, Stands, StandsAnywhere};
 
 use crate::answer::{Answer, answer_to_line, answer_to_record};
 use crate::grid_feed::GridFeed;
 use crate::line_feed::LineFeed;
 use crate::task::Task;
+use crate::text::LF;
 
 /// Cuts a text that comes byte by byte into what its task asks about, and answers each record or line.
 #[derive(Drop)]
@@ -32,25 +33,32 @@ impl Answering {
         }
     }
 
-    /// Takes one more byte, and answers what it closes.
-    pub(crate) fn take(&mut self, byte: u8) -> Option<Answer>
-        requires { StandsAnywhere self.old }
-        ensures open { IfNone result (Goes self.old (byte ∷ []) [] self.new) }
-        ensures closed { IfSome result (λ answer. Goes self.old (byte ∷ []) (answer ∷ []) self.new) }
+    /// Takes a byte that is no LF, which closes nothing.
+    pub(crate) fn extend(&mut self, byte: u8)
+        requires { byte ≢ 10 }
+        ensures { Goes self.old (byte ∷ []) [] self.new }
     {
         match self {
-            Answering::Records(task, feed) => {
-                match feed.feed(&[byte]).closed {
-                    None => None,
-                    Some(record) => Some(answer_to_record(*task, &record)),
-                }
-            }
-            Answering::Lines(feed) => {
-                match feed.feed(&[byte]).closed {
-                    None => None,
-                    Some(line) => Some(answer_to_line(&line)),
-                }
-            }
+            Answering::Records(_, feed) => feed.extend(byte),
+            Answering::Lines(feed) => feed.extend(byte),
+        }
+    }
+
+    /// Takes an LF, and answers what it closes.
+    pub(crate) fn end_line(&mut self) -> Option<Answer>
+        requires { StandsAnywhere self.old }
+        ensures open { IfNone result (Goes self.old (10 ∷ []) [] self.new) }
+        ensures closed { IfSome result (λ answer. Goes self.old (10 ∷ []) (answer ∷ []) self.new) }
+    {
+        match self {
+            Answering::Records(task, feed) => match feed.feed(&[LF]).closed {
+                None => None,
+                Some(record) => Some(answer_to_record(*task, &record)),
+            },
+            Answering::Lines(feed) => match feed.feed(&[LF]).closed {
+                None => None,
+                Some(line) => Some(answer_to_line(&line)),
+            },
         }
     }
 

@@ -1,5 +1,5 @@
 //! Grids from pieces of a text.
-ghost use Rattle.std.specs.Prelude.{◌≡◌, ◌++◌, [], ℕ, List, IfNone, IfSome};
+ghost use Rattle.std.specs.Prelude.{◌≡◌, ◌≢◌, ◌∷◌, ◌++◌, [], ℕ, List, IfNone, IfSome};
 ghost use Rattle.dm_tool.specs.Texts.{last_line};
 ghost use Rattle.dm_tool.specs.Records.{AreLfs, record_of};
 ghost use Rattle.dm_tool.specs.RecordFacts.{AreRecordFacts, facts_of_record};
@@ -67,6 +67,14 @@ impl GridFeed {
             taken: end + 1,
             closed: Some(self.close()),
         }
+    }
+
+    /// Takes a byte that is no LF: such a byte closes no record.
+    pub(crate) fn extend(&mut self, byte: u8)
+        requires { byte ≢ 10 }
+        ensures { LeavesRecordOpen self.old (byte ∷ []) 1 self.new }
+    {
+        self.record.push_character(byte);
     }
 
     /// Closes the record that is open, if one is. The feed is as new then.

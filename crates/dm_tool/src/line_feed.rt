@@ -1,5 +1,5 @@
 //! Message lines from pieces of a text.
-ghost use Rattle.std.specs.Prelude.{◌≡◌, [], ℕ, List, IfNone, IfSome, IsSome, ◌↔◌, ◌≢◌};
+ghost use Rattle.std.specs.Prelude.{◌≡◌, ◌∷◌, [], ℕ, List, IfNone, IfSome, IsSome, ◌↔◌, ◌≢◌};
 ghost use Rattle.dm_tool.specs.MessageLines.{IsLine};
 ghost use Rattle.dm_tool.specs.LineFacts.{AreLineFacts};
 ghost use Rattle.dm_tool.specs.LineFeeds.{ClosesLine, LeavesLineOpen};
@@ -69,6 +69,14 @@ impl LineFeed {
             taken: end + 1,
             closed: Some(self.close()),
         }
+    }
+
+    /// Takes a byte that is no LF: such a byte closes no line.
+    pub(crate) fn extend(&mut self, byte: u8)
+        requires { byte ≢ 10 }
+        ensures { LeavesLineOpen self.old (byte ∷ []) 1 self.new }
+    {
+        self.line.push(byte);
     }
 
     /// Closes the line that is open, if one is: where the text ends, its bytes after the last LF are a

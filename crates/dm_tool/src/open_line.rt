@@ -75,7 +75,7 @@ impl OpenLine {
     }
 
     /// One more byte of the line.
-    fn push(&mut self, byte: u8)
+    pub(crate) fn push(&mut self, byte: u8)
         ensures { (line : List ℕ) → AreLineFacts line self.old → AreLineFacts (line ++ byte ∷ []) self.new }
     {
         match &mut self.state {

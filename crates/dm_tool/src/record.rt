@@ -96,7 +96,7 @@ impl OpenRecord {
     }
 
     /// A byte that is no LF.
-    fn push_character(&mut self, byte: u8)
+    pub(crate) fn push_character(&mut self, byte: u8)
         requires { byte ≢ 10 }
         ensures { (text : List ℕ) → AreRecordFacts text self.old → AreRecordFacts (text ++ byte ∷ []) self.new }
     {

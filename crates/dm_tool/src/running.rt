@@ -13,6 +13,7 @@ use crate::sink::{Sink, put};
 use crate::source::Source;
 use crate::table::table_text;
 use crate::task::{RunFault, Tally, Task};
+use crate::text::LF;
 
 /// Reads all that the source gives, and writes the answer to each record or line, in order; for
 /// [`Task::Table`] reads nothing, and writes the table of sizes. Gives how many records or lines were
@@ -140,7 +141,32 @@ fn answer_byte<O: Sink>(
         × AppendsFront (O.contents sink.old) (O.contents sink.new) (written more)) }
     ensures count { Counts (O.failed sink.old) (O.failed sink.new) result }
 {
-    match answering.take(byte) {
+    if byte != LF {
+        answering.extend(byte);
+        return Ok(());
+    }
+    answer_line_end(answering, sink, tally)
+}
+
+/// Takes an LF, and writes the answer to what it closes. No other byte closes anything, so what an answer costs to
+/// hold is spent at the ends of lines alone.
+#[inline(never)]
+fn answer_line_end<O: Sink>(
+    answering: &mut Answering,
+    sink: &mut O,
+    tally: &mut Tally,
+) -> Result<(), Failed>
+    requires stands { StandsAnywhere answering.old }
+    requires room { tally.old.answered + tally.old.refused + 1 < 2 ^ 64 }
+    ensures ok { OnOk result ((more : List AnAnswer) × Goes answering.old (10 ∷ []) more answering.new
+        × Appends (O.contents sink.old) (O.contents sink.new) (written more)
+        × ((answers : List AnAnswer) → tally.old ≡ tally_of answers → tally.new ≡ tally_of (answers ++ more))) }
+    ensures sum { OnOk result (tally.new.answered + tally.new.refused ≤ tally.old.answered + tally.old.refused + 1) }
+    ensures err { OnErr result ((more : List AnAnswer) × Goes answering.old (10 ∷ []) more answering.new
+        × AppendsFront (O.contents sink.old) (O.contents sink.new) (written more)) }
+    ensures count { Counts (O.failed sink.old) (O.failed sink.new) result }
+{
+    match answering.end_line() {
         None => Ok(()),
         Some(answer) => put_answer(sink, tally, &answer),
     }
