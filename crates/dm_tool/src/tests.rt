@@ -4,4 +4,6 @@ mod answers;
 mod command_line;
 mod devices;
 mod marks;
+mod memory;
+mod running;
 mod texts;

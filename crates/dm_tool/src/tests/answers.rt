@@ -12,7 +12,7 @@ use std::process::Abort;
 
 /// Rows of modules of side 10, what is written where the grid is read, and where it is checked. But for the first four, all
 /// codewords are right. The modules come from another program.
-static GRIDS: [([u64; 10], &[u8], &[u8]); 17] = [
+pub(super) static GRIDS: [([u64; 10], &[u8], &[u8]); 17] = [
     // Two of the codewords of `123456` are 0.
     (
         [
@@ -152,7 +152,7 @@ static GRIDS: [([u64; 10], &[u8], &[u8]); 17] = [
 ];
 
 /// Rows of modules of side 52: a Base 256 segment of 202 bytes of 255, which is all of the data.
-static LARGE: [u64; 52] = [
+pub(super) static LARGE: [u64; 52] = [
     0xaaaaaaaaaaaaa,
     0xe15841ef9a62f,
     0xef35e6bc96070,
@@ -208,15 +208,15 @@ static LARGE: [u64; 52] = [
 ];
 
 /// The normal grid of `AIM`, and an empty line.
-static AIM: &[u8] =
+pub(super) static AIM: &[u8] =
     b"1010101010\n1011101111\n1001011000\n1010101011\n1001000000\n1010111011\n1000100100\n1100111101\n1010010010\n1111111111\n\n";
 
 /// The normal grid of byte 128, and an empty line.
-static RAISED: &[u8] =
+pub(super) static RAISED: &[u8] =
     b"1010101010\n1000011101\n1000100000\n1001101111\n1110110100\n1101101011\n1100110000\n1111011011\n1100000000\n1111111111\n\n";
 
 /// Lines, and what is written for them.
-static LINES: [(&[u8], &[u8]); 10] = [
+pub(super) static LINES: [(&[u8], &[u8]); 10] = [
     (
         b"123456",
         b"1010101010\n1100101101\n1100000100\n1100011101\n1100001000\n1000001111\n1110110000\n1111011001\n1001110100\n1111111111\n\n",

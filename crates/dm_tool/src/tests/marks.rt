@@ -9,9 +9,10 @@ mod libdmtx_text;
 mod libdmtx_x12;
 mod zint;
 
-use crate::message_line::message_text;
+use super::memory::Taken;
+use super::running::{push, writes};
+use crate::task::Task;
 use arrayvec::ArrayVec;
-use dm_symbol::{Grid, ReadFault, WordFault, read, usual_limit};
 use std::process::Abort;
 
 /// A printed mark.
@@ -35,29 +36,37 @@ pub(super) fn modules(rows: &[u64]) -> ArrayVec<bool, 2704> {
     cells
 }
 
-/// What is read from the mark is what its line says.
-fn reads(rt: &impl Abort, mark: &Mark) {
-    let side = u16::try_from(mark.rows.len()).unwrap_or(0);
-    let grid = Grid::new(side, &modules(mark.rows))
-        .ok()
-        .expect(rt, "a grid");
-    match read(&grid, usual_limit(side)) {
-        Ok(reading) => assert!(rt; message_text(&reading.message).as_slice() == mark.line),
-        Err(ReadFault::Words(WordFault::LeftOut(240, place))) => assert!(rt;
-            mark.line == left_out(place)
-        ),
-        Err(_) => assert!(rt; false),
+/// Appends the record of rows of modules, without an empty line after it.
+pub(super) fn push_record<const N: usize>(
+    rt: &impl Abort,
+    text: &mut ArrayVec<u8, N>,
+    rows: &[u64],
+) {
+    for row in modules(rows).as_slice().chunks(rows.len().max(1)) {
+        for dark in row {
+            push(rt, text, if *dark { b"1" } else { b"0" });
+        }
+        push(rt, text, b"\n");
     }
 }
 
-/// The refusal of EDIFACT at a place of these marks.
-fn left_out(place: u16) -> &'static [u8] {
-    match place {
-        1 => b"\\no 8 left-out 240 1",
-        3 => b"\\no 8 left-out 240 3",
-        47 => b"\\no 8 left-out 240 47",
-        _ => b"",
+/// The marks of an encoder, as one text of records, are read as their lines.
+fn are_read(rt: &impl Abort, marks: &[Mark]) {
+    let mut text = ArrayVec::<u8, 16384>::new();
+    let mut lines = Taken::new();
+    let mut refused = 0u64;
+    for mark in marks {
+        push_record(rt, &mut text, mark.rows);
+        push(rt, &mut text, b"\n");
+        push(rt, &mut lines, mark.line);
+        push(rt, &mut lines, b"\n");
+        if mark.line.starts_with(b"\\no ") {
+            refused = refused.saturating_add(1);
+        }
     }
+    let answered = 15u64.saturating_sub(refused);
+    let (text, lines) = (text.as_slice(), lines.as_slice());
+    writes(rt, Task::Read(None), text, lines, answered, refused);
 }
 
 #[test]
@@ -72,8 +81,6 @@ fn printed_marks_are_read(rt: HostRuntime) {
         &libdmtx_base256::MARKS,
     ];
     for marks in printed {
-        for mark in marks {
-            reads(&rt, mark);
-        }
+        are_read(&rt, marks);
     }
 }

@@ -1,0 +1,159 @@
+//! A source and a sink in memory, which fail where they are told to.
+ghost use Rattle.std.specs.Prelude.{◌≡◌, ◌++◌, [], Some, refl};
+ghost use Rattle.std.proofs.Common.{sym, ap, ◌∙◌, append_assoc};
+
+use crate::device::{Failed, failure};
+use crate::sink::Sink;
+use crate::source::Source;
+use arrayvec::ArrayVec;
+
+/// What a sink has taken.
+pub(super) type Taken = ArrayVec<u8, 4096>;
+
+/// Gives a text in pieces. After a number of reads each further one fails.
+#[derive(Drop)]
+pub(super) struct TextSource<'a> {
+    rest: &'a [u8],
+    piece: usize,
+    good_reads: usize,
+    reads: usize,
+    failures: u64,
+}
+
+impl<'a> TextSource<'a> {
+    /// Gives the text byte by byte, and doesn't fail.
+    pub(super) fn new(text: &'a [u8]) -> Self {
+        TextSource::failing(text, 1, usize::MAX)
+    }
+
+    /// Gives at most `piece` bytes of the text a read, but at least 1. The reads after the first `good_reads` fail.
+    pub(super) fn failing(text: &'a [u8], piece: usize, good_reads: usize) -> Self {
+        TextSource {
+            rest: text,
+            piece: piece.max(1),
+            good_reads,
+            reads: 0,
+            failures: 0,
+        }
+    }
+
+    /// How many reads there were, failed ones too.
+    pub(super) fn reads(&self) -> usize {
+        self.reads
+    }
+}
+
+impl<'a> Source for TextSource<'a> {
+    ghost gave = { λ s t bytes. s.rest.now ≡ bytes ++ t.rest.now };
+
+    ghost ended = { λ s. s.rest.now ≡ [] };
+
+    ghost failed = { λ s. s.failures };
+
+    ghost gave_none = { λ s. refl };
+
+    ghost gave_joined = { λ a b c x y first then. first ∙ ap (λ l. x ++ l) then ∙ sym (append_assoc x y c.rest.now) };
+
+    fn read(&mut self, into: &mut [u8]) -> Result<usize, Failed> {
+        self.reads = self.reads.saturating_add(1);
+        if self.good_reads == 0 {
+            return Err(failure(&mut self.failures));
+        }
+        self.good_reads -= 1;
+        let count = self.piece.max(1).min(into.len()).min(self.rest.len());
+        into[..count].copy_from_slice(&self.rest[..count]);
+        self.rest = &self.rest[count..];
+        Ok(count)
+    }
+
+    fn failures(&self) -> u64 {
+        self.failures
+    }
+}
+
+/// Keeps what it takes, and how much it had taken at each flush.
+#[derive(Drop)]
+pub(super) struct MemorySink {
+    taken: Taken,
+    piece: usize,
+    room: usize,
+    flush_fails: bool,
+    flushes: ArrayVec<usize, 4>,
+    failures: u64,
+    pending: bool,
+}
+
+impl MemorySink {
+    /// Takes all that it is given, and doesn't fail.
+    pub(super) fn new() -> Self {
+        MemorySink::failing(usize::MAX, usize::MAX)
+    }
+
+    /// Takes at most `piece` bytes a write, and fails where it has taken `room`.
+    pub(super) fn failing(piece: usize, room: usize) -> Self {
+        MemorySink {
+            taken: Taken::new(),
+            piece,
+            room,
+            flush_fails: false,
+            flushes: ArrayVec::new(),
+            failures: 0,
+            pending: false,
+        }
+    }
+
+    /// Takes at most `piece` bytes a write, and fails at each flush.
+    pub(super) fn failing_flush(piece: usize) -> Self {
+        let mut sink = MemorySink::failing(piece, usize::MAX);
+        sink.flush_fails = true;
+        sink
+    }
+
+    /// What it has taken.
+    pub(super) fn taken(&self) -> &[u8] {
+        self.taken.as_slice()
+    }
+
+    /// How many bytes it had taken at each flush, failed ones too.
+    pub(super) fn flushes(&self) -> &[usize] {
+        self.flushes.as_slice()
+    }
+}
+
+impl Sink for MemorySink {
+    ghost contents = { λ s. Some s.taken.items };
+
+    ghost failed = { λ s. s.failures };
+
+    ghost is_pending = { λ s. s.pending };
+
+    fn write(&mut self, bytes: &[u8]) -> Result<usize, Failed> {
+        if bytes.is_empty() {
+            return Ok(0);
+        }
+        let room = self.room.saturating_sub(self.taken.len());
+        let count = self.piece.min(room).min(bytes.len());
+        if count == 0 || self.taken.try_extend_from_slice(&bytes[..count]).is_err() {
+            return Err(failure(&mut self.failures));
+        }
+        self.pending = true;
+        Ok(count)
+    }
+
+    fn flush(&mut self) -> Result<(), Failed> {
+        let _kept = self.flushes.try_push(self.taken.len());
+        if self.flush_fails {
+            return Err(failure(&mut self.failures));
+        }
+        self.pending = false;
+        Ok(())
+    }
+
+    fn failures(&self) -> u64 {
+        self.failures
+    }
+
+    fn pending(&self) -> bool {
+        self.pending
+    }
+}

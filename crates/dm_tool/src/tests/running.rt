@@ -1,0 +1,73 @@
+//! Runs over memory: for each task what is written, how it is counted, and the status.
+
+mod failing;
+mod grids;
+mod messages;
+
+use super::memory::{MemorySink, Taken, TextSource};
+use super::texts::TWO_GRIDS;
+use crate::ending::ending;
+use crate::running::run;
+use crate::task::{Tally, Task};
+use arrayvec::ArrayVec;
+use std::process::Abort;
+
+/// More bytes than any text of these tests has.
+const MOST: u64 = 1 << 30;
+
+/// Appends bytes, for which there is room.
+pub(super) fn push<const N: usize>(rt: &impl Abort, text: &mut ArrayVec<u8, N>, bytes: &[u8]) {
+    assert!(rt; text.try_extend_from_slice(bytes).is_ok());
+}
+
+/// The task over this text writes just this, and counts so. The sink is flushed once, when it has taken all of it. The
+/// status is 0 where nothing is refused, else 1, and there is no line.
+pub(super) fn writes(
+    rt: &impl Abort,
+    task: Task,
+    text: &[u8],
+    written: &[u8],
+    answered: u64,
+    refused: u64,
+) {
+    let mut source = TextSource::new(text);
+    let mut sink = MemorySink::new();
+    let outcome = run(task, &mut source, &mut sink, MOST);
+    assert_eq!(rt; outcome, Ok(Tally { answered, refused }));
+    assert!(rt; sink.taken() == written);
+    assert!(rt; sink.flushes() == [written.len()].as_slice());
+    assert_eq!(rt; ending(&outcome), (u8::from(refused > 0), ""));
+}
+
+/// What the task writes for this text.
+fn written_for(task: Task, text: &[u8]) -> Taken {
+    let mut source = TextSource::new(text);
+    let mut sink = MemorySink::new();
+    let _counted = run(task, &mut source, &mut sink, MOST);
+    let mut written = Taken::new();
+    let _room = written.try_extend_from_slice(sink.taken());
+    written
+}
+
+/// The table of sizes.
+static SIZES: &[u8] =
+    b"10 1 8 8 3 5 1 2\n12 1 10 10 5 7 1 3\n14 1 12 12 8 10 1 5\n16 1 14 14 12 12 1 6\n18 1 16 16 18 14 1 7\n20 1 18 18 22 18 1 9\n22 1 20 20 30 20 1 10\n24 1 22 22 36 24 1 12\n26 1 24 24 44 28 1 14\n32 4 14 28 62 36 1 18\n36 4 16 32 86 42 1 21\n40 4 18 36 114 48 1 24\n44 4 20 40 144 56 1 28\n48 4 22 44 174 68 1 34\n52 4 24 48 204 84 2 21\n";
+
+#[test]
+fn no_text_has_no_answers(rt: HostRuntime) {
+    for task in [
+        Task::Read(None),
+        Task::Check(None),
+        Task::Normal(None),
+        Task::Write,
+    ] {
+        writes(&rt, task, b"", b"", 0, 0);
+    }
+    writes(&rt, Task::Read(None), b"\n\n", b"", 0, 0);
+}
+
+#[test]
+fn the_table_is_written(rt: HostRuntime) {
+    writes(&rt, Task::Table, b"", SIZES, 0, 0);
+    writes(&rt, Task::Table, TWO_GRIDS, SIZES, 0, 0);
+}

@@ -1,0 +1,293 @@
+//! Runs over devices that fail, and over more input than is to be read.
+
+use super::super::answers::{AIM, LINES};
+use super::super::memory::{MemorySink, Taken, TextSource};
+use super::super::texts::TWO_GRIDS;
+use super::{SIZES, push};
+use crate::ending::ending;
+use crate::running::run;
+use crate::sink::{Sink, ToWrite};
+use crate::source::{FromRead, Source};
+use crate::task::{RunFault, Tally, Task};
+use std::io::{self, ErrorKind, Read, Write};
+use std::process::Abort;
+
+/// What is written for the two grids.
+static OUT: &[u8] = b"123456\nA\n";
+
+/// How many bytes a device moves in a call at the most.
+static PIECES: [usize; 3] = [1, 7, 4096];
+
+/// How a run ends.
+#[derive(Clone, Copy)]
+struct End<'a> {
+    outcome: Result<Tally, RunFault>,
+    /// The status and the line.
+    ending: (u8, &'static str),
+    /// How many reads there were, failed ones too.
+    reads: usize,
+    /// What the sink has taken.
+    written: &'a [u8],
+    /// How much it had taken at each flush.
+    flushes: &'a [usize],
+}
+
+/// How a run ends whose source fails at this read.
+fn read_failed(reads: usize, written: &[u8]) -> End<'_> {
+    End {
+        outcome: Err(RunFault::Read),
+        ending: (3, "dm_tool: read failed"),
+        reads,
+        written,
+        flushes: &[],
+    }
+}
+
+/// How a run ends whose sink fails at a write after so many reads.
+fn write_failed(reads: usize, written: &[u8]) -> End<'_> {
+    End {
+        outcome: Err(RunFault::Write),
+        ending: (3, "dm_tool: write failed"),
+        reads,
+        written,
+        flushes: &[],
+    }
+}
+
+/// The run of the task over these devices ends so. A device that failed isn't called again.
+fn ends(
+    rt: &impl Abort,
+    task: Task,
+    mut source: TextSource<'_>,
+    mut sink: MemorySink,
+    most: u32,
+    end: &End<'_>,
+) {
+    let outcome = run(task, &mut source, &mut sink, u64::from(most));
+    assert_eq!(rt; outcome, end.outcome);
+    assert_eq!(rt; ending(&outcome), end.ending);
+    assert_eq!(rt; source.reads(), end.reads);
+    assert!(rt; sink.taken() == end.written);
+    assert!(rt; sink.flushes() == end.flushes);
+    let read_failures = u64::from(outcome == Err(RunFault::Read));
+    assert_eq!(rt; source.failures(), read_failures);
+    let write_failures = u64::from(outcome == Err(RunFault::Write));
+    assert_eq!(rt; sink.failures(), write_failures);
+}
+
+#[test]
+fn a_read_fails(rt: HostRuntime) {
+    for piece in PIECES {
+        for good in 0..=TWO_GRIDS.len() {
+            let written = if good < 111 {
+                b"".as_slice()
+            } else {
+                b"123456\n"
+            };
+            let source = TextSource::failing(TWO_GRIDS, piece, good);
+            let sink = MemorySink::failing(piece, usize::MAX);
+            let end = read_failed(good.saturating_add(1), written);
+            ends(&rt, Task::Read(None), source, sink, 1000, &end);
+        }
+    }
+}
+
+#[test]
+fn a_write_fails(rt: HostRuntime) {
+    for piece in PIECES {
+        for room in 0..OUT.len() {
+            let reads = if room < 7 { 111 } else { 223 };
+            let source = TextSource::failing(TWO_GRIDS, piece, usize::MAX);
+            let sink = MemorySink::failing(piece, room);
+            let end = write_failed(reads, &OUT[..room]);
+            ends(&rt, Task::Read(None), source, sink, 1000, &end);
+        }
+    }
+}
+
+#[test]
+fn the_flush_fails(rt: HostRuntime) {
+    for piece in PIECES {
+        let source = TextSource::failing(TWO_GRIDS, piece, usize::MAX);
+        let mut end = write_failed(223, OUT);
+        end.flushes = &[9];
+        let sink = MemorySink::failing_flush(piece);
+        ends(&rt, Task::Read(None), source, sink, 1000, &end);
+    }
+}
+
+/// How a run ends that answers all.
+fn all_answered<'a>(
+    answered: u64,
+    reads: usize,
+    written: &'a [u8],
+    flushes: &'a [usize],
+) -> End<'a> {
+    End {
+        outcome: Ok(Tally {
+            answered,
+            refused: 0,
+        }),
+        ending: (0, ""),
+        reads,
+        written,
+        flushes,
+    }
+}
+
+/// How a run ends whose input is too long.
+fn too_much(reads: usize, written: &[u8]) -> End<'_> {
+    End {
+        outcome: Err(RunFault::TooMuchInput),
+        ending: (3, "dm_tool: too much input"),
+        reads,
+        written,
+        flushes: &[],
+    }
+}
+
+#[test]
+fn input_is_limited(rt: HostRuntime) {
+    let table = [
+        (TWO_GRIDS, 223, all_answered(2, 223, OUT, &[9])),
+        (TWO_GRIDS, 222, all_answered(2, 223, OUT, &[9])),
+        (TWO_GRIDS, 221, too_much(222, b"123456\n")),
+        (TWO_GRIDS, 111, too_much(112, b"123456\n")),
+        (TWO_GRIDS, 110, too_much(111, b"")),
+        (TWO_GRIDS, 0, too_much(1, b"")),
+        (b"".as_slice(), 0, all_answered(0, 1, b"", &[0])),
+    ];
+    for (text, most, end) in &table {
+        for piece in PIECES {
+            let source = TextSource::failing(text, piece, usize::MAX);
+            let sink = MemorySink::failing(piece, usize::MAX);
+            ends(&rt, Task::Read(None), source, sink, *most, end);
+        }
+    }
+}
+
+/// Two lines, the last one without its LF.
+static TWO_LINES: &[u8] = b"A\nAIM";
+
+#[test]
+fn a_read_fails_between_lines(rt: HostRuntime) {
+    for good in 0..=TWO_LINES.len() {
+        let written = if good < 2 { b"".as_slice() } else { LINES[1].1 };
+        let source = TextSource::failing(TWO_LINES, 1, good);
+        let end = read_failed(good.saturating_add(1), written);
+        ends(&rt, Task::Write, source, MemorySink::new(), 1000, &end);
+    }
+}
+
+#[test]
+fn a_write_fails_within_a_grid(rt: HostRuntime) {
+    let mut written = Taken::new();
+    push(&rt, &mut written, LINES[1].1);
+    push(&rt, &mut written, AIM);
+    for room in 0..written.len() {
+        let reads = if room < 111 { 2 } else { 6 };
+        let end = write_failed(reads, &written.as_slice()[..room]);
+        let sink = MemorySink::failing(7, room);
+        ends(
+            &rt,
+            Task::Write,
+            TextSource::new(TWO_LINES),
+            sink,
+            1000,
+            &end,
+        );
+    }
+}
+
+#[test]
+fn lines_are_limited(rt: HostRuntime) {
+    for (most, reads, written) in [(4, 5, LINES[1].1), (2, 3, LINES[1].1), (1, 2, b"")] {
+        let end = too_much(reads, written);
+        let sink = MemorySink::new();
+        ends(
+            &rt,
+            Task::Write,
+            TextSource::new(TWO_LINES),
+            sink,
+            most,
+            &end,
+        );
+    }
+}
+
+#[test]
+fn the_table_needs_no_source(rt: HostRuntime) {
+    let flushes = [SIZES.len()];
+    let end = all_answered(0, 0, SIZES, &flushes);
+    let source = TextSource::failing(TWO_GRIDS, 1, 0);
+    ends(&rt, Task::Table, source, MemorySink::new(), 0, &end);
+    for room in 0..SIZES.len() {
+        let end = write_failed(0, &SIZES[..room]);
+        let sink = MemorySink::failing(7, room);
+        ends(&rt, Task::Table, TextSource::new(b""), sink, 0, &end);
+    }
+    let mut end = write_failed(0, SIZES);
+    end.flushes = &flushes;
+    let sink = MemorySink::failing_flush(7);
+    ends(&rt, Task::Table, TextSource::new(b""), sink, 0, &end);
+}
+
+/// Fails at each read.
+#[derive(Drop)]
+struct NoReader;
+
+impl Read for NoReader {
+    fn read(&mut self, _buf: &mut [u8]) -> io::Result<usize> {
+        Err(io::Error::from(ErrorKind::Interrupted))
+    }
+}
+
+/// A writer over a sink.
+#[derive(Drop)]
+struct SinkWriter<'a> {
+    sink: &'a mut MemorySink,
+}
+
+impl<'a> Write for SinkWriter<'a> {
+    fn write(&mut self, buf: &[u8]) -> io::Result<usize> {
+        match self.sink.write(buf) {
+            Ok(taken) => Ok(taken),
+            Err(_) => Err(io::Error::from(ErrorKind::Interrupted)),
+        }
+    }
+
+    fn flush(&mut self) -> io::Result<()> {
+        match self.sink.flush() {
+            Ok(()) => Ok(()),
+            Err(_) => Err(io::Error::from(ErrorKind::Interrupted)),
+        }
+    }
+}
+
+#[test]
+fn a_reader_fails_at_once(rt: HostRuntime) {
+    let mut source = FromRead::new(NoReader);
+    let mut sink = MemorySink::new();
+    let outcome = run(Task::Read(None), &mut source, &mut sink, 1000);
+    assert_eq!(rt; outcome, Err(RunFault::Read));
+    assert_eq!(rt; ending(&outcome), (3, "dm_tool: read failed"));
+    assert_eq!(rt; source.failures(), 1);
+    assert!(rt; sink.taken().is_empty());
+    assert!(rt; sink.flushes().is_empty());
+}
+
+#[test]
+fn a_writer_fails(rt: HostRuntime) {
+    for piece in PIECES {
+        let mut kept = MemorySink::failing_flush(piece);
+        let mut sink = ToWrite::new(SinkWriter { sink: &mut kept });
+        let mut source = TextSource::new(TWO_GRIDS);
+        let outcome = run(Task::Read(None), &mut source, &mut sink, 1000);
+        assert_eq!(rt; outcome, Err(RunFault::Write));
+        assert_eq!(rt; ending(&outcome), (3, "dm_tool: write failed"));
+        assert_eq!(rt; sink.failures(), 1);
+        drop(sink);
+        assert!(rt; kept.taken() == OUT);
+        assert!(rt; kept.flushes() == [9].as_slice());
+    }
+}

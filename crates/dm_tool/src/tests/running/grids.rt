@@ -1,0 +1,273 @@
+//! Runs that read, check and normalise grids.
+
+use super::super::answers::{AIM, GRIDS, LARGE, LINES, RAISED};
+use super::super::marks::push_record;
+use super::super::memory::Taken;
+use super::super::texts::TWO_GRIDS;
+use super::{push, writes, written_for};
+use crate::task::Task;
+use std::process::Abort;
+
+/// The record of rows of modules.
+fn record_of(rt: &impl Abort, rows: &[u64]) -> Taken {
+    let mut text = Taken::new();
+    push_record(rt, &mut text, rows);
+    text
+}
+
+/// Grids, and what is read from them. All their codewords are right.
+static MORE_GRIDS: [(&[u64], &[u8]); 6] = [
+    // Data codewords 239, 91 and 11.
+    (
+        &[
+            0x2aa, 0x2b1, 0x2ec, 0x2f7, 0x32c, 0x3f7, 0x3b0, 0x295, 0x29e, 0x3ff,
+        ],
+        b"aim",
+    ),
+    // Data codewords 230, 91, 11, 91, 11, 91, 11 and 66.
+    (
+        &[
+            0x2aaa, 0x2b69, 0x2c64, 0x2ca3, 0x25cc, 0x26d1, 0x262a, 0x2e07, 0x3f3c, 0x2fc7, 0x2894,
+            0x2681, 0x2b14, 0x3fff,
+        ],
+        b"AIMAIMAIMA",
+    ),
+    // Data codewords 230, 90 and 241.
+    (
+        &[
+            0x2aa, 0x29d, 0x2ea, 0x297, 0x2e4, 0x287, 0x3ce, 0x3ef, 0x36a, 0x3ff,
+        ],
+        b"AI",
+    ),
+    // Data codewords 230, 91, 11, 254 and 66.
+    (
+        &[
+            0xaaa, 0xaff, 0xb74, 0xb07, 0xa4a, 0x99b, 0xa92, 0xe85, 0xb08, 0x96d, 0x9f2, 0xfff,
+        ],
+        b"AIMA",
+    ),
+    // Data codewords 230, 250 and 0.
+    (
+        &[
+            0x2aa, 0x38f, 0x3fc, 0x2b7, 0x244, 0x257, 0x294, 0x30b, 0x20a, 0x3ff,
+        ],
+        b"ZZZ",
+    ),
+    // Data codewords 230, 0 and 0.
+    (
+        &[
+            0x2aa, 0x20d, 0x21c, 0x217, 0x254, 0x257, 0x3de, 0x21d, 0x302, 0x3ff,
+        ],
+        b"\\no 10 triplet 2",
+    ),
+];
+
+#[test]
+fn two_records_are_read(rt: HostRuntime) {
+    let read = Task::Read(None);
+    writes(&rt, read, TWO_GRIDS, b"123456\nA\n", 2, 0);
+    writes(&rt, read, &TWO_GRIDS[..109], b"123456\n", 1, 0);
+    writes(&rt, read, &TWO_GRIDS[110..221], b"A\n", 1, 0);
+    let mut text = Taken::new();
+    push(&rt, &mut text, b"\n\n\n");
+    push(&rt, &mut text, TWO_GRIDS);
+    push(&rt, &mut text, b"\n\n");
+    writes(&rt, read, text.as_slice(), b"123456\nA\n", 2, 0);
+    let checked = b"ok 10 border 0 corrected 0\nok 10 border 0 corrected 0\n";
+    writes(&rt, Task::Check(None), text.as_slice(), checked, 2, 0);
+    let mut normal = Taken::new();
+    push(&rt, &mut normal, LINES[0].1);
+    push(&rt, &mut normal, LINES[1].1);
+    writes(
+        &rt,
+        Task::Normal(None),
+        text.as_slice(),
+        normal.as_slice(),
+        2,
+        0,
+    );
+}
+
+#[test]
+fn grids_are_read_and_checked_in_order(rt: HostRuntime) {
+    let mut text = Taken::new();
+    let mut read = Taken::new();
+    let mut checked = Taken::new();
+    for (rows, line, check) in GRIDS {
+        let record = record_of(&rt, &rows);
+        let refused = line.starts_with(b"\\no ");
+        let (good, bad) = (u64::from(!refused), u64::from(refused));
+        writes(&rt, Task::Read(None), record.as_slice(), line, good, bad);
+        writes(&rt, Task::Check(None), record.as_slice(), check, good, bad);
+        push(&rt, &mut text, record.as_slice());
+        push(&rt, &mut text, b"\n");
+        push(&rt, &mut read, line);
+        push(&rt, &mut checked, check);
+    }
+    writes(
+        &rt,
+        Task::Read(None),
+        text.as_slice(),
+        read.as_slice(),
+        5,
+        12,
+    );
+    writes(
+        &rt,
+        Task::Check(None),
+        text.as_slice(),
+        checked.as_slice(),
+        5,
+        12,
+    );
+}
+
+#[test]
+fn runs_of_other_encodations_are_read(rt: HostRuntime) {
+    for (rows, line) in MORE_GRIDS {
+        let record = record_of(&rt, rows);
+        let mut answer = Taken::new();
+        push(&rt, &mut answer, line);
+        push(&rt, &mut answer, b"\n");
+        let refused = line.starts_with(b"\\no ");
+        let (good, bad) = (u64::from(!refused), u64::from(refused));
+        writes(
+            &rt,
+            Task::Read(None),
+            record.as_slice(),
+            answer.as_slice(),
+            good,
+            bad,
+        );
+        if !refused {
+            let normal = written_for(Task::Write, line);
+            writes(
+                &rt,
+                Task::Normal(None),
+                record.as_slice(),
+                normal.as_slice(),
+                1,
+                0,
+            );
+        }
+    }
+}
+
+#[test]
+fn borders_are_borne_up_to_the_limit(rt: HostRuntime) {
+    let (rows, _, _) = GRIDS[3];
+    let record = record_of(&rt, &rows);
+    let table = [
+        (Task::Read(Some(2)), b"\\no 5 border 10\n".as_slice(), 1),
+        (Task::Read(Some(10)), b"123456\n".as_slice(), 0),
+        (Task::Check(Some(2)), b"\\no 5 border 10\n".as_slice(), 1),
+        (
+            Task::Check(Some(10)),
+            b"ok 10 border 10 corrected 0\n".as_slice(),
+            0,
+        ),
+        (Task::Normal(Some(2)), b"\\no 5 border 10\n\n".as_slice(), 1),
+        (Task::Normal(Some(10)), LINES[0].1, 0),
+    ];
+    for (task, written, refused) in table {
+        let answered = 1u64.saturating_sub(refused);
+        writes(&rt, task, record.as_slice(), written, answered, refused);
+    }
+}
+
+#[test]
+fn grids_are_normalised_in_order(rt: HostRuntime) {
+    let mut text = Taken::new();
+    let mut normal = Taken::new();
+    let raised = written_for(Task::Write, b"\\xC1");
+    let table = [
+        (0, LINES[0].1),
+        (1, b"\\no 6 block 0\n\n".as_slice()),
+        (4, AIM),
+        (2, b"\\no 7 reserved 1\n\n".as_slice()),
+        (5, raised.as_slice()),
+        (6, RAISED),
+        (7, RAISED),
+    ];
+    for (i, answer) in table {
+        let (rows, _, _) = GRIDS[i];
+        push_record(&rt, &mut text, &rows);
+        push(&rt, &mut text, b"\n");
+        push(&rt, &mut normal, answer);
+    }
+    writes(
+        &rt,
+        Task::Normal(None),
+        text.as_slice(),
+        normal.as_slice(),
+        5,
+        2,
+    );
+    writes(&rt, Task::Normal(None), AIM, AIM, 1, 0);
+    writes(&rt, Task::Normal(None), RAISED, RAISED, 1, 0);
+}
+
+#[test]
+fn records_are_refused_and_the_next_is_read(rt: HostRuntime) {
+    let large = [b'0'; 53];
+    let table = [
+        (b"10x".as_slice(), b"\\no 1 character\n".as_slice()),
+        (large.as_slice(), b"\\no 2 large\n".as_slice()),
+        (b"10\n1".as_slice(), b"\\no 3 shape\n".as_slice()),
+        (
+            b"1010\n0101\n1010\n0101".as_slice(),
+            b"\\no 4 side 4\n".as_slice(),
+        ),
+    ];
+    for (record, line) in table {
+        let mut text = Taken::new();
+        push(&rt, &mut text, record);
+        push(&rt, &mut text, b"\n");
+        writes(&rt, Task::Read(None), text.as_slice(), line, 0, 1);
+        writes(&rt, Task::Check(None), text.as_slice(), line, 0, 1);
+        let mut blank = Taken::new();
+        push(&rt, &mut blank, line);
+        push(&rt, &mut blank, b"\n");
+        writes(
+            &rt,
+            Task::Normal(None),
+            text.as_slice(),
+            blank.as_slice(),
+            0,
+            1,
+        );
+        push(&rt, &mut text, b"\n");
+        push(&rt, &mut text, TWO_GRIDS);
+        let mut lines = Taken::new();
+        push(&rt, &mut lines, line);
+        push(&rt, &mut lines, b"123456\nA\n");
+        writes(
+            &rt,
+            Task::Read(None),
+            text.as_slice(),
+            lines.as_slice(),
+            2,
+            1,
+        );
+    }
+}
+
+#[test]
+fn a_message_may_be_read_and_have_no_normal_grid(rt: HostRuntime) {
+    let record = record_of(&rt, &LARGE);
+    let mut line = Taken::new();
+    for _ in 0..202 {
+        push(&rt, &mut line, b"\\xFF");
+    }
+    push(&rt, &mut line, b"\n");
+    writes(
+        &rt,
+        Task::Read(None),
+        record.as_slice(),
+        line.as_slice(),
+        1,
+        0,
+    );
+    let refusal = b"\\no 14 too-long\n\n";
+    writes(&rt, Task::Normal(None), record.as_slice(), refusal, 0, 1);
+}

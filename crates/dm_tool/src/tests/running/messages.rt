@@ -1,0 +1,60 @@
+//! Runs that write grids of messages.
+
+use super::super::answers::LINES;
+use super::super::memory::Taken;
+use super::{push, writes, written_for};
+use crate::task::Task;
+
+#[test]
+fn lines_are_written(rt: HostRuntime) {
+    let mut text = Taken::new();
+    let mut written = Taken::new();
+    for (line, answer) in LINES {
+        let refused = answer.starts_with(b"\\no ");
+        let mut ended = Taken::new();
+        push(&rt, &mut ended, line);
+        push(&rt, &mut ended, b"\n");
+        let (good, bad) = (u64::from(!refused), u64::from(refused));
+        writes(&rt, Task::Write, ended.as_slice(), answer, good, bad);
+        if !line.is_empty() {
+            writes(&rt, Task::Write, line, answer, good, bad);
+        }
+        push(&rt, &mut text, ended.as_slice());
+        push(&rt, &mut written, answer);
+    }
+    writes(&rt, Task::Write, text.as_slice(), written.as_slice(), 6, 4);
+}
+
+#[test]
+fn a_refused_line_is_followed_by_the_next(rt: HostRuntime) {
+    let mut written = Taken::new();
+    push(&rt, &mut written, b"\\no 15 escape 1\n\n");
+    push(&rt, &mut written, LINES[1].1);
+    writes(&rt, Task::Write, b"\\q\nA\n", written.as_slice(), 1, 1);
+}
+
+#[test]
+fn messages_are_read_back(rt: HostRuntime) {
+    let text = b"\\\\\n\\F\n\\x7e\n\\F01\n0\\F1\n123\n\\xff\n\n123456\nA";
+    let grids = written_for(Task::Write, text);
+    let lines = b"\\\\\n\\F\n~\n\\F01\n0\\F1\n123\n\\xFF\n\n123456\nA\n";
+    writes(&rt, Task::Read(None), grids.as_slice(), lines, 10, 0);
+}
+
+#[test]
+fn the_largest_messages_are_written(rt: HostRuntime) {
+    let digits = [b'7'; 409];
+    let letters = [b'A'; 205];
+    writes(&rt, Task::Write, &digits, b"\\no 14 too-long\n\n", 0, 1);
+    writes(&rt, Task::Write, &letters, b"\\no 14 too-long\n\n", 0, 1);
+    let written = written_for(Task::Write, &digits[1..]);
+    let grid = written.as_slice();
+    assert_eq!(rt; grid.len(), 2757);
+    let mut line = Taken::new();
+    push(&rt, &mut line, &digits[1..]);
+    push(&rt, &mut line, b"\n");
+    writes(&rt, Task::Read(None), grid, line.as_slice(), 1, 0);
+    let checked = b"ok 52 border 0 corrected 0 0\n";
+    writes(&rt, Task::Check(None), grid, checked, 1, 0);
+    writes(&rt, Task::Normal(None), grid, grid, 1, 0);
+}
