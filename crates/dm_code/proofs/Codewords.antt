@@ -33,7 +33,7 @@ one_root_more k w (a ∷ p) hk l hl b e z =
     let v : value g r ⊗ value (a ∷ p) r ≡ 0 =
     product_comm (value g r) (value (a ∷ p) r) ∙ sym (value_times r (a ∷ p) g (omega arith)) ∙ sym (ap (λ t. value t r) e) ∙ z in
     let y : value (a ∷ p) r ≡ 0 =
-    product_cancel (value g r) (value (a ∷ p) r) (generator_positive k (suc k) (le_refl (suc k)) hk) (value_below g r) (value_below (a ∷ p) r) v in (
+    product_cancel (value g r) (value (a ∷ p) r) (generator_positive k (suc k) (le_refl (suc k)) (omega arith)) (value_below g r) (value_below (a ∷ p) r) v in (
       quotient r a p,
       bytes_quotient r a p b,
       e ∙ ap (λ t. times t g) (sym (root_divides r a p b y))

@@ -57,6 +57,7 @@ pub fn step(terms: &mut [u8])
 pub fn error_value(locator: &[u8], evaluator: &[u8], at: Gf) -> Gf
     ensures byte { result.0 < 256 }
     ensures value { 0 < at.0 ⊗ value (quotient at.0 0 locator.now) at.0 → (at.0 ⊗ value (quotient at.0 0 locator.now) at.0) ⊗ result.0 ≡ value (values_from (coefficient evaluator.now) 0 (length locator.now - 1)) at.0 }
+    ensures double { at.0 ⊗ value (quotient at.0 0 locator.now) at.0 ≡ 0 → result.0 ≡ 0 }
 {
     let mut rest = Gf(0);
     let mut quotient = Gf(0);

@@ -1,5 +1,5 @@
 -- The square sizes of ECC 200, as one table: ISO/IEC 16022, symbol sizes and capacities.
-use Rattle.std.specs.Prelude.{◌≡◌, ℕ, ◌+◌, ◌/◌, List, [], ◌∷◌, nat_eq, nat_le, Option, Some, find}
+use Rattle.std.specs.Prelude.{◌≡◌, ℕ, ◌+◌, ◌/◌, ◌≤◌, List, [], ◌∷◌, nat_eq, nat_le, Option, Some, find, All, Any}
 
 -- a row of the table
 pub record SizeRow : Type 0 where
@@ -101,3 +101,10 @@ block_check row = row.check_count / row.blocks
 -- how many codewords a block has
 abbrev pub block_length : SizeRow → ℕ
 block_length row = codeword_count row / row.blocks
+
+-- ---- laws
+
+-- the number is the greatest of a column: some row of the table has it, and none has more
+pub record IsGreatest (column : SizeRow → ℕ) (number : ℕ) : Type 0 where
+  pub met : Any (λ row. column row ≡ number) size_table
+  pub most : All (λ row. column row ≤ number) size_table

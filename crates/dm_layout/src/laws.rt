@@ -1,4 +1,5 @@
-//! Facts about the definitions alone.
+//! Laws of the definitions in `specs/`. Each function has an empty body: its contract is the law.
 
 pub mod blocks;
 pub mod placement;
+pub mod sizes;

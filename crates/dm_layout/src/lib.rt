@@ -1,4 +1,9 @@
 //! Sizes, borders and placement of the square Data Matrix symbols (ISO/IEC 16022, ECC 200).
+//!
+//! A [`Grid`] is a square of dark and light cells of a [`Size`]; [`Words`] are the codewords of a symbol. [`lay()`] gives the one
+//! grid that holds codewords, [`lift()`] the codewords that a grid holds, [`border_faults()`] how many border cells have the wrong
+//! colour, and [`block()`] and [`put_block()`] are about the Reed-Solomon blocks. What the contracts say is defined in `specs/`;
+//! [`laws`] has what holds of the definitions. No call takes memory.
 #![tactic(auto)]
 
 mod blocks;

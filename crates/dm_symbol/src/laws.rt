@@ -1,4 +1,4 @@
-//! Laws of the definitions. No function here has a body or makes a call.
+//! Laws of the definitions in `specs/`. Each function has an empty body: its contract is the law.
 
 ghost use Rattle.dm_symbol.specs.Laws.{NormalGridsTellMessages, OneMessageIsRead, OneAnswerIsGiven, OneNormalAnswerIsGiven, NormalGridIsRead, TurnedCellsAreRead, NormalTwiceIsOnce, EqualNormalGridsMeanEqualMessages};
 

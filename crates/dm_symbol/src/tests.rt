@@ -347,7 +347,7 @@ fn corrects_both_blocks(rt: HostRuntime) {
 /// Marks printed by other encoders: the check codewords of each are those of its data codewords.
 #[test]
 fn completes_as_other_encoders(rt: HostRuntime) {
-    for (side, cells) in marks::marks() {
+    for (side, cells) in marks::MARKS {
         let grid = drawn(&rt, side, cells);
         let words = lift(&grid);
         let again = completed_grid(&rt, side, words.data_part());

@@ -1,6 +1,6 @@
 //! Writing: the normal grid of a message.
 
-ghost use Rattle.std.specs.Prelude.{◌≡◌, ◌≢◌, ◌++◌, ◌<◌, ◌↔◌, ℕ, length, take, IfOk, IsErr, IsOk, OnErr};
+ghost use Rattle.std.specs.Prelude.{◌≡◌, ◌≢◌, ◌++◌, ◌<◌, ◌↔◌, ℕ, length, take, drop, replicate, IfOk, IsErr, IsOk, OnErr};
 ghost use Rattle.dm_code.specs.Codeword.{IsCodeword};
 ghost use Rattle.dm_layout.specs.Sizes.{codeword_count, block_check};
 ghost use Rattle.dm_layout.specs.Grid.{GridView};
@@ -50,6 +50,7 @@ fn with_room(data_words: &[u8], size: Size) -> ArrayVec<u8, MOST_CODEWORDS>
     requires { length data_words.now ≡ size.data_count }
     ensures count { length result.items ≡ codeword_count size }
     ensures front { take size.data_count result.items ≡ data_words.now }
+    ensures room { drop size.data_count result.items ≡ replicate size.check_count 0 }
 {
     let count = usize::from(size.data_count() + size.check_count());
     let mut list = ArrayVec::new();

@@ -3,6 +3,9 @@
 //! A text of grids comes as records of lines of 0 and 1, a text of messages as lines. [`run`] answers each record or line; the
 //! feeds [`GridFeed`] and [`LineFeed`] cut texts that come in pieces. What the contracts say is defined in `specs/`: `Runs` and
 //! `Answers` for what is written, `Records` and `MessageLines` for what is read.
+//!
+//! The program takes its task from the command line ([`task_of`]), does it over the standard streams and ends by what came of it
+//! ([`ending`]). Only the command line and the input's buffer take memory.
 #![tactic(auto)]
 
 mod answer;

@@ -1,9 +1,9 @@
 //! Worked answers: lines and records, and what the standard's rules make of them.
 
-mod answers;
 mod command_line;
 mod devices;
 mod marks;
 mod memory;
 mod running;
 mod texts;
+mod worked;

@@ -1,6 +1,7 @@
-//! Laws about the definitions alone. No function here has a body or makes a call.
+//! Laws of the definitions in `specs/`, and of the limits. Each function has an empty body: its contract is the law.
 
-ghost use Rattle.std.specs.Prelude.{◌≡◌, ℕ, ◌≤◌, ◌↔◌, List, length};
+ghost use Rattle.std.specs.Prelude.{◌≡◌, ℕ, ◌*◌, ◌≤◌, ◌↔◌, List, length};
+ghost use Rattle.dm_layout.specs.Sizes.{most_data};
 ghost use Rattle.dm_words.specs.declared.item.Item.{Item};
 ghost use Rattle.dm_words.specs.declared.c40.set.CodeSet.{CodeSet};
 ghost use Rattle.dm_words.specs.declared.c40.set.Shift.{Shift};
@@ -13,6 +14,8 @@ ghost use Rattle.dm_words.specs.Pads.{padded};
 ghost use Rattle.dm_words.specs.Values.{IsRest};
 ghost use Rattle.dm_words.specs.Spells.{Spells};
 ghost use Rattle.dm_words.specs.Laws.{HasOneAnswer, AreCodewords, AreRunValues, BeginsNoSpelling};
+
+use crate::limits::{MOST_DATA, MOST_ITEMS};
 
 /// A list of codewords, however long, spells exactly one message and is refused with no fault, or is refused with exactly one
 /// fault and spells none.
@@ -49,4 +52,10 @@ pub fn tables_are_sound()
     ensures codewords { IsTable codeword_rows }
     ensures basic { (set : CodeSet) → IsTable (basic_rows set) }
     ensures shifted { (set : CodeSet) (shift : Shift) → IsTable (shifted_rows set shift) }
+{}
+
+/// As many data codewords are read and written as the table of sizes has at the most, and a message has two items for each.
+pub fn limits_are_those_of_the_table()
+    ensures data { MOST_DATA ≡ most_data }
+    ensures items { MOST_ITEMS ≡ 2 * most_data }
 {}

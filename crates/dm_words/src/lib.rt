@@ -1,5 +1,8 @@
 //! Data codewords and messages of Data Matrix ECC 200 (ISO/IEC 16022): which message a list of data codewords spells, in the
 //! encodations ASCII, C40, Text, X12 and Base 256, why other lists are refused, and the ASCII codewords of a message.
+//!
+//! [`message_of()`] reads a list, [`ascii_words()`] writes a [`Message`] of [`Item`]s, and [`padded()`] fills a symbol up. What
+//! the contracts say is defined in `specs/`; [`laws`] has what holds of the definitions. No call takes memory.
 #![tactic(auto)]
 
 mod ascii;

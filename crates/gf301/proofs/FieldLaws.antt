@@ -315,8 +315,8 @@ power_one i l h e =
     let n : eqb (power i) 1 ≡ false = not-true (eqb (power i) 1) (subst (λ x. not (eqb (power x) 1) ≡ true) s t) in
     eqb-false (power i) 1 n e
 
--- Powers of 2 with different exponents below 255 differ.
-pub power_apart : (i j : ℕ) → i < j → j < 255 → power i ≡ power j → ⊥
+-- Powers of 2 whose exponents differ by less than 255 differ.
+pub power_apart : (i j : ℕ) → i < j → j < i + 255 → power i ≡ power j → ⊥
 power_apart i j h l e =
     let d : i + (j - i) ≡ j = omega arith in
     let p : power i ⊗ (power (j - i) ⊕ 1) ≡ 0 =
@@ -332,4 +332,4 @@ power_apart i j h l e =
 -- Below 255 the power of 2 tells its exponent.
 pub power_injective : (i j : ℕ) → i < 255 → j < 255 → power i ≡ power j → i ≡ j
 power_injective i j hi hj e =
-    elim (cases_order i j) [ inl s ↦ s | inr r ↦ elim r [ inl l ↦ absurd (power_apart i j l hj e) | inr g ↦ absurd (power_apart j i g hi (sym e)) ] ]
+    elim (cases_order i j) [ inl s ↦ s | inr r ↦ elim r [ inl l ↦ absurd (power_apart i j l (omega arith) e) | inr g ↦ absurd (power_apart j i g (omega arith) (sym e)) ] ]

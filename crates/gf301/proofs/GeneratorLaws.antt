@@ -1,5 +1,5 @@
 -- The generator polynomials: their lengths, values and roots.
-use Rattle.std.proofs.Common.{◌≡◌, ℕ, zero, suc, ◌+◌, ◌<◌, List, [], ◌∷◌, length, refl, sym, ap, subst, ◌∙◌, arith, inl, inr}
+use Rattle.std.proofs.Common.{◌≡◌, ℕ, zero, suc, ◌+◌, ◌<◌, ◌≤◌, List, [], ◌∷◌, length, refl, sym, ap, subst, ◌∙◌, arith, inl, inr}
 use lib.Bits.{xor_self, xor_zero_r}
 use Rattle.std.proofs.Math.Nat.{pos_of_ne-zero}
 use Rattle.std.proofs.lemmas.Bool.{cases_order}
@@ -49,12 +49,12 @@ pub value_one : (x : ℕ) → value (generator 0) x ≡ 1
 unfolding generator value raise
 value_one x = xor_zero_r (1 ⊗ 1) ∙ product_one_left 1 (omega arith)
 
--- No other power of 2 from 2^(k + 1) to 2^254 is a root.
-pub generator_positive : (k j : ℕ) → k < j → j < 255 → 0 < value (generator k) (power j)
+-- No other power of 2 is a root: none from 2^(k + 1) to 2^255, which is 2^0.
+pub generator_positive : (k j : ℕ) → k < j → j ≤ 255 → 0 < value (generator k) (power j)
 generator_positive zero j h l = subst (λ y. 0 < y) (sym (value_one (power j))) (omega arith)
 generator_positive (suc k) j h l =
     let d : 0 < power j ⊕ power (suc k) =
-    pos_of_ne-zero (λ z. power_apart (suc k) j h l (sym (sum_zero (power j) (power (suc k)) z))) in
+    pos_of_ne-zero (λ z. power_apart (suc k) j h (omega arith) (sym (sum_zero (power j) (power (suc k)) z))) in
     subst (λ y. 0 < y) (sym (generator_step k (power j) (raise_below 2 j)))
     (product_positive (power j ⊕ power (suc k)) (value (generator k) (power j)) d (sum_below (power j) (power (suc k)) (raise_below 2 j) (raise_below 2 (suc k)))
     (generator_positive k j (omega arith) l) (value_below (generator k) (power j)))

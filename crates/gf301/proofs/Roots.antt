@@ -56,7 +56,7 @@ kept_roots r b a p zero j y e h l z = omega arith
 kept_roots r b a p (suc n) j y e h l z =
     step_le (value (b ∷ a ∷ p) (power n)) (value (quotient r b (a ∷ p)) (power n)) (roots (b ∷ a ∷ p) n) (roots (quotient r b (a ∷ p)) n)
     (λ q. product_cancel (power n ⊕ r) (value (quotient r b (a ∷ p)) (power n))
-    (pos_of_ne-zero (λ w. power_apart n j (omega arith) l (sum_zero (power n) r w ∙ e)))
+    (pos_of_ne-zero (λ w. power_apart n j (omega arith) (omega arith) (sum_zero (power n) r w ∙ e)))
     (sum_below (power n) r (raise_below 2 n) (subst (λ x. x < 256) (sym e) (raise_below 2 j))) (value_below (quotient r b (a ∷ p)) (power n))
     (product_comm (power n ⊕ r) (value (quotient r b (a ∷ p)) (power n)) ∙ ap (λ x. value (quotient r b (a ∷ p)) (power n) ⊗ x) (sym (factor_value r (power n) (subst (λ x. x < 256) (sym e) (raise_below 2 j)) (raise_below 2 n)))
     ∙ sym (value_times (power n) (quotient r b (a ∷ p)) (1 ∷ r ∷ []) (omega arith)) ∙ ap (λ t. value t (power n)) (root_divides r b (a ∷ p) y z) ∙ q))

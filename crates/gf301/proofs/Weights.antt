@@ -179,7 +179,7 @@ head_zero a e s h z w =
 without_positive : (n : ℕ) → n < 255 → (j : ℕ) → j < n → (0 < without n (power j)) × (without n (power j) < 256)
 unfolding without
 without_positive n h j l =
-    (pos_of_ne-zero (λ z. power_apart j n l h (sum_zero (power j) (power n) z)), sum_below (power j) (power n) (raise_below 2 j) (raise_below 2 n))
+    (pos_of_ne-zero (λ z. power_apart j n l (omega arith) (sum_zero (power j) (power n) z)), sum_below (power j) (power n) (raise_below 2 j) (raise_below 2 n))
 
 -- ---- The law of distance: few places that are not 0, and as many sums of consecutive powers that are 0
 pub distance : (n : ℕ) (e : List ℕ) (m s : ℕ) → length e ≡ n → n ≤ 255 → Bytes e → nonzeros e ≤ m

@@ -61,12 +61,12 @@ pub fn roots_are_few()
     ensures { (p roots : List ℕ) → Bytes p → Bytes roots → AllPairs (λ r s. r ≢ s) roots → All (λ r. value p r ≡ 0) roots → length p ≤ length roots → All (λ a. a ≡ 0) p }
 {}
 
-/// The generator for k check codewords has k + 1 coefficients, of which the first is 1, and among the powers of 2 its
-/// roots are those with exponents of 1 to k.
+/// The generator for k check codewords has k + 1 coefficients, of which the first is 1, and among the powers of 2, whose
+/// exponents are 1 to 255, its roots are those with exponents of 1 to k.
 pub fn generator_laws()
     ensures length { (k : ℕ) → length (generator k) ≡ k + 1 }
     ensures first { (k : ℕ) → coefficient (generator k) 0 ≡ 1 }
     ensures bytes { (k : ℕ) → Bytes (generator k) }
     ensures roots { (k i : ℕ) → 1 ≤ i → i ≤ k → value (generator k) (power i) ≡ 0 }
-    ensures no_other { (k i : ℕ) → k < i → i < 255 → 0 < value (generator k) (power i) }
+    ensures no_other { (k i : ℕ) → k < i → i ≤ 255 → 0 < value (generator k) (power i) }
 {}

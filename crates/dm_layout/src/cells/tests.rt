@@ -17,71 +17,73 @@ fn assert_lowest_bits(rt: &impl Abort, size: Size, expected: &[(u16, u16)]) {
     assert!(rt; left.next().is_none());
 }
 
+/// The cells of the lowest bits in the mapping square of side 8, by codeword.
+static ANCHORS_OF_8: [(u16, u16); 8] = [
+    (4, 0),
+    (2, 2),
+    (0, 4),
+    (1, 7),
+    (3, 5),
+    (5, 3),
+    (7, 1),
+    (6, 6),
+];
+
+/// Those of side 12: corner 1 comes before the anchors of sum 12.
+static ANCHORS_OF_12: [(u16, u16); 18] = [
+    (4, 0),
+    (2, 2),
+    (0, 4),
+    (1, 7),
+    (3, 5),
+    (5, 3),
+    (7, 1),
+    (3, 11),
+    (10, 2),
+    (8, 4),
+    (6, 6),
+    (4, 8),
+    (2, 10),
+    (5, 11),
+    (7, 9),
+    (9, 7),
+    (11, 5),
+    (10, 10),
+];
+
+/// Those of side 14: corner 2 comes before the anchors of sum 12, and (12, 0) and (0, 12) are absent.
+static ANCHORS_OF_14: [(u16, u16); 24] = [
+    (4, 0),
+    (2, 2),
+    (0, 4),
+    (1, 7),
+    (3, 5),
+    (5, 3),
+    (7, 1),
+    (1, 13),
+    (10, 2),
+    (8, 4),
+    (6, 6),
+    (4, 8),
+    (2, 10),
+    (3, 13),
+    (5, 11),
+    (7, 9),
+    (9, 7),
+    (11, 5),
+    (13, 3),
+    (12, 8),
+    (10, 10),
+    (8, 12),
+    (11, 13),
+    (13, 11),
+];
+
 #[test]
 fn anchors(rt: HostRuntime) -> Result<(), Fail> {
-    let of_8 = [
-        (4, 0),
-        (2, 2),
-        (0, 4),
-        (1, 7),
-        (3, 5),
-        (5, 3),
-        (7, 1),
-        (6, 6),
-    ];
-    assert_lowest_bits(&rt, Size::of_side(10).ok_or("no size")?, &of_8);
-
-    // Corner 1 comes before the anchors of sum 12.
-    let of_12 = [
-        (4, 0),
-        (2, 2),
-        (0, 4),
-        (1, 7),
-        (3, 5),
-        (5, 3),
-        (7, 1),
-        (3, 11),
-        (10, 2),
-        (8, 4),
-        (6, 6),
-        (4, 8),
-        (2, 10),
-        (5, 11),
-        (7, 9),
-        (9, 7),
-        (11, 5),
-        (10, 10),
-    ];
-    assert_lowest_bits(&rt, Size::of_side(14).ok_or("no size")?, &of_12);
-
-    // Corner 2 comes before the anchors of sum 12, and (12, 0) and (0, 12) are absent.
-    let of_14 = [
-        (4, 0),
-        (2, 2),
-        (0, 4),
-        (1, 7),
-        (3, 5),
-        (5, 3),
-        (7, 1),
-        (1, 13),
-        (10, 2),
-        (8, 4),
-        (6, 6),
-        (4, 8),
-        (2, 10),
-        (3, 13),
-        (5, 11),
-        (7, 9),
-        (9, 7),
-        (11, 5),
-        (13, 3),
-        (12, 8),
-        (10, 10),
-        (8, 12),
-        (11, 13),
-        (13, 11),
-    ];
-    assert_lowest_bits(&rt, Size::of_side(16).ok_or("no size")?, &of_14);
+    assert_lowest_bits(&rt, Size::of_side(10).ok_or("no size")?, &ANCHORS_OF_8);
+    assert_lowest_bits(&rt, Size::of_side(14).ok_or("no size")?, &ANCHORS_OF_12);
+    assert_lowest_bits(&rt, Size::of_side(16).ok_or("no size")?, &ANCHORS_OF_14);
     Ok(())
 }
 

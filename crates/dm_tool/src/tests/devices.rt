@@ -6,7 +6,7 @@ use crate::source::{FromRead, Source};
 use std::cell::Cell;
 use std::io::{self, ErrorKind, Read, Write};
 
-/// Gives one byte 65 a call, but is interrupted at each second call.
+/// Gives one byte 65 a call, or takes one byte, but is interrupted at each second call.
 #[derive(Drop)]
 struct Interrupted<'a> {
     calls: &'a Cell<u32>,
@@ -26,6 +26,21 @@ impl<'a> Read for Interrupted<'a> {
             }
             None => Ok(0),
         }
+    }
+}
+
+impl<'a> Write for Interrupted<'a> {
+    fn write(&mut self, buf: &[u8]) -> io::Result<usize> {
+        let calls = self.calls.get().saturating_add(1);
+        self.calls.set(calls);
+        if calls % 2 == 0 {
+            return Err(io::Error::from(ErrorKind::Interrupted));
+        }
+        Ok(buf.len().min(1))
+    }
+
+    fn flush(&mut self) -> io::Result<()> {
+        Ok(())
     }
 }
 
@@ -76,6 +91,18 @@ fn an_empty_read_goes_to_the_device(rt: HostRuntime) {
     assert_eq!(rt; (source.failures(), calls.get()), (0, 1));
     assert_eq!(rt; source.read(&mut []), Err(Failed));
     assert_eq!(rt; (source.failures(), calls.get()), (1, 2));
+}
+
+#[test]
+fn an_interrupted_write_is_a_failure(rt: HostRuntime) {
+    let calls = Cell::new(0);
+    let mut sink = ToWrite::new(Interrupted { calls: &calls });
+    for turn in 1..4u32 {
+        assert_eq!(rt; sink.write(b"ab"), Ok(1));
+        assert_eq!(rt; sink.write(b"ab"), Err(Failed));
+        assert_eq!(rt; sink.failures(), u64::from(turn));
+        assert_eq!(rt; calls.get(), turn.saturating_mul(2));
+    }
 }
 
 #[test]

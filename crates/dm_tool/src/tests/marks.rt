@@ -24,7 +24,7 @@ pub struct Mark {
 }
 
 /// The modules of a mark, row by row.
-pub(super) fn modules(rows: &[u64]) -> ArrayVec<bool, 2704> {
+fn modules(rows: &[u64]) -> ArrayVec<bool, 2704> {
     let mut cells = ArrayVec::new();
     for row in rows {
         for column in (0..rows.len()).rev() {

@@ -53,5 +53,14 @@ returns-clause-value c n =
     ∙ quotient_of c.mul-divisor.result.0 v c.inverse.result.0 b c.inverse.ensures.product ∙ c.first_value.ensures
     ∙ ap (λ n. value (values_from (coefficient c.args.evaluator.now) 0 n) x) c.saturating_sub.ensures
 
+pub returns-clause-double : goal.returns-clause-double
+returns-clause-double c n =
+    let l = c.args.locator.now in
+    let x = c.args.at.0 in
+    let i = c.loop-a.a-index in
+    let h : length l ≤ i = omega arith in
+    let d : value (quotient x 0 l) x ≡ c.loop-a.quotient.0 = divisor_end l i x c.loop-a.rest.0 c.loop-a.quotient.0 h c.loop-a.invariant.quotient_byte c.loop-a.invariant.divisor in
+    absurd (c.if-divisor-eq0.false (c.mul-divisor.ensures ∙ ap (λ y. x ⊗ y) (sym d) ∙ n))
+
 pub returns-clause-byte : goal.returns-clause-byte
 returns-clause-byte c = subst (λ z. z < 256) (sym c.mul-2.ensures) (product_below c.first_value.result.0 c.inverse.result.0)

@@ -1,8 +1,8 @@
 //! Runs over devices that fail, and over more input than is to be read.
 
-use super::super::answers::{AIM, LINES};
 use super::super::memory::{MemorySink, Taken, TextSource};
 use super::super::texts::TWO_GRIDS;
+use super::super::worked::{AIM, LINES};
 use super::{SIZES, push};
 use crate::ending::ending;
 use crate::running::run;

@@ -1,9 +1,9 @@
 //! Runs that read, check and normalise grids.
 
-use super::super::answers::{AIM, GRIDS, LARGE, LINES, RAISED};
 use super::super::marks::push_record;
 use super::super::memory::Taken;
 use super::super::texts::TWO_GRIDS;
+use super::super::worked::{AIM, GRIDS, LARGE, LINES, RAISED};
 use super::{push, writes, written_for};
 use crate::task::Task;
 use std::process::Abort;

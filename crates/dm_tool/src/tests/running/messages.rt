@@ -1,7 +1,7 @@
 //! Runs that write grids of messages.
 
-use super::super::answers::LINES;
 use super::super::memory::Taken;
+use super::super::worked::LINES;
 use super::{push, writes, written_for};
 use crate::task::Task;
 
