@@ -71,7 +71,7 @@ impl<'a> Source for TextSource<'a> {
     }
 }
 
-/// Keeps what it takes, and how much it had taken at each flush.
+/// Keeps what it takes, and how much it had taken at each flush. A write of no byte fails: no run needs one.
 #[derive(Drop)]
 pub(super) struct MemorySink {
     taken: Taken,
@@ -128,9 +128,6 @@ impl Sink for MemorySink {
     ghost is_pending = { λ s. s.pending };
 
     fn write(&mut self, bytes: &[u8]) -> Result<usize, Failed> {
-        if bytes.is_empty() {
-            return Ok(0);
-        }
         let room = self.room.saturating_sub(self.taken.len());
         let count = self.piece.min(room).min(bytes.len());
         if count == 0 || self.taken.try_extend_from_slice(&bytes[..count]).is_err() {
