@@ -2,9 +2,12 @@ pub mod Codewords
 pub mod Distance
 pub mod Register
 pub mod SyndromeLaws
+pub mod SyndromeLanes
 pub mod Bytes
 pub mod Degrees
 pub mod Connections
+pub mod BerlekampMassey
+pub mod Counts
 pub mod First
 pub mod Multiples
 pub mod LinearLaws
@@ -17,3 +20,6 @@ pub mod ErrorValues
 pub mod Nearness
 pub mod Corrections
 pub mod CleanWords
+pub mod Choices
+pub mod NearOrNone
+pub mod Checks

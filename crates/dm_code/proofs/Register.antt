@@ -15,14 +15,14 @@ use Rattle.dm_code.specs.Codeword.{IsCodeword}
 use Rattle.dm_code.proofs.Codewords.{codeword_from_values}
 
 -- A 0 at the end changes no number of a list.
-get_or-push_zero : (p : List ℕ) (i : ℕ) → get_or (p ++ 0 ∷ []) i 0 ≡ get_or p i 0
+pub get_or-push_zero : (p : List ℕ) (i : ℕ) → get_or (p ++ 0 ∷ []) i 0 ≡ get_or p i 0
 get_or-push_zero [] zero = refl
 get_or-push_zero [] (suc i) = refl
 get_or-push_zero (a ∷ p) zero = refl
 get_or-push_zero (a ∷ p) (suc i) = get_or-push_zero p i
 
 -- A multiple of a polynomial has the multiples of its coefficients.
-get_or-scaled : (a : ℕ) (p : List ℕ) (i : ℕ) → get_or (scale a p) i 0 ≡ a ⊗ get_or p i 0
+pub get_or-scaled : (a : ℕ) (p : List ℕ) (i : ℕ) → get_or (scale a p) i 0 ≡ a ⊗ get_or p i 0
 unfolding scale
 get_or-scaled a [] i = sym (product_zero_right a)
 get_or-scaled a (b ∷ p) zero = refl
@@ -115,7 +115,7 @@ bytes_from [] h = λ k d l. absurd (omega arith)
 bytes_from (a ∷ p) h = bytes_cons a p (h 0) (bytes_from p (λ i. h (suc i)))
 
 -- Lists of bytes joined are one.
-bytes_append : (p r : List ℕ) → Bytes p → Bytes r → Bytes (p ++ r)
+pub bytes_append : (p r : List ℕ) → Bytes p → Bytes r → Bytes (p ++ r)
 bytes_append [] r hp hr = hr
 bytes_append (a ∷ p) r hp hr = bytes_cons a (p ++ r) (bytes_head a p hp) (bytes_append p r (bytes_tail a p hp) hr)
 

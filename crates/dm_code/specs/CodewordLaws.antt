@@ -1,5 +1,5 @@
 -- What holds of the codewords of one Reed-Solomon block: how far apart they are, and which words they are.
-use Rattle.std.specs.Prelude.{◌≡◌, ◌≢◌, ◌↔◌, ℕ, ◌+◌, ◌<◌, ◌≤◌, List, ◌++◌, length, replicate}
+use Rattle.std.specs.Prelude.{◌≡◌, ◌≢◌, ◌⊎◌, ◌↔◌, ℕ, ◌+◌, ◌<◌, ◌≤◌, List, ◌++◌, length, replicate}
 use Rattle.gf301.specs.Polynomial.{Bytes}
 use Rattle.dm_code.specs.Codeword.{IsCodeword, IsNear, distance}
 use Rattle.dm_code.specs.Syndromes.{syndromes_of}
@@ -16,9 +16,19 @@ CloseCodewordsAreOne = (k : ℕ) (c d : List ℕ) → IsCodeword k c → IsCodew
 abbrev pub NearCodewordIsOne : Type 0
 NearCodewordIsOne = (k : ℕ) (w c d : List ℕ) → length w ≤ 255 → IsNear k w c → IsNear k w d → c ≡ d
 
+-- Some codeword is near a word of more than k and at most 255 numbers, or none is.
+abbrev pub NearCodewordIsThereOrNot : Type 0
+NearCodewordIsThereOrNot =
+    (k : ℕ) (w : List ℕ) → k < length w → length w ≤ 255 → ((c : List ℕ) × IsNear k w c) ⊎ ((c : List ℕ) → IsNear k w c → ⊥)
+
 -- The data codewords, all numbers but the last k, determine a codeword of k checks.
 abbrev pub FrontDeterminesChecks : Type 0
 FrontDeterminesChecks = (k : ℕ) (front c d : List ℕ) → IsCodeword k (front ++ c) → IsCodeword k (front ++ d) → length c ≡ k → length d ≡ k → length front + k ≤ 255 → c ≡ d
+
+-- Some k check codewords complete at most 255 - k data codewords to a codeword.
+abbrev pub ChecksAreThere : Type 0
+ChecksAreThere =
+    (k : ℕ) (front : List ℕ) → Bytes front → k < 255 → length front + k ≤ 255 → (c : List ℕ) × (length c ≡ k) × IsCodeword k (front ++ c)
 
 -- The numbers of a codeword are bytes.
 abbrev pub CodewordsAreBytes : Type 0

@@ -2,7 +2,7 @@
 
 ghost use Rattle.std.specs.Prelude.{◌+◌, ◌<◌, ◌≤◌, length};
 
-use super::{Elimination, KeySolver, correct, encode};
+use super::{Elimination, correct, encode};
 
 /// A block of the symbol of side 10, with five check codewords.
 pub const WORD: [u8; 8] = [142, 164, 186, 114, 25, 5, 88, 102];
@@ -82,24 +82,4 @@ fn every_block_to_its_limit(rt: HostRuntime) {
             );
         }
     }
-}
-
-#[test]
-fn keys(rt: HostRuntime) {
-    match Elimination.solve(&[0; 68], 34) {
-        Some(key) => {
-            assert_eq!(rt; key.locator.as_slice(), [1].as_slice());
-            assert!(rt; key.evaluator.is_empty());
-        }
-        None => assert!(rt; false),
-    }
-    // an error of value 3 at the place with the locator 2: the syndromes are 3 * 2, 3 * 4, 3 * 8, 3 * 16
-    match Elimination.solve(&[6, 12, 24, 48], 2) {
-        Some(key) => {
-            assert_eq!(rt; key.locator.as_slice(), [1, 2].as_slice());
-            assert_eq!(rt; key.evaluator.as_slice(), [6].as_slice());
-        }
-        None => assert!(rt; false),
-    }
-    assert!(rt; Elimination.solve(&[0, 0, 0, 1], 2).is_none());
 }

@@ -84,7 +84,7 @@ fn first_value(list: &[u8], count: usize, at: Gf) -> Gf
 }
 
 /// The coefficient at place `i`, which is 0 past the end of the list.
-fn coefficient_at(list: &[u8], i: usize) -> Gf
+pub fn coefficient_at(list: &[u8], i: usize) -> Gf
     ensures { result.0 ≡ coefficient list.now i }
 {
     match list.get(i) {

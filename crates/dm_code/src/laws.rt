@@ -1,6 +1,6 @@
 //! Laws of the definitions: facts about codewords and the key equation alone, whatever code writes or reads them.
 
-ghost use Rattle.dm_code.specs.CodewordLaws.{CodewordsLieApart, CloseCodewordsAreOne, NearCodewordIsOne, FrontDeterminesChecks, CodewordsAreBytes, CodewordsHaveNoSyndromes};
+ghost use Rattle.dm_code.specs.CodewordLaws.{CodewordsLieApart, CloseCodewordsAreOne, NearCodewordIsOne, NearCodewordIsThereOrNot, FrontDeterminesChecks, ChecksAreThere, CodewordsAreBytes, CodewordsHaveNoSyndromes};
 ghost use Rattle.dm_code.specs.KeyEquationLaws.{PairsAreMultiples, LeastPairIsOne, LeastPairIsThere};
 
 /// The distance law: two different codewords of k checks and one length of at most 255 differ in at least k + 1 places.
@@ -16,9 +16,20 @@ pub fn near_codeword_is_one()
     ensures { NearCodewordIsOne }
 {}
 
+/// Some codeword is near a word of more than k and at most 255 numbers, or none is: so the word has its codeword, or is
+/// beyond the limit.
+pub fn near_codeword_is_there_or_not()
+    ensures { NearCodewordIsThereOrNot }
+{}
+
 /// The front of a codeword of k checks, its data codewords, determines its last k codewords.
 pub fn front_determines_checks()
     ensures { FrontDeterminesChecks }
+{}
+
+/// Each list of bytes, with k at most 255 together, is the front of a codeword of k checks.
+pub fn checks_are_there()
+    ensures { ChecksAreThere }
 {}
 
 /// Which lists are codewords of k checks: they are lists of bytes, and a list of more than k and at most 255 bytes is one

@@ -7,7 +7,8 @@
 //!
 //! [`encode`] makes the check codewords of a block. [`correct`] gives the codeword within k div 2 wrong codewords of a
 //! word, or says that there is none; it takes the [`syndromes`], has a [`KeySolver`] solve the key equation for them,
-//! and finds the wrong places and what is wrong there from the answer.
+//! and finds the wrong places and what is wrong there from the answer. There are two solvers: [`Quick`], whose work grows
+//! with the square of the number of syndromes, and [`Elimination`], whose work grows with its fourth power.
 //!
 //! What the contracts say is defined in `specs/`: `Codeword`, `Syndromes` and `KeyEquation`. What holds of these
 //! definitions, whatever the code does, is stated in `CodewordLaws` and `KeyEquationLaws` there and proved in [`laws`].
@@ -20,6 +21,7 @@ mod encoding;
 mod errors;
 mod key;
 pub mod laws;
+mod quick;
 mod syndrome;
 mod system;
 
@@ -27,11 +29,14 @@ pub use correction::{BeyondLimit, Fixed, correct};
 pub use elimination::Elimination;
 pub use encoding::encode;
 pub use key::{Key, KeySolver};
+pub use quick::Quick;
 pub use syndrome::syndromes;
 
 #[cfg(test)]
 mod correction_tests;
 #[cfg(test)]
 mod hostile;
+#[cfg(test)]
+mod solver_tests;
 #[cfg(test)]
 mod tests;

@@ -1,7 +1,7 @@
 ghost use Rattle.std.specs.Prelude.{◌≤◌};
 
 use super::{encode, syndromes};
-use gf301::{generator, times};
+use gf301::{Gf, generator, times, value_at};
 
 /// Blocks of the symbol of side 10: data codewords, and their five check codewords.
 const BLOCKS: [([u8; 3], [u8; 5]); 5] = [
@@ -58,6 +58,22 @@ fn syndromes_of_a_block(rt: HostRuntime) {
     );
     // the values of x^2 at 2, 4 and 8
     assert_eq!(rt; syndromes(&[1, 0, 0], 3).as_slice(), [4, 16, 64].as_slice());
+}
+
+/// Without a full group of 16 roots, without a rest, and with four groups and a rest of four.
+#[test]
+fn syndromes_are_values_at_the_roots(rt: HostRuntime) {
+    let list = pseudorandom(7, 19);
+    for (k, count) in [(5, 6), (5, 144), (48, 49), (48, 144), (68, 69), (68, 144)] {
+        assert!(rt; k <= 68 && count <= 255);
+        let word = &list[..count];
+        let syndromes = syndromes(word, k);
+        assert_eq!(rt; syndromes.len(), k);
+        for i in 0..k {
+            let value = value_at(word, Gf::power_of_two(i as u16 + 1));
+            assert_eq!(rt; syndromes.get(i).copied(), Some(value.0), "{i} of {k}");
+        }
+    }
 }
 
 /// What long division of `front` times x^k by the generator polynomial leaves: from the highest power on, a multiple

@@ -153,7 +153,7 @@ stay_one B b i x ws old lb keep j h =
 -- ---- what the blocks tell
 
 -- a place, by its block and its step
-place_parts : (B n j : ℕ) → 0 < B → j < n * B → (j / B < n) × (j % B < B) × (j / B * B + j % B ≡ j)
+pub place_parts : (B n j : ℕ) → 0 < B → j < n * B → (j / B < n) × (j % B < B) × (j / B * B + j % B ≡ j)
 place_parts B n j lb l =
     let parts = div-add-mod j B in
     let swap : j / B * B + j % B ≡ j = omega (arith, parts) in

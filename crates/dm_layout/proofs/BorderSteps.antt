@@ -56,41 +56,33 @@ pub record IsStep (d side q c next across : ℕ) : Type 0 where
   pub walk : IsBorderWalk d side q next across
   pub forward : c < next
 
+-- to the next column, at `next` inside its square
+step_by_one : (d side q c a next : ℕ) → IsBorderWalk d side q c a → c < side → next ≡ (c + 1) % (d + 2) → is_on_edge d q next ≡ true → IsStep d side q c (c + 1) next
+step_by_one d side q c a next walk l across edge = record {
+  cells = step_to d q c (c + 1) side (omega arith) (omega arith) (subst (λ x. is_on_edge d q x ≡ true) walk.across_is (walk.on_edge l)) (λ j m. absurd (omega arith));
+  walk = record {
+    whole = walk.whole;
+    small = walk.small;
+    least = walk.least;
+    inner_in = walk.inner_in;
+    within = omega arith;
+    across_is = across;
+    on_edge = λ _. edge;
+  };
+  forward = omega arith;
+}
+
 -- from the last column of a square
 step_from_end : (d side q c a : ℕ) → IsBorderWalk d side q c a → c < side → a ≡ d + 1 → IsStep d side q c (c + 1) 0
 step_from_end d side q c a walk l e =
     let last : c % (d + 2) ≡ d + 1 = sym walk.across_is ∙ e in
-    record {
-      cells = step_to d q c (c + 1) side (omega arith) (omega arith) (subst (λ x. is_on_edge d q x ≡ true) walk.across_is (walk.on_edge l)) (λ j m. absurd (omega arith));
-      walk = record {
-        whole = walk.whole;
-        small = walk.small;
-        least = walk.least;
-        inner_in = walk.inner_in;
-        within = omega arith;
-        across_is = sym (rest_next (d + 2) c (d + 1) 1 last (omega arith) (omega arith));
-        on_edge = λ _. refl;
-      };
-      forward = omega arith;
-    }
+    step_by_one d side q c a 0 walk l (sym (rest_next (d + 2) c (d + 1) 1 last (omega arith) (omega arith))) refl
 
 -- along a top or bottom row
 step_along : (d side q c a : ℕ) → IsBorderWalk d side q c a → c < side → a ≢ d + 1 → (q ≡ 0) ⊎ (q ≡ d + 1) → IsStep d side q c (c + 1) (a + 1)
 step_along d side q c a walk l ne full =
     let below : a < d + 2 = omega (arith, walk.across_is) in
-    record {
-      cells = step_to d q c (c + 1) side (omega arith) (omega arith) (subst (λ x. is_on_edge d q x ≡ true) walk.across_is (walk.on_edge l)) (λ j m. absurd (omega arith));
-      walk = record {
-        whole = walk.whole;
-        small = walk.small;
-        least = walk.least;
-        inner_in = walk.inner_in;
-        within = omega arith;
-        across_is = sym (rest_further (d + 2) c a 1 (sym walk.across_is) (omega arith));
-        on_edge = λ _. row_is_edge d q (a + 1) full;
-      };
-      forward = omega arith;
-    }
+    step_by_one d side q c a (a + 1) walk l (sym (rest_further (d + 2) c a 1 (sym walk.across_is) (omega arith))) (row_is_edge d q (a + 1) full)
   where
     row_is_edge : (d q x : ℕ) → (q ≡ 0) ⊎ (q ≡ d + 1) → is_on_edge d q x ≡ true
     row_is_edge d q x (inl e) = grind arith

@@ -4,7 +4,7 @@ use Rattle.std.proofs.lemmas.Bool.{eqb-true, eqb-false}
 use Rattle.std.proofs.Math.Nat.{mul-le-mul_right}
 use Rattle.dm_layout.specs.Sizes.{SizeRow, IsRow, regions_across}
 use Rattle.dm_layout.specs.Grid.{GridView, IsGrid, cell_at, with_cell}
-use Rattle.dm_layout.specs.Border.{is_border, border_is_dark, symbol_line, mapping_line, is_fixed_dark, empty_colour, empty_grid, mapped_cell, fixed_is_dark, HasFixedSquare}
+use Rattle.dm_layout.specs.Border.{is_border, border_is_dark, symbol_line, mapping_line, is_fixed_dark, empty_colour, empty_grid}
 use Rattle.dm_layout.proofs.TableRows.{row_facts}
 use Rattle.dm_layout.proofs.GridLemmas.{cell_after, grid_with_cell, grid_of_square, cell_of_square, same_grids}
 use Rattle.dm_layout.proofs.BorderLemmas.{mapped_line, IsFromMapping, IsImage, image_of_mapping, image_is_no_border, symbol_line_parts}
@@ -24,36 +24,25 @@ sides_of s h =
     let n : 1 * (s.region_side + 2) ≤ regions_across s * (s.region_side + 2) = mul-le-mul_right (s.region_side + 2) facts.across in
     (omega (arith, m, facts.mapping), omega (arith, n, facts.side))
 
--- a line of the last region
-last_region : (s : SizeRow) (place : ℕ) → IsRow s → place < s.region_side →
-    symbol_line s.region_side (s.mapping - s.region_side + place) ≡ s.side - s.region_side - 2 + (place + 1)
-last_region s place h l =
+-- a line of the last region, counted from the end of the mapping square
+line_from_end : (s : SizeRow) (k : ℕ) → IsRow s → k < s.region_side → symbol_line s.region_side (s.mapping - (k + 1)) ≡ s.side - (k + 2)
+line_from_end s k h l =
     let facts = row_facts s h in
     let d = s.region_side in
     let q = regions_across s - 1 in
     let p : regions_across s ≡ q + 1 = omega (arith, facts.across) in
     let m : s.mapping ≡ (q + 1) * d = facts.mapping ∙ ap (λ x. x * d) p in
     let n : s.side ≡ (q + 1) * (d + 2) = facts.side ∙ ap (λ x. x * (d + 2)) p in
-    let e : q * d + place ≡ s.mapping - d + place = omega (arith, m) in
-    let f : q * (d + 2) + (place + 1) ≡ s.side - d - 2 + (place + 1) = omega (arith, n) in
-    ap (symbol_line d) (sym e) ∙ symbol_line_parts d q place l ∙ f
+    let e : q * d + (d - (k + 1)) ≡ s.mapping - (k + 1) = omega (arith, m, l) in
+    let f : q * (d + 2) + (d - (k + 1) + 1) ≡ s.side - (k + 2) = omega (arith, n, l) in
+    ap (symbol_line d) (sym e) ∙ symbol_line_parts d q (d - (k + 1)) (omega (arith, l)) ∙ f
 
 -- where the last two lines of the mapping square lie
 pub last_line : (s : SizeRow) → IsRow s → symbol_line s.region_side (s.mapping - 1) ≡ s.side - 2
-last_line s h =
-    let facts = row_facts s h in
-    let bounds = sides_of s h in
-    let e : s.mapping - s.region_side + (s.region_side - 1) ≡ s.mapping - 1 = omega (arith, facts.least, bounds.0) in
-    let f : s.side - s.region_side - 2 + (s.region_side - 1 + 1) ≡ s.side - 2 = omega (arith, facts.least, bounds.1) in
-    ap (symbol_line s.region_side) (sym e) ∙ last_region s (s.region_side - 1) h (omega (arith, facts.least)) ∙ f
+last_line s h = let facts = row_facts s h in line_from_end s 0 h (omega (arith, facts.least))
 
 pub line_before_last : (s : SizeRow) → IsRow s → symbol_line s.region_side (s.mapping - 2) ≡ s.side - 3
-line_before_last s h =
-    let facts = row_facts s h in
-    let bounds = sides_of s h in
-    let e : s.mapping - s.region_side + (s.region_side - 2) ≡ s.mapping - 2 = omega (arith, facts.least, bounds.0) in
-    let f : s.side - s.region_side - 2 + (s.region_side - 2 + 1) ≡ s.side - 3 = omega (arith, facts.least, bounds.1) in
-    ap (symbol_line s.region_side) (sym e) ∙ last_region s (s.region_side - 2) h (omega (arith, facts.least)) ∙ f
+line_before_last s h = let facts = row_facts s h in line_from_end s 1 h (omega (arith, facts.least))
 
 -- the two dark cells of the fixed square, in the mapping square
 dark_pair : (n a b : ℕ) → n % 4 ≡ 2 → a < n → b < n → is_fixed_dark n a b ≡ (nat_eq a (n - 2) && nat_eq b (n - 2)) || (nat_eq a (n - 1) && nat_eq b (n - 1))
@@ -183,23 +172,3 @@ all_above s g row far cells r c lr lc =
     let below : r < row = omega arith in
     let e : nat_lt r row ≡ true = grind arith in
     cells r c lr lc ∙ ap (λ b. b && is_border s r c && border_is_dark s r c) e
-
--- ---- what the empty grid is
-
--- it has no border fault: each border cell has its colour
-pub empty_border : (s : SizeRow) (r c : ℕ) → r < s.side → c < s.side → is_border s r c ≡ true → cell_at (empty_grid s) r c ≡ border_is_dark s r c
-empty_border s r c lr lc e = cell_of_square s (empty_colour s) r c lr lc ∙ ap (λ b. cond b (border_is_dark s r c) (is_fixed_dark s.mapping (mapping_line s.region_side r) (mapping_line s.region_side c))) e
-
--- it has the fixed square, and every other mapping cell is light
-pub empty_mapped : (s : SizeRow) (r c : ℕ) → IsRow s → r < s.mapping → c < s.mapping → mapped_cell (empty_grid s) r c ≡ is_fixed_dark s.mapping r c
-empty_mapped s r c h lr lc =
-    let d = s.region_side in
-    let row = mapped_line s r h lr in
-    let column = mapped_line s c h lc in
-    cell_of_square s (empty_colour s) (symbol_line d r) (symbol_line d c) row.below column.below
-    ∙ ap (λ b. cond b (border_is_dark s (symbol_line d r) (symbol_line d c)) (is_fixed_dark s.mapping (mapping_line d (symbol_line d r)) (mapping_line d (symbol_line d c)))) (image_is_no_border s r c h lr lc)
-    ∙ ap (λ x. is_fixed_dark s.mapping x (mapping_line d (symbol_line d c))) row.back
-    ∙ ap (is_fixed_dark s.mapping r) column.back
-
-pub empty_fixed : (s : SizeRow) → IsRow s → HasFixedSquare (empty_grid s)
-empty_fixed s h r c lr lc fixed = empty_mapped s r c h lr lc ∙ ap (λ b. b && fixed_is_dark r c) fixed

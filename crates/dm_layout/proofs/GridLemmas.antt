@@ -1,72 +1,14 @@
--- Grids and the lines in which they are kept.
-use Rattle.std.proofs.Common.{◌≡◌, ℕ, zero, suc, ◌+◌, ◌-◌, ◌*◌, ◌<◌, ◌≤◌, Bool, true, false, ◌&&◌, cond, nat_eq, List, [], ◌∷◌, map, length, get_or, set, take, drop, replicate, ◌≢◌, below_more, get_or-set_other, get_or-set_same, refl, sym, ◌∙◌, ap, subst, arith, length-take, length-drop}
+-- Grids, their cells, and one cell in another colour.
+use Rattle.std.proofs.Common.{◌≡◌, ℕ, zero, suc, ◌<◌, Bool, true, false, ◌&&◌, cond, nat_eq, List, [], ◌∷◌, map, length, get_or, set, ◌≢◌, get_or-set_other, get_or-set_same, refl, sym, ◌∙◌, ap, subst, arith}
 use Rattle.std.specs.Prelude.{All}
 use Rattle.std.specs.List.{range_with_len}
-use Rattle.std.proofs.lemmas.List.{length-map, get_or-map, get_or-take, get_or-drop, map-set, same_lists}
-use Rattle.std.proofs.lemmas.List.FromFn.{length-map-range_with_len, get_or-map-range_with_len}
-use Rattle.std.proofs.lemmas.List.Elements.{All-get_or, All-take, All-map, All-set}
+use Rattle.std.proofs.lemmas.List.{same_lists}
+use Rattle.std.proofs.lemmas.List.FromFn.{length-map-range_with_len, get_or-map-range_with_len, fill_by_all}
+use Rattle.std.proofs.lemmas.List.Elements.{All-get_or, All-map, All-set}
 use Rattle.std.proofs.lemmas.Bool.{eqb-true, eqb-false}
 use Rattle.std.proofs.Math.ListN.{length-set}
-use Rattle.std.proofs.Math.Nat.{mul-le-mul_right}
-use Rattle.std.proofs.Math.Seq.{take-set-lt}
-use Rattle.dm_layout.specs.Sizes.{SizeRow, IsRow, largest_side}
-use Rattle.dm_layout.specs.Grid.{GridView, IsGrid, cell_at, with_cell, square_by, square_of, kept_grid, IsKept}
-use Rattle.dm_layout.proofs.TableRows.{row_facts}
-
--- a row of the kept grid is the front of a line
-pub row_of_kept : (n r : ℕ) (lines : List (List Bool)) → n ≤ length lines → r < n → get_or (map (take n) (take n lines)) r [] ≡ take n (get_or lines r [])
-row_of_kept n r lines fits lt =
-    let inside : r < length (take n lines) = omega (arith, length-take n lines) in
-    get_or-map (take n) (take n lines) r [] [] inside ∙ ap (take n) (get_or-take n lines r [] lt)
-
--- a cell of the kept grid is a cell of the lines
-pub cell_of_kept : (size : SizeRow) (lines : List (List Bool)) (r c : ℕ) → IsKept size lines → r < size.side → c < size.side →
-    cell_at (kept_grid size lines) r c ≡ get_or (get_or lines r []) c false
-cell_of_kept size lines r c kept lr lc =
-    let facts = row_facts size kept.row in
-    let fits : size.side ≤ length lines = omega (arith, facts.fits, kept.height) in
-    ap (λ (line : List Bool). get_or line c false) (row_of_kept size.side r lines fits lr)
-    ∙ get_or-take size.side (get_or lines r []) c false lc
-
--- a write into the lines is a write into the kept grid
-pub kept_with_cell : (size : SizeRow) (lines : List (List Bool)) (r c : ℕ) (b : Bool) → IsKept size lines → r < size.side → c < size.side →
-    kept_grid size (set lines r (set (get_or lines r []) c b)) ≡ with_cell (kept_grid size lines) r c b
-kept_with_cell size lines r c b kept lr lc =
-    let facts = row_facts size kept.row in
-    let fits : size.side ≤ length lines = omega (arith, facts.fits, kept.height) in
-    let front = ap (map (take size.side)) (take-set-lt size.side lines r (set (get_or lines r []) c b) lr) in
-    let moved = map-set (take size.side) (take size.side lines) r (set (get_or lines r []) c b) in
-    let line = take-set-lt size.side (get_or lines r []) c b lc ∙ ap (λ (l : List Bool). set l c b) (sym (row_of_kept size.side r lines fits lr)) in
-    ap (λ (rows : List (List Bool)). record { size = size; rows = rows })
-    (front ∙ moved ∙ ap (set (map (take size.side) (take size.side lines)) r) line)
-
--- a write into the lines keeps their lengths
-pub kept_after_write : (size : SizeRow) (lines : List (List Bool)) (r c : ℕ) (b : Bool) → IsKept size lines → r < size.side → IsKept size (set lines r (set (get_or lines r []) c b))
-kept_after_write size lines r c b kept lr =
-    let facts = row_facts size kept.row in
-    let inside : r < length lines = omega (arith, facts.fits, kept.height) in
-    record {
-      row = kept.row;
-      fits = kept.fits;
-      height = length-set lines r _ ∙ kept.height;
-      width =
-          All-set (λ (line : List Bool). length line ≡ largest_side) lines r (set (get_or lines r []) c b)
-          (length-set (get_or lines r []) c b ∙ All-get_or (λ (line : List Bool). length line ≡ largest_side) lines r [] inside kept.width)
-          kept.width;
-    }
-
--- what is kept is a grid
-pub grid_of_kept : (size : SizeRow) (lines : List (List Bool)) → IsKept size lines → IsGrid (kept_grid size lines)
-grid_of_kept size lines kept =
-    let facts = row_facts size kept.row in
-    record {
-      row = kept.row;
-      height = let a = length-map (take size.side lines) (take size.side) in let b = length-take size.side lines in omega (arith, a, b, facts.fits, kept.height);
-      width =
-          All-map (λ (line : List Bool). length line ≡ size.side) (take size.side) (take size.side lines)
-          (All-take (λ (line : List Bool). length (take size.side line) ≡ size.side) size.side lines
-          (λ k d l. let e = length-take size.side (get_or lines k d) in let f = kept.width k d l in omega (arith, e, f, facts.fits)));
-    }
+use Rattle.dm_layout.specs.Sizes.{SizeRow, IsRow}
+use Rattle.dm_layout.specs.Grid.{GridView, IsGrid, cell_at, with_cell, square_by}
 
 -- ---- two grids
 
@@ -86,6 +28,13 @@ pub cell_of_square : (size : SizeRow) (colour : ℕ → ℕ → Bool) (r c : ℕ
 cell_of_square size colour r c lr lc =
     ap (λ (line : List Bool). get_or line c false) (get_or-map-range_with_len (λ (q : ℕ). map (colour q) (range_with_len 0 size.side)) 0 size.side r r [] lr (omega arith))
     ∙ get_or-map-range_with_len (colour r) 0 size.side c c false lc (omega arith)
+
+-- two colours that agree in the square draw the same
+pub same_squares : (n : ℕ) (f g : ℕ → ℕ → Bool) → ((r c : ℕ) → r < n → c < n → f r c ≡ g r c) → square_by n f ≡ square_by n g
+same_squares n f g agree = mapped (λ (r : ℕ). map (f r) (range_with_len 0 n)) (λ (r : ℕ). map (g r) (range_with_len 0 n)) [] (λ r lr. mapped (f r) (g r) false (λ c lc. agree r c lr lc))
+  where
+    mapped : {X : Type 0} (f g : ℕ → X) (d : X) → ((k : ℕ) → k < n → f k ≡ g k) → map f (range_with_len 0 n) ≡ map g (range_with_len 0 n)
+    mapped f g d same = fill_by_all g (map f (range_with_len 0 n)) n d (length-map-range_with_len f 0 n) (λ k l. get_or-map-range_with_len f 0 n k k d l (omega arith) ∙ same k l)
 
 -- rows of the same shape with the same cells are the same
 pub same_rows : (n : ℕ) (xs ys : List (List Bool)) → length xs ≡ n → length ys ≡ n → All (λ line. length line ≡ n) xs → All (λ line. length line ≡ n) ys →
@@ -117,18 +66,19 @@ same_rows n xs ys hx hy wx wy cells =
         default (get_or xs r []) c e lc ∙ cells r c rn cn ∙ sym (default (get_or ys r []) c e ly2))
         ∙ sym (outer ys r d ly)
 
+-- a grid is its size and its rows
+abbrev pub grid_from : SizeRow → List (List Bool) → GridView
+grid_from size rows = record { size = size; rows = rows }
+
+pub same_parts : (s t : SizeRow) (xs ys : List (List Bool)) → s ≡ t → xs ≡ ys → grid_from s xs ≡ grid_from t ys
+same_parts s t xs ys p q = cc
+
 -- grids of the same size with the same cells are the same
 pub same_grids : (g h : GridView) → IsGrid g → IsGrid h → g.size ≡ h.size → ((r c : ℕ) → r < g.size.side → c < g.size.side → cell_at g r c ≡ cell_at h r c) → g ≡ h
 same_grids g h a b e cells =
     let height : length h.rows ≡ g.size.side = b.height ∙ ap (λ (s : SizeRow). s.side) (sym e) in
     let width : All (λ line. length line ≡ g.size.side) h.rows = subst (λ (s : SizeRow). All (λ line. length line ≡ s.side) h.rows) (sym e) b.width in
-    joined g.size h.size g.rows h.rows e (same_rows g.size.side g.rows h.rows a.height height a.width width cells)
-  where
-    pair : SizeRow → List (List Bool) → GridView
-    pair size rows = record { size = size; rows = rows }
-
-    joined : (s t : SizeRow) (xs ys : List (List Bool)) → s ≡ t → xs ≡ ys → pair s xs ≡ pair t ys
-    joined s t xs ys p q = cc
+    same_parts g.size h.size g.rows h.rows e (same_rows g.size.side g.rows h.rows a.height height a.width width cells)
 
 -- ---- one cell in another colour
 
@@ -176,62 +126,3 @@ grid_with_cell g r c b grid lr =
           (length-set (get_or g.rows r []) c b ∙ All-get_or (λ (line : List Bool). length line ≡ g.size.side) g.rows r [] inside grid.width)
           grid.width;
     }
-
--- ---- cells that are given row by row
-
--- the lines above `row` have their cells from the list
-abbrev pub IsCopied : ℕ → ℕ → List Bool → List (List Bool) → Type 0
-IsCopied n row cells lines = (r : ℕ) → r < row → take n (get_or lines r []) ≡ take n (drop (r * n) cells)
-
--- once all lines have their cells, the rows are those of the square
-pub copied_square : (size : SizeRow) (cells : List Bool) (lines : List (List Bool)) → IsKept size lines → IsCopied size.side size.side cells lines → map (take size.side) (take size.side lines) ≡ square_of size.side cells
-copied_square size cells lines kept copied =
-    let n = size.side in
-    let here = grid_of_kept size lines kept in
-    let there = grid_of_square size (λ (r c : ℕ). get_or cells (r * n + c) false) kept.row in
-    same_rows n (map (take n) (take n lines)) (square_of n cells) here.height there.height here.width there.width
-    (λ r c lr lc.
-    cell_of_kept size lines r c kept lr lc
-    ∙ sym (get_or-take n (get_or lines r []) c false lc)
-    ∙ ap (λ (line : List Bool). get_or line c false) (copied r lr)
-    ∙ get_or-take n (drop (r * n) cells) c false lc
-    ∙ get_or-drop (r * n) cells c false
-    ∙ sym (cell_of_square size (λ (q c : ℕ). get_or cells (q * n + c) false) r c lr lc))
-
--- one more line is copied
-pub copied_more : (n row : ℕ) (cells line : List Bool) (lines : List (List Bool)) → IsCopied n row cells lines → row < length lines → take n line ≡ take n (drop (row * n) cells) → IsCopied n (row + 1) cells (set lines row line)
-copied_more n row cells line lines copied inside here =
-    below_more (λ r. take n (get_or (set lines row line) r []) ≡ take n (drop (r * n) cells)) row
-    (λ r l.
-    let ne : r ≢ row = omega arith in
-    let same : get_or (set lines row line) r [] ≡ get_or lines r [] = get_or-set_other lines row r line [] ne in
-    ap (take n) same ∙ copied r l)
-    (ap (take n) (get_or-set_same lines row line [] inside) ∙ here)
-
--- a row of a square of n * n cells has n cells
-pub length_of_part : (n row : ℕ) (cells : List Bool) → length cells ≡ n * n → row < n → length (take ((row + 1) * n - row * n) (drop (row * n) cells)) ≡ n
-length_of_part n row cells count below =
-    let room : (row + 1) * n ≤ n * n = mul-le-mul_right n (omega arith) in
-    let left = length-drop (row * n) cells in
-    let part = length-take ((row + 1) * n - row * n) (drop (row * n) cells) in
-    omega (arith, room, left, part)
-
--- the part that is copied to a line is the row of the square
-pub part_is_row : (n row : ℕ) (cells line : List Bool) → length cells ≡ n * n → row < n →
-    take (length (take ((row + 1) * n - row * n) (drop (row * n) cells))) line ≡ take ((row + 1) * n - row * n) (drop (row * n) cells) →
-    take n line ≡ take n (drop (row * n) cells)
-part_is_row n row cells line count below e =
-    let step : (row + 1) * n - row * n ≡ n = omega arith in
-    ap (λ (k : ℕ). take k line) (sym (length_of_part n row cells count below)) ∙ e ∙ ap (λ (k : ℕ). take k (drop (row * n) cells)) step
-
--- ---- light lines
-
-light_line : (n c : ℕ) → get_or (replicate n false) c false ≡ false
-light_line zero c = refl
-light_line (suc n) zero = refl
-light_line (suc n) (suc c) = light_line n c
-
-pub light_square : (m n r c : ℕ) → get_or (get_or (replicate m (replicate n false)) r []) c false ≡ false
-light_square zero n r c = refl
-light_square (suc m) n zero c = light_line n c
-light_square (suc m) n (suc r) c = light_square m n r c

@@ -1,4 +1,6 @@
 pub mod TableRows
+pub mod Pointwise
+pub mod FirstItem
 pub mod Moves
 pub mod CellTables
 pub mod OnePlace
@@ -10,6 +12,7 @@ pub mod TestedWalk
 pub mod PlacementRows
 pub mod BlockLemmas
 pub mod GridLemmas
+pub mod PackedRows
 pub mod Ranges
 pub mod SymbolLines
 pub mod PlaceOrder
@@ -23,3 +26,5 @@ pub mod BorderLemmas
 pub mod BorderSteps
 pub mod EmptyGrid
 pub mod EqualityLaws
+pub mod HeldWords
+pub mod DealtWords

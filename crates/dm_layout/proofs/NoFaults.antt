@@ -3,10 +3,11 @@ use Rattle.std.proofs.Common.{◌≡◌, ℕ, zero, suc, ◌+◌, ◌<◌, Bool,
 use Rattle.std.specs.Prelude.{sum_by, count_by}
 use Rattle.std.specs.Bool.{beq}
 use Rattle.std.specs.List.{range_with_len, list_all}
-use Rattle.std.proofs.lemmas.Bool.{and_parts, eqb-true}
+use Rattle.std.proofs.lemmas.Bool.{eqb-true}
 use Rattle.std.proofs.lemmas.List.Folds.{sum_by-zero}
 use Rattle.dm_layout.specs.Grid.{GridView, cell_at}
 use Rattle.dm_layout.specs.Border.{is_border, border_is_dark, is_fault, border_fault_count}
+use Rattle.dm_layout.proofs.Ranges.{all_at}
 
 -- the border cells of a grid have their colours
 abbrev pub IsBordered : GridView → Type 0
@@ -14,13 +15,6 @@ IsBordered grid =
     (row column : ℕ) → row < grid.size.side → column < grid.size.side → is_border grid.size row column ≡ true → cell_at grid row column ≡ border_is_dark grid.size row column
 
 -- ---- sums of nothing
-
-all_at : (f : ℕ → Bool) (from len x : ℕ) → list_all f (range_with_len from len) ≡ true → x < len → f (from + x) ≡ true
-all_at f from zero x h l = absurd (omega arith)
-all_at f from (suc len) zero h l = rw add-zero (and_parts _ _ h).0
-all_at f from (suc len) (suc x) h l =
-    let e : from + 1 + x ≡ from + suc x = omega arith in
-    subst (λ (j : ℕ). f j ≡ true) e (all_at f (from + 1) len x (and_parts _ _ h).1 (omega arith))
 
 all_from : (f : ℕ → Bool) (from len : ℕ) → ((x : ℕ) → x < len → f (from + x) ≡ true) → list_all f (range_with_len from len) ≡ true
 all_from f from zero h = refl

@@ -2,7 +2,6 @@
 use Rattle.std.proofs.Common.{◌≡◌, ℕ, zero, suc, ◌+◌, ◌-◌, ◌*◌, ◌/◌, ◌%◌, ◌<◌, Bool, true, false, ◌&&◌, nat_eq, nat_lt, nat_le, List, [], ◌∷◌, refl, length, get_or, sym, ◌∙◌, ap, subst, ◌≤◌, arith, take, flat_map, add-zero, zero-add, length-append}
 use Rattle.std.proofs.Math.ListN.{length-take}
 use Rattle.std.specs.Bool.{MatchBool}
-use Rattle.std.specs.List.{list_all, range_with_len}
 use Rattle.std.proofs.lemmas.Bool.{and_parts, eqb-true, ltb-true, leb-true}
 use Rattle.std.proofs.lemmas.Nat.{div-mul-add, mod-mul-add, mul-add-lt}
 use Rattle.std.proofs.lemmas.List.Concat.{get_or-flat_map}
@@ -11,6 +10,7 @@ use Rattle.dm_layout.specs.declared.shape.Shape.{Shape}
 use Rattle.dm_layout.specs.declared.shape.Shape.TheVariants.{Standard, Corner1, Corner2, Corner3, Corner4}
 use Rattle.dm_layout.specs.Border.{is_fixed}
 use Rattle.dm_layout.specs.Placement.{At, shapes, cells_of, place, IsPlace, NoPlace, OnePlace, EachCellOnce}
+use Rattle.dm_layout.proofs.Ranges.{all_at}
 use Rattle.dm_layout.proofs.CellTables.{all_cells, entry, agree, cell_test, one_cell, tables_agree, placement_test}
 
 record Agrees (n : ℕ) (p q : List ℕ) (k : ℕ) (x : Cell) : Type 0 where
@@ -33,13 +33,6 @@ agrees_at n p q k (x ∷ ps) zero d h l = subst (λ (j : ℕ). Agrees n p q j x)
 agrees_at n p q k (x ∷ ps) (suc i) d h l =
     let e : suc k + i ≡ k + suc i = omega arith in
     subst (λ (j : ℕ). Agrees n p q j (get_or ps i d)) e (agrees_at n p q (suc k) ps i d (agrees_here n p q k x ps h).1 (omega arith))
-
-all_at : (f : ℕ → Bool) (from len x : ℕ) → list_all f (range_with_len from len) ≡ true → x < len → f (from + x) ≡ true
-all_at f from zero x h l = absurd (omega arith)
-all_at f from (suc len) zero h l = rw add-zero (and_parts _ _ h).0
-all_at f from (suc len) (suc x) h l =
-    let e : from + 1 + x ≡ from + suc x = omega arith in
-    subst (λ (j : ℕ). f j ≡ true) e (all_at f (from + 1) len x (and_parts _ _ h).1 (omega arith))
 
 pub eight : (n : ℕ) (s : Shape) → length (cells_of n s) ≡ 8
 eight n (Standard r c) = refl
@@ -86,16 +79,18 @@ module _ (n : ℕ) (p q : List ℕ) (ok : tables_agree n (all_cells n) p q ≡ t
   unfolding tables_agree
   at_cell x l = subst (λ (j : ℕ). one_cell n (length (all_cells n)) p q j ≡ true) (zero-add x) (all_at (one_cell n (length (all_cells n)) p q) 0 (n * n) x (and_parts _ _ ok).1 l)
 
-  -- the entry of a place's cell is one more than the place
-  back_of : (r c w b : ℕ) → IsPlace n w b (At r c) → entry p r c ≡ suc (8 * w + (b - 1))
+  -- the tables undo each other at the cell of a place
+  at_place : (w b : ℕ) (cell : Cell) → IsPlace n w b cell → Agrees n p q (8 * w + (b - 1)) cell
   unfolding place
-  back_of r c w b h =
+  at_place w b cell h =
       let lb : b - 1 < 8 = omega arith in
       let s = all_cells-at n w (b - 1) h.word_in lb in
       let l : 8 * w + (b - 1) < length (all_cells n) = omega (arith, length-all_cells n) in
-      let a = agrees (8 * w + (b - 1)) l in
-      let e = s ∙ h.there in
-      subst (λ (x : Cell). entry p x.row x.column ≡ suc (8 * w + (b - 1))) e a.back
+      subst (λ (x : Cell). Agrees n p q (8 * w + (b - 1)) x) (s ∙ h.there) (agrees (8 * w + (b - 1)) l)
+
+  -- the entry of a place's cell is one more than the place
+  back_of : (r c w b : ℕ) → IsPlace n w b (At r c) → entry p r c ≡ suc (8 * w + (b - 1))
+  back_of r c w b h = (at_place w b (At r c) h).back
 
   fixed_none : (r c : ℕ) → r < n → c < n → nat_eq (entry p r c) 0 ≡ true → NoPlace n (At r c)
   fixed_none r c lr lc z w b h = omega (arith, eqb-true _ _ z, back_of r c w b h)
@@ -150,14 +145,7 @@ module _ (n : ℕ) (p q : List ℕ) (ok : tables_agree n (all_cells n) p q ≡ t
 
   -- each place lies in the square
   inside_square : (w b : ℕ) (cell : Cell) → IsPlace n w b cell → (cell.row < n) × (cell.column < n)
-  unfolding place
-  inside_square w b cell h =
-      let lb : b - 1 < 8 = omega arith in
-      let s = all_cells-at n w (b - 1) h.word_in lb in
-      let l : 8 * w + (b - 1) < length (all_cells n) = omega (arith, length-all_cells n) in
-      let a = agrees (8 * w + (b - 1)) l in
-      let e = s ∙ h.there in
-      subst (λ (x : Cell). (x.row < n) × (x.column < n)) e (a.row_in, a.column_in)
+  inside_square w b cell h = let a = at_place w b cell h in (a.row_in, a.column_in)
 
   by_tables : EachCellOnce n
   by_tables = record { once = at_any; inside = inside_square }

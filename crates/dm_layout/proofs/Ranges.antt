@@ -1,7 +1,8 @@
 -- Runs of numbers, and what a test keeps of them.
-use Rattle.std.proofs.Common.{◌≡◌, ℕ, zero, suc, ◌+◌, ◌<◌, Bool, true, false, cond, [], ◌∷◌, ◌++◌, refl, sym, ◌∙◌, ap, arith}
+use Rattle.std.proofs.Common.{◌≡◌, ℕ, zero, suc, ◌+◌, ◌<◌, Bool, true, false, cond, ◌∷◌, ◌++◌, sym, ◌∙◌, ap, subst, arith, add-zero}
 use Rattle.std.specs.Prelude.{filter}
-use Rattle.std.specs.List.{range_with_len}
+use Rattle.std.specs.List.{range_with_len, list_all}
+use Rattle.std.proofs.lemmas.Bool.{and_parts}
 
 -- a run is its front and the rest
 pub range-append : (a m n : ℕ) → range_with_len a (m + n) ≡ range_with_len a m ++ range_with_len (a + m) n
@@ -14,14 +15,13 @@ range-append a (suc m) n =
     let f : a + 1 + m ≡ a + suc m = omega arith in
     ap (range_with_len a) e ∙ ap (λ xs. a ∷ xs) (range-append (a + 1) m n ∙ ap (λ k. range_with_len (a + 1) m ++ range_with_len k n) f)
 
--- a test that passes no number of a run keeps none
-pub filter_none : (p : ℕ → Bool) (a n : ℕ) → ((j : ℕ) → j < n → p (a + j) ≡ false) → filter p (range_with_len a n) ≡ []
-filter_none p a zero h = refl
-filter_none p a (suc n) h =
-    let e : a + 0 ≡ a = omega arith in
-    let first : p a ≡ false = ap p (sym e) ∙ h 0 (omega arith) in
-    ap (λ b. cond b (a ∷ filter p (range_with_len (a + 1) n)) (filter p (range_with_len (a + 1) n))) first
-    ∙ filter_none p (a + 1) n (λ j l. let f : a + 1 + j ≡ a + suc j = omega arith in ap p f ∙ h (suc j) (omega arith))
+-- a test that all numbers of a run pass is passed by each
+pub all_at : (f : ℕ → Bool) (from len x : ℕ) → list_all f (range_with_len from len) ≡ true → x < len → f (from + x) ≡ true
+all_at f from zero x h l = absurd (omega arith)
+all_at f from (suc len) zero h l = rw add-zero (and_parts _ _ h).0
+all_at f from (suc len) (suc x) h l =
+    let e : from + 1 + x ≡ from + suc x = omega arith in
+    subst (λ (j : ℕ). f j ≡ true) e (all_at f (from + 1) len x (and_parts _ _ h).1 (omega arith))
 
 -- numbers that fail the test may be left out at the front
 pub filter_skip : (p : ℕ → Bool) (a m n : ℕ) → ((j : ℕ) → j < m → p (a + j) ≡ false) → filter p (range_with_len a (m + n)) ≡ filter p (range_with_len (a + m) n)

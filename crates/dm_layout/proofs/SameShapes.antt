@@ -1,63 +1,46 @@
 -- A test that two lists of shapes are the same. It is cheaper to compute than the equation.
-use Rattle.std.proofs.Common.{◌≡◌, ℕ, Bool, true, false, ◌&&◌, nat_eq, List, [], ◌∷◌, refl, ap, ◌∙◌}
-use Rattle.std.proofs.lemmas.Bool.{and_parts, eqb-true}
+use Rattle.std.proofs.Common.{◌≡◌, ℕ, zero, suc, Bool, true, nat_eq, List, [], ◌∷◌, refl, ap, sym, ◌∙◌}
+use Rattle.std.specs.Cmp.Lexicographic.{pointwise, same_text}
 use Rattle.dm_layout.specs.declared.shape.Shape.{Shape}
 use Rattle.dm_layout.specs.declared.shape.Shape.TheVariants.{Standard, Corner1, Corner2, Corner3, Corner4}
+use Rattle.dm_layout.proofs.Pointwise.{same_by_pointwise}
+
+-- the numbers of a shape: row and column of its anchor, or the number of the corner, less 1
+abbrev pub numbers_of : Shape → List ℕ
+numbers_of (Standard r c) = r ∷ c ∷ []
+numbers_of Corner1 = 0 ∷ []
+numbers_of Corner2 = 1 ∷ []
+numbers_of Corner3 = 2 ∷ []
+numbers_of Corner4 = 3 ∷ []
+
+-- the shape of these numbers
+abbrev shape_of : List ℕ → Shape
+shape_of [] = Corner1
+shape_of (zero ∷ []) = Corner1
+shape_of (suc zero ∷ []) = Corner2
+shape_of (suc (suc zero) ∷ []) = Corner3
+shape_of (suc (suc (suc k)) ∷ []) = Corner4
+shape_of (r ∷ c ∷ rest) = Standard r c
+
+-- a shape is told by its numbers
+shape_again : (x : Shape) → shape_of (numbers_of x) ≡ x
+shape_again (Standard r c) = refl
+shape_again Corner1 = refl
+shape_again Corner2 = refl
+shape_again Corner3 = refl
+shape_again Corner4 = refl
 
 -- whether two shapes are the same
 abbrev pub same_shape : Shape → Shape → Bool
-same_shape (Standard r c) (Standard u v) = nat_eq r u && nat_eq c v
-same_shape (Standard r c) y = false
-same_shape Corner1 Corner1 = true
-same_shape Corner1 y = false
-same_shape Corner2 Corner2 = true
-same_shape Corner2 y = false
-same_shape Corner3 Corner3 = true
-same_shape Corner3 y = false
-same_shape Corner4 Corner4 = true
-same_shape Corner4 y = false
+same_shape x y = pointwise nat_eq (numbers_of x) (numbers_of y)
+
+shape_equal : (x y : Shape) → same_shape x y ≡ true → x ≡ y
+shape_equal x y h = sym (shape_again x) ∙ ap shape_of (same_text (numbers_of x) (numbers_of y) (sym h)) ∙ shape_again y
 
 -- whether two lists of shapes are the same
 abbrev pub same_shapes : List Shape → List Shape → Bool
-same_shapes [] [] = true
-same_shapes [] (y ∷ ys) = false
-same_shapes (x ∷ xs) [] = false
-same_shapes (x ∷ xs) (y ∷ ys) = same_shape x y && same_shapes xs ys
-
-shape_equal : (x y : Shape) → same_shape x y ≡ true → x ≡ y
-shape_equal (Standard r c) (Standard u v) h =
-    let b = and_parts (nat_eq r u) (nat_eq c v) h in
-    ap (λ (i : ℕ). Standard i c) (eqb-true r u b.0) ∙ ap (λ (i : ℕ). Standard u i) (eqb-true c v b.1)
-shape_equal (Standard r c) Corner1 h = cc
-shape_equal (Standard r c) Corner2 h = cc
-shape_equal (Standard r c) Corner3 h = cc
-shape_equal (Standard r c) Corner4 h = cc
-shape_equal Corner1 (Standard u v) h = cc
-shape_equal Corner1 Corner1 h = refl
-shape_equal Corner1 Corner2 h = cc
-shape_equal Corner1 Corner3 h = cc
-shape_equal Corner1 Corner4 h = cc
-shape_equal Corner2 (Standard u v) h = cc
-shape_equal Corner2 Corner1 h = cc
-shape_equal Corner2 Corner2 h = refl
-shape_equal Corner2 Corner3 h = cc
-shape_equal Corner2 Corner4 h = cc
-shape_equal Corner3 (Standard u v) h = cc
-shape_equal Corner3 Corner1 h = cc
-shape_equal Corner3 Corner2 h = cc
-shape_equal Corner3 Corner3 h = refl
-shape_equal Corner3 Corner4 h = cc
-shape_equal Corner4 (Standard u v) h = cc
-shape_equal Corner4 Corner1 h = cc
-shape_equal Corner4 Corner2 h = cc
-shape_equal Corner4 Corner3 h = cc
-shape_equal Corner4 Corner4 h = refl
+same_shapes = pointwise same_shape
 
 -- lists that pass the test are equal
 pub shapes_equal : (xs ys : List Shape) → same_shapes xs ys ≡ true → xs ≡ ys
-shapes_equal [] [] h = refl
-shapes_equal [] (y ∷ ys) h = cc
-shapes_equal (x ∷ xs) [] h = cc
-shapes_equal (x ∷ xs) (y ∷ ys) h =
-    let b = and_parts (same_shape x y) (same_shapes xs ys) h in
-    ap (λ (z : Shape). z ∷ xs) (shape_equal x y b.0) ∙ ap (λ (zs : List Shape). y ∷ zs) (shapes_equal xs ys b.1)
+shapes_equal = same_by_pointwise same_shape shape_equal

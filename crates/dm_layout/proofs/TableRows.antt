@@ -96,6 +96,10 @@ row_facts s h =
       parts = eqb-true _ _ l.1;
     }
 
+-- a side that the table has is at most the largest
+pub side_fits : (side : ℕ) (s : SizeRow) → row_with_side side ≡ Some s → side ≤ largest_side
+side_fits side s h = let row = found_row side s h in omega (arith, row.0, (row_facts s row.1).fits)
+
 -- ---- the smallest size that is large enough
 
 -- the sides rise

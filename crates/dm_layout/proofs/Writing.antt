@@ -1,54 +1,26 @@
 -- A grid after the bits of codewords are put at their places.
-use Rattle.std.proofs.Common.{◌≡◌, ◌≢◌, ◌⊎◌, inl, inr, ℕ, zero, suc, ◌<◌, Bool, true, false, nat_eq, List, [], ◌∷◌, length, get_or, set, refl, sym, ◌∙◌, ap, arith, subst, get_or-set_other, get_or-set_same}
+use Rattle.std.proofs.Common.{◌≡◌, ◌≢◌, ◌⊎◌, inl, inr, ℕ, zero, suc, ◌<◌, Bool, true, false, nat_eq, List, [], ◌∷◌, length, get_or, refl, sym, ◌∙◌, ap, arith, subst}
 use Rattle.std.proofs.lemmas.Bool.Decides.{eqb_tells}
-use Rattle.std.proofs.lemmas.List.{length-set}
-use Rattle.std.proofs.lemmas.List.Elements.{All-get_or, All-set}
 use Rattle.dm_layout.specs.declared.cells.Place.{Place}
 use Rattle.dm_layout.specs.Sizes.{SizeRow, IsRow}
 use Rattle.dm_layout.specs.Grid.{GridView, IsGrid, cell_at, with_cell}
 use Rattle.dm_layout.specs.Border.{symbol_line}
 use Rattle.dm_layout.specs.Placement.{At, IsPlace, EachCellOnce}
 use Rattle.dm_layout.specs.Holds.{bit_of}
+use Rattle.dm_layout.proofs.GridLemmas.{cell_written, cell_of_other_row, cell_of_other_column, grid_with_cell}
 use Rattle.dm_layout.proofs.PlaceOrder.{ArePlaces, one_bit}
 use Rattle.dm_layout.proofs.SymbolLines.{symbol_line-one, lies_inside}
 use Rattle.dm_layout.proofs.TableRows.{row_facts}
 
 -- ---- one write
 
--- the cell that is written
-pub cell-with_cell : (g : GridView) (r c : ℕ) (b : Bool) → IsGrid g → r < g.size.side → c < g.size.side → cell_at (with_cell g r c b) r c ≡ b
-cell-with_cell g r c b h lr lc =
-    let k : r < length g.rows = omega (arith, h.height) in
-    let w = All-get_or (λ (line : List Bool). length line ≡ g.size.side) g.rows r [] k h.width in
-    let l : c < length (get_or g.rows r []) = omega (arith, w) in
-    ap (λ (line : List Bool). get_or line c false) (get_or-set_same g.rows r (set (get_or g.rows r []) c b) [] k)
-    ∙ get_or-set_same (get_or g.rows r []) c b false l
-
--- any other cell
-pub cell-with_cell_other : (g : GridView) (r c u v : ℕ) (b : Bool) → IsGrid g → r < g.size.side → ((u ≡ r) → (v ≡ c) → ⊥) → cell_at (with_cell g r c b) u v ≡ cell_at g u v
-cell-with_cell_other g r c u v b h lr ne = by_row (eqb_tells u r)
+-- any other cell stays as it was
+pub cell_elsewhere : (g : GridView) (r c u v : ℕ) (b : Bool) → IsGrid g → r < g.size.side → ((u ≡ r) → (v ≡ c) → ⊥) → cell_at (with_cell g r c b) u v ≡ cell_at g u v
+cell_elsewhere g r c u v b h lr ne = by_row (eqb_tells u r)
   where
     by_row : ((nat_eq u r ≡ true) × (u ≡ r)) ⊎ ((nat_eq u r ≡ false) × (u ≢ r)) → cell_at (with_cell g r c b) u v ≡ cell_at g u v
-    by_row (inl x) =
-        let k : r < length g.rows = omega (arith, h.height) in
-        let m : v ≢ c = λ e. ne x.1 e in
-        subst (λ (i : ℕ). cell_at (with_cell g r c b) i v ≡ cell_at g i v) (sym x.1)
-        (ap (λ (line : List Bool). get_or line v false) (get_or-set_same g.rows r (set (get_or g.rows r []) c b) [] k)
-        ∙ get_or-set_other (get_or g.rows r []) c v b false m)
-    by_row (inr y) = ap (λ (line : List Bool). get_or line v false) (get_or-set_other g.rows r u (set (get_or g.rows r []) c b) [] y.1)
-
--- a write keeps the shape
-pub grid-with_cell : (g : GridView) (r c : ℕ) (b : Bool) → IsGrid g → r < g.size.side → IsGrid (with_cell g r c b)
-grid-with_cell g r c b h lr =
-    let k : r < length g.rows = omega (arith, h.height) in
-    record {
-      row = h.row;
-      height = length-set g.rows r _ ∙ h.height;
-      width =
-          All-set (λ (line : List Bool). length line ≡ g.size.side) g.rows r (set (get_or g.rows r []) c b)
-          (length-set (get_or g.rows r []) c b ∙ All-get_or (λ (line : List Bool). length line ≡ g.size.side) g.rows r [] k h.width)
-          h.width;
-    }
+    by_row (inl x) = subst (λ (i : ℕ). cell_at (with_cell g r c b) i v ≡ cell_at g i v) (sym x.1) (cell_of_other_column g r c v b (omega (arith, h.height)) (λ e. ne x.1 e))
+    by_row (inr y) = cell_of_other_row g r c u v b y.1
 
 -- ---- all writes
 
@@ -69,7 +41,7 @@ pub begun_more : (s : SizeRow) (p : Place) (b : Bool) (grid : GridView) → IsRo
 begun_more s p b grid row law place h =
     let inside = law.inside p.word p.bit (At p.row p.column) place in
     let l = lies_inside s p.row row inside.0 in
-    record { square = grid-with_cell grid _ _ b h.square (subst (λ (t : SizeRow). symbol_line s.region_side p.row < t.side) (sym h.same_size) l); same_size = h.same_size }
+    record { square = grid_with_cell grid _ _ b h.square (subst (λ (t : SizeRow). symbol_line s.region_side p.row < t.side) (sym h.same_size) l); same_size = h.same_size }
 
 pub begun_all : (s : SizeRow) (words : List ℕ) (ps : List Place) (grid : GridView) → IsRow s → EachCellOnce s.mapping → ArePlaces s.mapping ps → IsBegun s grid → IsBegun s (written s words ps grid)
 begun_all s words [] grid row law are h = h
@@ -92,7 +64,7 @@ written-avoided s words (p ∷ rest) grid u v row law are h a =
     let l = side_of s grid _ h (lies_inside s p.row row inside.0) in
     let b : Bool = bit_of words p.word p.bit in
     written-avoided s words rest (with_cell grid _ _ b) u v row law are.1 (begun_more s p b grid row law are.0 h) a.1
-    ∙ cell-with_cell_other grid _ _ u v b h.square l a.0
+    ∙ cell_elsewhere grid _ _ u v b h.square l a.0
 
 -- the cell of a place has its bit once it is right, since a cell holds one bit
 pub stays_right : (s : SizeRow) (words : List ℕ) (ps : List Place) (grid : GridView) (w b r c : ℕ) → IsRow s → EachCellOnce s.mapping → ArePlaces s.mapping ps → IsBegun s grid → IsPlace s.mapping w b (At r c) →
@@ -115,16 +87,16 @@ stays_right s words (p ∷ rest) grid w b r c row law are h place e =
     by_row lr lc (inl x) (inl y) =
         let here : IsPlace s.mapping w b (At p.row p.column) = subst (λ (j : ℕ). IsPlace s.mapping w b (At p.row j)) y.1 (subst (λ (i : ℕ). IsPlace s.mapping w b (At i c)) x.1 place) in
         let one = one_bit s.mapping p.row p.column w b p.word p.bit law here are.0 in
-        let put = cell-with_cell grid (symbol_line s.region_side p.row) (symbol_line s.region_side p.column) (bit_of words p.word p.bit) h.square lr lc in
+        let put = cell_written grid (symbol_line s.region_side p.row) (symbol_line s.region_side p.column) (bit_of words p.word p.bit) h.square lr lc in
         let moved = ap (λ (i : ℕ). cell_at (with_cell grid (symbol_line s.region_side p.row) (symbol_line s.region_side p.column) (bit_of words p.word p.bit)) (symbol_line s.region_side i) (symbol_line s.region_side c)) x.1 in
         let across = ap (λ (j : ℕ). cell_at (with_cell grid (symbol_line s.region_side p.row) (symbol_line s.region_side p.column) (bit_of words p.word p.bit)) (symbol_line s.region_side p.row) (symbol_line s.region_side j)) y.1 in
         moved ∙ across ∙ put ∙ ap (λ (i : ℕ). bit_of words i p.bit) one.0 ∙ ap (bit_of words w) one.1
     by_row lr lc (inr x) y =
         let facts = row_facts s row in
-        cell-with_cell_other grid _ _ _ _ _ h.square lr (λ f g. x.1 (symbol_line-one s.region_side r p.row facts.least f)) ∙ e
+        cell_elsewhere grid _ _ _ _ _ h.square lr (λ f g. x.1 (symbol_line-one s.region_side r p.row facts.least f)) ∙ e
     by_row lr lc (inl x) (inr y) =
         let facts = row_facts s row in
-        cell-with_cell_other grid _ _ _ _ _ h.square lr (λ f g. y.1 (symbol_line-one s.region_side c p.column facts.least g)) ∙ e
+        cell_elsewhere grid _ _ _ _ _ h.square lr (λ f g. y.1 (symbol_line-one s.region_side c p.column facts.least g)) ∙ e
 
 -- and it becomes right when its place comes
 pub becomes_right : (s : SizeRow) (words : List ℕ) (ps : List Place) (grid : GridView) (i : ℕ) (d : Place) → IsRow s → EachCellOnce s.mapping → ArePlaces s.mapping ps → IsBegun s grid → i < length ps →
@@ -136,7 +108,7 @@ becomes_right s words (p ∷ rest) grid zero d row law are h l =
     let lc = side_of s grid _ h (lies_inside s p.column row inside.1) in
     let b : Bool = bit_of words p.word p.bit in
     stays_right s words rest (with_cell grid _ _ b) p.word p.bit p.row p.column row law are.1 (begun_more s p b grid row law are.0 h) are.0
-    (cell-with_cell grid _ _ b h.square lr lc)
+    (cell_written grid _ _ b h.square lr lc)
 becomes_right s words (p ∷ rest) grid (suc i) d row law are h l =
     let b : Bool = bit_of words p.word p.bit in
     becomes_right s words rest (with_cell grid _ _ b) i d row law are.1 (begun_more s p b grid row law are.0 h) (omega arith)

@@ -1,7 +1,7 @@
 -- The Reed-Solomon blocks into which the codewords of a symbol are dealt: ISO/IEC 16022, error correction.
-use Rattle.std.specs.Prelude.{◌≡◌, ℕ, ◌%◌, ◌<◌, List, map, filter, length, nat_eq, get_or, take}
+use Rattle.std.specs.Prelude.{◌≡◌, ℕ, ◌%◌, ◌<◌, List, map, filter, length, nat_eq, get_or, take, All}
 use Rattle.std.specs.List.{range_with_len}
-use Rattle.dm_layout.specs.Sizes.{block_data}
+use Rattle.dm_layout.specs.Sizes.{SizeRow, IsRow, block_data, block_length}
 use Rattle.dm_layout.specs.Words.{WordsView, IsWords, data_of}
 
 -- of the places 0 to count - 1 those that belong to block b of B, in order: the places j with j mod B = b
@@ -30,3 +30,13 @@ BlocksTellData =
 abbrev pub DataComesFirst : Type 0
 DataComesFirst =
     (w : WordsView) (b : ℕ) → IsWords w → b < w.size.blocks → take (block_data w.size) (block_of w.size.blocks b w.list) ≡ block_of w.size.blocks b (data_of w)
+
+-- for each block of a size a list of as many codewords as the block has, each of 0 to 255
+abbrev pub AreBlocks : SizeRow → (ℕ → List ℕ) → Type 0
+AreBlocks size blocks = (b : ℕ) → b < size.blocks → (length (blocks b) ≡ block_length size) × All (λ word. word < 256) (blocks b)
+
+-- they are the blocks of some codewords of the size
+abbrev pub BlocksMakeWords : Type 0
+BlocksMakeWords =
+    (size : SizeRow) (blocks : ℕ → List ℕ) → IsRow size → AreBlocks size blocks →
+    (w : WordsView) × IsWords w × (w.size ≡ size) × ((b : ℕ) → b < size.blocks → block_of size.blocks b w.list ≡ blocks b)

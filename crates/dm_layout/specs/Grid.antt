@@ -1,5 +1,5 @@
 -- A grid: the square of cells of a symbol, each dark or light.
-use Rattle.std.specs.Prelude.{◌≡◌, ℕ, ◌+◌, ◌*◌, ◌<◌, ◌≤◌, Bool, false, List, [], map, length, get_or, set, take, All}
+use Rattle.std.specs.Prelude.{◌≡◌, ℕ, ◌+◌, ◌*◌, ◌/◌, ◌%◌, ◌^◌, ◌<◌, ◌≤◌, Bool, false, List, [], map, length, nat_eq, get_or, set, All}
 use Rattle.std.specs.List.{range_with_len}
 use Rattle.dm_layout.specs.Sizes.{SizeRow, IsRow, largest_side}
 
@@ -34,15 +34,25 @@ square_of side cells = square_by side (λ row column. get_or cells (row * side +
 abbrev pub IsLight : GridView → Type 0
 IsLight grid = (row column : ℕ) → row < grid.size.side → column < grid.size.side → cell_at grid row column ≡ false
 
--- ---- how a grid is kept: in the upper left corner of a square of the largest side
+-- ---- rows as numbers
 
--- the grid of a size that is kept in these lines
-abbrev pub kept_grid : SizeRow → List (List Bool) → GridView
-kept_grid size lines = record { size = size; rows = map (take size.side) (take size.side lines) }
+-- the cell of a column, counted from 0 at the left, in a row that is a number: it is the bit of weight 2^column, 1 for dark
+abbrev pub is_dark_in : ℕ → ℕ → Bool
+is_dark_in row column = nat_eq (row / 2 ^ column % 2) 1
 
--- the size stands in the table, and the lines make a square of the largest side
-pub record IsKept (size : SizeRow) (lines : List (List Bool)) : Type 0 where
+-- the rows of a square that are given as numbers from the top; only the first `side` bits of each count
+abbrev pub square_of_rows : ℕ → List ℕ → List (List Bool)
+square_of_rows side rows = square_by side (λ row. is_dark_in (get_or rows row 0))
+
+-- ---- how a grid is kept: its rows as numbers, at the front of as many as the largest side
+
+-- the grid of a size that is kept in these numbers
+abbrev pub kept_grid : SizeRow → List ℕ → GridView
+kept_grid size rows = record { size = size; rows = square_of_rows size.side rows }
+
+-- the size stands in the table, there are as many numbers as the largest side, and none has a bit from the side on
+pub record IsKept (size : SizeRow) (rows : List ℕ) : Type 0 where
   pub row : IsRow size
   pub fits : size.side ≤ largest_side
-  pub height : length lines ≡ largest_side
-  pub width : All (λ line. length line ≡ largest_side) lines
+  pub height : length rows ≡ largest_side
+  pub width : All (λ row. row < 2 ^ size.side) rows

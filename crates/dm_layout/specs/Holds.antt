@@ -23,3 +23,21 @@ pub record IsLaid (words : WordsView) (grid : GridView) : Type 0 where
   pub holds : Holds grid words
   pub border : border_fault_count grid ≡ 0
   pub fixed_square : HasFixedSquare grid
+
+-- ---- laws
+
+-- each grid holds some codewords
+abbrev pub EachGridHolds : Type 0
+EachGridHolds = (grid : GridView) → IsGrid grid → (words : WordsView) × Holds grid words
+
+-- and no others
+abbrev pub HeldWordsAreOne : Type 0
+HeldWordsAreOne = (grid : GridView) (v w : WordsView) → Holds grid v → Holds grid w → v ≡ w
+
+-- codewords are laid in some grid
+abbrev pub WordsAreLaid : Type 0
+WordsAreLaid = (words : WordsView) → IsWords words → (grid : GridView) × IsLaid words grid
+
+-- and in no other
+abbrev pub LaidGridIsOne : Type 0
+LaidGridIsOne = (words : WordsView) (g h : GridView) → IsLaid words g → IsLaid words h → g ≡ h

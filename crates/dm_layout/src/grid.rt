@@ -1,9 +1,10 @@
 //! A grid: the square of cells of a symbol.
 
-ghost use Rattle.std.specs.Prelude.{◌≡◌, ◌≢◌, ℕ, ◌*◌, ◌<◌, ◌≤◌, ◌↔◌, All, IfOk, IsNone, [], false, get_or, length, take};
+ghost use Rattle.std.specs.Prelude.{◌≡◌, ◌≢◌, ◌*◌, ◌^◌, ◌<◌, ◌↔◌, All, IfOk, IsNone, length};
 ghost use Rattle.dm_layout.specs.Sizes.{row_with_side};
-ghost use Rattle.dm_layout.specs.Grid.{IsGrid, IsLight, cell_at, with_cell, square_of};
+ghost use Rattle.dm_layout.specs.Grid.{IsGrid, IsLight, cell_at, with_cell, square_of, square_of_rows};
 
+use crate::packed::{front, is_dark, packed_row, recoloured};
 use crate::size::{LARGEST_SIDE, Size};
 use std::marker::Model;
 
@@ -19,10 +20,13 @@ pub enum GridFault {
 /// The cells of a symbol, without a quiet zone: a square whose side is that of a [`Size`]. A cell is
 /// dark or light, and any colour may stand anywhere, in the borders too. What is read from a grid counts
 /// on it being upright: the solid column at the left, the solid row at the bottom.
+///
+/// Each row is kept as one number: the cell of column `c`, which counts from 0 at the left, is the bit of
+/// weight 2^c, 1 for dark. The bits from the side on are 0.
 #[derive(Clone, Debug, Drop)]
 pub struct Grid {
     size: Size,
-    cells: [[bool; LARGEST_SIDE]; LARGEST_SIDE],
+    rows: [u128; LARGEST_SIDE],
 }
 
 impl Model for Grid {
@@ -30,9 +34,9 @@ impl Model for Grid {
 
     ghost Value = { GridView };
 
-    ghost view = { λ g. kept_grid g.size g.cells };
+    ghost view = { λ g. kept_grid g.size g.rows };
 
-    ghost invariant = { λ g. IsKept g.size g.cells };
+    ghost invariant = { λ g. IsKept g.size g.rows };
 }
 
 impl Grid {
@@ -52,11 +56,34 @@ impl Grid {
         let Some(size) = Size::of_side(side) else {
             return Err(GridFault::NoSuchSize);
         };
-        let mut lines = light_lines();
+        let mut rows = [0; LARGEST_SIDE];
         for row in 0..across {
-            copy_line(&mut lines[row], &cells[row * across..(row + 1) * across]);
+            rows[row] = packed_row(&cells[row * across..(row + 1) * across]);
         }
-        Ok(Grid { size, cells: lines })
+        Ok(Grid { size, rows })
+    }
+
+    /// The grid of `side` rows of `side` cells; `rows` has a number for each row from the top, in which the
+    /// cell of column `c`, counted from 0 at the left, is the bit of weight 2^c, 1 for dark. The bits from the
+    /// side on may be anything. `NotSquare` comes where there are not as many rows as the side, and then
+    /// `NoSuchSize` where no size has this side.
+    pub fn of_rows(side: u16, rows: &[u128]) -> Result<Grid, GridFault>
+        ensures not_square { (result ≡ Err GridFault.NotSquare) ↔ (length rows.now ≢ side) }
+        ensures no_such_size { (result ≡ Err GridFault.NoSuchSize) ↔ ((length rows.now ≡ side) × IsNone (row_with_side side)) }
+        ensures size { IfOk result (λ g. row_with_side side ≡ Some g.size) }
+        ensures cells { IfOk result (λ g. g.rows ≡ square_of_rows side rows.now) }
+    {
+        if rows.len() != side as usize {
+            return Err(GridFault::NotSquare);
+        }
+        let Some(size) = Size::of_side(side) else {
+            return Err(GridFault::NoSuchSize);
+        };
+        let mut kept = [0; LARGEST_SIDE];
+        for row in 0..rows.len() {
+            kept[row] = front(rows[row], side);
+        }
+        Ok(Grid { size, rows: kept })
     }
 
     /// The grid of a size with all cells light.
@@ -69,7 +96,7 @@ impl Grid {
         let _side = size.side();
         Grid {
             size,
-            cells: light_lines(),
+            rows: [0; LARGEST_SIDE],
         }
     }
 
@@ -88,17 +115,7 @@ impl Grid {
         requires column { column < self.now.size.side }
         ensures { result ≡ cell_at self.now row column }
     {
-        self.cells[row as usize][column as usize]
-    }
-
-    /// The cells of one row, from the left.
-    pub(crate) fn line(&self, row: u16) -> &[bool]
-        requires { row < self.now.size.side }
-        ensures { result.now ≡ get_or self.now.rows row [] }
-    {
-        let side = self.size.side() as usize;
-        let line = &self.cells[row as usize];
-        &line[..side]
+        is_dark(self.rows[row as usize], column)
     }
 
     /// Colours one cell.
@@ -107,7 +124,17 @@ impl Grid {
         requires column { column < self.old.size.side }
         ensures { self.new ≡ with_cell self.old row column dark }
     {
-        self.cells[row as usize][column as usize] = dark;
+        let was = self.rows[row as usize];
+        self.rows[row as usize] = recoloured(was, column, dark);
+    }
+
+    /// The rows from the top, each as a number.
+    fn kept_rows(&self) -> &[u128]
+        ensures height { length result.now ≡ self.now.size.side }
+        ensures width { All (λ row. row < 2 ^ self.now.size.side) result.now }
+        ensures rows { self.now.rows ≡ square_of_rows self.now.size.side result.now }
+    {
+        &self.rows[..self.size.side() as usize]
     }
 }
 
@@ -125,16 +152,7 @@ impl PartialEq for Grid {
         ensures value { result ≡ equal_grids self.now other.now }
         ensures same { IsTrue result ↔ (self.now ≡ other.now) }
     {
-        let side = self.size().side();
-        if side != other.size().side() {
-            return false;
-        }
-        for row in 0..side {
-            if self.line(row) != other.line(row) {
-                return false;
-            }
-        }
-        true
+        self.size().side() == other.size().side() && self.kept_rows() == other.kept_rows()
     }
 }
 
@@ -142,24 +160,6 @@ impl Eq for Grid {
     ghost use Rattle.dm_layout.specs.Equality.{grids_equiv};
 
     ghost laws = { grids_equiv };
-}
-
-/// Lines that are light throughout.
-fn light_lines() -> [[bool; LARGEST_SIDE]; LARGEST_SIDE]
-    ensures height { length result ≡ LARGEST_SIDE }
-    ensures width { All (λ line. length line ≡ LARGEST_SIDE) result }
-    ensures light { (row column : ℕ) → get_or (get_or result row []) column false ≡ false }
-{
-    [[false; LARGEST_SIDE]; LARGEST_SIDE]
-}
-
-/// Puts the cells at the front of a line.
-fn copy_line(line: &mut [bool; LARGEST_SIDE], cells: &[bool])
-    requires { length cells.now ≤ LARGEST_SIDE }
-    ensures length { length line.new ≡ LARGEST_SIDE }
-    ensures front { take (length cells.now) line.new ≡ cells.now }
-{
-    line[..cells.len()].copy_from_slice(cells);
 }
 
 #[cfg(test)]

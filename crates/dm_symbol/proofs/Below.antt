@@ -1,13 +1,14 @@
 -- What the layers below promise, as the proofs here cite it.
-use Rattle.std.proofs.Common.{◌≡◌, ℕ, ◌+◌, ◌*◌, ◌<◌, ◌≤◌, List, length, get_or, ap}
+use Rattle.std.proofs.Common.{◌≡◌, ◌⊎◌, ℕ, ◌+◌, ◌*◌, ◌<◌, ◌≤◌, List, ◌++◌, length, get_or, ap, subst}
 use Rattle.std.specs.List.{All}
 use Rattle.dm_words.specs.declared.item.Item.{Item}
-use Rattle.dm_code.specs.Codeword.{IsCodeword, distance}
+use Rattle.dm_code.specs.Codeword.{IsCodeword, IsNear, distance}
 use Rattle.dm_layout.specs.Sizes.{SizeRow, IsRow, codeword_count, block_length}
-use Rattle.dm_layout.specs.Grid.{GridView}
+use Rattle.dm_layout.specs.Grid.{GridView, IsGrid}
 use Rattle.dm_layout.specs.Placement.{shapes, EachCellOnce}
-use Rattle.dm_layout.specs.Holds.{IsLaid}
-use Rattle.dm_layout.specs.Words.{WordsView}
+use Rattle.dm_layout.specs.Blocks.{AreBlocks}
+use Rattle.dm_layout.specs.Holds.{Holds, IsLaid}
+use Rattle.dm_layout.specs.Words.{WordsView, IsWords}
 use Rattle.dm_words.specs.Ascii.{ascii}
 use Rattle.dm_words.specs.Pads.{padded}
 use Rattle.dm_words.specs.Spells.{Spells}
@@ -15,16 +16,34 @@ use Rattle.dm_words.specs.Laws.{HasOneAnswer}
 use Rattle.dm_words.specs.Messages.{IsMessage}
 use Rattle.dm_symbol.specs.Blocks.{symbol, AreWordsOf, AreHeld, block_at}
 use Rattle.dm_code.proofs.Distance.{codewords_one}
+use Rattle.dm_code.proofs.Codewords.{codeword_bytes}
+use Rattle.dm_code.proofs.NearOrNone as near
+use Rattle.dm_code.proofs.Checks as checks
+use Rattle.dm_layout.proofs.HeldWords as held
+use Rattle.dm_layout.proofs.DealtWords as dealt
 use Rattle.dm_layout.proofs.BlockLemmas.{word_of_block, length_of_block}
 use Rattle.dm_layout.proofs.Reading.{one_list}
 use Rattle.dm_layout.proofs.Laid.{one_laid}
 use Rattle.dm_layout.proofs.PlacementRows.{once_at_row, count_at_row}
 use Rattle.dm_words.proofs.ItemBytes.{spelled_is_message as spelled_is_message_of}
-use Rattle.dm_words.proofs.LawLemmas.{one_answer as one_answer_of, ascii_spells as ascii_spells_padded}
+use Rattle.dm_words.proofs.LawLemmas.{one_answer as one_answer_of, ascii_spells as ascii_spells_padded, ascii_count, ascii_codewords}
 
 -- Two codewords of k checks and one length that differ in at most k places are equal.
 pub codewords_apart : (k : ℕ) (c d : List ℕ) → IsCodeword k c → IsCodeword k d → length c ≡ length d → length c ≤ 255 → distance c d ≤ k → c ≡ d
 codewords_apart = codewords_one
+
+-- The numbers of a codeword are bytes.
+pub codewords_are_bytes : (k : ℕ) (w : List ℕ) → IsCodeword k w → All (λ a. a < 256) w
+codewords_are_bytes = codeword_bytes
+
+-- Some codeword is near a block, or none is.
+pub near_or_none : (k : ℕ) (block : List ℕ) → k < length block → length block ≤ 255 → ((c : List ℕ) × IsNear k block c) ⊎ ((c : List ℕ) → IsNear k block c → ⊥)
+near_or_none = near.near_or_none
+
+-- Data codewords are completed to a codeword.
+pub checks_are_there : (k : ℕ) (front : List ℕ) → All (λ a. a < 256) front → k < 255 → length front + k ≤ 255
+    → (c : List ℕ) × (length c ≡ k) × IsCodeword k (front ++ c)
+checks_are_there = checks.checks_are_there
 
 -- Place i of block b is place i * B + b of the symbol.
 pub block_places : (size : SizeRow) (words : List ℕ) → AreWordsOf size words → (b i : ℕ) → b < size.blocks → i < block_length size
@@ -35,9 +54,31 @@ block_places size words h b i hb hi = word_of_block (symbol size words) b i h hb
 pub block_lengths : (size : SizeRow) (words : List ℕ) → AreWordsOf size words → (b : ℕ) → b < size.blocks → length (block_at size words b) ≡ block_length size
 block_lengths size words h b hb = length_of_block (symbol size words) b h hb
 
+-- Codewords of a symbol with these blocks.
+pub record HasBlocks (size : SizeRow) (blocks : ℕ → List ℕ) : Type 0 where
+  pub list : List ℕ
+  pub of_size : AreWordsOf size list
+  pub are : (b : ℕ) → b < size.blocks → block_at size list b ≡ blocks b
+
+-- Blocks make the codewords of a symbol.
+pub blocks_make_words : (size : SizeRow) (blocks : ℕ → List ℕ) → IsRow size → AreBlocks size blocks → HasBlocks size blocks
+blocks_make_words size blocks row are =
+    let made = dealt.blocks_make_words size blocks row are in
+    record { list = made.0.list; of_size = subst (λ s. AreWordsOf s made.0.list) made.2 made.1; are = made.3 }
+
+-- A grid holds some codewords.
+pub every_grid_holds : (grid : GridView) → IsGrid grid → (words : List ℕ) × AreHeld grid words
+every_grid_holds grid h =
+    let made = held.every_grid_holds grid h in
+    (made.0.list, subst (λ x. Holds grid x) (ap (λ s. symbol s made.0.list) made.1.same_size) made.1)
+
 -- A grid holds one list of codewords.
 pub held_words_are_one : (grid : GridView) (u v : List ℕ) → AreHeld grid u → AreHeld grid v → u ≡ v
 held_words_are_one grid u v hu hv = ap (λ w. w.list) (one_list grid (symbol grid.size u) (symbol grid.size v) hu hv)
+
+-- Codewords are laid in some grid.
+pub laid_somewhere : (words : WordsView) → IsWords words → (grid : GridView) × IsLaid words grid
+laid_somewhere = held.laid_somewhere
 
 -- Codewords are laid in one grid.
 pub laid_grid_is_one : (g h : GridView) (words : WordsView) → IsLaid words g → IsLaid words h → g ≡ h
@@ -58,6 +99,11 @@ one_answer words h = one_answer_of words h
 -- The ASCII form of a message, with pads, spells the message.
 pub ascii_spells : (m : List Item) (count : ℕ) → IsMessage m → length (ascii m) ≤ count → Spells (padded (ascii m) count) m
 ascii_spells m count h fits = ascii_spells_padded m count h fits
+
+-- With pads it is so many codewords.
+pub ascii_words_are : (m : List Item) (count : ℕ) → IsMessage m → length (ascii m) ≤ count
+    → (length (padded (ascii m) count) ≡ count) × All (λ w. w < 256) (padded (ascii m) count)
+ascii_words_are m count h fits = (ascii_count m count fits, ascii_codewords m count h)
 
 -- What is spelled is a message.
 pub spelled_is_message : (words : List ℕ) (m : List Item) → Spells words m → IsMessage m

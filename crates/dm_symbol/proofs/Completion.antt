@@ -11,7 +11,7 @@ use Rattle.dm_symbol.proofs.SymbolBlocks.{place_in_block}
 use Rattle.dm_symbol.proofs.Below.{block_lengths}
 
 -- Where the data codewords of each block stay, those of the symbol do.
-data_stays : (size : SizeRow) (u v : List ℕ) → AreWordsOf size u → AreWordsOf size v
+pub data_stays : (size : SizeRow) (u v : List ℕ) → AreWordsOf size u → AreWordsOf size v
     → ((b i : ℕ) → b < size.blocks → i < block_data size → get_or (block_at size v b) i 0 ≡ get_or (block_at size u b) i 0)
     → data_part size v ≡ data_part size u
 data_stays size u v hu hv same =

@@ -1,5 +1,4 @@
 pub mod SizeFacts
-pub mod HeldWords
 pub mod Below
 pub mod Distances
 pub mod SymbolBlocks
@@ -11,3 +10,6 @@ pub mod Counts
 pub mod TurnedCells
 pub mod WriteSteps
 pub mod ReadSteps
+pub mod Choosing
+pub mod CompletedWords
+pub mod EachGrid

@@ -5,7 +5,7 @@ use Rattle.std.specs.List.{AllByRecursion, list_all}
 use Rattle.std.proofs.lemmas.Bool.{and_parts, eqb-true, leb-true}
 use Rattle.std.proofs.lemmas.List.Sums.{AllPass-from_list_all}
 use Rattle.std.proofs.lemmas.List.Elements.{recursion_from_All}
-use Rattle.dm_layout.specs.Sizes.{SizeRow, IsRow, size_table, row_for_words, most_data, codeword_count, block_data, block_check, block_length, regions_across}
+use Rattle.dm_layout.specs.Sizes.{SizeRow, IsRow, size_table, row_for_words, row_with_side, most_data, codeword_count, block_data, block_check, block_length, regions_across}
 
 -- What holds of each row holds of a row that is found, which passes the test.
 found : (P : SizeRow → Type 0) (p : SizeRow → Bool) (rows : List SizeRow) (row : SizeRow) → AllByRecursion P rows → find p rows ≡ Some row → P row × (p row ≡ true)
@@ -95,6 +95,12 @@ blocks_of_size s t e = ap (λ r. r.blocks) e
 rows_are_rows : AllByRecursion IsRow size_table
 unfolding size_table
 rows_are_rows = (refl, (refl, (refl, (refl, (refl, (refl, (refl, (refl, (refl, (refl, (refl, (refl, (refl, (refl, (refl, tt)))))))))))))))
+
+-- The size for a side stands in the table and has that side.
+pub has_that_side : (side : ℕ) (s : SizeRow) → row_with_side side ≡ Some s → IsRow s × (s.side ≡ side)
+has_that_side side s h =
+    let here = found IsRow (λ r. nat_eq r.side side) size_table s rows_are_rows h in
+    (here.0, eqb-true _ _ here.1)
 
 -- The size for a number of words stands in the table and holds them.
 pub holds_that_many : (count : ℕ) (s : SizeRow) → row_for_words count ≡ Some s → IsRow s × (count ≤ s.data_count)

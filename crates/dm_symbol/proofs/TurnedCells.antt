@@ -22,8 +22,7 @@ use Rattle.dm_symbol.specs.Laws.{turned_cells}
 use Rattle.dm_symbol.proofs.Counts.{cells_grow, none_pass, IsWitness, differing_below_cells}
 use Rattle.dm_symbol.proofs.NormalGrids.{some_is, normal_words_spell}
 use Rattle.dm_symbol.proofs.SizeFacts.{Facts, size_facts}
-use Rattle.dm_symbol.proofs.HeldWords.{every_grid_holds}
-use Rattle.dm_symbol.proofs.Below.{block_places, block_lengths, each_cell_once, shape_count}
+use Rattle.dm_symbol.proofs.Below.{block_places, block_lengths, each_cell_once, every_grid_holds, shape_count}
 
 -- ---- bits
 

@@ -8,7 +8,7 @@ use Rattle.dm_words.specs.Messages.{IsMessage}
 use Rattle.dm_symbol.specs.declared.reading.Reading.{Reading}
 use Rattle.dm_symbol.specs.declared.reading.ReadFault.{ReadFault}
 use Rattle.dm_symbol.specs.declared.normalising.NormalFault.{NormalFault}
-use Rattle.dm_symbol.specs.NormalGrid.{IsNormalGrid}
+use Rattle.dm_symbol.specs.NormalGrid.{IsNormalGrid, HasNormalGrid}
 use Rattle.dm_symbol.specs.Reading.{Reads, ReadAnswer, reading_of}
 use Rattle.dm_symbol.specs.Normal.{HasNormal, NormalAnswer}
 
@@ -27,6 +27,18 @@ OneAnswerIsGiven = (grid : GridView) (limit : ℕ) (a b : Result Reading ReadFau
 -- A grid has at most one answer of `normal` for a limit.
 abbrev pub OneNormalAnswerIsGiven : Type 0
 OneNormalAnswerIsGiven = (grid : GridView) (limit : ℕ) (a b : Result GridView NormalFault) → NormalAnswer grid limit a → NormalAnswer grid limit b → a ≡ b
+
+-- A grid has some answer for each limit.
+abbrev pub AnAnswerIsGiven : Type 0
+AnAnswerIsGiven = (grid : GridView) (limit : ℕ) → IsGrid grid → (answer : Result Reading ReadFault) × ReadAnswer grid limit answer
+
+-- A grid has some answer of `normal` for each limit.
+abbrev pub ANormalAnswerIsGiven : Type 0
+ANormalAnswerIsGiven = (grid : GridView) (limit : ℕ) → IsGrid grid → (answer : Result GridView NormalFault) × NormalAnswer grid limit answer
+
+-- A message that some size holds has a normal grid.
+abbrev pub ANormalGridIsThere : Type 0
+ANormalGridIsThere = (m : List Item) → IsMessage m → HasNormalGrid m → (grid : GridView) × IsNormalGrid m grid
 
 -- The normal grid of a message is read as it for every limit, with nothing corrected in any block and no border fault, and has no
 -- other answer.

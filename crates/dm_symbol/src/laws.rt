@@ -1,6 +1,6 @@
 //! Laws of the definitions in `specs/`. Each function has an empty body: its contract is the law.
 
-ghost use Rattle.dm_symbol.specs.Laws.{NormalGridsTellMessages, OneMessageIsRead, OneAnswerIsGiven, OneNormalAnswerIsGiven, NormalGridIsRead, TurnedCellsAreRead, NormalTwiceIsOnce, EqualNormalGridsMeanEqualMessages};
+ghost use Rattle.dm_symbol.specs.Laws.{NormalGridsTellMessages, OneMessageIsRead, OneAnswerIsGiven, OneNormalAnswerIsGiven, AnAnswerIsGiven, ANormalAnswerIsGiven, ANormalGridIsThere, NormalGridIsRead, TurnedCellsAreRead, NormalTwiceIsOnce, EqualNormalGridsMeanEqualMessages};
 
 /// Two normal grids are equal exactly where their messages are.
 pub fn normal_grids_tell_messages()
@@ -13,6 +13,17 @@ pub fn one_message_is_read()
     ensures message { OneMessageIsRead }
     ensures answer { OneAnswerIsGiven }
     ensures normal { OneNormalAnswerIsGiven }
+{}
+
+/// Each grid has an answer of reading and one of normalising for each limit: with what [`one_message_is_read`] says, exactly one.
+pub fn each_grid_has_an_answer()
+    ensures answer { AnAnswerIsGiven }
+    ensures normal { ANormalAnswerIsGiven }
+{}
+
+/// Each message that some size holds has a normal grid.
+pub fn a_normal_grid_is_there()
+    ensures { ANormalGridIsThere }
 {}
 
 /// The normal grid of a message is read as it for every limit, with nothing corrected.

@@ -11,8 +11,8 @@ mod normalising;
 mod reading;
 mod writing;
 
-pub use dm_layout::{Grid, GridFault, Size};
-pub use dm_words::{Item, Message, TooLong, WordFault};
+pub use dm_layout::{Grid, GridFault, LARGEST_SIDE, Size, table};
+pub use dm_words::{Item, MOST_ITEMS, Message, TooLong, WordFault};
 pub use limit::usual_limit;
 pub use normalising::{NormalFault, normal};
 pub use reading::{ReadFault, Reading, read};

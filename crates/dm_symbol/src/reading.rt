@@ -7,7 +7,7 @@ ghost use Rattle.dm_symbol.specs.Blocks.{AreWordsOf, BlocksAreNear, distances};
 ghost use Rattle.dm_symbol.specs.Reading.{Reads, ReadAnswer, IsReadAs, IsFirstBeyond};
 
 use arrayvec::ArrayVec;
-use dm_code::{BeyondLimit, Elimination, correct};
+use dm_code::{BeyondLimit, Quick, correct};
 use dm_layout::{Grid, Words, block, border_faults, lift, put_block};
 use dm_words::{Message, WordFault, message_of};
 
@@ -74,7 +74,7 @@ fn correct_blocks(words: &mut Words) -> Result<ArrayVec<u8, 2>, u8>
     let checks = usize::from(size.block_check());
     let mut counts = ArrayVec::new();
     for b in 0..size.blocks() as u8 {
-        let fixed = match correct(&Elimination, &block(words, usize::from(b)), checks) {
+        let fixed = match correct(&Quick, &block(words, usize::from(b)), checks) {
             Ok(fixed) => fixed,
             Err(BeyondLimit) => return Err(b),
         };

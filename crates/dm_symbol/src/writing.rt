@@ -9,11 +9,8 @@ ghost use Rattle.dm_symbol.specs.NormalGrid.{IsNormalGrid, HasNormalGrid};
 
 use arrayvec::ArrayVec;
 use dm_code::encode;
-use dm_layout::{Grid, Size, Words, block, lay, put_block};
+use dm_layout::{Grid, MOST_CODEWORDS, Size, Words, block, lay, put_block};
 use dm_words::{Message, TooLong, ascii_words, padded};
-
-/// The most codewords of a symbol, data and check together.
-const MOST_CODEWORDS: usize = 288;
 
 /// The normal grid of a message: its ASCII codewords, pads and check codewords, laid in the smallest symbol that holds them (ISO/IEC
 /// 16022, symbol construction). `TooLong` comes exactly where the message has none, since its ASCII codewords are more than the data

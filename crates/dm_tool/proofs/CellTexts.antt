@@ -61,11 +61,11 @@ seen_is t lines rest h =
 
 -- ---- lines that aren't too large
 
-few : (n : ℕ) → nat_lt largest_side n ≡ false → n ≤ 52
+few : (n : ℕ) → nat_lt largest_side n ≡ false → n ≤ largest_side
 few n e = ltb-false largest_side n e
 
 -- so many characters at most
-joined_short : (lines : List (List ℕ)) → list_any long lines ≡ false → length (concat lines) ≤ 52 * length lines
+joined_short : (lines : List (List ℕ)) → list_any long lines ≡ false → length (concat lines) ≤ largest_side * length lines
 joined_short [] e = omega arith
 joined_short (l ∷ lines) e =
     let both = or_cases (long l) (list_any long lines) e in
@@ -74,7 +74,7 @@ joined_short (l ∷ lines) e =
     let sum = length-append l (concat lines) in omega arith
 
 abbrev pub Small : List (List ℕ) → List ℕ → List ℕ → Type 0
-Small lines line text = (length lines + 1 ≤ 52) × (length line ≤ 52) × (length text ≤ 52 * length lines + length line)
+Small lines line text = (length lines + 1 ≤ largest_side) × (length line ≤ largest_side) × (length text ≤ largest_side * length lines + length line)
 
 pub with_line : (t : CellText) (lines : List (List ℕ)) (x : ℕ) (r : List ℕ) → HoldsLines t lines (x ∷ r) → Small lines (x ∷ r) t.text.items
 with_line t lines x r h =
@@ -85,7 +85,7 @@ with_line t lines x r h =
     let short = joined_short lines more.0 in
     (few (length lines + 1) parts.0, few (length (x ∷ r)) more.1, omega arith)
 
-pub without_line : (t : CellText) (lines : List (List ℕ)) → HoldsLines t lines [] → (length lines ≤ 52) × (t.count ≡ length lines) × (length t.text.items ≤ 52 * length lines)
+pub without_line : (t : CellText) (lines : List (List ℕ)) → HoldsLines t lines [] → (length lines ≤ largest_side) × (t.count ≡ length lines) × (length t.text.items ≤ largest_side * length lines)
 without_line t lines h =
     let small : is_large lines ≡ false = rw (append-nil lines) at h.small in
     let parts = or_cases (nat_lt largest_side (length lines)) (list_any long lines) small in
@@ -96,11 +96,11 @@ without_line t lines h =
 
 -- ---- one more character
 
-full_new : (lines : List (List ℕ)) (b n : ℕ) → n ≡ length lines → n ≡ 52 → is_large lines ≡ false → is_large (lines ++ (b ∷ []) ∷ []) ≡ true
+full_new : (lines : List (List ℕ)) (b n : ℕ) → n ≡ length lines → n ≡ largest_side → is_large lines ≡ false → is_large (lines ++ (b ∷ []) ∷ []) ≡ true
 full_new lines b n e f small = large_count lines b small ∙ lt-ltb largest_side (length lines + 1) (omega arith)
 
 -- no room for a new line
-pub begin_full : (t : CellText) (lines : List (List ℕ)) (b : ℕ) → HoldsLines t lines [] → t.count ≡ 52 → is_large (lines ++ (b ∷ []) ∷ []) ≡ true
+pub begin_full : (t : CellText) (lines : List (List ℕ)) (b : ℕ) → HoldsLines t lines [] → t.count ≡ largest_side → is_large (lines ++ (b ∷ []) ∷ []) ≡ true
 begin_full t lines b h full = full_new lines b t.count (without_line t lines h).1 full (rw (append-nil lines) at h.small)
 
 false_both : (a b : Bool) → a ≡ false → b ≡ false → (a || b) ≡ false
@@ -110,11 +110,11 @@ differ_none : (lines : List (List ℕ)) (f g : ℕ) → length lines ≡ 0 → d
 differ_none [] f g e = refl
 differ_none (l ∷ lines) f g e = absurd (omega arith)
 
-le_test : (m : ℕ) → m ≤ 52 → nat_lt largest_side m ≡ false
+le_test : (m : ℕ) → m ≤ largest_side → nat_lt largest_side m ≡ false
 le_test m le = le-ltb largest_side m le
 
 -- a new line
-pub begin_done : (t s : CellText) (lines : List (List ℕ)) (b : ℕ) → HoldsLines t lines [] → is_foreign b ≡ false → t.count ≢ 52
+pub begin_done : (t s : CellText) (lines : List (List ℕ)) (b : ℕ) → HoldsLines t lines [] → is_foreign b ≡ false → t.count ≢ largest_side
     → s.text.items ≡ t.text.items ++ b ∷ [] → s.count ≡ t.count + 1 → (t.count ≡ 0 → s.first ≡ 1) → (t.count ≢ 0 → s.first ≡ t.first) → s.last ≡ 1 → s.differs ≡ t.differs
     → HoldsLines s lines (b ∷ [])
 begin_done t s lines b h cell room text count first_zero first_some last differs =
@@ -143,14 +143,14 @@ begin_done t s lines b h cell room text count first_zero first_some last differs
     same_differ false e c = ap (λ k. differ k lines) (sym (first_some (λ z. eqb-false (length lines) 0 e (sym c ∙ z))))
 
 -- no room in the last line
-pub lengthen_full : (t : CellText) (lines : List (List ℕ)) (x : ℕ) (r : List ℕ) (b : ℕ) → HoldsLines t lines (x ∷ r) → t.last ≡ 52
+pub lengthen_full : (t : CellText) (lines : List (List ℕ)) (x : ℕ) (r : List ℕ) (b : ℕ) → HoldsLines t lines (x ∷ r) → t.last ≡ largest_side
     → is_large (lines ++ last_line ((x ∷ r) ++ b ∷ [])) ≡ true
 lengthen_full t lines x r b h full =
-    let last : length (x ∷ r) ≡ 52 = sym (last_new lines (x ∷ r)) ∙ sym h.last_is ∙ full in
+    let last : length (x ∷ r) ≡ largest_side = sym (last_new lines (x ∷ r)) ∙ sym h.last_is ∙ full in
     large_length lines (x ∷ r) b h.small ∙ lt-ltb largest_side (length (x ∷ r) + 1) (omega arith)
 
 -- a character more in the last line
-pub lengthen_done : (t s : CellText) (lines : List (List ℕ)) (x : ℕ) (r : List ℕ) (b : ℕ) → HoldsLines t lines (x ∷ r) → is_foreign b ≡ false → t.last ≢ 52
+pub lengthen_done : (t s : CellText) (lines : List (List ℕ)) (x : ℕ) (r : List ℕ) (b : ℕ) → HoldsLines t lines (x ∷ r) → is_foreign b ≡ false → t.last ≢ largest_side
     → s.text.items ≡ t.text.items ++ b ∷ [] → s.count ≡ t.count → (t.count ≡ 1 → s.first ≡ t.last + 1) → (t.count ≢ 1 → s.first ≡ t.first) → s.last ≡ t.last + 1
     → s.differs ≡ t.differs → HoldsLines s lines ((x ∷ r) ++ b ∷ [])
 lengthen_done t s lines x r b h cell room text count first_one first_more' last differs =

@@ -24,7 +24,7 @@ appends_kept (Some xs) (Some ys) None s p q = absurd q
 appends_kept (Some xs) (Some ys) (Some zs) s p q = q ∙ p
 
 -- `&bs[i..]` is all that is left
-rest_is : (bs : List ℕ) (i : ℕ) → take (length bs - i) (drop i bs) ≡ drop i bs
+pub rest_is : (bs : List ℕ) (i : ℕ) → take (length bs - i) (drop i bs) ≡ drop i bs
 rest_is bs i = ap (λ n. take n (drop i bs)) (sym (length-drop i bs)) ∙ take-length (drop i bs)
 
 -- the next n of the bytes, after the first i
@@ -36,3 +36,7 @@ appends_next a b c bs i n p q =
 -- a growth, and then a beginning of another
 pub front_then : (a b c : Option (List ℕ)) (s t all : List ℕ) → Appends a b s → AppendsFront b c t → all ≡ s ++ t → AppendsFront a c all
 front_then a b c s t all p q e = (s ++ q.0, q.1, e ∙ ap (λ l. s ++ l) q.2 ∙ sym (append_assoc s q.0 q.1), appends_then a b c s q.0 p q.3)
+
+-- a beginning of bytes is one of more bytes
+pub front_of_more : (a b : Option (List ℕ)) (s t : List ℕ) → AppendsFront a b s → AppendsFront a b (s ++ t)
+front_of_more a b s t p = (p.0, p.1 ++ t, ap (λ l. l ++ t) p.2 ∙ append_assoc p.0 p.1 t, p.3)

@@ -20,8 +20,14 @@ pub mod RecordCuts
 pub mod RecordTexts
 pub mod LineTexts
 pub mod Standings
+pub mod Pieces
 pub mod AnswerTexts
 pub mod TableLines
 pub mod Outcomes
 pub mod OneAnswer
 pub mod OneText
+pub mod EachLine
+pub mod EachSplit
+pub mod EachAnswer
+pub mod EachText
+pub mod GoingOn

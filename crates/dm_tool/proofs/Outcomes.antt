@@ -83,13 +83,13 @@ too_much task most Gave Took state text byte answers gave full s took = record {
 }
 
 -- a write failed before the end came
-pub broken_before : (task : Task) (most : ℕ) (Gave TookFront : List ℕ → Type 0) (Ended : Type 0) (state : Answering) (text : List ℕ) (answers : List Answer)
-    → Gave text → length text ≤ most → Stands task state text answers → TookFront (written answers) → IsBroken task most Gave Ended TookFront
-broken_before task most Gave TookFront Ended state text answers gave within s took = record {
+pub broken_before : (task : Task) (most : ℕ) (Gave TookFront : List ℕ → Type 0) (Ended : Type 0) (text : List ℕ) (answers : List Answer)
+    → Gave text → length text ≤ most → IsDone task text (written answers) → TookFront (written answers) → IsBroken task most Gave Ended TookFront
+broken_before task most Gave TookFront Ended text answers gave within done took = record {
   text = text;
   gave = gave;
   within = within;
-  began = inl (written answers, stands_done task state text answers s, took);
+  began = inl (written answers, done, took);
 }
 
 -- a write or the flush failed when the end had come

@@ -47,12 +47,12 @@ records_append _ m _ s (longest_run these lines records n f b g) h k =
     (records_append lines m records s g (later_blanks these lines h) k))
 
 -- what holds of all of lines and others holds of the first ones
-all_front : (P : List ℕ → Type 0) (a b : List (List ℕ)) → AllByRecursion P (a ++ b) → AllByRecursion P a
+pub all_front : (P : List ℕ → Type 0) (a b : List (List ℕ)) → AllByRecursion P (a ++ b) → AllByRecursion P a
 all_front P [] b h = tt
 all_front P (x ∷ a) b h = (h.0, all_front P a b h.1)
 
 -- and of the others
-all_back : (P : List ℕ → Type 0) (a b : List (List ℕ)) → AllByRecursion P (a ++ b) → AllByRecursion P b
+pub all_back : (P : List ℕ → Type 0) (a b : List (List ℕ)) → AllByRecursion P (a ++ b) → AllByRecursion P b
 all_back P [] b h = h
 all_back P (x ∷ a) b h = all_back P a b h.1
 
@@ -92,16 +92,21 @@ before_no_lf text answers new t = all_front HasNoLf t.before t.after (subst (All
 after_no_lf : (text : List ℕ) (answers : List RecordAnswer) (new : RecordFacts) → (t : AreRecordsOfText text answers new) → AllByRecursion HasNoLf t.after
 after_no_lf text answers new t = all_back HasNoLf t.before t.after (subst (AllByRecursion HasNoLf) t.last_blank.whole t.split.lines_no_lf)
 
+-- a text that goes on, by what then stands after its closed part
+pub records_after : (text piece : List ℕ) (answers more : List RecordAnswer) (old new : RecordFacts) → (t : AreRecordsOfText text answers old)
+    → AreRecordsOfText ((ended t.after ++ t.rest) ++ piece) more new → AreRecordsOfText (text ++ piece) (answers ++ more) new
+records_after text piece answers more old new t later =
+    let all = closed_before ((ended t.after ++ t.rest) ++ piece) t.before t.records more new (before_no_lf text answers old t) t.last_blank.blank t.are_records later in
+    let text_is : ended t.before ++ ((ended t.after ++ t.rest) ++ piece) ≡ text ++ piece =
+    sym (append_assoc (ended t.before) (ended t.after ++ t.rest) piece) ∙ ap (λ l. l ++ piece) (sym (closed_part text answers old t)) in
+    subst (λ a. AreRecordsOfText (text ++ piece) (a ++ more) new) (sym t.answered)
+    (subst (λ l. AreRecordsOfText l (map record_of t.records ++ more) new) text_is all)
+
 -- a text that goes on in pieces
 pub records_go_on : (text : List ℕ) (answers more : List RecordAnswer) (old new : RecordFacts) (pieces : List (List ℕ))
     → AreRecordsOfText text answers old → AreRecordsFed old pieces more new → AreRecordsOfText (text ++ concat pieces) (answers ++ more) new
 records_go_on text answers more old new pieces t fed =
-    let later = fed_after (ended t.after ++ t.rest) old new pieces more fed t.left in
-    let all = closed_before ((ended t.after ++ t.rest) ++ concat pieces) t.before t.records more new (before_no_lf text answers old t) t.last_blank.blank t.are_records later in
-    let text_is : ended t.before ++ ((ended t.after ++ t.rest) ++ concat pieces) ≡ text ++ concat pieces =
-    sym (append_assoc (ended t.before) (ended t.after ++ t.rest) (concat pieces)) ∙ ap (λ l. l ++ concat pieces) (sym (closed_part text answers old t)) in
-    subst (λ a. AreRecordsOfText (text ++ concat pieces) (a ++ more) new) (sym t.answered)
-    (subst (λ l. AreRecordsOfText l (map record_of t.records ++ more) new) text_is all)
+    records_after text (concat pieces) answers more old new t (fed_after (ended t.after ++ t.rest) old new pieces more fed t.left)
 
 -- a piece that closes no record
 pub records_stay_open : (text : List ℕ) (answers : List RecordAnswer) (old new : RecordFacts) (piece : List ℕ) (taken : ℕ)
@@ -125,7 +130,7 @@ record_is_closed text answers old new piece taken answer t now all =
 
 -- ---- a text that ends
 
-full_of : (lines : List (List ℕ)) → AllByRecursion (λ l. l ≢ []) lines → AllByRecursion HasNoLf lines → AreFullLines lines
+pub full_of : (lines : List (List ℕ)) → AllByRecursion (λ l. l ≢ []) lines → AllByRecursion HasNoLf lines → AreFullLines lines
 full_of [] h k = tt
 full_of (x ∷ lines) h k = ((h.0, k.0), full_of lines h.1 k.1)
 

@@ -1,5 +1,5 @@
 -- What stands between the bytes of a text that is answered as it comes, at its next byte and at its end.
-use Rattle.std.proofs.Common.{◌≡◌, ◌≢◌, ◌∙◌, ◌<◌, ◌≤◌, ◌+◌, ◌↔◌, ◌⊎◌, inl, inr, ℕ, zero, suc, List, [], ◌∷◌, ◌++◌, refl, sym, ap, subst, append-nil, map, length, drop, arith, Option, Some, IsSome, Result, Ok, Err, OnOk, OnErr}
+use Rattle.std.proofs.Common.{◌≡◌, ◌≢◌, ◌∙◌, ◌≤◌, ◌+◌, ◌↔◌, ◌⊎◌, inl, inr, ℕ, zero, suc, List, [], ◌∷◌, ◌++◌, refl, sym, ap, subst, append-nil, append_assoc, map, length, length-take-le, drop, take, arith, Option, Some, IsSome, Result, Ok, Err, OnOk, OnErr}
 use Rattle.std.specs.Io.KnownBytes.{Appends, Keeps}
 use Rattle.dm_tool.specs.Devices.{AppendsFront}
 use Rattle.dm_tool.proofs.KnownBytes.{appends_kept}
@@ -10,14 +10,14 @@ use Rattle.dm_tool.specs.declared.answering.Answering.TheVariants.{Records, Line
 use Rattle.dm_tool.specs.Texts.{last_line}
 use Rattle.dm_tool.specs.Records.{AreLfs, record_of}
 use Rattle.dm_tool.specs.RecordFacts.{RecordFacts, AreRecordFacts}
-use Rattle.dm_tool.specs.RecordFeeds.{RecordAnswer, ClosesRecord, IsLastBlank, IsLastRecord, LeavesRecordOpen}
+use Rattle.dm_tool.specs.RecordFeeds.{RecordAnswer, ClosesRecord, IsAnsweredRecord, IsLastBlank, IsLastRecord, LeavesRecordOpen}
 use Rattle.dm_tool.specs.LineFacts.{LineFacts, AreLineFacts}
 use Rattle.dm_tool.specs.LineFeeds.{LineAnswer, AreAnswered, ClosesLine, LeavesLineOpen}
 use Rattle.dm_tool.specs.MessageLines.{IsLine}
 use Rattle.dm_tool.specs.Answers.{Answer, AnswersRecords, IsRecordAnswer, IsWriteAnswer}
 use Rattle.dm_tool.specs.Runs.{AreAllAnswers, AreAnswersTo, AreAnswersToRecords, AreClosedAnswers, AreClosedLines, AreMatched, IsAnswerToLine, IsAnswerToRecord, IsDone, IsOut, HasEnded, tally_of, written}
 use Rattle.dm_tool.specs.declared.task.Tally.{Tally}
-use Rattle.dm_tool.specs.Standings.{Ends, Goes, Stands}
+use Rattle.dm_tool.specs.Standings.{Ends, Goes, Stands, StandsAnywhere}
 use Rattle.dm_tool.proofs.RecordTexts.{all_closed, last_closed, record_is_closed, records_stay_open}
 use Rattle.dm_tool.proofs.LineTexts.{line_is_closed, lines_stay_open}
 
@@ -40,7 +40,7 @@ matched_records task (x ∷ records) [] h = absurd h
 matched_records task (x ∷ records) (y ∷ answers) h = (h.0, matched_records task records answers h.1)
 
 -- lines whose messages or faults are matched
-matched_lines : (lines : List (List ℕ)) (messages : List LineAnswer) (answers : List Answer) → AreAnswered lines messages → AreMatched IsWriteAnswer messages answers
+pub matched_lines : (lines : List (List ℕ)) (messages : List LineAnswer) (answers : List Answer) → AreAnswered lines messages → AreMatched IsWriteAnswer messages answers
     → AreMatched IsAnswerToLine lines answers
 matched_lines [] [] [] p q = tt
 matched_lines [] [] (y ∷ answers) p q = absurd q
@@ -51,27 +51,49 @@ matched_lines (l ∷ lines) (x ∷ messages) (y ∷ answers) p q = ((x, p.0, q.0
 
 -- ---- tasks of grids
 
-answers_of_grids : (task : Task) (lines : List (List ℕ)) (answers : List Answer) → AnswersRecords task → AreAnswersToRecords task lines answers → AreAnswersTo task lines answers
+pub answers_of_grids : (task : Task) (lines : List (List ℕ)) (answers : List Answer) → AnswersRecords task → AreAnswersToRecords task lines answers → AreAnswersTo task lines answers
 answers_of_grids (Read border) lines answers g h = h
 answers_of_grids (Check border) lines answers g h = h
 answers_of_grids (Normal border) lines answers g h = h
 answers_of_grids Write lines answers g h = absurd g
 answers_of_grids Table lines answers g h = absurd g
 
-closed_of_grids : (task : Task) (lines closed : List (List ℕ)) → AnswersRecords task → (after : List (List ℕ)) × IsLastBlank lines closed after → AreClosedLines task lines closed
+pub closed_of_grids : (task : Task) (lines closed : List (List ℕ)) → AnswersRecords task → (after : List (List ℕ)) × IsLastBlank lines closed after → AreClosedLines task lines closed
 closed_of_grids (Read border) lines closed g h = h
 closed_of_grids (Check border) lines closed g h = h
 closed_of_grids (Normal border) lines closed g h = h
 closed_of_grids Write lines closed g h = absurd g
 closed_of_grids Table lines closed g h = absurd g
 
--- ---- the next byte
+-- ---- more of the text
 
--- the rest of one byte of which some was taken
-one_taken : (byte taken : ℕ) → 0 < taken → taken ≤ 1 → drop taken (byte ∷ []) ≡ []
-one_taken byte zero p q = absurd (omega arith)
-one_taken byte (suc zero) p q = refl
-one_taken byte (suc (suc n)) p q = absurd (omega arith)
+-- one piece after another
+pub goes_then : (a b c : Answering) (x y : List ℕ) (m n : List Answer) → Goes a x m b → Goes b y n c → Goes a (x ++ y) (m ++ n) c
+goes_then a b c x y m n p q task text answers s =
+    subst (λ l. Stands task c l (answers ++ (m ++ n))) (append_assoc text x y)
+    (subst (Stands task c ((text ++ x) ++ y)) (append_assoc answers m n) (q task (text ++ x) (answers ++ m) (p task text answers s)))
+
+-- no piece
+pub goes_nowhere : (a : Answering) → Goes a [] [] a
+goes_nowhere a task text answers s = subst (λ l. Stands task a l (answers ++ [])) (sym (append-nil text)) (subst (Stands task a text) (sym (append-nil answers)) s)
+
+-- where some text has come, more of it has
+pub goes_anywhere : (a b : Answering) (x : List ℕ) (m : List Answer) → StandsAnywhere a → Goes a x m b → StandsAnywhere b
+goes_anywhere a b x m s p = (s.0, s.1 ++ x, s.2 ++ m, p s.0 s.1 s.2 s.3)
+
+-- the front of a piece that was taken is taken as a whole
+none_after : (taken : ℕ) (piece : List ℕ) → drop taken (take taken piece) ≡ []
+none_after zero piece = refl
+none_after (suc n) [] = refl
+none_after (suc n) (b ∷ piece) = none_after n piece
+
+take_twice : (taken : ℕ) (piece : List ℕ) → take taken (take taken piece) ≡ take taken piece
+take_twice zero piece = refl
+take_twice (suc n) [] = refl
+take_twice (suc n) (b ∷ piece) = ap (λ l. b ∷ l) (take_twice n piece)
+
+taken_within : (taken : ℕ) (piece : List ℕ) → taken ≤ length piece → taken ≤ length (take taken piece)
+taken_within taken piece h = subst (λ n. taken ≤ n) (sym (length-take-le taken piece h)) (omega arith)
 
 pub record_open : (task : Task) (old new : RecordFacts) (piece : List ℕ) (taken : ℕ) → LeavesRecordOpen old piece taken new
     → Goes (Records task old) piece [] (Records task new)
@@ -83,15 +105,21 @@ record_open asked old new piece taken now task text answers s = (
   matched_append (IsRecordAnswer task) s.2 [] answers [] s.4 tt,
 )
 
-pub record_closed : (asked : Task) (old new : RecordFacts) (byte taken : ℕ) (grid : RecordAnswer) (answer : Answer) → ClosesRecord old (byte ∷ []) taken grid new
-    → IsRecordAnswer asked grid answer → Goes (Records asked old) (byte ∷ []) (answer ∷ []) (Records asked new)
-record_closed asked old new byte taken grid answer now is task text answers s = (
-  s.0,
-  s.1,
-  s.2 ++ grid ∷ [],
-  record_is_closed text s.2 old new (byte ∷ []) taken grid s.3 now (one_taken byte taken now.some now.within),
-  matched_append (IsRecordAnswer task) s.2 (grid ∷ []) answers (answer ∷ []) s.4 (subst (λ t. IsRecordAnswer t grid answer) s.0 is, tt),
-)
+pub record_closed : (asked : Task) (old new : RecordFacts) (piece : List ℕ) (taken : ℕ) (grid : RecordAnswer) (answer : Answer) → ClosesRecord old piece taken grid new
+    → IsRecordAnswer asked grid answer → Goes (Records asked old) (take taken piece) (answer ∷ []) (Records asked new)
+record_closed asked old new piece taken grid answer now is task text answers s =
+    let front : ClosesRecord old (take taken piece) taken grid new = record {
+      some = now.some;
+      within = taken_within taken piece now.within;
+      answered = λ u known. subst (λ l. IsAnsweredRecord (u ++ l) grid) (sym (take_twice taken piece)) (now.answered u known);
+      empty = now.empty;
+    } in (
+      s.0,
+      s.1,
+      s.2 ++ grid ∷ [],
+      record_is_closed text s.2 old new (take taken piece) taken grid s.3 front (none_after taken piece),
+      matched_append (IsRecordAnswer task) s.2 (grid ∷ []) answers (answer ∷ []) s.4 (subst (λ t. IsRecordAnswer t grid answer) s.0 is, tt),
+    )
 
 pub line_open : (old new : LineFacts) (piece : List ℕ) (taken : ℕ) → LeavesLineOpen old piece taken new → Goes (Lines old) piece [] (Lines new)
 line_open old new piece taken now task text answers s = (
@@ -101,20 +129,31 @@ line_open old new piece taken now task text answers s = (
   matched_append IsWriteAnswer s.1 [] answers [] s.3 tt,
 )
 
--- the line that one byte closes is closed by its last byte
-one_line : (byte taken : ℕ) (before after : List ℕ) → byte ∷ [] ≡ before ++ 10 ∷ after → taken ≡ length before + 1 → drop taken (byte ∷ []) ≡ []
-one_line byte taken [] after e n = ap (λ k. drop k (byte ∷ [])) n
-one_line byte taken (b ∷ []) after e n = cc
-one_line byte taken (b ∷ c ∷ before) after e n = cc
+-- the bytes up to and with the one that closes the line
+closing : (piece before after : List ℕ) (taken : ℕ) → piece ≡ before ++ 10 ∷ after → taken ≡ length before + 1 → take taken piece ≡ before ++ 10 ∷ []
+closing piece [] after taken e n = ap (λ k. take k piece) n ∙ ap (take 1) e
+closing piece (b ∷ before) after taken e n =
+    let more : taken ≡ suc (length before + 1) = omega (arith, n) in
+    ap (λ k. take k piece) more ∙ ap (take (suc (length before + 1))) e
+    ∙ ap (λ l. b ∷ l) (closing (before ++ 10 ∷ after) before after (length before + 1) refl refl)
 
-pub line_closed : (old new : LineFacts) (byte taken : ℕ) (message : LineAnswer) (answer : Answer) → ClosesLine old (byte ∷ []) taken message new
-    → IsWriteAnswer message answer → Goes (Lines old) (byte ∷ []) (answer ∷ []) (Lines new)
-line_closed old new byte taken message answer now is task text answers s = (
-  s.0,
-  s.1 ++ message ∷ [],
-  line_is_closed text s.1 old new (byte ∷ []) taken message s.2 now (one_line byte taken now.before now.after now.piece_is now.taken_is),
-  matched_append IsWriteAnswer s.1 (message ∷ []) answers (answer ∷ []) s.3 (is, tt),
-)
+pub line_closed : (old new : LineFacts) (piece : List ℕ) (taken : ℕ) (message : LineAnswer) (answer : Answer) → ClosesLine old piece taken message new
+    → IsWriteAnswer message answer → Goes (Lines old) (take taken piece) (answer ∷ []) (Lines new)
+line_closed old new piece taken message answer now is task text answers s =
+    let front : ClosesLine old (take taken piece) taken message new = record {
+      before = now.before;
+      after = [];
+      piece_is = closing piece now.before now.after taken now.piece_is now.taken_is;
+      no_lf = now.no_lf;
+      taken_is = now.taken_is;
+      answered = now.answered;
+      empty = now.empty;
+    } in (
+      s.0,
+      s.1 ++ message ∷ [],
+      line_is_closed text s.1 old new (take taken piece) taken message s.2 front (none_after taken piece),
+      matched_append IsWriteAnswer s.1 (message ∷ []) answers (answer ∷ []) s.3 (is, tt),
+    )
 
 -- ---- the end
 
@@ -184,7 +223,7 @@ last_line_ends facts message answer last is task text answers s =
 -- ---- what is written
 
 -- the answers so far are those to what is closed
-stands_closed : (task : Task) (state : Answering) (text : List ℕ) (answers : List Answer) → Stands task state text answers → AreClosedAnswers task text answers
+pub stands_closed : (task : Task) (state : Answering) (text : List ℕ) (answers : List Answer) → Stands task state text answers → AreClosedAnswers task text answers
 stands_closed task (Records asked facts) text answers s =
     let t = s.3 in
     record {
@@ -212,14 +251,14 @@ pub not_table : (task : Task) (state : Answering) (text : List ℕ) (answers : L
 not_table task (Records asked facts) text answers s e = subst AnswersRecords e s.1
 not_table task (Lines facts) text answers s e = let n : Write ≡ Table = sym s.0 ∙ e in cc
 
-done_by : (task : Task) (text : List ℕ) (answers : List Answer) → task ≢ Table → AreClosedAnswers task text answers → IsDone task text (written answers)
+pub done_by : (task : Task) (text : List ℕ) (answers : List Answer) → task ≢ Table → AreClosedAnswers task text answers → IsDone task text (written answers)
 done_by (Read border) text answers n h = (answers, h, refl)
 done_by (Check border) text answers n h = (answers, h, refl)
 done_by (Normal border) text answers n h = (answers, h, refl)
 done_by Write text answers n h = (answers, h, refl)
 done_by Table text answers n h = absurd (n refl)
 
-out_by : (task : Task) (text : List ℕ) (answers : List Answer) → task ≢ Table → AreAllAnswers task text answers → IsOut task text (written answers) (tally_of answers)
+pub out_by : (task : Task) (text : List ℕ) (answers : List Answer) → task ≢ Table → AreAllAnswers task text answers → IsOut task text (written answers) (tally_of answers)
 out_by (Read border) text answers n h = (answers, h, refl, refl)
 out_by (Check border) text answers n h = (answers, h, refl, refl)
 out_by (Normal border) text answers n h = (answers, h, refl, refl)
@@ -264,7 +303,7 @@ one_of_grids task (inr (inr is)) = subst AnswersRecords (sym is.1) tt
 -- ---- what the sink takes
 
 -- what is written for one answer
-written_one : (answer : Answer) → written (answer ∷ []) ≡ answer.text
+pub written_one : (answer : Answer) → written (answer ∷ []) ≡ answer.text
 written_one answer = append-nil answer.text
 
 -- one answer is written and counted

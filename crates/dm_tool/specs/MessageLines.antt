@@ -1,13 +1,14 @@
 -- What a message line means: its message, or its fault.
-use Rattle.std.specs.Prelude.{◌≡◌, ◌≤◌, ◌<◌, ◌+◌, ◌-◌, ◌^◌, min, ℕ, List, ◌++◌, length, Result, Ok, Err}
+use Rattle.std.specs.Prelude.{◌≡◌, ◌≤◌, ◌<◌, ◌+◌, ◌*◌, ◌-◌, ◌^◌, min, ℕ, List, ◌++◌, length, Result, Ok, Err}
+use Rattle.dm_symbol.specs.Sizes.{most_data}
 use Rattle.dm_symbol.specs.declared.Item.{Item}
 use Rattle.dm_tool.specs.declared.message_line.LineFault.{LineFault}
 use Rattle.dm_tool.specs.declared.message_line.LineFault.TheVariants.{BadEscape, TooLong}
 use Rattle.dm_tool.specs.Spellings.{IsJoined, IsJoining}
 
--- The most items of a message.
+-- The most items of a message: two for each data codeword.
 abbrev pub most_items : ℕ
-most_items = 408
+most_items = 2 * most_data
 
 -- The most that a count or a column in a line reaches.
 abbrev pub most_bytes : ℕ

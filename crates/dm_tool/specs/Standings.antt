@@ -1,4 +1,4 @@
--- What stands between the bytes of a text that is answered as it comes.
+-- What stands between the pieces of a text that is answered as it comes.
 use Rattle.std.specs.Prelude.{◌≡◌, ℕ, List, ◌++◌}
 use Rattle.dm_tool.specs.declared.task.Task.{Task}
 use Rattle.dm_tool.specs.declared.task.Task.TheVariants.{Write}
@@ -7,7 +7,7 @@ use Rattle.dm_tool.specs.declared.answering.Answering.TheVariants.{Records, Line
 use Rattle.dm_tool.specs.RecordFeeds.{RecordAnswer, AreRecordsOfText}
 use Rattle.dm_tool.specs.LineFeeds.{LineAnswer, AreOfText}
 use Rattle.dm_tool.specs.Answers.{Answer, AnswersRecords, IsRecordAnswer, IsWriteAnswer}
-use Rattle.dm_tool.specs.Runs.{AreAllAnswers, AreMatched}
+use Rattle.dm_tool.specs.Runs.{AreAllAnswers, AreClosedAnswers, AreMatched, written}
 
 -- After a text, these are the answers to what is closed within it, and this is what stands open.
 abbrev pub Stands : Task → Answering → List ℕ → List Answer → Type 0
@@ -27,3 +27,8 @@ Goes old piece more new = (task : Task) (text : List ℕ) (answers : List Answer
 -- The end of the text closes what has these answers.
 abbrev pub Ends : Answering → List Answer → Type 0
 Ends old last = (task : Task) (text : List ℕ) (answers : List Answer) → Stands task old text answers → AreAllAnswers task text (answers ++ last)
+
+-- Whatever has come, a beginning was taken of the answers to what is closed where more of the text comes.
+abbrev pub IsBegun : Answering → List ℕ → (List ℕ → Type 0) → Type 0
+IsBegun old piece TookFront = (task : Task) (text : List ℕ) (answers : List Answer) → Stands task old text answers
+    → (more : List Answer) × AreClosedAnswers task (text ++ piece) (answers ++ more) × TookFront (written more)

@@ -3,8 +3,8 @@ ghost use Rattle.std.specs.Prelude.{◌≡◌, ◌<◌, ◌≤◌, ◌+◌, ◌�
 ghost use Rattle.dm_tool.specs.Answers.{AnswersRecords, IsCheckAnswer, IsNormalAnswer, IsReadAnswer, IsRecordAnswer, IsWriteAnswer, blank_refusal_answer, check_text, grid_answer, limit_for, line_answer, refusal_answer};
 ghost use Rattle.dm_tool.specs.Spellings.{text_of};
 
-use crate::message_line::{LineFault, message_text};
-use crate::printed::{AnswerText, grid_text, push_all, push_decimal, push_spaced};
+use crate::message_line::{LineFault, MOST_TEXT, message_text};
+use crate::printed::{AnswerText, MOST_ANSWER, grid_text, push_all, push_decimal, push_spaced};
 use crate::record::RecordFault;
 use crate::refusal::{
     line_refusal, normal_refusal, read_refusal, record_refusal, too_long_refusal,
@@ -32,7 +32,7 @@ impl Model for Answer {
 impl Answer {
     /// A line, which has no LF yet.
     fn line(mut text: AnswerText) -> Answer
-        requires { length text.items < 2757 }
+        requires { length text.items < MOST_ANSWER }
         ensures { result ≡ line_answer text.items }
     {
         push_all(&mut text, b"\n");
@@ -44,7 +44,7 @@ impl Answer {
 
     /// A refusal.
     fn refusal(mut text: AnswerText) -> Answer
-        requires { length text.items < 2757 }
+        requires { length text.items < MOST_ANSWER }
         ensures { result ≡ refusal_answer text.items }
     {
         push_all(&mut text, b"\n");
@@ -56,7 +56,7 @@ impl Answer {
 
     /// A refusal, and an empty line.
     fn blank_refusal(mut text: AnswerText) -> Answer
-        requires { length text.items + 1 < 2757 }
+        requires { length text.items + 1 < MOST_ANSWER }
         ensures { result ≡ blank_refusal_answer text.items }
     {
         push_all(&mut text, b"\n\n");
@@ -184,7 +184,7 @@ fn check_text(side: u16, reading: &Reading) -> AnswerText
 /// The text of a message, as an answer's.
 fn printed_message(message: &Message) -> AnswerText
     ensures text { result.items ≡ text_of message.now }
-    ensures room { length result.items ≤ 1632 }
+    ensures room { length result.items ≤ MOST_TEXT }
 {
     let mut text = AnswerText::new();
     push_all(&mut text, message_text(message).as_slice());

@@ -1,14 +1,13 @@
 //! Records and message lines, answered as their text comes.
-ghost use Rattle.std.specs.Prelude.{◌≡◌, ◌≢◌, ◌∷◌, [], IfNone, IfSome};
+ghost use Rattle.std.specs.Prelude.{◌≡◌, ◌∷◌, ◌<◌, ◌≤◌, [], length, take, IfNone, IfSome};
 ghost use Rattle.dm_tool.specs.Standings.{Ends, Goes, Stands, StandsAnywhere};
 
 use crate::answer::{Answer, answer_to_line, answer_to_record};
-use crate::grid_feed::GridFeed;
-use crate::line_feed::LineFeed;
+use crate::grid_feed::{Fed, GridFeed};
+use crate::line_feed::{LineFed, LineFeed};
 use crate::task::Task;
-use crate::text::LF;
 
-/// Cuts a text that comes byte by byte into what its task asks about, and answers each record or line.
+/// Cuts a text that comes in pieces into what its task asks about, and answers each record or line.
 #[derive(Drop)]
 pub(crate) enum Answering {
     /// Records, with the task that asks about their grids.
@@ -33,32 +32,30 @@ impl Answering {
         }
     }
 
-    /// Takes a byte that is no LF, which closes nothing.
-    pub(crate) fn extend(&mut self, byte: u8)
-        requires { byte ≢ 10 }
-        ensures { Goes self.old (byte ∷ []) [] self.new }
-    {
-        match self {
-            Answering::Records(_, feed) => feed.extend(byte),
-            Answering::Lines(feed) => feed.extend(byte),
-        }
-    }
-
-    /// Takes an LF, and answers what it closes.
-    pub(crate) fn end_line(&mut self) -> Option<Answer>
+    /// Takes bytes up to and with the first one that closes a record or a line: how many, and the answer to what they close. None
+    /// where the piece closes nothing, and all of it is taken.
+    pub(crate) fn feed(&mut self, piece: &[u8]) -> Option<(usize, Answer)>
         requires { StandsAnywhere self.old }
-        ensures open { IfNone result (Goes self.old (10 ∷ []) [] self.new) }
-        ensures closed { IfSome result (λ answer. Goes self.old (10 ∷ []) (answer ∷ []) self.new) }
+        ensures open { IfNone result (Goes self.old piece.now [] self.new) }
+        ensures some { IfSome result (λ closed. 0 < closed.0) }
+        ensures within { IfSome result (λ closed. closed.0 ≤ length piece.now) }
+        ensures closed { IfSome result (λ closed. Goes self.old (take closed.0 piece.now) (closed.1 ∷ []) self.new) }
     {
         match self {
-            Answering::Records(task, feed) => match feed.feed(&[LF]).closed {
-                None => None,
-                Some(record) => Some(answer_to_record(*task, &record)),
-            },
-            Answering::Lines(feed) => match feed.feed(&[LF]).closed {
-                None => None,
-                Some(line) => Some(answer_to_line(&line)),
-            },
+            Answering::Records(task, feed) => {
+                let Fed { taken, closed } = feed.feed(piece);
+                match closed {
+                    None => None,
+                    Some(record) => Some((taken, answer_to_record(*task, &record))),
+                }
+            }
+            Answering::Lines(feed) => {
+                let LineFed { taken, closed } = feed.feed(piece);
+                match closed {
+                    None => None,
+                    Some(line) => Some((taken, answer_to_line(&line))),
+                }
+            }
         }
     }
 

@@ -6,17 +6,17 @@ ghost use Rattle.dm_tool.specs.Texts.{last_line};
 
 use crate::record::RecordFault;
 use arrayvec::ArrayVec;
-use dm_symbol::Grid;
+use dm_symbol::{Grid, LARGEST_SIDE};
 
-/// The most lines of a record, and the most characters of a line.
-const MOST: u16 = 52;
+/// The most cells of a record: as many lines as the largest side, each as long.
+const MOST_CELLS: usize = LARGEST_SIDE * LARGEST_SIDE;
 
 /// Lines of the characters 0 and 1, of which the last one may be open, no more and no longer than the
 /// largest side.
 #[derive(Drop)]
 pub(crate) struct CellText {
     /// The characters of all lines, joined.
-    text: ArrayVec<u8, 2704>,
+    text: ArrayVec<u8, MOST_CELLS>,
     /// How many lines there are.
     count: u16,
     /// How long the first line is.
@@ -69,7 +69,7 @@ impl CellText {
         requires lines { (lines : List (List ℕ)) × HoldsLines self.old lines [] }
         ensures { (lines : List (List ℕ)) → HoldsLines self.old lines [] → Continues result self.new lines (character ∷ []) }
     {
-        if self.count == MOST {
+        if usize::from(self.count) == LARGEST_SIDE {
             return false;
         }
         let first = if self.count == 0 { 1 } else { self.first };
@@ -87,7 +87,7 @@ impl CellText {
         ensures { (lines : List (List ℕ)) (x : ℕ) (rest : List ℕ) → HoldsLines self.old lines (x ∷ rest)
             → Continues result self.new lines (x ∷ rest ++ character ∷ []) }
     {
-        if self.last == MOST {
+        if usize::from(self.last) == LARGEST_SIDE {
             return false;
         }
         let last = self.last + 1;
@@ -124,8 +124,8 @@ impl CellText {
 }
 
 /// The cells of characters; true is dark.
-fn cells_of(characters: &[u8]) -> ArrayVec<bool, 2704>
-    requires { length characters.now ≤ 2704 }
+fn cells_of(characters: &[u8]) -> ArrayVec<bool, MOST_CELLS>
+    requires { length characters.now ≤ MOST_CELLS }
     ensures { result.items ≡ map is_dark characters.now }
 {
     let mut cells = ArrayVec::new();

@@ -69,14 +69,6 @@ impl GridFeed {
         }
     }
 
-    /// Takes a byte that is no LF: such a byte closes no record.
-    pub(crate) fn extend(&mut self, byte: u8)
-        requires { byte ≢ 10 }
-        ensures { LeavesRecordOpen self.old (byte ∷ []) 1 self.new }
-    {
-        self.record.push_character(byte);
-    }
-
     /// Closes the record that is open, if one is. The feed is as new then.
     pub fn finish(&mut self) -> Option<Result<Grid, RecordFault>>
         ensures none { IfNone result ((text : List ℕ) → AreRecordFacts text self.old → AreLfs text) }

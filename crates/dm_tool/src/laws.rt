@@ -12,6 +12,7 @@ ghost use Rattle.dm_tool.specs.LineFacts.{LineFacts, AreLineFacts};
 ghost use Rattle.dm_tool.specs.RecordFacts.{RecordFacts, AreRecordFacts};
 ghost use Rattle.dm_tool.specs.RecordFeeds.{AreRecordsFed, AreRecordsOfText, RecordAnswer};
 ghost use Rattle.dm_tool.specs.declared.task.Task.{Task};
+ghost use Rattle.dm_tool.specs.declared.task.Task.TheVariants.{Table};
 ghost use Rattle.dm_tool.specs.declared.task.Tally.{Tally};
 ghost use Rattle.dm_tool.specs.Runs.{IsDone, IsOut};
 ghost use Rattle.dm_tool.specs.LineFeeds.{AreLinesFed, AreOfText, LineAnswer};
@@ -49,6 +50,19 @@ pub fn record_cuts_change_nothing()
 pub fn one_text_is_written()
     ensures out { (task : Task) (text a b : List ℕ) (s t : Tally) → IsOut task text a s → IsOut task text b t → (a ≡ b) × (s ≡ t) }
     ensures done { (task : Task) (text a b : List ℕ) → IsDone task text a → IsDone task text b → a ≡ b }
+{}
+
+/// Something is written for each text as a whole, and for each that may go on: with what [`one_text_is_written`] says, exactly one thing.
+/// For the table the text counts as empty.
+pub fn each_text_is_written()
+    ensures out { (task : Task) (text : List ℕ) → (task ≡ Table → text ≡ []) → (out : List ℕ) × (tally : Tally) × IsOut task text out tally }
+    ensures done { (task : Task) (text : List ℕ) → (task ≡ Table → text ≡ []) → (done : List ℕ) × IsDone task text done }
+{}
+
+/// Each line means something: a message, or a fault; and only one thing.
+pub fn each_line_means_one_thing()
+    ensures some { (line : List ℕ) → (answer : LineAnswer) × IsLine line answer }
+    ensures one { (line : List ℕ) (a b : LineAnswer) → IsLine line a → IsLine line b → a ≡ b }
 {}
 
 /// Words in which clap finds no fault name one task: a border among them is always the text of a limit.

@@ -11,7 +11,7 @@ use dm_symbol::Message;
 use std::marker::Model;
 
 /// Cuts a text that comes in pieces into message lines. It holds what is known of the line that stands
-/// open: its items while they are at most 408, the bytes of a spelling that is begun, a count, or the
+/// open: its items while they are at most `MOST_ITEMS`, the bytes of a spelling that is begun, a count, or the
 /// column of its fault.
 #[derive(Drop)]
 pub struct LineFeed {
@@ -69,14 +69,6 @@ impl LineFeed {
             taken: end + 1,
             closed: Some(self.close()),
         }
-    }
-
-    /// Takes a byte that is no LF: such a byte closes no line.
-    pub(crate) fn extend(&mut self, byte: u8)
-        requires { byte ≢ 10 }
-        ensures { LeavesLineOpen self.old (byte ∷ []) 1 self.new }
-    {
-        self.line.push(byte);
     }
 
     /// Closes the line that is open, if one is: where the text ends, its bytes after the last LF are a

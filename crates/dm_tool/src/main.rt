@@ -5,7 +5,7 @@
 //! `Answers` for what is written, `Records` and `MessageLines` for what is read.
 //!
 //! The program takes its task from the command line ([`task_of`]), does it over the standard streams and ends by what came of it
-//! ([`ending`]). Only the command line and the input's buffer take memory.
+//! ([`ending`]). Only the command line takes memory.
 #![tactic(auto)]
 
 mod answer;
@@ -43,7 +43,7 @@ pub use record::RecordFault;
 pub use running::run;
 pub use sink::{Sink, ToWrite};
 pub use source::{FromRead, Source};
-use std::io::{BufReader, Write};
+use std::io::Write;
 use std::process::ExitCode;
 use std::{env, io};
 pub use task::{CallFault, RunFault, Tally, Task};
@@ -70,21 +70,15 @@ fn task_of_call(rt: &HostRuntime) -> Result<Task, CallFault> {
 }
 
 /// Does a task over the standard streams.
-fn run_over_streams(rt: &HostRuntime, task: Task) -> Result<(u8, &'static str), CallFault> {
-    let input = BufReader::new(rt.alloc(), rt.stdin()).map_err(|_| CallFault::Memory)?;
-    let mut source = FromRead::new(input);
+fn run_over_streams(rt: &HostRuntime, task: Task) -> Result<Tally, RunFault> {
+    let mut source = FromRead::new(rt.stdin());
     let mut sink = ToWrite::new(rt.stdout());
-    Ok(ending(&run(task, &mut source, &mut sink, MOST_INPUT)))
-}
-
-/// Does what the command line asks for, and gives the status and the line for standard error.
-fn ended(rt: &HostRuntime) -> Result<(u8, &'static str), CallFault> {
-    run_over_streams(rt, task_of_call(rt)?)
+    run(task, &mut source, &mut sink, MOST_INPUT)
 }
 
 fn main(rt: HostRuntime) -> ExitCode {
-    let (status, line) = match ended(&rt) {
-        Ok(ending) => ending,
+    let (status, line) = match task_of_call(&rt) {
+        Ok(task) => ending(&run_over_streams(&rt, task)),
         Err(fault) => call_ending(fault),
     };
     if !line.is_empty() {

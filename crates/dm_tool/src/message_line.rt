@@ -6,7 +6,10 @@ ghost use Rattle.dm_tool.specs.MessageLines.{IsLine};
 
 use crate::open_line::OpenLine;
 use arrayvec::ArrayVec;
-use dm_symbol::{Item, Message};
+use dm_symbol::{Item, MOST_ITEMS, Message};
+
+/// The most bytes of a message's text: four for each item.
+pub const MOST_TEXT: usize = 4 * MOST_ITEMS;
 
 /// Why a line is no message.
 #[derive(Clone, Copy, Debug, PartialEq, Eq)]
@@ -15,7 +18,7 @@ pub enum LineFault {
     /// the column of the first one, which counts bytes from 1. A column above `u64::MAX` is given as
     /// that.
     BadEscape(u64),
-    /// More than 408 items.
+    /// More than [`MOST_ITEMS`] items.
     TooLong,
 }
 
@@ -23,7 +26,7 @@ pub enum LineFault {
 ///
 /// Bytes 32 to 126 other than the backslash stand for themselves, `\\` is the backslash, `\F` is FNC1,
 /// and `\xHH` is the byte of two hexadecimal digits, of either case. `BadEscape` comes where a line
-/// has anything else, and then `TooLong` where it has more than 408 items.
+/// has anything else, and then `TooLong` where it has more than [`MOST_ITEMS`] items.
 pub fn message_from(line: &[u8]) -> Result<Message, LineFault>
     ensures { (answer : Result (List AnItem) LineFault) → (result ≡ answer) ↔ IsLine line.now answer }
 {
@@ -36,7 +39,7 @@ pub fn message_from(line: &[u8]) -> Result<Message, LineFault>
 ///
 /// Bytes 32 to 126 are written as themselves, the backslash as `\\`, other bytes as `\xHH` with
 /// upper-case digits, and FNC1 as `\F`.
-pub fn message_text(message: &Message) -> ArrayVec<u8, 1632>
+pub fn message_text(message: &Message) -> ArrayVec<u8, MOST_TEXT>
     ensures { result.items ≡ text_of message.now }
 {
     let mut text = ArrayVec::new();
@@ -47,8 +50,8 @@ pub fn message_text(message: &Message) -> ArrayVec<u8, 1632>
 }
 
 /// Appends how an item is written.
-fn spell(text: &mut ArrayVec<u8, 1632>, item: Item)
-    requires { length text.old.items + 4 ≤ 1632 }
+fn spell(text: &mut ArrayVec<u8, MOST_TEXT>, item: Item)
+    requires { length text.old.items + 4 ≤ MOST_TEXT }
     ensures text { text.new.items ≡ text.old.items ++ spelled item }
     ensures room { length text.new.items ≤ length text.old.items + 4 }
 {

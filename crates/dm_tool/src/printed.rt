@@ -4,14 +4,17 @@ ghost use Rattle.std.specs.Fmt.{decimal};
 ghost use Rattle.dm_tool.specs.Answers.{character_of, grid_text, spaced};
 
 use arrayvec::ArrayVec;
-use dm_symbol::Grid;
+use dm_symbol::{Grid, LARGEST_SIDE};
 
-/// The text of an answer. The longest is that of a grid of the largest side, and an empty line.
-pub(crate) type AnswerText = ArrayVec<u8, 2757>;
+/// The most bytes of an answer: those of a grid of the largest side, each row with its LF, and of an empty line.
+pub(crate) const MOST_ANSWER: usize = LARGEST_SIDE * (LARGEST_SIDE + 1) + 1;
+
+/// The text of an answer.
+pub(crate) type AnswerText = ArrayVec<u8, MOST_ANSWER>;
 
 /// Appends bytes.
 pub(crate) fn push_all(text: &mut AnswerText, bytes: &[u8])
-    requires { length text.old.items + length bytes.now ≤ 2757 }
+    requires { length text.old.items + length bytes.now ≤ MOST_ANSWER }
     ensures { text.new.items ≡ text.old.items ++ bytes.now }
 {
     let _room = text.try_extend_from_slice(bytes);
@@ -19,7 +22,7 @@ pub(crate) fn push_all(text: &mut AnswerText, bytes: &[u8])
 
 /// Appends a number in decimal digits.
 pub(crate) fn push_decimal(text: &mut AnswerText, number: u64)
-    requires { length text.old.items + 20 ≤ 2757 }
+    requires { length text.old.items + 20 ≤ MOST_ANSWER }
     ensures text { text.new.items ≡ text.old.items ++ decimal number }
     ensures length { length text.new.items ≤ length text.old.items + 20 }
 {
@@ -31,7 +34,7 @@ pub(crate) fn push_decimal(text: &mut AnswerText, number: u64)
 
 /// Appends numbers in decimal digits, with single spaces between.
 pub(crate) fn push_spaced(text: &mut AnswerText, numbers: &[u16])
-    requires room { length text.old.items ≤ 2600 }
+    requires room { length text.old.items + 64 ≤ MOST_ANSWER }
     requires few { length numbers.now ≤ 8 }
     ensures text { text.new.items ≡ text.old.items ++ spaced numbers.now }
     ensures length { length text.new.items ≤ length text.old.items + 6 * length numbers.now }
@@ -47,7 +50,7 @@ pub(crate) fn push_spaced(text: &mut AnswerText, numbers: &[u16])
 /// The rows of a grid, each followed by LF.
 pub(crate) fn grid_text(grid: &Grid) -> AnswerText
     ensures text { result.items ≡ grid_text grid.now.rows }
-    ensures room { length result.items < 2757 }
+    ensures room { length result.items < MOST_ANSWER }
 {
     let side = grid.size().side();
     let mut text = AnswerText::new();
@@ -61,7 +64,7 @@ pub(crate) fn grid_text(grid: &Grid) -> AnswerText
 fn push_row(text: &mut AnswerText, grid: &Grid, row: u16)
     requires row { row < grid.now.size.side }
     requires width { length (get_or grid.now.rows row []) ≡ grid.now.size.side }
-    requires room { length text.old.items + grid.now.size.side < 2757 }
+    requires room { length text.old.items + grid.now.size.side < MOST_ANSWER }
     ensures { text.new.items ≡ text.old.items ++ map character_of (get_or grid.now.rows row []) ++ 10 ∷ [] }
 {
     for column in 0..grid.size().side() {

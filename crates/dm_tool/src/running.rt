@@ -1,10 +1,10 @@
 //! A task done over a source and a sink.
-ghost use Rattle.std.specs.Prelude.{◌≡◌, ◌≤◌, ◌<◌, ◌+◌, ◌-◌, ◌^◌, ◌∷◌, ◌++◌, [], false, List, IfOk, IfNone, IfSome, OnOk, OnErr, IsErrOf};
+ghost use Rattle.std.specs.Prelude.{◌≡◌, ◌≤◌, ◌<◌, ◌+◌, ◌-◌, ◌^◌, ◌∷◌, ◌++◌, [], false, List, MatchResult, IfOk, OnOk, OnErr, IsErrOf, length, max, take};
 ghost use Rattle.std.specs.Io.KnownBytes.{Appends};
 ghost use Rattle.dm_tool.specs.Answers.{Answer as AnAnswer, table_text};
 ghost use Rattle.dm_tool.specs.Devices.{AppendsFront, Counts, HasRisen};
 ghost use Rattle.dm_tool.specs.Runs.{IsAnswered, IsBroken, IsDoneSoFar, IsTooMuch, tally_of, written};
-ghost use Rattle.dm_tool.specs.Standings.{Ends, Goes, StandsAnywhere};
+ghost use Rattle.dm_tool.specs.Standings.{Ends, Goes, IsBegun, StandsAnywhere};
 
 use crate::answer::Answer;
 use crate::answering::Answering;
@@ -13,7 +13,6 @@ use crate::sink::{Sink, put};
 use crate::source::Source;
 use crate::table::table_text;
 use crate::task::{RunFault, Tally, Task};
-use crate::text::LF;
 
 /// Reads all that the source gives, and writes the answer to each record or line, in order; for
 /// [`Task::Table`] reads nothing, and writes the table of sizes. Gives how many records or lines were
@@ -51,26 +50,30 @@ pub fn run<I: Source, O: Sink>(
     };
     let mut tally = NO_ANSWER;
     let mut left = most;
-    'bytes: loop {
-        let byte = match next_byte(source) {
-            Ok(Some(byte)) => byte,
-            Ok(None) => {
+    let mut place = [0u8; PIECE];
+    'pieces: loop {
+        let count = match next_piece(source, &mut place, left) {
+            Ok(0) => {
                 return match end(&mut answering, sink, &mut tally) {
                     Ok(()) => Ok(tally),
                     Err(Failed) => Err(RunFault::Write),
                 };
             }
+            Ok(count) => count,
             Err(Failed) => return Err(RunFault::Read),
         };
         if left == 0 {
             return Err(RunFault::TooMuchInput);
         }
-        left -= 1;
-        if let Err(Failed) = answer_byte(&mut answering, sink, &mut tally, byte) {
+        left -= count as u64;
+        if let Err(Failed) = answer_piece(&mut answering, sink, &mut tally, &place[..count]) {
             return Err(RunFault::Write);
         }
     }
 }
+
+/// The most bytes that are asked for at once.
+const PIECE: usize = 4096;
 
 /// Nothing answered, nothing refused.
 const NO_ANSWER: Tally = Tally {
@@ -108,67 +111,55 @@ fn put_all<O: Sink>(sink: &mut O, bytes: &[u8]) -> Result<(), Failed>
     }
 }
 
-/// The next byte of the source; None where it has ended.
-fn next_byte<I: Source>(source: &mut I) -> Result<Option<u8>, Failed>
-    ensures some { IfOk result (λ next. IfSome next (λ byte. I.gave source.old source.new (byte ∷ []))) }
-    ensures none { IfOk result (λ next. IfNone next (I.gave source.old source.new [])) }
-    ensures end { IfOk result (λ next. IfNone next (I.ended source.new)) }
-    ensures err { OnErr result (I.gave source.old source.new []) }
+/// Reads the next bytes of the source to the front of `place`, and says how many: no more than may still come, and one where none
+/// may. The number 0 is the end of the input.
+fn next_piece<I: Source>(
+    source: &mut I,
+    place: &mut [u8; PIECE],
+    left: u64,
+) -> Result<usize, Failed>
+    ensures kept { length place.new ≡ PIECE }
+    ensures fits { IfOk result (λ n. n ≤ PIECE) }
+    ensures few { IfOk result (λ n. n ≤ max left 1) }
+    ensures bytes { MatchResult result (λ n. I.gave source.old source.new (take n place.new)) (λ _. I.gave source.old source.new []) }
+    ensures end { IfOk result (λ n. n ≡ 0 → I.ended source.new) }
     ensures count { Counts (I.failed source.old) (I.failed source.new) result }
 {
-    let mut place = [0u8; 1];
-    match source.read(&mut place) {
-        Ok(0) => Ok(None),
-        Ok(_) => Ok(Some(place[0])),
-        Err(Failed) => Err(Failed),
-    }
+    let most = if left < PIECE as u64 {
+        (left as usize).max(1)
+    } else {
+        PIECE
+    };
+    source.read(&mut place[..most])
 }
 
-/// Takes one more byte of the text, and writes the answer to what it closes.
-fn answer_byte<O: Sink>(
+/// Takes a piece of the text, and writes the answers to what it closes.
+fn answer_piece<O: Sink>(
     answering: &mut Answering,
     sink: &mut O,
     tally: &mut Tally,
-    byte: u8,
+    piece: &[u8],
 ) -> Result<(), Failed>
     requires stands { StandsAnywhere answering.old }
-    requires room { tally.old.answered + tally.old.refused + 1 < 2 ^ 64 }
-    ensures ok { OnOk result ((more : List AnAnswer) × Goes answering.old (byte ∷ []) more answering.new
+    requires room { tally.old.answered + tally.old.refused + length piece.now < 2 ^ 64 }
+    ensures ok { OnOk result ((more : List AnAnswer) × Goes answering.old piece.now more answering.new
         × Appends (O.contents sink.old) (O.contents sink.new) (written more)
         × ((answers : List AnAnswer) → tally.old ≡ tally_of answers → tally.new ≡ tally_of (answers ++ more))) }
-    ensures sum { OnOk result (tally.new.answered + tally.new.refused ≤ tally.old.answered + tally.old.refused + 1) }
-    ensures err { OnErr result ((more : List AnAnswer) × Goes answering.old (byte ∷ []) more answering.new
-        × AppendsFront (O.contents sink.old) (O.contents sink.new) (written more)) }
+    ensures sum { OnOk result (tally.new.answered + tally.new.refused ≤ tally.old.answered + tally.old.refused + length piece.now) }
+    ensures err { OnErr result (IsBegun answering.old piece.now (AppendsFront (O.contents sink.old) (O.contents sink.new))) }
     ensures count { Counts (O.failed sink.old) (O.failed sink.new) result }
 {
-    if byte != LF {
-        answering.extend(byte);
-        return Ok(());
-    }
-    answer_line_end(answering, sink, tally)
-}
-
-/// Takes an LF, and writes the answer to what it closes. No other byte closes anything, so what an answer costs to
-/// hold is spent at the ends of lines alone.
-#[inline(never)]
-fn answer_line_end<O: Sink>(
-    answering: &mut Answering,
-    sink: &mut O,
-    tally: &mut Tally,
-) -> Result<(), Failed>
-    requires stands { StandsAnywhere answering.old }
-    requires room { tally.old.answered + tally.old.refused + 1 < 2 ^ 64 }
-    ensures ok { OnOk result ((more : List AnAnswer) × Goes answering.old (10 ∷ []) more answering.new
-        × Appends (O.contents sink.old) (O.contents sink.new) (written more)
-        × ((answers : List AnAnswer) → tally.old ≡ tally_of answers → tally.new ≡ tally_of (answers ++ more))) }
-    ensures sum { OnOk result (tally.new.answered + tally.new.refused ≤ tally.old.answered + tally.old.refused + 1) }
-    ensures err { OnErr result ((more : List AnAnswer) × Goes answering.old (10 ∷ []) more answering.new
-        × AppendsFront (O.contents sink.old) (O.contents sink.new) (written more)) }
-    ensures count { Counts (O.failed sink.old) (O.failed sink.new) result }
-{
-    match answering.end_line() {
-        None => Ok(()),
-        Some(answer) => put_answer(sink, tally, &answer),
+    let mut rest = piece;
+    loop {
+        match answering.feed(rest) {
+            None => return Ok(()),
+            Some((taken, answer)) => {
+                if let Err(Failed) = put_answer(sink, tally, &answer) {
+                    return Err(Failed);
+                }
+                rest = &rest[taken..];
+            }
+        }
     }
 }
 

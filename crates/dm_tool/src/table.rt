@@ -2,28 +2,23 @@
 ghost use Rattle.std.specs.Prelude.{◌≡◌, ◌≤◌, ◌+◌, ◌∷◌, ◌++◌, [], length};
 ghost use Rattle.dm_tool.specs.Answers.{numbers_of, spaced, table_text};
 
-use crate::printed::{AnswerText, push_all, push_spaced};
-use dm_symbol::Size;
-
-/// The largest side of a size.
-const LARGEST_SIDE: u16 = 52;
+use crate::printed::{AnswerText, MOST_ANSWER, push_all, push_spaced};
+use dm_symbol::{Size, table};
 
 /// A line for each size, by rising side.
 pub(crate) fn table_text() -> AnswerText
     ensures { result.items ≡ table_text }
 {
     let mut text = AnswerText::new();
-    for side in 0..=LARGEST_SIDE {
-        if let Some(size) = Size::of_side(side) {
-            push_size(&mut text, size);
-        }
+    for size in table() {
+        push_size(&mut text, size);
     }
     text
 }
 
 /// Appends the line of a size.
 fn push_size(text: &mut AnswerText, size: Size)
-    requires { length text.old.items ≤ 2600 }
+    requires { length text.old.items + 64 ≤ MOST_ANSWER }
     ensures text { text.new.items ≡ text.old.items ++ (spaced (numbers_of size) ++ 10 ∷ []) }
     ensures length { length text.new.items ≤ length text.old.items + 49 }
 {

@@ -1,6 +1,7 @@
 pub mod Additive
 pub mod FieldLaws
 pub mod Tables
+pub mod LaneProducts
 pub mod Lists
 pub mod Weights
 pub mod Series

@@ -96,11 +96,11 @@ conv_below f g zero = product_below (f 0) (g 0)
 conv_below f g (suc n) = sum_below (f 0 ⊗ g (suc n)) (convolution (shift f) g n) (product_below (f 0) (g (suc n))) (conv_below (shift f) g n)
 
 -- A product with 0 on the right.
-product_zero_at : (a b : ℕ) → b ≡ 0 → a ⊗ b ≡ 0
+pub product_zero_at : (a b : ℕ) → b ≡ 0 → a ⊗ b ≡ 0
 product_zero_at a b e = ap (λ y. a ⊗ y) e ∙ product_zero_right a
 
 -- A product with 0 on the left.
-product_at_zero : (a b : ℕ) → a ≡ 0 → a ⊗ b ≡ 0
+pub product_at_zero : (a b : ℕ) → a ≡ 0 → a ⊗ b ≡ 0
 product_at_zero a b e = ap (λ y. y ⊗ b) e ∙ product_zero_left b
 
 -- ---- Coefficients from a list

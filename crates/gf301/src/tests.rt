@@ -1,4 +1,5 @@
-use super::{Gf, generator, times, value_at};
+use super::{Gf, Meter, generator, lanes_mul, powers, times, value_at};
+use std::simd::prelude::*;
 
 #[test]
 fn powers_and_products(rt: HostRuntime) {
@@ -35,6 +36,27 @@ fn powers_and_products(rt: HostRuntime) {
 }
 
 #[test]
+fn powers_and_products_in_lanes(rt: HostRuntime) {
+    for (a, b, product) in [(66, 62, 122), (251, 111, 20), (0, 7, 0), (255, 1, 255)] {
+        let products = lanes_mul(u8x16::splat(a), u8x16::splat(b));
+        assert_eq!(rt; products.to_array(), [product; 16], "{a} times {b}");
+    }
+    let first = [
+        1, 2, 4, 8, 16, 32, 64, 128, 45, 90, 180, 69, 138, 57, 114, 228,
+    ];
+    assert_eq!(rt; powers(0), first);
+    assert_eq!(rt; powers(255), first);
+    // 2^i times 2^(100 + i): another product in each lane
+    let products = lanes_mul(u8x16::from_array(first), u8x16::from_array(powers(100)));
+    assert_eq!(rt;
+        products.to_array(),
+        [
+            106, 133, 78, 21, 84, 125, 217, 19, 76, 29, 116, 253, 131, 86, 117, 249
+        ]
+    );
+}
+
+#[test]
 fn values_and_generators(rt: HostRuntime) {
     assert_eq!(rt; value_at(&[], Gf(7)), Gf(0));
     assert_eq!(rt; value_at(&[1, 0, 0, 0, 0, 0, 0, 0, 3], Gf(2)), Gf(45 ^ 3));
@@ -54,4 +76,23 @@ fn values_and_generators(rt: HostRuntime) {
             "of {k} check codewords"
         );
     }
+}
+
+#[test]
+fn operations_are_counted(rt: HostRuntime) {
+    let mut meter = Meter {
+        products: 4_294_967_293,
+        inversions: 4_294_967_294,
+    };
+    assert_eq!(rt; meter.mul(Gf(66), Gf(62)), Gf(122));
+    assert_eq!(rt; meter.mul(Gf(0), Gf(7)), Gf(0));
+    assert_eq!(rt; meter.inverse(Gf(2)), Gf(150));
+    assert_eq!(rt; (meter.products, meter.inversions), (u32::MAX, u32::MAX));
+    assert_eq!(rt;
+        Meter::default(),
+        Meter {
+            products: 0,
+            inversions: 0
+        }
+    );
 }

@@ -24,12 +24,23 @@ fn the_grid_without_codewords(rt: HostRuntime) {
     let grid = bordered(size);
     assert_eq!(rt; border_faults(&grid), 0);
     assert_eq!(rt; grid.size().side(), 12);
-    let row_9 = [
-        true, false, false, false, false, false, false, false, false, true, false, true,
+    let rows = [
+        (
+            9,
+            [
+                true, false, false, false, false, false, false, false, false, true, false, true,
+            ],
+        ),
+        (
+            10,
+            [
+                true, false, false, false, false, false, false, false, false, false, true, false,
+            ],
+        ),
     ];
-    let row_10 = [
-        true, false, false, false, false, false, false, false, false, false, true, false,
-    ];
-    assert_eq!(rt; grid.line(9), row_9.as_slice());
-    assert_eq!(rt; grid.line(10), row_10.as_slice());
+    for (row, cells) in rows {
+        for column in 0..12 {
+            assert_eq!(rt; grid.cell(row, column), cells[column as usize]);
+        }
+    }
 }

@@ -18,3 +18,15 @@ fn cells_row_by_row(rt: HostRuntime) {
     assert!(rt; !grid.cell(3, 2));
     assert_ne!(rt; grid, light);
 }
+
+#[test]
+fn rows_as_numbers(rt: HostRuntime) {
+    let mut cells = [false; 100];
+    cells[23] = true;
+    let mut rows = [0; 11];
+    // The bits of columns 10 and 127 don't count.
+    rows[2] = 1 << 3 | 1 << 10 | 1 << 127;
+    assert_eq!(rt; Grid::of_rows(10, &rows[..10]), Grid::new(10, &cells));
+    assert_eq!(rt; Grid::of_rows(10, &rows[..9]), Err(GridFault::NotSquare));
+    assert_eq!(rt; Grid::of_rows(11, &rows), Err(GridFault::NoSuchSize));
+}

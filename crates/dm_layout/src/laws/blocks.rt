@@ -1,6 +1,6 @@
 //! Facts about the definitions of the blocks.
 
-ghost use Rattle.dm_layout.specs.Blocks.{BlocksTellWords, BlocksTellData, DataComesFirst};
+ghost use Rattle.dm_layout.specs.Blocks.{BlocksTellWords, BlocksTellData, DataComesFirst, BlocksMakeWords};
 
 /// Codewords of one size whose blocks are the same are the same.
 pub fn blocks_tell_the_codewords()
@@ -15,4 +15,9 @@ pub fn blocks_tell_the_data()
 /// The data codewords of a block come first in it: they are the symbol's data codewords at its places.
 pub fn data_comes_first_in_a_block()
     ensures { DataComesFirst }
+{}
+
+/// Lists of bytes of the length of a block, one for each block of a size, are the blocks of some codewords of the size.
+pub fn blocks_make_codewords()
+    ensures { BlocksMakeWords }
 {}

@@ -14,16 +14,26 @@ pub(super) type Taken = ArrayVec<u8, 4096>;
 #[derive(Drop)]
 pub(super) struct TextSource<'a> {
     rest: &'a [u8],
+    /// The most bytes of the next read.
     piece: usize,
+    /// The most bytes of each read after it.
+    later: usize,
     good_reads: usize,
     reads: usize,
     failures: u64,
 }
 
 impl<'a> TextSource<'a> {
-    /// Gives the text byte by byte, and doesn't fail.
+    /// Gives all that it is asked for, and doesn't fail.
     pub(super) fn new(text: &'a [u8]) -> Self {
-        TextSource::failing(text, 1, usize::MAX)
+        TextSource::failing(text, usize::MAX, usize::MAX)
+    }
+
+    /// Gives at most `first` bytes of the text at the first read, but at least 1, and then all that it is asked for.
+    pub(super) fn cut(text: &'a [u8], first: usize) -> Self {
+        let mut source = TextSource::new(text);
+        source.piece = first.max(1);
+        source
     }
 
     /// Gives at most `piece` bytes of the text a read, but at least 1. The reads after the first `good_reads` fail.
@@ -31,6 +41,7 @@ impl<'a> TextSource<'a> {
         TextSource {
             rest: text,
             piece: piece.max(1),
+            later: piece.max(1),
             good_reads,
             reads: 0,
             failures: 0,
@@ -63,6 +74,7 @@ impl<'a> Source for TextSource<'a> {
         let count = self.piece.max(1).min(into.len()).min(self.rest.len());
         into[..count].copy_from_slice(&self.rest[..count]);
         self.rest = &self.rest[count..];
+        self.piece = self.later;
         Ok(count)
     }
 

@@ -162,3 +162,14 @@ fn records_are_refused(rt: HostRuntime) {
         assert!(rt; record.err() == Some(fault));
     }
 }
+
+#[test]
+fn a_record_that_is_too_long_is_refused_and_left(rt: HostRuntime) {
+    let mut feed = GridFeed::new();
+    for _ in 0..1_000_000u32 {
+        assert!(rt; feed.feed(b"2\n").closed.is_none());
+    }
+    let closed = feed.feed(b"\n").closed;
+    assert!(rt; matches!(closed, Some(Err(RecordFault::Character))));
+    assert!(rt; closes_first(&rt, &mut feed, TWO_GRIDS));
+}

@@ -1,13 +1,13 @@
-use Rattle.std.proofs.Common.{◌≡◌, ◌+◌, ◌-◌, ◌++◌, ◌∷◌, [], suc, length, sym, ap, subst, ◌∙◌, arith}
+use Rattle.std.proofs.Common.{◌≡◌, ◌+◌, ◌-◌, ◌*◌, ◌/◌, ◌++◌, ◌∷◌, [], suc, length, sym, ap, subst, ◌∙◌, arith}
 use Rattle.gf301.specs.Field.{power}
-use Rattle.gf301.specs.Polynomial.{value, values_from, Bytes}
+use Rattle.gf301.specs.Polynomial.{value, Bytes}
 use Rattle.dm_code.specs.Syndromes.{syndromes_of}
 use Rattle.dm_code.proofs.SyndromeLaws.{syndromes_length, syndromes_bytes, syndromes_push}
 use Rattle.dm_code.proofs.syndrome.syndromes.Goals as goal
 
 pub loop-i-init : goal.loop-i-init
-unfolding values_from
-loop-i-init c = c.new-values.ensures
+loop-i-init c =
+    c.syndromes_in_groups-values.ensures ∙ ap (syndromes_of c.args.word.now) (let e : 16 * (c.args.k / 16) ≡ 16 * (c.args.k / 16) + 1 - 1 = omega arith in e)
 
 pub push-requires : goal.push-requires
 push-requires c = omega (arith, ap length c.loop-i.invariant ∙ syndromes_length c.args.word.now (c.loop-i.i - 1))

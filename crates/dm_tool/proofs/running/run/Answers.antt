@@ -1,18 +1,36 @@
-use Rattle.std.proofs.Common.{◌≡◌, ◌≤◌, ◌+◌, ◌-◌, ◌∙◌, [], ◌∷◌, ◌++◌, List, ℕ, append-nil, arith, length, length-append, sym, subst}
+use Rattle.std.proofs.Common.{◌≡◌, ◌≤◌, ◌+◌, ◌-◌, ◌∙◌, [], ◌∷◌, ◌++◌, List, ℕ, zero, suc, append-nil, arith, length, length-append, length-take-le, max, refl, subst, sym, take}
 use Rattle.std.specs.Io.KnownBytes.{Appends}
 use Rattle.dm_tool.specs.Devices.{AppendsFront}
 use Rattle.dm_tool.specs.Runs.{written}
 use Rattle.dm_tool.proofs.KnownBytes.{appends_then, front_then}
 use Rattle.dm_tool.proofs.Outcomes.{all_answered, broken_after, broken_before, done_so_far, table_answered, table_broken, too_much, written_append}
+use Rattle.dm_tool.proofs.Standings.{done_by, not_table}
 use Rattle.dm_tool.proofs.running.run.Goals as goal
 
 -- bytes that are all of what may come, and fewer
 few : (text : List ℕ) (left most : ℕ) → length text + left ≡ most → length text ≤ most
 few text left most e = omega arith
 
--- one byte more
-longer : (text : List ℕ) (byte left most : ℕ) → length text + left ≡ most → (left ≡ 0 → ⊥) → length (text ++ byte ∷ []) + (left - 1) ≡ most
-longer text byte left most e n = omega (arith, length-append text (byte ∷ []))
+-- no more came than might
+within : (count left : ℕ) → count ≤ max left 1 → (left ≡ 0 → ⊥) → count ≤ left
+within count zero h n = absurd (n refl)
+within count (suc left) h n = omega (arith, h)
+
+-- a piece more
+longer : (text place : List ℕ) (count left most : ℕ) → length text + left ≡ most → count ≤ max left 1 → (left ≡ 0 → ⊥) → count ≤ length place
+    → length (text ++ take count place) + (left - count) ≡ most
+longer text place count left most e h n k = omega (arith, length-append text (take count place), length-take-le count place k, within count left h n)
+
+-- a piece of one byte
+one_byte : (count : ℕ) (place : List ℕ) → (count ≡ 0 → ⊥) → count ≤ 1 → count ≤ length place → (byte : ℕ) × (take count place ≡ byte ∷ [])
+one_byte zero place n h k = absurd (n refl)
+one_byte (suc zero) [] n h k = absurd (omega arith)
+one_byte (suc zero) (byte ∷ place) n h k = (byte, refl)
+one_byte (suc (suc count)) place n h k = absurd (omega arith)
+
+-- nothing more
+no_more : (Gave : List ℕ → Type 0) (text place : List ℕ) (count : ℕ) → count ≡ 0 → Gave (text ++ take count place) → Gave text
+no_more Gave text place count e gave = subst Gave (append-nil text) (subst (λ n. Gave (text ++ take n place)) e gave)
 
 pub returns-in_default-clause-answered : goal.returns-in_default-clause-answered
 returns-in_default-clause-answered g c = table_answered c.args.task c.args.most (g.I.Source.gave c.args.source.now c.args.source.now)
@@ -24,80 +42,88 @@ returns-in_default-clause-write g c = table_broken c.args.task c.args.most (g.I.
     (AppendsFront (g.O.Sink.contents c.args.sink.now) (g.O.Sink.contents c.print_table.new.sink)) (g.I.Source.ended c.args.source.now)
     c.print_table.result c.in_default.ensures.none (g.met.I.Source.gave_none c.args.source.now) c.print_table.ensures.err
 
-pub returns-in-Ok-clause-answered : goal.returns-in-Ok-clause-answered
-returns-in-Ok-clause-answered g c =
-    let s = c.bytes.invariant.so_far in
-    let e = c.in-Ok.ensures.ok in
-    let none = rw c.in-Ok-None.field-0-is at c.in-Ok-None.ensures.none in
-    let end = rw c.in-Ok-None.field-0-is at c.in-Ok-None.ensures.end in
-    let gave = g.met.I.Source.gave_joined c.args.source.now c.bytes.source c.next_byte.new.source s.0 [] s.2 none in
-    all_answered c.args.task c.args.most (g.I.Source.gave c.args.source.now c.next_byte.new.source)
-    (Appends (g.O.Sink.contents c.args.sink.now) (g.O.Sink.contents c.end.new.sink)) (g.I.Source.ended c.next_byte.new.source)
-    c.bytes.answering s.0 s.1 e.0 c.end.new.tally (rw append-nil at gave) end (few s.0 c.bytes.left c.args.most s.3) s.4 e.1 (e.3 s.1 s.6)
+pub returns-in-Ok-end-clause-answered : goal.returns-in-Ok-end-clause-answered
+returns-in-Ok-end-clause-answered g c =
+    let s = c.pieces.invariant.so_far in
+    let e = c.in-Ok-end.ensures.ok in
+    let zero_bytes = c.in-Ok-eq0.field-0-test in
+    let gave = g.met.I.Source.gave_joined c.args.source.now c.pieces.source c.next_piece.new.source s.0 _ s.2 c.in-Ok-eq0.ensures.bytes in
+    all_answered c.args.task c.args.most (g.I.Source.gave c.args.source.now c.next_piece.new.source)
+    (Appends (g.O.Sink.contents c.args.sink.now) (g.O.Sink.contents c.end.new.sink)) (g.I.Source.ended c.next_piece.new.source)
+    c.pieces.answering s.0 s.1 e.0 c.end.new.tally
+    (no_more (g.I.Source.gave c.args.source.now c.next_piece.new.source) s.0 c.next_piece.new.place c.in-Ok-eq0.field-0 zero_bytes gave)
+    (c.in-Ok-eq0.ensures.end zero_bytes) (few s.0 c.pieces.left c.args.most s.3) s.4 e.1 (e.3 s.1 s.6)
     (subst (Appends (g.O.Sink.contents c.args.sink.now) (g.O.Sink.contents c.end.new.sink)) (sym (written_append s.1 e.0))
-    (appends_then (g.O.Sink.contents c.args.sink.now) (g.O.Sink.contents c.bytes.sink) (g.O.Sink.contents c.end.new.sink) (written s.1) (written e.0) s.5 e.2))
+    (appends_then (g.O.Sink.contents c.args.sink.now) (g.O.Sink.contents c.pieces.sink) (g.O.Sink.contents c.end.new.sink) (written s.1) (written e.0) s.5 e.2))
 
 pub returns-in-Err-end-clause-write : goal.returns-in-Err-end-clause-write
 returns-in-Err-end-clause-write g c is =
-    let s = c.bytes.invariant.so_far in
+    let s = c.pieces.invariant.so_far in
     let e = c.in-Err-end.ensures.err in
-    let none = rw c.in-Ok-None.field-0-is at c.in-Ok-None.ensures.none in
-    let end = rw c.in-Ok-None.field-0-is at c.in-Ok-None.ensures.end in
-    let gave = g.met.I.Source.gave_joined c.args.source.now c.bytes.source c.next_byte.new.source s.0 [] s.2 none in
-    broken_after c.args.task c.args.most (g.I.Source.gave c.args.source.now c.next_byte.new.source)
-    (AppendsFront (g.O.Sink.contents c.args.sink.now) (g.O.Sink.contents c.end.new.sink)) (g.I.Source.ended c.next_byte.new.source)
-    c.bytes.answering s.0 s.1 e.0 (rw append-nil at gave) end (few s.0 c.bytes.left c.args.most s.3) s.4 e.1
-    (front_then (g.O.Sink.contents c.args.sink.now) (g.O.Sink.contents c.bytes.sink) (g.O.Sink.contents c.end.new.sink) (written s.1) (written e.0)
+    let zero_bytes = c.in-Ok-eq0.field-0-test in
+    let gave = g.met.I.Source.gave_joined c.args.source.now c.pieces.source c.next_piece.new.source s.0 _ s.2 c.in-Ok-eq0.ensures.bytes in
+    broken_after c.args.task c.args.most (g.I.Source.gave c.args.source.now c.next_piece.new.source)
+    (AppendsFront (g.O.Sink.contents c.args.sink.now) (g.O.Sink.contents c.end.new.sink)) (g.I.Source.ended c.next_piece.new.source)
+    c.pieces.answering s.0 s.1 e.0
+    (no_more (g.I.Source.gave c.args.source.now c.next_piece.new.source) s.0 c.next_piece.new.place c.in-Ok-eq0.field-0 zero_bytes gave)
+    (c.in-Ok-eq0.ensures.end zero_bytes) (few s.0 c.pieces.left c.args.most s.3) s.4 e.1
+    (front_then (g.O.Sink.contents c.args.sink.now) (g.O.Sink.contents c.pieces.sink) (g.O.Sink.contents c.end.new.sink) (written s.1) (written e.0)
     (written (s.1 ++ e.0)) s.5 e.2 (written_append s.1 e.0))
 
 pub returns-in-Err-clause-read : goal.returns-in-Err-clause-read
 returns-in-Err-clause-read g c is =
-    let s = c.bytes.invariant.so_far in
-    let gave = g.met.I.Source.gave_joined c.args.source.now c.bytes.source c.next_byte.new.source s.0 [] s.2 c.in-Err.ensures.err in
-    done_so_far c.args.task c.args.most (g.I.Source.gave c.args.source.now c.next_byte.new.source)
-    (Appends (g.O.Sink.contents c.args.sink.now) (g.O.Sink.contents c.bytes.sink)) c.bytes.answering s.0 s.1 (rw append-nil at gave)
-    (few s.0 c.bytes.left c.args.most s.3) s.4 s.5
+    let s = c.pieces.invariant.so_far in
+    let gave = g.met.I.Source.gave_joined c.args.source.now c.pieces.source c.next_piece.new.source s.0 [] s.2 c.in-Err.ensures.bytes in
+    done_so_far c.args.task c.args.most (g.I.Source.gave c.args.source.now c.next_piece.new.source)
+    (Appends (g.O.Sink.contents c.args.sink.now) (g.O.Sink.contents c.pieces.sink)) c.pieces.answering s.0 s.1 (rw append-nil at gave)
+    (few s.0 c.pieces.left c.args.most s.3) s.4 s.5
 
 pub returns-then-left-eq0-clause-too_much : goal.returns-then-left-eq0-clause-too_much
 returns-then-left-eq0-clause-too_much g c is =
-    let s = c.bytes.invariant.so_far in
-    let one = rw c.in-Ok-Some.field-0-is at c.in-Ok-Some.ensures.some in
-    let gave = g.met.I.Source.gave_joined c.args.source.now c.bytes.source c.next_byte.new.source s.0 (c.in-Ok-Some.byte ∷ []) s.2 one in
-    too_much c.args.task c.args.most (g.I.Source.gave c.args.source.now c.next_byte.new.source)
-    (Appends (g.O.Sink.contents c.args.sink.now) (g.O.Sink.contents c.bytes.sink)) c.bytes.answering s.0 c.in-Ok-Some.byte s.1 gave
+    let s = c.pieces.invariant.so_far in
+    let one = one_byte c.in-Ok.count c.next_piece.new.place c.in-Ok.count-test.1 (subst (λ n. c.in-Ok.count ≤ max n 1) c.if-left-eq0.true c.in-Ok.ensures.few)
+    (omega (arith, c.in-Ok.ensures.fits, c.in-Ok.ensures.kept)) in
+    let gave = g.met.I.Source.gave_joined c.args.source.now c.pieces.source c.next_piece.new.source s.0 _ s.2 c.in-Ok.ensures.bytes in
+    too_much c.args.task c.args.most (g.I.Source.gave c.args.source.now c.next_piece.new.source)
+    (Appends (g.O.Sink.contents c.args.sink.now) (g.O.Sink.contents c.pieces.sink)) c.pieces.answering s.0 one.0 s.1
+    (subst (λ l. g.I.Source.gave c.args.source.now c.next_piece.new.source (s.0 ++ l)) one.1 gave)
     (omega (arith, s.3, c.if-left-eq0.true)) s.4 s.5
 
-pub returns-in-Err-answer_byte-clause-write : goal.returns-in-Err-answer_byte-clause-write
-returns-in-Err-answer_byte-clause-write g c is =
-    let s = c.bytes.invariant.so_far in
-    let e = c.in-Err-answer_byte.ensures.err in
-    let one = rw c.in-Ok-Some.field-0-is at c.in-Ok-Some.ensures.some in
-    let byte = c.in-Ok-Some.byte in
-    let gave = g.met.I.Source.gave_joined c.args.source.now c.bytes.source c.next_byte.new.source s.0 (byte ∷ []) s.2 one in
-    broken_before c.args.task c.args.most (g.I.Source.gave c.args.source.now c.next_byte.new.source)
-    (AppendsFront (g.O.Sink.contents c.args.sink.now) (g.O.Sink.contents c.answer_byte.new.sink)) (g.I.Source.ended c.next_byte.new.source)
-    c.answer_byte.new.answering (s.0 ++ byte ∷ []) (s.1 ++ e.0) gave
-    (few (s.0 ++ byte ∷ []) (c.bytes.left - 1) c.args.most (longer s.0 byte c.bytes.left c.args.most s.3 c.if-left-eq0.false)) (e.1 c.args.task s.0 s.1 s.4)
-    (front_then (g.O.Sink.contents c.args.sink.now) (g.O.Sink.contents c.bytes.sink) (g.O.Sink.contents c.answer_byte.new.sink) (written s.1) (written e.0)
+pub returns-in-Err-answer_piece-clause-write : goal.returns-in-Err-answer_piece-clause-write
+returns-in-Err-answer_piece-clause-write g c is =
+    let s = c.pieces.invariant.so_far in
+    let e = c.in-Err-answer_piece.ensures.err c.args.task s.0 s.1 s.4 in
+    let count = c.in-Ok.count in
+    let place = c.next_piece.new.place in
+    let gave = g.met.I.Source.gave_joined c.args.source.now c.pieces.source c.next_piece.new.source s.0 (take count place) s.2 c.in-Ok.ensures.bytes in
+    let long = longer s.0 place count c.pieces.left c.args.most s.3 c.in-Ok.ensures.few c.if-left-eq0.false (omega (arith, c.in-Ok.ensures.fits, c.in-Ok.ensures.kept)) in
+    broken_before c.args.task c.args.most (g.I.Source.gave c.args.source.now c.next_piece.new.source)
+    (AppendsFront (g.O.Sink.contents c.args.sink.now) (g.O.Sink.contents c.answer_piece.new.sink)) (g.I.Source.ended c.next_piece.new.source)
+    (s.0 ++ take count place) (s.1 ++ e.0) gave (few (s.0 ++ take count place) (c.pieces.left - count) c.args.most long)
+    (done_by c.args.task (s.0 ++ take count place) (s.1 ++ e.0) (not_table c.args.task c.pieces.answering s.0 s.1 s.4) e.1)
+    (front_then (g.O.Sink.contents c.args.sink.now) (g.O.Sink.contents c.pieces.sink) (g.O.Sink.contents c.answer_piece.new.sink) (written s.1) (written e.0)
     (written (s.1 ++ e.0)) s.5 e.2 (written_append s.1 e.0))
 
-pub bytes-preserved : goal.bytes-preserved
-bytes-preserved g c =
-    let s = c.bytes.invariant.so_far in
-    let e = c.in_default-answer_byte.ensures.ok in
-    let one = rw c.in-Ok-Some.field-0-is at c.in-Ok-Some.ensures.some in
-    let byte = c.in-Ok-Some.byte in record {
-      read_well = c.in-Ok-Some.ensures.count ∙ c.bytes.invariant.read_well;
-      wrote_well = c.in_default-answer_byte.ensures.count ∙ c.bytes.invariant.wrote_well;
-      room = omega (arith, c.bytes.invariant.room, c.in_default-answer_byte.ensures.sum, c.if-left-eq0.false);
+pub pieces-preserved : goal.pieces-preserved
+pieces-preserved g c =
+    let s = c.pieces.invariant.so_far in
+    let e = c.in_default-answer_piece.ensures.ok in
+    let count = c.in-Ok.count in
+    let place = c.next_piece.new.place in
+    let fits : count ≤ length place = omega (arith, c.in-Ok.ensures.fits, c.in-Ok.ensures.kept) in
+    record {
+      read_well = c.in-Ok.ensures.count ∙ c.pieces.invariant.read_well;
+      wrote_well = c.in_default-answer_piece.ensures.count ∙ c.pieces.invariant.wrote_well;
+      room =
+          omega (arith, c.pieces.invariant.room, c.in_default-answer_piece.ensures.sum, length-take-le count place fits, within count c.pieces.left c.in-Ok.ensures.few c.if-left-eq0.false);
       so_far = (
-        s.0 ++ byte ∷ [],
+        s.0 ++ take count place,
         s.1 ++ e.0,
-        g.met.I.Source.gave_joined c.args.source.now c.bytes.source c.next_byte.new.source s.0 (byte ∷ []) s.2 one,
-        longer s.0 byte c.bytes.left c.args.most s.3 c.if-left-eq0.false,
+        g.met.I.Source.gave_joined c.args.source.now c.pieces.source c.next_piece.new.source s.0 (take count place) s.2 c.in-Ok.ensures.bytes,
+        longer s.0 place count c.pieces.left c.args.most s.3 c.in-Ok.ensures.few c.if-left-eq0.false fits,
         e.1 c.args.task s.0 s.1 s.4,
-        subst (Appends (g.O.Sink.contents c.args.sink.now) (g.O.Sink.contents c.answer_byte.new.sink)) (sym (written_append s.1 e.0))
-            (appends_then (g.O.Sink.contents c.args.sink.now) (g.O.Sink.contents c.bytes.sink) (g.O.Sink.contents c.answer_byte.new.sink) (written s.1) (written e.0) s.5 e.2),
+        subst (Appends (g.O.Sink.contents c.args.sink.now) (g.O.Sink.contents c.answer_piece.new.sink)) (sym (written_append s.1 e.0))
+            (appends_then (g.O.Sink.contents c.args.sink.now) (g.O.Sink.contents c.pieces.sink) (g.O.Sink.contents c.answer_piece.new.sink) (written s.1) (written e.0) s.5 e.2),
         e.3 s.1 s.6,
       );
     }

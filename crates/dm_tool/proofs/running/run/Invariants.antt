@@ -5,8 +5,8 @@ use Rattle.dm_tool.specs.Runs.{tally_of, written}
 use Rattle.dm_tool.specs.Standings.{Stands}
 use Rattle.dm_tool.proofs.running.run.Given as goal
 
-abbrev pub invariant-bytes : goal.invariant-bytes
-invariant-bytes g l = record {
+abbrev pub invariant-pieces : goal.invariant-pieces
+invariant-pieces g l = record {
   read_well : g.I.Source.failed l.source ≡ g.I.Source.failed l.initial.source;
   wrote_well : g.O.Sink.failed l.sink ≡ g.O.Sink.failed l.initial.sink;
   room : l.tally.answered + l.tally.refused + l.left ≤ l.most;
@@ -15,5 +15,5 @@ invariant-bytes g l = record {
       × (l.tally ≡ tally_of answers);
 }
 
-abbrev pub decreases-bytes : goal.decreases-bytes
-decreases-bytes g l = l.left
+abbrev pub decreases-pieces : goal.decreases-pieces
+decreases-pieces g l = l.left

@@ -78,8 +78,8 @@ fn ends(
 #[test]
 fn a_read_fails(rt: HostRuntime) {
     for piece in PIECES {
-        for good in 0..=TWO_GRIDS.len() {
-            let written = if good < 111 {
+        for good in 0..=TWO_GRIDS.len().div_ceil(piece) {
+            let written = if good.saturating_mul(piece) < 111 {
                 b"".as_slice()
             } else {
                 b"123456\n"
@@ -92,11 +92,24 @@ fn a_read_fails(rt: HostRuntime) {
     }
 }
 
+/// How many reads of so many bytes a text takes of which at most so many may come, with the one that tells of its end or
+/// of a byte too much.
+fn reads_of(text: &[u8], piece: usize, most: usize) -> usize {
+    text.len()
+        .min(most)
+        .div_ceil(piece.max(1))
+        .saturating_add(1)
+}
+
 #[test]
 fn a_write_fails(rt: HostRuntime) {
     for piece in PIECES {
         for room in 0..OUT.len() {
-            let reads = if room < 7 { 111 } else { 223 };
+            let reads = if room < 7 {
+                111usize.div_ceil(piece)
+            } else {
+                reads_of(TWO_GRIDS, piece, usize::MAX)
+            };
             let source = TextSource::failing(TWO_GRIDS, piece, usize::MAX);
             let sink = MemorySink::failing(piece, room);
             let end = write_failed(reads, &OUT[..room]);
@@ -109,38 +122,33 @@ fn a_write_fails(rt: HostRuntime) {
 fn the_flush_fails(rt: HostRuntime) {
     for piece in PIECES {
         let source = TextSource::failing(TWO_GRIDS, piece, usize::MAX);
-        let mut end = write_failed(223, OUT);
+        let mut end = write_failed(reads_of(TWO_GRIDS, piece, usize::MAX), OUT);
         end.flushes = &[9];
         let sink = MemorySink::failing_flush(piece);
         ends(&rt, Task::Read(None), source, sink, 1000, &end);
     }
 }
 
-/// How a run ends that answers all.
-fn all_answered<'a>(
-    answered: u64,
-    reads: usize,
-    written: &'a [u8],
-    flushes: &'a [usize],
-) -> End<'a> {
+/// How a run ends that answers all, without a read.
+fn all_answered<'a>(answered: u64, written: &'a [u8], flushes: &'a [usize]) -> End<'a> {
     End {
         outcome: Ok(Tally {
             answered,
             refused: 0,
         }),
         ending: (0, ""),
-        reads,
+        reads: 0,
         written,
         flushes,
     }
 }
 
-/// How a run ends whose input is too long.
-fn too_much(reads: usize, written: &[u8]) -> End<'_> {
+/// How a run ends whose input is too long, without a read.
+fn too_much(written: &[u8]) -> End<'_> {
     End {
         outcome: Err(RunFault::TooMuchInput),
         ending: (3, "dm_tool: too much input"),
-        reads,
+        reads: 0,
         written,
         flushes: &[],
     }
@@ -149,25 +157,40 @@ fn too_much(reads: usize, written: &[u8]) -> End<'_> {
 #[test]
 fn input_is_limited(rt: HostRuntime) {
     let table = [
-        (TWO_GRIDS, 223, all_answered(2, 223, OUT, &[9])),
-        (TWO_GRIDS, 222, all_answered(2, 223, OUT, &[9])),
-        (TWO_GRIDS, 221, too_much(222, b"123456\n")),
-        (TWO_GRIDS, 111, too_much(112, b"123456\n")),
-        (TWO_GRIDS, 110, too_much(111, b"")),
-        (TWO_GRIDS, 0, too_much(1, b"")),
-        (b"".as_slice(), 0, all_answered(0, 1, b"", &[0])),
+        (TWO_GRIDS, 223, all_answered(2, OUT, &[9])),
+        (TWO_GRIDS, 222, all_answered(2, OUT, &[9])),
+        (TWO_GRIDS, 221, too_much(b"123456\n")),
+        (TWO_GRIDS, 111, too_much(b"123456\n")),
+        (TWO_GRIDS, 110, too_much(b"")),
+        (TWO_GRIDS, 0, too_much(b"")),
+        (b"".as_slice(), 0, all_answered(0, b"", &[0])),
     ];
     for (text, most, end) in &table {
         for piece in PIECES {
             let source = TextSource::failing(text, piece, usize::MAX);
             let sink = MemorySink::failing(piece, usize::MAX);
-            ends(&rt, Task::Read(None), source, sink, *most, end);
+            let mut end = *end;
+            end.reads = reads_of(text, piece, *most as usize);
+            ends(&rt, Task::Read(None), source, sink, *most, &end);
         }
     }
 }
 
 /// Two lines, the last one without its LF.
 static TWO_LINES: &[u8] = b"A\nAIM";
+
+#[test]
+fn pieces_change_nothing(rt: HostRuntime) {
+    let mut end = all_answered(2, OUT, &[9]);
+    end.reads = 2;
+    let source = TextSource::new(TWO_GRIDS);
+    ends(&rt, Task::Read(None), source, MemorySink::new(), 1000, &end);
+    end.reads = 3;
+    for first in 1..TWO_GRIDS.len() {
+        let source = TextSource::cut(TWO_GRIDS, first);
+        ends(&rt, Task::Read(None), source, MemorySink::new(), 1000, &end);
+    }
+}
 
 #[test]
 fn a_read_fails_between_lines(rt: HostRuntime) {
@@ -185,7 +208,7 @@ fn a_write_fails_within_a_grid(rt: HostRuntime) {
     push(&rt, &mut written, LINES[1].1);
     push(&rt, &mut written, AIM);
     for room in 0..written.len() {
-        let reads = if room < 111 { 2 } else { 6 };
+        let reads = if room < 111 { 1 } else { 2 };
         let end = write_failed(reads, &written.as_slice()[..room]);
         let sink = MemorySink::failing(7, room);
         ends(
@@ -201,8 +224,9 @@ fn a_write_fails_within_a_grid(rt: HostRuntime) {
 
 #[test]
 fn lines_are_limited(rt: HostRuntime) {
-    for (most, reads, written) in [(4, 5, LINES[1].1), (2, 3, LINES[1].1), (1, 2, b"")] {
-        let end = too_much(reads, written);
+    for (most, written) in [(4, LINES[1].1), (2, LINES[1].1), (1, b"")] {
+        let mut end = too_much(written);
+        end.reads = 2;
         let sink = MemorySink::new();
         ends(
             &rt,
@@ -218,7 +242,7 @@ fn lines_are_limited(rt: HostRuntime) {
 #[test]
 fn the_table_needs_no_source(rt: HostRuntime) {
     let flushes = [SIZES.len()];
-    let end = all_answered(0, 0, SIZES, &flushes);
+    let end = all_answered(0, SIZES, &flushes);
     let source = TextSource::failing(TWO_GRIDS, 1, 0);
     ends(&rt, Task::Table, source, MemorySink::new(), 0, &end);
     for room in 0..SIZES.len() {

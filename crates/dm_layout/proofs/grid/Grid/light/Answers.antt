@@ -1,14 +1,20 @@
-use Rattle.std.proofs.Common.{◌∙◌}
-use Rattle.dm_layout.specs.Grid.{IsKept}
-use Rattle.dm_layout.proofs.GridLemmas.{grid_of_kept, cell_of_kept}
+use Rattle.std.proofs.Common.{ℕ, ◌∙◌, replicate, arith, ◌<◌, ◌^◌, refl}
+use Rattle.std.proofs.lemmas.List.Elements.{All-replicate}
+use Rattle.std.proofs.lemmas.Nat.{pow_pos}
+use Rattle.dm_layout.proofs.PackedRows.{cell_of_kept, grid_of_kept, none_dark}
 use Rattle.dm_layout.proofs.grid.Grid.light.Goals as goal
 
+pub invariant_of-result : goal.invariant_of-result
+invariant_of-result c = record {
+  row = c.side-side.ensures.row;
+  fits = c.side-side.ensures.most;
+  height = refl;
+  width = All-replicate (λ (row : ℕ). row < 2 ^ c.args.size.side) 52 0 (pow_pos c.args.size.side);
+}
+
 pub returns-clause-grid : goal.returns-clause-grid
-returns-clause-grid c =
-    grid_of_kept c.args.size c.light_lines.result (record { row = c.side-side.ensures.row; fits = c.side-side.ensures.most; height = c.light_lines.ensures.height; width = c.light_lines.ensures.width })
+returns-clause-grid c = grid_of_kept c.args.size (replicate 52 0) c.side-side.ensures.row
 
 pub returns-clause-light : goal.returns-clause-light
-returns-clause-light c =
-    let kept : IsKept c.args.size c.light_lines.result = record { row = c.side-side.ensures.row; fits = c.side-side.ensures.most; height = c.light_lines.ensures.height; width = c.light_lines.ensures.width } in
-    λ row column below inside.
-    cell_of_kept c.args.size c.light_lines.result row column kept below inside ∙ c.light_lines.ensures.light row column
+returns-clause-light c = λ row column below inside.
+    cell_of_kept c.args.size (replicate 52 0) row column below inside ∙ none_dark 52 row column (omega (arith, c.side-side.ensures.most))

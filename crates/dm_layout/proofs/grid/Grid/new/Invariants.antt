@@ -1,12 +1,6 @@
-use Rattle.std.proofs.Common.{◌≡◌, length}
-use Rattle.std.specs.Prelude.{All}
-use Rattle.dm_layout.specs.Sizes.{largest_side}
-use Rattle.dm_layout.proofs.GridLemmas.{IsCopied}
+use Rattle.std.proofs.Common.{◌+◌, ◌*◌, false, get_or}
+use Rattle.dm_layout.proofs.PackedRows.{IsPacked}
 use Rattle.dm_layout.proofs.grid.Grid.new.Given as goal
 
 abbrev pub invariant-loop-row : goal.invariant-loop-row
-invariant-loop-row l = record {
-  height : length l.lines ≡ largest_side;
-  width : All (λ line. length line ≡ largest_side) l.lines;
-  above : IsCopied l.across l.row l.cells l.lines;
-}
+invariant-loop-row l = IsPacked l.across l.row (λ r c. get_or l.cells (r * l.across + c) false) l.rows

@@ -1,0 +1,122 @@
+//! Tests of the solvers of the key equation.
+
+ghost use Rattle.std.specs.Prelude.{◌*◌, ◌≤◌, length};
+
+use super::correction_tests::{BLOCKS, WORD, codeword};
+use super::errors::{coefficient_at, trimmed};
+use super::{Elimination, KeySolver, Quick, correct, syndromes};
+
+/// Whether two lists are equal as polynomials of a degree below 35.
+fn are_same(p: &[u8], q: &[u8]) -> bool {
+    (0..35).all(|i| coefficient_at(p, i) == coefficient_at(q, i))
+}
+
+/// Whether a solver answers this pair.
+fn has_key<S: KeySolver>(solver: &S, s: &[u8], t: usize, locator: &[u8], evaluator: &[u8]) -> bool
+    requires few { length s.now ≤ 68 }
+    requires half { 2 * t ≤ length s.now }
+{
+    match solver.solve(s, t) {
+        Some(key) => are_same(&key.locator, locator) && are_same(&key.evaluator, evaluator),
+        None => false,
+    }
+}
+
+/// Whether the counts of `Quick` are within their bounds: from above for every answer, from below where a locator other
+/// than 1 was found.
+fn is_counted(s: &[u8], t: usize) -> bool
+    requires few { length s.now ≤ 68 }
+    requires half { 2 * t ≤ length s.now }
+{
+    let k = s.len() as u32;
+    let (key, meter) = Quick.solve_counted(s, t);
+    let terms = match &key {
+        Some(key) => trimmed(&key.locator).len(),
+        None => 0,
+    };
+    let some = terms <= 1 || (meter.products > 0 && meter.inversions > 0);
+    let many = terms <= t || meter.products as usize >= t * t / 4;
+    meter.products <= 4 * k * k && meter.inversions <= k && some && many
+}
+
+/// Whether both solvers answer the same for the syndromes of a word, by counts within their bounds.
+fn are_alike(word: &[u8], k: usize) -> bool
+    requires { k ≤ 68 }
+{
+    let s = syndromes(word, k);
+    let t = s.len() / 2;
+    let alike = match Elimination.solve(&s, t) {
+        Some(key) => has_key(&Quick, &s, t, &key.locator, &key.evaluator),
+        None => Quick.solve(&s, t).is_none(),
+    };
+    alike && is_counted(&s, t)
+}
+
+#[test]
+fn keys(rt: HostRuntime) {
+    let zeros = [0; 68];
+    let pairs: [(&[u8], usize, &[u8], &[u8]); 5] = [
+        (&zeros, 34, &[1], &[]),
+        (&[], 0, &[1], &[]),
+        // an error of value 3 at the place with the locator 2: the syndromes are 3 * 2, 3 * 4, 3 * 8, 3 * 16 and 3 * 32
+        (&[6, 12, 24, 48], 2, &[1, 2], &[6]),
+        (&[6, 12, 24, 48, 96], 2, &[1, 2], &[6]),
+        (&[6, 12, 24, 48, 96], 1, &[1, 2], &[6]),
+    ];
+    for (s, t, locator, evaluator) in pairs {
+        assert!(rt; s.len() <= 68 && 2 * t <= s.len());
+        assert!(rt;
+            has_key(&Elimination, s, t, locator, evaluator),
+            "{s:?} within {t}"
+        );
+        assert!(rt;
+            has_key(&Quick, s, t, locator, evaluator),
+            "{s:?} within {t}"
+        );
+        assert!(rt; is_counted(s, t), "{s:?} within {t}");
+    }
+    let none: [(&[u8], usize); 4] = [
+        (&[0, 0, 0, 1], 2),
+        (&[1], 0),
+        (&[6, 12, 24, 49], 2),
+        (&[6, 12], 0),
+    ];
+    for (s, t) in none {
+        assert!(rt; s.len() <= 68 && 2 * t <= s.len());
+        assert!(rt; Elimination.solve(s, t).is_none(), "{s:?} within {t}");
+        assert!(rt; Quick.solve(s, t).is_none(), "{s:?} within {t}");
+        assert!(rt; is_counted(s, t), "{s:?} within {t}");
+    }
+}
+
+#[test]
+fn both_solvers_are_alike(rt: HostRuntime) {
+    for damaged in [
+        WORD,
+        [0, 0, 186, 114, 25, 5, 88, 102],
+        [0, 0, 0, 114, 25, 5, 88, 102],
+    ] {
+        assert!(rt; are_alike(&damaged, 5), "{damaged:?}");
+        assert_eq!(rt;
+            correct(&Quick, &damaged, 5),
+            correct(&Elimination, &damaged, 5)
+        );
+    }
+    for (count, k) in BLOCKS {
+        assert!(rt; 1 <= k && k <= 68 && 0 < count && count <= 255 - k);
+        let word = codeword(count, k);
+        let limit = k / 2;
+        for (first, step) in [(0, 1), (count + k - limit, 1), (0, 2)] {
+            for changed in [1, limit, limit + 1] {
+                let mut damaged = word;
+                for place in damaged.iter_mut().skip(first).step_by(step).take(changed) {
+                    *place ^= 255;
+                }
+                assert!(rt;
+                    are_alike(&damaged[..count + k], k),
+                    "{k} checks, {changed} from place {first}, step {step}"
+                );
+            }
+        }
+    }
+}

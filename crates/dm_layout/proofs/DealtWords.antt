@@ -1,0 +1,64 @@
+-- Blocks make the codewords of a symbol.
+use Rattle.std.proofs.Common.{◌≡◌, ℕ, ◌+◌, ◌*◌, ◌/◌, ◌%◌, ◌<◌, List, map, length, get_or, refl, sym, ◌∙◌, ap, subst, arith}
+use Rattle.std.specs.List.{range_with_len}
+use Rattle.std.proofs.lemmas.Nat.{div-mul-add, mod-mul-add}
+use Rattle.std.proofs.lemmas.Grind.{same_number_lists}
+use Rattle.std.proofs.lemmas.List.Elements.{All-get_or, All-from_get_or}
+use Rattle.std.proofs.lemmas.List.FromFn.{length-map-range_with_len, get_or-map-range_with_len}
+use Rattle.dm_layout.specs.Sizes.{SizeRow, IsRow, block_length, codeword_count}
+use Rattle.dm_layout.specs.Words.{WordsView, IsWords}
+use Rattle.dm_layout.specs.Blocks.{AreBlocks, block_of}
+use Rattle.dm_layout.proofs.BlockLemmas.{length_of_block, place_inside, place_parts, word_of_block}
+use Rattle.dm_layout.proofs.TableRows.{row_facts}
+
+-- the codeword at a place of the symbol, by its block
+codeword_at : SizeRow → (ℕ → List ℕ) → ℕ → ℕ
+codeword_at size blocks j = get_or (blocks (j % size.blocks)) (j / size.blocks) 0
+
+-- the codewords whose blocks are these
+dealt : SizeRow → (ℕ → List ℕ) → WordsView
+dealt size blocks = record { size = size; list = map (codeword_at size blocks) (range_with_len 0 (codeword_count size)) }
+
+-- the codeword at a place
+dealt_at : (size : SizeRow) (blocks : ℕ → List ℕ) (j : ℕ) → j < codeword_count size
+    → get_or (map (codeword_at size blocks) (range_with_len 0 (codeword_count size))) j 0 ≡ get_or (blocks (j % size.blocks)) (j / size.blocks) 0
+unfolding codeword_at
+dealt_at size blocks j l = get_or-map-range_with_len (codeword_at size blocks) 0 (codeword_count size) j j 0 l (omega arith)
+
+-- they are the codewords of a symbol
+dealt_words : (size : SizeRow) (blocks : ℕ → List ℕ) → IsRow size → AreBlocks size blocks → IsWords (dealt size blocks)
+unfolding dealt
+dealt_words size blocks row are =
+    let list = map (codeword_at size blocks) (range_with_len 0 (codeword_count size)) in
+    let facts = row_facts size row in
+    let count : length list ≡ codeword_count size = length-map-range_with_len (codeword_at size blocks) 0 (codeword_count size) in
+    record {
+      row = row;
+      count = count;
+      bytes = All-from_get_or (λ word. word < 256) list 0 (λ j l.
+          let inside : j < codeword_count size = omega (arith, l, count) in
+          let parts = place_parts size.blocks (block_length size) j (omega (arith, facts.blocks)) (omega (arith, facts.dealt, inside)) in
+          let block = are (j % size.blocks) parts.1 in
+          subst (λ word. word < 256) (sym (dealt_at size blocks j inside))
+          (All-get_or (λ word. word < 256) (blocks (j % size.blocks)) (j / size.blocks) 0 (omega (arith, parts.0, block.0)) block.1));
+    }
+
+-- and these are their blocks
+dealt_block : (size : SizeRow) (blocks : ℕ → List ℕ) → IsRow size → AreBlocks size blocks → (b : ℕ) → b < size.blocks
+    → block_of size.blocks b (map (codeword_at size blocks) (range_with_len 0 (codeword_count size))) ≡ blocks b
+unfolding dealt
+dealt_block size blocks row are b lb =
+    let words = dealt_words size blocks row are in
+    let long = length_of_block (dealt size blocks) b words lb in
+    same_number_lists _ (blocks b) (long ∙ sym (are b lb).0) (λ k l.
+    let lk : k < block_length size = omega (arith, l, long) in
+    let j = k * size.blocks + b in
+    let inside : j < codeword_count size = omega (arith, place_inside (dealt size blocks) b k words lb lk, words.count) in
+    word_of_block (dealt size blocks) b k words lb lk ∙ dealt_at size blocks j inside
+    ∙ ap (λ r. get_or (blocks r) (j / size.blocks) 0) (mod-mul-add k size.blocks b lb) ∙ ap (λ q. get_or (blocks b) q 0) (div-mul-add k size.blocks b lb))
+
+-- blocks make codewords
+pub blocks_make_words : (size : SizeRow) (blocks : ℕ → List ℕ) → IsRow size → AreBlocks size blocks
+    → (w : WordsView) × IsWords w × (w.size ≡ size) × ((b : ℕ) → b < size.blocks → block_of size.blocks b w.list ≡ blocks b)
+unfolding dealt
+blocks_make_words size blocks row are = (dealt size blocks, dealt_words size blocks row are, refl, dealt_block size blocks row are)

@@ -1,0 +1,6 @@
+use Rattle.dm_layout.proofs.HeldWords.{laid_somewhere}
+use Rattle.dm_layout.proofs.Laid.{one_laid}
+use Rattle.dm_layout.proofs.laws.holding.codewords_are_laid_in_a_grid.Goals as goal
+
+pub returns : goal.returns
+returns c = record { some = laid_somewhere; one = one_laid }

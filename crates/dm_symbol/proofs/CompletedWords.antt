@@ -1,0 +1,110 @@
+-- Each message that some size holds has a normal grid.
+use Rattle.std.proofs.Common.{◌≡◌, ℕ, ◌+◌, ◌*◌, ◌<◌, List, ◌++◌, length, get_or, take, replicate, Option, Some, None, IsSome, refl, sym, ap, subst, ◌∙◌, arith, mul_comm}
+use Rattle.std.specs.List.{All}
+use Rattle.std.proofs.lemmas.Bool.{false≢true}
+use Rattle.std.proofs.lemmas.List.{get_or-take, get_or-replicate, get_or_append_left, length-append, length-replicate, length-take-le}
+use Rattle.std.proofs.lemmas.List.Elements.{All-append, All-from_get_or, All-get_or, All-take}
+use Rattle.std.proofs.lemmas.Nat.{mul-add-lt}
+use Rattle.std.proofs.Math.Seq.{take-append_seam}
+use Rattle.dm_words.specs.declared.item.Item.{Item}
+use Rattle.dm_code.specs.Codeword.{IsCodeword}
+use Rattle.dm_layout.specs.Sizes.{SizeRow, IsRow, row_for_words, block_data, block_check, block_length}
+use Rattle.dm_layout.specs.Grid.{GridView}
+use Rattle.dm_words.specs.Ascii.{ascii}
+use Rattle.dm_words.specs.Pads.{padded}
+use Rattle.dm_words.specs.Messages.{IsMessage}
+use Rattle.dm_symbol.specs.Blocks.{symbol, AreWordsOf, BlocksAreCodewords, block_at, data_part}
+use Rattle.dm_symbol.specs.NormalGrid.{IsNormalGrid, HasNormalGrid}
+use Rattle.dm_symbol.proofs.SizeFacts.{size_facts, holds_that_many}
+use Rattle.dm_symbol.proofs.Completion.{data_stays}
+use Rattle.dm_symbol.proofs.WriteSteps.{laid_is_normal}
+use Rattle.dm_symbol.proofs.Choosing.{chosen}
+use Rattle.dm_symbol.proofs.Below.{block_places, block_lengths, blocks_make_words, codewords_are_bytes, checks_are_there, laid_somewhere, ascii_words_are}
+
+-- A block is of bytes.
+block_bytes : (size : SizeRow) (words : List ℕ) → AreWordsOf size words → (b : ℕ) → b < size.blocks → All (λ w. w < 256) (block_at size words b)
+block_bytes size words h b hb =
+    let f = size_facts size h.row in
+    All-from_get_or (λ w. w < 256) (block_at size words b) 0 (λ i hi.
+    let within : i < block_length size = omega (arith, hi, block_lengths size words h b hb) in
+    let inside : i * size.blocks + b < length words =
+    omega (arith, mul-add-lt i size.blocks b (block_length size) within hb, mul_comm size.blocks (block_length size), f.words_dealt, h.count) in
+    subst (λ w. w < 256) (sym (block_places size words h b i hb within)) (All-get_or (λ w. w < 256) words (i * size.blocks + b) 0 inside h.bytes))
+
+-- The data codewords of a block, and check codewords that make them a codeword.
+record IsCompletion (size : SizeRow) (words : List ℕ) (b : ℕ) (list : List ℕ) : Type 0 where
+  pub checks : List ℕ
+  pub whole : list ≡ take (block_data size) (block_at size words b) ++ checks
+  pub long : length list ≡ block_length size
+  pub codeword : IsCodeword (block_check size) list
+
+-- How many data codewords a block has.
+front_length : (size : SizeRow) (words : List ℕ) → AreWordsOf size words → (b : ℕ) → b < size.blocks
+    → length (take (block_data size) (block_at size words b)) ≡ block_data size
+front_length size words h b hb =
+    length-take-le (block_data size) (block_at size words b) (omega (arith, block_lengths size words h b hb, (size_facts size h.row).length))
+
+-- Each block has its completion.
+completion : (size : SizeRow) (words : List ℕ) → AreWordsOf size words → (b : ℕ) → b < size.blocks → (list : List ℕ) × IsCompletion size words b list
+completion size words h b hb =
+    let f = size_facts size h.row in
+    let front = take (block_data size) (block_at size words b) in
+    let long : length front ≡ block_data size = front_length size words h b hb in
+    let made = checks_are_there (block_check size) front (All-take (λ w. w < 256) (block_data size) (block_at size words b) (block_bytes size words h b hb))
+    (omega (arith, f.few_checks)) (omega (arith, long, f.length, f.short)) in (
+      front ++ made.0,
+      record { checks = made.0; whole = refl; long = omega (arith, length-append front made.0, long, made.1, f.length); codeword = made.2 },
+    )
+
+-- Codewords of a symbol with these data codewords, each block a codeword.
+pub record HasChecks (size : SizeRow) (data_words : List ℕ) : Type 0 where
+  pub list : List ℕ
+  pub of_size : AreWordsOf size list
+  pub front : data_part size list ≡ data_words
+  pub checked : BlocksAreCodewords size list
+
+-- Data codewords before zeros are the codewords of a symbol.
+with_room : (size : SizeRow) (data_words : List ℕ) → IsRow size → length data_words ≡ size.data_count → All (λ w. w < 256) data_words
+    → AreWordsOf size (data_words ++ replicate size.check_count 0)
+with_room size data_words row long bytes =
+    let zeros : List ℕ = replicate size.check_count 0 in
+    let count : length zeros ≡ size.check_count = length-replicate {A = ℕ} size.check_count 0 in
+    record {
+      row = row;
+      count = omega (arith, length-append data_words zeros, long, count);
+      bytes = All-append (λ w. w < 256) data_words zeros bytes (All-from_get_or (λ w. w < 256) zeros 0 (λ i hi.
+          subst (λ w. w < 256) (sym (get_or-replicate {A = ℕ} size.check_count i 0 0 (omega (arith, hi, count)))) (omega arith)));
+    }
+
+-- Data codewords are completed.
+pub checks_for : (size : SizeRow) (data_words : List ℕ) → IsRow size → length data_words ≡ size.data_count → All (λ w. w < 256) data_words → HasChecks size data_words
+checks_for size data_words row long bytes =
+    let u = data_words ++ replicate size.check_count 0 in
+    let hu = with_room size data_words row long bytes in
+    let blocks = chosen size.blocks (IsCompletion size u) (completion size u hu) in
+    let made = blocks_make_words size blocks.0 row
+    (λ b hb. ((blocks.1 b hb).long, codewords_are_bytes (block_check size) (blocks.0 b) (blocks.1 b hb).codeword)) in
+    let stay : data_part size made.list ≡ data_part size u = data_stays size u made.list hu made.of_size (λ b i hb hi.
+    let front = take (block_data size) (block_at size u b) in
+    ap (λ xs. get_or xs i 0) (made.are b hb ∙ (blocks.1 b hb).whole)
+    ∙ get_or_append_left front (blocks.1 b hb).checks 0 i (omega (arith, hi, front_length size u hu b hb))
+    ∙ get_or-take (block_data size) (block_at size u b) i 0 hi) in
+    record {
+      list = made.list;
+      of_size = made.of_size;
+      front = stay ∙ ap (λ n. take n u) (sym long) ∙ take-append_seam data_words (replicate size.check_count 0);
+      checked = λ b hb. subst (IsCodeword (block_check size)) (sym (made.are b hb)) (blocks.1 b hb).codeword;
+    }
+
+-- A message that some size holds has a normal grid.
+pub normal_grid_is_there : (m : List Item) → IsMessage m → HasNormalGrid m → (grid : GridView) × IsNormalGrid m grid
+normal_grid_is_there m h fits = of_size (row_for_words (length (ascii m))) refl fits
+  where
+    of_size : (o : Option SizeRow) → row_for_words (length (ascii m)) ≡ o → IsSome o → (grid : GridView) × IsNormalGrid m grid
+    of_size None e is = absurd (false≢true is)
+    of_size (Some size) e is =
+        let here = holds_that_many (length (ascii m)) size e in
+        let are = ascii_words_are m size.data_count h here.1 in
+        let w = checks_for size (padded (ascii m) size.data_count) here.0 are.0 are.1 in
+        let laid = laid_somewhere (symbol size w.list) w.of_size in
+        (laid.0, laid_is_normal m laid.0 (symbol size w.list) size e refl w.front w.checked laid.1)

@@ -1,0 +1,130 @@
+-- Each grid has an answer.
+use Rattle.std.proofs.Common.{◌≡◌, ◌⊎◌, ℕ, zero, suc, ◌<◌, ◌≤◌, List, length, Option, Some, None, IsSome, Result, Ok, Err, inl, inr, refl, sym, subst, ◌∙◌, arith}
+use Rattle.std.proofs.lemmas.Bool.{cases_eq, cases_lt, false≢true}
+use Rattle.dm_words.specs.declared.item.Item.{Item}
+use Rattle.dm_code.specs.Codeword.{IsNear}
+use Rattle.dm_layout.specs.Sizes.{SizeRow, block_check, row_for_words}
+use Rattle.dm_layout.specs.Grid.{GridView, IsGrid}
+use Rattle.dm_layout.specs.Border.{border_fault_count}
+use Rattle.dm_words.specs.Ascii.{ascii}
+use Rattle.dm_symbol.specs.declared.reading.Reading.{Reading}
+use Rattle.dm_symbol.specs.declared.reading.ReadFault.{ReadFault}
+use Rattle.dm_symbol.specs.declared.reading.ReadFault.TheVariants as fault
+use Rattle.dm_symbol.specs.declared.normalising.NormalFault.{NormalFault}
+use Rattle.dm_symbol.specs.declared.normalising.NormalFault.TheVariants.{Read, TooLong}
+use Rattle.dm_symbol.specs.Blocks.{AreWordsOf, AreHeld, block_at, data_part, distances}
+use Rattle.dm_symbol.specs.Reading.{HasNear, IsCorrected, IsFirstBeyond, ReadAnswer, Reads, reading_of}
+use Rattle.dm_symbol.specs.Normal.{HasNormal, NormalAnswer}
+use Rattle.dm_symbol.proofs.SizeFacts.{size_facts}
+use Rattle.dm_symbol.proofs.NormalGrids.{data_is_bytes}
+use Rattle.dm_symbol.proofs.Choosing.{chosen}
+use Rattle.dm_symbol.proofs.CompletedWords.{normal_grid_is_there}
+use Rattle.dm_symbol.proofs.Below.{block_lengths, blocks_make_words, codewords_are_bytes, every_grid_holds, near_or_none, one_answer, spelled_is_message}
+
+-- Some codeword is near a block, or none is.
+block_near_or_none : (size : SizeRow) (words : List ℕ) → AreWordsOf size words → (b : ℕ) → b < size.blocks
+    → HasNear (block_check size) (block_at size words b) ⊎ (HasNear (block_check size) (block_at size words b) → ⊥)
+block_near_or_none size words h b hb =
+    let f = size_facts size h.row in
+    let long = block_lengths size words h b hb in
+    elim (near_or_none (block_check size) (block_at size words b) (omega (arith, long, f.length, f.some_data)) (omega (arith, long, f.short))) [
+      | inl some ↦ inl some
+      | inr none ↦ inr (λ some. none some.0 some.1)
+    ]
+
+-- Each of the first n blocks has a codeword near it, or there is a first block that has none.
+near_or_first_beyond : (size : SizeRow) (words : List ℕ) → AreWordsOf size words → (n : ℕ) → n ≤ size.blocks
+    → ((b : ℕ) → b < n → HasNear (block_check size) (block_at size words b)) ⊎ ((b : ℕ) × IsFirstBeyond size words b)
+near_or_first_beyond size words h zero hn = inl (λ b hb. absurd (omega (arith, hb)))
+near_or_first_beyond size words h (suc n) hn =
+    elim (near_or_first_beyond size words h n (omega (arith, hn))) [
+      | inr first ↦ inr first
+      | inl before ↦ elim (block_near_or_none size words h n (omega (arith, hn))) [
+        | inr none ↦ inr (n, record { in_symbol = omega (arith, hn); beyond = none; first = before })
+        | inl here ↦ inl (λ b hb. elim (cases_eq b n) [
+          | inl e ↦ subst (λ x. HasNear (block_check size) (block_at size words x)) (sym e) here
+          | inr other ↦ before b (omega (arith, hb, other))
+        ])
+      ]
+    ]
+
+-- Words whose blocks all have codewords near them are corrected.
+corrected : (grid : GridView) (words : List ℕ) → AreHeld grid words
+    → ((b : ℕ) → b < grid.size.blocks → HasNear (block_check grid.size) (block_at grid.size words b)) → (c : List ℕ) × IsCorrected grid words c
+corrected grid words h near =
+    let size = grid.size in
+    let near_one = chosen size.blocks (λ b c. IsNear (block_check size) (block_at size words b) c) near in
+    let made = blocks_make_words size near_one.0 h.codewords.row (λ b hb. (
+      (near_one.1 b hb).long ∙ block_lengths size words h.codewords b hb,
+      codewords_are_bytes (block_check size) (near_one.0 b) (near_one.1 b hb).codeword,
+    )) in (
+      made.list,
+      record {
+        words_held = h;
+        of_size = made.of_size;
+        near = λ b hb. subst (λ c. IsNear (block_check size) (block_at size words b) c) (sym (made.are b hb)) (near_one.1 b hb);
+      },
+    )
+
+-- The answer of what is corrected.
+corrected_answer : (grid : GridView) (limit : ℕ) (words c : List ℕ) → border_fault_count grid ≤ limit → IsCorrected grid words c
+    → (answer : Result Reading ReadFault) × ReadAnswer grid limit answer
+corrected_answer grid limit words c few h =
+    elim (one_answer (data_part grid.size c) (data_is_bytes grid.size c h.of_size)) [
+      | inl s ↦ (
+        Ok (reading_of s.message (distances grid.size words c) (border_fault_count grid)),
+        ReadAnswer.message words c s.message few h s.spells refl,
+      )
+      | inr r ↦ (Err (fault.Words r.why), ReadAnswer.words words c r.why few h r.refused refl)
+    ]
+
+-- Each grid has an answer.
+pub answer_is_given : (grid : GridView) (limit : ℕ) → IsGrid grid → (answer : Result Reading ReadFault) × ReadAnswer grid limit answer
+answer_is_given grid limit is_grid =
+    elim (cases_lt limit (border_fault_count grid)) [
+      | inl more ↦ (Err (fault.Border (border_fault_count grid)), ReadAnswer.border more refl)
+      | inr few ↦
+          let held = every_grid_holds grid is_grid in
+          elim (near_or_first_beyond grid.size held.0 held.1.codewords grid.size.blocks (omega arith)) [
+            | inl near ↦ let c = corrected grid held.0 held.1 near in corrected_answer grid limit held.0 c.0 few c.1
+            | inr first ↦ (Err (fault.Block first.0), ReadAnswer.block held.0 first.0 few held.1 first.1 refl)
+          ]
+    ]
+
+-- Some size holds the message, or none does.
+pub fits_or_not : {A : Type 0} (o : Option A) → IsSome o ⊎ (IsSome o → ⊥)
+fits_or_not (Some a) = inl refl
+fits_or_not None = inr (λ is. false≢true is)
+
+-- The answer of `normal` for a grid that is read.
+normal_of_read : (grid : GridView) (limit : ℕ) (m : List Item) → Reads grid limit m → (answer : Result GridView NormalFault) × NormalAnswer grid limit answer
+normal_of_read grid limit m r =
+    elim (fits_or_not (row_for_words (length (ascii m)))) [
+      | inl fits ↦
+          let normal = normal_grid_is_there m (spelled_is_message (data_part grid.size r.c) m r.spelled) fits in
+          let h : HasNormal grid limit normal.0 = record { message = m; read = r; normal_grid = normal.1 } in
+          (Ok normal.0, NormalAnswer.normal normal.0 h refl)
+      | inr none ↦ (Err TooLong, NormalAnswer.too_long (record { message = m; read = r; too_long = none }) refl)
+    ]
+
+-- The answer of `normal` for a grid that isn't read.
+normal_of_fault : (grid : GridView) (limit : ℕ) (answer : Result Reading ReadFault) (why : ReadFault) → answer ≡ Err why → ReadAnswer grid limit answer
+    → (normal : Result GridView NormalFault) × NormalAnswer grid limit normal
+normal_of_fault grid limit answer why e h = (Err (Read why), NormalAnswer.fault why (subst (ReadAnswer grid limit) e h) refl)
+
+-- The answer of `normal`, by that of reading.
+normal_by_answer : (grid : GridView) (limit : ℕ) (answer : Result Reading ReadFault) → ReadAnswer grid limit answer
+    → (normal : Result GridView NormalFault) × NormalAnswer grid limit normal
+normal_by_answer grid limit answer (ReadAnswer.border more e) =
+    normal_of_fault grid limit answer (fault.Border (border_fault_count grid)) e (ReadAnswer.border more e)
+normal_by_answer grid limit answer (ReadAnswer.block u b few h first e) = normal_of_fault grid limit answer (fault.Block b) e (ReadAnswer.block u b few h first e)
+normal_by_answer grid limit answer (ReadAnswer.words u c why few h refused e) =
+    normal_of_fault grid limit answer (fault.Words why) e (ReadAnswer.words u c why few h refused e)
+normal_by_answer grid limit answer (ReadAnswer.message u c m few h spelled e) =
+    normal_of_read grid limit m (record { border = few; words = u; c = c; corrected = h; spelled = spelled })
+
+-- Each grid has an answer of `normal`.
+pub normal_answer_is_given : (grid : GridView) (limit : ℕ) → IsGrid grid → (answer : Result GridView NormalFault) × NormalAnswer grid limit answer
+normal_answer_is_given grid limit is_grid =
+    let read = answer_is_given grid limit is_grid in
+    normal_by_answer grid limit read.0 read.1
