@@ -4,7 +4,7 @@ Nothing here is taken from the program: codewords and their places are worked ou
 can be compared with something."""
 import random
 
-# The largest symbol of the program: four regions of 24 by 24 modules make a mapping square of 48 by 48, in which 204 data
+# A large symbol: four regions of 24 by 24 modules make a mapping square of 48 by 48, in which 204 data
 # codewords and 84 check codewords lie, dealt into two blocks in turn. In each block 21 wrong codewords can be corrected.
 SIDE = 52
 REGION = 24

@@ -148,9 +148,9 @@ pub record IsSearch (s l e : List ℕ) (y gap d n : ℕ) : Type 0 where
   pub least : (g : ℕ → ℕ) (c : ℕ) → Connects g (coefficient s) c n → d ≤ c
   corrects : Corrects (moved gap (λ i. y ⊗ coefficient e i)) (coefficient s) d n
 
--- It is said of values, whatever they are called.
-pub restated : (s l e m f : List ℕ) (y z gap hap d c n k : ℕ) → IsSearch s l e y gap d n → l ≡ m → e ≡ f → y ≡ z → gap ≡ hap → d ≡ c → n ≡ k → IsSearch s m f z hap c k
-restated s l e m f y z gap hap d c n k h p q r t u v =
+-- What is kept, said of other names of the same values.
+pub restated : {s l e m f : List ℕ} {y z gap hap d c n k : ℕ} → IsSearch s l e y gap d n → l ≡ m → e ≡ f → y ≡ z → gap ≡ hap → d ≡ c → n ≡ k → IsSearch s m f z hap c k
+restated {s = s} {l = l} {e = e} {f = f} {y = y} {z = z} {gap = gap} {hap = hap} {d = d} {c = c} {k = k} h p q r t u v =
     subst (λ x. IsSearch s x f z hap c k) p
     (subst (λ x. IsSearch s l x z hap c k) q
     (subst (λ x. IsSearch s l e x hap c k) r (subst (λ x. IsSearch s l e y x c k) t (subst (λ x. IsSearch s l e y gap x k) u (subst (λ x. IsSearch s l e y gap d x) v h)))))
@@ -173,8 +173,8 @@ search_start s = record {
 }
 
 -- The next value, where the locator has no discrepancy.
-pub search_kept : (s l e : List ℕ) (y gap d n : ℕ) → IsSearch s l e y gap d n → convolution (coefficient l) (coefficient s) n ≡ 0 → IsSearch s l e y (suc gap) d (suc n)
-search_kept s l e y gap d n h z = record {
+pub search_kept : {s l e : List ℕ} {y gap d n : ℕ} → IsSearch s l e y gap d n → convolution (coefficient l) (coefficient s) n ≡ 0 → IsSearch s l e y (suc gap) d (suc n)
+search_kept {s = s} {l = l} {e = e} {y = y} {gap = gap} {d = d} {n = n} h z = record {
   long = h.long;
   room = omega (arith, h.room);
   below = omega (arith, h.below);
@@ -211,9 +211,9 @@ search_connects s l e m x y gap d c n h q k a b =
     (λ i. corrected_at l e m x y gap k i ∙ ap (λ z. coefficient l i ⊕ z ⊗ f i) q)
 
 -- The next value with a discrepancy, where the degree stays.
-pub search_same : (s l e m : List ℕ) (x y gap d n : ℕ) → IsSearch s l e y gap d n → x ≡ convolution (coefficient l) (coefficient s) n → IsCorrected l e m x y gap → length m ≡ d + 1
+pub search_same : {s l e m : List ℕ} {x y gap d n : ℕ} → IsSearch s l e y gap d n → x ≡ convolution (coefficient l) (coefficient s) n → IsCorrected l e m x y gap → length m ≡ d + 1
     → suc n ≤ d + d → IsSearch s m e y (suc gap) d (suc n)
-search_same s l e m x y gap d n h q k r b = record {
+search_same {s = s} {l = l} {e = e} {m = m} {x = x} {y = y} {gap = gap} {d = d} {n = n} h q k r b = record {
   long = r;
   room = omega (arith, h.room);
   below = omega (arith, h.below);
@@ -224,9 +224,9 @@ search_same s l e m x y gap d n h q k r b = record {
 }
 
 -- And where it grows, to c.
-pub search_grown : (s l e m : List ℕ) (x y z gap d c n : ℕ) → IsSearch s l e y gap d n → x ≡ convolution (coefficient l) (coefficient s) n → IsCorrected l e m x y gap → length m ≡ c + 1
+pub search_grown : {s l e m : List ℕ} {x y z gap d c n : ℕ} → IsSearch s l e y gap d n → x ≡ convolution (coefficient l) (coefficient s) n → IsCorrected l e m x y gap → length m ≡ c + 1
     → 0 < x → x ⊗ z ≡ 1 → d ≤ c → d + c ≡ suc n → IsSearch s m l z 1 c (suc n)
-search_grown s l e m x y z gap d c n h q k r p o a b = record {
+search_grown {s = s} {l = l} {e = e} {m = m} {x = x} {y = y} {z = z} {gap = gap} {d = d} {c = c} {n = n} h q k r p o a b = record {
   long = r;
   room = omega (arith, h.long);
   below = omega (arith, h.below);
@@ -240,16 +240,16 @@ search_grown s l e m x y z gap d c n h q k r p o a b = record {
 
 -- ---- the answers
 -- Where the degree would be too large, there is no pair.
-pub search_refuses : (s l e : List ℕ) (x y gap d n t : ℕ) → IsSearch s l e y gap d n → x ≡ convolution (coefficient l) (coefficient s) n → 0 < x → n < length s → d + t < suc n → NoPair s t
-search_refuses s l e x y gap d n t h q p b a =
+pub search_refuses : {s l e : List ℕ} {x y gap d n t : ℕ} → IsSearch s l e y gap d n → x ≡ convolution (coefficient l) (coefficient s) n → 0 < x → n < length s → d + t < suc n → NoPair s t
+search_refuses {s = s} {l = l} {d = d} {n = n} {t = t} h q p b a =
     none_connects s t (λ c k g w.
     let r : suc n ≤ d + c = longer (coefficient l) g (coefficient s) d c n (length s) h.connects (subst (λ v. 0 < v) q p) b w in
     omega arith)
 
 -- After all values the locator and the coefficients of its product below its degree are the least pair.
-pub search_answers : (s l e w : List ℕ) (y gap d n t : ℕ) → IsSearch s l e y gap d n → n ≡ length s → d ≤ t → Bytes l → Bytes w → length w + 1 ≡ length l
+pub search_answers : {s l e w : List ℕ} {y gap d n t : ℕ} → IsSearch s l e y gap d n → n ≡ length s → d ≤ t → Bytes l → Bytes w → length w + 1 ≡ length l
     → ((i : ℕ) → i < length w → coefficient w i ≡ convolution (coefficient l) (coefficient s) i) → IsLeastPair s t l w
-search_answers s l e w y gap d n t h q b bl bw k a =
+search_answers {s = s} {l = l} {w = w} {d = d} {t = t} h q b bl bw k a =
     let r : length w ≡ d = omega (arith, h.long) in
     first_is_least s l w t d b
     (λ c k g v. let z : d ≤ c = h.least g c (subst (λ m. Connects g (coefficient s) c m) (sym q) v) in omega arith)

@@ -13,8 +13,8 @@ use Rattle.gf301.proofs.FieldLaws.{product_zero_left, product_zero_right, produc
 use Rattle.gf301.proofs.Weights.{weighted, weigh_same, weigh_weighted, length-weighted, bytes_weighted, nonzeros_weighted, distance, bytes_cons}
 use Rattle.gf301.proofs.PolyLaws.{value_below, quotient, length_quotient, bytes_quotient, root_divides, value_times, factor_value, bytes_times}
 use Rattle.gf301.proofs.Series.{conv_same_right, conv_same_left, conv_below}
-use Rattle.gf301.proofs.Locate.{sums, conv_laid, laid_sums, connects, locate, length-locate, head-locate, zeros-locate}
-use Rattle.gf301.proofs.Roots.{roots, roots_step, roots_le}
+use Rattle.gf301.proofs.Locate.{sums, conv_laid, laid_sums, connects, locate, length-locate, head-locate, zeros-locate, zeros_parts}
+use Rattle.gf301.proofs.Roots.{quotient_more, roots, roots_step, roots_le, zero_step}
 use Rattle.dm_code.specs.KeyEquation.{IsPair}
 use Rattle.dm_code.proofs.First.{first, first_at, first_past, bytes_first}
 
@@ -71,21 +71,15 @@ vanishes_from e a p d m k h z q n g =
     ∙ sym (laid_sums e (a ∷ p) (o + i)) ∙ sym (conv_laid a p (sums e) (o + i))
     ∙ ap (convolution (coefficient (a ∷ p)) (sums e)) (let r : length p + (o + i) ≡ d + i = omega arith in r) ∙ g (d + i) (omega arith) (omega arith))
 
--- Zeros are a zero and zeros.
-parts : (a : ℕ) (e : List ℕ) → nonzeros (a ∷ e) ≡ 0 → (a ≡ 0) × (nonzeros e ≡ 0)
-unfolding nonzeros
-parts zero e h = (refl, h)
-parts (suc a) e h = absurd (omega arith)
-
 -- Where all weights are 0, so is each.
 weighted_at : (f : ℕ → ℕ) (e : List ℕ) → nonzeros (weighted f e) ≡ 0 → (i : ℕ) → i < length e → get_or e i 0 ⊗ f (locator_at (length e) i) ≡ 0
 unfolding weighted
 weighted_at f [] z i h = absurd (omega arith)
 weighted_at f (a ∷ e) z zero h =
-    ap (λ n. a ⊗ f (power n)) (let r : length (a ∷ e) - 1 ≡ length e = omega arith in r) ∙ (parts (a ⊗ f (power (length e))) (weighted f e) z).0
+    ap (λ n. a ⊗ f (power n)) (let r : length (a ∷ e) - 1 ≡ length e = omega arith in r) ∙ (zeros_parts (a ⊗ f (power (length e))) (weighted f e) z).0
 weighted_at f (a ∷ e) z (suc i) h =
     ap (λ n. get_or e i 0 ⊗ f (power n)) (let r : length (a ∷ e) - suc (suc i) ≡ length e - suc i = omega arith in r)
-    ∙ weighted_at f e (parts (a ⊗ f (power (length e))) (weighted f e) z).1 i (omega arith)
+    ∙ weighted_at f e (zeros_parts (a ⊗ f (power (length e))) (weighted f e) z).1 i (omega arith)
 
 -- p is 0 at each place of e that isn't 0.
 abbrev pub Vanishes : List ℕ → List ℕ → Type 0
@@ -108,12 +102,6 @@ unfolding roots_step
 step_more zero m = omega arith
 step_more (suc v) m = omega arith
 
--- A value that is 0 counts a root more.
-step_zero : (v m : ℕ) → v ≡ 0 → roots_step v m ≡ suc m
-unfolding roots_step
-step_zero zero m h = refl
-step_zero (suc v) m h = absurd (omega arith)
-
 -- What is 0 at the errors is 0 at the first, if it is one ..
 vanishes_head : (p e : List ℕ) (a : ℕ) → Vanishes p (a ∷ e) → 0 < a → value p (power (length e)) ≡ 0
 vanishes_head p e a h l = ap (λ n. value p (power n)) (let r : length e ≡ length (a ∷ e) - 1 = omega arith in r) ∙ h 0 (omega arith) l
@@ -131,7 +119,7 @@ counted p (zero ∷ e) h =
     omega (arith, step_more (value p (power (length e))) (roots p (length e)))
 counted p (suc a ∷ e) h =
     let i : nonzeros e ≤ roots p (length e) = counted p e (vanishes_tail p e (suc a) h) in
-    omega (arith, step_zero (value p (power (length e))) (roots p (length e)) (vanishes_head p e (suc a) h (omega arith)))
+    omega (arith, zero_step (value p (power (length e))) (roots p (length e)) (vanishes_head p e (suc a) h (omega arith)))
 
 -- A root more, at a place that is 0.
 counted_more : (p e : List ℕ) (i : ℕ) → Vanishes p e → i < length e → get_or e i 0 ≡ 0 → value p (locator_at (length e) i) ≡ 0 → suc (nonzeros e) ≤ roots p (length e)
@@ -139,7 +127,7 @@ unfolding nonzeros roots
 counted_more p [] i h l z v = absurd (omega arith)
 counted_more p (zero ∷ e) zero h l z v =
     let c : nonzeros e ≤ roots p (length e) = counted p e (vanishes_tail p e 0 h) in
-    omega (arith, step_zero (value p (power (length e))) (roots p (length e)) (ap (λ n. value p (power n)) (let r : length e ≡ length (0 ∷ e) - 1 = omega arith in r) ∙ v))
+    omega (arith, zero_step (value p (power (length e))) (roots p (length e)) (ap (λ n. value p (power n)) (let r : length e ≡ length (0 ∷ e) - 1 = omega arith in r) ∙ v))
 counted_more p (suc a ∷ e) zero h l z v = absurd (omega arith)
 counted_more p (zero ∷ e) (suc i) h l z v =
     let c : suc (nonzeros e) ≤ roots p (length e) =
@@ -148,7 +136,7 @@ counted_more p (zero ∷ e) (suc i) h l z v =
 counted_more p (suc a ∷ e) (suc i) h l z v =
     let c : suc (nonzeros e) ≤ roots p (length e) =
     counted_more p e i (vanishes_tail p e (suc a) h) (omega arith) z (ap (λ n. value p (power n)) (let r : length e - suc i ≡ length (suc a ∷ e) - suc (suc i) = omega arith in r) ∙ v) in
-    omega (arith, step_zero (value p (power (length e))) (roots p (length e)) (vanishes_head p e (suc a) h (omega arith)))
+    omega (arith, zero_step (value p (power (length e))) (roots p (length e)) (vanishes_head p e (suc a) h (omega arith)))
 
 -- With no more coefficients than errors, the roots are the places of the errors alone.
 pub not_root : (e p : List ℕ) (i : ℕ) → length e ≤ 255 → Bytes (1 ∷ p) → length p ≤ nonzeros e → Vanishes (1 ∷ p) e → i < length e → get_or e i 0 ≡ 0 → 0 < value (1 ∷ p) (locator_at (length e) i)
@@ -188,11 +176,6 @@ unfolding value quotient
 quotient_zero r a p x =
     ap (λ y. y ⊕ value (quotient r (a ⊕ r ⊗ 0) p) x) (product_zero_left (raise x (length (quotient r (a ⊕ r ⊗ 0) p))))
     ∙ ap (λ y. value (quotient r y p) x) (ap (bit_xor a) (product_zero_right r) ∙ xor_zero_r a)
-
--- A step of synthetic division.
-quotient_more : (r b a : ℕ) (p : List ℕ) → quotient r b (a ∷ p) ≡ b ∷ quotient r (a ⊕ r ⊗ b) p
-unfolding quotient
-quotient_more r b a p = refl
 
 -- With an error, there are errors.
 pub nonzeros_positive : (e : List ℕ) (i : ℕ) → i < length e → 0 < get_or e i 0 → 0 < nonzeros e

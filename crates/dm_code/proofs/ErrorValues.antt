@@ -1,11 +1,11 @@
 -- The values of the errors, from the locator divided by its root and from the evaluator.
 use Rattle.std.proofs.Common.{◌≡◌, ℕ, zero, suc, ◌+◌, ◌-◌, ◌<◌, ◌≤◌, List, [], ◌∷◌, length, get_or, refl, sym, ap, ◌∙◌, arith, bit_xor, inl, inr, ◌⊎◌}
-use lib.Bits.{xor_assoc, xor_comm, xor_self, xor_zero_r}
+use lib.Bits.{xor_assoc, xor_comm, xor_zero_r}
 use Rattle.gf301.specs.Field.{◌⊕◌, ◌⊗◌, raise, power}
 use Rattle.gf301.specs.Polynomial.{Bytes, value, coefficient, convolution, shift}
 use Rattle.gf301.proofs.Lists.{nonzeros}
 use Rattle.gf301.proofs.Additive.{xor_swap}
-use Rattle.gf301.proofs.FieldLaws.{product_zero_left, product_zero_right, product_comm, product_assoc, product_sum_left, product_sum_right, product_cancel, product_positive, product_one_right, product_below, raise_below, raise_positive, sum_zero, sum_below}
+use Rattle.gf301.proofs.FieldLaws.{product_zero_left, product_zero_right, product_comm, product_assoc, product_sum_left, product_sum_right, product_cancels, product_positive, product_one_right, product_below, raise_below, raise_positive}
 use Rattle.gf301.proofs.Weights.{weigh}
 use Rattle.gf301.proofs.PolyLaws.{quotient, length_quotient, value_below, value_push}
 use Rattle.gf301.proofs.Locate.{sums, laid, laid_sums}
@@ -160,11 +160,6 @@ zero_or_positive : (a : ℕ) → (a ≡ 0) ⊎ (0 < a)
 zero_or_positive zero = inl refl
 zero_or_positive (suc a) = inr (omega arith)
 
--- An element other than 0 can be divided out.
-cancelled : (a b c : ℕ) → 0 < a → a < 256 → b < 256 → c < 256 → a ⊗ b ≡ a ⊗ c → b ≡ c
-cancelled a b c h ha hb hc e =
-    sum_zero b c (product_cancel a (b ⊕ c) h ha (sum_below b c hb hc) (product_sum_right a b c ∙ ap (λ y. y ⊕ a ⊗ c) e ∙ xor_self (a ⊗ c)))
-
 -- The quotient by the root, laid on the syndromes, leaves the error at this root alone.
 numerator : (e p s : List ℕ) (i : ℕ) → length e ≤ 255 → Bytes p → length p ≤ length s → ((k : ℕ) → k < length s → coefficient s k ≡ sums e k) → Vanishes p e → i < length e → 0 < get_or e i 0
     → laid (quotient (locator_at (length e) i) 0 p) (coefficient s) 0 ≡ (locator_at (length e) i ⊗ value (quotient (locator_at (length e) i) 0 p) (locator_at (length e) i)) ⊗ get_or e i 0
@@ -209,6 +204,6 @@ error_found e p s w i y h eb b l m g k v q yb r =
           let d : 0 < value t x = quotient_positive e p i h b l v q z in
           let n : 0 < x ⊗ value t x =
           product_positive x (value t x) (raise_positive 2 (length e - suc i) (omega arith) (omega arith)) (raise_below 2 (length e - suc i)) d (value_below t x) in
-          cancelled (x ⊗ value t x) y (get_or e i 0) n (product_below x (value t x)) yb (eb i 0 q)
+          product_cancels (x ⊗ value t x) y (get_or e i 0) n (product_below x (value t x)) yb (eb i 0 q)
           (r.root (v i q z) n ∙ evaluated p s w x (omega arith) k ∙ numerator e (1 ∷ p) s i h b (omega arith) g v q z)
     ]

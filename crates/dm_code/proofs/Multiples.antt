@@ -30,7 +30,7 @@ unfolding convolution
 conv_head f g n e = ap (λ y. y ⊗ g (suc n) ⊕ convolution (shift f) g n) e ∙ ap (λ y. y ⊕ convolution (shift f) g n) (product_zero_left (g (suc n)))
 
 -- The first coefficient of a product.
-conv_at_zero : (f g : ℕ → ℕ) → convolution f g 0 ≡ f 0 ⊗ g 0
+pub conv_at_zero : (f g : ℕ → ℕ) → convolution f g 0 ≡ f 0 ⊗ g 0
 unfolding convolution
 conv_at_zero f g = refl
 

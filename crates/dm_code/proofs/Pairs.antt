@@ -12,7 +12,7 @@ use Rattle.dm_code.specs.KeyEquation.{IsWithin, IsPair, IsLeastPair}
 use Rattle.dm_code.specs.KeyEquationLaws.{IsMultiple, IsSamePolynomial}
 use Rattle.dm_code.proofs.Degrees.{extent, below_extent, extent_most}
 use Rattle.dm_code.proofs.First.{first, first_whole, bytes_first}
-use Rattle.dm_code.proofs.Multiples.{IsSeriesPair, IsLeastSeries, multiples, nothing_shorter, zero_everywhere, shift_equation, less_equation, head_equation, both_zero}
+use Rattle.dm_code.proofs.Multiples.{IsSeriesPair, IsLeastSeries, conv_at_zero, multiples, nothing_shorter, zero_everywhere, shift_equation, less_equation, head_equation, both_zero}
 
 -- Each coefficient of bytes is a byte, those past the end too.
 pub byte_at : (p : List ℕ) → Bytes p → (i : ℕ) → coefficient p i < 256
@@ -110,11 +110,6 @@ unfolding convolution
 low_conv f s zero = product_low_left (f 0) (s 0)
 low_conv f s (suc n) = ap (λ y. y ⊕ convolution (λ i. f (suc i) % 256) s n) (product_low_left (f 0) (s (suc n))) ∙ ap (λ y. f 0 ⊗ s (suc n) ⊕ y) (low_conv (shift f) s n)
 
--- The first coefficient of a product.
-at_zero : (f g : ℕ → ℕ) → convolution f g 0 ≡ f 0 ⊗ g 0
-unfolding convolution
-at_zero f g = refl
-
 -- A pair of series as a pair of lists.
 pub listed : (s : List ℕ) (f v : ℕ → ℕ) (e : ℕ) → IsSeriesPair f v (coefficient s) e (length s) → IsPair s e (first (λ i. f i % 256) (suc e)) (first (λ i. v i % 256) e)
 listed s f v e p =
@@ -160,7 +155,7 @@ multiple_at s l w g v t d h p q =
       one =
           let b : coefficient (first m (length r.0)) 0 < 256 = subst (λ x. x < 256) (sym (c 0)) (mod_below (coefficient r.0 0) 256 (omega arith)) in
           sym (product_one_right (coefficient (first m (length r.0)) 0) b) ∙ ap (λ x. coefficient (first m (length r.0)) 0 ⊗ x) (sym p.pair.one)
-          ∙ sym (at_zero (coefficient (first m (length r.0))) (coefficient l)) ∙ sym (e (coefficient l) 0) ∙ sym (r.1 0) ∙ q.one;
+          ∙ sym (conv_at_zero (coefficient (first m (length r.0))) (coefficient l)) ∙ sym (e (coefficient l) 0) ∙ sym (r.1 0) ∙ q.one;
       locator = λ i. r.1 i ∙ e (coefficient l) i;
       evaluator = λ i. r.2 i ∙ e (coefficient w) i;
     }

@@ -25,7 +25,7 @@ NearCodewordIsThereOrNot =
 abbrev pub FrontDeterminesChecks : Type 0
 FrontDeterminesChecks = (k : ℕ) (front c d : List ℕ) → IsCodeword k (front ++ c) → IsCodeword k (front ++ d) → length c ≡ k → length d ≡ k → length front + k ≤ 255 → c ≡ d
 
--- Some k check codewords complete at most 255 - k data codewords to a codeword.
+-- Some k check codewords, k below 255, complete at most 255 - k data codewords to a codeword.
 abbrev pub ChecksAreThere : Type 0
 ChecksAreThere =
     (k : ℕ) (front : List ℕ) → Bytes front → k < 255 → length front + k ≤ 255 → (c : List ℕ) × (length c ≡ k) × IsCodeword k (front ++ c)

@@ -5,11 +5,11 @@ ghost use Rattle.std.specs.Prelude.{◌+◌, ◌<◌, ◌≤◌, length};
 use super::{Elimination, correct, encode};
 
 /// A block of the symbol of side 10, with five check codewords.
-pub const WORD: [u8; 8] = [142, 164, 186, 114, 25, 5, 88, 102];
+pub(super) const WORD: [u8; 8] = [142, 164, 186, 114, 25, 5, 88, 102];
 
 /// The data and check codewords of the longest block with each number of check codewords, in square symbols of side 10
-/// to 52.
-pub const BLOCKS: [(usize, usize); 14] = [
+/// to 104.
+pub(super) const BLOCKS: [(usize, usize); 14] = [
     (3, 5),
     (5, 7),
     (8, 10),
@@ -19,7 +19,7 @@ pub const BLOCKS: [(usize, usize); 14] = [
     (30, 20),
     (36, 24),
     (44, 28),
-    (62, 36),
+    (92, 36),
     (102, 42),
     (114, 48),
     (144, 56),
@@ -27,7 +27,7 @@ pub const BLOCKS: [(usize, usize); 14] = [
 ];
 
 /// Whether a damaged word is corrected to a word, with a count of changed places.
-pub fn is_corrected(damaged: &[u8], word: &[u8], k: usize, changed: usize) -> bool
+pub(super) fn is_corrected(damaged: &[u8], word: &[u8], k: usize, changed: usize) -> bool
     requires checks { 0 < k }
     requires most { k ≤ 68 }
     requires data { k < length damaged.now }
@@ -40,7 +40,7 @@ pub fn is_corrected(damaged: &[u8], word: &[u8], k: usize, changed: usize) -> bo
 }
 
 /// A codeword with `count` data codewords and k check codewords, at the first `count` + k places.
-pub fn codeword(count: usize, k: usize) -> [u8; 255]
+pub(super) fn codeword(count: usize, k: usize) -> [u8; 255]
     requires checks { 1 ≤ k }
     requires most { k ≤ 68 }
     requires long { count + k ≤ 255 }

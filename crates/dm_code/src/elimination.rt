@@ -8,7 +8,7 @@ ghost use Rattle.dm_code.specs.LinearSystem.{row};
 use super::key::{Key, KeySolver};
 use super::system::{Row, solve};
 use arrayvec::ArrayVec;
-use gf301::Gf;
+use gf301::{Gf, product_at};
 
 /// Solves the key equation by elimination. For each degree of the locator, from 0 on, its coefficients are the unknowns
 /// of a system of linear equations; the first system with a solution gives the least pair. The work grows with the
@@ -88,18 +88,4 @@ fn evaluator_of(s: &[u8], locator: &[u8], count: usize) -> ArrayVec<u8, 34>
         evaluator.push(product_at(locator, s, i).0);
     }
     evaluator
-}
-
-/// The coefficient of x^n of the product of the locator and the syndromes.
-fn product_at(locator: &[u8], s: &[u8], n: usize) -> Gf
-    requires { n < length s.now }
-    ensures { result.0 ≡ convolution (coefficient locator.now) (coefficient s.now) n }
-{
-    let mut sum = Gf(0);
-    for (j, a) in locator.iter().enumerate() {
-        if j <= n {
-            sum = sum.add(Gf(*a).mul(Gf(s[n - j])));
-        }
-    }
-    sum
 }

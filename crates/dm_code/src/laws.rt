@@ -27,7 +27,7 @@ pub fn front_determines_checks()
     ensures { FrontDeterminesChecks }
 {}
 
-/// Each list of bytes, with k at most 255 together, is the front of a codeword of k checks.
+/// Each list of bytes is the front of a codeword of k checks, where k is below 255 and both together are at most 255.
 pub fn checks_are_there()
     ensures { ChecksAreThere }
 {}

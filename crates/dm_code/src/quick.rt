@@ -69,12 +69,12 @@ struct Search {
     earlier: ArrayVec<u8, 35>,
     /// The inverse of the earlier locator's discrepancy.
     inverse: Gf,
-    /// How many syndromes have been taken since that discrepancy.
+    /// How many syndromes have been taken from that discrepancy on.
     gap: usize,
 }
 
 impl Search {
-    /// The locator 1, with no syndrome taken.
+    /// The locator 1 before any syndrome, as if it had had the discrepancy 1 just before.
     fn new() -> Search
         ensures locator { result.locator.items ≡ 1 ∷ [] }
         ensures earlier { result.earlier.items ≡ 1 ∷ [] }

@@ -1,3 +1,5 @@
+//! Tests of check codewords and syndromes.
+
 ghost use Rattle.std.specs.Prelude.{◌≤◌};
 
 use super::{encode, syndromes};
@@ -12,8 +14,8 @@ const BLOCKS: [([u8; 3], [u8; 5]); 5] = [
     ([66, 74, 78], [60, 104, 105, 21, 207]),
 ];
 
-/// The data and check codewords of a block, for each square symbol of side 10 to 52.
-const SIZES: [(usize, usize); 15] = [
+/// The data and check codewords of a block, for each square symbol of side 10 to 104.
+const SIZES: [(usize, usize); 21] = [
     (3, 5),
     (5, 7),
     (8, 10),
@@ -29,6 +31,12 @@ const SIZES: [(usize, usize); 15] = [
     (144, 56),
     (174, 68),
     (102, 42),
+    (140, 56),
+    (92, 36),
+    (114, 48),
+    (144, 56),
+    (174, 68),
+    (136, 56),
 ];
 
 #[test]

@@ -1,11 +1,12 @@
 -- What holds for each row of the size table.
 use Rattle.std.proofs.Common.{◌≡◌, ℕ, ◌+◌, ◌*◌, ◌%◌, ◌<◌, ◌≤◌, Bool, true, false, cond, ◌&&◌, nat_eq, nat_le, List, [], ◌∷◌, Option, Some, None, refl, sym, subst, arith}
 use Rattle.std.specs.Prelude.{All, IfSome, find}
-use Rattle.std.specs.List.{AllByRecursion, list_all}
+use Rattle.std.specs.List.{AllByRecursion, list_all, list_any}
 use Rattle.std.proofs.lemmas.Bool.{and_parts, eqb-true, leb-true, leb-false}
-use Rattle.std.proofs.lemmas.List.Elements.{recursion_from_All, All-from_recursion}
+use Rattle.std.proofs.lemmas.List.Elements.{recursion_from_All, All-from_recursion, All-weaker}
+use Rattle.std.proofs.lemmas.List.Folds.{Any-from_list_any}
 use Rattle.std.proofs.lemmas.List.Sums.{AllPass-from_list_all}
-use Rattle.dm_layout.specs.Sizes.{SizeRow, size_table, IsRow, row_with_side, row_for_words, regions_across, block_data, block_check, block_length, codeword_count, largest_side, most_codewords}
+use Rattle.dm_layout.specs.Sizes.{SizeRow, size_table, IsRow, row_with_side, row_for_words, regions_across, block_data, block_check, block_length, codeword_count, largest_side, most_codewords, IsGreatest}
 
 -- what holds of each element holds of the one that is found
 found_case : {X : Type 0} (P : X → Type 0) (y x : X) (o : Option X) (b : Bool) → P y → (o ≡ Some x → P x) → cond b (Some y) o ≡ Some x → P x
@@ -154,3 +155,14 @@ smallest_for_words count None e = tt
 smallest_for_words count (Some size) e =
     All-from_recursion (λ row. count ≤ row.data_count → size.side ≤ row.side) size_table
     (found_first count size_table size (rises_test size_table table_rises) (sym e))
+
+-- ---- the greatest numbers of the columns
+
+-- a number that some row has, and no row passes, is the greatest of the column
+pub greatest : (column : SizeRow → ℕ) (number : ℕ) → list_any (λ row. nat_eq (column row) number) size_table ≡ true → list_all (λ row. nat_le (column row) number) size_table ≡ true → IsGreatest column number
+greatest column number some none =
+    let met = Any-from_list_any (λ row. nat_eq (column row) number) size_table some in
+    record {
+      met = (met.0, met.1, met.2, met.3, eqb-true _ _ met.4);
+      most = All-weaker (λ row. nat_le (column row) number ≡ true) (λ row. column row ≤ number) (λ row h. leb-true _ _ h) size_table (AllPass-from_list_all (λ row. nat_le (column row) number) size_table none);
+    }

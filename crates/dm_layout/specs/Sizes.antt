@@ -52,23 +52,29 @@ size_table =
     ∷ row_of 44 4 20 40 144 56 1 28
     ∷ row_of 48 4 22 44 174 68 1 34
     ∷ row_of 52 4 24 48 204 84 2 21
+    ∷ row_of 64 16 14 56 280 112 2 28
+    ∷ row_of 72 16 16 64 368 144 4 18
+    ∷ row_of 80 16 18 72 456 192 4 24
+    ∷ row_of 88 16 20 80 576 224 4 28
+    ∷ row_of 96 16 22 88 696 272 4 34
+    ∷ row_of 104 16 24 96 816 336 6 28
     ∷ []
 
 -- the largest side of the table
 abbrev pub largest_side : ℕ
-largest_side = 52
+largest_side = 104
 
 -- the most data codewords of a symbol of the table
 abbrev pub most_data : ℕ
-most_data = 204
+most_data = 816
 
 -- the most codewords of a symbol of the table, data and check together
 abbrev pub most_codewords : ℕ
-most_codewords = 288
+most_codewords = 1152
 
 -- the most blocks of a symbol of the table
 abbrev pub most_blocks : ℕ
-most_blocks = 2
+most_blocks = 6
 
 -- the row of a side, if the table has one
 abbrev pub row_with_side : ℕ → Option SizeRow

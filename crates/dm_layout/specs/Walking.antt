@@ -14,7 +14,7 @@ use Rattle.dm_layout.specs.Placement.{cells_of, bits_from, places_from}
 
 -- the side of the largest mapping square
 abbrev pub largest_mapping : ℕ
-largest_mapping = 48
+largest_mapping = 96
 
 -- ---- the cells of a shape
 

@@ -23,5 +23,5 @@ pub use border::border_faults;
 pub use cells::{Cells, Place};
 pub use grid::{Grid, GridFault};
 pub use placing::{lay, lift};
-pub use size::{LARGEST_SIDE, MOST_CODEWORDS, Size, table};
+pub use size::{LARGEST_SIDE, MOST_BLOCKS, MOST_CODEWORDS, Size, table};
 pub use words::Words;

@@ -5,7 +5,7 @@ ghost use Rattle.dm_layout.specs.Placement.{At, cells_of, wrapped_cell};
 ghost use Rattle.dm_layout.specs.Walking.{AnchorInside, CellsInside, largest_mapping};
 
 /// The side of the largest mapping square, in cells.
-pub(crate) const LARGEST_MAPPING: usize = 48;
+pub(crate) const LARGEST_MAPPING: usize = 96;
 
 /// A cell of the mapping square; row and column count from 0, from the top and from the left.
 #[derive(Clone, Copy, Debug, PartialEq, Eq)]

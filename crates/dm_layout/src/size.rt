@@ -7,10 +7,13 @@ ghost use Rattle.dm_layout.specs.Sizes.{size_table, row_with_side, row_for_words
 use std::marker::Model;
 
 /// The largest side of a symbol, in cells.
-pub const LARGEST_SIDE: usize = 52;
+pub const LARGEST_SIDE: usize = 104;
 
 /// The most codewords of a symbol, data and check together.
-pub const MOST_CODEWORDS: usize = 288;
+pub const MOST_CODEWORDS: usize = 1152;
+
+/// The most blocks of a symbol.
+pub const MOST_BLOCKS: usize = 6;
 
 /// A size of a square symbol: a row of the standard's table of sizes and capacities.
 #[derive(Clone, Copy, Debug, PartialEq, Eq)]
@@ -53,7 +56,7 @@ macro_rules! row {
     };
 }
 
-const TABLE: [Size; 15] = [
+const TABLE: [Size; 21] = [
     row!(10 1 8 8 3 5 1 2),
     row!(12 1 10 10 5 7 1 3),
     row!(14 1 12 12 8 10 1 5),
@@ -69,10 +72,16 @@ const TABLE: [Size; 15] = [
     row!(44 4 20 40 144 56 1 28),
     row!(48 4 22 44 174 68 1 34),
     row!(52 4 24 48 204 84 2 21),
+    row!(64 16 14 56 280 112 2 28),
+    row!(72 16 16 64 368 144 4 18),
+    row!(80 16 18 72 456 192 4 24),
+    row!(88 16 20 80 576 224 4 28),
+    row!(96 16 22 88 696 272 4 34),
+    row!(104 16 24 96 816 336 6 28),
 ];
 
 /// All sizes, by rising side.
-pub fn table() -> [Size; 15]
+pub fn table() -> [Size; 21]
     ensures { result ≡ size_table }
 {
     TABLE

@@ -5,7 +5,7 @@ use Rattle.std.specs.List.{AllByRecursion, list_all}
 use Rattle.std.proofs.lemmas.Bool.{and_parts, eqb-true, leb-true}
 use Rattle.std.proofs.lemmas.List.Sums.{AllPass-from_list_all}
 use Rattle.std.proofs.lemmas.List.Elements.{recursion_from_All}
-use Rattle.dm_layout.specs.Sizes.{SizeRow, IsRow, size_table, row_for_words, row_with_side, most_data, codeword_count, block_data, block_check, block_length, regions_across}
+use Rattle.dm_layout.specs.Sizes.{SizeRow, IsRow, size_table, row_for_words, row_with_side, most_data, most_blocks, codeword_count, block_data, block_check, block_length, regions_across}
 
 -- What holds of each row holds of a row that is found, which passes the test.
 found : (P : SizeRow → Type 0) (p : SizeRow → Bool) (rows : List SizeRow) (row : SizeRow) → AllByRecursion P rows → find p rows ≡ Some row → P row × (p row ≡ true)
@@ -21,7 +21,7 @@ abbrev row_test : SizeRow → Bool
 row_test s =
     nat_le 1 s.blocks && nat_eq (s.blocks * block_data s) s.data_count && nat_eq (s.blocks * block_length s) (codeword_count s)
     && nat_eq (block_data s + block_check s) (block_length s) && nat_le 1 (block_data s) && nat_le s.data_count most_data && nat_le 5 (block_check s)
-    && nat_le (block_check s) 68 && nat_le (block_length s) 255 && nat_eq s.limit (block_check s / 2) && nat_le s.blocks 2
+    && nat_le (block_check s) 68 && nat_le (block_length s) 255 && nat_eq s.limit (block_check s / 2) && nat_le s.blocks most_blocks
     && nat_eq s.side (regions_across s * (s.region_side + 2)) && nat_eq s.mapping (regions_across s * s.region_side) && nat_le 8 s.region_side
 
 -- Each row of the table passes: this is computed.
@@ -49,7 +49,7 @@ pub record Facts (s : SizeRow) : Type 0 where
   pub few_checks : block_check s ≤ 68
   pub short : block_length s ≤ 255
   pub half : s.limit ≡ block_check s / 2
-  pub few_blocks : s.blocks ≤ 2
+  pub few_blocks : s.blocks ≤ most_blocks
   pub side : s.side ≡ regions_across s * (s.region_side + 2)
   pub mapping : s.mapping ≡ regions_across s * s.region_side
   pub some_side : 8 ≤ s.region_side
@@ -60,7 +60,7 @@ size_facts s h =
     let n = and_parts _ (nat_le 8 s.region_side) (test_of_row s h) in
     let m = and_parts _ (nat_eq s.mapping (regions_across s * s.region_side)) n.0 in
     let l = and_parts _ (nat_eq s.side (regions_across s * (s.region_side + 2))) m.0 in
-    let k = and_parts _ (nat_le s.blocks 2) l.0 in
+    let k = and_parts _ (nat_le s.blocks most_blocks) l.0 in
     let j = and_parts _ (nat_eq s.limit (block_check s / 2)) k.0 in
     let i = and_parts _ (nat_le (block_length s) 255) j.0 in
     let g = and_parts _ (nat_le (block_check s) 68) i.0 in
@@ -94,7 +94,7 @@ blocks_of_size s t e = ap (λ r. r.blocks) e
 -- Each row of the table is found by its side: this is computed.
 rows_are_rows : AllByRecursion IsRow size_table
 unfolding size_table
-rows_are_rows = (refl, (refl, (refl, (refl, (refl, (refl, (refl, (refl, (refl, (refl, (refl, (refl, (refl, (refl, (refl, tt)))))))))))))))
+rows_are_rows = (refl, (refl, (refl, (refl, (refl, (refl, (refl, (refl, (refl, (refl, (refl, (refl, (refl, (refl, (refl, (refl, (refl, (refl, (refl, (refl, (refl, tt)))))))))))))))))))))
 
 -- The size for a side stands in the table and has that side.
 pub has_that_side : (side : ℕ) (s : SizeRow) → row_with_side side ≡ Some s → IsRow s × (s.side ≡ side)

@@ -11,7 +11,7 @@ mod normalising;
 mod reading;
 mod writing;
 
-pub use dm_layout::{Grid, GridFault, LARGEST_SIDE, Size, table};
+pub use dm_layout::{Grid, GridFault, LARGEST_SIDE, MOST_BLOCKS, Size, table};
 pub use dm_words::{Item, MOST_ITEMS, Message, TooLong, WordFault};
 pub use limit::usual_limit;
 pub use normalising::{NormalFault, normal};

@@ -8,7 +8,7 @@ ghost use Rattle.dm_symbol.specs.Reading.{Reads, ReadAnswer, IsReadAs, IsFirstBe
 
 use arrayvec::ArrayVec;
 use dm_code::{BeyondLimit, Quick, correct};
-use dm_layout::{Grid, Words, block, border_faults, lift, put_block};
+use dm_layout::{Grid, MOST_BLOCKS, Words, block, border_faults, lift, put_block};
 use dm_words::{Message, WordFault, message_of};
 
 /// What a grid says, and how much of it was wrong.
@@ -17,7 +17,7 @@ pub struct Reading {
     /// The message.
     pub message: Message,
     /// For each block, in order, at how many places it differs from the codeword as which it is read.
-    pub corrected: ArrayVec<u8, 2>,
+    pub corrected: ArrayVec<u8, MOST_BLOCKS>,
     /// How many border cells have the wrong colour.
     pub border_faults: u16,
 }
@@ -63,7 +63,7 @@ pub fn read(grid: &Grid, border_limit: u16) -> Result<Reading, ReadFault>
 
 /// Puts the codeword near each block in its place, and gives the number of codewords that this changes in each; or the first block
 /// that no codeword is near.
-fn correct_blocks(words: &mut Words) -> Result<ArrayVec<u8, 2>, u8>
+fn correct_blocks(words: &mut Words) -> Result<ArrayVec<u8, MOST_BLOCKS>, u8>
     ensures size { words.new.size ≡ words.old.size }
     ensures words { AreWordsOf words.old.size words.new.list }
     ensures near { IfOk result (λ _. BlocksAreNear words.old.size words.old.list words.new.list) }

@@ -3,10 +3,11 @@
 use super::*;
 use arrayvec::ArrayVec;
 use dm_code::encode;
-use dm_layout::{Words, block, lay, lift, put_block, table};
+use dm_layout::{MOST_CODEWORDS, Words, block, lay, lift, put_block, table};
 use std::process::Abort;
 
 mod hostile;
+mod larger;
 mod marks;
 
 /// The codewords of `123456` at side 10, data and then checks.
@@ -49,13 +50,13 @@ fn grid_of(rt: &impl Abort, side: u16, list: &[u8]) -> Grid {
 fn completed_grid(rt: &impl Abort, side: u16, data_words: &[u8]) -> Grid {
     let size = size_of(rt, side);
     assert!(rt; data_words.len() == usize::from(size.data_count()));
-    let mut list = [0; 288];
+    let mut list = [0; MOST_CODEWORDS];
     for (place, word) in data_words.iter().enumerate() {
-        assert!(rt; place < 288);
+        assert!(rt; place < MOST_CODEWORDS);
         list[place] = *word;
     }
     let count = usize::from(size.data_count() + size.check_count());
-    assert!(rt; count <= 288);
+    assert!(rt; count <= MOST_CODEWORDS);
     let mut words = Words::new(size, &list[..count]);
     for b in 0..usize::from(size.blocks()) {
         let size = words.size();
@@ -69,12 +70,6 @@ fn completed_grid(rt: &impl Abort, side: u16, data_words: &[u8]) -> Grid {
         put_block(&mut words, b, &codewords);
     }
     lay(&words)
-}
-
-/// The codeword as which Base 256 writes a value at a place of the symbol.
-fn randomised(value: u8, place: u16) -> u8 {
-    let shift = 149 * u32::from(place) % 255 + 1;
-    ((u32::from(value) + shift) % 256) as u8
 }
 
 /// The grid whose cells are these characters, row by row: 1 is dark, 0 light.
@@ -209,17 +204,20 @@ fn writes_every_size(rt: HostRuntime) {
         let more = write(&of_many(&rt, b'A', size.data_count() + 1));
         match more {
             Ok(grid) => assert!(rt; grid.size().side() > size.side()),
-            Err(TooLong) => assert_eq!(rt; size.side(), 52),
+            Err(TooLong) => assert_eq!(rt; size.side(), 104),
         }
     }
-    let Ok(digits) = write(&of_many(&rt, b'7', 408)) else {
-        panic!(rt; "too long");
-    };
-    assert_eq!(rt; digits.size().side(), 52);
-    assert!(rt; lift(&digits).data_part().iter().all(|word| *word == 207));
-    assert!(rt; write(&of_many(&rt, b'A', 205)).is_err());
+    for (count, side) in [(408, 52), (1632, 104)] {
+        let Ok(digits) = write(&of_many(&rt, b'7', count)) else {
+            panic!(rt; "too long");
+        };
+        assert_eq!(rt; digits.size().side(), side);
+        assert!(rt; lift(&digits).data_part().iter().all(|word| *word == 207));
+    }
+    assert!(rt; write(&of_many(&rt, b'A', 817)).is_err());
     assert_eq!(rt; usual_limit(10), 2);
     assert_eq!(rt; usual_limit(52), 13);
+    assert_eq!(rt; usual_limit(104), 26);
 }
 
 #[test]
@@ -278,21 +276,6 @@ fn compares_the_border_with_the_limit(rt: HostRuntime) {
     );
 }
 
-/// The largest symbol with all its data codewords in one segment of Base 256: read, but too long for ASCII.
-#[test]
-fn reads_what_has_no_normal_grid(rt: HostRuntime) {
-    let mut data_words = [255u8; 204];
-    data_words[0] = 231;
-    data_words[1] = 202;
-    for place in 2..205u16 {
-        let i = usize::from(place - 1);
-        data_words[i] = randomised(data_words[i], place);
-    }
-    let grid = completed_grid(&rt, 52, &data_words);
-    assert!(rt; says(&read(&grid, 13), &[255; 202], &[0, 0], 0));
-    assert_eq!(rt; normal(&grid, 13).err(), Some(NormalFault::TooLong));
-}
-
 /// The fixed square is not looked at.
 #[test]
 fn ignores_the_fixed_square(rt: HostRuntime) {
@@ -317,31 +300,6 @@ fn ignores_the_fixed_square(rt: HostRuntime) {
         read(&turned, 3),
         Err(ReadFault::Words(WordFault::Reserved(1)))
     );
-}
-
-/// As many wrong codewords in each block as can be corrected, and then one more in either.
-#[test]
-fn corrects_both_blocks(rt: HostRuntime) {
-    let Ok(grid) = write(&of_many(&rt, b'7', 408)) else {
-        panic!(rt; "too long");
-    };
-    for more in [0, 42, 43] {
-        let mut list: ArrayVec<u8, 288> = ArrayVec::new();
-        for (place, word) in lift(&grid).list().iter().enumerate() {
-            let wrong = place < 42 || place == more;
-            assert!(rt;
-                list.try_push(if wrong { *word ^ 255 } else { *word })
-                    .is_ok()
-            );
-        }
-        let answer = read(&grid_of(&rt, 52, &list), 13);
-        if more == 0 {
-            assert!(rt; says(&answer, &[b'7'; 408], &[21, 21], 0));
-        } else {
-            let b = if more == 42 { 0 } else { 1 };
-            assert_eq!(rt; answer, Err(ReadFault::Block(b)));
-        }
-    }
 }
 
 /// Marks printed by other encoders: the check codewords of each are those of its data codewords.

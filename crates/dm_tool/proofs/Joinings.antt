@@ -21,10 +21,12 @@ hex_unique d u v (lower a b e) (lower c d' f) = omega arith
 shown : (p q p' q' x y : List ℕ) → p ≡ p' → q ≡ q' → p ++ x ≡ q ++ y → p' ++ x ≡ q' ++ y
 shown p q p' q' x y e f h = ap (λ l. l ++ x) (sym e) ∙ h ∙ ap (λ l. l ++ y) f
 
-heads : (a b : ℕ) (x y : List ℕ) → a ∷ x ≡ b ∷ y → a ≡ b
+-- what equal lists that are not empty begin with
+pub heads : (a b : ℕ) (x y : List ℕ) → a ∷ x ≡ b ∷ y → a ≡ b
 heads a b x y e = cc
 
-tails : (a b : ℕ) (x y : List ℕ) → a ∷ x ≡ b ∷ y → x ≡ y
+-- what comes after it
+pub tails : (a b : ℕ) (x y : List ℕ) → a ∷ x ≡ b ∷ y → x ≡ y
 tails a b x y e = cc
 
 -- what two spellings at the front of one list have in common

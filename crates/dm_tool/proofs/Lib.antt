@@ -11,7 +11,7 @@ pub mod CommandTasks
 pub mod Texts
 pub mod LineCuts
 pub mod RecordSteps
-pub mod CellTexts
+pub mod KeptRows
 pub mod OpenRecordTexts
 pub mod RecordStates
 pub mod RecordAnswers

@@ -1,17 +1,15 @@
 -- What an open record is answered by.
-use Rattle.std.proofs.Common.{◌≡◌, ◌∙◌, ◌+◌, ◌*◌, ◌<◌, ℕ, suc, Bool, true, false, not, List, [], ◌∷◌, ◌++◌, Option, Some, None, Result, Ok, Err, refl, sym, ap, subst, append_assoc, append-nil, length, length-append, map, get_or, arith}
+use Rattle.std.proofs.Common.{◌≡◌, ◌∙◌, ◌<◌, ℕ, Bool, true, false, not, List, [], ◌∷◌, ◌++◌, Option, Some, None, Result, Ok, Err, refl, sym, ap, subst, length, arith}
 use Rattle.std.specs.Prelude.{◌==◌, ◌||◌, ◌&&◌, if◌then◌else◌}
-use Rattle.std.specs.List.{concat, list_all, range_with_len}
+use Rattle.std.specs.List.{list_all}
 use Rattle.std.proofs.lemmas.Bool.{eqb-true, eqb-false, eq-eqb}
-use Rattle.std.proofs.lemmas.List.{get_or-append-add, map-append}
 use Rattle.dm_symbol.specs.Sizes.{SizeRow, row_with_side}
-use Rattle.dm_symbol.specs.Grid.{GridView, square_of}
+use Rattle.dm_symbol.specs.Grid.{GridView}
 use Rattle.dm_tool.specs.declared.record.RecordFault.{RecordFault}
 use Rattle.dm_tool.specs.declared.record.RecordFault.TheVariants as fault
 use Rattle.dm_tool.specs.Texts.{last_line}
 use Rattle.dm_tool.specs.Records.{has_foreign, is_large, is_square, record_of, rows_of, sized}
 use Rattle.dm_tool.specs.RecordFacts.{RecordContents, Foreign, Large, Cells, contents_of, differ, first_length, last_length}
-use Rattle.dm_tool.specs.OpenRecords.{is_dark}
 use Rattle.dm_tool.proofs.RecordSteps.{by_tests}
 
 -- the grid of a size with these rows
@@ -31,7 +29,8 @@ answer_of Foreign = Err fault.Character
 answer_of Large = Err fault.Large
 answer_of (Cells c f l rows) = cells_answer (l == f && f == c) c rows
 
-and_parts : (a b : Bool) → (a && b) ≡ true → (a ≡ true) × (b ≡ true)
+-- both of two tests hold
+pub and_parts : (a b : Bool) → (a && b) ≡ true → (a ≡ true) × (b ≡ true)
 and_parts true b e = (refl, e)
 and_parts false b e = cc
 
@@ -143,66 +142,3 @@ tested_answer lines rest false false false false es ed =
 pub answer_is : (lines : List (List ℕ)) (rest : List ℕ) → record_of (lines ++ last_line rest) ≡ answer_of (contents_of lines rest)
 answer_is lines rest = tested_answer lines rest (has_foreign (lines ++ last_line rest)) (is_large (lines ++ last_line rest)) (is_square (lines ++ last_line rest))
     (differ (first_length (lines ++ last_line rest)) lines) refl refl
-
--- ---- the cells of a square
-
-join : List (List Bool) → List Bool
-join [] = []
-join (r ∷ rows) = r ++ join rows
-
-joined_rows : (lines : List (List ℕ)) → map is_dark (concat lines) ≡ join (rows_of lines)
-unfolding join
-joined_rows [] = refl
-joined_rows (l ∷ lines) = map-append is_dark l (concat lines) ∙ ap (λ k. map is_dark l ++ k) (joined_rows lines)
-
-row_from : (cells a xs b : List Bool) (p j : ℕ) → cells ≡ a ++ (xs ++ b) → length a ≡ p + j → map (λ column. get_or cells (p + column) false) (range_with_len j (length xs)) ≡ xs
-row_from cells a [] b p j e n = refl
-row_from cells a (x ∷ xs) b p j e n =
-    let here : get_or cells (p + j) false ≡ x = ap (λ l. get_or l (p + j) false) e ∙ ap (λ k. get_or (a ++ (x ∷ (xs ++ b))) k false) (sym n ∙ sym (zero_more (length a))) ∙ get_or-append-add a (x ∷ (xs ++ b)) 0 false in
-    let next : cells ≡ (a ++ x ∷ []) ++ (xs ++ b) = e ∙ sym (append_assoc a (x ∷ []) (xs ++ b)) in
-    let more : length (a ++ x ∷ []) ≡ p + (j + 1) = length-append a (x ∷ []) ∙ omega arith in
-    let rest = row_from cells (a ++ x ∷ []) xs b p (j + 1) next more in
-    ap (λ k. k ∷ map (λ column. get_or cells (p + column) false) (range_with_len (j + 1) (length xs))) here ∙ ap (λ l. x ∷ l) rest
-  where
-    zero_more : (k : ℕ) → k + 0 ≡ k
-    zero_more k = omega arith
-
-square_from : (cells a : List Bool) (n k : ℕ) (lines : List (List ℕ)) → cells ≡ a ++ join (rows_of lines) → length a ≡ k * n → All n lines ≡ true
-    → map (λ row. map (λ column. get_or cells (row * n + column) false) (range_with_len 0 n)) (range_with_len k (length lines)) ≡ rows_of lines
-unfolding join
-square_from cells a n k [] e m h = refl
-square_from cells a n k (l ∷ lines) e m h =
-    let parts = and_parts (length l == n) (All n lines) h in
-    let long : length l ≡ n = eqb-true (length l) n parts.0 in
-    let wide : length (map is_dark l) ≡ n = length_map l ∙ long in
-    let start : length a ≡ k * n + 0 = m ∙ omega arith in
-    let here = subst (λ w. map (λ column. get_or cells (k * n + column) false) (range_with_len 0 w) ≡ map is_dark l) wide (row_from cells a (map is_dark l) (join (rows_of lines)) (k * n) 0 e start) in
-    let next : cells ≡ (a ++ map is_dark l) ++ join (rows_of lines) = e ∙ sym (append_assoc a (map is_dark l) (join (rows_of lines))) in
-    let more : length (a ++ map is_dark l) ≡ (k + 1) * n = length-append a (map is_dark l) ∙ omega (arith, wide, m) in
-    let rest = square_from cells (a ++ map is_dark l) n (k + 1) lines next more parts.1 in
-    ap (λ r. r ∷ map (λ row. map (λ column. get_or cells (row * n + column) false) (range_with_len 0 n)) (range_with_len (k + 1) (length lines))) here ∙ ap (λ t. map is_dark l ∷ t) rest
-  where
-    length_map : (l : List ℕ) → length (map is_dark l) ≡ length l
-    length_map [] = refl
-    length_map (x ∷ l) = ap suc (length_map l)
-
--- the rows of a square are those of its cells, row by row
-pub square_rows : (n : ℕ) (lines : List (List ℕ)) → length lines ≡ n → All n lines ≡ true → square_of n (map is_dark (concat lines)) ≡ rows_of lines
-unfolding join
-square_rows n lines e h =
-    let all = square_from (map is_dark (concat lines)) [] n 0 lines (joined_rows lines) (omega arith) h in
-    subst (λ k. map (λ row. map (λ column. get_or (map is_dark (concat lines)) (row * n + column) false) (range_with_len 0 n)) (range_with_len 0 k) ≡ rows_of lines) e all
-
--- a square has its side times itself of cells
-pub square_count : (n : ℕ) (lines : List (List ℕ)) → All n lines ≡ true → length (concat lines) ≡ length lines * n
-square_count n [] h = omega arith
-square_count n (l ∷ lines) h =
-    let parts = and_parts (length l == n) (All n lines) h in
-    let long : length l ≡ n = eqb-true (length l) n parts.0 in
-    let rest = square_count n lines parts.1 in
-    length-append l (concat lines) ∙ omega (arith, long, rest)
-
-pub concat_last : (lines : List (List ℕ)) (rest : List ℕ) → concat (lines ++ last_line rest) ≡ concat lines ++ rest
-concat_last [] [] = refl
-concat_last [] (x ∷ r) = append-nil (x ∷ r)
-concat_last (l ∷ lines) rest = ap (λ k. l ++ k) (concat_last lines rest) ∙ sym (append_assoc l (concat lines) rest)

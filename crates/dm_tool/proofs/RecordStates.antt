@@ -1,16 +1,16 @@
 -- How an open record is kept, as it grows.
 use Rattle.std.proofs.Common.{◌≡◌, ◌≢◌, ◌∙◌, ℕ, Bool, true, false, List, [], ◌∷◌, ◌++◌, refl, sym, ap, subst, append-nil, length, arith}
 use Rattle.std.specs.Prelude.{◌||◌}
-use Rattle.dm_tool.specs.declared.cell_text.CellText.{CellText}
+use Rattle.dm_tool.specs.declared.rows.Rows.{Rows}
 use Rattle.dm_tool.specs.declared.record.Contents.{Contents}
 use Rattle.dm_tool.specs.declared.record.Contents.TheVariants as kept
 use Rattle.dm_tool.specs.Texts.{lf, last_line}
 use Rattle.dm_tool.specs.Records.{has_foreign, is_foreign, is_large}
 use Rattle.dm_tool.specs.RecordFacts.{RecordContents, Foreign, Large, Cells, RecordFacts, AreRecordFacts, contents_of, facts_of_record}
-use Rattle.dm_tool.specs.OpenRecords.{AreContents, HoldsLines, IsRecordState, contents_seen, is_ended, rows_seen}
+use Rattle.dm_tool.specs.OpenRecords.{AreContents, HoldsLines, IsRecordState, contents_seen, is_ended, line_count, rows_seen}
 use Rattle.std.proofs.lemmas.Bool.{eqb-true, eq-eqb}
 use Rattle.dm_tool.proofs.RecordSteps.{contents_passed, foreign_new, foreign_more as foreign_more_line, character_is, character_step, contents_end, no_lines, same_facts}
-use Rattle.dm_tool.proofs.CellTexts.{seen_is}
+use Rattle.dm_tool.proofs.KeptRows.{seen_is}
 use Rattle.dm_tool.proofs.OpenRecordTexts.{grown_character, grown_end}
 
 -- the value that is kept
@@ -57,7 +57,7 @@ pub large_stays : (lines : List (List ℕ)) (rest : List ℕ) (b : ℕ) → is_f
 large_stays lines rest b n e = step_contents lines rest b ∙ ap (λ C. character_step (is_ended lines rest || no_lines C) C b) e ∙ rw n refl
 
 -- marks stay
-pub mark_stays : (c : Contents) (lines : List (List ℕ)) (rest : List ℕ) (b : ℕ) → is_foreign b ≡ false → ((t : CellText) → c ≢ kept.Cells t) → AreContents c lines rest
+pub mark_stays : (c : Contents) (lines : List (List ℕ)) (rest : List ℕ) (b : ℕ) → is_foreign b ≡ false → ((t : Rows) → c ≢ kept.Cells t) → AreContents c lines rest
     → AreContents c lines (rest ++ b ∷ [])
 mark_stays kept.Foreign lines rest b n m h = foreign_stays lines rest b h
 mark_stays kept.Large lines rest b n m h = large_stays lines rest b n h
@@ -87,12 +87,12 @@ pub some_rest_kept : (c : Contents) (s : IsRecordState false c) → (no_lines (c
 some_rest_kept c s n = some_lines s.lines s.rest s.ended_is (λ e. n (ap no_lines (contents_are c s.lines s.rest s.contents_are) ∙ e))
 
 -- marks stay where a line ends
-pub mark_ends : (c : Contents) (lines : List (List ℕ)) (x : ℕ) (r : List ℕ) → ((t : CellText) → c ≢ kept.Cells t) → AreContents c lines (x ∷ r) → AreContents c (lines ++ (x ∷ r) ∷ []) []
+pub mark_ends : (c : Contents) (lines : List (List ℕ)) (x : ℕ) (r : List ℕ) → ((t : Rows) → c ≢ kept.Cells t) → AreContents c lines (x ∷ r) → AreContents c (lines ++ (x ∷ r) ∷ []) []
 mark_ends kept.Foreign lines x r m h = contents_end lines x r ∙ rw h refl
 mark_ends kept.Large lines x r m h = contents_end lines x r ∙ rw h refl
 mark_ends (kept.Cells t) lines x r m h = absurd (m t refl)
 
-mark_some : (c : Contents) → ((t : CellText) → c ≢ kept.Cells t) → no_lines (contents_seen c) ≡ true → ⊥
+mark_some : (c : Contents) → ((t : Rows) → c ≢ kept.Cells t) → no_lines (contents_seen c) ≡ true → ⊥
 mark_some kept.Foreign m e = cc
 mark_some kept.Large m e = cc
 mark_some (kept.Cells t) m e = m t refl
@@ -104,12 +104,12 @@ ended_by text f c d s x r known is e h =
     grown_end text f (value true d) s.lines x r known (sym is ∙ value_is false c s ∙ ap (facts_of_record s.lines) e) (value_is true d (with_end c d s x r e h))
 
 -- marks where a line ends
-pub marks_end : (c : Contents) (s : IsRecordState false c) → ((t : CellText) → c ≢ kept.Cells t) → IsRecordState true c
+pub marks_end : (c : Contents) (s : IsRecordState false c) → ((t : Rows) → c ≢ kept.Cells t) → IsRecordState true c
 marks_end c s m =
     let r = some_rest_kept c s (mark_some c m) in
     with_end c c s r.0 r.1 r.2 (mark_ends c s.lines r.0 r.1 m (subst (AreContents c s.lines) r.2 s.contents_are))
 
-pub marks_ended_by : (text : List ℕ) (f : RecordFacts) (c : Contents) (s : IsRecordState false c) → ((t : CellText) → c ≢ kept.Cells t) → AreRecordFacts text f → value false c ≡ f
+pub marks_ended_by : (text : List ℕ) (f : RecordFacts) (c : Contents) (s : IsRecordState false c) → ((t : Rows) → c ≢ kept.Cells t) → AreRecordFacts text f → value false c ≡ f
     → AreRecordFacts (text ++ lf ∷ []) (value true c)
 marks_ended_by text f c s m known is =
     let r = some_rest_kept c s (mark_some c m) in
@@ -120,7 +120,7 @@ foreign_none lines [] b h n = let g : has_foreign lines ≡ false = rw (append-n
 foreign_none lines (x ∷ r) b h n = foreign_more_line lines (x ∷ r) b ∙ rw (h, n) refl
 
 -- a character for which there is no room
-pub large_by : (t : CellText) (lines : List (List ℕ)) (rest : List ℕ) (b : ℕ) → HoldsLines t lines rest → is_foreign b ≡ false → is_large (lines ++ last_line (rest ++ b ∷ [])) ≡ true
+pub large_by : (t : Rows) (lines : List (List ℕ)) (rest : List ℕ) (b : ℕ) → HoldsLines t lines rest → is_foreign b ≡ false → is_large (lines ++ last_line (rest ++ b ∷ [])) ≡ true
     → contents_of lines (rest ++ b ∷ []) ≡ Large
 large_by t lines rest b h n large = rw (foreign_none lines rest b h.cells n, large) refl
 
@@ -129,35 +129,35 @@ at_false : (e : Bool) (c : Contents) → e ≡ false → IsRecordState e c → I
 at_false e c h s = subst (λ t. IsRecordState t c) h s
 
 -- a line of cells ends
-pub cells_end_by : (text : List ℕ) (f : RecordFacts) (e : Bool) (c : Contents) (t u : CellText) → IsRecordState e c → e ≡ false → c ≡ kept.Cells t → t.count ≢ 0 → value e c ≡ f
+pub cells_end_by : (text : List ℕ) (f : RecordFacts) (e : Bool) (c : Contents) (t u : Rows) → IsRecordState e c → e ≡ false → c ≡ kept.Cells t → line_count t ≢ 0 → value e c ≡ f
     → AreRecordFacts text f → ((lines : List (List ℕ)) (rest : List ℕ) → HoldsLines t lines rest → rest ≢ [] → HoldsLines u (lines ++ rest ∷ []) [])
     → AreRecordFacts (text ++ lf ∷ []) (value true (kept.Cells u))
 cells_end_by text f e c t u s h is some seen known ends =
     let s0 = at_false e (kept.Cells t) h (subst (λ k. IsRecordState e k) is s) in
     let seen0 : value false (kept.Cells t) ≡ f = ap (λ k. value false k) (sym is) ∙ ap (λ k. value k c) (sym h) ∙ seen in
-    let r = some_rest_kept (kept.Cells t) s0 (λ z. some (eqb-true t.count 0 z)) in
+    let r = some_rest_kept (kept.Cells t) s0 (λ z. some (eqb-true (line_count t) 0 z)) in
     let held : HoldsLines t s0.lines (r.0 ∷ r.1) = subst (HoldsLines t s0.lines) r.2 s0.contents_are in
     ended_by text f (kept.Cells t) (kept.Cells u) s0 r.0 r.1 known seen0 r.2 (ends s0.lines (r.0 ∷ r.1) held (λ k. cc))
 
 -- a marked line ends
-pub marks_end_at : (e : Bool) (c : Contents) → IsRecordState e c → e ≡ false → ((t : CellText) → c ≢ kept.Cells t) → IsRecordState true c
+pub marks_end_at : (e : Bool) (c : Contents) → IsRecordState e c → e ≡ false → ((t : Rows) → c ≢ kept.Cells t) → IsRecordState true c
 marks_end_at e c s h m = marks_end c (at_false e c h s) m
 
-pub marks_end_by : (text : List ℕ) (f : RecordFacts) (e : Bool) (c : Contents) → IsRecordState e c → e ≡ false → ((t : CellText) → c ≢ kept.Cells t) → value e c ≡ f
+pub marks_end_by : (text : List ℕ) (f : RecordFacts) (e : Bool) (c : Contents) → IsRecordState e c → e ≡ false → ((t : Rows) → c ≢ kept.Cells t) → value e c ≡ f
     → AreRecordFacts text f → AreRecordFacts (text ++ lf ∷ []) (value true c)
 marks_end_by text f e c s h m seen known = marks_ended_by text f c (at_false e c h s) m known (ap (λ k. value k c) (sym h) ∙ seen)
 
 -- no line is counted where there is none
-pub none_counted : (c : Contents) (t : CellText) (f : RecordFacts) (e : Bool) → c ≡ kept.Cells t → value e c ≡ f → t.count ≡ 0 → no_lines f.contents ≡ true
+pub none_counted : (c : Contents) (t : Rows) (f : RecordFacts) (e : Bool) → c ≡ kept.Cells t → value e c ≡ f → line_count t ≡ 0 → no_lines f.contents ≡ true
 none_counted c t f e is seen zero =
-    ap (λ k. no_lines k.contents) (sym seen) ∙ ap (λ k. no_lines (contents_seen k)) is ∙ eq-eqb t.count 0 zero
+    ap (λ k. no_lines k.contents) (sym seen) ∙ ap (λ k. no_lines (contents_seen k)) is ∙ eq-eqb (line_count t) 0 zero
 
 -- where a record has no line none is counted
-pub counted_lines : (c : Contents) (t : CellText) (f : RecordFacts) (e : Bool) (lines : List (List ℕ)) (rest : List ℕ) → c ≡ kept.Cells t → value e c ≡ f → f ≡ facts_of_record lines rest
-    → t.count ≡ length (lines ++ last_line rest)
+pub counted_lines : (c : Contents) (t : Rows) (f : RecordFacts) (e : Bool) (lines : List (List ℕ)) (rest : List ℕ) → c ≡ kept.Cells t → value e c ≡ f → f ≡ facts_of_record lines rest
+    → line_count t ≡ length (lines ++ last_line rest)
 counted_lines c t f e lines rest is seen facts =
-    let same : Cells t.count t.first t.last (rows_seen t) ≡ contents_of lines rest = ap contents_seen (sym is) ∙ ap (λ k. k.contents) (seen ∙ facts) in
-    sym (contents_passed lines rest t.count t.first t.last (rows_seen t) (sym same)).2
+    let same : Cells (line_count t) t.first t.last (rows_seen t) ≡ contents_of lines rest = ap contents_seen (sym is) ∙ ap (λ k. k.contents) (seen ∙ facts) in
+    sym (contents_passed lines rest (line_count t) t.first t.last (rows_seen t) (sym same)).2
 
 pub no_line_left : {X : Type 0} (xs : List X) → length xs ≡ 0 → xs ≡ []
 no_line_left [] e = refl

@@ -5,6 +5,7 @@ use Rattle.dm_symbol.specs.declared.Item.TheVariants.{Byte}
 use Rattle.dm_tool.specs.Spellings.{IsHexDigit, figure, IsSpelling, plain, backslash, fnc1, byte}
 use Rattle.dm_tool.specs.LineFacts.{CanBecomeSpelling}
 use Rattle.dm_tool.specs.OpenLines.{BeginsNoSpelling}
+use Rattle.dm_tool.proofs.Joinings.{heads, tails}
 
 -- the bytes begin with a spelling of one of the four kinds
 data Begins (bytes : List ℕ) : Type 0 where
@@ -22,19 +23,13 @@ begins bytes piece more item e (byte s t u v hs ht p i) = with_byte s t u v more
 none_if : (bytes : List ℕ) → (Begins bytes → ⊥) → BeginsNoSpelling bytes
 none_if bytes never piece more item e h = never (begins bytes piece more item e h)
 
--- the first four elements of equal lists
-first : (a b : ℕ) (x y : List ℕ) → a ∷ x ≡ b ∷ y → a ≡ b
-first a b x y e = cc
-
-next : (a b : ℕ) (x y : List ℕ) → a ∷ x ≡ b ∷ y → x ≡ y
-next a b x y e = cc
-
+-- a byte alone has none after it
 lone : (a b : ℕ) (y : List ℕ) → a ∷ [] ≡ b ∷ y → y ≡ []
 lone a b y e = cc
 
 -- a backslash alone
 backslash_alone : Begins (92 ∷ []) → ⊥
-backslash_alone (with_plain c rest l h n e) = n (sym (first 92 c [] rest e))
+backslash_alone (with_plain c rest l h n e) = n (sym (heads 92 c [] rest e))
 backslash_alone (with_backslash rest e) = let s : 1 ≡ suc (suc (length rest)) = ap length e in omega arith
 backslash_alone (with_fnc1 rest e) = let s : 1 ≡ suc (suc (length rest)) = ap length e in omega arith
 backslash_alone (with_byte s t u v rest a b e) = let s : 1 ≡ suc (suc (suc (suc (length rest)))) = ap length e in omega arith
@@ -47,9 +42,9 @@ backslash_can = (92 ∷ [], Byte 92, backslash refl refl)
 
 -- a backslash and x
 hexadecimal_alone : Begins (92 ∷ 120 ∷ []) → ⊥
-hexadecimal_alone (with_plain c rest l h n e) = n (sym (first 92 c (120 ∷ []) rest e))
-hexadecimal_alone (with_backslash rest e) = let s = first 120 92 [] rest (next 92 92 (120 ∷ []) (92 ∷ rest) e) in omega arith
-hexadecimal_alone (with_fnc1 rest e) = let s = first 120 70 [] rest (next 92 92 (120 ∷ []) (70 ∷ rest) e) in omega arith
+hexadecimal_alone (with_plain c rest l h n e) = n (sym (heads 92 c (120 ∷ []) rest e))
+hexadecimal_alone (with_backslash rest e) = let s = heads 120 92 [] rest (tails 92 92 (120 ∷ []) (92 ∷ rest) e) in omega arith
+hexadecimal_alone (with_fnc1 rest e) = let s = heads 120 70 [] rest (tails 92 92 (120 ∷ []) (70 ∷ rest) e) in omega arith
 hexadecimal_alone (with_byte s t u v rest a b e) = let s : 2 ≡ suc (suc (suc (suc (length rest)))) = ap length e in omega arith
 
 pub hexadecimal_none : BeginsNoSpelling (92 ∷ 120 ∷ [])
@@ -63,9 +58,9 @@ hexadecimal_can = (48 ∷ 48 ∷ [], Byte 0, byte 48 48 0 0 zero_digit zero_digi
 
 -- a backslash, x and a digit
 digit_alone : (d : ℕ) → Begins (92 ∷ 120 ∷ d ∷ []) → ⊥
-digit_alone d (with_plain c rest l h n e) = n (sym (first 92 c (120 ∷ d ∷ []) rest e))
-digit_alone d (with_backslash rest e) = let s = first 120 92 (d ∷ []) rest (next 92 92 (120 ∷ d ∷ []) (92 ∷ rest) e) in omega arith
-digit_alone d (with_fnc1 rest e) = let s = first 120 70 (d ∷ []) rest (next 92 92 (120 ∷ d ∷ []) (70 ∷ rest) e) in omega arith
+digit_alone d (with_plain c rest l h n e) = n (sym (heads 92 c (120 ∷ d ∷ []) rest e))
+digit_alone d (with_backslash rest e) = let s = heads 120 92 (d ∷ []) rest (tails 92 92 (120 ∷ d ∷ []) (92 ∷ rest) e) in omega arith
+digit_alone d (with_fnc1 rest e) = let s = heads 120 70 (d ∷ []) rest (tails 92 92 (120 ∷ d ∷ []) (70 ∷ rest) e) in omega arith
 digit_alone d (with_byte s t u v rest a b e) = let s : 3 ≡ suc (suc (suc (suc (length rest)))) = ap length e in omega arith
 
 pub digit_none : (d : ℕ) → BeginsNoSpelling (92 ∷ 120 ∷ d ∷ [])
@@ -76,31 +71,31 @@ digit_can d u h = (48 ∷ [], Byte (16 * u + 0), byte d 48 u 0 h zero_digit refl
 
 -- a byte outside 32 to 126
 foreign_first : (b : ℕ) (more : List ℕ) → (32 ≤ b → b ≤ 126 → ⊥) → b ≢ 92 → Begins (b ∷ more) → ⊥
-foreign_first b more out n (with_plain c rest l h _ e) = let s = first b c more rest e in out (omega arith) (omega arith)
-foreign_first b more out n (with_backslash rest e) = n (first b 92 more (92 ∷ rest) e)
-foreign_first b more out n (with_fnc1 rest e) = n (first b 92 more (70 ∷ rest) e)
-foreign_first b more out n (with_byte s t u v rest _ _ e) = n (first b 92 more (120 ∷ s ∷ t ∷ rest) e)
+foreign_first b more out n (with_plain c rest l h _ e) = let s = heads b c more rest e in out (omega arith) (omega arith)
+foreign_first b more out n (with_backslash rest e) = n (heads b 92 more (92 ∷ rest) e)
+foreign_first b more out n (with_fnc1 rest e) = n (heads b 92 more (70 ∷ rest) e)
+foreign_first b more out n (with_byte s t u v rest _ _ e) = n (heads b 92 more (120 ∷ s ∷ t ∷ rest) e)
 
 pub foreign_none : (b : ℕ) (more : List ℕ) → (32 ≤ b → b ≤ 126 → ⊥) → b ≢ 92 → BeginsNoSpelling (b ∷ more)
 foreign_none b more out n = none_if (b ∷ more) (foreign_first b more out n)
 
 -- a backslash and a byte that is none of the backslash, F and x
 stray_second : (b : ℕ) (more : List ℕ) → b ≢ 92 → b ≢ 70 → b ≢ 120 → Begins (92 ∷ b ∷ more) → ⊥
-stray_second b more n m o (with_plain c rest l h k e) = k (sym (first 92 c (b ∷ more) rest e))
-stray_second b more n m o (with_backslash rest e) = n (first b 92 more rest (next 92 92 (b ∷ more) (92 ∷ rest) e))
-stray_second b more n m o (with_fnc1 rest e) = m (first b 70 more rest (next 92 92 (b ∷ more) (70 ∷ rest) e))
-stray_second b more n m o (with_byte s t u v rest _ _ e) = o (first b 120 more (s ∷ t ∷ rest) (next 92 92 (b ∷ more) (120 ∷ s ∷ t ∷ rest) e))
+stray_second b more n m o (with_plain c rest l h k e) = k (sym (heads 92 c (b ∷ more) rest e))
+stray_second b more n m o (with_backslash rest e) = n (heads b 92 more rest (tails 92 92 (b ∷ more) (92 ∷ rest) e))
+stray_second b more n m o (with_fnc1 rest e) = m (heads b 70 more rest (tails 92 92 (b ∷ more) (70 ∷ rest) e))
+stray_second b more n m o (with_byte s t u v rest _ _ e) = o (heads b 120 more (s ∷ t ∷ rest) (tails 92 92 (b ∷ more) (120 ∷ s ∷ t ∷ rest) e))
 
 pub stray_none : (b : ℕ) (more : List ℕ) → b ≢ 92 → b ≢ 70 → b ≢ 120 → BeginsNoSpelling (92 ∷ b ∷ more)
 stray_none b more n m o = none_if (92 ∷ b ∷ more) (stray_second b more n m o)
 
 -- a backslash, x and a byte that is no digit
 no_first_digit : (b : ℕ) (more : List ℕ) → ((u : ℕ) → IsHexDigit b u → ⊥) → Begins (92 ∷ 120 ∷ b ∷ more) → ⊥
-no_first_digit b more never (with_plain c rest l h k e) = k (sym (first 92 c (120 ∷ b ∷ more) rest e))
-no_first_digit b more never (with_backslash rest e) = let s = first 120 92 (b ∷ more) rest (next 92 92 (120 ∷ b ∷ more) (92 ∷ rest) e) in omega arith
-no_first_digit b more never (with_fnc1 rest e) = let s = first 120 70 (b ∷ more) rest (next 92 92 (120 ∷ b ∷ more) (70 ∷ rest) e) in omega arith
+no_first_digit b more never (with_plain c rest l h k e) = k (sym (heads 92 c (120 ∷ b ∷ more) rest e))
+no_first_digit b more never (with_backslash rest e) = let s = heads 120 92 (b ∷ more) rest (tails 92 92 (120 ∷ b ∷ more) (92 ∷ rest) e) in omega arith
+no_first_digit b more never (with_fnc1 rest e) = let s = heads 120 70 (b ∷ more) rest (tails 92 92 (120 ∷ b ∷ more) (70 ∷ rest) e) in omega arith
 no_first_digit b more never (with_byte s t u v rest hs ht e) =
-    let same : b ≡ s = first b s more (t ∷ rest) (next 120 120 (b ∷ more) (s ∷ t ∷ rest) (next 92 92 (120 ∷ b ∷ more) (120 ∷ s ∷ t ∷ rest) e)) in
+    let same : b ≡ s = heads b s more (t ∷ rest) (tails 120 120 (b ∷ more) (s ∷ t ∷ rest) (tails 92 92 (120 ∷ b ∷ more) (120 ∷ s ∷ t ∷ rest) e)) in
     never u (rw same hs)
 
 pub first_digit_none : (b : ℕ) (more : List ℕ) → ((u : ℕ) → IsHexDigit b u → ⊥) → BeginsNoSpelling (92 ∷ 120 ∷ b ∷ more)
@@ -108,12 +103,12 @@ first_digit_none b more never = none_if (92 ∷ 120 ∷ b ∷ more) (no_first_di
 
 -- a backslash, x, a byte and a byte that is no digit
 no_second_digit : (d b : ℕ) (more : List ℕ) → ((u : ℕ) → IsHexDigit b u → ⊥) → Begins (92 ∷ 120 ∷ d ∷ b ∷ more) → ⊥
-no_second_digit d b more never (with_plain c rest l h k e) = k (sym (first 92 c (120 ∷ d ∷ b ∷ more) rest e))
-no_second_digit d b more never (with_backslash rest e) = let s = first 120 92 (d ∷ b ∷ more) rest (next 92 92 (120 ∷ d ∷ b ∷ more) (92 ∷ rest) e) in omega arith
-no_second_digit d b more never (with_fnc1 rest e) = let s = first 120 70 (d ∷ b ∷ more) rest (next 92 92 (120 ∷ d ∷ b ∷ more) (70 ∷ rest) e) in omega arith
+no_second_digit d b more never (with_plain c rest l h k e) = k (sym (heads 92 c (120 ∷ d ∷ b ∷ more) rest e))
+no_second_digit d b more never (with_backslash rest e) = let s = heads 120 92 (d ∷ b ∷ more) rest (tails 92 92 (120 ∷ d ∷ b ∷ more) (92 ∷ rest) e) in omega arith
+no_second_digit d b more never (with_fnc1 rest e) = let s = heads 120 70 (d ∷ b ∷ more) rest (tails 92 92 (120 ∷ d ∷ b ∷ more) (70 ∷ rest) e) in omega arith
 no_second_digit d b more never (with_byte s t u v rest hs ht e) =
-    let digits : d ∷ b ∷ more ≡ s ∷ t ∷ rest = next 120 120 (d ∷ b ∷ more) (s ∷ t ∷ rest) (next 92 92 (120 ∷ d ∷ b ∷ more) (120 ∷ s ∷ t ∷ rest) e) in
-    let same : b ≡ t = first b t more rest (next d s (b ∷ more) (t ∷ rest) digits) in
+    let digits : d ∷ b ∷ more ≡ s ∷ t ∷ rest = tails 120 120 (d ∷ b ∷ more) (s ∷ t ∷ rest) (tails 92 92 (120 ∷ d ∷ b ∷ more) (120 ∷ s ∷ t ∷ rest) e) in
+    let same : b ≡ t = heads b t more rest (tails d s (b ∷ more) (t ∷ rest) digits) in
     never v (rw same ht)
 
 pub second_digit_none : (d b : ℕ) (more : List ℕ) → ((u : ℕ) → IsHexDigit b u → ⊥) → BeginsNoSpelling (92 ∷ 120 ∷ d ∷ b ∷ more)

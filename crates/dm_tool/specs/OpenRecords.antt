@@ -1,7 +1,8 @@
--- How an open record is kept: as the characters of its lines.
-use Rattle.std.specs.Prelude.{◌≡◌, ◌==◌, ◌&&◌, ℕ, zero, suc, Bool, true, false, not, if◌then◌else◌, List, [], ◌∷◌, ◌++◌, length, map, take, drop, Option, Some, None}
-use Rattle.std.specs.List.{concat}
-use Rattle.dm_tool.specs.declared.cell_text.CellText.{CellText}
+-- How an open record is kept: as rows of cells, each a number.
+use Rattle.std.specs.Prelude.{◌≡◌, ◌==◌, ◌&&◌, ◌+◌, ◌*◌, ℕ, Bool, true, false, not, if◌then◌else◌, List, [], ◌∷◌, ◌++◌, length, map, Option, Some, None}
+use Rattle.std.specs.List.{range_with_len}
+use Rattle.dm_symbol.specs.Grid.{is_dark_in}
+use Rattle.dm_tool.specs.declared.rows.Rows.{Rows}
 use Rattle.dm_tool.specs.declared.record.Contents.{Contents}
 use Rattle.dm_tool.specs.declared.record.Contents.TheVariants as kept
 use Rattle.dm_tool.specs.Texts.{last_line}
@@ -12,26 +13,42 @@ use Rattle.dm_tool.specs.RecordFacts.{AreRecordFacts, RecordContents, RecordFact
 abbrev pub is_dark : ℕ → Bool
 is_dark b = b == 49
 
--- Characters as so many lines, each of this length but for the last one, which has the rest.
-abbrev pub cut_lines : ℕ → ℕ → List ℕ → List (List ℕ)
-cut_lines width zero characters = []
-cut_lines width (suc zero) characters = characters ∷ []
-cut_lines width (suc (suc n)) characters = take width characters ∷ cut_lines width (suc n) (drop width characters)
+-- The digit of a character: 1 for a dark cell, 0 for a light one.
+abbrev pub digit_of : ℕ → ℕ
+digit_of b = if is_dark b then 1 else 0
+
+-- The number of a line: the digit of column c, counted from 0 at the left, has the weight 2^c.
+abbrev pub number_of : List ℕ → ℕ
+number_of [] = 0
+number_of (b ∷ line) = digit_of b + 2 * number_of line
+
+-- So many cells of a row that is a number, from the left.
+abbrev pub cells_in : ℕ → ℕ → List Bool
+cells_in width row = map (is_dark_in row) (range_with_len 0 width)
+
+-- The cells of rows: so many in each, but in the last one so many as are given for it.
+abbrev pub rows_in : ℕ → ℕ → List ℕ → List (List Bool)
+rows_in width last [] = []
+rows_in width last (row ∷ []) = cells_in last row ∷ []
+rows_in width last (row ∷ next ∷ rows) = cells_in width row ∷ rows_in width last (next ∷ rows)
+
+-- How many lines are kept.
+abbrev pub line_count : Rows → ℕ
+line_count t = length t.rows.items
 
 -- The rows of cells, unless a line that is ended differs from the first.
-abbrev pub rows_seen : CellText → Option (List (List Bool))
-rows_seen t = if t.differs then None else Some (map (map is_dark) (cut_lines t.first t.count t.text.items))
+abbrev pub rows_seen : Rows → Option (List (List Bool))
+rows_seen t = if t.differs then None else Some (rows_in t.first t.last t.rows.items)
 
 -- The contents that are kept.
 abbrev pub contents_seen : Contents → RecordContents
 contents_seen kept.Foreign = Foreign
 contents_seen kept.Large = Large
-contents_seen (kept.Cells t) = Cells t.count t.first t.last (rows_seen t)
+contents_seen (kept.Cells t) = Cells (line_count t) t.first t.last (rows_seen t)
 
--- The text is that of these lines and this rest, which are few, short and of 0 and 1 alone.
-pub record HoldsLines (t : CellText) (lines : List (List ℕ)) (rest : List ℕ) : Type 0 where
-  pub text_is : t.text.items ≡ concat lines ++ rest
-  pub count_is : t.count ≡ length (lines ++ last_line rest)
+-- The rows are those of these lines and this rest, which are few, short and of 0 and 1 alone.
+pub record HoldsLines (t : Rows) (lines : List (List ℕ)) (rest : List ℕ) : Type 0 where
+  pub rows_are : t.rows.items ≡ map number_of (lines ++ last_line rest)
   pub first_is : t.first ≡ first_length (lines ++ last_line rest)
   pub last_is : t.last ≡ last_length (lines ++ last_line rest)
   pub differs_is : t.differs ≡ differ t.first lines
@@ -55,8 +72,8 @@ pub record IsRecordState (ended : Bool) (contents : Contents) : Type 0 where
   pub ended_is : ended ≡ is_ended lines rest
   pub contents_are : AreContents contents lines rest
 
--- Where there was room the text is that of the lines and the rest, and else those are too many or too long.
-abbrev pub Continues : Bool → CellText → List (List ℕ) → List ℕ → Type 0
+-- Where there was room the rows are those of the lines and the rest, and else these are too many or too long.
+abbrev pub Continues : Bool → Rows → List (List ℕ) → List ℕ → Type 0
 Continues true t lines rest = HoldsLines t lines rest
 Continues false t lines rest = is_large (lines ++ last_line rest) ≡ true
 

@@ -1,17 +1,17 @@
 //! What is written for a record or a line.
-ghost use Rattle.std.specs.Prelude.{◌≡◌, ◌<◌, ◌≤◌, ◌+◌, ◌∷◌, ◌++◌, length};
+ghost use Rattle.std.specs.Prelude.{◌≡◌, ◌<◌, ◌≤◌, ◌+◌, ◌∷◌, ◌++◌, [], length};
 ghost use Rattle.dm_tool.specs.Answers.{AnswersRecords, IsCheckAnswer, IsNormalAnswer, IsReadAnswer, IsRecordAnswer, IsWriteAnswer, blank_refusal_answer, check_text, grid_answer, limit_for, line_answer, refusal_answer};
 ghost use Rattle.dm_tool.specs.Spellings.{text_of};
 
-use crate::message_line::{LineFault, MOST_TEXT, message_text};
-use crate::printed::{AnswerText, MOST_ANSWER, grid_text, push_all, push_decimal, push_spaced};
+use crate::message_line::{LineFault, message_text};
+use crate::printed::{AnswerText, MOST_ANSWER, push_all, push_decimal, push_grid, push_spaced};
 use crate::record::RecordFault;
 use crate::refusal::{
     line_refusal, normal_refusal, read_refusal, record_refusal, too_long_refusal,
 };
 use crate::task::Task;
 use arrayvec::ArrayVec;
-use dm_symbol::{Grid, Message, Reading, normal, read, usual_limit, write};
+use dm_symbol::{Grid, MOST_BLOCKS, Message, Reading, normal, read, usual_limit, write};
 use std::marker::Model;
 
 /// What is written for a record or a line, its LFs included, and whether it is a refusal.
@@ -30,47 +30,60 @@ impl Model for Answer {
 }
 
 impl Answer {
-    /// A line, which has no LF yet.
-    fn line(mut text: AnswerText) -> Answer
-        requires { length text.items < MOST_ANSWER }
-        ensures { result ≡ line_answer text.items }
-    {
-        push_all(&mut text, b"\n");
+    /// Nothing is written.
+    pub(crate) fn none() -> Answer {
         Answer {
-            text,
+            text: AnswerText::new(),
             refused: false,
         }
     }
 
-    /// A refusal.
-    fn refusal(mut text: AnswerText) -> Answer
-        requires { length text.items < MOST_ANSWER }
-        ensures { result ≡ refusal_answer text.items }
+    /// Becomes a line, which has no LF yet.
+    fn be_line(&mut self, line: &[u8])
+        requires { length line.now < MOST_ANSWER }
+        ensures { self.new ≡ line_answer line.now }
     {
-        push_all(&mut text, b"\n");
-        Answer {
-            text,
-            refused: true,
-        }
+        self.begin(false);
+        push_all(&mut self.text, line);
+        push_all(&mut self.text, b"\n");
     }
 
-    /// A refusal, and an empty line.
-    fn blank_refusal(mut text: AnswerText) -> Answer
-        requires { length text.items + 1 < MOST_ANSWER }
-        ensures { result ≡ blank_refusal_answer text.items }
+    /// Becomes a refusal.
+    fn be_refusal(&mut self, refusal: &[u8])
+        requires { length refusal.now < MOST_ANSWER }
+        ensures { self.new ≡ refusal_answer refusal.now }
     {
-        push_all(&mut text, b"\n\n");
-        Answer {
-            text,
-            refused: true,
-        }
+        self.begin(true);
+        push_all(&mut self.text, refusal);
+        push_all(&mut self.text, b"\n");
     }
 
-    /// A grid, and an empty line.
-    fn grid(grid: &Grid) -> Answer
-        ensures { result ≡ grid_answer grid.now }
+    /// Becomes a refusal, and an empty line.
+    fn be_blank_refusal(&mut self, refusal: &[u8])
+        requires { length refusal.now + 1 < MOST_ANSWER }
+        ensures { self.new ≡ blank_refusal_answer refusal.now }
     {
-        Answer::line(grid_text(grid))
+        self.begin(true);
+        push_all(&mut self.text, refusal);
+        push_all(&mut self.text, b"\n\n");
+    }
+
+    /// Becomes a grid, and an empty line.
+    fn be_grid(&mut self, grid: &Grid)
+        ensures { self.new ≡ grid_answer grid.now }
+    {
+        self.begin(false);
+        push_grid(&mut self.text, grid);
+        push_all(&mut self.text, b"\n");
+    }
+
+    /// Nothing is written yet.
+    fn begin(&mut self, refused: bool)
+        ensures text { self.new.text ≡ [] }
+        ensures refused { self.new.refused ≡ refused }
+    {
+        self.text.clear();
+        self.refused = refused;
     }
 
     /// What is written.
@@ -88,71 +101,70 @@ impl Answer {
     }
 }
 
+// An answer has room for the largest grid. So there is one place for all of them, which each of these functions is given.
+
 /// What is written for a record where grids are read, checked or normalised.
-pub(crate) fn answer_to_record(task: Task, found: &Result<Grid, RecordFault>) -> Answer
+pub(crate) fn answer_record(task: Task, found: &Result<Grid, RecordFault>, answer: &mut Answer)
     requires { AnswersRecords task }
-    ensures { IsRecordAnswer task found.now result }
+    ensures { IsRecordAnswer task found.now answer.new }
 {
     match task {
-        Task::Read(border) => read_answer(border, found),
-        Task::Check(border) => check_answer(border, found),
-        Task::Normal(border) => normal_answer(border, found),
+        Task::Read(border) => answer_read(border, found, answer),
+        Task::Check(border) => answer_check(border, found, answer),
+        Task::Normal(border) => answer_normal(border, found, answer),
         Task::Write | Task::Table => unreachable!(),
     }
 }
 
 /// What is written for a message line.
-pub(crate) fn answer_to_line(line: &Result<Message, LineFault>) -> Answer
-    ensures { IsWriteAnswer line.now result }
+pub(crate) fn answer_line(line: &Result<Message, LineFault>, answer: &mut Answer)
+    ensures { IsWriteAnswer line.now answer.new }
 {
     match line {
         Ok(message) => match write(message) {
-            Ok(grid) => Answer::grid(&grid),
-            Err(_) => Answer::blank_refusal(too_long_refusal()),
+            Ok(grid) => answer.be_grid(&grid),
+            Err(_) => answer.be_blank_refusal(too_long_refusal().as_slice()),
         },
-        Err(fault) => Answer::blank_refusal(line_refusal(*fault)),
+        Err(fault) => answer.be_blank_refusal(line_refusal(*fault).as_slice()),
     }
 }
 
 /// The message of a record's grid.
-fn read_answer(border: Option<u16>, found: &Result<Grid, RecordFault>) -> Answer
-    ensures { IsReadAnswer border found.now result }
+fn answer_read(border: Option<u16>, found: &Result<Grid, RecordFault>, answer: &mut Answer)
+    ensures { IsReadAnswer border found.now answer.new }
 {
-    let grid = match found {
-        Ok(grid) => grid,
-        Err(fault) => return Answer::refusal(record_refusal(*fault)),
-    };
-    match read(grid, limit_for(border, grid)) {
-        Ok(reading) => Answer::line(printed_message(&reading.message)),
-        Err(fault) => Answer::refusal(read_refusal(fault)),
+    match found {
+        Ok(grid) => match read(grid, limit_for(border, grid)) {
+            Ok(reading) => answer.be_line(message_text(&reading.message).as_slice()),
+            Err(fault) => answer.be_refusal(read_refusal(fault).as_slice()),
+        },
+        Err(fault) => answer.be_refusal(record_refusal(*fault).as_slice()),
     }
 }
 
 /// How damaged a record's grid is.
-fn check_answer(border: Option<u16>, found: &Result<Grid, RecordFault>) -> Answer
-    ensures { IsCheckAnswer border found.now result }
+fn answer_check(border: Option<u16>, found: &Result<Grid, RecordFault>, answer: &mut Answer)
+    ensures { IsCheckAnswer border found.now answer.new }
 {
-    let grid = match found {
-        Ok(grid) => grid,
-        Err(fault) => return Answer::refusal(record_refusal(*fault)),
-    };
-    match read(grid, limit_for(border, grid)) {
-        Ok(reading) => Answer::line(check_text(grid.size().side(), &reading)),
-        Err(fault) => Answer::refusal(read_refusal(fault)),
+    match found {
+        Ok(grid) => match read(grid, limit_for(border, grid)) {
+            Ok(reading) => answer.be_line(check_text(grid.size().side(), &reading).as_slice()),
+            Err(fault) => answer.be_refusal(read_refusal(fault).as_slice()),
+        },
+        Err(fault) => answer.be_refusal(record_refusal(*fault).as_slice()),
     }
 }
 
 /// The normal grid of what a record's grid says.
-fn normal_answer(border: Option<u16>, found: &Result<Grid, RecordFault>) -> Answer
-    ensures { IsNormalAnswer border found.now result }
+fn answer_normal(border: Option<u16>, found: &Result<Grid, RecordFault>, answer: &mut Answer)
+    ensures { IsNormalAnswer border found.now answer.new }
 {
-    let grid = match found {
-        Ok(grid) => grid,
-        Err(fault) => return Answer::blank_refusal(record_refusal(*fault)),
-    };
-    match normal(grid, limit_for(border, grid)) {
-        Ok(normal) => Answer::grid(&normal),
-        Err(fault) => Answer::blank_refusal(normal_refusal(fault)),
+    match found {
+        Ok(grid) => match normal(grid, limit_for(border, grid)) {
+            Ok(normal) => answer.be_grid(&normal),
+            Err(fault) => answer.be_blank_refusal(normal_refusal(fault).as_slice()),
+        },
+        Err(fault) => answer.be_blank_refusal(record_refusal(*fault).as_slice()),
     }
 }
 
@@ -166,12 +178,14 @@ fn limit_for(border: Option<u16>, grid: &Grid) -> u16
     }
 }
 
+/// More bytes than a line of counts has.
+const MOST_COUNTS: usize = 160;
+
 /// How damaged a grid of this side is.
-fn check_text(side: u16, reading: &Reading) -> AnswerText
-    ensures text { result.items ≡ check_text side reading.now }
-    ensures room { length result.items ≤ 100 }
+fn check_text(side: u16, reading: &Reading) -> ArrayVec<u8, MOST_COUNTS>
+    ensures { result.items ≡ check_text side reading.now }
 {
-    let mut text = AnswerText::new();
+    let mut text = ArrayVec::new();
     push_all(&mut text, b"ok ");
     push_decimal(&mut text, u64::from(side));
     push_all(&mut text, b" border ");
@@ -181,18 +195,8 @@ fn check_text(side: u16, reading: &Reading) -> AnswerText
     text
 }
 
-/// The text of a message, as an answer's.
-fn printed_message(message: &Message) -> AnswerText
-    ensures text { result.items ≡ text_of message.now }
-    ensures room { length result.items ≤ MOST_TEXT }
-{
-    let mut text = AnswerText::new();
-    push_all(&mut text, message_text(message).as_slice());
-    text
-}
-
 /// Few numbers, each in more bits.
-fn widened(counts: &ArrayVec<u8, 2>) -> ArrayVec<u16, 2>
+fn widened(counts: &ArrayVec<u8, MOST_BLOCKS>) -> ArrayVec<u16, MOST_BLOCKS>
     ensures { result.items ≡ counts.now.items }
 {
     let mut wide = ArrayVec::new();

@@ -1,8 +1,9 @@
 //! Records and message lines, answered as their text comes.
 ghost use Rattle.std.specs.Prelude.{◌≡◌, ◌∷◌, ◌<◌, ◌≤◌, [], length, take, IfNone, IfSome};
+ghost use Rattle.std.specs.Bool.{OnTrue, OnFalse};
 ghost use Rattle.dm_tool.specs.Standings.{Ends, Goes, Stands, StandsAnywhere};
 
-use crate::answer::{Answer, answer_to_line, answer_to_record};
+use crate::answer::{Answer, answer_line, answer_record};
 use crate::grid_feed::{Fed, GridFeed};
 use crate::line_feed::{LineFed, LineFeed};
 use crate::task::Task;
@@ -32,52 +33,61 @@ impl Answering {
         }
     }
 
-    /// Takes bytes up to and with the first one that closes a record or a line: how many, and the answer to what they close. None
-    /// where the piece closes nothing, and all of it is taken.
-    pub(crate) fn feed(&mut self, piece: &[u8]) -> Option<(usize, Answer)>
+    /// Takes bytes up to and with the first one that closes a record or a line: how many, with the answer to what they close in
+    /// `answer`. None where the piece closes nothing, and all of it is taken. An answer has room for the largest grid, so there is
+    /// one place for all of them.
+    pub(crate) fn feed(&mut self, piece: &[u8], answer: &mut Answer) -> Option<usize>
         requires { StandsAnywhere self.old }
         ensures open { IfNone result (Goes self.old piece.now [] self.new) }
-        ensures some { IfSome result (λ closed. 0 < closed.0) }
-        ensures within { IfSome result (λ closed. closed.0 ≤ length piece.now) }
-        ensures closed { IfSome result (λ closed. Goes self.old (take closed.0 piece.now) (closed.1 ∷ []) self.new) }
+        ensures some { IfSome result (λ taken. 0 < taken) }
+        ensures within { IfSome result (λ taken. taken ≤ length piece.now) }
+        ensures closed { IfSome result (λ taken. Goes self.old (take taken piece.now) (answer.new ∷ []) self.new) }
     {
         match self {
             Answering::Records(task, feed) => {
                 let Fed { taken, closed } = feed.feed(piece);
                 match closed {
                     None => None,
-                    Some(record) => Some((taken, answer_to_record(*task, &record))),
+                    Some(record) => {
+                        answer_record(*task, &record, answer);
+                        Some(taken)
+                    }
                 }
             }
             Answering::Lines(feed) => {
                 let LineFed { taken, closed } = feed.feed(piece);
                 match closed {
                     None => None,
-                    Some(line) => Some((taken, answer_to_line(&line))),
+                    Some(line) => {
+                        answer_line(&line, answer);
+                        Some(taken)
+                    }
                 }
             }
         }
     }
 
-    /// Answers what the end of the text closes.
-    pub(crate) fn finish(&mut self) -> Option<Answer>
+    /// Whether the end of the text closes a record or a line; the answer to it is then in `answer`.
+    pub(crate) fn finish(&mut self, answer: &mut Answer) -> bool
         requires { StandsAnywhere self.old }
-        ensures none { IfNone result (Ends self.old []) }
-        ensures last { IfSome result (λ answer. Ends self.old (answer ∷ [])) }
+        ensures none { OnFalse result (Ends self.old []) }
+        ensures last { OnTrue result (Ends self.old (answer.new ∷ [])) }
     {
         match self {
-            Answering::Records(task, feed) => {
-                match feed.finish() {
-                    None => None,
-                    Some(record) => Some(answer_to_record(*task, &record)),
+            Answering::Records(task, feed) => match feed.finish() {
+                None => false,
+                Some(record) => {
+                    answer_record(*task, &record, answer);
+                    true
                 }
-            }
-            Answering::Lines(feed) => {
-                match feed.finish() {
-                    None => None,
-                    Some(line) => Some(answer_to_line(&line)),
+            },
+            Answering::Lines(feed) => match feed.finish() {
+                None => false,
+                Some(line) => {
+                    answer_line(&line, answer);
+                    true
                 }
-            }
+            },
         }
     }
 }

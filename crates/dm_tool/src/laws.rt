@@ -52,8 +52,8 @@ pub fn one_text_is_written()
     ensures done { (task : Task) (text a b : List ℕ) → IsDone task text a → IsDone task text b → a ≡ b }
 {}
 
-/// Something is written for each text as a whole, and for each that may go on: with what [`one_text_is_written`] says, exactly one thing.
-/// For the table the text counts as empty.
+/// Something is written for each text as a whole, and there is a tally of it; so it is for each text that may
+/// go on. With what [`one_text_is_written`] says, it is exactly one thing. For the table the text counts as empty.
 pub fn each_text_is_written()
     ensures out { (task : Task) (text : List ℕ) → (task ≡ Table → text ≡ []) → (out : List ℕ) × (tally : Tally) × IsOut task text out tally }
     ensures done { (task : Task) (text : List ℕ) → (task ≡ Table → text ≡ []) → (done : List ℕ) × IsDone task text done }

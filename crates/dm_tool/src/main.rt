@@ -10,7 +10,6 @@
 
 mod answer;
 mod answering;
-mod cell_text;
 mod command_line;
 mod device;
 mod ending;
@@ -22,6 +21,7 @@ mod open_line;
 mod printed;
 mod record;
 mod refusal;
+mod rows;
 mod running;
 mod sink;
 mod source;

@@ -13,16 +13,16 @@ pub(crate) const MOST_ANSWER: usize = LARGEST_SIDE * (LARGEST_SIDE + 1) + 1;
 pub(crate) type AnswerText = ArrayVec<u8, MOST_ANSWER>;
 
 /// Appends bytes.
-pub(crate) fn push_all(text: &mut AnswerText, bytes: &[u8])
-    requires { length text.old.items + length bytes.now ≤ MOST_ANSWER }
+pub(crate) fn push_all<const N: usize>(text: &mut ArrayVec<u8, N>, bytes: &[u8])
+    requires { length text.old.items + length bytes.now ≤ N }
     ensures { text.new.items ≡ text.old.items ++ bytes.now }
 {
     let _room = text.try_extend_from_slice(bytes);
 }
 
 /// Appends a number in decimal digits.
-pub(crate) fn push_decimal(text: &mut AnswerText, number: u64)
-    requires { length text.old.items + 20 ≤ MOST_ANSWER }
+pub(crate) fn push_decimal<const N: usize>(text: &mut ArrayVec<u8, N>, number: u64)
+    requires { length text.old.items + 20 ≤ N }
     ensures text { text.new.items ≡ text.old.items ++ decimal number }
     ensures length { length text.new.items ≤ length text.old.items + 20 }
 {
@@ -33,8 +33,8 @@ pub(crate) fn push_decimal(text: &mut AnswerText, number: u64)
 }
 
 /// Appends numbers in decimal digits, with single spaces between.
-pub(crate) fn push_spaced(text: &mut AnswerText, numbers: &[u16])
-    requires room { length text.old.items + 64 ≤ MOST_ANSWER }
+pub(crate) fn push_spaced<const N: usize>(text: &mut ArrayVec<u8, N>, numbers: &[u16])
+    requires room { length text.old.items + 64 ≤ N }
     requires few { length numbers.now ≤ 8 }
     ensures text { text.new.items ≡ text.old.items ++ spaced numbers.now }
     ensures length { length text.new.items ≤ length text.old.items + 6 * length numbers.now }
@@ -47,17 +47,15 @@ pub(crate) fn push_spaced(text: &mut AnswerText, numbers: &[u16])
     }
 }
 
-/// The rows of a grid, each followed by LF.
-pub(crate) fn grid_text(grid: &Grid) -> AnswerText
-    ensures text { result.items ≡ grid_text grid.now.rows }
-    ensures room { length result.items < MOST_ANSWER }
+/// Appends the rows of a grid, each followed by LF, to no text.
+pub(crate) fn push_grid(text: &mut AnswerText, grid: &Grid)
+    requires { text.old.items ≡ [] }
+    ensures text { text.new.items ≡ grid_text grid.now.rows }
+    ensures room { length text.new.items < MOST_ANSWER }
 {
-    let side = grid.size().side();
-    let mut text = AnswerText::new();
-    for row in 0..side {
-        push_row(&mut text, grid, row);
+    for row in 0..grid.size().side() {
+        push_row(text, grid, row);
     }
-    text
 }
 
 /// Appends a row of a grid and LF.

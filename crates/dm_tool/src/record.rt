@@ -6,7 +6,7 @@ ghost use Rattle.dm_tool.specs.RecordFacts.{AreRecordFacts, facts_of_record};
 ghost use Rattle.dm_tool.specs.Texts.{last_line};
 ghost use Rattle.dm_tool.specs.OpenRecords.{EndsAt};
 
-use crate::cell_text::CellText;
+use crate::rows::Rows;
 use crate::text::LF;
 use dm_symbol::Grid;
 use std::marker::Model;
@@ -29,7 +29,7 @@ pub enum RecordFault {
 enum Contents {
     Foreign,
     Large,
-    Cells(CellText),
+    Cells(Rows),
 }
 
 /// A record whose end has not come, or none.
@@ -58,7 +58,7 @@ impl OpenRecord {
     {
         OpenRecord {
             ended: false,
-            contents: Contents::Cells(CellText::new()),
+            contents: Contents::Cells(Rows::new()),
         }
     }
 

@@ -4,14 +4,17 @@ ghost use Rattle.std.specs.Fmt.{decimal};
 ghost use Rattle.dm_tool.specs.Refusals.{line_refusal, normal_refusal, read_refusal, record_refusal, too_long_refusal, word_refusal};
 
 use crate::message_line::LineFault;
-use crate::printed::{AnswerText, push_all, push_decimal};
+use crate::printed::{push_all, push_decimal};
 use crate::record::RecordFault;
+use arrayvec::ArrayVec;
 use dm_symbol::{NormalFault, ReadFault, WordFault};
 
+/// The text of a refusal, without an LF.
+pub(crate) type RefusalText = ArrayVec<u8, 80>;
+
 /// The refusal of a record.
-pub(crate) fn record_refusal(fault: RecordFault) -> AnswerText
-    ensures text { result.items ≡ record_refusal fault }
-    ensures room { length result.items ≤ 80 }
+pub(crate) fn record_refusal(fault: RecordFault) -> RefusalText
+    ensures { result.items ≡ record_refusal fault }
 {
     match fault {
         RecordFault::Character => text_of(b"\\no 1 character"),
@@ -22,9 +25,8 @@ pub(crate) fn record_refusal(fault: RecordFault) -> AnswerText
 }
 
 /// The refusal of a grid that is not read.
-pub(crate) fn read_refusal(fault: ReadFault) -> AnswerText
-    ensures text { result.items ≡ read_refusal fault }
-    ensures room { length result.items ≤ 80 }
+pub(crate) fn read_refusal(fault: ReadFault) -> RefusalText
+    ensures { result.items ≡ read_refusal fault }
 {
     match fault {
         ReadFault::Border(count) => numbered(b"\\no 5 border ", u64::from(count)),
@@ -34,9 +36,8 @@ pub(crate) fn read_refusal(fault: ReadFault) -> AnswerText
 }
 
 /// The refusal of data codewords that spell no message.
-fn word_refusal(fault: WordFault) -> AnswerText
-    ensures text { result.items ≡ word_refusal fault }
-    ensures room { length result.items ≤ 80 }
+fn word_refusal(fault: WordFault) -> RefusalText
+    ensures { result.items ≡ word_refusal fault }
 {
     match fault {
         WordFault::Reserved(place) => numbered(b"\\no 7 reserved ", u64::from(place)),
@@ -55,9 +56,8 @@ fn word_refusal(fault: WordFault) -> AnswerText
 }
 
 /// The refusal of a grid that has no normal grid.
-pub(crate) fn normal_refusal(fault: NormalFault) -> AnswerText
-    ensures text { result.items ≡ normal_refusal fault }
-    ensures room { length result.items ≤ 80 }
+pub(crate) fn normal_refusal(fault: NormalFault) -> RefusalText
+    ensures { result.items ≡ normal_refusal fault }
 {
     match fault {
         NormalFault::Read(why) => read_refusal(why),
@@ -66,17 +66,15 @@ pub(crate) fn normal_refusal(fault: NormalFault) -> AnswerText
 }
 
 /// The refusal of a message that fits no size.
-pub(crate) fn too_long_refusal() -> AnswerText
-    ensures text { result.items ≡ too_long_refusal }
-    ensures room { length result.items ≤ 80 }
+pub(crate) fn too_long_refusal() -> RefusalText
+    ensures { result.items ≡ too_long_refusal }
 {
     text_of(b"\\no 14 too-long")
 }
 
 /// The refusal of a line that is no message.
-pub(crate) fn line_refusal(fault: LineFault) -> AnswerText
-    ensures text { result.items ≡ line_refusal fault }
-    ensures room { length result.items ≤ 80 }
+pub(crate) fn line_refusal(fault: LineFault) -> RefusalText
+    ensures { result.items ≡ line_refusal fault }
 {
     match fault {
         LineFault::TooLong => too_long_refusal(),
@@ -85,18 +83,18 @@ pub(crate) fn line_refusal(fault: LineFault) -> AnswerText
 }
 
 /// Few words.
-fn text_of(words: &[u8]) -> AnswerText
+fn text_of(words: &[u8]) -> RefusalText
     requires { length words.now ≤ 30 }
     ensures text { result.items ≡ words.now }
     ensures room { length result.items ≤ 30 }
 {
-    let mut text = AnswerText::new();
+    let mut text = RefusalText::new();
     push_all(&mut text, words);
     text
 }
 
 /// Few words, and a number in decimal digits.
-fn numbered(words: &[u8], number: u64) -> AnswerText
+fn numbered(words: &[u8], number: u64) -> RefusalText
     requires { length words.now ≤ 30 }
     ensures text { result.items ≡ words.now ++ decimal number }
     ensures room { length result.items ≤ 50 }

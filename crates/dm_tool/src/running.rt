@@ -51,10 +51,11 @@ pub fn run<I: Source, O: Sink>(
     let mut tally = NO_ANSWER;
     let mut left = most;
     let mut place = [0u8; PIECE];
+    let mut answer = Answer::none();
     'pieces: loop {
         let count = match next_piece(source, &mut place, left) {
             Ok(0) => {
-                return match end(&mut answering, sink, &mut tally) {
+                return match end(&mut answering, sink, &mut tally, &mut answer) {
                     Ok(()) => Ok(tally),
                     Err(Failed) => Err(RunFault::Write),
                 };
@@ -66,7 +67,8 @@ pub fn run<I: Source, O: Sink>(
             return Err(RunFault::TooMuchInput);
         }
         left -= count as u64;
-        if let Err(Failed) = answer_piece(&mut answering, sink, &mut tally, &place[..count]) {
+        let piece = &place[..count];
+        if let Err(Failed) = answer_piece(&mut answering, sink, &mut tally, piece, &mut answer) {
             return Err(RunFault::Write);
         }
     }
@@ -133,12 +135,13 @@ fn next_piece<I: Source>(
     source.read(&mut place[..most])
 }
 
-/// Takes a piece of the text, and writes the answers to what it closes.
+/// Takes a piece of the text, and writes the answers to what it closes, each from `answer`, its place.
 fn answer_piece<O: Sink>(
     answering: &mut Answering,
     sink: &mut O,
     tally: &mut Tally,
     piece: &[u8],
+    answer: &mut Answer,
 ) -> Result<(), Failed>
     requires stands { StandsAnywhere answering.old }
     requires room { tally.old.answered + tally.old.refused + length piece.now < 2 ^ 64 }
@@ -151,10 +154,10 @@ fn answer_piece<O: Sink>(
 {
     let mut rest = piece;
     loop {
-        match answering.feed(rest) {
+        match answering.feed(rest, answer) {
             None => return Ok(()),
-            Some((taken, answer)) => {
-                if let Err(Failed) = put_answer(sink, tally, &answer) {
+            Some(taken) => {
+                if let Err(Failed) = put_answer(sink, tally, answer) {
                     return Err(Failed);
                 }
                 rest = &rest[taken..];
@@ -164,7 +167,12 @@ fn answer_piece<O: Sink>(
 }
 
 /// Writes the answer to what the end of the text closes, and flushes.
-fn end<O: Sink>(answering: &mut Answering, sink: &mut O, tally: &mut Tally) -> Result<(), Failed>
+fn end<O: Sink>(
+    answering: &mut Answering,
+    sink: &mut O,
+    tally: &mut Tally,
+    answer: &mut Answer,
+) -> Result<(), Failed>
     requires stands { StandsAnywhere answering.old }
     requires room { tally.old.answered + tally.old.refused + 1 < 2 ^ 64 }
     ensures ok { OnOk result ((last : List AnAnswer) × Ends answering.old last
@@ -175,7 +183,7 @@ fn end<O: Sink>(answering: &mut Answering, sink: &mut O, tally: &mut Tally) -> R
         × AppendsFront (O.contents sink.old) (O.contents sink.new) (written last)) }
     ensures count { Counts (O.failed sink.old) (O.failed sink.new) result }
 {
-    match put_last(answering, sink, tally) {
+    match put_last(answering, sink, tally, answer) {
         Ok(()) => sink.flush(),
         Err(Failed) => Err(Failed),
     }
@@ -186,6 +194,7 @@ fn put_last<O: Sink>(
     answering: &mut Answering,
     sink: &mut O,
     tally: &mut Tally,
+    answer: &mut Answer,
 ) -> Result<(), Failed>
     requires stands { StandsAnywhere answering.old }
     requires room { tally.old.answered + tally.old.refused + 1 < 2 ^ 64 }
@@ -196,9 +205,10 @@ fn put_last<O: Sink>(
         × AppendsFront (O.contents sink.old) (O.contents sink.new) (written last)) }
     ensures count { Counts (O.failed sink.old) (O.failed sink.new) result }
 {
-    match answering.finish() {
-        None => Ok(()),
-        Some(answer) => put_answer(sink, tally, &answer),
+    if answering.finish(answer) {
+        put_answer(sink, tally, answer)
+    } else {
+        Ok(())
     }
 }
 

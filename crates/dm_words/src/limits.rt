@@ -1,7 +1,7 @@
 //! How much a symbol holds. A larger table of sizes changes the first line.
 
 /// The most data codewords of a symbol.
-pub const MOST_DATA: usize = 204;
+pub const MOST_DATA: usize = 816;
 
 /// The most items of a message: two for each data codeword.
 pub const MOST_ITEMS: usize = 2 * MOST_DATA;

@@ -232,34 +232,78 @@ fn fills_a_message(rt: HostRuntime) {
         assert!(rt; false);
         return;
     };
-    assert_eq!(rt; words.as_slice(), [207; 204].as_slice());
+    assert_eq!(rt; words.as_slice(), [207; 816].as_slice());
     assert!(rt; message_of(words.as_slice()) == Ok(digits));
+}
 
-    let mut letters = Message::new();
-    for _ in 0..205 {
-        assert!(rt; letters.push(Item::Byte(b'A')).is_ok());
+#[test]
+fn letters_take_a_codeword_each(rt: HostRuntime) {
+    for count in [204, 205, 816, 817] {
+        let mut letters = Message::new();
+        for _ in 0..count {
+            assert!(rt; letters.push(Item::Byte(b'A')).is_ok());
+        }
+        match ascii_words(&letters) {
+            Ok(words) => {
+                assert!(rt; count <= 816);
+                assert_eq!(rt; words.len(), count);
+                assert!(rt; words.as_slice().iter().all(|word| *word == 66));
+            }
+            Err(TooLong) => assert_eq!(rt; count, 817),
+        }
     }
-    assert!(rt; ascii_words(&letters) == Err(TooLong));
 }
 
 /// The codeword of a Base 256 value at a place.
-fn randomised(value: u8, place: u32) -> u8
-    requires { place ≤ 204 }
-{
-    ((value as u32 + (149 * place) % 255 + 1) % 256) as u8
+fn randomised(value: u8, place: u16) -> u8 {
+    ((value as u32 + (149 * place as u32) % 255 + 1) % 256) as u8
 }
 
 #[test]
 fn fills_a_segment(rt: HostRuntime) {
     let mut words = [231u8; 204];
     words[1] = randomised(202, 2);
-    for place in 3..205u32 {
+    for place in 3..205u16 {
         words[place as usize - 1] = randomised(255, place);
     }
     assert!(rt; spells_bytes(&words, &[255; 202]));
-    let Ok(message) = message_of(&words) else {
-        assert!(rt; false);
-        return;
-    };
-    assert!(rt; ascii_words(&message) == Err(TooLong));
+}
+
+/// A segment whose length takes two codewords, with pads behind it.
+#[test]
+fn a_length_of_two_codewords(rt: HostRuntime) {
+    let mut list = [231u8; 253];
+    list[1] = 38;
+    list[2] = 193;
+    for place in 4..254u16 {
+        list[place as usize - 1] = randomised(0, place);
+    }
+    assert_eq!(rt; list[3], 87);
+    let size = Size::of_side(64).expect(&rt, "side 64");
+    assert_eq!(rt; size.data_count(), 280);
+    let words = padded(&list, size);
+    assert_eq!(rt; words.as_slice()[253], 129);
+    assert!(rt; spells_bytes(&words, &[0; 250]));
+    list[2] = 187;
+    let words = padded(&list, size);
+    assert!(rt; is_refused(&words, WordFault::Length(1)));
+}
+
+/// The largest symbol as one segment, and lengths that pass its end.
+#[test]
+fn the_longest_segment(rt: HostRuntime) {
+    let mut bytes = [0u8; 813];
+    let mut words = [231u8; 816];
+    for place in 4..817u16 {
+        bytes[place as usize - 4] = (place % 256) as u8;
+        words[place as usize - 1] = randomised((place % 256) as u8, place);
+    }
+    words[1] = 40;
+    words[2] = 0;
+    assert!(rt; spells_bytes(&words, &bytes));
+    words[2] = 1;
+    assert!(rt; is_refused(&words, WordFault::Length(1)));
+    words[1] = 41;
+    words[2] = 193;
+    assert!(rt; is_refused(&words, WordFault::Length(1)));
 }

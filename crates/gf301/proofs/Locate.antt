@@ -101,7 +101,7 @@ zeros_cons zero e h z = z
 zeros_cons (suc a) e h z = absurd (omega arith)
 
 -- A list of zeros has a head of 0 and a tail of zeros.
-zeros_parts : (a : ℕ) (e : List ℕ) → nonzeros (a ∷ e) ≡ 0 → (a ≡ 0) × (nonzeros e ≡ 0)
+pub zeros_parts : (a : ℕ) (e : List ℕ) → nonzeros (a ∷ e) ≡ 0 → (a ≡ 0) × (nonzeros e ≡ 0)
 unfolding nonzeros
 zeros_parts zero e h = (refl, h)
 zeros_parts (suc a) e h = absurd (omega arith)

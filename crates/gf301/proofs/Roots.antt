@@ -26,7 +26,7 @@ positive_step zero m h = absurd (omega arith)
 positive_step (suc v) m h = refl
 
 -- What is 0 is a root.
-zero_step : (v m : ℕ) → v ≡ 0 → roots_step v m ≡ suc m
+pub zero_step : (v m : ℕ) → v ≡ 0 → roots_step v m ≡ suc m
 unfolding roots_step
 zero_step zero m h = refl
 zero_step (suc v) m h = absurd (omega arith)
@@ -63,7 +63,7 @@ kept_roots r b a p (suc n) j y e h l z =
     (kept_roots r b a p n j y e (omega arith) l z)
 
 -- The quotient by its head.
-quotient_more : (r b a : ℕ) (p : List ℕ) → quotient r b (a ∷ p) ≡ b ∷ quotient r (a ⊕ r ⊗ b) p
+pub quotient_more : (r b a : ℕ) (p : List ℕ) → quotient r b (a ∷ p) ≡ b ∷ quotient r (a ⊕ r ⊗ b) p
 unfolding quotient
 quotient_more r b a p = refl
 

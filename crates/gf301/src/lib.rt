@@ -18,7 +18,7 @@ pub use field::Gf;
 pub use generators::generator;
 pub use lanes::{lanes_mul, powers};
 pub use meter::Meter;
-pub use polynomial::{Poly, times, value_at};
+pub use polynomial::{Poly, product_at, times, value_at};
 
 #[cfg(test)]
 mod tests;

@@ -35,8 +35,9 @@ pub fn times(p: &[u8], q: &[u8]) -> Poly
     product
 }
 
-/// The coefficient of the product at a place: the sum of the products of the coefficients whose places add up to it.
-fn product_at(p: &[u8], q: &[u8], place: usize) -> Gf
+/// A coefficient of the product of two lists: at this place, counted from 0, the sum of the products of the coefficients whose
+/// places add up to it.
+pub fn product_at(p: &[u8], q: &[u8], place: usize) -> Gf
     ensures { result.0 ≡ convolution (coefficient p.now) (coefficient q.now) place }
 {
     let mut sum = Gf(0);

@@ -1,3 +1,5 @@
+//! Tests of the field, of its operations in lanes and counted, and of generators.
+
 use super::{Gf, Meter, generator, lanes_mul, powers, times, value_at};
 use std::simd::prelude::*;
 

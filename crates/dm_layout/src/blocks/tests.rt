@@ -1,5 +1,7 @@
+//! Tests of blocks.
+
 use super::*;
-use crate::size::Size;
+use crate::size::{MOST_CODEWORDS, Size};
 
 #[test]
 fn two_blocks_take_turns(rt: HostRuntime) {
@@ -30,4 +32,24 @@ fn a_block_is_put_beside_the_other(rt: HostRuntime) {
     put_block(&mut words, 1, &[9; 144]);
     assert_eq!(rt; block(&words, 0).as_slice(), [7; 144].as_slice());
     assert_eq!(rt; block(&words, 1).as_slice(), [9; 144].as_slice());
+}
+
+#[test]
+fn six_blocks_take_turns(rt: HostRuntime) {
+    let mut list = [0; MOST_CODEWORDS];
+    for (place, word) in list.iter_mut().enumerate() {
+        *word = (place % 251) as u8;
+    }
+    let size = Size::of_side(104).expect(&rt, "side 104");
+    assert_eq!(rt; size.data_count() + size.check_count(), 1152);
+    assert_eq!(rt; size.blocks(), 6);
+    let words = Words::new(size, &list);
+    assert_eq!(rt; words.data_part().len(), 816);
+    for b in 0..6usize {
+        let dealt = block(&words, b);
+        assert_eq!(rt; dealt.len(), 192);
+        for (step, word) in dealt.as_slice().iter().enumerate() {
+            assert_eq!(rt; *word as usize, (6 * step + b) % 251);
+        }
+    }
 }

@@ -1,3 +1,5 @@
+//! Tests of borders.
+
 use super::*;
 
 /// A grid of one colour.

@@ -1,3 +1,5 @@
+//! Tests of grids.
+
 use super::*;
 
 #[test]

@@ -1,7 +1,9 @@
+//! Tests of sizes.
+
 use super::*;
 
 /// Side, regions, region side, mapping side, data, check, blocks, limit, as the standard's table has them.
-const ROWS: [[u16; 8]; 15] = [
+const ROWS: [[u16; 8]; 21] = [
     [10, 1, 8, 8, 3, 5, 1, 2],
     [12, 1, 10, 10, 5, 7, 1, 3],
     [14, 1, 12, 12, 8, 10, 1, 5],
@@ -17,6 +19,12 @@ const ROWS: [[u16; 8]; 15] = [
     [44, 4, 20, 40, 144, 56, 1, 28],
     [48, 4, 22, 44, 174, 68, 1, 34],
     [52, 4, 24, 48, 204, 84, 2, 21],
+    [64, 16, 14, 56, 280, 112, 2, 28],
+    [72, 16, 16, 64, 368, 144, 4, 18],
+    [80, 16, 18, 72, 456, 192, 4, 24],
+    [88, 16, 20, 80, 576, 224, 4, 28],
+    [96, 16, 22, 88, 696, 272, 4, 34],
+    [104, 16, 24, 96, 816, 336, 6, 28],
 ];
 
 #[test]
@@ -48,16 +56,18 @@ fn the_smallest_size_that_holds_the_words(rt: HostRuntime) {
         (174, 48),
         (175, 52),
         (204, 52),
+        (205, 64),
+        (816, 104),
     ] {
         assert_eq!(rt; Size::for_words(count).map(|size| size.side()), Some(side));
     }
-    assert_eq!(rt; Size::for_words(205), None);
+    assert_eq!(rt; Size::for_words(817), None);
     assert_eq!(rt; Size::of_side(11), None);
 }
 
 #[test]
-fn the_largest_size_has_two_blocks(rt: HostRuntime) {
-    let size = Size::of_side(52).expect(&rt, "side 52");
-    assert_eq!(rt; size.block_data(), 102);
-    assert_eq!(rt; size.block_check(), 42);
+fn the_largest_size_has_six_blocks(rt: HostRuntime) {
+    let size = Size::of_side(104).expect(&rt, "side 104");
+    assert_eq!(rt; size.block_data(), 136);
+    assert_eq!(rt; size.block_check(), 56);
 }

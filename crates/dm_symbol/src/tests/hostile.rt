@@ -1,10 +1,14 @@
 //! Damaged symbols and grids that are none.
 
 use super::*;
+use dm_layout::LARGEST_SIDE;
+
+/// The cells of the largest symbol.
+const MOST_CELLS: usize = LARGEST_SIDE * LARGEST_SIDE;
 
 /// A grid of this side whose cells are all dark or all light.
 fn plain(rt: &impl Abort, side: u16, dark: bool) -> Grid {
-    let mut cells: ArrayVec<bool, 2704> = ArrayVec::new();
+    let mut cells: ArrayVec<bool, MOST_CELLS> = ArrayVec::new();
     for _ in 0..u32::from(side) * u32::from(side) {
         assert!(rt; cells.try_push(dark).is_ok());
     }
@@ -17,7 +21,7 @@ fn plain(rt: &impl Abort, side: u16, dark: bool) -> Grid {
 /// The grid with a right border and all other cells light.
 fn empty(rt: &impl Abort, size: Size) -> Grid {
     let square = size.region_side() + 2;
-    let mut cells: ArrayVec<bool, 2704> = ArrayVec::new();
+    let mut cells: ArrayVec<bool, MOST_CELLS> = ArrayVec::new();
     for row in 0..size.side() {
         for column in 0..size.side() {
             let (r, c) = (row % square, column % square);
@@ -92,6 +96,8 @@ fn refuses_plain_grids(rt: HostRuntime) {
         (10, true, 9),
         (52, false, 300),
         (52, true, 100),
+        (104, false, 1200),
+        (104, true, 400),
     ] {
         assert_eq!(rt;
             read(&plain(&rt, side, dark), usual_limit(side)),

@@ -1,5 +1,5 @@
-//! Marks that other encoders printed, one of each size up to side 52 from each encoder and encodation. The grids were read as
-//! the same messages by an independent decoder.
+//! Marks that other encoders printed: one of each size up to side 52 from each encoder and encodation, and one of each larger
+//! size. The grids were read as the same messages by an independent decoder.
 
 mod iec16022;
 mod libdmtx_ascii;
@@ -7,6 +7,8 @@ mod libdmtx_base256;
 mod libdmtx_c40;
 mod libdmtx_text;
 mod libdmtx_x12;
+mod sides_64_to_80;
+mod sides_88_to_104;
 mod zint;
 
 use super::memory::Taken;
@@ -20,15 +22,15 @@ pub struct Mark {
     /// The text of its message, or the refusal.
     line: &'static [u8],
     /// Its rows of modules from the top: the leftmost module is the highest of as many bits as there are rows; 1 is dark.
-    rows: &'static [u64],
+    rows: &'static [u128],
 }
 
 /// The modules of a mark, row by row.
-fn modules(rows: &[u64]) -> ArrayVec<bool, 2704> {
+fn modules(rows: &[u128]) -> ArrayVec<bool, 10816> {
     let mut cells = ArrayVec::new();
     for row in rows {
         for column in (0..rows.len()).rev() {
-            if column < 64 && !cells.is_full() {
+            if column < 128 && !cells.is_full() {
                 cells.push((row >> column) % 2 == 1);
             }
         }
@@ -40,7 +42,7 @@ fn modules(rows: &[u64]) -> ArrayVec<bool, 2704> {
 pub(super) fn push_record<const N: usize>(
     rt: &impl Abort,
     text: &mut ArrayVec<u8, N>,
-    rows: &[u64],
+    rows: &[u128],
 ) {
     for row in modules(rows).as_slice().chunks(rows.len().max(1)) {
         for dark in row {
@@ -52,7 +54,7 @@ pub(super) fn push_record<const N: usize>(
 
 /// The marks of an encoder, as one text of records, are read as their lines.
 fn are_read(rt: &impl Abort, marks: &[Mark]) {
-    let mut text = ArrayVec::<u8, 16384>::new();
+    let mut text = ArrayVec::<u8, 28672>::new();
     let mut lines = Taken::new();
     let mut refused = 0u64;
     for mark in marks {
@@ -64,7 +66,7 @@ fn are_read(rt: &impl Abort, marks: &[Mark]) {
             refused = refused.saturating_add(1);
         }
     }
-    let answered = 15u64.saturating_sub(refused);
+    let answered = (marks.len() as u64).saturating_sub(refused);
     let (text, lines) = (text.as_slice(), lines.as_slice());
     writes(rt, Task::Read(None), text, lines, answered, refused);
 }
@@ -81,6 +83,9 @@ fn printed_marks_are_read(rt: HostRuntime) {
         &libdmtx_base256::MARKS,
     ];
     for marks in printed {
+        are_read(&rt, marks);
+    }
+    for marks in [&sides_64_to_80::MARKS, &sides_88_to_104::MARKS] {
         are_read(&rt, marks);
     }
 }

@@ -7,8 +7,8 @@ use crate::sink::Sink;
 use crate::source::Source;
 use arrayvec::ArrayVec;
 
-/// What a sink has taken.
-pub(super) type Taken = ArrayVec<u8, 4096>;
+/// What a sink has taken. The longest answer, the largest grid, has 10,921 bytes.
+pub(super) type Taken = ArrayVec<u8, 12288>;
 
 /// Gives a text in pieces. After a number of reads each further one fails.
 #[derive(Drop)]

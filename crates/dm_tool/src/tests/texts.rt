@@ -37,9 +37,9 @@ fn line_faults_have_their_columns(rt: HostRuntime) {
             Some(LineFault::BadEscape(column))
         );
     }
-    let digits = [b'7'; 409];
+    let digits = [b'7'; 1633];
     assert_eq!(rt; message_from(&digits).err(), Some(LineFault::TooLong));
-    assert!(rt; message_from(&digits[..408]).is_ok());
+    assert!(rt; message_from(&digits[..1632]).is_ok());
 }
 
 #[test]
@@ -142,12 +142,11 @@ fn two_records_come_in_one_piece(rt: HostRuntime) {
 
 #[test]
 fn records_are_refused(rt: HostRuntime) {
+    let zeros = [b'0'; 105];
     let table = [
         (b"10x\n".as_slice(), RecordFault::Character),
-        (
-            b"00000000000000000000000000000000000000000000000000000\n".as_slice(),
-            RecordFault::Large,
-        ),
+        (zeros.as_slice(), RecordFault::Large),
+        (&zeros[..53], RecordFault::NotSquare),
         (b"10\n1\n".as_slice(), RecordFault::NotSquare),
         (
             b"1010\n0101\n1010\n0101\n".as_slice(),

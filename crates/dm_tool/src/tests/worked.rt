@@ -2,7 +2,7 @@
 
 /// Rows of modules of side 10, what is written where the grid is read, and where it is checked. But for the first four, all
 /// codewords are right. The modules come from another program.
-pub(super) static GRIDS: [([u64; 10], &[u8], &[u8]); 17] = [
+pub(super) static GRIDS: [([u128; 10], &[u8], &[u8]); 17] = [
     // Two of the codewords of `123456` are 0.
     (
         [
@@ -142,7 +142,7 @@ pub(super) static GRIDS: [([u64; 10], &[u8], &[u8]); 17] = [
 ];
 
 /// Rows of modules of side 52: a Base 256 segment of 202 bytes of 255, which is all of the data.
-pub(super) static LARGE: [u64; 52] = [
+pub(super) static LARGE: [u128; 52] = [
     0xaaaaaaaaaaaaa,
     0xe15841ef9a62f,
     0xef35e6bc96070,

@@ -5,19 +5,19 @@ use Rattle.dm_tool.proofs.printed.+push_decimal.Goals.{then-number-ge10, else-nu
 use Rattle.dm_tool.proofs.printed.+push_decimal.Goals as goal
 
 pub push-requires : goal.push-requires
-push-requires t c = elim c.if-number-ge10.branch [
+push-requires g t c = elim c.if-number-ge10.branch [
   | then-number-ge10 w ↦ grind (arith, common_steps, length-decimal-le 19 (c.args.number / 10))
   | else-number-ge10 w ↦ grind (arith, common_steps)
 ]
 
 pub returns-clause-text : goal.returns-clause-text
-returns-clause-text t c = elim c.if-number-ge10.branch [
+returns-clause-text g t c = elim c.if-number-ge10.branch [
   | then-number-ge10 w ↦ grind (arith, common_steps, decimal_step c.args.number)
   | else-number-ge10 w ↦ grind (arith, common_steps, decimal_digit c.args.number)
 ]
 
 pub returns-clause-length : goal.returns-clause-length
-returns-clause-length t c = elim c.if-number-ge10.branch [
+returns-clause-length g t c = elim c.if-number-ge10.branch [
   | then-number-ge10 w ↦ grind (arith, common_steps, length-decimal-le 19 (c.args.number / 10))
   | else-number-ge10 w ↦ grind (arith, common_steps)
 ]

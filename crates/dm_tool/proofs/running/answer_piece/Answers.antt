@@ -50,18 +50,18 @@ returns-in-Err-clause-err g c task text given stands =
     let s = c.loop-taken.invariant.so_far in
     let rest = c.loop-taken.rest.now in
     let front = s.0 ++ take c.in-Some.taken rest in
-    let answers = s.1 ++ c.in-Some.answer ∷ [] in
-    let here = goes_then c.args.answering.now c.loop-taken.answering c.feed.new.self s.0 (take c.in-Some.taken rest) s.1 (c.in-Some.answer ∷ []) s.3 c.in-Some.ensures.closed in
+    let answers = s.1 ++ c.feed.new.answer ∷ [] in
+    let here = goes_then c.args.answering.now c.loop-taken.answering c.feed.new.self s.0 (take c.in-Some.taken rest) s.1 (c.feed.new.answer ∷ []) s.3 c.in-Some.ensures.closed in
     let later = goes_on task c.feed.new.self (text ++ front) (drop c.in-Some.taken rest) (given ++ answers) (here task text given stands) in
     let whole = append_assoc text front (drop c.in-Some.taken rest) ∙ ap (λ l. text ++ l) (sym (cut_here c.args.piece.now s.0 rest c.in-Some.taken s.2)) in
     let all = subst (λ l. AreClosedAnswers task l ((given ++ answers) ++ later.0)) whole later.1 in
-    let joined = written_append answers later.0 ∙ ap (λ l. l ++ written later.0) (written_append s.1 (c.in-Some.answer ∷ [])) ∙ append_assoc (written s.1) (written (c.in-Some.answer ∷ [])) (written later.0) in (
+    let joined = written_append answers later.0 ∙ ap (λ l. l ++ written later.0) (written_append s.1 (c.feed.new.answer ∷ [])) ∙ append_assoc (written s.1) (written (c.feed.new.answer ∷ [])) (written later.0) in (
       answers ++ later.0,
       subst (AreClosedAnswers task (text ++ c.args.piece.now)) (append_assoc given answers later.0) all,
       front_then (g.O.Sink.contents c.args.sink.now) (g.O.Sink.contents c.loop-taken.sink) (g.O.Sink.contents c.put_answer.new.sink) (written s.1)
-          (written (c.in-Some.answer ∷ []) ++ written later.0) (written (answers ++ later.0)) s.4
-          (front_of_more (g.O.Sink.contents c.loop-taken.sink) (g.O.Sink.contents c.put_answer.new.sink) (written (c.in-Some.answer ∷ [])) (written later.0)
-          (subst (AppendsFront (g.O.Sink.contents c.loop-taken.sink) (g.O.Sink.contents c.put_answer.new.sink)) (sym (written_one c.in-Some.answer)) c.in-Err.ensures.err)) joined,
+          (written (c.feed.new.answer ∷ []) ++ written later.0) (written (answers ++ later.0)) s.4
+          (front_of_more (g.O.Sink.contents c.loop-taken.sink) (g.O.Sink.contents c.put_answer.new.sink) (written (c.feed.new.answer ∷ [])) (written later.0)
+          (subst (AppendsFront (g.O.Sink.contents c.loop-taken.sink) (g.O.Sink.contents c.put_answer.new.sink)) (sym (written_one c.feed.new.answer)) c.in-Err.ensures.err)) joined,
     )
 
 pub returns-in-Err-clause-count : goal.returns-in-Err-clause-count
@@ -79,13 +79,13 @@ loop-taken-preserved g c =
       sum = omega (arith, c.loop-taken.invariant.sum, c.in_default.ensures.sum, rest_length rest c.in-Some.taken, c.in-Some.ensures.some, c.in-Some.ensures.within);
       so_far = (
         s.0 ++ take c.in-Some.taken rest,
-        s.1 ++ c.in-Some.answer ∷ [],
+        s.1 ++ c.feed.new.answer ∷ [],
         cut_again c.args.piece.now s.0 rest c.in-Some.taken s.2,
-        goes_then c.args.answering.now c.loop-taken.answering c.feed.new.self s.0 (take c.in-Some.taken rest) s.1 (c.in-Some.answer ∷ []) s.3 c.in-Some.ensures.closed,
-        subst (Appends (g.O.Sink.contents c.args.sink.now) (g.O.Sink.contents c.put_answer.new.sink)) (sym (written_append s.1 (c.in-Some.answer ∷ [])))
+        goes_then c.args.answering.now c.loop-taken.answering c.feed.new.self s.0 (take c.in-Some.taken rest) s.1 (c.feed.new.answer ∷ []) s.3 c.in-Some.ensures.closed,
+        subst (Appends (g.O.Sink.contents c.args.sink.now) (g.O.Sink.contents c.put_answer.new.sink)) (sym (written_append s.1 (c.feed.new.answer ∷ [])))
             (appends_then (g.O.Sink.contents c.args.sink.now) (g.O.Sink.contents c.loop-taken.sink) (g.O.Sink.contents c.put_answer.new.sink) (written s.1)
-            (written (c.in-Some.answer ∷ [])) s.4
-            (subst (Appends (g.O.Sink.contents c.loop-taken.sink) (g.O.Sink.contents c.put_answer.new.sink)) (sym (written_one c.in-Some.answer)) c.in_default.ensures.ok)),
-        λ answers counted. c.in_default.ensures.tally (answers ++ s.1) (s.5 answers counted) ∙ ap tally_of (append_assoc answers s.1 (c.in-Some.answer ∷ [])),
+            (written (c.feed.new.answer ∷ [])) s.4
+            (subst (Appends (g.O.Sink.contents c.loop-taken.sink) (g.O.Sink.contents c.put_answer.new.sink)) (sym (written_one c.feed.new.answer)) c.in_default.ensures.ok)),
+        λ answers counted. c.in_default.ensures.tally (answers ++ s.1) (s.5 answers counted) ∙ ap tally_of (append_assoc answers s.1 (c.feed.new.answer ∷ [])),
       );
     }

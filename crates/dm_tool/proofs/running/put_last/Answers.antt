@@ -5,18 +5,18 @@ use Rattle.dm_tool.proofs.KnownBytes.{appends_none}
 use Rattle.dm_tool.proofs.Standings.{one_begun, one_more}
 use Rattle.dm_tool.proofs.running.put_last.Goals as goal
 
-pub returns-in-None-clause-ok : goal.returns-in-None-clause-ok
-returns-in-None-clause-ok g c = (
+pub returns-else-finish-clause-ok : goal.returns-else-finish-clause-ok
+returns-else-finish-clause-ok g c = (
   [],
-  c.in-None.ensures.none,
+  rw c.if-finish.false at c.finish.ensures.none,
   appends_none (g.O.Sink.contents c.args.sink.now),
   λ answers counted. counted ∙ ap tally_of (sym (append-nil answers)),
 )
 
-pub returns-in-Some-clause-ok : goal.returns-in-Some-clause-ok
-returns-in-Some-clause-ok g c = one_more (λ last. Ends c.args.answering.now last) c.put_answer.result c.in-Some.answer (g.O.Sink.contents c.args.sink.now) (g.O.Sink.contents c.put_answer.new.sink)
-    c.args.tally.now c.put_answer.new.tally c.in-Some.ensures.last c.put_answer.ensures.ok c.put_answer.ensures.tally
+pub returns-then-finish-clause-ok : goal.returns-then-finish-clause-ok
+returns-then-finish-clause-ok g c = one_more (λ last. Ends c.args.answering.now last) c.put_answer.result c.finish.new.answer (g.O.Sink.contents c.args.sink.now) (g.O.Sink.contents c.put_answer.new.sink)
+    c.args.tally.now c.put_answer.new.tally (rw c.if-finish.true at c.finish.ensures.last) c.put_answer.ensures.ok c.put_answer.ensures.tally
 
-pub returns-in-Some-clause-err : goal.returns-in-Some-clause-err
-returns-in-Some-clause-err g c = one_begun (λ last. Ends c.args.answering.now last) c.put_answer.result c.in-Some.answer (g.O.Sink.contents c.args.sink.now) (g.O.Sink.contents c.put_answer.new.sink)
-    c.in-Some.ensures.last c.put_answer.ensures.err
+pub returns-then-finish-clause-err : goal.returns-then-finish-clause-err
+returns-then-finish-clause-err g c = one_begun (λ last. Ends c.args.answering.now last) c.put_answer.result c.finish.new.answer (g.O.Sink.contents c.args.sink.now) (g.O.Sink.contents c.put_answer.new.sink)
+    (rw c.if-finish.true at c.finish.ensures.last) c.put_answer.ensures.err

@@ -9,14 +9,14 @@ use crate::task::Task;
 use std::process::Abort;
 
 /// The record of rows of modules.
-fn record_of(rt: &impl Abort, rows: &[u64]) -> Taken {
+fn record_of(rt: &impl Abort, rows: &[u128]) -> Taken {
     let mut text = Taken::new();
     push_record(rt, &mut text, rows);
     text
 }
 
 /// Grids, and what is read from them. All their codewords are right.
-static MORE_GRIDS: [(&[u64], &[u8]); 6] = [
+static MORE_GRIDS: [(&[u128], &[u8]); 6] = [
     // Data codewords 239, 91 and 11.
     (
         &[
@@ -209,11 +209,18 @@ fn grids_are_normalised_in_order(rt: HostRuntime) {
 
 #[test]
 fn records_are_refused_and_the_next_is_read(rt: HostRuntime) {
-    let large = [b'0'; 53];
+    let zeros = [b'0'; 105];
+    let mut square = Taken::new();
+    for _ in 0..53 {
+        push(&rt, &mut square, &zeros[..53]);
+        push(&rt, &mut square, b"\n");
+    }
     let table = [
         (b"10x".as_slice(), b"\\no 1 character\n".as_slice()),
-        (large.as_slice(), b"\\no 2 large\n".as_slice()),
+        (zeros.as_slice(), b"\\no 2 large\n".as_slice()),
+        (&zeros[..53], b"\\no 3 shape\n".as_slice()),
         (b"10\n1".as_slice(), b"\\no 3 shape\n".as_slice()),
+        (square.as_slice(), b"\\no 4 side 53\n".as_slice()),
         (
             b"1010\n0101\n1010\n0101".as_slice(),
             b"\\no 4 side 4\n".as_slice(),
@@ -252,22 +259,19 @@ fn records_are_refused_and_the_next_is_read(rt: HostRuntime) {
     }
 }
 
+/// A symbol whose data codewords are all one segment of Base 256: its message takes twice the codewords in ASCII.
 #[test]
-fn a_message_may_be_read_and_have_no_normal_grid(rt: HostRuntime) {
+fn a_normal_grid_may_be_larger(rt: HostRuntime) {
     let record = record_of(&rt, &LARGE);
     let mut line = Taken::new();
     for _ in 0..202 {
         push(&rt, &mut line, b"\\xFF");
     }
     push(&rt, &mut line, b"\n");
-    writes(
-        &rt,
-        Task::Read(None),
-        record.as_slice(),
-        line.as_slice(),
-        1,
-        0,
-    );
-    let refusal = b"\\no 14 too-long\n\n";
-    writes(&rt, Task::Normal(None), record.as_slice(), refusal, 0, 1);
+    let (grid, text) = (record.as_slice(), line.as_slice());
+    writes(&rt, Task::Read(None), grid, text, 1, 0);
+    let normal = written_for(Task::Write, text);
+    assert_eq!(rt; normal.len(), 80 * 81 + 1);
+    writes(&rt, Task::Normal(None), grid, normal.as_slice(), 1, 0);
+    writes(&rt, Task::Read(None), normal.as_slice(), text, 1, 0);
 }

@@ -43,18 +43,29 @@ fn messages_are_read_back(rt: HostRuntime) {
 
 #[test]
 fn the_largest_messages_are_written(rt: HostRuntime) {
-    let digits = [b'7'; 409];
-    let letters = [b'A'; 205];
-    writes(&rt, Task::Write, &digits, b"\\no 14 too-long\n\n", 0, 1);
-    writes(&rt, Task::Write, &letters, b"\\no 14 too-long\n\n", 0, 1);
-    let written = written_for(Task::Write, &digits[1..]);
-    let grid = written.as_slice();
-    assert_eq!(rt; grid.len(), 2757);
-    let mut line = Taken::new();
-    push(&rt, &mut line, &digits[1..]);
-    push(&rt, &mut line, b"\n");
-    writes(&rt, Task::Read(None), grid, line.as_slice(), 1, 0);
-    let checked = b"ok 52 border 0 corrected 0 0\n";
-    writes(&rt, Task::Check(None), grid, checked, 1, 0);
-    writes(&rt, Task::Normal(None), grid, grid, 1, 0);
+    let digits = [b'7'; 1633];
+    let letters = [b'A'; 817];
+    for line in [digits.as_slice(), letters.as_slice()] {
+        writes(&rt, Task::Write, line, b"\\no 14 too-long\n\n", 0, 1);
+    }
+    let table = [
+        (408, 52, b"ok 52 border 0 corrected 0 0\n".as_slice()),
+        (409, 64, b"ok 64 border 0 corrected 0 0\n".as_slice()),
+        (
+            1632,
+            104,
+            b"ok 104 border 0 corrected 0 0 0 0 0 0\n".as_slice(),
+        ),
+    ];
+    for (count, side, checked) in table {
+        let written = written_for(Task::Write, &digits[..count]);
+        let grid = written.as_slice();
+        assert_eq!(rt; grid.len(), side * (side + 1) + 1);
+        let mut line = Taken::new();
+        push(&rt, &mut line, &digits[..count]);
+        push(&rt, &mut line, b"\n");
+        writes(&rt, Task::Read(None), grid, line.as_slice(), 1, 0);
+        writes(&rt, Task::Check(None), grid, checked, 1, 0);
+        writes(&rt, Task::Normal(None), grid, grid, 1, 0);
+    }
 }

@@ -1,4 +1,4 @@
-use Rattle.std.proofs.Common.{◌≡◌, ◌+◌, ◌-◌, ◌*◌, ◌≤◌, ◌∷◌, [], length, refl, sym, ap, subst, suc, ◌∙◌, arith, inl, inr}
+use Rattle.std.proofs.Common.{◌≡◌, ◌+◌, ◌-◌, ◌*◌, ◌≤◌, [], length, refl, sym, ap, subst, ◌∙◌, arith, inl, inr}
 use Rattle.std.proofs.lemmas.Bool.{cases_lt}
 use Rattle.gf301.specs.Polynomial.{Bytes, coefficient, convolution}
 use Rattle.gf301.specs.declared.meter.Meter.{Meter}
@@ -13,9 +13,7 @@ pub loop-n-init : goal.loop-n-init
 loop-n-init c =
     let e = c.new-search.ensures in
     record {
-      search = restated c.args.s.now (1 ∷ []) (1 ∷ []) c.new-search.result.locator.items c.new-search.result.earlier.items 1 c.new-search.result.inverse.0 1 c.new-search.result.gap
-          0 (length c.new-search.result.locator.items - 1) 0 0 (search_start c.args.s.now) (sym e.locator) (sym e.earlier) (sym e.inverse) (sym e.gap)
-          (omega (arith, ap length e.locator)) refl;
+      search = restated (search_start c.args.s.now) (sym e.locator) (sym e.earlier) (sym e.inverse) (sym e.gap) (omega (arith, ap length e.locator)) refl;
       within = omega (arith, ap length e.locator);
       bytes = subst Bytes (sym e.locator) (bytes_cons 1 [] (omega arith) (λ k d h. absurd (omega arith)));
       products = omega (arith, c.default-meter.ensures.0);
@@ -24,11 +22,8 @@ loop-n-init c =
 
 pub returns-then-next-t-clause-none : goal.returns-then-next-t-clause-none
 returns-then-next-t-clause-none c =
-    let s = c.args.s.now in
-    let l = c.loop-n.search.locator.items in
-    let n = c.loop-n.n in
-    search_refuses s l c.loop-n.search.earlier.items c.product_at-discrepancy.result.0 c.loop-n.search.inverse.0 c.loop-n.search.gap (length l - 1) n c.args.t c.loop-n.invariant.search
-    (c.product_at-discrepancy.ensures.coefficient ∙ ap (λ t. convolution (coefficient t) (coefficient s) n) c.deref.ensures.0)
+    search_refuses c.loop-n.invariant.search
+    (c.product_at-discrepancy.ensures.coefficient ∙ ap (λ t. convolution (coefficient t) (coefficient c.args.s.now) c.loop-n.n) c.deref.ensures.0)
     (omega (arith, c.if-discrepancy-ne0.true)) (omega arith)
     (omega (arith, c.len-degree.ensures.value, c.max-next.ensures, c.if-next-t.true, c.loop-n.invariant.within))
 
@@ -37,37 +32,32 @@ loop-n-preserved c =
     let s = c.args.s.now in
     let n = c.loop-n.n in
     let l = c.loop-n.search.locator.items in
-    let e = c.loop-n.search.earlier.items in
-    let y = c.loop-n.search.inverse.0 in
-    let gap = c.loop-n.search.gap in
-    let d = length l - 1 in
-    let h = c.loop-n.invariant.search in
-    let x = c.product_at-discrepancy.result.0 in
+    let old = c.loop-n.search in
     let new = c.if-discrepancy-ne0.search in
-    let v : x ≡ convolution (coefficient l) (coefficient s) n =
+    let h = c.loop-n.invariant.search in
+    let v : c.product_at-discrepancy.result.0 ≡ convolution (coefficient l) (coefficient s) n =
     c.product_at-discrepancy.ensures.coefficient ∙ ap (λ t. convolution (coefficient t) (coefficient s) n) c.deref.ensures.0 in
     elim c.if-discrepancy-ne0.branch [
       | then-discrepancy-ne0+else-next-t w ↦
           let r = w.correct.ensures in
           let m = w.correct.new.self in
-          let k : IsCorrected l e m.locator.items x y gap = record { low = r.low; high = r.high } in
+          let k : IsCorrected l old.earlier.items m.locator.items c.product_at-discrepancy.result.0 old.inverse.0 old.gap = record { low = r.low; high = r.high } in
           let u : m ≡ new = sym w.search-is in
+          let next = w.max-next.ensures in
+          let size = w.len-degree.ensures.value in
           record {
-            search = elim (cases_lt n (d + d)) [
+            search = elim (cases_lt n (length l - 1 + (length l - 1))) [
               | inl b ↦
-                  let o = r.kept (omega (arith, w.max-next.ensures, w.len-degree.ensures.value, h.long)) in
-                  restated s m.locator.items e new.locator.items new.earlier.items y new.inverse.0 (suc gap) (new.gap + 1) d (length new.locator.items - 1) (suc n) (n + 1)
-                  (search_same s l e m.locator.items x y gap d n h v k (omega (arith, r.long, w.max-next.ensures, w.len-degree.ensures.value)) b)
-                  (ap (λ (q : Search). q.locator.items) u) (sym o.0 ∙ ap (λ (q : Search). q.earlier.items) u) (sym o.1 ∙ ap (λ (q : Search). q.inverse.0) u)
-                  (omega (arith, o.2, ap (λ (q : Search). q.gap) u)) (omega (arith, r.long, w.max-next.ensures, w.len-degree.ensures.value, ap (λ (q : Search). length q.locator.items) u))
-                  (omega arith)
+                  let o = r.kept (omega (arith, next, size, h.long)) in
+                  restated (search_same h v k (omega (arith, r.long, next, size)) b) (ap (λ (q : Search). q.locator.items) u) (sym o.0 ∙ ap (λ (q : Search). q.earlier.items) u)
+                  (sym o.1 ∙ ap (λ (q : Search). q.inverse.0) u) (omega (arith, o.2, ap (λ (q : Search). q.gap) u))
+                  (omega (arith, r.long, next, size, ap (λ (q : Search). length q.locator.items) u)) (omega arith)
               | inr b ↦
-                  let o = r.grown (omega (arith, w.max-next.ensures, w.len-degree.ensures.value, h.long)) in
-                  restated s m.locator.items l new.locator.items new.earlier.items m.inverse.0 new.inverse.0 1 (new.gap + 1) (n + 1 - d) (length new.locator.items - 1) (suc n) (n + 1)
-                  (search_grown s l e m.locator.items x y m.inverse.0 gap d (n + 1 - d) n h v k (omega (arith, r.long, w.max-next.ensures, w.len-degree.ensures.value)) (omega (arith, w.if-discrepancy-ne0.true)) o.1 (omega arith) (omega arith))
-                  (ap (λ (q : Search). q.locator.items) u) (sym o.0 ∙ ap (λ (q : Search). q.earlier.items) u) (ap (λ (q : Search). q.inverse.0) u)
-                  (omega (arith, o.2, ap (λ (q : Search). q.gap) u)) (omega (arith, r.long, w.max-next.ensures, w.len-degree.ensures.value, ap (λ (q : Search). length q.locator.items) u))
-                  (omega arith)
+                  let o = r.grown (omega (arith, next, size, h.long)) in
+                  restated
+                  (search_grown {c = n + 1 - (length l - 1)} h v k (omega (arith, r.long, next, size)) (omega (arith, w.if-discrepancy-ne0.true)) o.1 (omega arith) (omega arith))
+                  (ap (λ (q : Search). q.locator.items) u) (sym o.0 ∙ ap (λ (q : Search). q.earlier.items) u) (ap (λ (q : Search). q.inverse.0) u) (omega (arith, o.2, ap (λ (q : Search). q.gap) u))
+                  (omega (arith, r.long, next, size, ap (λ (q : Search). length q.locator.items) u)) (omega arith)
             ];
             within = omega (arith, r.long, w.if-next-t.false, ap (λ (q : Search). length q.locator.items) u);
             bytes = subst (λ (q : Search). Bytes q.locator.items) u r.bytes;
@@ -76,12 +66,10 @@ loop-n-preserved c =
             inversions = omega (arith, r.inversions, c.product_at-discrepancy.ensures.inversions, c.loop-n.invariant.inversions, ap (λ (q : Meter). q.inversions) w.meter-is);
           }
       | else-discrepancy-ne0 w ↦
-          let u : c.loop-n.search ≡ new = sym w.search-is in
+          let u : old ≡ new = sym w.search-is in
           record {
-            search = restated s l e new.locator.items new.earlier.items y new.inverse.0 (suc gap) (new.gap + 1) d (length new.locator.items - 1) (suc n) (n + 1)
-                (search_kept s l e y gap d n h (sym v ∙ w.if-discrepancy-ne0.false))
-                (ap (λ (q : Search). q.locator.items) u) (ap (λ (q : Search). q.earlier.items) u) (ap (λ (q : Search). q.inverse.0) u)
-                (omega (arith, ap (λ (q : Search). q.gap) u)) (omega (arith, ap (λ (q : Search). length q.locator.items) u)) (omega arith);
+            search = restated (search_kept h (sym v ∙ w.if-discrepancy-ne0.false)) (ap (λ (q : Search). q.locator.items) u) (ap (λ (q : Search). q.earlier.items) u)
+                (ap (λ (q : Search). q.inverse.0) u) (omega (arith, ap (λ (q : Search). q.gap) u)) (omega (arith, ap (λ (q : Search). length q.locator.items) u)) (omega arith);
             within = omega (arith, c.loop-n.invariant.within, ap (λ (q : Search). length q.locator.items) u);
             bytes = subst (λ (q : Search). Bytes q.locator.items) u c.loop-n.invariant.bytes;
             products = step_products n c.args.t c.loop-n.meter.products c.if-discrepancy-ne0.meter.products c.loop-n.invariant.products
@@ -92,13 +80,10 @@ loop-n-preserved c =
 
 pub returns-clause-least : goal.returns-clause-least
 returns-clause-least c =
-    let s = c.args.s.now in
-    let l = c.loop-n.search.locator.items in
     let r = c.evaluator_of-evaluator.ensures in
     let q = c.deref-2.ensures.0 in
-    search_answers s l c.loop-n.search.earlier.items c.evaluator_of-evaluator.result.items c.loop-n.search.inverse.0 c.loop-n.search.gap (length l - 1) c.loop-n.n c.args.t
-    c.loop-n.invariant.search (omega arith) (omega (arith, c.loop-n.invariant.within)) c.loop-n.invariant.bytes r.bytes (omega (arith, r.long, ap length q))
-    (λ i h. r.each i h ∙ ap (λ t. convolution (coefficient t) (coefficient s) i) q)
+    search_answers c.loop-n.invariant.search (omega arith) (omega (arith, c.loop-n.invariant.within)) c.loop-n.invariant.bytes r.bytes (omega (arith, r.long, ap length q))
+    (λ i h. r.each i h ∙ ap (λ t. convolution (coefficient t) (coefficient c.args.s.now) i) q)
 
 pub returns-clause-products : goal.returns-clause-products
 returns-clause-products c =

@@ -10,7 +10,7 @@ pub returns-in-Some-clause-closed : goal.returns-in-Some-clause-closed
 returns-in-Some-clause-closed c =
     let now = rw c.in-Some.is at c.feed-taken.ensures.closed in
     rw c.in-Records.is (record_closed c.in-Records.task c.in-Records.feed c.feed-taken.new.self c.args.piece.now c.feed-taken.result.taken c.in-Some.record
-    c.answer_to_record.result now c.answer_to_record.ensures)
+    c.answer_record.new.answer now c.answer_record.ensures)
 
 pub returns-in-None-closed-clause-open : goal.returns-in-None-closed-clause-open
 returns-in-None-closed-clause-open c =
@@ -21,4 +21,4 @@ pub returns-in-Some-closed-clause-closed : goal.returns-in-Some-closed-clause-cl
 returns-in-Some-closed-clause-closed c =
     let now = rw c.in-Some-closed.is at c.feed-taken-in-Lines.ensures.closed in
     rw c.in-Lines.is (line_closed c.in-Lines.feed c.feed-taken-in-Lines.new.self c.args.piece.now c.feed-taken-in-Lines.result.taken c.in-Some-closed.line
-    c.answer_to_line.result now c.answer_to_line.ensures)
+    c.answer_line.new.answer now c.answer_line.ensures)

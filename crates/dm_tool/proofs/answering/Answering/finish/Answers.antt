@@ -7,7 +7,7 @@ returns-in-None-clause-none c = rw c.in-Records.is (records_end c.in-Records.tas
 
 pub returns-in-Some-clause-last : goal.returns-in-Some-clause-last
 returns-in-Some-clause-last c =
-    rw c.in-Records.is (last_record_ends c.in-Records.task c.in-Records.feed c.in-Some.record c.answer_to_record.result c.in-Some.ensures.last c.answer_to_record.ensures)
+    rw c.in-Records.is (last_record_ends c.in-Records.task c.in-Records.feed c.in-Some.record c.answer_record.new.answer c.in-Some.ensures.last c.answer_record.ensures)
 
 pub returns-in-None-finish-clause-none : goal.returns-in-None-finish-clause-none
 returns-in-None-finish-clause-none c =
@@ -15,5 +15,5 @@ returns-in-None-finish-clause-none c =
 
 pub returns-in-Some-finish-clause-last : goal.returns-in-Some-finish-clause-last
 returns-in-Some-finish-clause-last c =
-    rw c.in-Lines.is (last_line_ends c.in-Lines.feed c.in-Some-finish.line c.answer_to_line.result
-    (λ line known. (some_left c.in-Some-finish.line line (c.in-Some-finish.ensures.some line known), c.in-Some-finish.ensures.line line known)) c.answer_to_line.ensures)
+    rw c.in-Lines.is (last_line_ends c.in-Lines.feed c.in-Some-finish.line c.answer_line.new.answer
+    (λ line known. (some_left c.in-Some-finish.line line (c.in-Some-finish.ensures.some line known), c.in-Some-finish.ensures.line line known)) c.answer_line.ensures)

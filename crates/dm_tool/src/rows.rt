@@ -1,24 +1,21 @@
-//! The cells of a record, as text.
-ghost use Rattle.std.specs.Prelude.{◌≡◌, ◌≢◌, ◌∷◌, ◌++◌, ◌+◌, ◌≤◌, ◌<◌, ◌↔◌, [], ℕ, Bool, true, false, List, IsTrue, length, map};
+//! The lines of a record, as rows of cells.
+ghost use Rattle.std.specs.Prelude.{◌≡◌, ◌≢◌, ◌∷◌, ◌++◌, ◌*◌, ◌^◌, ◌<◌, ◌↔◌, [], ℕ, Bool, true, false, List, IsTrue};
+ghost use Rattle.dm_symbol.specs.Sizes.{largest_side};
 ghost use Rattle.dm_tool.specs.Records.{is_foreign, record_of};
-ghost use Rattle.dm_tool.specs.OpenRecords.{Continues, HoldsLines, is_dark, is_ended};
+ghost use Rattle.dm_tool.specs.OpenRecords.{Continues, HoldsLines, digit_of, is_ended, line_count};
 ghost use Rattle.dm_tool.specs.Texts.{last_line};
 
 use crate::record::RecordFault;
 use arrayvec::ArrayVec;
 use dm_symbol::{Grid, LARGEST_SIDE};
 
-/// The most cells of a record: as many lines as the largest side, each as long.
-const MOST_CELLS: usize = LARGEST_SIDE * LARGEST_SIDE;
-
 /// Lines of the characters 0 and 1, of which the last one may be open, no more and no longer than the
-/// largest side.
+/// largest side. They are kept as rows of cells, as [`Grid::of_rows`] takes them.
 #[derive(Drop)]
-pub(crate) struct CellText {
-    /// The characters of all lines, joined.
-    text: ArrayVec<u8, MOST_CELLS>,
-    /// How many lines there are.
-    count: u16,
+pub(crate) struct Rows {
+    /// A number for each line, in which the cell of column `c`, counted from 0 at the left, is the bit of
+    /// weight 2^c, 1 for dark.
+    rows: ArrayVec<u128, LARGEST_SIDE>,
     /// How long the first line is.
     first: u16,
     /// How long the last line is.
@@ -27,14 +24,13 @@ pub(crate) struct CellText {
     differs: bool,
 }
 
-impl CellText {
+impl Rows {
     /// No line.
     pub(crate) fn new() -> Self
         ensures { HoldsLines result [] [] }
     {
-        CellText {
-            text: ArrayVec::new(),
-            count: 0,
+        Rows {
+            rows: ArrayVec::new(),
             first: 0,
             last: 0,
             differs: false,
@@ -43,9 +39,9 @@ impl CellText {
 
     /// Whether there is no line.
     pub(crate) fn is_empty(&self) -> bool
-        ensures { IsTrue result ↔ (self.now.count ≡ 0) }
+        ensures { IsTrue result ↔ (line_count self.now ≡ 0) }
     {
-        self.count == 0
+        self.rows.is_empty()
     }
 
     /// One more character, in a new line where the last line is ended; false where the lines are too many
@@ -56,7 +52,7 @@ impl CellText {
         ensures { (lines : List (List ℕ)) (rest : List ℕ) → HoldsLines self.old lines rest → ended ≡ is_ended lines rest
             → Continues result self.new lines (rest ++ character ∷ []) }
     {
-        if ended || self.count == 0 {
+        if ended || self.is_empty() {
             self.begin_line(character)
         } else {
             self.lengthen_line(character)
@@ -69,12 +65,11 @@ impl CellText {
         requires lines { (lines : List (List ℕ)) × HoldsLines self.old lines [] }
         ensures { (lines : List (List ℕ)) → HoldsLines self.old lines [] → Continues result self.new lines (character ∷ []) }
     {
-        if usize::from(self.count) == LARGEST_SIDE {
+        if self.rows.is_full() {
             return false;
         }
-        let first = if self.count == 0 { 1 } else { self.first };
-        self.text.push(character);
-        self.count += 1;
+        let first = if self.is_empty() { 1 } else { self.first };
+        self.rows.push(cell(character, 0));
         self.first = first;
         self.last = 1;
         true
@@ -87,12 +82,14 @@ impl CellText {
         ensures { (lines : List (List ℕ)) (x : ℕ) (rest : List ℕ) → HoldsLines self.old lines (x ∷ rest)
             → Continues result self.new lines (x ∷ rest ++ character ∷ []) }
     {
-        if usize::from(self.last) == LARGEST_SIDE {
+        let column = self.last;
+        if usize::from(column) == LARGEST_SIDE {
             return false;
         }
-        let last = self.last + 1;
-        let first = if self.count == 1 { last } else { self.first };
-        self.text.push(character);
+        let last = column + 1;
+        let count = self.rows.len();
+        let first = if count == 1 { last } else { self.first };
+        self.rows.as_mut_slice()[count - 1] |= cell(character, column);
         self.first = first;
         self.last = last;
         true
@@ -112,25 +109,21 @@ impl CellText {
         requires { (lines : List (List ℕ)) × (rest : List ℕ) × HoldsLines self lines rest }
         ensures { (lines : List (List ℕ)) (rest : List ℕ) → HoldsLines self lines rest → result ≡ record_of (lines ++ last_line rest) }
     {
-        if self.differs || self.last != self.first || self.first != self.count {
+        let side = self.first;
+        if self.differs || self.last != side || usize::from(side) != self.rows.len() {
             return Err(RecordFault::NotSquare);
         }
-        let cells = cells_of(self.text.as_slice());
-        match Grid::new(self.count, cells.as_slice()) {
+        match Grid::of_rows(side, self.rows.as_slice()) {
             Ok(grid) => Ok(grid),
-            Err(_) => Err(RecordFault::NoSuchSize(self.count)),
+            Err(_) => Err(RecordFault::NoSuchSize(side)),
         }
     }
 }
 
-/// The cells of characters; true is dark.
-fn cells_of(characters: &[u8]) -> ArrayVec<bool, MOST_CELLS>
-    requires { length characters.now ≤ MOST_CELLS }
-    ensures { result.items ≡ map is_dark characters.now }
+/// The cell of a character in a row, at a column: its bit for the character 1, and none for 0.
+fn cell(character: u8, column: u16) -> u128
+    requires { column < largest_side }
+    ensures { result ≡ digit_of character * 2 ^ column }
 {
-    let mut cells = ArrayVec::new();
-    for character in characters {
-        cells.push(*character == b'1');
-    }
-    cells
+    u128::from(character == b'1') << column
 }

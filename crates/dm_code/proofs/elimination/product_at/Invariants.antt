@@ -1,6 +1,0 @@
-use Rattle.std.proofs.Common.{◌≡◌, take}
-use Rattle.gf301.specs.Polynomial.{coefficient, convolution}
-use Rattle.dm_code.proofs.elimination.product_at.Given as goal
-
-abbrev pub invariant-loop-j : goal.invariant-loop-j
-invariant-loop-j l = l.sum.0 ≡ convolution (coefficient (take l.j l.locator)) (coefficient l.s) l.n

@@ -1,0 +1,20 @@
+use Rattle.std.proofs.Common.{refl}
+use Rattle.dm_layout.specs.Sizes.{size_table, codeword_count, largest_side, most_data, most_codewords, most_blocks}
+use Rattle.dm_layout.proofs.TableRows.{greatest}
+use Rattle.dm_layout.proofs.laws.sizes.limits_are_those_of_the_table.Goals as goal
+
+pub returns-clause-side : goal.returns-clause-side
+unfolding size_table
+returns-clause-side c = greatest (λ row. row.side) largest_side refl refl
+
+pub returns-clause-data : goal.returns-clause-data
+unfolding size_table
+returns-clause-data c = greatest (λ row. row.data_count) most_data refl refl
+
+pub returns-clause-codewords : goal.returns-clause-codewords
+unfolding size_table
+returns-clause-codewords c = greatest codeword_count most_codewords refl refl
+
+pub returns-clause-blocks : goal.returns-clause-blocks
+unfolding size_table
+returns-clause-blocks c = greatest (λ row. row.blocks) most_blocks refl refl
