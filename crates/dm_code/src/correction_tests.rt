@@ -2,7 +2,7 @@
 
 ghost use Rattle.std.specs.Prelude.{◌+◌, ◌<◌, ◌≤◌, length};
 
-use super::{Elimination, correct, encode};
+use super::{Elimination, KeySolver, Quick, correct, encode};
 
 /// A block of the symbol of side 10, with five check codewords.
 pub(super) const WORD: [u8; 8] = [142, 164, 186, 114, 25, 5, 88, 102];
@@ -26,17 +26,44 @@ pub(super) const BLOCKS: [(usize, usize); 14] = [
     (174, 68),
 ];
 
-/// Whether a damaged word is corrected to a word, with a count of changed places.
+/// Whether a damaged word is corrected to a word with this solver, with a count of changed places.
+fn is_corrected_by<S: KeySolver>(
+    solver: &S,
+    damaged: &[u8],
+    word: &[u8],
+    k: usize,
+    changed: usize,
+) -> bool
+    requires checks { 0 < k }
+    requires most { k ≤ 68 }
+    requires data { k < length damaged.now }
+    requires long { length damaged.now ≤ 255 }
+{
+    match correct(solver, damaged, k) {
+        Ok(fixed) => fixed.word.as_slice() == word && usize::from(fixed.changed) == changed,
+        Err(_) => false,
+    }
+}
+
+/// Whether a damaged word is corrected to a word with either solver, with a count of changed places.
 pub(super) fn is_corrected(damaged: &[u8], word: &[u8], k: usize, changed: usize) -> bool
     requires checks { 0 < k }
     requires most { k ≤ 68 }
     requires data { k < length damaged.now }
     requires long { length damaged.now ≤ 255 }
 {
-    match correct(&Elimination, damaged, k) {
-        Ok(fixed) => fixed.word.as_slice() == word && usize::from(fixed.changed) == changed,
-        Err(_) => false,
-    }
+    is_corrected_by(&Elimination, damaged, word, k, changed)
+        && is_corrected_by(&Quick, damaged, word, k, changed)
+}
+
+/// Whether a damaged word is refused with either solver.
+pub(super) fn is_refused(damaged: &[u8], k: usize) -> bool
+    requires checks { 0 < k }
+    requires most { k ≤ 68 }
+    requires data { k < length damaged.now }
+    requires long { length damaged.now ≤ 255 }
+{
+    correct(&Elimination, damaged, k).is_err() && correct(&Quick, damaged, k).is_err()
 }
 
 /// A codeword with `count` data codewords and k check codewords, at the first `count` + k places.
@@ -60,7 +87,7 @@ pub(super) fn codeword(count: usize, k: usize) -> [u8; 255]
 fn two_of_five(rt: HostRuntime) {
     assert!(rt; is_corrected(&WORD, &WORD, 5, 0));
     assert!(rt; is_corrected(&[0, 0, 186, 114, 25, 5, 88, 102], &WORD, 5, 2));
-    assert!(rt; correct(&Elimination, &[0, 0, 0, 114, 25, 5, 88, 102], 5).is_err());
+    assert!(rt; is_refused(&[0, 0, 0, 114, 25, 5, 88, 102], 5));
 }
 
 /// As many wrong codewords as each block corrects: at the first places, at the last, and at every second one.

@@ -1,7 +1,8 @@
-//! Tests of words at and beyond the correction limit.
+//! Tests of words at and beyond the correction limit, with both solvers.
 
-use super::correction_tests::{BLOCKS, WORD, codeword, is_corrected};
-use super::{Elimination, correct};
+use super::correction_tests::{BLOCKS, WORD, codeword, is_corrected, is_refused};
+use super::tests::SIZES;
+use super::{Elimination, Quick, correct};
 use gf301::generator;
 
 /// Each codeword replaced by each other value.
@@ -40,10 +41,7 @@ fn every_three_places_of_five_checks(rt: HostRuntime) {
                 damaged[i] ^= 255;
                 damaged[j] ^= 255;
                 damaged[m] ^= 255;
-                assert!(rt;
-                    correct(&Elimination, &damaged, 5).is_err(),
-                    "{i}, {j} and {m}"
-                );
+                assert!(rt; is_refused(&damaged, 5), "{i}, {j} and {m}");
             }
         }
     }
@@ -61,10 +59,7 @@ fn every_four_places_of_seven_checks(rt: HostRuntime) {
                     damaged[b] ^= 255;
                     damaged[c] ^= 255;
                     damaged[d] ^= 255;
-                    assert!(rt;
-                        correct(&Elimination, &damaged[..12], 7).is_err(),
-                        "{a}, {b}, {c} and {d}"
-                    );
+                    assert!(rt; is_refused(&damaged[..12], 7), "{a}, {b}, {c} and {d}");
                 }
             }
         }
@@ -89,5 +84,19 @@ fn nearer_to_another_codeword(rt: HostRuntime) {
             let (damaged, word) = (&damaged[..count + k], &word[..count + k]);
             assert!(rt; is_corrected(damaged, word, k, k / 2), "{k} checks");
         }
+    }
+}
+
+/// The blocks of a symbol whose cells are all dark but for its borders: their codewords are all 255.
+#[test]
+fn dark_symbols_are_answered_alike(rt: HostRuntime) {
+    let dark = [255; 255];
+    for (count, k) in SIZES {
+        assert!(rt; 1 <= k && k <= 68 && 0 < count && count <= 255 - k);
+        let word = &dark[..count + k];
+        assert!(rt;
+            correct(&Quick, word, k) == correct(&Elimination, word, k),
+            "{k} checks"
+        );
     }
 }

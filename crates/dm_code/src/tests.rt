@@ -15,7 +15,7 @@ const BLOCKS: [([u8; 3], [u8; 5]); 5] = [
 ];
 
 /// The data and check codewords of a block, for each square symbol of side 10 to 104.
-const SIZES: [(usize, usize); 21] = [
+pub(super) const SIZES: [(usize, usize); 21] = [
     (3, 5),
     (5, 7),
     (8, 10),
