@@ -207,6 +207,27 @@ fn grids_are_normalised_in_order(rt: HostRuntime) {
     writes(&rt, Task::Normal(None), RAISED, RAISED, 1, 0);
 }
 
+/// A record that is no grid has this line, whatever is asked of it, and the records after it are read.
+fn refuses(rt: &impl Abort, record: &[u8], line: &[u8]) {
+    let mut text = Taken::new();
+    push(rt, &mut text, record);
+    push(rt, &mut text, b"\n");
+    writes(rt, Task::Read(None), text.as_slice(), line, 0, 1);
+    writes(rt, Task::Check(None), text.as_slice(), line, 0, 1);
+    let mut blank = Taken::new();
+    push(rt, &mut blank, line);
+    push(rt, &mut blank, b"\n");
+    let normal = Task::Normal(None);
+    writes(rt, normal, text.as_slice(), blank.as_slice(), 0, 1);
+    push(rt, &mut text, b"\n");
+    push(rt, &mut text, TWO_GRIDS);
+    let mut lines = Taken::new();
+    push(rt, &mut lines, line);
+    push(rt, &mut lines, b"123456\nA\n");
+    let read = Task::Read(None);
+    writes(rt, read, text.as_slice(), lines.as_slice(), 2, 1);
+}
+
 #[test]
 fn records_are_refused_and_the_next_is_read(rt: HostRuntime) {
     let zeros = [b'0'; 105];
@@ -227,35 +248,7 @@ fn records_are_refused_and_the_next_is_read(rt: HostRuntime) {
         ),
     ];
     for (record, line) in table {
-        let mut text = Taken::new();
-        push(&rt, &mut text, record);
-        push(&rt, &mut text, b"\n");
-        writes(&rt, Task::Read(None), text.as_slice(), line, 0, 1);
-        writes(&rt, Task::Check(None), text.as_slice(), line, 0, 1);
-        let mut blank = Taken::new();
-        push(&rt, &mut blank, line);
-        push(&rt, &mut blank, b"\n");
-        writes(
-            &rt,
-            Task::Normal(None),
-            text.as_slice(),
-            blank.as_slice(),
-            0,
-            1,
-        );
-        push(&rt, &mut text, b"\n");
-        push(&rt, &mut text, TWO_GRIDS);
-        let mut lines = Taken::new();
-        push(&rt, &mut lines, line);
-        push(&rt, &mut lines, b"123456\nA\n");
-        writes(
-            &rt,
-            Task::Read(None),
-            text.as_slice(),
-            lines.as_slice(),
-            2,
-            1,
-        );
+        refuses(&rt, record, line);
     }
 }
 
