@@ -7,8 +7,8 @@ use Rattle.gf301.specs.Field.{◌⊕◌, ◌⊗◌}
 use Rattle.gf301.specs.Polynomial.{Bytes, coefficient, convolution}
 use Rattle.gf301.proofs.FieldLaws.{product_assoc, product_comm, product_one_left, product_one_right, product_zero_left}
 use Rattle.gf301.proofs.Series.{conv_below, conv_first, conv_same_left, conv_scale_left, conv_sum_left, conv_swap, conv_zero, product_at_zero, product_zero_at}
-use Rattle.dm_code.specs.KeyEquation.{IsLeastPair, NoPair}
-use Rattle.dm_code.proofs.Connections.{Connects, first_is_least, none_connects}
+use Rattle.dm_code.specs.KeyEquation.{IsLeastPair, IsExact, NoPair}
+use Rattle.dm_code.proofs.Connections.{Connects, first_is_least, none_connects, pair_connects}
 use Rattle.dm_code.proofs.Multiples.{both_zero}
 
 -- ---- how long what connects must be
@@ -254,3 +254,12 @@ search_answers {s = s} {l = l} {w = w} {d = d} {t = t} h q b bl bw k a =
     first_is_least s l w t d b
     (λ c k g v. let z : d ≤ c = h.least g c (subst (λ m. Connects g (coefficient s) c m) (sym q) v) in omega arith)
     (subst (λ m. Connects (coefficient l) (coefficient s) d m) q h.connects) bl bw r (λ i c. a i (omega arith))
+
+-- Its lists have no number too many, since no locator of a smaller degree connects the values.
+pub search_exact : {s l e w : List ℕ} {y gap d n t : ℕ} → IsSearch s l e y gap d n → n ≡ length s → length w + 1 ≡ length l → IsLeastPair s t l w → IsExact l w
+search_exact {s = s} {l = l} {w = w} {d = d} {t = t} h q k p = record {
+  locator = omega arith;
+  evaluator = λ c b.
+      let z : d ≤ c = h.least (coefficient l) c (subst (λ m. Connects (coefficient l) (coefficient s) c m) (sym q) (pair_connects s l w t c p.pair b)) in
+      omega (arith, h.long);
+}

@@ -14,12 +14,14 @@ pub mod LinearLaws
 pub mod Systems
 pub mod Pairs
 pub mod LeastPairs
-pub mod Horner
 pub mod ErrorPlaces
 pub mod ErrorValues
 pub mod Nearness
+pub mod OddTerms
 pub mod Corrections
 pub mod CleanWords
 pub mod Choices
 pub mod NearOrNone
 pub mod Checks
+pub mod Parts
+pub mod Division

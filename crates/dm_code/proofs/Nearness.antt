@@ -54,6 +54,20 @@ pub record IsTrimmed (l t : List ℕ) : Type 0 where
   pub same : IsSamePolynomial l t
   pub tight : (n : ℕ) → IsBelow n l → length t ≤ n
 
+-- A least pair is one with another list for the same locator.
+pub least_same : (s l v t : List ℕ) (k : ℕ) → Bytes t → IsSamePolynomial l t → IsLeastPair s k l v → IsLeastPair s k t v
+least_same s l v t k b e p = record {
+  pair = record {
+    locator_bytes = b;
+    evaluator_bytes = p.pair.evaluator_bytes;
+    one = sym (e 0) ∙ p.pair.one;
+    within = record { locator = λ i h. sym (e i) ∙ p.pair.within.locator i h; evaluator = p.pair.within.evaluator };
+    equation = λ i h. conv_same_left (coefficient t) (coefficient l) (coefficient s) i (λ j q. sym (e j)) ∙ p.pair.equation i h;
+  };
+  least = λ g w q d m.
+      let r = p.least g w q d m in record { locator = λ i h. sym (e i) ∙ r.locator i h; evaluator = r.evaluator };
+}
+
 -- A trimmed locator begins with 1.
 trimmed_head : (l t : List ℕ) → IsTrimmed l t → coefficient l 0 ≡ 1 → (p : List ℕ) × (t ≡ 1 ∷ p)
 trimmed_head l [] h o = absurd (let r : 0 ≡ 1 = sym (h.same 0) ∙ o in omega arith)

@@ -1,14 +1,14 @@
 -- Pairs of the key equation: the bound that a least pair has, and that every pair is a multiple of it.
 use Rattle.std.proofs.Common.{◌≡◌, ℕ, zero, suc, ◌+◌, ◌-◌, ◌*◌, ◌%◌, ◌<◌, ◌≤◌, max, List, length, refl, sym, ap, subst, ◌∙◌, arith, inl, inr}
 use Rattle.std.proofs.lemmas.Bool.{cases_lt}
-use Rattle.std.proofs.lemmas.List.{get_or_past}
+use Rattle.std.proofs.lemmas.List.{ext_get_or, get_or_past}
 use Rattle.std.proofs.lemmas.Nat.{mod_below}
 use lib.Bits.{xor_self}
 use Rattle.gf301.specs.Field.{◌⊕◌, ◌⊗◌}
 use Rattle.gf301.specs.Polynomial.{Bytes, coefficient, convolution, shift}
 use Rattle.gf301.proofs.FieldLaws.{product_zero_left, product_zero_right, product_low_left, product_one_left, product_one_right, product_below, sum_zero, sum_below}
 use Rattle.gf301.proofs.Series.{conv_swap, conv_same_right, conv_same_left, conv_zero, conv_below}
-use Rattle.dm_code.specs.KeyEquation.{IsWithin, IsPair, IsLeastPair}
+use Rattle.dm_code.specs.KeyEquation.{IsWithin, IsPair, IsLeastPair, IsExact}
 use Rattle.dm_code.specs.KeyEquationLaws.{IsMultiple, IsSamePolynomial}
 use Rattle.dm_code.proofs.Degrees.{extent, below_extent, extent_most}
 use Rattle.dm_code.proofs.First.{first, first_whole, bytes_first}
@@ -213,3 +213,22 @@ one_at s l w g v t d e h p q =
 pub one_least : (s l w g v : List ℕ) (t : ℕ) → 2 * t ≤ length s → IsLeastPair s t l w → IsLeastPair s t g v → IsSamePolynomial l g × IsSamePolynomial w v
 one_least s l w g v t h p q =
     let a = least_at s l w t p in let b = least_at s g v t q in one_at s l w g v t a.0 b.0 h a.1 b.1
+
+-- ---- lists with no number too many
+-- Such lists are within the length of the evaluator.
+exact_within : (l w : List ℕ) → IsExact l w → IsWithin (length w) l w
+exact_within l w h = record { locator = λ i q. get_or_past l i 0 (omega (arith, h.locator)); evaluator = λ i q. get_or_past w i 0 q }
+
+-- A bound of a pair is one of the same pair in other lists.
+same_within : (l w g v : List ℕ) (d : ℕ) → IsSamePolynomial l g × IsSamePolynomial w v → IsWithin d l w → IsWithin d g v
+same_within l w g v d h b = record { locator = λ i q. sym (h.0 i) ∙ b.locator i q; evaluator = λ i q. sym (h.1 i) ∙ b.evaluator i q }
+
+-- Two least pairs in such lists are the same lists.
+pub exact_one : (s l w g v : List ℕ) (t : ℕ) → 2 * t ≤ length s → IsLeastPair s t l w → IsLeastPair s t g v → IsExact l w → IsExact g v → (l ≡ g) × (w ≡ v)
+exact_one s l w g v t h p q x y =
+    let e = one_least s l w g v t h p q in
+    let a : length v ≤ length w = y.evaluator (length w) (same_within l w g v (length w) e (exact_within l w x)) in
+    let b : length w ≤ length v = x.evaluator (length v) (same_within g v l w (length v) (λ i. sym (e.0 i), λ i. sym (e.1 i)) (exact_within g v y)) in (
+      ext_get_or 0 l g (omega (arith, x.locator, y.locator)) (λ i m. e.0 i),
+      ext_get_or 0 w v (omega arith) (λ i m. e.1 i),
+    )

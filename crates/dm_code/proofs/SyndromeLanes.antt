@@ -1,12 +1,17 @@
--- Syndromes sixteen at a time: the values of a word at a list of elements, by Horner's rule in each lane.
-use Rattle.std.proofs.Common.{◌≡◌, ℕ, zero, suc, ◌+◌, ◌<◌, List, [], ◌∷◌, ◌++◌, length, map, replicate, refl, sym, ap, ◌∙◌, arith, bit_xor}
-use Rattle.std.proofs.lemmas.Simd.{splat_is_map}
-use Rattle.std.proofs.Math.Nat.{add-zero, zero-add}
-use lib.Lanes.{zip2}
-use Rattle.gf301.specs.Field.{◌⊕◌, ◌⊗◌, power}
+-- Syndromes in lanes: the values of a word at sixteen elements, part by part, and at one element, sixteen codewords at a time.
+use Rattle.std.proofs.Common.{◌≡◌, ℕ, zero, suc, ◌+◌, ◌^◌, ◌≤◌, List, [], ◌∷◌, ◌++◌, length, map, take, drop, replicate, get_or, refl, sym, ap, ◌∙◌, arith, bit_xor, drop-cons, length-drop, w8, Fits}
+use Rattle.std.proofs.lemmas.List.{append-nil, take-replicate, length-replicate}
+use Rattle.std.proofs.lemmas.Simd.{splat_is_map, zip2_of_maps}
+use Rattle.std.proofs.Math.Nat.{add-zero, zero-add, pow-succ'}
+use borrow.Rule.Slice.PartMut.{put_mid}
+use lib.Lanes.{zip2, Each1}
+use lib.Bits.{xor_comm}
+use Rattle.gf301.specs.Field.{◌⊕◌, ◌⊗◌, raise, power}
 use Rattle.gf301.specs.Polynomial.{value, values_from}
-use Rattle.gf301.proofs.FieldLaws.{product_comm}
-use Rattle.gf301.proofs.PolyLaws.{value_push}
+use Rattle.gf301.proofs.FieldLaws.{product_comm, product_one_right, product_zero_left, raise_add}
+use Rattle.gf301.proofs.Lists.{plus, scale}
+use Rattle.gf301.proofs.PolyLaws.{length_scale, value_plus, value_scale, value_zeros}
+use Rattle.dm_code.proofs.Register.{value_append}
 use Rattle.dm_code.specs.Syndromes.{syndromes_of}
 
 -- Before the first codeword each value is 0 ..
@@ -14,13 +19,86 @@ pub lanes_start : (xs : List ℕ) (n : ℕ) → length xs ≡ n → replicate n 
 unfolding value
 lanes_start xs n e = splat_is_map xs n 0 e
 
--- .. and each codeword is a step.
-pub lanes_step : (p : List ℕ) (c : ℕ) (xs : List ℕ) (n : ℕ) → c < 256 → length xs ≡ n
-    → zip2 bit_xor (zip2 (λ x y. x ⊗ y) xs (map (value p) xs)) (replicate n c) ≡ map (value (p ++ c ∷ [])) xs
-lanes_step p c [] n h e = refl
-lanes_step p c (x ∷ xs) zero h e = absurd (omega arith)
-lanes_step p c (x ∷ xs) (suc n) h e =
-    λ i. (ap (λ y. y ⊕ c) (product_comm x (value p x)) ∙ sym (value_push p c x h)) i ∷ lanes_step p c xs n h (omega arith) i
+-- .. and a codeword in front adds its multiple of the power of each element.
+lanes_front : (a : ℕ) (p xs : List ℕ) → zip2 bit_xor (map (value p) xs) (map (λ x. a ⊗ x) (map (λ x. raise x (length p)) xs)) ≡ map (value (a ∷ p)) xs
+unfolding value
+lanes_front a p [] = refl
+lanes_front a p (x ∷ xs) = λ i. xor_comm (value p x) (a ⊗ raise x (length p)) i ∷ lanes_front a p xs i
+
+-- The codeword before the n last ones, where these are all but i.
+pub lanes_more : (w xs : List ℕ) (i n : ℕ) → i + suc n ≡ length w
+    → zip2 bit_xor (map (value (drop (suc i) w)) xs) (map (λ x. get_or w i 0 ⊗ x) (map (λ x. raise x n) xs)) ≡ map (value (drop i w)) xs
+lanes_more w xs i n e =
+    let l : length (drop (suc i) w) ≡ n = simp length-drop (omega arith) in
+    ap (λ m. zip2 bit_xor (map (value (drop (suc i) w)) xs) (map (λ x. get_or w i 0 ⊗ x) (map (λ x. raise x m) xs))) (sym l)
+    ∙ lanes_front (get_or w i 0) (drop (suc i) w) xs
+    ∙ ap (λ t. map (value t) xs) (sym (drop-cons w i 0 (omega arith)))
+
+-- ---- parts of a word
+-- Of a part more: what was before is multiplied by the power of the part's length.
+pub lanes_part : (p r xs : List ℕ) (n : ℕ) → length r ≡ n → zip2 bit_xor (zip2 (λ x y. x ⊗ y) (map (value p) xs) (map (λ x. raise x n) xs)) (map (value r) xs) ≡ map (value (p ++ r)) xs
+lanes_part p r [] n e = refl
+lanes_part p r (x ∷ xs) n e = λ i. (ap (λ m. value p x ⊗ raise x m ⊕ value r x) (sym e) ∙ sym (value_append p r x)) i ∷ lanes_part p r xs n e i
+
+-- Past a list's end nothing is left.
+pub drop_whole : (w : List ℕ) (n : ℕ) → length w ≤ n → drop n w ≡ []
+drop_whole [] zero h = refl
+drop_whole [] (suc n) h = refl
+drop_whole (a ∷ w) zero h = absurd (omega arith)
+drop_whole (a ∷ w) (suc n) h = drop_whole w n (omega arith)
+
+-- Nothing is taken of nothing.
+take_none : (m : ℕ) (w : List ℕ) → length w ≡ 0 → take m w ≡ w
+take_none zero [] h = refl
+take_none (suc m) [] h = refl
+take_none m (a ∷ w) h = absurd (omega arith)
+
+-- The first n numbers and the m that follow them.
+pub take_parts : (n m : ℕ) (w : List ℕ) → take (n + m) w ≡ take n w ++ take m (drop n w)
+take_parts zero m w = ap (λ j. take j w) (zero-add m)
+take_parts (suc n) m [] = ap (λ j. take j []) (let e : suc n + m ≡ suc (n + m) = omega arith in e) ∙ sym (take_none m [] refl)
+take_parts (suc n) m (a ∷ w) = ap (λ j. take j (a ∷ w)) (let e : suc n + m ≡ suc (n + m) = omega arith in e) ∙ ap (λ t. a ∷ t) (take_parts n m w)
+
+-- ---- powers by squaring
+-- Elements are their powers 1.
+pub first_powers : (xs : List ℕ) → Each1 (Fits w8) xs → xs ≡ map (λ x. raise x (2 ^ 0)) xs
+unfolding raise
+first_powers [] f = refl
+first_powers (x ∷ xs) f = λ i. sym (product_one_right x f.0.fits) i ∷ first_powers xs f.1 i
+
+-- Squared, the powers 2^n are the powers 2^(n + 1).
+pub squares : (xs ys : List ℕ) (n : ℕ) → ys ≡ map (λ x. raise x (2 ^ n)) xs → zip2 (λ x y. x ⊗ y) ys ys ≡ map (λ x. raise x (2 ^ (n + 1))) xs
+squares xs ys n e =
+    zip2_of_maps (λ x y. x ⊗ y) (λ x. raise x (2 ^ n)) (λ x. raise x (2 ^ n)) xs e e
+    ∙ ap (λ f. map f xs) (λ i x. (sym (raise_add x (2 ^ n) (2 ^ n)) ∙ ap (raise x) (let q : 2 ^ n + 2 ^ n ≡ 2 ^ (n + 1) = omega (arith, pow-succ' 2 n, ap (λ m. 2 ^ m) (let r : n + 1 ≡ suc n = omega arith in r)) in q)) i)
+
+-- ---- sixteen codewords at a time
+-- The sum of two lists, lane by lane.
+plus_in_lanes : (p q : List ℕ) → zip2 bit_xor p q ≡ plus p q
+unfolding plus
+plus_in_lanes [] q = refl
+plus_in_lanes (a ∷ p) [] = refl
+plus_in_lanes (a ∷ p) (b ∷ q) = ap (λ t. (a ⊕ b) ∷ t) (plus_in_lanes p q)
+
+-- A polynomial with the value of p at x, times x to the power of a part's length, plus the part, has the value of both joined.
+pub joined_value : (l p r : List ℕ) (s x n : ℕ) → length l ≡ n → length r ≡ n → s ≡ raise x n → value l x ≡ value p x → value (zip2 bit_xor (map (λ y. s ⊗ y) l) r) x ≡ value (p ++ r) x
+unfolding scale
+joined_value l p r s x n a b e h =
+    ap (λ t. value t x) (plus_in_lanes (scale s l) r)
+    ∙ value_plus x (scale s l) r (length_scale s l ∙ a ∙ sym b)
+    ∙ ap (λ y. y ⊕ value r x)
+    (value_scale x s l ∙ ap (λ y. s ⊗ y) h ∙ product_comm s (value p x) ∙ ap (λ y. value p x ⊗ y) (e ∙ ap (raise x) (sym b)))
+    ∙ sym (value_append p r x)
+
+-- What is written at the end of zeros has the value of the whole.
+pub value_behind_zeros : (m a k : ℕ) (p : List ℕ) (x : ℕ) → a + k ≡ m → length p ≡ k → value (put_mid a k (replicate m 0) p) x ≡ value p x
+value_behind_zeros m a k p x h e =
+    let z : drop k (drop a (replicate m 0)) ≡ [] = drop_whole (drop k (drop a (replicate m 0))) 0 (simp (length-drop, length-replicate) (omega arith)) in
+    ap (λ t. value (t ++ (p ++ drop k (drop a (replicate m 0)))) x) (take-replicate a m 0 (omega arith))
+    ∙ ap (λ t. value (replicate a 0 ++ (p ++ t)) x) z ∙ ap (λ t. value (replicate a 0 ++ t) x) (append-nil p)
+    ∙ value_append (replicate a 0) p x
+    ∙ ap (λ y. y ⊗ raise x (length p) ⊕ value p x) (value_zeros x a)
+    ∙ ap (λ y. y ⊕ value p x) (product_zero_left (raise x (length p)))
 
 -- ---- groups of syndromes
 -- What a function makes of the values of another are the values of both.

@@ -27,6 +27,12 @@ pub record IsLeastPair (s : List ℕ) (t : ℕ) (l w : List ℕ) : Type 0 where
   pub pair : IsPair s t l w
   pub least : (g v : List ℕ) → IsPair s t g v → (d : ℕ) → IsWithin d g v → IsWithin d l w
 
+-- The lists of a pair have no number too many: the evaluator has as many as the larger of deg l and deg w + 1, and the
+-- locator has one more.
+pub record IsExact (l w : List ℕ) : Type 0 where
+  pub locator : length l ≡ suc (length w)
+  pub evaluator : (d : ℕ) → IsWithin d l w → length w ≤ d
+
 -- There is no pair within t.
 abbrev pub NoPair : List ℕ → ℕ → Type 0
 NoPair s t = (l w : List ℕ) → IsPair s t l w → ⊥

@@ -2,7 +2,7 @@
 -- most the number of syndromes it is one, and each pair is a multiple of it.
 use Rattle.std.specs.Prelude.{◌≡◌, ℕ, ◌*◌, ◌≤◌, List, length}
 use Rattle.gf301.specs.Polynomial.{Bytes, coefficient, convolution}
-use Rattle.dm_code.specs.KeyEquation.{IsPair, IsLeastPair}
+use Rattle.dm_code.specs.KeyEquation.{IsPair, IsLeastPair, IsExact}
 
 -- Two lists are equal as polynomials.
 abbrev pub IsSamePolynomial : List ℕ → List ℕ → Type 0
@@ -27,6 +27,11 @@ PairsAreMultiples = (s l w g v : List ℕ) (t : ℕ) → 2 * t ≤ length s → 
 -- With 2 t at most the number of syndromes, two least pairs are equal as polynomials.
 abbrev pub LeastPairIsOne : Type 0
 LeastPairIsOne = (s l w g v : List ℕ) (t : ℕ) → 2 * t ≤ length s → IsLeastPair s t l w → IsLeastPair s t g v → IsSamePolynomial l g × IsSamePolynomial w v
+
+-- With 2 t at most the number of syndromes, two least pairs whose lists have no number too many are the same lists.
+abbrev pub ExactLeastPairIsOne : Type 0
+ExactLeastPairIsOne =
+    (s l w g v : List ℕ) (t : ℕ) → 2 * t ≤ length s → IsLeastPair s t l w → IsLeastPair s t g v → IsExact l w → IsExact g v → (l ≡ g) × (w ≡ v)
 
 -- Where there is a pair, there is a least pair.
 abbrev pub LeastPairIsThere : Type 0

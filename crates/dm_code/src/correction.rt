@@ -5,9 +5,9 @@ ghost use Rattle.std.specs.List.{All};
 ghost use Rattle.gf301.specs.Polynomial.{Bytes};
 ghost use Rattle.dm_code.specs.Codeword.{IsCodeword, IsNear, distance};
 ghost use Rattle.dm_code.specs.Syndromes.{syndromes_of};
-ghost use Rattle.dm_code.specs.KeyEquation.{IsLeastPair};
+ghost use Rattle.dm_code.specs.KeyEquation.{IsBelow, IsLeastPair};
 
-use super::errors::{add_error, error_value, step, sum, trimmed};
+use super::errors::{add_error, error_value, first_coefficients, step, sums, trimmed};
 use super::key::{Key, KeySolver};
 use super::syndrome::syndromes;
 use arrayvec::ArrayVec;
@@ -34,7 +34,8 @@ pub struct BeyondLimit;
 /// No word of at most 255 codewords lies within k div 2 places of two codewords, so there is no choice. A word with more
 /// wrong codewords than that may lie near to another codeword, and is then corrected to it.
 ///
-/// For a word of n codewords, with t for k div 2, the work is some n k + n t + 5 t t products and that of the solver.
+/// For a word of n codewords, with t for k div 2, the work is some n k + 2 n t products, sixteen at a time, t k more and that
+/// of the solver; for a codeword n k alone.
 pub fn correct<S: KeySolver>(solver: &S, word: &[u8], k: usize) -> Result<Fixed, BeyondLimit>
     requires checks { 0 < k }
     requires most { k ≤ 68 }
@@ -80,16 +81,45 @@ fn correct_errors(word: &mut [u8], syndromes: &mut [u8], key: &Key)
     ensures kept { syndromes.new ≡ syndromes_of word.new (length syndromes.old) }
 {
     let locator = trimmed(&key.locator);
+    correct_roots(word, syndromes, locator, &key.evaluator);
+}
+
+/// Does so for a locator without zeros at its end. Roots are looked for, and what gives the errors' values is computed, at
+/// sixteen places at once, from the last place on.
+fn correct_roots(word: &mut [u8], syndromes: &mut [u8], locator: &[u8], evaluator: &[u8])
+    requires checks { 0 < length syndromes.old }
+    requires long { length word.old ≤ 255 }
+    requires syndromes { syndromes.old ≡ syndromes_of word.old (length syndromes.old) }
+    requires short { length locator.now ≤ 35 }
+    requires tight { (n : ℕ) → IsBelow n locator.now → length locator.now ≤ n }
+    requires key { IsLeastPair syndromes.old (length syndromes.old / 2) locator.now evaluator.now }
+    ensures near { (c : List ℕ) → IsNear (length syndromes.old) word.old c → word.new ≡ c }
+    ensures long { length word.new ≡ length word.old }
+    ensures bytes { Bytes word.new }
+    ensures kept { syndromes.new ≡ syndromes_of word.new (length syndromes.old) }
+{
     let mut terms: ArrayVec<u8, 35> = copy_of(locator);
     let terms = terms.as_mut_slice();
-    for place in (0..word.len()).rev() {
-        if sum(terms).0 == 0 {
-            let at = Gf::power_of_two((word.len() - 1 - place) as u16);
-            let value = error_value(locator, &key.evaluator, at);
-            word[place] = Gf(word[place]).add(value).0;
-            add_error(syndromes, value, at);
+    let mut upper_terms = first_coefficients(evaluator, locator.len().saturating_sub(1));
+    let upper_terms = upper_terms.as_mut_slice();
+    for part in 0..word.len().div_ceil(16) {
+        let (values, divisors) = sums(terms);
+        let (numerators, _) = sums(upper_terms);
+        let values = values.to_array();
+        let divisors = divisors.to_array();
+        let numerators = numerators.to_array();
+        let first = 16 * part;
+        for lane in 0..(word.len() - first).min(16) {
+            if values[lane] == 0 {
+                let place = word.len() - 1 - (first + lane);
+                let at = Gf::power_of_two((first + lane) as u16);
+                let value = error_value(Gf(numerators[lane]), Gf(divisors[lane]));
+                word[place] = Gf(word[place]).add(value).0;
+                add_error(syndromes, value, at);
+            }
         }
         step(terms);
+        step(upper_terms);
     }
 }
 

@@ -12,7 +12,7 @@ use gf301::{Gf, product_at};
 
 /// Solves the key equation by elimination. For each degree of the locator, from 0 on, its coefficients are the unknowns
 /// of a system of linear equations; the first system with a solution gives the least pair. The work grows with the
-/// fourth power of the number of syndromes.
+/// fourth power of the number of syndromes at the most.
 #[derive(Clone, Copy, Debug, PartialEq, Eq)]
 pub struct Elimination;
 

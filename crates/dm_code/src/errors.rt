@@ -4,14 +4,16 @@
 //! read as one with the highest power first, has the inverses of its roots as roots: so read, the error locator is 0 at
 //! the locators of the wrong places.
 
-ghost use Rattle.std.specs.Prelude.{◌≡◌, ◌+◌, ◌-◌, ◌<◌, ◌≤◌, ℕ, suc, length, get_or};
+ghost use Rattle.std.specs.Prelude.{◌≡◌, ◌+◌, ◌-◌, ◌*◌, ◌<◌, ◌≤◌, ℕ, suc, length, get_or, map};
 ghost use Rattle.gf301.specs.Field.{◌⊕◌, ◌⊗◌, raise, power};
 ghost use Rattle.gf301.specs.Polynomial.{value, values_from, coefficient};
-ghost use Rattle.gf301.proofs.PolyLaws.{quotient};
 ghost use Rattle.dm_code.specs.KeyEquation.{IsBelow};
 ghost use Rattle.dm_code.specs.KeyEquationLaws.{IsSamePolynomial};
+ghost use Rattle.dm_code.specs.OddTerms.{odd_part};
 
-use gf301::Gf;
+use arrayvec::ArrayVec;
+use gf301::{Gf, power_row, scaled};
+use std::simd::prelude::*;
 
 /// The list without the zeros at its end.
 pub fn trimmed(list: &[u8]) -> &[u8]
@@ -28,59 +30,62 @@ pub fn trimmed(list: &[u8]) -> &[u8]
     &list[..size]
 }
 
-/// The sum of all terms, which is the polynomial's value at 1.
-pub fn sum(terms: &[u8]) -> Gf
-    ensures { result.0 ≡ value terms.now 1 }
+/// The values of a polynomial, its highest power first, at the sixteen elements 2^0 to 2^15, and there the sums of its
+/// terms of odd powers.
+pub fn sums(terms: &[u8]) -> (Simd<u8, 16>, Simd<u8, 16>)
+    requires { length terms.now ≤ 35 }
+    ensures values { result.0 ≡ map (value terms.now) (values_from power 0 16) }
+    ensures odd { result.1 ≡ map (odd_part terms.now) (values_from power 0 16) }
 {
-    let mut sum = Gf(0);
-    for a in terms {
-        sum = sum.add(Gf(*a));
+    let mut values = u8x16::splat(0);
+    let mut odd = u8x16::splat(0);
+    for after in 0..terms.len() {
+        let term = scaled(terms[terms.len() - 1 - after], power_row(after, 0));
+        values ^= term;
+        if after % 2 == 1 {
+            odd ^= term;
+        }
     }
-    sum
+    (values, odd)
 }
 
-/// Steps from the terms of a polynomial at an element to those at its double: each term is multiplied by its power of 2.
+/// Steps from the terms of a polynomial at an element to those at 2^16 times it: each term is multiplied by its power of
+/// 2^16.
 pub fn step(terms: &mut [u8])
     requires { length terms.old ≤ 35 }
     ensures long { length terms.new ≡ length terms.old }
-    ensures each { (i : ℕ) → i < length terms.old → get_or terms.new i 0 ≡ get_or terms.old i 0 ⊗ power (length terms.old - suc i) }
+    ensures each { (i : ℕ) → i < length terms.old → get_or terms.new i 0 ≡ get_or terms.old i 0 ⊗ power (16 * (length terms.old - suc i)) }
 {
     for i in 0..terms.len() {
-        let power = Gf::power_of_two((terms.len() - 1 - i) as u16);
+        let power = Gf::power_of_two(16 * (terms.len() - 1 - i) as u16);
         terms[i] = Gf(terms[i]).mul(power).0;
     }
 }
 
-/// The value of the error at the place with the locator `at`, a root of the error locator: the value of the evaluator,
-/// divided by that of the error locator without this root. Synthetic division gives the latter. It is 0 where the root
-/// is a double one.
-pub fn error_value(locator: &[u8], evaluator: &[u8], at: Gf) -> Gf
+/// The value of the error at a place whose locator is a root of the error locator: the value of the error evaluator there,
+/// divided by the sum of the error locator's terms of odd powers, which is the place's locator times the value of the error
+/// locator without this root. It is 0 where the root is a double one.
+pub fn error_value(numerator: Gf, divisor: Gf) -> Gf
     ensures byte { result.0 < 256 }
-    ensures value { 0 < at.0 ⊗ value (quotient at.0 0 locator.now) at.0 → (at.0 ⊗ value (quotient at.0 0 locator.now) at.0) ⊗ result.0 ≡ value (values_from (coefficient evaluator.now) 0 (length locator.now - 1)) at.0 }
-    ensures double { at.0 ⊗ value (quotient at.0 0 locator.now) at.0 ≡ 0 → result.0 ≡ 0 }
+    ensures value { 0 < divisor.0 → divisor.0 ⊗ result.0 ≡ numerator.0 }
+    ensures double { divisor.0 ≡ 0 → result.0 ≡ 0 }
 {
-    let mut rest = Gf(0);
-    let mut quotient = Gf(0);
-    for a in locator {
-        quotient = quotient.mul(at).add(rest);
-        rest = rest.mul(at).add(Gf(*a));
-    }
-    let divisor = at.mul(quotient);
     if divisor.0 == 0 {
         return Gf(0);
     }
-    first_value(evaluator, locator.len().saturating_sub(1), at).mul(divisor.inverse())
+    numerator.mul(divisor.inverse())
 }
 
-/// The value of the first `count` coefficients, the first one at the highest power.
-fn first_value(list: &[u8], count: usize, at: Gf) -> Gf
-    ensures { result.0 ≡ value (values_from (coefficient list.now) 0 count) at.0 }
+/// The first `count` coefficients of a list, which are 0 past its end.
+pub fn first_coefficients(list: &[u8], count: usize) -> ArrayVec<u8, 34>
+    requires { count ≤ 34 }
+    ensures { result.items ≡ values_from (coefficient list.now) 0 count }
 {
-    let mut sum = Gf(0);
+    let mut first = ArrayVec::new();
     for i in 0..count {
-        sum = sum.mul(at).add(coefficient_at(list, i));
+        first.push(coefficient_at(list, i).0);
     }
-    sum
+    first
 }
 
 /// The coefficient at place `i`, which is 0 past the end of the list.

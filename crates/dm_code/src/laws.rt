@@ -1,7 +1,7 @@
 //! Laws of the definitions: facts about codewords and the key equation alone, whatever code writes or reads them.
 
 ghost use Rattle.dm_code.specs.CodewordLaws.{CodewordsLieApart, CloseCodewordsAreOne, NearCodewordIsOne, NearCodewordIsThereOrNot, FrontDeterminesChecks, ChecksAreThere, CodewordsAreBytes, CodewordsHaveNoSyndromes};
-ghost use Rattle.dm_code.specs.KeyEquationLaws.{PairsAreMultiples, LeastPairIsOne, LeastPairIsThere};
+ghost use Rattle.dm_code.specs.KeyEquationLaws.{PairsAreMultiples, LeastPairIsOne, ExactLeastPairIsOne, LeastPairIsThere};
 
 /// The distance law: two different codewords of k checks and one length of at most 255 differ in at least k + 1 places.
 /// So two that differ in at most k places are one.
@@ -48,6 +48,12 @@ pub fn pairs_are_multiples()
 /// With 2 t at most the number of syndromes, two least pairs are equal as polynomials.
 pub fn least_pair_is_one()
     ensures { LeastPairIsOne }
+{}
+
+/// With 2 t at most the number of syndromes, two least pairs whose lists have no number too many are the same lists: what
+/// [`crate::Quick`] answers is determined, list by list.
+pub fn exact_least_pair_is_one()
+    ensures { ExactLeastPairIsOne }
 {}
 
 /// Where there is a pair of the key equation, there is a least pair.

@@ -8,11 +8,16 @@
 //! [`encode`] makes the check codewords of a block. [`correct`] gives the codeword within k div 2 wrong codewords of a
 //! word, or says that there is none; it takes the [`syndromes`], has a [`KeySolver`] solve the key equation for them,
 //! and finds the wrong places and what is wrong there from the answer. There are two solvers: [`Quick`], whose work grows
-//! with the square of the number of syndromes, and [`Elimination`], whose work grows with its fourth power.
+//! with the square of the number of syndromes at the most, and [`Elimination`], whose work grows with its fourth power at
+//! the most.
+//!
+//! All but the solvers works in lanes, on sixteen codewords, roots or places at once ([`gf301::scaled`]): check codewords
+//! are what is left of a division in place, syndromes are sums over parts of a word, and roots of the error locator are
+//! looked for at sixteen places together.
 //!
 //! What the contracts say is defined in `specs/`: `Codeword`, `Syndromes` and `KeyEquation`. What holds of these
 //! definitions, whatever the code does, is stated in `CodewordLaws` and `KeyEquationLaws` there and proved in [`laws`].
-//! `LinearSystem` serves the private functions of the elimination alone.
+//! `LinearSystem` serves the private functions of the elimination alone, and `OddTerms` those that find errors.
 #![tactic(auto)]
 
 mod correction;

@@ -1,9 +1,9 @@
 //! The key equation by the algorithm of Berlekamp and Massey.
 
-ghost use Rattle.std.specs.Prelude.{◌≡◌, ◌+◌, ◌*◌, ◌^◌, ◌<◌, ◌≤◌, ℕ, [], ◌∷◌, length, IfNone, IfSome};
+ghost use Rattle.std.specs.Prelude.{◌≡◌, ◌+◌, ◌-◌, ◌*◌, ◌^◌, ◌<◌, ◌≤◌, ℕ, [], ◌∷◌, length, min, IfNone, IfSome};
 ghost use Rattle.gf301.specs.Field.{◌⊕◌, ◌⊗◌};
 ghost use Rattle.gf301.specs.Polynomial.{Bytes, coefficient, convolution};
-ghost use Rattle.dm_code.specs.KeyEquation.{IsLeastPair, NoPair};
+ghost use Rattle.dm_code.specs.KeyEquation.{IsLeastPair, IsExact, NoPair};
 
 use super::errors::coefficient_at;
 use super::key::{Key, KeySolver};
@@ -21,13 +21,20 @@ impl Quick {
     /// What [`KeySolver::solve`] answers for the syndromes `s` and the limit `t`, and the products and inversions that were
     /// made for it: for k syndromes at most 4 k^2 products and k inversions. There are at most 68 syndromes, and 2 t is at
     /// most their number.
+    ///
+    /// Every product and every inversion goes through the [`Meter`]. So an answer takes a product for each syndrome or more,
+    /// also a None takes one where there are syndromes, and a locator of more than one coefficient takes an inversion.
     pub fn solve_counted(&self, s: &[u8], t: usize) -> (Option<Key>, Meter)
         requires few { length s.now ≤ 68 }
         requires half { 2 * t ≤ length s.now }
         ensures least { IfSome result.0 (λ key. IsLeastPair s.now t key.locator.items key.evaluator.items) }
         ensures none { IfNone result.0 (NoPair s.now t) }
+        ensures exact { IfSome result.0 (λ key. IsExact key.locator.items key.evaluator.items) }
         ensures products { result.1.products ≤ 4 * length s.now * length s.now }
         ensures inversions { result.1.inversions ≤ length s.now }
+        ensures each_product { IfSome result.0 (λ _. length s.now ≤ result.1.products) }
+        ensures some_product { 0 < length s.now → 0 < result.1.products }
+        ensures some_inversion { IfSome result.0 (λ key. 1 < length key.locator.items → 0 < result.1.inversions) }
     {
         let mut meter = Meter::default();
         let mut search = Search::new();
@@ -53,7 +60,15 @@ impl Quick {
 }
 
 impl KeySolver for Quick {
-    fn solve(&self, s: &[u8], t: usize) -> Option<Key> {
+    /// What [`Quick::solve_counted`] answers, without the counts: the lists of both are those of the least pair with no number
+    /// too many, and so the same ([`crate::laws::exact_least_pair_is_one`]).
+    fn solve(&self, s: &[u8], t: usize) -> Option<Key>
+        requires few { length s.now ≤ 68 }
+        requires half { 2 * t ≤ length s.now }
+        ensures least { IfSome result (λ key. IsLeastPair s.now t key.locator.items key.evaluator.items) }
+        ensures none { IfNone result (NoPair s.now t) }
+        ensures exact { IfSome result (λ key. IsExact key.locator.items key.evaluator.items) }
+    {
         self.solve_counted(s, t).0
     }
 }
@@ -106,10 +121,9 @@ impl Search {
         ensures bytes { Bytes self.new.locator.items }
         ensures low { (i : ℕ) → i < self.old.gap → coefficient self.new.locator.items i ≡ coefficient self.old.locator.items i }
         ensures high { (i : ℕ) → coefficient self.new.locator.items (self.old.gap + i) ≡ coefficient self.old.locator.items (self.old.gap + i) ⊕ (discrepancy.0 ⊗ self.old.inverse.0) ⊗ coefficient self.old.earlier.items i }
-        ensures grown { length self.old.locator.items ≤ degree → (self.new.earlier.items ≡ self.old.locator.items) × (discrepancy.0 ⊗ self.new.inverse.0 ≡ 1) × (self.new.gap ≡ 0) }
-        ensures kept { length self.old.locator.items ≡ degree + 1 → (self.new.earlier.items ≡ self.old.earlier.items) × (self.new.inverse.0 ≡ self.old.inverse.0) × (self.new.gap ≡ self.old.gap) }
-        ensures products { meter.new.products ≤ meter.old.products + degree + 2 }
-        ensures inversions { meter.new.inversions ≤ meter.old.inversions + 1 }
+        ensures grown { length self.old.locator.items ≤ degree → (self.new.earlier.items ≡ self.old.locator.items) × (discrepancy.0 ⊗ self.new.inverse.0 ≡ 1) × (self.new.gap ≡ 0) × (meter.new.inversions ≡ meter.old.inversions + 1) }
+        ensures kept { length self.old.locator.items ≡ degree + 1 → (self.new.earlier.items ≡ self.old.earlier.items) × (self.new.inverse.0 ≡ self.old.inverse.0) × (self.new.gap ≡ self.old.gap) × (meter.new.inversions ≡ meter.old.inversions) }
+        ensures products { meter.new.products + self.old.gap ≡ meter.old.products + degree + 2 }
     {
         let factor = meter.mul(discrepancy, self.inverse);
         let locator = self.with_multiple(factor, degree, meter);
@@ -132,7 +146,7 @@ impl Search {
         ensures bytes { Bytes result.items }
         ensures low { (i : ℕ) → i < self.now.gap → coefficient result.items i ≡ coefficient self.now.locator.items i }
         ensures high { (i : ℕ) → coefficient result.items (self.now.gap + i) ≡ coefficient self.now.locator.items (self.now.gap + i) ⊕ factor.0 ⊗ coefficient self.now.earlier.items i }
-        ensures products { meter.new.products ≤ meter.old.products + degree + 1 }
+        ensures products { meter.new.products + self.now.gap ≡ meter.old.products + degree + 1 }
         ensures inversions { meter.new.inversions ≡ meter.old.inversions }
     {
         let mut sum = ArrayVec::new();
@@ -158,7 +172,7 @@ fn evaluator_of(locator: &[u8], s: &[u8], meter: &mut Meter) -> ArrayVec<u8, 34>
     ensures long { length result.items + 1 ≡ length locator.now }
     ensures each { (i : ℕ) → i < length result.items → coefficient result.items i ≡ convolution (coefficient locator.now) (coefficient s.now) i }
     ensures bytes { Bytes result.items }
-    ensures products { meter.new.products ≤ meter.old.products + length result.items * length locator.now }
+    ensures products { 2 * meter.new.products ≡ 2 * meter.old.products + length result.items * length locator.now }
     ensures inversions { meter.new.inversions ≡ meter.old.inversions }
 {
     let mut evaluator = ArrayVec::new();
@@ -173,7 +187,7 @@ fn product_at(locator: &[u8], s: &[u8], n: usize, meter: &mut Meter) -> Gf
     requires within { n < length s.now }
     requires room { meter.old.products + length locator.now < 2 ^ 32 }
     ensures coefficient { result.0 ≡ convolution (coefficient locator.now) (coefficient s.now) n }
-    ensures products { meter.new.products ≤ meter.old.products + length locator.now }
+    ensures products { meter.new.products ≡ meter.old.products + min (length locator.now) (n + 1) }
     ensures inversions { meter.new.inversions ≡ meter.old.inversions }
 {
     let mut sum = Gf(0);

@@ -22,21 +22,25 @@ fn has_key<S: KeySolver>(solver: &S, s: &[u8], t: usize, locator: &[u8], evaluat
     }
 }
 
-/// Whether the counts of `Quick` are within their bounds: from above for every answer, from below where a locator other
-/// than 1 was found.
+/// Whether `Quick` answers the same with and without counts, list by list, and the counts are within their bounds: from above
+/// for every answer, and from below: a product for each syndrome where there is an answer, a product where there is none,
+/// and an inversion where a locator other than 1 was found.
 fn is_counted(s: &[u8], t: usize) -> bool
     requires few { length s.now ≤ 68 }
     requires half { 2 * t ≤ length s.now }
 {
     let k = s.len() as u32;
     let (key, meter) = Quick.solve_counted(s, t);
+    let same = Quick.solve(s, t) == key;
+    let least = if key.is_some() { k } else { k.min(1) };
     let terms = match &key {
         Some(key) => trimmed(&key.locator).len(),
         None => 0,
     };
     let some = terms <= 1 || (meter.products > 0 && meter.inversions > 0);
     let many = terms <= t || meter.products as usize >= t * t / 4;
-    meter.products <= 4 * k * k && meter.inversions <= k && some && many
+    let most = meter.products <= 4 * k * k && meter.inversions <= k;
+    same && most && meter.products >= least && some && many
 }
 
 /// Whether both solvers answer the same for the syndromes of a word, by counts within their bounds.

@@ -68,11 +68,22 @@ fn syndromes_of_a_block(rt: HostRuntime) {
     assert_eq!(rt; syndromes(&[1, 0, 0], 3).as_slice(), [4, 16, 64].as_slice());
 }
 
-/// Without a full group of 16 roots, without a rest, and with four groups and a rest of four.
+/// Without a full group of 16 roots, without a rest, and with two and four groups and a rest; words with and without a
+/// rest by 16 and 32 codewords.
 #[test]
 fn syndromes_are_values_at_the_roots(rt: HostRuntime) {
     let list = pseudorandom(7, 19);
-    for (k, count) in [(5, 6), (5, 144), (48, 49), (48, 144), (68, 69), (68, 144)] {
+    for (k, count) in [
+        (5, 6),
+        (5, 144),
+        (42, 64),
+        (42, 111),
+        (48, 49),
+        (48, 144),
+        (68, 69),
+        (68, 144),
+        (68, 255),
+    ] {
         assert!(rt; k <= 68 && count <= 255);
         let word = &list[..count];
         let syndromes = syndromes(word, k);

@@ -3,8 +3,10 @@
 ghost use Rattle.std.specs.Prelude.{◌≡◌, ◌<◌, ℕ};
 ghost use Rattle.gf301.specs.Field.{◌⊕◌, ◌⊗◌, power};
 
+use super::product_rows::{HIGH, LOW};
+
 /// 2 to the power e at each place e below 255. The element 2 generates all elements but 0.
-static POWERS: [u8; 255] = [
+pub(crate) static POWERS: [u8; 255] = [
     1, 2, 4, 8, 16, 32, 64, 128, 45, 90, 180, 69, 138, 57, 114, 228, 229, 231, 227, 235, 251, 219,
     155, 27, 54, 108, 216, 157, 23, 46, 92, 184, 93, 186, 89, 178, 73, 146, 9, 18, 36, 72, 144, 13,
     26, 52, 104, 208, 141, 55, 110, 220, 149, 7, 14, 28, 56, 112, 224, 237, 247, 195, 171, 123,
@@ -49,14 +51,15 @@ impl Gf {
         Gf(self.0 ^ other.0)
     }
 
-    /// The product of two elements: without carries, modulo 301.
+    /// The product of two elements: without carries, modulo 301. It is the sum of the products with the two halves of the
+    /// other one's bits.
     pub fn mul(self, other: Gf) -> Gf
         ensures { result.0 ≡ self.0 ⊗ other.0 }
     {
-        if self.0 == 0 || other.0 == 0 {
-            return Gf(0);
-        }
-        Gf::power_of_two(u16::from(self.log()) + u16::from(other.log()))
+        let row = 16 * usize::from(self.0);
+        let low = LOW[row + usize::from(other.0 % 16)];
+        let high = HIGH[row + usize::from(other.0 / 16)];
+        Gf(low ^ high)
     }
 
     /// The element whose product with this one is 1. 0 has none.

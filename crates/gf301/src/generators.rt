@@ -1,10 +1,12 @@
 //! The generator polynomials of the Reed-Solomon codes of ISO/IEC 16022, ECC 200.
 
-ghost use Rattle.std.specs.Prelude.{◌≡◌, ◌≤◌};
+ghost use Rattle.std.specs.Prelude.{◌≡◌, ◌≤◌, ◌<◌, ℕ, suc, get_or};
 ghost use Rattle.gf301.specs.Generator.{generator};
+ghost use Rattle.gf301.specs.Polynomial.{coefficient};
 
 use super::field::Gf;
 use super::polynomial::{Poly, times};
+use super::tap_rows::TAP_ROWS;
 
 /// The generator polynomial for k check codewords, k of 1 to 68: (x - 2^1) (x - 2^2) .. (x - 2^k), with k + 1
 /// coefficients, of which the first is 1.
@@ -19,4 +21,13 @@ pub fn generator(k: usize) -> Poly
         product = times(&[1, Gf::power_of_two(i).0], &product);
     }
     product
+}
+
+/// The coefficients of the generator for k check codewords after the first, k of at most 68, and then zeros.
+#[inline]
+pub fn taps(k: usize) -> &'static [u8; 80]
+    requires { k ≤ 68 }
+    ensures { (i : ℕ) → i < 80 → get_or result.now i 0 ≡ coefficient (generator k) (suc i) }
+{
+    &TAP_ROWS[k]
 }

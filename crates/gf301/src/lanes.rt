@@ -1,11 +1,14 @@
 //! The field in lanes: sixteen elements in one vector, each operation at once in all of them.
 
-ghost use Rattle.std.specs.Prelude.{◌≡◌, ◌≤◌, map};
+ghost use Rattle.std.specs.Prelude.{◌≡◌, ◌≤◌, ◌<◌, ◌%◌, ℕ, length, get_or, map};
+ghost use Rattle.std.specs.List.{All};
 ghost use Rattle.std.specs.Simd.Lanes.{zip2};
-ghost use Rattle.gf301.specs.Field.{◌⊗◌, power};
+ghost use Rattle.gf301.specs.Field.{◌⊕◌, ◌⊗◌, raise, power};
 ghost use Rattle.gf301.specs.Polynomial.{values_from};
 
-use super::field::Gf;
+use super::field::{Gf, POWERS};
+use super::power_rows::POWER_ROWS;
+use super::product_rows::{HIGH, LOW};
 use std::simd::prelude::*;
 
 /// The sixteen powers of 2 with exponents of `first` to `first` + 15, in this order. `first` is at most 255, after which
@@ -14,11 +17,7 @@ pub fn powers(first: u16) -> [u8; 16]
     requires { first ≤ 255 }
     ensures { result ≡ values_from power first 16 }
 {
-    let mut powers = [0; 16];
-    for i in 0..16u16 {
-        powers[usize::from(i)] = Gf::power_of_two(first + i).0;
-    }
-    powers
+    scaled(Gf::power_of_two(first).0, u8x16::from_slice(&POWERS)).to_array()
 }
 
 /// In each lane the product of the two elements there. It takes no table: `a` is doubled over and over, and the bits of
@@ -48,4 +47,52 @@ fn doubled(a: Simd<u8, 16>) -> Simd<u8, 16>
 {
     let carries = a.simd_ge(u8x16::splat(128));
     (a + a) ^ carries.select(u8x16::splat(45), u8x16::splat(0))
+}
+
+/// In each lane its product with `c`: the sum of the products of `c` with the low and the high four bits there, which are
+/// looked up.
+#[inline]
+pub fn scaled(c: u8, v: Simd<u8, 16>) -> Simd<u8, 16>
+    ensures { result ≡ map (λ x. c ⊗ x) v }
+{
+    let row = 16 * usize::from(c);
+    let low = by_table(u8x16::from_slice(&LOW[row..]), v & u8x16::splat(15));
+    let high = by_table(u8x16::from_slice(&HIGH[row..]), v >> u8x16::splat(4));
+    low ^ high
+}
+
+/// In each lane the number of the table at its place there, which is below 16.
+#[inline]
+fn by_table(table: Simd<u8, 16>, places: Simd<u8, 16>) -> Simd<u8, 16>
+    requires { All (λ i. i < 16) places }
+    ensures { result ≡ map (λ i. get_or table i 0) places }
+{
+    table.swizzle_dyn(places)
+}
+
+/// The sixteen powers of 2 with exponents of `first` to `first` + 15, each to the power e.
+#[inline]
+pub fn power_row(e: usize, first: usize) -> Simd<u8, 16>
+    requires exponent { e < 35 }
+    requires first { first ≤ 65 }
+    ensures { result ≡ map (λ x. raise x e) (values_from power first 16) }
+{
+    u8x16::from_slice(&POWER_ROWS[e][first..])
+}
+
+/// Adds to the numbers of a list the products of `c` with those of another, sixteen at a time. The list's length is a
+/// multiple of 16, and the other is as long or longer.
+#[inline]
+pub fn add_scaled(sum: &mut [u8], c: u8, list: &[u8])
+    requires enough { length sum.old ≤ length list.now }
+    requires lanes { length sum.old % 16 ≡ 0 }
+    ensures long { length sum.new ≡ length sum.old }
+    ensures each { (i : ℕ) → i < length sum.old → get_or sum.new i 0 ≡ get_or sum.old i 0 ⊕ c ⊗ get_or list.now i 0 }
+{
+    for group in 0..sum.len() / 16 {
+        let at = 16 * group;
+        let more = scaled(c, u8x16::from_slice(&list[at..]));
+        let next = u8x16::from_slice(&sum[at..]) ^ more;
+        next.copy_to_slice(&mut sum[at..]);
+    }
 }

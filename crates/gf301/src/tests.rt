@@ -1,6 +1,8 @@
 //! Tests of the field, of its operations in lanes and counted, and of generators.
 
-use super::{Gf, Meter, generator, lanes_mul, powers, times, value_at};
+use super::{
+    Gf, Meter, add_scaled, generator, lanes_mul, power_row, powers, scaled, taps, times, value_at,
+};
 use std::simd::prelude::*;
 
 #[test]
@@ -56,6 +58,17 @@ fn powers_and_products_in_lanes(rt: HostRuntime) {
             106, 133, 78, 21, 84, 125, 217, 19, 76, 29, 116, 253, 131, 86, 117, 249
         ]
     );
+}
+
+#[test]
+fn multiples_in_lanes(rt: HostRuntime) {
+    assert_eq!(rt; scaled(66, u8x16::splat(62)).to_array(), [122; 16]);
+    assert_eq!(rt; scaled(251, u8x16::splat(111)).to_array(), [20; 16]);
+    assert_eq!(rt; scaled(2, power_row(1, 0)).to_array(), powers(1));
+    let mut sum = [1; 32];
+    add_scaled(&mut sum, 66, &[62; 40]);
+    assert_eq!(rt; sum, [1 ^ 122; 32]);
+    assert_eq!(rt; &taps(5)[..6], [62, 111, 15, 48, 228, 0].as_slice());
 }
 
 #[test]

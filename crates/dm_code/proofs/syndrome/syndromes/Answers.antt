@@ -16,8 +16,8 @@ pub loop-i-preserved : goal.loop-i-preserved
 loop-i-preserved c =
     let w = c.args.word.now in
     let i = c.loop-i.i in
-    c.push.ensures.items ∙ ap (λ t. t ++ c.value_at.result.0 ∷ []) c.loop-i.invariant
-    ∙ ap (λ a. syndromes_of w (i - 1) ++ a ∷ []) (c.value_at.ensures ∙ ap (value w) (c.power_of_two.ensures ∙ ap power (let e : i ≡ 1 + (i - 1) = omega arith in e)))
+    c.push.ensures.items ∙ ap (λ t. t ++ c.value_by_sixteens.result.0 ∷ []) c.loop-i.invariant
+    ∙ ap (λ a. syndromes_of w (i - 1) ++ a ∷ []) (c.value_by_sixteens.ensures ∙ ap (λ j. value w (power j)) (let e : i ≡ 1 + (i - 1) = omega arith in e))
     ∙ sym (syndromes_push w (i - 1)) ∙ ap (syndromes_of w) (let e : suc (i - 1) ≡ i + 1 - 1 = omega arith in e)
 
 pub returns-clause-bytes : goal.returns-clause-bytes

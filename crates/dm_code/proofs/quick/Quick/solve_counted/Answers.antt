@@ -1,10 +1,10 @@
-use Rattle.std.proofs.Common.{◌≡◌, ◌+◌, ◌-◌, ◌*◌, ◌≤◌, [], length, refl, sym, ap, subst, ◌∙◌, arith, inl, inr}
+use Rattle.std.proofs.Common.{◌≡◌, ◌+◌, ◌-◌, ◌*◌, ◌<◌, ◌≤◌, [], length, refl, sym, ap, subst, ◌∙◌, arith, inl, inr}
 use Rattle.std.proofs.lemmas.Bool.{cases_lt}
 use Rattle.gf301.specs.Polynomial.{Bytes, coefficient, convolution}
 use Rattle.gf301.specs.declared.meter.Meter.{Meter}
 use Rattle.gf301.proofs.Weights.{bytes_cons}
 use Rattle.dm_code.specs.declared.quick.Search.{Search}
-use Rattle.dm_code.proofs.BerlekampMassey.{IsCorrected, restated, search_start, search_kept, search_same, search_grown, search_refuses, search_answers}
+use Rattle.dm_code.proofs.BerlekampMassey.{IsCorrected, restated, search_start, search_kept, search_same, search_grown, search_refuses, search_answers, search_exact}
 use Rattle.dm_code.proofs.Counts.{step_products, all_products}
 use Rattle.dm_code.proofs.quick.Quick.solve_counted.Goals as goal
 use Rattle.dm_code.proofs.quick.Quick.solve_counted.Goals.{then-discrepancy-ne0+else-next-t, else-discrepancy-ne0}
@@ -18,6 +18,8 @@ loop-n-init c =
       bytes = subst Bytes (sym e.locator) (bytes_cons 1 [] (omega arith) (λ k d h. absurd (omega arith)));
       products = omega (arith, c.default-meter.ensures.0);
       inversions = omega (arith, c.default-meter.ensures.1);
+      each_product = omega arith;
+      some_inversion = λ h. absurd (omega (arith, ap length e.locator));
     }
 
 pub returns-then-next-t-clause-none : goal.returns-then-next-t-clause-none
@@ -63,7 +65,25 @@ loop-n-preserved c =
             bytes = subst (λ (q : Search). Bytes q.locator.items) u r.bytes;
             products = step_products n c.args.t c.loop-n.meter.products c.if-discrepancy-ne0.meter.products c.loop-n.invariant.products
                 (omega (arith, r.products, c.product_at-discrepancy.ensures.products, ap length c.deref.ensures.0, c.loop-n.invariant.within, w.if-next-t.false, ap (λ (q : Meter). q.products) w.meter-is));
-            inversions = omega (arith, r.inversions, c.product_at-discrepancy.ensures.inversions, c.loop-n.invariant.inversions, ap (λ (q : Meter). q.inversions) w.meter-is);
+            inversions = elim (cases_lt n (length l - 1 + (length l - 1))) [
+              | inl b ↦
+                  let o = r.kept (omega (arith, next, size, h.long)) in
+                  omega (arith, o.3, c.product_at-discrepancy.ensures.inversions, c.loop-n.invariant.inversions, ap (λ (q : Meter). q.inversions) w.meter-is)
+              | inr b ↦
+                  let o = r.grown (omega (arith, next, size, h.long)) in
+                  omega (arith, o.3, c.product_at-discrepancy.ensures.inversions, c.loop-n.invariant.inversions, ap (λ (q : Meter). q.inversions) w.meter-is)
+            ];
+            each_product = omega (arith, r.products, c.product_at-discrepancy.ensures.products, ap length c.deref.ensures.0, h.long, c.loop-n.invariant.each_product, ap (λ (q : Meter). q.products) w.meter-is, h.room, w.max-next.ensures, size);
+            some_inversion = λ g. elim (cases_lt n (length l - 1 + (length l - 1))) [
+              | inl b ↦
+                  let o = r.kept (omega (arith, next, size, h.long)) in
+                  let i : 0 < c.loop-n.meter.inversions =
+                  c.loop-n.invariant.some_inversion (omega (arith, r.long, next, size, h.long, ap (λ (q : Search). length q.locator.items) u)) in
+                  omega (arith, o.3, c.product_at-discrepancy.ensures.inversions, ap (λ (q : Meter). q.inversions) w.meter-is)
+              | inr b ↦
+                  let o = r.grown (omega (arith, next, size, h.long)) in
+                  omega (arith, o.3, ap (λ (q : Meter). q.inversions) w.meter-is)
+            ];
           }
       | else-discrepancy-ne0 w ↦
           let u : old ≡ new = sym w.search-is in
@@ -75,6 +95,10 @@ loop-n-preserved c =
             products = step_products n c.args.t c.loop-n.meter.products c.if-discrepancy-ne0.meter.products c.loop-n.invariant.products
                 (omega (arith, c.product_at-discrepancy.ensures.products, ap length c.deref.ensures.0, c.loop-n.invariant.within, ap (λ (q : Meter). q.products) w.meter-is));
             inversions = omega (arith, c.product_at-discrepancy.ensures.inversions, c.loop-n.invariant.inversions, ap (λ (q : Meter). q.inversions) w.meter-is);
+            each_product = omega (arith, c.product_at-discrepancy.ensures.products, ap length c.deref.ensures.0, h.long, c.loop-n.invariant.each_product, ap (λ (q : Meter). q.products) w.meter-is);
+            some_inversion = λ g.
+                let i : 0 < c.loop-n.meter.inversions = c.loop-n.invariant.some_inversion (omega (arith, ap (λ (q : Search). length q.locator.items) u)) in
+                omega (arith, c.product_at-discrepancy.ensures.inversions, ap (λ (q : Meter). q.inversions) w.meter-is);
           }
     ]
 
@@ -93,4 +117,7 @@ returns-clause-products c =
     all_products (length c.args.s.now) c.args.t d c.loop-n.meter.products c.evaluator_of-evaluator.new.meter.products (omega (arith, c.requires.half))
     (omega (arith, c.loop-n.invariant.within, r.long, ap length c.deref-2.ensures.0))
     (subst (λ n. c.loop-n.meter.products ≤ n * (2 * c.args.t + 3)) (let q : c.loop-n.n ≡ length c.args.s.now = omega arith in q) c.loop-n.invariant.products)
-    (subst (λ n. c.evaluator_of-evaluator.new.meter.products ≤ c.loop-n.meter.products + d * n) e r.products)
+    (let q : 2 * c.evaluator_of-evaluator.new.meter.products ≡ 2 * c.loop-n.meter.products + d * (d + 1) = r.products ∙ ap (λ n. 2 * c.loop-n.meter.products + d * n) e in omega arith)
+
+pub returns-clause-exact : goal.returns-clause-exact
+returns-clause-exact c = search_exact c.loop-n.invariant.search (omega arith) (omega (arith, c.evaluator_of-evaluator.ensures.long, ap length c.deref-2.ensures.0)) (returns-clause-least c)

@@ -1,4 +1,4 @@
-use Rattle.std.proofs.Common.{◌+◌, ◌-◌, ◌*◌, ◌≤◌, length}
+use Rattle.std.proofs.Common.{◌+◌, ◌-◌, ◌*◌, ◌<◌, ◌≤◌, length}
 use Rattle.gf301.specs.Polynomial.{Bytes}
 use Rattle.dm_code.proofs.BerlekampMassey.{IsSearch}
 use Rattle.dm_code.proofs.quick.Quick.solve_counted.Given as goal
@@ -10,4 +10,6 @@ invariant-loop-n l = record {
   bytes : Bytes l.search.locator.items;
   products : l.meter.products ≤ l.n * (2 * l.t + 3);
   inversions : l.meter.inversions ≤ l.n;
+  each_product : l.n ≤ l.meter.products;
+  some_inversion : 1 < length l.search.locator.items → 0 < l.meter.inversions;
 }

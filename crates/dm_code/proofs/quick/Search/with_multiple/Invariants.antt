@@ -1,4 +1,4 @@
-use Rattle.std.proofs.Common.{◌≡◌, ◌+◌, ◌<◌, ◌≤◌, ℕ, length, get_or}
+use Rattle.std.proofs.Common.{◌≡◌, ◌+◌, ◌<◌, min, ℕ, length, get_or}
 use Rattle.gf301.specs.Field.{◌⊕◌, ◌⊗◌}
 use Rattle.dm_code.proofs.quick.Search.with_multiple.Given as goal
 
@@ -8,6 +8,6 @@ invariant-loop-i l = record {
   low : (k : ℕ) → k < l.i → k < l.self.gap → get_or l.sum.items k 0 ≡ get_or l.self.locator.items k 0;
   high : (k : ℕ) → l.self.gap + k < l.i → get_or l.sum.items (l.self.gap + k) 0 ≡ get_or l.self.locator.items (l.self.gap + k) 0 ⊕ l.factor.0 ⊗ get_or l.self.earlier.items k 0;
   bytes : (k : ℕ) → k < l.i → get_or l.sum.items k 0 < 256;
-  products : l.meter.products ≤ l.initial.meter.products + l.i;
+  products : l.meter.products + min l.self.gap l.i ≡ l.initial.meter.products + l.i;
   inversions : l.meter.inversions ≡ l.initial.meter.inversions;
 }

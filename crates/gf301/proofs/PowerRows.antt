@@ -1,0 +1,104 @@
+-- The table of powers of powers, and lists to which multiples of others are added sixteen numbers at a time.
+use Rattle.std.proofs.Common.{◌≡◌, ℕ, ◌+◌, ◌-◌, ◌*◌, ◌%◌, ◌<◌, ◌≤◌, List, [], length, get_or, map, take, drop, refl, sym, ap, ◌∙◌, arith, bit_xor, true, eqb, inl, inr}
+use Rattle.std.proofs.lemmas.Bool.{eqb-true, cases_lt}
+use Rattle.std.proofs.lemmas.List.{get_or-map, length-map, ext_get_or, take-take}
+use Rattle.std.proofs.lemmas.Nat.{mod_below}
+use Rattle.std.proofs.lemmas.Simd.{length-zip2, length-chunk, get_or-zip2, get_or-chunk, get_or-put_chunk_below, get_or-put_chunk_at, get_or-put_chunk_above, length-put_chunk}
+use lib.Lanes.{zip2, chunk, put_chunk}
+use Rattle.gf301.specs.Field.{◌⊕◌, ◌⊗◌, raise, power}
+use Rattle.gf301.specs.Polynomial.{values_from}
+use Rattle.gf301.specs.declared.field.TheConstants.{POWERS}
+use Rattle.gf301.specs.declared.power_rows.TheConstants.{POWER_ROWS}
+use Rattle.gf301.proofs.Additive.{all_below, all_below_at}
+use Rattle.gf301.proofs.FieldLaws.{raise_add, raise_mul}
+use Rattle.gf301.proofs.PolyLaws.{length-values_from, get_or-values_from}
+use Rattle.gf301.proofs.Tables.{powers_at, power_mod}
+
+-- The row of an exponent.
+abbrev pub row : ℕ → List ℕ
+row e = get_or POWER_ROWS e []
+
+-- All 2835 numbers are looked up in the table of powers: at most 9 seconds and 0.7 GB for this whole file.
+rows_test : all_below 35 (λ e. all_below 81 (λ j. eqb (get_or (row e) j 0) (get_or POWERS (e * j % 255) 0))) ≡ true
+unfolding all_below
+rows_test = refl
+
+-- It holds at each place the power of 2 there.
+row_at : (e j : ℕ) → e < 35 → j < 81 → get_or (row e) j 0 ≡ power (e * j)
+row_at e j h l =
+    eqb-true _ _ (all_below_at 81 (λ j. eqb (get_or (row e) j 0) (get_or POWERS (e * j % 255) 0)) (all_below_at 35 (λ e. all_below 81 (λ j. eqb (get_or (row e) j 0) (get_or POWERS (e * j % 255) 0))) rows_test e h) j l)
+    ∙ powers_at (e * j % 255) (mod_below (e * j) 255 (omega arith)) ∙ power_mod (e * j)
+
+lengths_test : all_below 35 (λ e. eqb (length (row e)) 81) ≡ true
+unfolding all_below
+lengths_test = refl
+
+-- It is as long as there are powers.
+row_length : (e : ℕ) → e < 35 → length (row e) ≡ 81
+row_length e h = eqb-true (length (row e)) 81 (all_below_at 35 (λ e. eqb (length (row e)) 81) lengths_test e h)
+
+-- So sixteen of its numbers are powers of powers.
+row_lanes : (e first : ℕ) → e < 35 → first ≤ 65 → chunk first 16 (row e) ≡ map (λ x. raise x e) (values_from power first 16)
+row_lanes e first h l =
+    let n : length (chunk first 16 (row e)) ≡ 16 = length-chunk first 16 (row e) (omega (arith, row_length e h)) in
+    ext_get_or 0 (chunk first 16 (row e)) (map (λ x. raise x e) (values_from power first 16))
+    (n ∙ sym (length-map (values_from power first 16) (λ x. raise x e) ∙ length-values_from power first 16))
+    (λ i b.
+    let lt : i < 16 = omega (arith, n) in
+    get_or-chunk first 16 (row e) i 0 lt ∙ row_at e (first + i) h (omega arith)
+    ∙ ap power (let q : e * (first + i) ≡ (first + i) * e = omega arith in q) ∙ raise_mul 2 (first + i) e
+    ∙ ap (λ x. raise x e) (sym (get_or-values_from power first 16 i lt))
+    ∙ sym (get_or-map (λ x. raise x e) (values_from power first 16) i 0 0 (omega (arith, length-values_from power first 16))))
+
+-- Read from the part of the row from the first of them on.
+pub row_read : (e first : ℕ) → e < 35 → first ≤ 65 → take 16 (take (length (row e) - first) (drop first (row e))) ≡ map (λ x. raise x e) (values_from power first 16)
+row_read e first h l = take-take 16 (length (row e) - first) (drop first (row e)) (omega (arith, row_length e h)) ∙ row_lanes e first h l
+
+-- The first sixteen powers of 2, times the one with an exponent, are those from it on.
+pub later_powers : (first : ℕ) → map (λ x. power first ⊗ x) (chunk 0 16 POWERS) ≡ values_from power first 16
+later_powers first =
+    let n : length (chunk 0 16 POWERS) ≡ 16 = refl in
+    let m : length (map (λ x. power first ⊗ x) (chunk 0 16 POWERS)) ≡ 16 = length-map (chunk 0 16 POWERS) (λ x. power first ⊗ x) ∙ n in
+    ext_get_or 0 (map (λ x. power first ⊗ x) (chunk 0 16 POWERS)) (values_from power first 16) (m ∙ sym (length-values_from power first 16))
+    (λ i b.
+    let lt : i < 16 = omega (arith, m) in
+    get_or-map (λ x. power first ⊗ x) (chunk 0 16 POWERS) i 0 0 (omega (arith, n))
+    ∙ ap (λ y. power first ⊗ y) (get_or-chunk 0 16 POWERS i 0 lt ∙ ap (λ j. get_or POWERS j 0) (let q : 0 + i ≡ i = omega arith in q) ∙ powers_at i (omega arith))
+    ∙ sym (raise_add 2 first i) ∙ sym (get_or-values_from power first 16 i lt))
+
+-- ---- sixteen numbers more of a sum
+-- s is the sum of a and c times b at its first numbers, up to the place n, and is a from there on.
+pub record IsAddedTo (c : ℕ) (a b s : List ℕ) (n : ℕ) : Type 0 where
+  pub long : length s ≡ length a
+  pub done : (i : ℕ) → i < n → get_or s i 0 ≡ get_or a i 0 ⊕ c ⊗ get_or b i 0
+  pub left : (i : ℕ) → n ≤ i → get_or s i 0 ≡ get_or a i 0
+
+-- What is stored at sixteen places.
+abbrev pub stored : ℕ → List ℕ → List ℕ → ℕ → List ℕ
+stored c b s n = zip2 bit_xor (chunk n 16 s) (map (λ x. c ⊗ x) (chunk n 16 b))
+
+pub added_more : (c : ℕ) (a b s : List ℕ) (n : ℕ) → n + 16 ≤ length a → length a ≤ length b → IsAddedTo c a b s n → IsAddedTo c a b (put_chunk n s (stored c b s n)) (n + 16)
+added_more c a b s n h l k =
+    let cs : length (chunk n 16 s) ≡ 16 = length-chunk n 16 s (omega (arith, k.long)) in
+    let cb : length (chunk n 16 b) ≡ 16 = length-chunk n 16 b (omega arith) in
+    let m = map (λ x. c ⊗ x) (chunk n 16 b) in
+    let ml : length m ≡ 16 = length-map (chunk n 16 b) (λ x. c ⊗ x) ∙ cb in
+    let ys = stored c b s n in
+    let yl : length ys ≡ 16 = length-zip2 bit_xor (chunk n 16 s) m (cs ∙ sym ml) ∙ cs in
+    record {
+      long = length-put_chunk n s ys ∙ k.long;
+      done = λ i b'. elim (cases_lt i n) [
+        | inl o ↦ get_or-put_chunk_below n s ys i 0 o ∙ k.done i o
+        | inr o ↦
+            let j = i - n in
+            let jl : j < 16 = omega arith in
+            let q : i ≡ n + j = omega arith in
+            ap (λ z. get_or (put_chunk n s ys) z 0) q
+            ∙ get_or-put_chunk_at n s ys j 0 (omega (arith, yl)) (omega (arith, yl, k.long))
+            ∙ get_or-zip2 bit_xor (chunk n 16 s) m j 0 0 0 (omega (arith, cs)) (omega (arith, ml))
+            ∙ ap (λ z. z ⊕ get_or m j 0) (get_or-chunk n 16 s j 0 jl ∙ k.left (n + j) (omega arith))
+            ∙ ap (λ z. get_or a (n + j) 0 ⊕ z) (get_or-map (λ x. c ⊗ x) (chunk n 16 b) j 0 0 (omega (arith, cb)) ∙ ap (λ x. c ⊗ x) (get_or-chunk n 16 b j 0 jl))
+            ∙ ap (λ z. get_or a z 0 ⊕ c ⊗ get_or b z 0) (sym q)
+      ];
+      left = λ i o. get_or-put_chunk_above n s ys i 0 (omega (arith, yl)) ∙ k.left i (omega arith);
+    }
