@@ -1,84 +1,16 @@
--- Border cells by row and column, and the lists of them.
-use Rattle.std.proofs.Common.{◌≡◌, ◌≢◌, ℕ, zero, suc, ◌+◌, ◌-◌, ◌*◌, ◌/◌, ◌%◌, ◌<◌, ◌≤◌, Bool, true, false, not, ◌&&◌, ◌||◌, cond, List, [], ◌∷◌, ◌++◌, map, nat_eq, refl, sym, ◌∙◌, ap, arith}
-use Rattle.std.specs.Prelude.{filter, count_by, sum_by}
-use Rattle.std.specs.Bool.{beq}
-use Rattle.std.specs.List.{range_with_len, AllByRecursion}
+-- Border cells by row and column, and their faults.
+use Rattle.std.proofs.Common.{◌≡◌, ◌≢◌, ℕ, ◌+◌, ◌-◌, ◌*◌, ◌/◌, ◌%◌, ◌<◌, ◌≤◌, Bool, true, false, not, ◌&&◌, ◌||◌, [], ◌∷◌, ◌++◌, nat_eq, refl, sym, ◌∙◌, ap, arith}
+use Rattle.std.specs.Prelude.{count_by, sum_by}
+use Rattle.std.specs.List.{range_with_len}
 use Rattle.std.proofs.lemmas.Nat.{mod-mul-add, div-mul-add}
-use Rattle.std.proofs.lemmas.List.Sums.{sum_by-cons, sum_by_push, count_by-le-length}
-use Rattle.std.proofs.lemmas.List.FromFn.{length-range_with_len}
-use Rattle.dm_layout.specs.declared.border.BorderCell.{BorderCell}
+use Rattle.std.proofs.lemmas.List.Sums.{sum_by_push}
 use Rattle.dm_layout.specs.Sizes.{SizeRow, IsRow, regions_across}
-use Rattle.dm_layout.specs.Grid.{GridView, cell_at}
+use Rattle.dm_layout.specs.Grid.{GridView}
 use Rattle.dm_layout.specs.Border.{is_border, is_fault, symbol_line, mapping_line}
-use Rattle.dm_layout.specs.BorderWalk.{edge_cell, border_cells, IsBorderWalk}
 use Rattle.std.proofs.Math.Nat.{div-add-mod, mul-le-mul_right, lt_of_mul-lt-mul_right}
 use Rattle.std.proofs.lemmas.Bool.{and_parts}
 use Rattle.dm_layout.proofs.TableRows.{row_facts}
 use Rattle.dm_layout.proofs.Ranges.{range-append}
-
--- the walk of a row begins at its first column
-pub begin_walk : (s : SizeRow) (row : ℕ) → IsRow s → IsBorderWalk s.region_side s.side (row % (s.region_side + 2)) 0 0
-begin_walk s row h =
-    let facts = row_facts s h in
-    let none : regions_across s * (s.region_side + 2) + 0 ≡ s.side = omega (arith, facts.side) in
-    record {
-      whole = ap (λ n. n % (s.region_side + 2)) (sym none) ∙ mod-mul-add (regions_across s) (s.region_side + 2) 0 (omega arith);
-      small = facts.fits;
-      least = facts.least;
-      inner_in = omega arith;
-      within = omega arith;
-      across_is = omega arith;
-      on_edge = λ _. refl;
-    }
-
--- ---- faults
-
--- the border cell does not have its colour in this row
-abbrev pub is_wrong : GridView → ℕ → BorderCell → Bool
-is_wrong grid row cell = not (beq (cell_at grid row cell.column) cell.dark)
-
--- what is kept by one test and counted by another is what passes both
-count_by-map-filter : (p : ℕ → Bool) (m : ℕ → BorderCell) (f : BorderCell → Bool) (xs : List ℕ) → count_by f (map m (filter p xs)) ≡ count_by (λ x. p x && f (m x)) xs
-count_by-map-filter p m f [] = refl
-count_by-map-filter p m f (x ∷ xs) =
-    one (p x) (count_by-map-filter p m f xs) ∙ sym (sum_by-cons (λ y. cond (p y && f (m y)) 1 0) x xs)
-  where
-    one : (b : Bool) → count_by f (map m (filter p xs)) ≡ count_by (λ y. p y && f (m y)) xs →
-        count_by f (map m (cond b (x ∷ filter p xs) (filter p xs))) ≡ cond (b && f (m x)) 1 0 + count_by (λ y. p y && f (m y)) xs
-    one true e = sum_by-cons (λ c. cond (f c) 1 0) (m x) (map m (filter p xs)) ∙ ap (λ n. cond (f (m x)) 1 0 + n) e
-    one false e = omega (arith, e)
-
--- the wrong border cells of a row are its faults
-pub faults_of_row : (grid : GridView) (row : ℕ) → count_by (is_wrong grid row) (border_cells grid.size row) ≡ count_by (is_fault grid row) (range_with_len 0 grid.size.side)
-faults_of_row grid row =
-    count_by-map-filter (is_border grid.size row) (edge_cell grid.size.region_side (row % (grid.size.region_side + 2))) (is_wrong grid row) (range_with_len 0 grid.size.side)
-
--- one border cell is looked at
-pub counted : (grid : GridView) (row faults total : ℕ) (xs rest : List BorderCell) (cell : BorderCell) (b : Bool) → xs ≡ cell ∷ rest → is_wrong grid row cell ≡ b →
-    faults + count_by (is_wrong grid row) xs ≡ total → faults + cond b 1 0 + count_by (is_wrong grid row) rest ≡ total
-counted grid row faults total xs rest cell b e w h =
-    let one : count_by (is_wrong grid row) xs ≡ cond b 1 0 + count_by (is_wrong grid row) rest =
-    ap (count_by (is_wrong grid row)) e ∙ sum_by-cons (λ c. cond (is_wrong grid row c) 1 0) cell rest ∙ ap (λ v. cond v 1 0 + count_by (is_wrong grid row) rest) w in
-    omega (arith, one, h)
-
--- a row has no more faults than cells
-pub faults_fit : (grid : GridView) (row : ℕ) → count_by (is_fault grid row) (range_with_len 0 grid.size.side) ≤ grid.size.side
-faults_fit grid row = let a = count_by-le-length (is_fault grid row) (range_with_len 0 grid.size.side) in let b = length-range_with_len 0 grid.size.side in omega (arith, a, b)
-
--- ---- columns
-
--- the border cells of a row lie inside the symbol
-pub columns_inside : (p : ℕ → Bool) (m : ℕ → BorderCell) (a k n : ℕ) → ((x : ℕ) → (m x).column ≡ x) → a + k ≤ n → AllByRecursion (λ (c : BorderCell). c.column < n) (map m (filter p (range_with_len a k)))
-columns_inside p m a zero n same fits = tt
-columns_inside p m a (suc k) n same fits = one (p a) (columns_inside p m (a + 1) k n same (omega arith))
-  where
-    one : (b : Bool) → AllByRecursion (λ (c : BorderCell). c.column < n) (map m (filter p (range_with_len (a + 1) k))) →
-        AllByRecursion (λ (c : BorderCell). c.column < n) (map m (cond b (a ∷ filter p (range_with_len (a + 1) k)) (filter p (range_with_len (a + 1) k))))
-    one true h = ((let e = same a in omega (arith, e)), h)
-    one false h = h
-
-pub columns_of_row : (s : SizeRow) (row : ℕ) → AllByRecursion (λ (c : BorderCell). c.column < s.side) (border_cells s row)
-columns_of_row s row = columns_inside (is_border s row) (edge_cell s.region_side (row % (s.region_side + 2))) 0 s.side s.side (λ _. refl) (omega arith)
 
 -- ---- all rows
 
@@ -214,7 +146,3 @@ image_of_mapping s r c h lr lc e =
     not_false : (b : Bool) → not b ≡ false → b ≡ true
     not_false true h = refl
     not_false false h = sym h
-
--- different mapping lines lie at different lines of the symbol
-pub symbol_lines_differ : (s : SizeRow) (a b : ℕ) → IsRow s → a < s.mapping → b < s.mapping → symbol_line s.region_side a ≡ symbol_line s.region_side b → a ≡ b
-symbol_lines_differ s a b h la lb e = sym (mapped_line s a h la).back ∙ ap (mapping_line s.region_side) e ∙ (mapped_line s b h lb).back

@@ -1,7 +1,12 @@
 -- The grid without codewords: correct borders, fixed square, all else light.
-use Rattle.std.proofs.Common.{◌≡◌, ◌≢◌, ℕ, ◌+◌, ◌-◌, ◌*◌, ◌%◌, ◌<◌, ◌≤◌, Bool, true, false, ◌&&◌, ◌||◌, cond, nat_eq, nat_lt, refl, sym, ◌∙◌, ap, subst, arith}
+use Rattle.std.proofs.Common.{◌≡◌, ◌≢◌, ◌⊎◌, inl, inr, ℕ, ◌+◌, ◌-◌, ◌*◌, ◌%◌, ◌<◌, ◌≤◌, Bool, true, false, ◌&&◌, ◌||◌, cond, nat_eq, nat_lt, refl, sym, ◌∙◌, ap, subst, arith}
 use Rattle.std.proofs.lemmas.Bool.{eqb-true, eqb-false}
+use Rattle.std.proofs.Math.Bool.{or-false}
 use Rattle.std.proofs.Math.Nat.{mul-le-mul_right}
+use Rattle.std.proofs.lemmas.Bool.Decides.{eqb_tells}
+use Rattle.dm_layout.proofs.InnerRows.{not_less}
+use Rattle.dm_layout.proofs.DrawnRows.{less_is}
+use Rattle.dm_layout.proofs.OuterRows.{cases_at}
 use Rattle.dm_layout.specs.Sizes.{SizeRow, IsRow, regions_across}
 use Rattle.dm_layout.specs.Grid.{GridView, IsGrid, cell_at, with_cell}
 use Rattle.dm_layout.specs.Border.{is_border, border_is_dark, symbol_line, mapping_line, is_fixed_dark, empty_colour, empty_grid}
@@ -10,11 +15,14 @@ use Rattle.dm_layout.proofs.GridLemmas.{cell_after, grid_with_cell, grid_of_squa
 use Rattle.dm_layout.proofs.BorderLemmas.{mapped_line, IsFromMapping, IsImage, image_of_mapping, image_is_no_border, symbol_line_parts}
 
 -- one more row of borders is drawn
-pub drawn_above_more : (r row : ℕ) (border dark : Bool) → cond (nat_eq r row && border) dark (nat_lt r row && border && dark) ≡ nat_lt r (row + 1) && border && dark
-drawn_above_more r row true true = grind arith
-drawn_above_more r row true false = grind arith
-drawn_above_more r row false true = grind arith
-drawn_above_more r row false false = grind arith
+pub drawn_above_more : (r row : ℕ) (border dark cell : Bool) → (r ≡ row → cell ≡ border && dark) → (nat_lt r row && border && dark) || (nat_eq r row && cell) ≡ nat_lt r (row + 1) && border && dark
+drawn_above_more r row border dark cell h = by_row (cases_at r row) (eqb_tells r row)
+  where
+    by_row : (r < row) ⊎ (row ≤ r) → ((nat_eq r row ≡ true) × (r ≡ row)) ⊎ ((nat_eq r row ≡ false) × (r ≢ row)) → (nat_lt r row && border && dark) || (nat_eq r row && cell) ≡ nat_lt r (row + 1) && border && dark
+    by_row (inl l) (inl e) = let z = e.1 in absurd (omega (arith, l, z))
+    by_row (inl l) (inr e) = rw (less_is r row l, e.0, less_is r (row + 1) (omega (arith, l))) (or-false (border && dark))
+    by_row (inr l) (inl e) = let z = e.1 in rw (not_less r row l, e.0, less_is r (row + 1) (omega (arith, z))) (h z)
+    by_row (inr l) (inr e) = let z = e.1 in rw (not_less r row l, e.0, not_less r (row + 1) (omega (arith, l, z))) refl
 
 -- a region is no larger than the mapping square, and with its border no larger than the symbol
 pub sides_of : (s : SizeRow) → IsRow s → (s.region_side ≤ s.mapping) × (s.region_side + 2 ≤ s.side)

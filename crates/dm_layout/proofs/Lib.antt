@@ -10,6 +10,9 @@ pub mod TestedPlacement
 pub mod TestedSweep
 pub mod TestedWalk
 pub mod PlacementRows
+pub mod TestedOrder
+pub mod OrderRows
+pub mod OrderSteps
 pub mod BlockLemmas
 pub mod GridLemmas
 pub mod PackedRows
@@ -21,9 +24,13 @@ pub mod Laid
 pub mod Bits
 pub mod NoFaults
 pub mod Reading
-pub mod BorderDrawing
+pub mod InnerRows
+pub mod Painting
+pub mod OuterRows
+pub mod PaintedThree
+pub mod DrawnRows
+pub mod BorderMasks
 pub mod BorderLemmas
-pub mod BorderSteps
 pub mod EmptyGrid
 pub mod EqualityLaws
 pub mod HeldWords

@@ -7,7 +7,6 @@ use Rattle.dm_layout.specs.declared.shape.Shape.{Shape}
 use Rattle.dm_layout.specs.declared.shape.Shape.TheVariants.{Corner1}
 use Rattle.dm_layout.specs.Placement.{At, cells_of, bits_from, places_from, shapes, place, places_in_order, IsPlace, NoPlace, OnePlace, EachCellOnce, IsPlaceList}
 use Rattle.dm_layout.specs.Border.{is_fixed}
-use Rattle.dm_layout.specs.Sizes.{SizeRow, codeword_count}
 use Rattle.std.specs.Prelude.{Some}
 use Rattle.std.proofs.lemmas.Option.{slice_get-get_or}
 use Rattle.std.specs.Bool.{MatchBool}
@@ -120,28 +119,6 @@ none_fixed n r c w b law f p =
 -- any other cell holds one
 pub some_bit : (n : ℕ) (r c : ℕ) → EachCellOnce n → r < n → c < n → is_fixed n r c ≡ false → OnePlace n (At r c)
 some_bit n r c law lr lc f = MatchBool-at_false (NoPlace n (At r c)) (OnePlace n (At r c)) f (law.once r c lr lc)
-
--- what is known of the place with which a list of places begins
-pub record IsHere (s : SizeRow) (p : Place) : Type 0 where
-  pub place : IsPlace s.mapping p.word p.bit (At p.row p.column)
-  pub word : p.word < codeword_count s
-  pub from_one : 1 ≤ p.bit
-  pub to_eight : p.bit ≤ 8
-  pub row : p.row < s.mapping
-  pub column : p.column < s.mapping
-
-pub is_here : (s : SizeRow) (p : Place) (ps rest : List Place) → EachCellOnce s.mapping → length (shapes s.mapping) ≡ codeword_count s → ps ≡ p ∷ rest → ArePlaces s.mapping ps → IsHere s p
-is_here s p ps rest law count e are =
-    let a = subst (λ (xs : List Place). ArePlaces s.mapping xs) e are in
-    let inside = law.inside p.word p.bit (At p.row p.column) a.0 in
-    record {
-      place = a.0;
-      word = omega (arith, a.0.word_in, count);
-      from_one = a.0.from_one;
-      to_eight = a.0.to_eight;
-      row = inside.0;
-      column = inside.1;
-    }
 
 -- ---- the list of all places
 

@@ -1,5 +1,5 @@
 -- Rows and columns of the mapping square in the symbol.
-use Rattle.std.proofs.Common.{◌≡◌, ◌≢◌, ℕ, ◌+◌, ◌-◌, ◌*◌, ◌/◌, ◌%◌, ◌<◌, ◌≤◌, Bool, true, false, nat_eq, nat_lt, refl, sym, ◌∙◌, ap, arith, subst}
+use Rattle.std.proofs.Common.{◌≡◌, ◌≢◌, ℕ, ◌+◌, ◌-◌, ◌*◌, ◌/◌, ◌%◌, ◌<◌, ◌≤◌, Bool, true, false, nat_eq, nat_lt, refl, sym, ◌∙◌, ap, arith}
 use Rattle.std.proofs.lemmas.Bool.{or_parts, eqb-false, ne_eqb, ltb-true, ltb-false}
 use Rattle.std.proofs.lemmas.Nat.{div-mul-add, mod-mul-add}
 use Rattle.std.proofs.Math.Nat.{mul-le-mul_right}
@@ -40,7 +40,7 @@ below_by : (a k d m : ℕ) → a * d + m < k * d → a < k
 below_by a k d m l = lt_cases a k (nat_lt a k) refl (λ g. let h : k * d ≤ a * d = mul-le-mul_right d g in omega (arith, h))
 
 -- below k regions of side d, the region of a line is one of the k
-region_below : (d r k : ℕ) → 8 ≤ d → r < k * d → r / d < k
+pub region_below : (d r k : ℕ) → 8 ≤ d → r < k * d → r / d < k
 region_below d r k h l =
     let p : 0 < d = omega arith in
     let w : r / d * d + r % d < k * d = omega arith in
@@ -112,9 +112,3 @@ off_border size line column row l k h =
     let b = or_parts _ (nat_eq (line % (d + 2)) 0) a.0 in
     let c = or_parts (nat_eq (column % (d + 2)) 0) (nat_eq (line % (d + 2)) (d + 1)) b.0 in
     (comes_from size line row l (eqb-false _ _ b.1) (eqb-false _ _ c.1), comes_from size column row k (eqb-false _ _ c.0) (eqb-false _ _ a.1))
-
--- a line that is kept for a line of the mapping square is one of the symbol
-pub kept_line : (s size : SizeRow) (x r : ℕ) → IsRow s → size ≡ s → r < s.mapping → (r < size.mapping → x ≡ symbol_line size.region_side r) → (x ≡ symbol_line s.region_side r) × (x < s.side)
-kept_line s size x r row e l f =
-    let y : x ≡ symbol_line s.region_side r = f (subst (λ (t : SizeRow). r < t.mapping) (sym e) l) ∙ ap (λ (t : SizeRow). symbol_line t.region_side r) e in
-    (y, subst (λ (i : ℕ). i < s.side) (sym y) (lies_inside s r row l))

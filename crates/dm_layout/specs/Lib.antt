@@ -2,10 +2,13 @@ pub mod Sizes
 pub mod Grid
 pub mod Words
 pub mod Border
+pub mod Modules
 pub mod Blocks
 pub mod Placement
 pub mod Sweep
 pub mod Walking
+pub mod Order
+pub mod Reading
 pub mod Holds
-pub mod BorderWalk
+pub mod BorderMasks
 pub mod Equality

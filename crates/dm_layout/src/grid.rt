@@ -1,8 +1,8 @@
 //! A grid: the square of cells of a symbol.
 
-ghost use Rattle.std.specs.Prelude.{◌≡◌, ◌≢◌, ◌*◌, ◌^◌, ◌<◌, ◌↔◌, All, IfOk, IsNone, length};
+ghost use Rattle.std.specs.Prelude.{◌≡◌, ℕ, nat_eq, ◌&&◌, ◌||◌, ◌≢◌, ◌*◌, ◌^◌, ◌<◌, ◌↔◌, All, IfOk, IsNone, length};
 ghost use Rattle.dm_layout.specs.Sizes.{row_with_side};
-ghost use Rattle.dm_layout.specs.Grid.{IsGrid, IsLight, cell_at, with_cell, square_of, square_of_rows};
+ghost use Rattle.dm_layout.specs.Grid.{IsGrid, IsLight, is_dark_in, cell_at, with_cell, square_of, square_of_rows};
 
 use crate::packed::{front, is_dark, packed_row, recoloured};
 use crate::size::{LARGEST_SIDE, Size};
@@ -116,6 +116,26 @@ impl Grid {
         ensures { result ≡ cell_at self.now row column }
     {
         is_dark(self.rows[row as usize], column)
+    }
+
+    /// A row, counted from 0 at the top and below the side, as a number: the cell of column `c`, counted from 0 at the left, is the bit
+    /// of weight 2^c, 1 for dark.
+    pub fn row(&self, row: u16) -> u128
+        requires { row < self.now.size.side }
+        ensures { (column : ℕ) → column < self.now.size.side → is_dark_in result column ≡ cell_at self.now row column }
+    {
+        self.rows[row as usize]
+    }
+
+    /// Makes the cells of a row dark that are dark in `cells`.
+    pub(crate) fn darken(&mut self, row: u16, cells: u128)
+        requires row { row < self.old.size.side }
+        requires cells { cells < 2 ^ self.old.size.side }
+        ensures size { self.new.size ≡ self.old.size }
+        ensures grid { IsGrid self.new }
+        ensures cells { (r c : ℕ) → r < self.old.size.side → c < self.old.size.side → cell_at self.new r c ≡ (cell_at self.old r c || (nat_eq r row && is_dark_in cells c)) }
+    {
+        self.rows[row as usize] |= cells;
     }
 
     /// Colours one cell.

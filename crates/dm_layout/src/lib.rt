@@ -1,9 +1,10 @@
 //! Sizes, borders and placement of the square Data Matrix symbols (ISO/IEC 16022, ECC 200).
 //!
 //! A [`Grid`] is a square of dark and light cells of a [`Size`]; [`Words`] are the codewords of a symbol. [`lay()`] gives the one
-//! grid that holds codewords, [`lift()`] the codewords that a grid holds, [`border_faults()`] how many border cells have the wrong
-//! colour, and [`block()`] and [`put_block()`] are about the Reed-Solomon blocks. What the contracts say is defined in `specs/`;
-//! [`laws`] has what holds of the definitions. No call takes memory.
+//! grid with right borders and the fixed square that holds codewords, [`lift()`] the codewords that a grid holds, whatever stands
+//! in its borders and its fixed square, [`border_faults()`] how many border cells have the wrong colour, and [`block()`] and
+//! [`put_block()`] are about the Reed-Solomon blocks. What the contracts say is defined in `specs/`; [`laws`] has what holds of the
+//! definitions. No call takes memory.
 #![tactic(auto)]
 
 mod blocks;
@@ -11,6 +12,9 @@ mod border;
 mod cells;
 mod grid;
 pub mod laws;
+mod mapping;
+mod module;
+mod order;
 mod packed;
 mod placing;
 mod shape;
@@ -22,6 +26,7 @@ pub use blocks::{block, put_block};
 pub use border::border_faults;
 pub use cells::{Cells, Place};
 pub use grid::{Grid, GridFault};
+pub use module::{border_colour, symbol_line};
 pub use placing::{lay, lift};
 pub use size::{LARGEST_SIDE, MOST_BLOCKS, MOST_CODEWORDS, Size, table};
 pub use words::Words;

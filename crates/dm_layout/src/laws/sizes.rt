@@ -1,7 +1,10 @@
 //! Facts about the definitions of the sizes.
 #![tactic(auto, unfolding(crate::specs::Sizes::size_table))]
 
+ghost use Rattle.std.specs.Prelude.{◌≡◌};
 ghost use Rattle.dm_layout.specs.Sizes.{IsGreatest, codeword_count, largest_side, most_data, most_codewords, most_blocks};
+
+use crate::size::{LARGEST_SIDE, MOST_BLOCKS, MOST_CODEWORDS};
 
 /// The largest side and the most data codewords, codewords and blocks are those of the table: some size has as many,
 /// and none has more.
@@ -10,4 +13,11 @@ pub fn limits_are_those_of_the_table()
     ensures data { IsGreatest (λ row. row.data_count) most_data }
     ensures codewords { IsGreatest codeword_count most_codewords }
     ensures blocks { IsGreatest (λ row. row.blocks) most_blocks }
+{}
+
+/// The crate's constants are these limits.
+pub fn constants_are_the_limits()
+    ensures side { LARGEST_SIDE ≡ largest_side }
+    ensures codewords { MOST_CODEWORDS ≡ most_codewords }
+    ensures blocks { MOST_BLOCKS ≡ most_blocks }
 {}

@@ -1,8 +1,10 @@
-use Rattle.std.proofs.Common.{◌≡◌, ◌≢◌, ℕ, ◌-◌, ◌%◌, ◌<◌, ◌∙◌, sym, ap, subst, true, false, ◌&&◌, cond, nat_eq, arith}
+use Rattle.std.proofs.Common.{◌≡◌, ◌≢◌, ℕ, ◌+◌, ◌-◌, ◌%◌, ◌<◌, ◌∙◌, sym, ap, subst, true, false, ◌&&◌, ◌||◌, nat_eq, Bool, arith}
 use Rattle.dm_layout.specs.Sizes.{SizeRow}
-use Rattle.dm_layout.specs.Grid.{GridView, cell_at, with_cell}
-use Rattle.dm_layout.specs.Border.{is_border, border_is_dark, empty_grid}
+use Rattle.dm_layout.specs.Grid.{GridView, IsGrid, cell_at, with_cell, is_dark_in}
+use Rattle.dm_layout.specs.Border.{is_border, border_is_dark, is_on_edge, edge_is_dark, empty_grid, empty_colour}
 use Rattle.dm_layout.proofs.EmptyGrid.{IsBordered, drawn_above_more, none_above, all_above, empty_without, empty_with}
+use Rattle.dm_layout.proofs.BorderMasks.{row_below}
+use Rattle.dm_layout.proofs.GridLemmas.{grid_of_square}
 use Rattle.dm_layout.proofs.border.bordered.Goals as goal
 
 pub loop-row-init : goal.loop-row-init
@@ -12,20 +14,30 @@ loop-row-init c =
       grid = c.light-grid.ensures.grid;
       size = c.light-grid.ensures.size;
       cells = λ row column below inside. light row column below inside ∙ none_above row (is_border c.args.size row column) (border_is_dark c.args.size row column);
+      place = omega arith;
     }
 
 pub loop-row-preserved : goal.loop-row-preserved
 loop-row-preserved c =
+    let size : SizeRow = c.args.size in
+    let cells : ℕ = c.dark.result in
+    let r : ℕ = c.loop-row.row in
+    let same : c.new-borders.result ≡ size = c.new-borders.ensures in
     let drawn =
-    subst (λ (s : SizeRow). (r q : ℕ) → r < s.side → q < s.side → cell_at c.draw_row.new.grid r q ≡ cond (nat_eq r c.loop-row.row && is_border s r q) (border_is_dark s r q) (cell_at c.loop-row.grid r q))
-    c.loop-row.invariant.size c.draw_row.ensures.cells in
+    subst (λ (s : SizeRow). (row q : ℕ) → row < s.side → q < s.side → cell_at c.darken.new.self row q ≡ (cell_at c.loop-row.grid row q || (nat_eq row r && is_dark_in cells q)))
+    c.loop-row.invariant.size c.darken.ensures.cells in
+    let dark =
+    subst (λ (i : ℕ). (q : ℕ) → q < size.side → is_dark_in cells q ≡ is_on_edge size.region_side i (q % (size.region_side + 2)) && edge_is_dark size.region_side i (q % (size.region_side + 2))) c.loop-row.invariant.place
+    (subst (λ (s : SizeRow). (q : ℕ) → q < s.side → is_dark_in cells q ≡ is_on_edge s.region_side c.loop-row.inner (q % (s.region_side + 2)) && edge_is_dark s.region_side c.loop-row.inner (q % (s.region_side + 2))) same c.dark.ensures.cells) in
     record {
-      grid = c.draw_row.ensures.grid;
-      size = c.draw_row.ensures.size ∙ c.loop-row.invariant.size;
+      grid = c.darken.ensures.grid;
+      size = c.darken.ensures.size ∙ c.loop-row.invariant.size;
       cells = λ row column below inside.
           drawn row column below inside
-          ∙ ap (cond (nat_eq row c.loop-row.row && is_border c.args.size row column) (border_is_dark c.args.size row column)) (c.loop-row.invariant.cells row column below inside)
-          ∙ drawn_above_more row c.loop-row.row (is_border c.args.size row column) (border_is_dark c.args.size row column);
+          ∙ ap (λ (b : Bool). b || (nat_eq row r && is_dark_in cells column)) (c.loop-row.invariant.cells row column below inside)
+          ∙ drawn_above_more row r (is_border size row column) (border_is_dark size row column) (is_dark_in cells column)
+          (λ e. dark column inside ∙ ap (λ (i : ℕ). is_border size i column && border_is_dark size i column) (sym e));
+      place = c.below-inner.ensures ∙ ap (λ (s : SizeRow). (c.loop-row.inner + 1) % (s.region_side + 2)) same ∙ row_below (size.region_side + 2) r c.loop-row.inner c.loop-row.invariant.place;
     }
 
 pub returns-then-mapping-eq2-clause-value : goal.returns-then-mapping-eq2-clause-value
@@ -46,3 +58,7 @@ returns-else-mapping-eq2-clause-value c =
     let here = subst (λ (s : SizeRow). IsBordered s c.loop-row.grid) (sym c.loop-row.invariant.size) bordered in
     let other : c.loop-row.grid.size.mapping % 4 ≢ 2 = λ e. c.if-mapping-eq2.false (ap (λ n. n % 4) c.mapping.ensures.value ∙ ap (λ (s : SizeRow). s.mapping % 4) (sym c.loop-row.invariant.size) ∙ e) in
     empty_without c.loop-row.grid c.loop-row.invariant.grid here other ∙ ap empty_grid c.loop-row.invariant.size
+
+pub returns-then-mapping-eq2-clause-grid : goal.returns-then-mapping-eq2-clause-grid
+returns-then-mapping-eq2-clause-grid c =
+    subst (λ (g : GridView). IsGrid g) (sym (returns-then-mapping-eq2-clause-value c)) (grid_of_square c.args.size (empty_colour c.args.size) c.side-side.ensures.row)

@@ -1,0 +1,363 @@
+-- The border cells of a symbol's rows as bits.
+use Rattle.std.proofs.Common.{◌≡◌, ◌≢◌, ◌⊎◌, inl, inr, ℕ, zero, suc, ◌+◌, ◌-◌, ◌*◌, ◌/◌, ◌%◌, ◌^◌, ◌<◌, ◌≤◌, Bool, true, false, not, ◌&&◌, ◌||◌, cond, nat_eq, nat_lt, [], ◌∷◌, ◌++◌, refl, sym, ◌∙◌, ap, subst, arith, eq-eqb}
+use Rattle.std.specs.Prelude.{count_by, count_ones, min}
+use Rattle.std.specs.Bool.{beq}
+use Rattle.std.specs.Int.{bit_at}
+use Rattle.std.specs.Int.RustNames.{bit_xor}
+use lib.Bits.{bit_and}
+use lib.Count.{ones}
+use Rattle.std.specs.List.{range_with_len, list_all}
+use Rattle.std.proofs.Math.Nat.{mod-lt, mul-div_cancel, div-lt_iff_lt-mul, pow-succ', mod-add-mod}
+use Rattle.std.proofs.Math.Pow.{pow_mono}
+use Rattle.std.proofs.lemmas.Bool.{eqb-true, eqb-false, ne_eqb, and_parts}
+use Rattle.std.proofs.lemmas.List.Sums.{sum_by_push}
+use Rattle.std.proofs.lemmas.Nat.{ones_cat, ones-le, pow_pos, div-add-mod', mod-mul-add}
+use Rattle.std.proofs.lemmas.Nat.Bits.{bit_at_and, bit_at_xor, bit_at-lt, bit_at_cat_low}
+use Rattle.dm_layout.specs.Sizes.{SizeRow, IsRow, regions_across}
+use Rattle.dm_layout.specs.Grid.{GridView, cell_at, is_dark_in}
+use Rattle.dm_layout.specs.Border.{is_on_edge, edge_is_dark, is_fault, is_border, border_is_dark}
+use Rattle.dm_layout.specs.BorderMasks.{AreBorders, is_wrong}
+use Rattle.dm_layout.proofs.InnerRows.{not_less}
+use Rattle.dm_layout.proofs.DrawnRows.{less_is}
+use Rattle.dm_layout.proofs.OuterRows.{cases_at}
+use Rattle.dm_layout.proofs.PackedRows.{darkened, darkened_cell, darkened_narrow}
+use Rattle.dm_layout.proofs.Ranges.{range-append, all_at}
+use Rattle.dm_layout.proofs.TableRows.{row_facts}
+
+-- ---- how many cells of a row are dark
+
+-- one more column is counted
+count_more : (f : ℕ → Bool) (n : ℕ) → count_by f (range_with_len 0 (n + 1)) ≡ count_by f (range_with_len 0 n) + cond (f n) 1 0
+count_more f n =
+    let z : 0 + n ≡ n = omega arith in
+    ap (count_by f) (range-append 0 n 1 ∙ ap (λ k. range_with_len 0 n ++ k ∷ []) z) ∙ sum_by_push (λ c. cond (f c) 1 0) (range_with_len 0 n) n
+
+-- a digit has as many ones as it is
+ones_of_digit : (b : ℕ) → b < 2 → count_ones b ≡ cond (nat_eq (b % 2) 1) 1 0
+unfolding ones
+ones_of_digit zero l = refl
+ones_of_digit (suc zero) l = refl
+ones_of_digit (suc (suc b)) l = absurd (omega arith)
+
+-- the ones of a row of n cells are its dark cells
+pub counted_ones : (n x : ℕ) (f : ℕ → Bool) → x < 2 ^ n → ((c : ℕ) → c < n → is_dark_in x c ≡ f c) → count_ones x ≡ count_by f (range_with_len 0 n)
+counted_ones zero x f l same = let e = ones-le 0 x l in omega (arith, e)
+counted_ones (suc n) x f l same =
+    let h : ℕ = x / 2 ^ n in
+    let r : ℕ = x % 2 ^ n in
+    let j : suc n ≡ n + 1 = omega arith in
+    let parts : h * 2 ^ n + r ≡ x = div-add-mod' x (2 ^ n) in
+    let rl : r < 2 ^ n = mod-lt x (pow_pos n) in
+    let front : count_ones r ≡ count_by f (range_with_len 0 n) = counted_ones n r f rl (λ c lc.
+    ap (λ (i : ℕ). nat_eq i 1) (sym (bit_at_cat_low h n r c lc)) ∙ ap (λ (i : ℕ). is_dark_in i c) parts ∙ same c (omega arith)) in
+    let first : count_ones h ≡ cond (f n) 1 0 = ones_of_digit h (half n x l) ∙ ap (λ (b : Bool). cond b 1 0) (same n (omega arith)) in
+    let more = count_more f n in
+    let whole : count_ones x ≡ count_ones h + count_ones r = ap count_ones (sym parts) ∙ ones_cat n h r rl in
+    let all : count_ones x ≡ count_by f (range_with_len 0 (n + 1)) = omega (arith, whole, front, first, more) in
+    all ∙ ap (λ (i : ℕ). count_by f (range_with_len 0 i)) (sym j)
+  where
+    half : (n x : ℕ) → x < 2 ^ suc n → x / 2 ^ n < 2
+    half n x l = (div-lt_iff_lt-mul (pow_pos n)).1 (subst (λ (i : ℕ). x < i) (pow-succ' 2 n) l)
+
+-- the dark cells of a row are counted alike where two tests agree
+pub same_count : (n : ℕ) (f g : ℕ → Bool) → ((c : ℕ) → c < n → f c ≡ g c) → count_by f (range_with_len 0 n) ≡ count_by g (range_with_len 0 n)
+same_count zero f g same = refl
+same_count (suc n) f g same =
+    let j : suc n ≡ n + 1 = omega arith in
+    let old = same_count n f g (λ c l. same c (omega arith)) in
+    let here = ap {B = ℕ} (λ (b : Bool). cond b 1 0) (same n (omega arith)) in
+    let a = count_more f n in
+    let b = count_more g n in
+    let all : count_by f (range_with_len 0 (n + 1)) ≡ count_by g (range_with_len 0 (n + 1)) = omega (arith, old, here, a, b) in
+    ap (λ (i : ℕ). count_by f (range_with_len 0 i)) j ∙ all ∙ ap (λ (i : ℕ). count_by g (range_with_len 0 i)) (sym j)
+
+-- ---- the cells that differ from their colour, among some
+
+-- digits: the third is 1 and the first two differ
+differ : (x y m : ℕ) → x < 2 → y < 2 → m < 2 → nat_eq (min ((x + y) % 2) m) 1 ≡ nat_eq m 1 && not (beq (nat_eq x 1) (nat_eq y 1))
+differ zero zero zero a b c = refl
+differ zero zero (suc zero) a b c = refl
+differ zero (suc zero) zero a b c = refl
+differ zero (suc zero) (suc zero) a b c = refl
+differ (suc zero) zero zero a b c = refl
+differ (suc zero) zero (suc zero) a b c = refl
+differ (suc zero) (suc zero) zero a b c = refl
+differ (suc zero) (suc zero) (suc zero) a b c = refl
+differ (suc (suc x)) y m a b c = absurd (omega arith)
+differ x (suc (suc y)) m a b c = absurd (omega arith)
+differ x y (suc (suc m)) a b c = absurd (omega arith)
+
+-- a cell of the mask in which two rows differ
+wrong_cell : (row dark mask c : ℕ) → is_dark_in (bit_and (bit_xor row dark) mask) c ≡ is_dark_in mask c && not (beq (is_dark_in row c) (is_dark_in dark c))
+wrong_cell row dark mask c =
+    ap (λ (i : ℕ). nat_eq i 1) (bit_at_and (bit_xor row dark) mask c ∙ ap (λ (i : ℕ). min i (bit_at mask c)) (bit_at_xor row dark c))
+    ∙ differ (bit_at row c) (bit_at dark c) (bit_at mask c) (bit_at-lt row c) (bit_at-lt dark c) (bit_at-lt mask c)
+
+-- a cell of no border is not wrong, whatever the row of colours has there
+masked : (border there dark : Bool) → border && not (beq there (border && dark)) ≡ border && not (beq there dark)
+masked true there dark = refl
+masked false there dark = refl
+
+-- so the ones that are counted are the wrong border cells
+pub wrong_cells : (d inner n row dark mask : ℕ) → bit_and (bit_xor row dark) mask < 2 ^ n → ((c : ℕ) → c < n → is_dark_in mask c ≡ is_on_edge d inner (c % (d + 2))) →
+    ((c : ℕ) → c < n → is_dark_in dark c ≡ is_on_edge d inner (c % (d + 2)) && edge_is_dark d inner (c % (d + 2))) →
+    count_ones (bit_and (bit_xor row dark) mask) ≡ count_by (is_wrong d inner row) (range_with_len 0 n)
+wrong_cells d inner n row dark mask narrow cells colours =
+    counted_ones n (bit_and (bit_xor row dark) mask) (is_wrong d inner row) narrow (λ c l.
+    wrong_cell row dark mask c
+    ∙ ap (λ (b : Bool). b && not (beq (is_dark_in row c) (is_dark_in dark c))) (cells c l)
+    ∙ ap (λ (b : Bool). is_on_edge d inner (c % (d + 2)) && not (beq (is_dark_in row c) b)) (colours c l)
+    ∙ masked (is_on_edge d inner (c % (d + 2))) (is_dark_in row c) (edge_is_dark d inner (c % (d + 2))))
+
+-- those of a row of a grid are its faults
+pub faults_of_bits : (grid : GridView) (r row : ℕ) → ((c : ℕ) → c < grid.size.side → is_dark_in row c ≡ cell_at grid r c) →
+    count_by (is_wrong grid.size.region_side (r % (grid.size.region_side + 2)) row) (range_with_len 0 grid.size.side) ≡ count_by (is_fault grid r) (range_with_len 0 grid.size.side)
+faults_of_bits grid r row same =
+    same_count grid.size.side (is_wrong grid.size.region_side (r % (grid.size.region_side + 2)) row) (is_fault grid r) (λ c l.
+    ap (λ (b : Bool). is_border grid.size r c && not (beq b (border_is_dark grid.size r c))) (same c l))
+
+-- ---- the columns of borders, square by square
+
+-- a column stands before some squares, in the next one, or behind it
+stands : (c a s : ℕ) → (c < a * s) ⊎ ((x : ℕ) × (x < s) × (c ≡ a * s + x)) ⊎ (a * s + s ≤ c)
+stands c a s = by_start (cases_at c (a * s))
+  where
+    by_start : (c < a * s) ⊎ (a * s ≤ c) → (c < a * s) ⊎ ((x : ℕ) × (x < s) × (c ≡ a * s + x)) ⊎ (a * s + s ≤ c)
+    by_start (inl l) = inl l
+    by_start (inr m) = by_end (cases_at c (a * s + s))
+      where
+        by_end : (c < a * s + s) ⊎ (a * s + s ≤ c) → (c < a * s) ⊎ ((x : ℕ) × (x < s) × (c ≡ a * s + x)) ⊎ (a * s + s ≤ c)
+        by_end (inl l) = inr (inl (c - a * s, omega arith, omega arith))
+        by_end (inr k) = inr (inr k)
+
+-- the left columns, and the left and right ones, of the first squares, whose last line is `last`
+pub record AreRuled (last a left both : ℕ) : Type 0 where
+  pub left_columns : (c : ℕ) → is_dark_in left c ≡ nat_lt c (a * (last + 1)) && nat_eq (c % (last + 1)) 0
+  pub both_columns : (c : ℕ) → is_dark_in both c ≡ nat_lt c (a * (last + 1)) && (nat_eq (c % (last + 1)) 0 || nat_eq (c % (last + 1)) last)
+  pub left_width : left < 2 ^ (a * (last + 1))
+  pub both_width : both < 2 ^ (a * (last + 1))
+
+-- two tests that follow from one another answer alike
+same_test : (a b x y : ℕ) → (a ≡ b → x ≡ y) → (x ≡ y → a ≡ b) → nat_eq a b ≡ nat_eq x y
+same_test a b x y f g = by_test (nat_eq x y) refl
+  where
+    by_test : (t : Bool) → nat_eq x y ≡ t → nat_eq a b ≡ t
+    by_test true h = eq-eqb a b (g (eqb-true x y h))
+    by_test false h = ne_eqb a b (λ z. eqb-false x y h (f z))
+
+-- the first column of a square, before it
+left_before : (p q : Bool) → p ≡ false → cond p true (true && q) ≡ true && q
+left_before p q e = ap (λ (b : Bool). cond b true (true && q)) e
+
+-- in it
+left_here : (p q : Bool) → p ≡ q → cond p true (false && q) ≡ true && q
+left_here true true e = refl
+left_here false false e = refl
+left_here true false e = cc
+left_here false true e = cc
+
+-- and behind it
+left_behind : (p q : Bool) → p ≡ false → cond p true (false && q) ≡ false && q
+left_behind p q e = ap (λ (b : Bool). cond b true (false && q)) e
+
+-- the first and the last column of a square, before it
+both_before : (p r q : Bool) → p ≡ false → r ≡ false → cond r true (cond p true (true && q)) ≡ true && q
+both_before p r q e f = ap (λ (b : Bool). cond b true (cond p true (true && q))) f ∙ ap (λ (b : Bool). cond b true (true && q)) e
+
+-- in it
+both_here : (p r q v : Bool) → p ≡ q → r ≡ v → cond r true (cond p true (false && (q || v))) ≡ true && (q || v)
+both_here true true true true e f = refl
+both_here true false true false e f = refl
+both_here false true false true e f = refl
+both_here false false false false e f = refl
+both_here true r false v e f = cc
+both_here false r true v e f = cc
+both_here true true true false e f = cc
+both_here true false true true e f = cc
+both_here false true false false e f = cc
+both_here false false false true e f = cc
+
+-- and behind it
+both_behind : (p r q : Bool) → p ≡ false → r ≡ false → cond r true (cond p true (false && q)) ≡ false && q
+both_behind p r q e f = ap (λ (b : Bool). cond b true (cond p true (false && q))) f ∙ ap (λ (b : Bool). cond b true (false && q)) e
+
+module _ (last a c : ℕ) where
+  abbrev s : ℕ
+  s = last + 1
+
+  abbrev k : ℕ
+  k = a * (last + 1)
+
+  next : (a + 1) * (last + 1) ≡ a * (last + 1) + (last + 1)
+  next = omega arith
+
+  left_at : (c < k) ⊎ ((x : ℕ) × (x < s) × (c ≡ k + x)) ⊎ (k + s ≤ c) → cond (nat_eq c k) true (nat_lt c k && nat_eq (c % s) 0) ≡ nat_lt c ((a + 1) * s) && nat_eq (c % s) 0
+  left_at (inl l) =
+      rw (less_is c k l, less_is c ((a + 1) * s) (omega (arith, next, l))) (left_before (nat_eq c k) (nat_eq (c % s) 0) (ne_eqb c k (λ z. omega (arith, z, l))))
+  left_at (inr (inr l)) =
+      rw (not_less c k (omega (arith, l)), not_less c ((a + 1) * s) (omega (arith, next, l))) (left_behind (nat_eq c k) (nat_eq (c % s) 0) (ne_eqb c k (λ z. omega (arith, z, l))))
+  left_at (inr (inl (x, small, is))) =
+      let r : c % s ≡ x = ap (λ (i : ℕ). i % s) is ∙ mod-mul-add a s x small in
+      rw (not_less c k (omega (arith, is)), less_is c ((a + 1) * s) (omega (arith, next, is, small)))
+      (left_here (nat_eq c k) (nat_eq (c % s) 0) (same_test c k (c % s) 0 (λ z. omega (arith, is, r, z)) (λ z. omega (arith, is, r, z))))
+
+  both_at : (c < k) ⊎ ((x : ℕ) × (x < s) × (c ≡ k + x)) ⊎ (k + s ≤ c) →
+      cond (nat_eq c (k + last)) true (cond (nat_eq c k) true (nat_lt c k && (nat_eq (c % s) 0 || nat_eq (c % s) last))) ≡ nat_lt c ((a + 1) * s) && (nat_eq (c % s) 0 || nat_eq (c % s) last)
+  both_at (inl l) =
+      rw (less_is c k l, less_is c ((a + 1) * s) (omega (arith, next, l)))
+      (both_before (nat_eq c k) (nat_eq c (k + last)) (nat_eq (c % s) 0 || nat_eq (c % s) last) (ne_eqb c k (λ z. omega (arith, z, l))) (ne_eqb c (k + last) (λ z. omega (arith, z, l))))
+  both_at (inr (inr l)) =
+      rw (not_less c k (omega (arith, l)), not_less c ((a + 1) * s) (omega (arith, next, l)))
+      (both_behind (nat_eq c k) (nat_eq c (k + last)) (nat_eq (c % s) 0 || nat_eq (c % s) last) (ne_eqb c k (λ z. omega (arith, z, l))) (ne_eqb c (k + last) (λ z. omega (arith, z, l))))
+  both_at (inr (inl (x, small, is))) =
+      let r : c % s ≡ x = ap (λ (i : ℕ). i % s) is ∙ mod-mul-add a s x small in
+      rw (not_less c k (omega (arith, is)), less_is c ((a + 1) * s) (omega (arith, next, is, small)))
+      (both_here (nat_eq c k) (nat_eq c (k + last)) (nat_eq (c % s) 0) (nat_eq (c % s) last) (same_test c k (c % s) 0 (λ z. omega (arith, is, r, z)) (λ z. omega (arith, is, r, z)))
+      (same_test c (k + last) (c % s) last (λ z. omega (arith, is, r, z)) (λ z. omega (arith, is, r, z))))
+
+-- one more square
+pub one_ruled : (last a left both : ℕ) → 1 ≤ last → (a + 1) * (last + 1) < 128 → AreRuled last a left both →
+    AreRuled last (a + 1) (darkened left (a * (last + 1))) (darkened (darkened both (a * (last + 1))) (a * (last + 1) + last))
+one_ruled last a left both least fits old =
+    let k : ℕ = a * (last + 1) in
+    let n : ℕ = (a + 1) * (last + 1) in
+    let e : n ≡ k + (last + 1) = omega arith in
+    let m : 2 ^ k ≤ 2 ^ n = pow_mono (omega (arith, e)) in
+    let lk : k < 128 = omega (arith, e, fits) in
+    let ll : k + last < 128 = omega (arith, e, fits) in
+    let nk : k < n = omega (arith, e) in
+    let nl : k + last < n = omega (arith, e) in
+    let lw = old.left_width in
+    let bw = old.both_width in
+    record {
+      left_columns = λ c. darkened_cell left k c lk ∙ ap (cond (nat_eq c k) true) (old.left_columns c) ∙ left_at last a c (stands c a (last + 1));
+      both_columns = λ c.
+          darkened_cell (darkened both k) (k + last) c ll
+          ∙ ap (cond (nat_eq c (k + last)) true) (darkened_cell both k c lk ∙ ap (cond (nat_eq c k) true) (old.both_columns c))
+          ∙ both_at last a c (stands c a (last + 1));
+      left_width = darkened_narrow left k n lk nk (omega (arith, m, lw));
+      both_width = darkened_narrow (darkened both k) (k + last) n ll nl (darkened_narrow both k n lk nk (omega (arith, m, bw)));
+    }
+
+-- answers that are equal by test are equal
+beq-true : (a b : Bool) → beq a b ≡ true → a ≡ b
+beq-true true true e = refl
+beq-true true false e = sym e
+beq-true false true e = e
+beq-true false false e = refl
+
+-- rows in which even columns, or all, are dark
+patterns : list_all (λ c. beq (is_dark_in 113427455640312821154458202477256070485 c) (nat_eq (c % 2) 0) && is_dark_in 340282366920938463463374607431768211455 c) (range_with_len 0 128) ≡ true
+patterns = refl
+
+-- what the test says of a column
+patterns_at : (c : ℕ) → c < 128 → (is_dark_in 113427455640312821154458202477256070485 c ≡ nat_eq (c % 2) 0) × (is_dark_in 340282366920938463463374607431768211455 c ≡ true)
+patterns_at c l =
+    let z : 0 + c ≡ c = omega arith in
+    let both = and_parts _ _ (subst (λ (i : ℕ). beq (is_dark_in 113427455640312821154458202477256070485 i) (nat_eq (i % 2) 0) && is_dark_in 340282366920938463463374607431768211455 i ≡ true) z
+    (all_at (λ c. beq (is_dark_in 113427455640312821154458202477256070485 c) (nat_eq (c % 2) 0) && is_dark_in 340282366920938463463374607431768211455 c) 0 128 c patterns l)) in
+    (beq-true _ _ both.0, both.1)
+
+-- after the last square these are the borders of a size
+pub are_borders : (size : SizeRow) (side last a left both even all : ℕ) → IsRow size → side ≡ size.side → last ≡ size.region_side + 1 → a ≡ side / (last + 1) → AreRuled last a left both →
+    ((c : ℕ) → c < side → is_dark_in even c ≡ is_dark_in 113427455640312821154458202477256070485 c) → even < 2 ^ side →
+    ((c : ℕ) → c < side → is_dark_in all c ≡ is_dark_in 340282366920938463463374607431768211455 c) → all < 2 ^ side → AreBorders size last left both even all
+are_borders size side last a left both even all row es el ea ruled ev ew av aw =
+    let facts = row_facts size row in
+    let s : last + 1 ≡ size.region_side + 2 = omega (arith, el) in
+    let p : 0 < size.region_side + 2 = omega arith in
+    let q : side / (last + 1) ≡ regions_across size =
+    ap (λ (i : ℕ). i / (last + 1)) (es ∙ facts.side) ∙ ap (λ (i : ℕ). regions_across size * (size.region_side + 2) / i) s ∙ mul-div_cancel (regions_across size) p in
+    let w : a * (last + 1) ≡ size.side = ap (λ (i : ℕ). i * (last + 1)) (ea ∙ q) ∙ ap (λ (i : ℕ). regions_across size * i) s ∙ sym facts.side in
+    let fits = facts.fits in
+    record {
+      row = row;
+      last_row = el;
+      left_columns = λ c l.
+          ruled.left_columns c ∙ ap (λ (b : Bool). b && nat_eq (c % (last + 1)) 0) (less_is c (a * (last + 1)) (omega (arith, w, l))) ∙ ap (λ (i : ℕ). nat_eq (c % i) 0) s;
+      both_columns = λ c l.
+          ruled.both_columns c ∙ ap (λ (b : Bool). b && (nat_eq (c % (last + 1)) 0 || nat_eq (c % (last + 1)) last)) (less_is c (a * (last + 1)) (omega (arith, w, l)))
+          ∙ ap (λ (i : ℕ). nat_eq (c % i) 0 || nat_eq (c % i) last) s ∙ ap (λ (i : ℕ). nat_eq (c % (size.region_side + 2)) 0 || nat_eq (c % (size.region_side + 2)) i) el;
+      even_columns = λ c l. ev c (omega (arith, es, l)) ∙ (patterns_at c (omega (arith, l, fits))).0;
+      all_columns = λ c l. av c (omega (arith, es, l)) ∙ (patterns_at c (omega (arith, l, fits))).1;
+      left_width = subst (λ (i : ℕ). left < 2 ^ i) w ruled.left_width;
+      both_width = subst (λ (i : ℕ). both < 2 ^ i) w ruled.both_width;
+      even_width = subst (λ (i : ℕ). even < 2 ^ i) es ew;
+      all_width = subst (λ (i : ℕ). all < 2 ^ i) es aw;
+    }
+
+-- ---- the rows of a square
+
+-- one of four tests passes
+any_second : (p r s : Bool) → p || true || r || s ≡ true
+any_second true r s = refl
+any_second false r s = refl
+
+-- one of four tests passes
+any_third : (p q s : Bool) → p || q || true || s ≡ true
+any_third true q s = refl
+any_third false true s = refl
+any_third false false s = refl
+
+-- the last row of a square is dark
+dark_bottom : (p r s e o : Bool) → true ≡ (p || true || r || s) && cond (p || true) true (cond r e o)
+dark_bottom true r s e o = refl
+dark_bottom false r s e o = refl
+
+-- the first row of a square is dark at even columns, of which the first is one
+dark_top : (p s e o : Bool) → (p ≡ true → e ≡ true) → e ≡ (p || false || true || s) && cond (p || false) true (cond true e o)
+dark_top true s e o h = h refl
+dark_top false s e o h = refl
+
+-- a column is even where its place in its square is
+mod_twice : (c s : ℕ) → s % 2 ≡ 0 → 0 < s → c % s % 2 ≡ c % 2
+mod_twice c s even p =
+    let h : ℕ = s / 2 in
+    let q : ℕ = c / s in
+    let m : ℕ = c % s in
+    let t : ℕ = q * h in
+    let e : s ≡ 2 * h = omega (arith, even) in
+    let parts : q * s + m ≡ c = div-add-mod' c s in
+    let f : c ≡ 2 * t + m = sym parts ∙ ap (λ (i : ℕ). q * i + m) e ∙ regroup q h m in
+    omega (arith, f)
+  where
+    regroup : (q h m : ℕ) → q * (2 * h) + m ≡ 2 * (q * h) + m
+    regroup q h m = omega arith
+
+module _ (size : SizeRow) (last left both even all : ℕ) (b : AreBorders size last left both even all) (inner : ℕ) where
+  abbrev d : ℕ
+  d = size.region_side
+
+  -- the border cells of a first or last row are all
+  pub cells_all : (inner ≡ 0) ⊎ (inner ≡ last) → (c : ℕ) → c < size.side → is_dark_in all c ≡ is_on_edge size.region_side inner (c % (size.region_side + 2))
+  cells_all (inl e) c l =
+      b.all_columns c l ∙ sym (ap (λ (t : Bool). nat_eq (c % (d + 2)) 0 || nat_eq inner (d + 1) || t || nat_eq (c % (d + 2)) (d + 1)) (eq-eqb inner 0 e) ∙ any_third (nat_eq (c % (d + 2)) 0) (nat_eq inner (d + 1)) (nat_eq (c % (d + 2)) (d + 1)))
+  cells_all (inr e) c l =
+      b.all_columns c l
+      ∙ sym (ap (λ (t : Bool). nat_eq (c % (d + 2)) 0 || t || nat_eq inner 0 || nat_eq (c % (d + 2)) (d + 1)) (eq-eqb inner (d + 1) (e ∙ b.last_row)) ∙ any_second (nat_eq (c % (d + 2)) 0) (nat_eq inner 0) (nat_eq (c % (d + 2)) (d + 1)))
+
+  -- the colours of a last row
+  pub dark_in_last : inner ≡ last → (c : ℕ) → c < size.side → is_dark_in all c ≡ is_on_edge size.region_side inner (c % (size.region_side + 2)) && edge_is_dark size.region_side inner (c % (size.region_side + 2))
+  dark_in_last e c l =
+      let p : Bool = nat_eq (c % (d + 2)) 0 in
+      let s : Bool = nat_eq (c % (d + 2)) (d + 1) in
+      b.all_columns c l
+      ∙ dark_bottom p (nat_eq inner 0) s (nat_eq (c % (d + 2) % 2) 0) (nat_eq (inner % 2) 1)
+      ∙ ap (λ (t : Bool). (p || t || nat_eq inner 0 || s) && cond (p || t) true (cond (nat_eq inner 0) (nat_eq (c % (d + 2) % 2) 0) (nat_eq (inner % 2) 1))) (sym (eq-eqb inner (d + 1) (e ∙ b.last_row)))
+
+  -- of a first row
+  pub dark_in_first : inner ≢ last → inner ≡ 0 → (c : ℕ) → c < size.side → is_dark_in even c ≡ is_on_edge size.region_side inner (c % (size.region_side + 2)) && edge_is_dark size.region_side inner (c % (size.region_side + 2))
+  dark_in_first nl e c l =
+      let p : Bool = nat_eq (c % (d + 2)) 0 in
+      let s : Bool = nat_eq (c % (d + 2)) (d + 1) in
+      let two = (row_facts size b.row).even in
+      let m : c % (d + 2) % 2 ≡ c % 2 = mod_twice c (d + 2) (omega (arith, two)) (omega arith) in
+      b.even_columns c l
+      ∙ ap (λ (i : ℕ). nat_eq i 0) (sym m)
+      ∙ dark_top p s (nat_eq (c % (d + 2) % 2) 0) (nat_eq (inner % 2) 1) (λ z. ap (λ (i : ℕ). nat_eq (i % 2) 0) (eqb-true (c % (d + 2)) 0 z))
+      ∙ ap (λ (t : Bool). (p || t || true || s) && cond (p || t) true (cond true (nat_eq (c % (d + 2) % 2) 0) (nat_eq (inner % 2) 1))) (sym (ne_eqb inner (d + 1) (λ z. nl (z ∙ sym b.last_row))))
+      ∙ ap (λ (t : Bool). (p || nat_eq inner (d + 1) || t || s) && cond (p || nat_eq inner (d + 1)) true (cond t (nat_eq (c % (d + 2) % 2) 0) (nat_eq (inner % 2) 1))) (sym (eq-eqb inner 0 e))
+
+-- the place of the row below
+pub row_below : (s row inner : ℕ) → inner ≡ row % s → (inner + 1) % s ≡ (row + 1) % s
+row_below s row inner e = ap (λ (i : ℕ). (i + 1) % s) e ∙ mod-add-mod row s 1

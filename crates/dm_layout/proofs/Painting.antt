@@ -1,0 +1,194 @@
+-- Rows of the mapping square in which the bits of codewords are put at their places.
+use Rattle.std.proofs.Common.{◌≡◌, ℕ, zero, suc, ◌+◌, ◌-◌, ◌*◌, ◌/◌, ◌%◌, ◌^◌, ◌<◌, Bool, true, false, ◌&&◌, ◌||◌, cond, nat_eq, List, [], ◌∷◌, ◌++◌, length, get_or, set, drop, replicate, refl, sym, ◌∙◌, ap, arith, subst, eq-eqb, get_or-set_other, get_or-set_same}
+use Rattle.std.specs.Int.RustNames.{bit_or}
+use Rattle.std.specs.Int.Bits.{or_zero_r}
+use Rattle.std.proofs.Math.Bool.{or_assoc, or-false, false-or}
+use Rattle.std.proofs.lemmas.Bool.{eqb-true, eqb-false}
+use Rattle.std.proofs.lemmas.Nat.Bits.{bit_at-zero}
+use Rattle.dm_layout.specs.declared.shape.Cell.{Cell}
+use Rattle.dm_layout.specs.declared.cells.Place.{Place}
+use Rattle.dm_layout.specs.declared.shape.Shape.{Shape}
+use Rattle.dm_layout.specs.Border.{is_fixed}
+use Rattle.dm_layout.specs.Grid.{is_dark_in}
+use Rattle.dm_layout.specs.Holds.{bit_of}
+use Rattle.dm_layout.specs.Placement.{At, IsPlace, EachCellOnce, cells_of, bits_from, places_from, places_in_order, shapes}
+use Rattle.dm_layout.specs.Reading.{look_in, marks_in}
+use Rattle.dm_layout.proofs.PackedRows.{darkened_cell}
+use Rattle.dm_layout.proofs.PlaceOrder.{ArePlaces, all_are_places, one_bit, none_fixed, place_at, lies_in, length-places_in_order}
+
+-- ---- one bit
+
+-- a row in which a bit is put
+row_put : (row col d c : ℕ) → col < 128 → d < 2 → is_dark_in (bit_or row (d * 2 ^ col % 2 ^ 128)) c ≡ (is_dark_in row c || (nat_eq c col && nat_eq d 1))
+row_put row col zero c l small =
+    let e : 0 * 2 ^ col % 2 ^ 128 ≡ 0 = omega arith in
+    ap (λ (i : ℕ). is_dark_in (bit_or row i) c) e ∙ ap (λ (i : ℕ). is_dark_in i c) (or_zero_r row) ∙ nothing (is_dark_in row c) (nat_eq c col)
+  where
+    nothing : (a b : Bool) → a ≡ (a || (b && false))
+    nothing true b = refl
+    nothing false true = refl
+    nothing false false = refl
+row_put row col (suc zero) c l small = darkened_cell row col c l ∙ shown (nat_eq c col) (is_dark_in row c)
+  where
+    shown : (t a : Bool) → cond t true a ≡ (a || (t && true))
+    shown true true = refl
+    shown true false = refl
+    shown false true = refl
+    shown false false = refl
+row_put row col (suc (suc d)) c l small = absurd (omega arith)
+
+-- rows in which a bit is put
+pub bit_put : (rows : List ℕ) (q col d r c : ℕ) → q < length rows → col < 128 → d < 2 →
+    look_in (set rows q (bit_or (get_or rows q 0) (d * 2 ^ col % 2 ^ 128))) r c ≡ (look_in rows r c || (nat_eq r q && nat_eq c col && nat_eq d 1))
+bit_put rows q col d r c l lc ld = by_row (nat_eq r q) refl
+  where
+    x : ℕ
+    x = bit_or (get_or rows q 0) (d * 2 ^ col % 2 ^ 128)
+
+    by_row : (t : Bool) → nat_eq r q ≡ t → look_in (set rows q x) r c ≡ (look_in rows r c || (t && nat_eq c col && nat_eq d 1))
+    by_row true e =
+        let er = eqb-true r q e in
+        ap (λ (i : ℕ). look_in (set rows q x) i c) er ∙ ap (λ (i : ℕ). is_dark_in i c) (get_or-set_same rows q x 0 l) ∙ row_put (get_or rows q 0) col d c lc ld
+        ∙ ap (λ (i : ℕ). look_in rows i c || (nat_eq c col && nat_eq d 1)) (sym er)
+    by_row false e = ap (λ (i : ℕ). is_dark_in i c) (get_or-set_other rows q r x 0 (eqb-false r q e)) ∙ sym (or-false (look_in rows r c))
+
+-- ---- one codeword, cell by cell
+
+-- one more bit is put at its cell
+pub cell_put : (rows olds : List ℕ) (word i d : ℕ) (cells : List Cell) (x : Cell) (rest : List Cell) → drop i cells ≡ x ∷ rest → rest ≡ drop (i + 1) cells → x.row < length rows → x.column < 128 → i < 8 → d ≡ word / 2 ^ (7 - i) % 2 →
+    ((r c : ℕ) → (look_in rows r c || marks_in word i (drop i cells) r c) ≡ (look_in olds r c || marks_in word 0 cells r c)) →
+    (r c : ℕ) → (look_in (set rows x.row (bit_or (get_or rows x.row 0) (d * 2 ^ x.column % 2 ^ 128))) r c || marks_in word (i + 1) (drop (i + 1) cells) r c) ≡ (look_in olds r c || marks_in word 0 cells r c)
+cell_put rows olds word i d cells x rest e f lr lc li ed so_far r c =
+    let k : 7 - i ≡ 8 - (i + 1) = omega arith in
+    let j : suc i ≡ i + 1 = omega arith in
+    let dd : d ≡ word / 2 ^ (8 - (i + 1)) % 2 = ed ∙ ap (λ (m : ℕ). word / 2 ^ m % 2) k in
+    let ld : d < 2 = omega (arith, ed) in
+    let h : Bool = nat_eq r x.row && nat_eq c x.column && nat_eq d 1 in
+    ap (λ (b : Bool). b || marks_in word (i + 1) (drop (i + 1) cells) r c) (bit_put rows x.row x.column d r c lr lc ld)
+    ∙ or_assoc (look_in rows r c) h (marks_in word (i + 1) (drop (i + 1) cells) r c)
+    ∙ ap (λ (m : ℕ). look_in rows r c || ((nat_eq r x.row && nat_eq c x.column && nat_eq m 1) || marks_in word (i + 1) (drop (i + 1) cells) r c)) dd
+    ∙ ap (λ (m : ℕ). look_in rows r c || ((nat_eq r x.row && nat_eq c x.column && nat_eq (word / 2 ^ (8 - (i + 1)) % 2) 1) || marks_in word m (drop (i + 1) cells) r c)) (sym j)
+    ∙ ap (λ (xs : List Cell). look_in rows r c || ((nat_eq r x.row && nat_eq c x.column && nat_eq (word / 2 ^ (8 - (i + 1)) % 2) 1) || marks_in word (suc i) xs r c)) (sym f)
+    ∙ ap (λ (xs : List Cell). look_in rows r c || marks_in word i xs r c) (sym e)
+    ∙ so_far r c
+
+-- ---- all codewords
+
+-- whether one of these places lies at a row and a column and its bit is 1
+abbrev pub marks : List ℕ → List Place → ℕ → ℕ → Bool
+marks words [] r c = false
+marks words (p ∷ rest) r c = (nat_eq r p.row && nat_eq c p.column && bit_of words p.word p.bit) || marks words rest r c
+
+-- the places of a codeword and then others mark what the codeword marks in its cells, and what the others mark
+marks_word : (words : List ℕ) (w k : ℕ) (xs : List Cell) (rest : List Place) (r c : ℕ) → marks words (bits_from w k xs ++ rest) r c ≡ (marks_in (get_or words w 0) k xs r c || marks words rest r c)
+marks_word words w k [] rest r c = sym (false-or (marks words rest r c))
+marks_word words w k (x ∷ xs) rest r c =
+    let h : Bool = nat_eq r x.row && nat_eq c x.column && bit_of words w (k + 1) in
+    ap (λ (b : Bool). h || b) (marks_word words w (suc k) xs rest r c) ∙ sym (or_assoc h (marks_in (get_or words w 0) (suc k) xs r c) (marks words rest r c))
+
+-- one more codeword
+pub word_put : (rows news words : List ℕ) (n w x : ℕ) (cells : List Cell) (ss rest : List Shape) (s : Shape) → ss ≡ s ∷ rest → cells ≡ cells_of n s → x ≡ get_or words w 0 →
+    ((r c : ℕ) → look_in news r c ≡ (look_in rows r c || marks_in x 0 cells r c)) →
+    ((r c : ℕ) → (look_in rows r c || marks words (places_from n w ss) r c) ≡ marks words (places_in_order n) r c) →
+    (r c : ℕ) → (look_in news r c || marks words (places_from n (w + 1) rest) r c) ≡ marks words (places_in_order n) r c
+word_put rows news words n w x cells ss rest s e f g put so_far r c =
+    let j : suc w ≡ w + 1 = omega arith in
+    ap (λ (b : Bool). b || marks words (places_from n (w + 1) rest) r c) (put r c)
+    ∙ or_assoc (look_in rows r c) (marks_in x 0 cells r c) (marks words (places_from n (w + 1) rest) r c)
+    ∙ ap (λ (i : ℕ). look_in rows r c || (marks_in i 0 cells r c || marks words (places_from n (w + 1) rest) r c)) g
+    ∙ ap (λ (xs : List Cell). look_in rows r c || (marks_in (get_or words w 0) 0 xs r c || marks words (places_from n (w + 1) rest) r c)) f
+    ∙ ap (λ (i : ℕ). look_in rows r c || (marks_in (get_or words w 0) 0 (cells_of n s) r c || marks words (places_from n i rest) r c)) (sym j)
+    ∙ ap (λ (b : Bool). look_in rows r c || b) (sym (marks_word words w 0 (cells_of n s) (places_from n (suc w) rest) r c))
+    ∙ ap (λ (xs : List Shape). look_in rows r c || marks words (places_from n w xs) r c) (sym e)
+    ∙ so_far r c
+
+-- rows of zeros are light
+light_at : (n r c : ℕ) → is_dark_in (get_or (replicate n 0) r 0) c ≡ false
+light_at zero r c = ap (λ (i : ℕ). nat_eq i 1) (bit_at-zero c)
+light_at (suc n) zero c = ap (λ (i : ℕ). nat_eq i 1) (bit_at-zero c)
+light_at (suc n) (suc r) c = light_at n r c
+
+-- before the first
+pub none_put : (words : List ℕ) (n : ℕ) (ss : List Shape) → ss ≡ shapes n → (r c : ℕ) → (look_in (replicate 96 0) r c || marks words (places_from n 0 ss) r c) ≡ marks words (places_in_order n) r c
+unfolding places_in_order
+none_put words n ss e r c =
+    ap (λ (b : Bool). b || marks words (places_from n 0 ss) r c) (light_at 96 r c) ∙ false-or _ ∙ ap (λ (xs : List Shape). marks words (places_from n 0 xs) r c) e
+
+-- after the last
+pub all_put : (rows words : List ℕ) (n w : ℕ) (ss : List Shape) → ss ≡ [] → ((r c : ℕ) → (look_in rows r c || marks words (places_from n w ss) r c) ≡ marks words (places_in_order n) r c) →
+    (r c : ℕ) → look_in rows r c ≡ marks words (places_in_order n) r c
+all_put rows words n w ss e so_far r c = sym (or-false (look_in rows r c)) ∙ ap (λ (xs : List Shape). look_in rows r c || marks words (places_from n w xs) r c) (sym e) ∙ so_far r c
+
+-- ---- what is marked
+
+-- three tests fail together where the third fails as soon as the others pass
+head_false : (a b d : Bool) → (a ≡ true → b ≡ true → d ≡ false) → (a && b && d) ≡ false
+head_false false b d h = refl
+head_false true false d h = refl
+head_false true true d h = h refl refl
+
+-- neither of two
+both_false : (a b : Bool) → a ≡ false → b ≡ false → (a || b) ≡ false
+both_false a b e f = ap (λ (x : Bool). x || b) e ∙ false-or b ∙ f
+
+-- a place at the row and the column is a place of that cell
+same_place : (n r c : ℕ) (p : Place) → nat_eq r p.row ≡ true → nat_eq c p.column ≡ true → IsPlace n p.word p.bit (At p.row p.column) → IsPlace n p.word p.bit (At r c)
+same_place n r c p e f h =
+    subst (λ (j : ℕ). IsPlace n p.word p.bit (At r j)) (sym (eqb-true c p.column f)) (subst (λ (i : ℕ). IsPlace n p.word p.bit (At i p.column)) (sym (eqb-true r p.row e)) h)
+
+-- a cell whose bit is 0 is not marked
+marks_none : (n : ℕ) (words : List ℕ) (r c w b : ℕ) (ps : List Place) → EachCellOnce n → IsPlace n w b (At r c) → bit_of words w b ≡ false → ArePlaces n ps → marks words ps r c ≡ false
+marks_none n words r c w b [] law place e are = refl
+marks_none n words r c w b (p ∷ rest) law place e are =
+    both_false _ _
+    (head_false (nat_eq r p.row) (nat_eq c p.column) (bit_of words p.word p.bit) (λ x y.
+    let one = one_bit n r c w b p.word p.bit law place (same_place n r c p x y are.0) in
+    ap (λ (i : ℕ). bit_of words i p.bit) one.0 ∙ ap (bit_of words w) one.1 ∙ e))
+    (marks_none n words r c w b rest law place e are.1)
+
+-- nor is a cell of the fixed square
+marks_fixed : (n : ℕ) (words : List ℕ) (r c : ℕ) (ps : List Place) → EachCellOnce n → is_fixed n r c ≡ true → ArePlaces n ps → marks words ps r c ≡ false
+marks_fixed n words r c [] law e are = refl
+marks_fixed n words r c (p ∷ rest) law e are =
+    both_false _ _
+    (head_false (nat_eq r p.row) (nat_eq c p.column) (bit_of words p.word p.bit) (λ x y. absurd (none_fixed n r c p.word p.bit law e (same_place n r c p x y are.0))))
+    (marks_fixed n words r c rest law e are.1)
+
+-- or what is true
+or_true : (a : Bool) → (a || true) ≡ true
+or_true true = refl
+or_true false = refl
+
+-- three tests that pass, or more
+three_true : (a b d x : Bool) → a ≡ true → b ≡ true → d ≡ true → ((a && b && d) || x) ≡ true
+three_true true true true x e f g = refl
+three_true true true false x e f g = cc
+three_true true false d x e f g = cc
+three_true false b d x e f g = cc
+
+-- a cell is marked by the place at which its bit is 1
+marks_some : (words : List ℕ) (r c w b : ℕ) (ps : List Place) (i : ℕ) (d : Place) → i < length ps → get_or ps i d ≡ lies_in w b (At r c) → bit_of words w b ≡ true → marks words ps r c ≡ true
+marks_some words r c w b [] i d l e f = absurd (omega arith)
+marks_some words r c w b (p ∷ rest) zero d l e f =
+    three_true _ _ _ (marks words rest r c) (ap (λ (q : Place). nat_eq r q.row) e ∙ eq-eqb r r refl) (ap (λ (q : Place). nat_eq c q.column) e ∙ eq-eqb c c refl)
+    (ap (λ (q : Place). bit_of words q.word q.bit) e ∙ f)
+marks_some words r c w b (p ∷ rest) (suc i) d l e f =
+    let h : Bool = nat_eq r p.row && nat_eq c p.column && bit_of words p.word p.bit in
+    ap (λ (x : Bool). h || x) (marks_some words r c w b rest i d (omega arith) e f) ∙ or_true h
+
+-- at its place each bit
+pub marks_bit : (n : ℕ) (words : List ℕ) (w b : ℕ) (cell : Cell) → EachCellOnce n → IsPlace n w b cell → marks words (places_in_order n) cell.row cell.column ≡ bit_of words w b
+marks_bit n words w b cell law p = by_bit (bit_of words w b) refl
+  where
+    by_bit : (t : Bool) → bit_of words w b ≡ t → marks words (places_in_order n) cell.row cell.column ≡ t
+    by_bit false e = marks_none n words cell.row cell.column w b (places_in_order n) law p e (all_are_places n)
+    by_bit true e =
+        let d : Place = lies_in w b cell in
+        let lo = p.from_one in
+        let hi = p.to_eight in
+        let k : 8 * w + (b - 1) < length (places_in_order n) = omega (arith, length-places_in_order n, p.word_in) in
+        marks_some words cell.row cell.column w b (places_in_order n) (8 * w + (b - 1)) d k (place_at n w b d p.word_in lo hi ∙ ap (lies_in w b) p.there) e
+
+-- and nothing in the fixed square
+pub marks_no_fixed : (n : ℕ) (words : List ℕ) (r c : ℕ) → EachCellOnce n → is_fixed n r c ≡ true → marks words (places_in_order n) r c ≡ false
+marks_no_fixed n words r c law e = marks_fixed n words r c (places_in_order n) law e (all_are_places n)

@@ -1,0 +1,24 @@
+-- The border cells of the rows of a symbol as bits, as the code keeps them.
+use Rattle.std.specs.Prelude.{◌≡◌, ℕ, ◌+◌, ◌%◌, ◌^◌, ◌<◌, Bool, true, not, ◌&&◌, ◌||◌, nat_eq}
+use Rattle.std.specs.Bool.{beq}
+use Rattle.dm_layout.specs.Sizes.{SizeRow, IsRow}
+use Rattle.dm_layout.specs.Grid.{is_dark_in}
+use Rattle.dm_layout.specs.Border.{is_on_edge, edge_is_dark}
+
+-- the last row of the square of a region and its border; the left columns of the squares, these and their right columns, the even
+-- columns and all columns
+pub record AreBorders (size : SizeRow) (last left both even all : ℕ) : Type 0 where
+  pub row : IsRow size
+  pub last_row : last ≡ size.region_side + 1
+  pub left_columns : (c : ℕ) → c < size.side → is_dark_in left c ≡ nat_eq (c % (size.region_side + 2)) 0
+  pub both_columns : (c : ℕ) → c < size.side → is_dark_in both c ≡ nat_eq (c % (size.region_side + 2)) 0 || nat_eq (c % (size.region_side + 2)) (size.region_side + 1)
+  pub even_columns : (c : ℕ) → c < size.side → is_dark_in even c ≡ nat_eq (c % 2) 0
+  pub all_columns : (c : ℕ) → c < size.side → is_dark_in all c ≡ true
+  pub left_width : left < 2 ^ size.side
+  pub both_width : both < 2 ^ size.side
+  pub even_width : even < 2 ^ size.side
+  pub all_width : all < 2 ^ size.side
+
+-- the cell of a column of a row, which is `inner` inside its region's square of side d + 2, belongs to a border and has the other colour
+abbrev pub is_wrong : ℕ → ℕ → ℕ → ℕ → Bool
+is_wrong d inner row column = is_on_edge d inner (column % (d + 2)) && not (beq (is_dark_in row column) (edge_is_dark d inner (column % (d + 2))))
