@@ -2,14 +2,15 @@
 use Rattle.std.proofs.Common.{◌≡◌, ◌⊎◌, ℕ, ◌+◌, ◌*◌, ◌<◌, ◌≤◌, List, ◌++◌, length, get_or, ap, subst}
 use Rattle.std.specs.List.{All}
 use Rattle.dm_words.specs.declared.item.Item.{Item}
+use Rattle.dm_words.specs.declared.profile.Profile.{Profile}
 use Rattle.dm_code.specs.Codeword.{IsCodeword, IsNear, distance}
-use Rattle.dm_layout.specs.Sizes.{SizeRow, IsRow, codeword_count, block_length}
+use Rattle.dm_layout.specs.Sizes.{SizeRow, IsRow, codeword_count, block_length, most_data}
 use Rattle.dm_layout.specs.Grid.{GridView, IsGrid}
 use Rattle.dm_layout.specs.Placement.{shapes, EachCellOnce}
 use Rattle.dm_layout.specs.Blocks.{AreBlocks}
 use Rattle.dm_layout.specs.Holds.{Holds, IsLaid}
 use Rattle.dm_layout.specs.Words.{WordsView, IsWords}
-use Rattle.dm_words.specs.Ascii.{ascii}
+use Rattle.dm_words.specs.NormalForm.{normal_form}
 use Rattle.dm_words.specs.Pads.{padded}
 use Rattle.dm_words.specs.Spells.{Spells}
 use Rattle.dm_words.specs.Laws.{HasOneAnswer}
@@ -26,7 +27,8 @@ use Rattle.dm_layout.proofs.Reading.{one_list}
 use Rattle.dm_layout.proofs.Laid.{one_laid}
 use Rattle.dm_layout.proofs.PlacementRows.{once_at_row, count_at_row}
 use Rattle.dm_words.proofs.ItemBytes.{spelled_is_message as spelled_is_message_of}
-use Rattle.dm_words.proofs.LawLemmas.{one_answer as one_answer_of, ascii_spells as ascii_spells_padded, ascii_count, ascii_codewords}
+use Rattle.dm_words.proofs.LawLemmas.{one_answer as one_answer_of}
+use Rattle.dm_words.proofs.NormalForms as forms
 
 -- Two codewords of k checks and one length that differ in at most k places are equal.
 pub codewords_apart : (k : ℕ) (c d : List ℕ) → IsCodeword k c → IsCodeword k d → length c ≡ length d → length c ≤ 255 → distance c d ≤ k → c ≡ d
@@ -96,14 +98,15 @@ shape_count size row = count_at_row size row
 pub one_answer : (words : List ℕ) → All (λ w. w < 256) words → HasOneAnswer words
 one_answer words h = one_answer_of words h
 
--- The ASCII form of a message, with pads, spells the message.
-pub ascii_spells : (m : List Item) (count : ℕ) → IsMessage m → length (ascii m) ≤ count → Spells (padded (ascii m) count) m
-ascii_spells m count h fits = ascii_spells_padded m count h fits
+-- The normal form of a message, with pads, spells the message.
+pub normal_form_spells : (p : Profile) (m : List Item) (count : ℕ) → IsMessage m → length (normal_form p m) ≤ count → count ≤ most_data
+    → Spells (padded (normal_form p m) count) m
+normal_form_spells = forms.normal_form_spells
 
 -- With pads it is so many codewords.
-pub ascii_words_are : (m : List Item) (count : ℕ) → IsMessage m → length (ascii m) ≤ count
-    → (length (padded (ascii m) count) ≡ count) × All (λ w. w < 256) (padded (ascii m) count)
-ascii_words_are m count h fits = (ascii_count m count fits, ascii_codewords m count h)
+pub normal_form_words_are : (p : Profile) (m : List Item) (count : ℕ) → IsMessage m → length (normal_form p m) ≤ count
+    → (length (padded (normal_form p m) count) ≡ count) × All (λ w. w < 256) (padded (normal_form p m) count)
+normal_form_words_are p m count h fits = (forms.normal_form_count p m count fits, forms.normal_form_codewords p m count h)
 
 -- What is spelled is a message.
 pub spelled_is_message : (words : List ℕ) (m : List Item) → Spells words m → IsMessage m

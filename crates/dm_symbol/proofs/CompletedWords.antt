@@ -7,10 +7,11 @@ use Rattle.std.proofs.lemmas.List.Elements.{All-append, All-from_get_or, All-get
 use Rattle.std.proofs.lemmas.Nat.{mul-add-lt}
 use Rattle.std.proofs.Math.Seq.{take-append_seam}
 use Rattle.dm_words.specs.declared.item.Item.{Item}
+use Rattle.dm_words.specs.declared.profile.Profile.{Profile}
 use Rattle.dm_code.specs.Codeword.{IsCodeword}
 use Rattle.dm_layout.specs.Sizes.{SizeRow, IsRow, row_for_words, block_data, block_check, block_length}
 use Rattle.dm_layout.specs.Grid.{GridView}
-use Rattle.dm_words.specs.Ascii.{ascii}
+use Rattle.dm_words.specs.NormalForm.{normal_form}
 use Rattle.dm_words.specs.Pads.{padded}
 use Rattle.dm_words.specs.Messages.{IsMessage}
 use Rattle.dm_symbol.specs.Blocks.{symbol, AreWordsOf, BlocksAreCodewords, block_at, data_part}
@@ -19,7 +20,7 @@ use Rattle.dm_symbol.proofs.SizeFacts.{size_facts, holds_that_many}
 use Rattle.dm_symbol.proofs.Completion.{data_stays}
 use Rattle.dm_symbol.proofs.WriteSteps.{laid_is_normal}
 use Rattle.dm_symbol.proofs.Choosing.{chosen}
-use Rattle.dm_symbol.proofs.Below.{block_places, block_lengths, blocks_make_words, codewords_are_bytes, checks_are_there, laid_somewhere, ascii_words_are}
+use Rattle.dm_symbol.proofs.Below.{block_places, block_lengths, blocks_make_words, codewords_are_bytes, checks_are_there, laid_somewhere, normal_form_words_are}
 
 -- A block is of bytes.
 block_bytes : (size : SizeRow) (words : List ℕ) → AreWordsOf size words → (b : ℕ) → b < size.blocks → All (λ w. w < 256) (block_at size words b)
@@ -97,14 +98,14 @@ checks_for size data_words row long bytes =
     }
 
 -- A message that some size holds has a normal grid.
-pub normal_grid_is_there : (m : List Item) → IsMessage m → HasNormalGrid m → (grid : GridView) × IsNormalGrid m grid
-normal_grid_is_there m h fits = of_size (row_for_words (length (ascii m))) refl fits
+pub normal_grid_is_there : (p : Profile) (m : List Item) → IsMessage m → HasNormalGrid p m → (grid : GridView) × IsNormalGrid p m grid
+normal_grid_is_there p m h fits = of_size (row_for_words (length (normal_form p m))) refl fits
   where
-    of_size : (o : Option SizeRow) → row_for_words (length (ascii m)) ≡ o → IsSome o → (grid : GridView) × IsNormalGrid m grid
+    of_size : (o : Option SizeRow) → row_for_words (length (normal_form p m)) ≡ o → IsSome o → (grid : GridView) × IsNormalGrid p m grid
     of_size None e is = absurd (false≢true is)
     of_size (Some size) e is =
-        let here = holds_that_many (length (ascii m)) size e in
-        let are = ascii_words_are m size.data_count h here.1 in
-        let w = checks_for size (padded (ascii m) size.data_count) here.0 are.0 are.1 in
+        let here = holds_that_many (length (normal_form p m)) size e in
+        let are = normal_form_words_are p m size.data_count h here.1 in
+        let w = checks_for size (padded (normal_form p m) size.data_count) here.0 are.0 are.1 in
         let laid = laid_somewhere (symbol size w.list) w.of_size in
-        (laid.0, laid_is_normal m laid.0 (symbol size w.list) size e refl w.front w.checked laid.1)
+        (laid.0, laid_is_normal p m laid.0 (symbol size w.list) size e refl w.front w.checked laid.1)

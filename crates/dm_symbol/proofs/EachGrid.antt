@@ -2,11 +2,12 @@
 use Rattle.std.proofs.Common.{◌≡◌, ◌⊎◌, ℕ, zero, suc, ◌<◌, ◌≤◌, List, length, Option, Some, None, IsSome, Result, Ok, Err, inl, inr, refl, sym, subst, ◌∙◌, arith}
 use Rattle.std.proofs.lemmas.Bool.{cases_eq, cases_lt, false≢true}
 use Rattle.dm_words.specs.declared.item.Item.{Item}
+use Rattle.dm_words.specs.declared.profile.Profile.{Profile}
 use Rattle.dm_code.specs.Codeword.{IsNear}
 use Rattle.dm_layout.specs.Sizes.{SizeRow, block_check, row_for_words}
 use Rattle.dm_layout.specs.Grid.{GridView, IsGrid}
 use Rattle.dm_layout.specs.Border.{border_fault_count}
-use Rattle.dm_words.specs.Ascii.{ascii}
+use Rattle.dm_words.specs.NormalForm.{normal_form}
 use Rattle.dm_symbol.specs.declared.reading.Reading.{Reading}
 use Rattle.dm_symbol.specs.declared.reading.ReadFault.{ReadFault}
 use Rattle.dm_symbol.specs.declared.reading.ReadFault.TheVariants as fault
@@ -97,34 +98,34 @@ fits_or_not (Some a) = inl refl
 fits_or_not None = inr (λ is. false≢true is)
 
 -- The answer of `normal` for a grid that is read.
-normal_of_read : (grid : GridView) (limit : ℕ) (m : List Item) → Reads grid limit m → (answer : Result GridView NormalFault) × NormalAnswer grid limit answer
-normal_of_read grid limit m r =
-    elim (fits_or_not (row_for_words (length (ascii m)))) [
+normal_of_read : (p : Profile) (grid : GridView) (limit : ℕ) (m : List Item) → Reads grid limit m → (answer : Result GridView NormalFault) × NormalAnswer p grid limit answer
+normal_of_read p grid limit m r =
+    elim (fits_or_not (row_for_words (length (normal_form p m)))) [
       | inl fits ↦
-          let normal = normal_grid_is_there m (spelled_is_message (data_part grid.size r.c) m r.spelled) fits in
-          let h : HasNormal grid limit normal.0 = record { message = m; read = r; normal_grid = normal.1 } in
+          let normal = normal_grid_is_there p m (spelled_is_message (data_part grid.size r.c) m r.spelled) fits in
+          let h : HasNormal p grid limit normal.0 = record { message = m; read = r; normal_grid = normal.1 } in
           (Ok normal.0, NormalAnswer.normal normal.0 h refl)
       | inr none ↦ (Err TooLong, NormalAnswer.too_long (record { message = m; read = r; too_long = none }) refl)
     ]
 
 -- The answer of `normal` for a grid that isn't read.
-normal_of_fault : (grid : GridView) (limit : ℕ) (answer : Result Reading ReadFault) (why : ReadFault) → answer ≡ Err why → ReadAnswer grid limit answer
-    → (normal : Result GridView NormalFault) × NormalAnswer grid limit normal
-normal_of_fault grid limit answer why e h = (Err (Read why), NormalAnswer.fault why (subst (ReadAnswer grid limit) e h) refl)
+normal_of_fault : (p : Profile) (grid : GridView) (limit : ℕ) (answer : Result Reading ReadFault) (why : ReadFault) → answer ≡ Err why → ReadAnswer grid limit answer
+    → (normal : Result GridView NormalFault) × NormalAnswer p grid limit normal
+normal_of_fault p grid limit answer why e h = (Err (Read why), NormalAnswer.fault why (subst (ReadAnswer grid limit) e h) refl)
 
 -- The answer of `normal`, by that of reading.
-normal_by_answer : (grid : GridView) (limit : ℕ) (answer : Result Reading ReadFault) → ReadAnswer grid limit answer
-    → (normal : Result GridView NormalFault) × NormalAnswer grid limit normal
-normal_by_answer grid limit answer (ReadAnswer.border more e) =
-    normal_of_fault grid limit answer (fault.Border (border_fault_count grid)) e (ReadAnswer.border more e)
-normal_by_answer grid limit answer (ReadAnswer.block u b few h first e) = normal_of_fault grid limit answer (fault.Block b) e (ReadAnswer.block u b few h first e)
-normal_by_answer grid limit answer (ReadAnswer.words u c why few h refused e) =
-    normal_of_fault grid limit answer (fault.Words why) e (ReadAnswer.words u c why few h refused e)
-normal_by_answer grid limit answer (ReadAnswer.message u c m few h spelled e) =
-    normal_of_read grid limit m (record { border = few; words = u; c = c; corrected = h; spelled = spelled })
+normal_by_answer : (p : Profile) (grid : GridView) (limit : ℕ) (answer : Result Reading ReadFault) → ReadAnswer grid limit answer
+    → (normal : Result GridView NormalFault) × NormalAnswer p grid limit normal
+normal_by_answer p grid limit answer (ReadAnswer.border more e) =
+    normal_of_fault p grid limit answer (fault.Border (border_fault_count grid)) e (ReadAnswer.border more e)
+normal_by_answer p grid limit answer (ReadAnswer.block u b few h first e) = normal_of_fault p grid limit answer (fault.Block b) e (ReadAnswer.block u b few h first e)
+normal_by_answer p grid limit answer (ReadAnswer.words u c why few h refused e) =
+    normal_of_fault p grid limit answer (fault.Words why) e (ReadAnswer.words u c why few h refused e)
+normal_by_answer p grid limit answer (ReadAnswer.message u c m few h spelled e) =
+    normal_of_read p grid limit m (record { border = few; words = u; c = c; corrected = h; spelled = spelled })
 
 -- Each grid has an answer of `normal`.
-pub normal_answer_is_given : (grid : GridView) (limit : ℕ) → IsGrid grid → (answer : Result GridView NormalFault) × NormalAnswer grid limit answer
-normal_answer_is_given grid limit is_grid =
+pub normal_answer_is_given : (p : Profile) (grid : GridView) (limit : ℕ) → IsGrid grid → (answer : Result GridView NormalFault) × NormalAnswer p grid limit answer
+normal_answer_is_given p grid limit is_grid =
     let read = answer_is_given grid limit is_grid in
-    normal_by_answer grid limit read.0 read.1
+    normal_by_answer p grid limit read.0 read.1

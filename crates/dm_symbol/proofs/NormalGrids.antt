@@ -2,10 +2,11 @@
 use Rattle.std.proofs.Common.{◌≡◌, ℕ, ◌<◌, List, length, Some, inl, inr, sym, ap, subst, ◌∙◌}
 use Rattle.std.proofs.lemmas.List.Elements.{All-take}
 use Rattle.dm_words.specs.declared.item.Item.{Item}
+use Rattle.dm_words.specs.declared.profile.Profile.{Profile}
 use Rattle.dm_layout.specs.Sizes.{SizeRow}
 use Rattle.dm_layout.specs.Grid.{GridView}
 use Rattle.dm_layout.specs.Holds.{IsLaid}
-use Rattle.dm_words.specs.Ascii.{ascii}
+use Rattle.dm_words.specs.NormalForm.{normal_form}
 use Rattle.dm_words.specs.Pads.{padded}
 use Rattle.std.specs.List.{All}
 use Rattle.dm_words.specs.Spells.{Spells}
@@ -13,8 +14,8 @@ use Rattle.dm_words.specs.Messages.{IsMessage}
 use Rattle.dm_symbol.specs.Blocks.{symbol, AreWordsOf, BlocksAreCodewords, data_part}
 use Rattle.dm_symbol.specs.NormalGrid.{IsNormalGrid}
 use Rattle.dm_symbol.proofs.SymbolBlocks.{checks_are_one}
-use Rattle.dm_symbol.proofs.SizeFacts.{holds_that_many}
-use Rattle.dm_symbol.proofs.Below.{one_answer, ascii_spells, held_words_are_one, laid_grid_is_one}
+use Rattle.dm_symbol.proofs.SizeFacts.{size_facts, holds_that_many}
+use Rattle.dm_symbol.proofs.Below.{one_answer, normal_form_spells, held_words_are_one, laid_grid_is_one}
 
 -- `Some` forgets nothing.
 pub some_is : {A : Type 0} (a b : A) → Some a ≡ Some b → a ≡ b
@@ -33,25 +34,26 @@ one_spelled words m n bytes hm hn =
     ]
 
 -- The data codewords of a normal grid spell its message.
-pub normal_words_spell : (m : List Item) (grid : GridView) → IsMessage m → (n : IsNormalGrid m grid) → Spells (data_part grid.size n.words) m
-normal_words_spell m grid h n =
-    subst (λ words. Spells words m) (sym n.data_words) (ascii_spells m grid.size.data_count h (holds_that_many (length (ascii m)) grid.size n.smallest).1)
+pub normal_words_spell : (p : Profile) (m : List Item) (grid : GridView) → IsMessage m → (n : IsNormalGrid p m grid) → Spells (data_part grid.size n.words) m
+normal_words_spell p m grid h n =
+    let here = holds_that_many (length (normal_form p m)) grid.size n.smallest in
+    subst (λ words. Spells words m) (sym n.data_words) (normal_form_spells p m grid.size.data_count h here.1 (size_facts grid.size here.0).few_data)
 
 -- Normal grids of one message are equal.
-pub normal_grid_is_one : (m : List Item) (g h : GridView) → IsNormalGrid m g → IsNormalGrid m h → g ≡ h
-normal_grid_is_one m g h ng nh =
+pub normal_grid_is_one : (p : Profile) (m : List Item) (g h : GridView) → IsNormalGrid p m g → IsNormalGrid p m h → g ≡ h
+normal_grid_is_one p m g h ng nh =
     let size : g.size ≡ h.size = some_is g.size h.size (sym ng.smallest ∙ nh.smallest) in
     let of_size : AreWordsOf g.size nh.words = subst (λ s. AreWordsOf s nh.words) (sym size) nh.laid.holds.codewords in
     let codewords : BlocksAreCodewords g.size nh.words = subst (λ s. BlocksAreCodewords s nh.words) (sym size) nh.checked in
-    let front : data_part g.size nh.words ≡ padded (ascii m) g.size.data_count =
-    subst (λ s. data_part s nh.words ≡ padded (ascii m) s.data_count) (sym size) nh.data_words in
+    let front : data_part g.size nh.words ≡ padded (normal_form p m) g.size.data_count =
+    subst (λ s. data_part s nh.words ≡ padded (normal_form p m) s.data_count) (sym size) nh.data_words in
     let same : ng.words ≡ nh.words = checks_are_one g.size ng.words nh.words ng.laid.holds.codewords of_size ng.checked codewords (ng.data_words ∙ sym front) in
     let symbols : symbol g.size ng.words ≡ symbol h.size nh.words = ap (λ s. symbol s ng.words) size ∙ ap (λ w. symbol h.size w) same in
     laid_grid_is_one g h (symbol h.size nh.words) (subst (λ w. IsLaid w g) symbols ng.laid) nh.laid
 
 -- Messages with one normal grid are equal.
-pub normal_message_is_one : (m n : List Item) (g : GridView) → IsMessage m → IsMessage n → IsNormalGrid m g → IsNormalGrid n g → m ≡ n
-normal_message_is_one m n g hm hn nm nn =
+pub normal_message_is_one : (p : Profile) (m n : List Item) (g : GridView) → IsMessage m → IsMessage n → IsNormalGrid p m g → IsNormalGrid p n g → m ≡ n
+normal_message_is_one p m n g hm hn nm nn =
     let same : nm.words ≡ nn.words = held_words_are_one g nm.words nn.words nm.laid.holds nn.laid.holds in
     one_spelled (data_part g.size nn.words) m n (data_is_bytes g.size nn.words nn.laid.holds.codewords)
-    (subst (λ words. Spells (data_part g.size words) m) same (normal_words_spell m g hm nm)) (normal_words_spell n g hn nn)
+    (subst (λ words. Spells (data_part g.size words) m) same (normal_words_spell p m g hm nm)) (normal_words_spell p n g hn nn)

@@ -7,6 +7,7 @@ use Rattle.std.proofs.lemmas.Bool.{cases_Bool, cases_eq, cases_lt, cases_order, 
 use Rattle.std.proofs.lemmas.Nat.{div_below, le-div, same_from_place, mul-add-lt}
 use Rattle.std.proofs.lemmas.Nat.Bits.{bit_at_lowest, bit_at-suc}
 use Rattle.dm_words.specs.declared.item.Item.{Item}
+use Rattle.dm_words.specs.declared.profile.Profile.{Profile}
 use Rattle.dm_code.specs.Codeword.{distance, differing}
 use Rattle.dm_layout.specs.declared.shape.Cell.{Cell}
 use Rattle.dm_layout.specs.Sizes.{SizeRow, IsRow, row_with_side, codeword_count, block_length, regions_across}
@@ -219,10 +220,10 @@ border_changes size rows others none =
     fault_shows (is_border size r c) (cell_at g r c) (cell_at h r c) (border_is_dark size r c) (none_pass size.side (is_fault g) r c none hr hc) wrong)
 
 -- A normal grid of which so many cells are turned over is read as its message.
-turned_reads : (m : List Item) (normal : GridView) (others : List (List Bool)) (limit : ℕ) → IsMessage m → IsNormalGrid m normal
+turned_reads : (p : Profile) (m : List Item) (normal : GridView) (others : List (List Bool)) (limit : ℕ) → IsMessage m → IsNormalGrid p m normal
     → IsGrid (record { size = normal.size; rows = others }) → turned_cells normal (record { size = normal.size; rows = others }) ≤ normal.size.limit
     → normal.size.limit ≤ limit → Reads (record { size = normal.size; rows = others }) limit m
-turned_reads m normal others limit h n is_grid few at_least =
+turned_reads p m normal others limit h n is_grid few at_least =
     let size = normal.size in
     let f = size_facts size n.laid.holds.square.row in
     let held = every_grid_holds (record { size = size; rows = others }) is_grid in
@@ -239,7 +240,7 @@ turned_reads m normal others limit h n is_grid few at_least =
           close = omega (arith, block_changes size normal.rows others n.words held.0 n.laid.holds held.1 b hb, few, f.half);
         };
       };
-      spelled = normal_words_spell m normal h n;
+      spelled = normal_words_spell p m normal h n;
     }
 
 -- A side has one size.
@@ -247,10 +248,10 @@ size_by_side : (a b : SizeRow) → IsRow a → IsRow b → a.side ≡ b.side →
 size_by_side a b ha hb e = some_is a b (sym ha ∙ ap row_with_side e ∙ hb)
 
 -- The law of turned cells.
-pub turned_cells_are_read : (m : List Item) (normal grid : GridView) (limit : ℕ) → IsMessage m → IsNormalGrid m normal → IsGrid grid
+pub turned_cells_are_read : (p : Profile) (m : List Item) (normal grid : GridView) (limit : ℕ) → IsMessage m → IsNormalGrid p m normal → IsGrid grid
     → grid.size.side ≡ normal.size.side → turned_cells normal grid ≤ normal.size.limit → normal.size.limit ≤ limit → Reads grid limit m
-turned_cells_are_read m normal grid limit h n is_grid side few at_least =
+turned_cells_are_read p m normal grid limit h n is_grid side few at_least =
     let same : grid.size ≡ normal.size = size_by_side grid.size normal.size is_grid.row n.laid.holds.square.row side in
     let whole : ◌≡◌ {A = GridView} grid (record { size = normal.size; rows = grid.rows }) = ap (λ (s : SizeRow). let g : GridView = record { size = s; rows = grid.rows } in g) same in
     subst (λ g. Reads g limit m) (sym whole)
-    (turned_reads m normal grid.rows limit h n (subst IsGrid whole is_grid) (subst (λ g. turned_cells normal g ≤ normal.size.limit) whole few) at_least)
+    (turned_reads p m normal grid.rows limit h n (subst IsGrid whole is_grid) (subst (λ g. turned_cells normal g ≤ normal.size.limit) whole few) at_least)

@@ -3,6 +3,7 @@ use Rattle.std.specs.Prelude.{◌≡◌, ℕ, ◌≤◌, List, Result, Ok, not, 
 use Rattle.std.specs.Bool.{beq}
 use Rattle.std.specs.List.{range_with_len}
 use Rattle.dm_words.specs.declared.item.Item.{Item}
+use Rattle.dm_words.specs.declared.profile.Profile.{Profile}
 use Rattle.dm_layout.specs.Grid.{GridView, IsGrid, cell_at}
 use Rattle.dm_words.specs.Messages.{IsMessage}
 use Rattle.dm_symbol.specs.declared.reading.Reading.{Reading}
@@ -12,9 +13,9 @@ use Rattle.dm_symbol.specs.NormalGrid.{IsNormalGrid, HasNormalGrid}
 use Rattle.dm_symbol.specs.Reading.{Reads, ReadAnswer, reading_of}
 use Rattle.dm_symbol.specs.Normal.{HasNormal, NormalAnswer}
 
--- Two normal grids are equal exactly where their messages are.
+-- Two normal grids under one profile are equal exactly where their messages are equal.
 abbrev pub NormalGridsTellMessages : Type 0
-NormalGridsTellMessages = (m n : List Item) (g h : GridView) → IsMessage m → IsMessage n → IsNormalGrid m g → IsNormalGrid n h → (g ≡ h) ↔ (m ≡ n)
+NormalGridsTellMessages = (profile : Profile) (m n : List Item) (g h : GridView) → IsMessage m → IsMessage n → IsNormalGrid profile m g → IsNormalGrid profile n h → (g ≡ h) ↔ (m ≡ n)
 
 -- A grid is read as at most one message, whatever the limits.
 abbrev pub OneMessageIsRead : Type 0
@@ -24,26 +25,29 @@ OneMessageIsRead = (grid : GridView) (k l : ℕ) (m n : List Item) → Reads gri
 abbrev pub OneAnswerIsGiven : Type 0
 OneAnswerIsGiven = (grid : GridView) (limit : ℕ) (a b : Result Reading ReadFault) → ReadAnswer grid limit a → ReadAnswer grid limit b → a ≡ b
 
--- A grid has at most one answer of `normal` for a limit.
+-- A grid has at most one answer of `normal_as` for a profile and a limit.
 abbrev pub OneNormalAnswerIsGiven : Type 0
-OneNormalAnswerIsGiven = (grid : GridView) (limit : ℕ) (a b : Result GridView NormalFault) → NormalAnswer grid limit a → NormalAnswer grid limit b → a ≡ b
+OneNormalAnswerIsGiven = (profile : Profile) (grid : GridView) (limit : ℕ) (a b : Result GridView NormalFault) → NormalAnswer profile grid limit a
+    → NormalAnswer profile grid limit b → a ≡ b
 
 -- A grid has some answer for each limit.
 abbrev pub AnAnswerIsGiven : Type 0
 AnAnswerIsGiven = (grid : GridView) (limit : ℕ) → IsGrid grid → (answer : Result Reading ReadFault) × ReadAnswer grid limit answer
 
--- A grid has some answer of `normal` for each limit.
+-- A grid has some answer of `normal_as` for each profile and limit.
 abbrev pub ANormalAnswerIsGiven : Type 0
-ANormalAnswerIsGiven = (grid : GridView) (limit : ℕ) → IsGrid grid → (answer : Result GridView NormalFault) × NormalAnswer grid limit answer
+ANormalAnswerIsGiven = (profile : Profile) (grid : GridView) (limit : ℕ) → IsGrid grid
+    → (answer : Result GridView NormalFault) × NormalAnswer profile grid limit answer
 
--- A message that some size holds has a normal grid.
+-- A message whose normal form some size holds has a normal grid.
 abbrev pub ANormalGridIsThere : Type 0
-ANormalGridIsThere = (m : List Item) → IsMessage m → HasNormalGrid m → (grid : GridView) × IsNormalGrid m grid
+ANormalGridIsThere = (profile : Profile) (m : List Item) → IsMessage m → HasNormalGrid profile m → (grid : GridView) × IsNormalGrid profile m grid
 
 -- The normal grid of a message is read as it for every limit, with nothing corrected in any block and no border fault, and has no
 -- other answer.
 abbrev pub NormalGridIsRead : Type 0
-NormalGridIsRead = (m : List Item) (grid : GridView) (limit : ℕ) (answer : Result Reading ReadFault) → IsMessage m → IsNormalGrid m grid
+NormalGridIsRead = (profile : Profile) (m : List Item) (grid : GridView) (limit : ℕ) (answer : Result Reading ReadFault) → IsMessage m
+    → IsNormalGrid profile m grid
     → ReadAnswer grid limit answer ↔ (answer ≡ Ok (reading_of m (replicate grid.size.blocks 0) 0))
 
 -- At how many cells two grids of one side differ.
@@ -54,15 +58,21 @@ turned_cells g h =
 -- Where at most as many cells of a normal grid are turned over as codewords can be corrected in a block of its size, what comes out is
 -- read as the same message, for every border limit of at least that correction limit.
 abbrev pub TurnedCellsAreRead : Type 0
-TurnedCellsAreRead = (m : List Item) (normal grid : GridView) (limit : ℕ) → IsMessage m → IsNormalGrid m normal → IsGrid grid
+TurnedCellsAreRead = (profile : Profile) (m : List Item) (normal grid : GridView) (limit : ℕ) → IsMessage m → IsNormalGrid profile m normal → IsGrid grid
     → grid.size.side ≡ normal.size.side → turned_cells normal grid ≤ normal.size.limit → normal.size.limit ≤ limit → Reads grid limit m
 
 -- Normalising twice is once: where the answer is a normal grid, the answer for that grid is the grid itself, for every limit.
 abbrev pub NormalTwiceIsOnce : Type 0
-NormalTwiceIsOnce = (grid normal : GridView) (limit other : ℕ) (answer : Result GridView NormalFault) → HasNormal grid limit normal
-    → NormalAnswer normal other answer ↔ (answer ≡ Ok normal)
+NormalTwiceIsOnce = (profile : Profile) (grid normal : GridView) (limit other : ℕ) (answer : Result GridView NormalFault)
+    → HasNormal profile grid limit normal → NormalAnswer profile normal other answer ↔ (answer ≡ Ok normal)
 
--- Two read grids have equal normal grids exactly where their messages are equal, whatever the limits.
+-- Normalising under one profile and then under another is normalising under the other, for every second limit: where the first answer is a
+-- normal grid, the answer for that grid is the answer for the grid itself, also where that is that the message is too long.
+abbrev pub TheLastProfileDecides : Type 0
+TheLastProfileDecides = (first last : Profile) (grid normal : GridView) (limit other : ℕ) (answer : Result GridView NormalFault)
+    → HasNormal first grid limit normal → NormalAnswer last normal other answer ↔ NormalAnswer last grid limit answer
+
+-- Two read grids have equal normal grids under one profile exactly where their messages are equal, whatever the limits.
 abbrev pub EqualNormalGridsMeanEqualMessages : Type 0
-EqualNormalGridsMeanEqualMessages = (g h a b : GridView) (i j k l : ℕ) (m n : List Item) → Reads g i m → Reads h j n → HasNormal g k a → HasNormal h l b
-    → (a ≡ b) ↔ (m ≡ n)
+EqualNormalGridsMeanEqualMessages = (profile : Profile) (g h a b : GridView) (i j k l : ℕ) (m n : List Item) → Reads g i m → Reads h j n
+    → HasNormal profile g k a → HasNormal profile h l b → (a ≡ b) ↔ (m ≡ n)

@@ -2,6 +2,7 @@ pub mod Blocks
 pub mod NormalGrid
 pub mod Reading
 pub mod Normal
+pub mod Inspection
 pub mod Laws
 pub use Rattle.dm_layout.specs.Sizes
 pub use Rattle.dm_layout.specs.Grid
@@ -10,6 +11,8 @@ pub use Rattle.dm_layout.specs.Border
 pub use Rattle.dm_layout.specs.Holds
 pub use Rattle.dm_words.specs.Messages
 pub use Rattle.dm_words.specs.Ascii
+pub use Rattle.dm_words.specs.Base256
+pub use Rattle.dm_words.specs.NormalForm
 pub use Rattle.dm_words.specs.Pads
 pub use Rattle.dm_words.specs.Spells
 pub use Rattle.dm_words.specs.Refused

@@ -1,6 +1,7 @@
--- The normal grid of what a grid says.
-use Rattle.std.specs.Prelude.{◌≡◌, ℕ, List, Result, Ok, Err}
+-- The normal grid of what a grid says, under a profile.
+use Rattle.std.specs.Prelude.{◌≡◌, ℕ, List, Result, Ok, Err, ◌↔◌}
 use Rattle.dm_words.specs.declared.item.Item.{Item}
+use Rattle.dm_words.specs.declared.profile.Profile.{Profile}
 use Rattle.dm_layout.specs.Grid.{GridView}
 use Rattle.dm_symbol.specs.declared.reading.ReadFault.{ReadFault}
 use Rattle.dm_symbol.specs.declared.normalising.NormalFault.{NormalFault}
@@ -9,19 +10,26 @@ use Rattle.dm_symbol.specs.NormalGrid.{IsNormalGrid, HasNormalGrid}
 use Rattle.dm_symbol.specs.Reading.{Reads, ReadAnswer}
 
 -- the grid is read as a message, and this is the normal grid of that message
-pub record HasNormal (grid : GridView) (limit : ℕ) (normal : GridView) : Type 0 where
+pub record HasNormal (profile : Profile) (grid : GridView) (limit : ℕ) (normal : GridView) : Type 0 where
   pub message : List Item
   pub read : Reads grid limit message
-  pub normal_grid : IsNormalGrid message normal
+  pub normal_grid : IsNormalGrid profile message normal
 
 -- the grid is read as a message that has no normal grid
-pub record HasNoNormal (grid : GridView) (limit : ℕ) : Type 0 where
+pub record HasNoNormal (profile : Profile) (grid : GridView) (limit : ℕ) : Type 0 where
   pub message : List Item
   pub read : Reads grid limit message
-  pub too_long : HasNormalGrid message → ⊥
+  pub too_long : HasNormalGrid profile message → ⊥
 
 -- the answer for a grid: the normal grid of the message as which it is read; that this message has none; or the fault of reading
-pub data NormalAnswer (grid : GridView) (limit : ℕ) (answer : Result GridView NormalFault) : Type 0 where
-  normal : (n : GridView) → HasNormal grid limit n → answer ≡ Ok n → NormalAnswer grid limit answer
-  too_long : HasNoNormal grid limit → answer ≡ Err TooLong → NormalAnswer grid limit answer
-  fault : (why : ReadFault) → ReadAnswer grid limit (Err why) → answer ≡ Err (Read why) → NormalAnswer grid limit answer
+pub data NormalAnswer (profile : Profile) (grid : GridView) (limit : ℕ) (answer : Result GridView NormalFault) : Type 0 where
+  normal : (n : GridView) → HasNormal profile grid limit n → answer ≡ Ok n → NormalAnswer profile grid limit answer
+  too_long : HasNoNormal profile grid limit → answer ≡ Err TooLong → NormalAnswer profile grid limit answer
+  fault : (why : ReadFault) → ReadAnswer grid limit (Err why) → answer ≡ Err (Read why) → NormalAnswer profile grid limit answer
+
+-- the same, with when each kind of answer is given: exactly where it is said here
+pub record IsNormalised (profile : Profile) (grid : GridView) (limit : ℕ) (answer : Result GridView NormalFault) : Type 0 where
+  pub answer_is : NormalAnswer profile grid limit answer
+  pub normal : (n : GridView) → (answer ≡ Ok n) ↔ HasNormal profile grid limit n
+  pub too_long : (answer ≡ Err TooLong) ↔ HasNoNormal profile grid limit
+  pub fault : (why : ReadFault) → (answer ≡ Err (Read why)) ↔ ReadAnswer grid limit (Err why)

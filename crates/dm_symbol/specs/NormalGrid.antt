@@ -1,25 +1,34 @@
--- The normal grid of a message: the grid of its ASCII form in the smallest symbol that holds it.
-use Rattle.std.specs.Prelude.{◌≡◌, ℕ, List, Some, IsSome, length}
+-- The normal grid of a message under a profile: the grid of its normal form in the smallest symbol that holds it.
+use Rattle.std.specs.Prelude.{◌≡◌, ℕ, List, Some, IsSome, length, Result, IfOk, IsOk, OnErr, ◌↔◌}
 use Rattle.dm_words.specs.declared.item.Item.{Item}
+use Rattle.dm_words.specs.declared.fault.TooLong.{TooLong}
+use Rattle.dm_words.specs.declared.profile.Profile.{Profile}
 use Rattle.dm_layout.specs.Sizes.{row_for_words}
 use Rattle.dm_layout.specs.Grid.{GridView}
 use Rattle.dm_layout.specs.Holds.{IsLaid}
-use Rattle.dm_words.specs.Ascii.{ascii}
+use Rattle.dm_words.specs.NormalForm.{normal_form}
 use Rattle.dm_words.specs.Pads.{padded}
 use Rattle.dm_symbol.specs.Blocks.{symbol, BlocksAreCodewords, data_part}
 
--- the message has a normal grid: some size has at least as many data codewords as its ASCII form has codewords
-abbrev pub HasNormalGrid : List Item → Type 0
-HasNormalGrid m = IsSome (row_for_words (length (ascii m)))
+-- the message has a normal grid: some size has at least as many data codewords as its normal form has codewords
+abbrev pub HasNormalGrid : Profile → List Item → Type 0
+HasNormalGrid profile m = IsSome (row_for_words (length (normal_form profile m)))
 
 -- the grid is the normal grid of the message
-pub record IsNormalGrid (m : List Item) (grid : GridView) : Type 0 where
-  -- its size is the smallest with at least as many data codewords as the ASCII form of the message has
-  pub smallest : row_for_words (length (ascii m)) ≡ Some grid.size
+pub record IsNormalGrid (profile : Profile) (m : List Item) (grid : GridView) : Type 0 where
+  -- its size is the smallest with at least as many data codewords as the normal form of the message has
+  pub smallest : row_for_words (length (normal_form profile m)) ≡ Some grid.size
   -- codewords of this size are laid in it: it holds them, no border cell has the wrong colour, and it has the fixed square
   pub words : List ℕ
   pub laid : IsLaid (symbol grid.size words) grid
-  -- the data codewords are the ASCII form, followed by pads
-  pub data_words : data_part grid.size words ≡ padded (ascii m) grid.size.data_count
+  -- the data codewords are the normal form, followed by pads
+  pub data_words : data_part grid.size words ≡ padded (normal_form profile m) grid.size.data_count
   -- the check codewords make each block a codeword
   pub checked : BlocksAreCodewords grid.size words
+
+-- the answer of writing a message: its normal grid, of which there is one, where some size holds its normal form; else it has none
+pub record IsWritten (profile : Profile) (m : List Item) (answer : Result GridView TooLong) : Type 0 where
+  pub normal : IfOk answer (λ grid. IsNormalGrid profile m grid)
+  pub one : IfOk answer (λ grid. (other : GridView) → IsNormalGrid profile m other → other ≡ grid)
+  pub fits : IsOk answer ↔ HasNormalGrid profile m
+  pub none : OnErr answer ((grid : GridView) → IsNormalGrid profile m grid → ⊥)

@@ -1,22 +1,25 @@
-//! Whole symbols of Data Matrix ECC 200 (ISO/IEC 16022): the normal grid of a message ([`write()`]), the message of a grid
-//! ([`read()`]), and the normal grid of what a grid says ([`normal()`]).
+//! Whole symbols of Data Matrix ECC 200 (ISO/IEC 16022): the normal grid of a message ([`write_as()`]), the message of a grid
+//! ([`read()`]), and the normal grid of what a grid says ([`normal_as()`]), each normal grid under a [`Profile`]; [`write()`] and
+//! [`normal()`] are those of [`Profile::Ascii`]. [`inspect()`] gives the codewords of a grid, and as they are corrected.
 //!
-//! What the contracts say is defined in `specs/`: `Blocks`, `NormalGrid`, `Reading` and `Normal`; `Laws` has the laws of these
-//! definitions, which the functions of [`laws`] prove. No call takes memory.
+//! What the contracts say is defined in `specs/`: `Blocks`, `NormalGrid`, `Reading`, `Normal` and `Inspection`; `Laws` has the laws of
+//! these definitions, which the functions of [`laws`] prove. No call takes memory.
 #![tactic(auto)]
 
+mod inspection;
 pub mod laws;
 mod limit;
 mod normalising;
 mod reading;
 mod writing;
 
-pub use dm_layout::{Grid, GridFault, LARGEST_SIDE, MOST_BLOCKS, Size, table};
-pub use dm_words::{Item, MOST_ITEMS, Message, TooLong, WordFault};
+pub use dm_layout::{Grid, GridFault, LARGEST_SIDE, MOST_BLOCKS, Size, Words, table};
+pub use dm_words::{Item, MOST_ITEMS, Message, Profile, TooLong, WordFault};
+pub use inspection::{Inspection, inspect};
 pub use limit::usual_limit;
-pub use normalising::{NormalFault, normal};
+pub use normalising::{NormalFault, normal, normal_as};
 pub use reading::{ReadFault, Reading, read};
-pub use writing::write;
+pub use writing::{write, write_as};
 
 #[cfg(test)]
 mod tests;

@@ -63,6 +63,8 @@ pub fn read(grid: &Grid, border_limit: u16) -> Result<Reading, ReadFault>
 
 /// Puts the codeword near each block in its place, and gives the number of codewords that this changes in each; or the first block
 /// that no codeword is near.
+// The words of a block stand in a frame of their own, beside that in which the message is read.
+#[inline(never)]
 fn correct_blocks(words: &mut Words) -> Result<ArrayVec<u8, MOST_BLOCKS>, u8>
     ensures size { words.new.size ≡ words.old.size }
     ensures words { AreWordsOf words.old.size words.new.list }

@@ -8,7 +8,7 @@ use std::process::Abort;
 
 mod hostile;
 mod larger;
-mod marks;
+mod profiles;
 
 /// The codewords of `123456` at side 10, data and then checks.
 const DIGITS: [u8; 8] = [142, 164, 186, 114, 25, 5, 88, 102];
@@ -300,16 +300,4 @@ fn ignores_the_fixed_square(rt: HostRuntime) {
         read(&turned, 3),
         Err(ReadFault::Words(WordFault::Reserved(1)))
     );
-}
-
-/// Marks printed by other encoders: the check codewords of each are those of its data codewords.
-#[test]
-fn completes_as_other_encoders(rt: HostRuntime) {
-    for (side, cells) in marks::MARKS {
-        let grid = drawn(&rt, side, cells);
-        let words = lift(&grid);
-        let again = completed_grid(&rt, side, words.data_part());
-        assert_eq!(rt; lift(&again).list(), words.list(), "side {side}");
-        assert!(rt; same(&again, &grid));
-    }
 }

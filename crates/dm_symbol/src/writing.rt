@@ -1,27 +1,30 @@
 //! Writing: the normal grid of a message.
 
-ghost use Rattle.std.specs.Prelude.{◌≡◌, ◌≢◌, ◌++◌, ◌<◌, ◌↔◌, ℕ, length, take, drop, replicate, IfOk, IsErr, IsOk, OnErr};
+ghost use Rattle.std.specs.Prelude.{◌≡◌, ◌≢◌, ◌++◌, ◌<◌, ℕ, length, take, drop, replicate};
 ghost use Rattle.dm_code.specs.Codeword.{IsCodeword};
 ghost use Rattle.dm_layout.specs.Sizes.{codeword_count, block_check};
-ghost use Rattle.dm_layout.specs.Grid.{GridView};
 ghost use Rattle.dm_symbol.specs.Blocks.{AreWordsOf, BlocksAreCodewords, block_at, data_part};
-ghost use Rattle.dm_symbol.specs.NormalGrid.{IsNormalGrid, HasNormalGrid};
+ghost use Rattle.dm_symbol.specs.NormalGrid.{IsWritten};
 
 use arrayvec::ArrayVec;
 use dm_code::encode;
 use dm_layout::{Grid, MOST_CODEWORDS, Size, Words, block, lay, put_block};
-use dm_words::{Message, TooLong, ascii_words, padded};
+use dm_words::{Message, Profile, TooLong, normal_words, padded};
 
-/// The normal grid of a message: its ASCII codewords, pads and check codewords, laid in the smallest symbol that holds them (ISO/IEC
-/// 16022, symbol construction). `TooLong` comes exactly where the message has none, since its ASCII codewords are more than the data
-/// codewords of the largest size.
+/// The normal grid of a message under [`Profile::Ascii`]: what [`write_as`] answers for that profile.
 pub fn write(message: &Message) -> Result<Grid, TooLong>
-    ensures normal { IfOk result (λ grid. IsNormalGrid message.now grid) }
-    ensures one { IfOk result (λ grid. (other : GridView) → IsNormalGrid message.now other → other ≡ grid) }
-    ensures fits { IsOk result ↔ HasNormalGrid message.now }
-    ensures none { OnErr result ((grid : GridView) → IsNormalGrid message.now grid → ⊥) }
+    ensures { IsWritten Profile.Ascii message.now result }
 {
-    let words = ascii_words(message)?;
+    write_as(Profile::Ascii, message)
+}
+
+/// The normal grid of a message under a profile: the codewords that the profile chooses, pads and check codewords, laid in the
+/// smallest symbol that holds them (ISO/IEC 16022, symbol construction). `TooLong` comes exactly where the message has none, since
+/// those codewords are more than the data codewords of the largest size.
+pub fn write_as(profile: Profile, message: &Message) -> Result<Grid, TooLong>
+    ensures { IsWritten profile message.now result }
+{
+    let words = normal_words(profile, message)?;
     let Some(size) = Size::for_words(words.len() as u16) else {
         return Err(TooLong);
     };

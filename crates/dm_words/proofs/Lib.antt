@@ -10,5 +10,6 @@ pub mod RunLoops
 pub mod SegmentLoops
 pub mod AsciiWords
 pub mod PadWords
+pub mod NormalForms
 pub mod ItemBytes
 pub mod LawLemmas

@@ -1,4 +1,4 @@
--- What stands at the front, as it is found, is what stands there.
+-- The part that the scan finds at the front is the part of the definition that begins there.
 use Rattle.std.proofs.Common.{◌≡◌, ◌≢◌, ℕ, suc, ◌+◌, ◌*◌, ◌<◌, ◌≤◌, List, [], ◌∷◌, ◌++◌, length, take, drop, refl, subst, arith, Option, Some, None}
 use Rattle.std.proofs.lemmas.List.{length-take}
 use Rattle.dm_words.specs.declared.codeword.Codeword.{Codeword}

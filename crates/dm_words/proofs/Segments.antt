@@ -1,4 +1,4 @@
--- A segment, as it is found, is one that stands there.
+-- A segment that the scan finds is a segment of the definition.
 use Rattle.std.proofs.Common.{◌≡◌, ℕ, zero, suc, ◌+◌, ◌-◌, ◌*◌, ◌%◌, ◌<◌, ◌≤◌, List, [], ◌∷◌, ◌++◌, length, take, drop, refl, sym, ap, ◌∙◌, append_assoc, add-zero, arith, Bool, true, false, cond, eqb, ltb, Option, Some, None}
 use Rattle.std.proofs.lemmas.Bool.{eqb-true, ltb-true, ltb-false, le-ltb}
 use Rattle.std.proofs.lemmas.Bool.Decides.{nat_tests}
@@ -52,7 +52,7 @@ plain_small place [] = tt
 plain_small place (w ∷ ws) = (omega arith, plain_small (place + 1) ws)
 
 -- Two lists of values, written one behind the other.
-written-append : (place : ℕ) (a b : List ℕ) → written place (a ++ b) ≡ written place a ++ written (place + length a) b
+pub written-append : (place : ℕ) (a b : List ℕ) → written place (a ++ b) ≡ written place a ++ written (place + length a) b
 written-append place [] b = rw add-zero refl
 written-append place (v ∷ a) b = ap (λ (r : List ℕ). ((v + random_at place) % 256) ∷ r) (written-append (place + 1) a b ∙ ap (λ (k : ℕ). written (place + 1) a ++ written k b) (omega arith))
 

@@ -14,7 +14,7 @@ random_at place = (149 * place) % 255 + 1
 abbrev pub randomised : ℕ → ℕ → ℕ
 randomised place v = (v + random_at place) % 256
 
--- The codewords of values that begin at a place.
+-- The codewords of values, the first of which stands at a place.
 abbrev pub written : ℕ → List ℕ → List ℕ
 written place [] = []
 written place (v ∷ vs) = randomised place v ∷ written (place + 1) vs
@@ -50,8 +50,8 @@ pub record IsSegment (place : ℕ) (words after : List ℕ) (items : List Item) 
   pub whole : words ≡ latch ∷ written (place + 1) (field ++ bytes)
   pub items_are : items ≡ byte_items bytes
 
--- The values up to the end of the symbol begin with no length field and its bytes: there is no length number, or fewer bytes than
--- it says; or after a first number of 250 or more there is no second one, or one above 249, or fewer bytes than both say.
+-- The values up to the end of the symbol don't begin with a whole length field and as many bytes as it says: there is no length number, or
+-- fewer bytes than it says; or after a first number of 250 or more there is no second one, or one above 249, or fewer bytes than both say.
 pub data IsBadLength (values : List ℕ) : Type 0 where
   missing : values ≡ [] → IsBadLength values
   past_short : (d : ℕ) (more : List ℕ) → d ≤ 249 → values ≡ d ∷ more → length more < d → IsBadLength values
@@ -59,7 +59,7 @@ pub data IsBadLength (values : List ℕ) : Type 0 where
   wrong_second : (d e : ℕ) (more : List ℕ) → 249 < d → 249 < e → values ≡ d ∷ e ∷ more → IsBadLength values
   past_long : (d e : ℕ) (more : List ℕ) → 249 < d → e ≤ 249 → values ≡ d ∷ e ∷ more → length more < long_count d e → IsBadLength values
 
--- The latch at a place, and then all codewords of the symbol, with a bad length.
+-- The latch at a place, and all codewords after it up to the end of the symbol, with a bad length.
 pub record IsFaultySegment (place : ℕ) (words : List ℕ) : Type 0 where
   pub latch : ℕ
   pub is_latch : codeword_of latch ≡ Some codeword.Base256

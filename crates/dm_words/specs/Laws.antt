@@ -1,4 +1,4 @@
--- What holds of all lists of codewords and of all messages. Codewords and bytes are numbers of 0 to 255.
+-- What holds of all lists of codewords. Codewords and bytes are numbers of 0 to 255.
 use Rattle.std.specs.Prelude.{◌≡◌, ℕ, ◌<◌, List, ◌++◌, ◌⊎◌, All}
 use Rattle.dm_words.specs.declared.item.Item.{Item}
 use Rattle.dm_words.specs.declared.fault.WordFault.{WordFault}

@@ -8,6 +8,7 @@ pub mod Pads
 pub mod Values
 pub mod Runs
 pub mod Base256
+pub mod NormalForm
 pub mod Spells
 pub mod Refused
 pub mod Laws

@@ -15,6 +15,6 @@ abbrev pub pads : ℕ → ℕ → List ℕ
 pads place zero = []
 pads place (suc n) = 129 ∷ further_pads (place + 1) n
 
--- The words, not more than so many, followed by pads up to so many words.
+-- The words, at most `count` of them, followed by pads up to `count` words.
 abbrev pub padded : List ℕ → ℕ → List ℕ
 padded words count = words ++ pads (length words + 1) (count - length words)

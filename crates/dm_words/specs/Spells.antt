@@ -10,8 +10,8 @@ use Rattle.dm_words.specs.Ascii.{IsAsciiUnit}
 use Rattle.dm_words.specs.Runs.{IsRun}
 use Rattle.dm_words.specs.Base256.{IsSegment}
 
--- A part of the words and its items, at a place and before the words after it, up to the end of the symbol and with its pads: a unit of
--- ASCII, a run, or a segment of Base 256.
+-- A part of the words and its items: a unit of ASCII, a run, or a segment of Base 256. It begins at a place, and `after` are all words that
+-- follow it up to the end of the symbol, pads among them.
 pub data IsPart (place : ℕ) (words after : List ℕ) (items : List Item) : Type 0 where
   ascii : IsAsciiUnit words items → IsPart place words after items
   run : (set : CodeSet) → IsRun set words after items → IsPart place words after items

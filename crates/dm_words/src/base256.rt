@@ -1,14 +1,30 @@
 //! Base 256 encodation (ISO/IEC 16022, Base 256 encodation and its 255-state randomising): a latch, a length and so many bytes.
 
-ghost use Rattle.std.specs.Prelude.{◌≡◌, ◌+◌, ◌≤◌, ◌<◌, ◌*◌, ◌++◌, length, drop, take, slice_index};
-ghost use Rattle.dm_words.specs.Base256.{byte_items};
+ghost use Rattle.std.specs.Prelude.{◌≡◌, ◌+◌, ◌≤◌, ◌<◌, ◌*◌, ◌∷◌, [], ◌++◌, length, drop, take, map, slice_index};
+ghost use Rattle.dm_words.specs.Messages.{byte_of};
+ghost use Rattle.dm_words.specs.Base256.{byte_items, random_at, randomised, written};
+ghost use Rattle.dm_words.specs.NormalForm.{length_numbers, one_segment};
 ghost use Rattle.dm_words.specs.Scan.Fronts.{plain_at, plain, segment_front};
 ghost use Rattle.dm_words.specs.Scan.Answers.{TookSome};
 
 use crate::fault::WordFault;
-use crate::item::Item;
+use crate::item::{Item, byte};
 use crate::limits::{MOST_DATA, MOST_ITEMS};
 use crate::message::Message;
+use arrayvec::ArrayVec;
+
+const LATCH: u8 = 231;
+
+/// The most bytes whose length is one number.
+const MOST_SHORT: usize = 249;
+
+/// The pseudo-random number of a place of the symbol: 1 to 255.
+fn random(place: usize) -> u32
+    requires { place ≤ MOST_DATA }
+    ensures { result ≡ random_at place }
+{
+    149 * place as u32 % 255 + 1
+}
 
 /// The value that the codeword at an index stands for: the randomising taken away.
 fn plain_value(words: &[u8], index: usize) -> u8
@@ -16,9 +32,7 @@ fn plain_value(words: &[u8], index: usize) -> u8
     requires short { length words.now ≤ MOST_DATA }
     ensures { result ≡ plain_at (index + 1) (slice_index words.now index) }
 {
-    let place = index as u32 + 1;
-    let random = (149 * place) % 255 + 1;
-    ((words[index] as u32 + 256 - random) % 256) as u8
+    ((words[index] as u32 + 256 - random(index + 1)) % 256) as u8
 }
 
 /// Adds the bytes of so many codewords from an index on to the message.
@@ -67,4 +81,53 @@ pub fn segment_part(words: &[u8], at: usize, message: &mut Message) -> Result<us
     }
     push_bytes(words, at + 3, count, message);
     Ok(count + 3)
+}
+
+/// Writes a value as the next codeword of a symbol that begins with these words.
+fn push_value(words: &mut ArrayVec<u8, MOST_DATA>, value: u8)
+    requires { length words.old.items < MOST_DATA }
+    ensures { words.new.items ≡ words.old.items ++ randomised (length words.old.items + 1) value ∷ [] }
+{
+    let place = words.len() + 1;
+    words.push(((value as u32 + random(place)) % 256) as u8);
+}
+
+/// Writes the length of so many bytes: one number up to 249, else two.
+fn push_length(words: &mut ArrayVec<u8, MOST_DATA>, count: usize)
+    requires room { length words.old.items + 2 ≤ MOST_DATA }
+    requires few { count ≤ MOST_DATA }
+    ensures { words.new.items ≡ words.old.items ++ written (length words.old.items + 1) (length_numbers count) }
+{
+    if count <= MOST_SHORT {
+        push_value(words, count as u8);
+    } else {
+        push_value(words, (249 + count / 250) as u8);
+        push_value(words, (count % 250) as u8);
+    }
+}
+
+/// How many codewords one segment of so many bytes has.
+pub fn segment_length(count: usize) -> usize
+    requires { count ≤ MOST_ITEMS }
+    ensures { result ≡ 1 + length (length_numbers count) + count }
+{
+    if count <= MOST_SHORT {
+        count + 2
+    } else {
+        count + 3
+    }
+}
+
+/// The bytes of the items in one segment whose latch is the first codeword of the symbol.
+pub fn segment_words(items: &[Item]) -> ArrayVec<u8, MOST_DATA>
+    requires { length (one_segment (map byte_of items.now)) ≤ MOST_DATA }
+    ensures { result.items ≡ one_segment (map byte_of items.now) }
+{
+    let mut words = ArrayVec::new();
+    words.push(LATCH);
+    push_length(&mut words, items.len());
+    for item in items {
+        push_value(&mut words, byte(*item));
+    }
+    words
 }

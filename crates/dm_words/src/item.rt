@@ -1,5 +1,8 @@
 //! The items of a message.
 
+ghost use Rattle.std.specs.Prelude.{◌≡◌};
+ghost use Rattle.dm_words.specs.Messages.{byte_of};
+
 /// An item of a message: a byte, or the function character FNC1. No item is interpreted.
 #[derive(Clone, Copy, Debug, Default, PartialEq, Eq)]
 pub enum Item {
@@ -8,4 +11,14 @@ pub enum Item {
     /// FNC1 (ISO/IEC 16022, function characters).
     #[default]
     Fnc1,
+}
+
+/// The byte of an item; FNC1 has none, and counts as 0.
+pub fn byte(item: Item) -> u8
+    ensures { result ≡ byte_of item }
+{
+    match item {
+        Item::Byte(byte) => byte,
+        Item::Fnc1 => 0,
+    }
 }

@@ -10,6 +10,9 @@ ghost use Rattle.dm_words.specs.Rows.{IsTable};
 ghost use Rattle.dm_words.specs.Codewords.{codeword_rows};
 ghost use Rattle.dm_words.specs.CodeSets.{basic_rows, shifted_rows};
 ghost use Rattle.dm_words.specs.Ascii.{ascii, IsAscii};
+ghost use Rattle.dm_words.specs.declared.profile.Profile.{Profile};
+ghost use Rattle.dm_words.specs.NormalForm.{normal_form, one_segment, shorter};
+ghost use Rattle.dm_words.specs.Base256.{byte_items};
 ghost use Rattle.dm_words.specs.Pads.{padded};
 ghost use Rattle.dm_words.specs.Values.{IsRest};
 ghost use Rattle.dm_words.specs.Spells.{Spells};
@@ -40,6 +43,25 @@ pub fn ascii_spells()
 /// that begins with a digit.
 pub fn ascii_is_greedy()
     ensures { (m : List Item) (words : List ℕ) → IsMessage m → IsAscii m words ↔ (words ≡ ascii m) }
+{}
+
+/// The normal form of a message under each profile, with pads up to any number of codewords that holds it and that a symbol has, is so
+/// many codewords, and they spell the message.
+pub fn normal_form_spells()
+    ensures message { (profile : Profile) (m : List Item) (count : ℕ) → IsMessage m → length (normal_form profile m) ≤ count → count ≤ most_data → Spells (padded (normal_form profile m) count) m }
+    ensures count { (profile : Profile) (m : List Item) (count : ℕ) → length (normal_form profile m) ≤ count → length (padded (normal_form profile m) count) ≡ count }
+    ensures codewords { (profile : Profile) (m : List Item) (count : ℕ) → IsMessage m → AreCodewords (padded (normal_form profile m) count) }
+{}
+
+/// The shorter form of a message is never longer than its ASCII form, nor, where it is bytes alone, than one segment of these bytes.
+pub fn shorter_is_shortest()
+    ensures ascii { (m : List Item) → length (shorter m) ≤ length (ascii m) }
+    ensures segment { (bytes : List ℕ) → length (shorter (byte_items bytes)) ≤ length (one_segment bytes) }
+{}
+
+/// A message has at most two items for each codeword of its normal form.
+pub fn normal_form_holds_two_items()
+    ensures { (profile : Profile) (m : List Item) → length m ≤ 2 * length (normal_form profile m) }
 {}
 
 /// What can stand behind the last whole spelling of a run is exactly what has no whole spelling at its front.

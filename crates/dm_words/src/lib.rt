@@ -1,8 +1,9 @@
 //! Data codewords and messages of Data Matrix ECC 200 (ISO/IEC 16022): which message a list of data codewords spells, in the
-//! encodations ASCII, C40, Text, X12 and Base 256, why other lists are refused, and the ASCII codewords of a message.
+//! encodations ASCII, C40, Text, X12 and Base 256, why other lists are refused, and the codewords in which a message is written.
 //!
-//! [`message_of()`] reads a list, [`ascii_words()`] writes a [`Message`] of [`Item`]s, and [`padded()`] fills a symbol up. What
-//! the contracts say is defined in `specs/`; [`laws`] has what holds of the definitions. No call takes memory.
+//! [`message_of()`] reads a list, [`normal_words()`] writes a [`Message`] of [`Item`]s under a [`Profile`], in ASCII
+//! ([`ascii_words()`]) or in whatever is shorter, ASCII or one segment of Base 256 ([`shorter_words()`]), and [`padded()`] fills a
+//! symbol up. What the contracts say is defined in `specs/`; [`laws`] has what holds of the definitions. No call takes memory.
 #![tactic(auto)]
 
 mod ascii;
@@ -15,7 +16,9 @@ pub mod laws;
 mod limits;
 mod message;
 mod pad;
+mod profile;
 mod reading;
+mod shorter;
 #[cfg(test)]
 mod tests;
 
@@ -25,4 +28,6 @@ pub use item::Item;
 pub use limits::{MOST_DATA, MOST_ITEMS};
 pub use message::Message;
 pub use pad::padded;
+pub use profile::Profile;
 pub use reading::message_of;
+pub use shorter::{normal_words, shorter_words};

@@ -89,6 +89,8 @@ fn read_all(words: &[u8]) -> Result<Message, WordFault>
 /// refused. The list is the whole data part, at most `MOST_DATA` codewords, so its end is the end of the symbol. What follows the
 /// first pad is ignored. The first part from the left that is faulty decides; `WordFault` says when each fault comes.
 /// ISO/IEC 16022, encodation schemes.
+// Its copies of messages stand in a frame of their own: inlined, they would lie in those of its callers, too.
+#[inline(never)]
 pub fn message_of(words: &[u8]) -> Result<Message, WordFault>
     requires { length words.now ≤ MOST_DATA }
     ensures message { (m : List Item) → (result ≡ Ok m) ↔ Spells words.now m }

@@ -3,8 +3,11 @@
 ghost use Rattle.std.specs.Prelude.{◌≤◌};
 
 use super::*;
+use arrayvec::ArrayVec;
 use dm_layout::Size;
 use std::test::*;
+
+mod shorter;
 
 /// Whether the codewords spell these items.
 fn spells(words: &[u8], items: &[Item]) -> bool {

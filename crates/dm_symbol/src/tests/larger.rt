@@ -3,13 +3,13 @@
 use super::*;
 
 /// The codeword as which Base 256 writes a value at a place of the symbol.
-fn randomised(value: u8, place: u16) -> u8 {
+pub(super) fn randomised(value: u8, place: u16) -> u8 {
     let shift = 149 * u32::from(place) % 255 + 1;
     ((u32::from(value) + shift) % 256) as u8
 }
 
 /// Appends pads up to so many codewords: the first is 129, each further one is randomised by its place.
-fn push_pads(rt: &impl Abort, list: &mut ArrayVec<u8, MOST_CODEWORDS>, count: u32) {
+pub(super) fn push_pads(rt: &impl Abort, list: &mut ArrayVec<u8, MOST_CODEWORDS>, count: u32) {
     assert!(rt; list.try_push(129).is_ok());
     for place in list.len() as u32 + 1..count.saturating_add(1) {
         let number = 130 + 149 * u64::from(place) % 253;
@@ -37,7 +37,7 @@ fn writes_the_next_larger_size(rt: HostRuntime) {
 
 /// The grid of this side whose data codewords are one segment of Base 256: these length numbers, and then bytes of value 255 to
 /// the end.
-fn segment_grid(rt: &impl Abort, side: u16, lengths: &[u8]) -> Grid {
+pub(super) fn segment_grid(rt: &impl Abort, side: u16, lengths: &[u8]) -> Grid {
     let mut data_words = ArrayVec::<u8, MOST_CODEWORDS>::new();
     assert!(rt; data_words.try_push(231).is_ok());
     let mut lengths = lengths.iter().copied();

@@ -1,0 +1,5 @@
+use Rattle.dm_symbol.proofs.NormalReadings.{last_profile_decides}
+use Rattle.dm_symbol.proofs.laws.the_last_profile_decides.Goals as goal
+
+pub returns : goal.returns
+returns c = last_profile_decides

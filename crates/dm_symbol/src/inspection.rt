@@ -1,0 +1,71 @@
+//! Inspection: the codewords of a grid, and as they are corrected, whether it can be read or not.
+
+ghost use Rattle.std.specs.Prelude.{◌≡◌, ◌≢◌, ◌<◌, ℕ, None, get_or, length};
+ghost use Rattle.dm_layout.specs.Grid.{GridView};
+ghost use Rattle.dm_layout.specs.Sizes.{block_check};
+ghost use Rattle.dm_symbol.specs.Blocks.{AreWordsOf, block_at};
+ghost use Rattle.dm_symbol.specs.Inspection.{IsInspection, IsMended};
+
+use arrayvec::ArrayVec;
+use dm_code::{Quick, correct};
+use dm_layout::{Grid, MOST_BLOCKS, Words, block, border_faults, lift, put_block};
+
+/// The codewords of a grid, and as far as they can be corrected.
+#[derive(Clone, Debug, Drop, PartialEq, Eq)]
+pub struct Inspection {
+    /// The codewords that the grid holds.
+    pub held: Words,
+    /// The same, with the codeword near each block in its place. A block that no codeword is near is left as it is.
+    pub mended: Words,
+    /// For each block, in order, in how many codewords these differ; None where no codeword is near.
+    pub corrected: ArrayVec<Option<u8>, MOST_BLOCKS>,
+    /// How many border cells have the wrong colour.
+    pub border_faults: u16,
+}
+
+/// Inspects a grid: where [`read`](crate::read()) refuses a border or a block, or finds codewords that spell no message, this goes
+/// on, so that what is wrong with a symbol can be shown.
+pub fn inspect(grid: &Grid) -> Inspection
+    ensures { IsInspection grid.now result }
+{
+    let held = lift(grid);
+    let mut mended = Words::new(held.size(), held.list());
+    let corrected = mend(&mut mended);
+    Inspection {
+        held,
+        mended,
+        corrected,
+        border_faults: border_faults(grid),
+    }
+}
+
+/// Puts the codeword near each block in its place, and gives the number of codewords that this changes in each, or None where no
+/// codeword is near.
+fn mend(words: &mut Words) -> ArrayVec<Option<u8>, MOST_BLOCKS>
+    ensures size { words.new.size ≡ words.old.size }
+    ensures words { AreWordsOf words.old.size words.new.list }
+    ensures count { length result.items ≡ words.old.size.blocks }
+    ensures mended { (b : ℕ) → b < words.old.size.blocks → IsMended (block_check words.old.size) (block_at words.old.size words.old.list b) (block_at words.old.size words.new.list b) (get_or result.items b None) }
+{
+    let mut counts = ArrayVec::new();
+    for b in 0..words.size().blocks() {
+        counts.push(mend_block(words, usize::from(b)));
+    }
+    counts
+}
+
+/// The same for one block.
+fn mend_block(words: &mut Words, b: usize) -> Option<u8>
+    requires { b < words.old.size.blocks }
+    ensures size { words.new.size ≡ words.old.size }
+    ensures words { AreWordsOf words.old.size words.new.list }
+    ensures mended { IsMended (block_check words.old.size) (block_at words.old.size words.old.list b) (block_at words.old.size words.new.list b) result }
+    ensures others { (a : ℕ) → a < words.old.size.blocks → a ≢ b → block_at words.old.size words.new.list a ≡ block_at words.old.size words.old.list a }
+{
+    let checks = usize::from(words.size().block_check());
+    let Ok(fixed) = correct(&Quick, &block(words, b), checks) else {
+        return None;
+    };
+    put_block(words, b, &fixed.word);
+    Some(fixed.changed)
+}

@@ -1,0 +1,344 @@
+-- The normal form of a message spells it.
+use Rattle.std.proofs.Common.{◌≡◌, ◌⊎◌, inl, inr, ℕ, zero, suc, ◌+◌, ◌-◌, ◌*◌, ◌/◌, ◌%◌, ◌<◌, ◌≤◌, ◌↔◌, List, [], ◌∷◌, ◌++◌, length, map, take, get_or, append_assoc, add-one, refl, sym, ap, subst, ◌∙◌, arith, Bool, true, false, not, cond, ltb, leb, ◌&&◌, Result, Ok, Err, IfOk, OnErr, IsErr}
+use Rattle.std.proofs.lemmas.Bool.{cases_lt, cases_Bool, leb-true, leb-false, ltb-true, ltb-false, false≢true}
+use Rattle.std.proofs.lemmas.Bool.Decides.{nat_tests}
+use Rattle.std.proofs.lemmas.List.{append-nil, length-append, length-map, length-take, map-append}
+use Rattle.std.proofs.Math.Seq.{take-suc}
+use Rattle.std.proofs.lemmas.List.Elements.{recursion_from_All, All-from_recursion}
+use Rattle.dm_layout.specs.Sizes.{most_data}
+use Rattle.dm_words.specs.declared.item.Item.{Item}
+use Rattle.dm_words.specs.declared.item.Item.TheVariants.{Byte, Fnc1}
+use Rattle.dm_words.specs.declared.fault.TooLong.{TooLong}
+use Rattle.dm_words.specs.declared.profile.Profile.{Profile}
+use Rattle.dm_words.specs.declared.profile.Profile.TheVariants.{Ascii, Shorter}
+use Rattle.dm_words.specs.Joined.{Piece}
+use Rattle.dm_words.specs.Messages.{byte_of, IsItem, IsMessage}
+use Rattle.dm_words.specs.Ascii.{is_digit, digit_pair, single, ascii}
+use Rattle.dm_words.specs.Pads.{pads, padded}
+use Rattle.dm_words.specs.Base256.{written, randomised, AreBytes, byte_items, IsLengthField, short, long, IsSegment}
+use Rattle.dm_words.specs.NormalForm.{has_fnc1, length_numbers, one_segment, shorter, normal_form}
+use Rattle.dm_words.specs.Spells.{IsPart, segment, Spells}
+use Rattle.dm_words.specs.Laws.{AreCodewords}
+use Rattle.dm_words.proofs.Segments.{length-written, written-append}
+use Rattle.dm_words.proofs.AsciiWords.{AreItems, pads_end, ascii_bytes}
+use Rattle.dm_words.proofs.AsciiWords as form
+use Rattle.dm_words.proofs.PadWords.{length-padded, padded_bytes}
+
+-- ---- the length field
+
+-- Up to 249 it is one number.
+pub short_numbers : (n : ℕ) → n ≤ 249 → length_numbers n ≡ n ∷ []
+short_numbers n le = grind (arith, nat_tests)
+
+-- Above that it is two.
+pub long_numbers : (n : ℕ) → 249 < n → length_numbers n ≡ (249 + n / 250) ∷ (n % 250) ∷ []
+long_numbers n big = grind (arith, nat_tests)
+
+-- It says so many bytes.
+says_count : (n : ℕ) (after : List ℕ) → 0 < n → n < 1750 → IsLengthField (length_numbers n) n after
+says_count n after some few =
+    elim (cases_lt 249 n) [
+      | inl big ↦ long (249 + n / 250) (n % 250) (omega arith) (omega arith) (omega arith) (long_numbers n big) (omega arith)
+      | inr le ↦ short n some le (short_numbers n le) refl
+    ]
+
+-- How many codewords a segment has.
+pub length-one_segment : (bytes : List ℕ) → length (one_segment bytes) ≡ 1 + length (length_numbers (length bytes)) + length bytes
+length-one_segment bytes =
+    omega (arith, length-written 2 (length_numbers (length bytes) ++ bytes), length-append (length_numbers (length bytes)) bytes)
+
+-- ---- the bytes of a message
+
+-- A message without FNC1 is its bytes.
+pub bytes_are_items : (m : List Item) → has_fnc1 m ≡ false → m ≡ byte_items (map byte_of m)
+bytes_are_items [] none = refl
+bytes_are_items (Byte b ∷ m) none = ap (λ (r : List Item). Byte b ∷ r) (bytes_are_items m none)
+bytes_are_items (Fnc1 ∷ m) none = cc
+
+-- The bytes of a message are 0 to 255.
+bytes_of_items : (m : List Item) → AreItems m → AreBytes (map byte_of m)
+bytes_of_items [] fit = tt
+bytes_of_items (i ∷ m) fit = (fit.0, bytes_of_items m fit.1)
+
+-- ---- the segment spells the message
+
+-- One segment of the bytes of a message, and whatever pads stand behind it, spell the message.
+segment_spells : (m : List Item) (count : ℕ) → AreItems m → has_fnc1 m ≡ false → 0 < length m → length m < 1750 → Spells (padded (one_segment (map byte_of m)) count) m
+segment_spells m count fit none some few =
+    let bytes = map byte_of m in
+    let words = one_segment bytes in
+    let after = pads (length words + 1) (count - length words) in
+    let long : length bytes ≡ length m = length-map m byte_of in
+    let is : IsSegment 1 words after m = record {
+      latch = 231;
+      is_latch = refl;
+      field = length_numbers (length bytes);
+      bytes = bytes;
+      in_range = bytes_of_items m fit;
+      counted = says_count (length bytes) after (omega (arith, long)) (omega (arith, long));
+      whole = refl;
+      items_are = bytes_are_items m none;
+    } in
+    let p : Piece (List Item) = record { words = words; what = m } in
+    record {
+      parts = p ∷ [];
+      after = after;
+      joined = (segment is, tt);
+      ended = pads_end (length words + 1) (count - length words);
+      whole = ap (λ (r : List ℕ). r ++ after) (sym (append-nil words));
+      items = sym (append-nil m);
+    }
+
+-- ---- which of the two is taken
+
+-- The segment of all bytes of a message.
+abbrev pub segment_of : List Item → List ℕ
+segment_of m = one_segment (map byte_of m)
+
+-- The segment is taken where it can be and is shorter.
+pub takes_segment : (m : List Item) → has_fnc1 m ≡ false → length (segment_of m) < length (ascii m) → shorter m ≡ segment_of m
+takes_segment m none lt = let t : ltb (length (segment_of m)) (length (ascii m)) ≡ true = grind (arith, nat_tests) in rw (none, t) refl
+
+-- ASCII is taken where there is an FNC1.
+pub takes_ascii_with_fnc1 : (m : List Item) → has_fnc1 m ≡ true → shorter m ≡ ascii m
+takes_ascii_with_fnc1 m some = rw some refl
+
+-- ASCII is taken where the segment isn't shorter.
+pub takes_ascii : (m : List Item) → length (ascii m) ≤ length (segment_of m) → shorter m ≡ ascii m
+takes_ascii m le =
+    let t : ltb (length (segment_of m)) (length (ascii m)) ≡ false = grind (arith, nat_tests) in
+    by_test (has_fnc1 m) t
+  where
+    by_test : (f : Bool) → ltb (length (segment_of m)) (length (ascii m)) ≡ false
+        → cond (not f && ltb (length (segment_of m)) (length (ascii m))) (segment_of m) (ascii m) ≡ ascii m
+    by_test true t = refl
+    by_test false t = rw t refl
+
+-- The segment was taken, and for these reasons.
+record IsSegmentTaken (m : List Item) : Type 0 where
+  none : has_fnc1 m ≡ false
+  less : length (segment_of m) < length (ascii m)
+  is : shorter m ≡ segment_of m
+
+-- Either is taken.
+which : (m : List Item) → IsSegmentTaken m ⊎ (shorter m ≡ ascii m)
+which m =
+    elim (cases_Bool (has_fnc1 m)) [
+      | inl some ↦ inr (takes_ascii_with_fnc1 m some)
+      | inr none ↦ elim (cases_lt (length (segment_of m)) (length (ascii m))) [
+        | inl lt ↦ inl (record { none = none; less = lt; is = takes_segment m none lt })
+        | inr le ↦ inr (takes_ascii m le)
+      ]
+    ]
+
+-- ---- the laws
+
+-- A message whose segment is taken isn't empty.
+some_items : (m : List Item) → length (segment_of m) < length (ascii m) → 0 < length m
+some_items [] lt = absurd (omega arith)
+some_items (i ∷ m) lt = omega arith
+
+-- The shorter form with pads spells the message.
+shorter_spells : (m : List Item) (count : ℕ) → IsMessage m → length (shorter m) ≤ count → count ≤ most_data → Spells (padded (shorter m) count) m
+shorter_spells m count fit le most =
+    let items = recursion_from_All IsItem m fit in
+    elim (which m) [
+      | inl s ↦
+          let few : length m < 1750 = omega (arith, ap length s.is, length-one_segment (map byte_of m), length-map m byte_of) in
+          subst (λ (w : List ℕ). Spells (padded w count) m) (sym s.is) (segment_spells m count items s.none (some_items m s.less) few)
+      | inr e ↦ subst (λ (w : List ℕ). Spells (padded w count) m) (sym e) (form.ascii_spells m count items)
+    ]
+
+-- The normal form with pads spells the message.
+pub normal_form_spells : (profile : Profile) (m : List Item) (count : ℕ) → IsMessage m → length (normal_form profile m) ≤ count → count ≤ most_data
+    → Spells (padded (normal_form profile m) count) m
+normal_form_spells Ascii m count fit le most = form.ascii_spells m count (recursion_from_All IsItem m fit)
+normal_form_spells Shorter m count fit le most = shorter_spells m count fit le most
+
+-- It is so many words.
+pub normal_form_count : (profile : Profile) (m : List Item) (count : ℕ) → length (normal_form profile m) ≤ count → length (padded (normal_form profile m) count) ≡ count
+normal_form_count profile m count le = length-padded (normal_form profile m) count le
+
+-- What is written are bytes.
+written_bytes : (place : ℕ) (vs : List ℕ) → AreBytes (written place vs)
+written_bytes place [] = tt
+written_bytes place (v ∷ vs) = (omega arith, written_bytes (place + 1) vs)
+
+-- The codewords of a segment are bytes.
+segment_bytes : (bytes : List ℕ) → AreBytes (one_segment bytes)
+segment_bytes bytes = (omega arith, written_bytes 2 (length_numbers (length bytes) ++ bytes))
+
+-- The codewords of the normal form are bytes.
+normal_form_bytes : (profile : Profile) (m : List Item) → AreItems m → AreBytes (normal_form profile m)
+normal_form_bytes Ascii m fit = ascii_bytes m fit
+normal_form_bytes Shorter m fit =
+    elim (which m) [
+      | inl s ↦ subst AreBytes (sym s.is) (segment_bytes (map byte_of m))
+      | inr e ↦ subst AreBytes (sym e) (ascii_bytes m fit)
+    ]
+
+-- With pads they are codewords.
+pub normal_form_codewords : (profile : Profile) (m : List Item) (count : ℕ) → IsMessage m → AreCodewords (padded (normal_form profile m) count)
+normal_form_codewords profile m count fit =
+    All-from_recursion (λ w. w < 256) (padded (normal_form profile m) count)
+    (padded_bytes (normal_form profile m) count (normal_form_bytes profile m (recursion_from_All IsItem m fit)))
+
+-- The shorter form isn't longer than ASCII.
+pub shorter_than_ascii : (m : List Item) → length (shorter m) ≤ length (ascii m)
+shorter_than_ascii m =
+    elim (which m) [
+      | inl s ↦ omega (arith, ap length s.is, s.less)
+      | inr e ↦ omega (arith, ap length e)
+    ]
+
+-- Bytes are a message without FNC1.
+no_fnc1 : (bytes : List ℕ) → has_fnc1 (byte_items bytes) ≡ false
+no_fnc1 [] = refl
+no_fnc1 (b ∷ bytes) = no_fnc1 bytes
+
+-- Its bytes are they.
+items_are_bytes : (bytes : List ℕ) → map byte_of (byte_items bytes) ≡ bytes
+items_are_bytes [] = refl
+items_are_bytes (b ∷ bytes) = ap (λ (r : List ℕ). b ∷ r) (items_are_bytes bytes)
+
+-- The shorter form of bytes isn't longer than one segment.
+pub shorter_than_segment : (bytes : List ℕ) → length (shorter (byte_items bytes)) ≤ length (one_segment bytes)
+shorter_than_segment bytes =
+    let m = byte_items bytes in
+    let same : length (segment_of m) ≡ length (one_segment bytes) = ap (λ (r : List ℕ). length (one_segment r)) (items_are_bytes bytes) in
+    elim (cases_lt (length (segment_of m)) (length (ascii m))) [
+      | inl lt ↦ omega (arith, ap length (takes_segment m (no_fnc1 bytes) lt), same)
+      | inr le ↦ omega (arith, le, ap length (takes_ascii m le), same)
+    ]
+
+-- A byte alone has some codeword.
+some_single : (b : ℕ) → 0 < length (single b)
+some_single b = by_test (ltb b 128)
+  where
+    by_test : (t : Bool) → 0 < length (cond t ((b + 1) ∷ []) (235 ∷ (b - 127) ∷ []))
+    by_test true = omega arith
+    by_test false = omega arith
+
+-- A message has at most two items for each codeword of its ASCII form.
+two_items : (m : List Item) → length m ≤ 2 * length (ascii m)
+two_items [] = omega arith
+two_items (Fnc1 ∷ m) = omega (arith, two_items m)
+two_items (Byte b ∷ []) = omega (arith, some_single b)
+two_items (Byte b ∷ Fnc1 ∷ m) = omega (arith, some_single b, length-append (single b) (ascii (Fnc1 ∷ m)), two_items (Fnc1 ∷ m))
+two_items (Byte b ∷ Byte c ∷ m) = both (is_digit b && is_digit c) (two_items m) (two_items (Byte c ∷ m))
+  where
+    both : (t : Bool) → length m ≤ 2 * length (ascii m) → length (Byte c ∷ m) ≤ 2 * length (ascii (Byte c ∷ m))
+        → length (Byte b ∷ Byte c ∷ m) ≤ 2 * length (cond t (digit_pair b c ∷ ascii m) (single b ++ ascii (Byte c ∷ m)))
+    both true h k = omega (arith, h)
+    both false h k = omega (arith, k, some_single b, length-append (single b) (ascii (Byte c ∷ m)))
+
+-- The same of the normal form.
+pub normal_form_items : (profile : Profile) (m : List Item) → length m ≤ 2 * length (normal_form profile m)
+normal_form_items Ascii m = two_items m
+normal_form_items Shorter m =
+    elim (which m) [
+      | inl s ↦ omega (arith, ap length s.is, length-one_segment (map byte_of m), length-map m byte_of)
+      | inr e ↦ omega (arith, ap length e, two_items m)
+    ]
+
+-- ---- writing a segment
+
+-- One value more at the end.
+pub one_value_more : (old new vs : List ℕ) (v : ℕ) → old ≡ 231 ∷ written 2 vs → new ≡ old ++ randomised (length old + 1) v ∷ [] → new ≡ 231 ∷ written 2 (vs ++ v ∷ [])
+one_value_more old new vs v so_far e =
+    let place : length old + 1 ≡ 2 + length vs = omega (arith, ap length so_far, length-written 2 vs) in
+    let more : written 2 (vs ++ v ∷ []) ≡ written 2 vs ++ randomised (2 + length vs) v ∷ [] = written-append 2 vs (v ∷ []) in
+    rw (e, so_far, more) (ap (λ (k : ℕ). 231 ∷ (written 2 vs ++ randomised k v ∷ [])) (sym (ap (λ (k : ℕ). k) (ap (λ (r : List ℕ). length r + 1) so_far)) ∙ place))
+
+-- One item more has its byte at the end.
+pub one_byte_more : (m : List Item) (i : ℕ) (d : Item) → i < length m → map byte_of (take (i + 1) m) ≡ map byte_of (take i m) ++ byte_of (get_or m i d) ∷ []
+one_byte_more m i d lt = ap (map byte_of) (rw add-one (take-suc m i d lt)) ∙ map-append byte_of (take i m) (get_or m i d ∷ [])
+
+-- One turn of the loop that writes the bytes.
+pub one_item_more : (old new : List ℕ) (m : List Item) (i b : ℕ) (d : Item) → i < length m → b ≡ byte_of (get_or m i d)
+    → old ≡ 231 ∷ written 2 (length_numbers (length m) ++ map byte_of (take i m)) → new ≡ old ++ randomised (length old + 1) b ∷ []
+    → new ≡ 231 ∷ written 2 (length_numbers (length m) ++ map byte_of (take (i + 1) m))
+one_item_more old new m i b d lt is so_far e =
+    let numbers = length_numbers (length m) in
+    let more : (numbers ++ map byte_of (take i m)) ++ b ∷ [] ≡ numbers ++ map byte_of (take (i + 1) m) =
+    append_assoc numbers (map byte_of (take i m)) (b ∷ []) ∙ ap (λ (r : List ℕ). numbers ++ r) (ap (λ (k : ℕ). map byte_of (take i m) ++ k ∷ []) is ∙ sym (one_byte_more m i d lt)) in
+    one_value_more old new (numbers ++ map byte_of (take i m)) b so_far e ∙ ap (λ (r : List ℕ). 231 ∷ written 2 r) more
+
+-- As long as items are left, the segment isn't full.
+pub has_room : (old : List ℕ) (m : List Item) (i : ℕ) → i < length m → old ≡ 231 ∷ written 2 (length_numbers (length m) ++ map byte_of (take i m))
+    → length old < length (one_segment (map byte_of m))
+has_room old m i lt so_far =
+    omega (
+      arith,
+      ap length so_far,
+      length-written 2 (length_numbers (length m) ++ map byte_of (take i m)),
+      length-append (length_numbers (length m)) (map byte_of (take i m)),
+      length-map (take i m) byte_of,
+      length-take i m,
+      length-one_segment (map byte_of m),
+      length-map m byte_of,
+      ap (λ (k : ℕ). length (length_numbers k)) (length-map m byte_of),
+    )
+
+-- ---- choosing
+
+module _ {A : Type 0} (items : A → List ℕ) (m : List Item) (most : ℕ) where
+  -- What is known of the ASCII codewords and of the test whether they are more than those of the segment.
+  pub record IsTested (r : Result A TooLong) (longer : Bool) (count : ℕ) : Type 0 where
+    pub words : IfOk r (λ w. items w ≡ ascii m)
+    pub too_long : IsErr r ↔ (most < length (ascii m))
+    pub count_is : count ≡ length (segment_of m)
+    pub ok : IfOk r (λ w. longer ≡ ltb count (length (items w)))
+    pub err : OnErr r (longer ≡ leb count most)
+
+  -- So it was tested.
+  pub tested : (r : Result A TooLong) (longer : Bool) (count : ℕ) (found : List Item) → IfOk r (λ w. items w ≡ ascii m) → IsErr r ↔ (most < length (ascii m))
+      → found ≡ m → count ≡ 1 + length (length_numbers (length found)) + length found → IfOk r (λ w. longer ≡ ltb count (length (items w)))
+      → OnErr r (longer ≡ leb count most) → IsTested r longer count
+  tested r longer count found words too_long same is ok err =
+      let here : length (map byte_of m) ≡ length found = length-map m byte_of ∙ ap length (sym same) in
+      record {
+        words = words;
+        too_long = too_long;
+        count_is = omega (arith, is, length-one_segment (map byte_of m), here, ap (λ (n : ℕ). length (length_numbers n)) here);
+        ok = ok;
+        err = err;
+      }
+
+  -- A segment that is taken is the shorter form, and fits.
+  pub segment_taken : (r : Result A TooLong) (longer : Bool) (count : ℕ) → IsTested r longer count → longer ≡ true → has_fnc1 m ≡ false
+      → (shorter m ≡ segment_of m) × (length (segment_of m) ≤ most)
+  segment_taken (Ok w) longer count t is none =
+      let lt : length (segment_of m) < length (ascii m) = omega (arith, ltb-true count (length (items w)) (sym t.ok ∙ is), ap length t.words, t.count_is) in
+      (takes_segment m none lt, elim (cases_lt most (length (ascii m))) [ inl many ↦ absurd (false≢true (t.too_long.1 many)) | inr le ↦ omega (arith, lt, le) ])
+  segment_taken (Err e) longer count t is none =
+      let le : length (segment_of m) ≤ most = omega (arith, leb-true count most (sym t.err ∙ is), t.count_is) in
+      (takes_segment m none (omega (arith, le, t.too_long.0 refl)), le)
+
+  -- What is answered where the ASCII codewords are kept.
+  pub record IsKept (r : Result A TooLong) : Type 0 where
+    pub words : IfOk r (λ w. items w ≡ shorter m)
+    pub too_long : IsErr r ↔ (most < length (shorter m))
+
+  -- ASCII codewords that are the shorter form.
+  kept_as : (r : Result A TooLong) (longer : Bool) (count : ℕ) → IsTested r longer count → shorter m ≡ ascii m → IsKept r
+  kept_as r longer count t e = record {
+    words = subst (λ (x : List ℕ). IfOk r (λ w. items w ≡ x)) (sym e) t.words;
+    too_long = subst (λ (x : List ℕ). IsErr r ↔ (most < length x)) (sym e) t.too_long;
+  }
+
+  -- Where neither fits, the shorter form doesn't.
+  neither : most < length (segment_of m) → most < length (ascii m) → most < length (shorter m)
+  neither many_segment many_ascii = elim (which m) [ inl s ↦ omega (arith, ap length s.is, many_segment) | inr e ↦ omega (arith, ap length e, many_ascii) ]
+
+  -- ASCII codewords are kept where they aren't more.
+  pub ascii_kept : (r : Result A TooLong) (longer : Bool) (count : ℕ) → IsTested r longer count → longer ≡ false → IsKept r
+  ascii_kept (Ok w) longer count t is =
+      kept_as (Ok w) longer count t (takes_ascii m (omega (arith, ltb-false count (length (items w)) (sym t.ok ∙ is), ap length t.words, t.count_is)))
+  ascii_kept (Err e) longer count t is =
+      let many : most < length (segment_of m) = omega (arith, leb-false count most (sym t.err ∙ is), t.count_is) in
+      record { words = tt; too_long = (λ h. neither many (t.too_long.0 refl), λ h. refl) }
+
+  -- They are kept where there is an FNC1.
+  pub ascii_kept_with_fnc1 : (r : Result A TooLong) (longer : Bool) (count : ℕ) → IsTested r longer count → has_fnc1 m ≡ true → IsKept r
+  ascii_kept_with_fnc1 r longer count t some = kept_as r longer count t (takes_ascii_with_fnc1 m some)

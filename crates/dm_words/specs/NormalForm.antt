@@ -1,0 +1,35 @@
+-- The normal form of a message: the data codewords, without pads, that a profile chooses for it. The choice is a rule of this project; what
+-- is written is ASCII or Base 256 (ISO/IEC 16022, ASCII encodation, Base 256 encodation). Bytes are 0 to 255.
+use Rattle.std.specs.Prelude.{ℕ, ◌+◌, ◌/◌, ◌%◌, List, [], ◌∷◌, ◌++◌, length, map, Bool, true, false, not, nat_le, nat_lt, ◌&&◌, if◌then◌else◌}
+use Rattle.dm_words.specs.declared.item.Item.{Item}
+use Rattle.dm_words.specs.declared.item.Item.TheVariants.{Byte, Fnc1}
+use Rattle.dm_words.specs.declared.profile.Profile.{Profile}
+use Rattle.dm_words.specs.declared.profile.Profile.TheVariants.{Ascii, Shorter}
+use Rattle.dm_words.specs.Messages.{byte_of}
+use Rattle.dm_words.specs.Ascii.{ascii}
+use Rattle.dm_words.specs.Base256.{written}
+
+-- FNC1 is among the items.
+abbrev pub has_fnc1 : List Item → Bool
+has_fnc1 [] = false
+has_fnc1 (Byte b ∷ m) = has_fnc1 m
+has_fnc1 (Fnc1 ∷ m) = true
+
+-- The length field of so many bytes, written out: one number up to 249, else two. From 1750 on the first would be no byte;
+-- no symbol holds as many.
+abbrev pub length_numbers : ℕ → List ℕ
+length_numbers n = if nat_le n 249 then n ∷ [] else (249 + n / 250) ∷ (n % 250) ∷ []
+
+-- The bytes in one segment of Base 256 whose latch is the first codeword of the symbol: the latch, the length field and the bytes.
+abbrev pub one_segment : List ℕ → List ℕ
+one_segment bytes = 231 ∷ written 2 (length_numbers (length bytes) ++ bytes)
+
+-- The shorter form of a message: one segment of all its bytes, where it has no FNC1 and the segment has fewer codewords than the ASCII
+-- form; else the ASCII form, also where both have equally many.
+abbrev pub shorter : List Item → List ℕ
+shorter m = let s = one_segment (map byte_of m) in if not (has_fnc1 m) && nat_lt (length s) (length (ascii m)) then s else ascii m
+
+-- The normal form under a profile.
+abbrev pub normal_form : Profile → List Item → List ℕ
+normal_form Ascii m = ascii m
+normal_form Shorter m = shorter m
