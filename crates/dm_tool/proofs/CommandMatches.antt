@@ -1,161 +1,338 @@
 -- Where clap finds no fault in the words of a subcommand, the border's text among its matches is a limit's.
-use Rattle.std.proofs.Common.{◌≡◌, ℕ, ℤ, Bool, true, false, cond, refl, ap, subst, List, [], ◌∷◌, ◌++◌, Option, Some, None, length, pos, negsuc, codes, arith}
-use Rattle.std.specs.Prelude.{find, fold, option_map, option_and_then, slice_get, unwrap_or}
+use Rattle.std.proofs.Common.{◌≡◌, ◌∙◌, ◌⊎◌, inl, inr, ℕ, ℤ, Bool, true, false, cond, true≢false, refl, sym, ap, subst, List, [], ◌∷◌, ◌++◌, Option, Some, None, length, pos, negsuc, codes, arith}
+use Rattle.std.proofs.lemmas.Slice.Eq.{bytes_eq-Decides}
+use Rattle.std.specs.Prelude.{◌||◌, find, fold, option_map, option_and_then, slice_get, unwrap_or}
 use Rattle.std.specs.List.{list_all}
 use Rattle.std.specs.Str.{bytes_eq}
 use Rattle.std.specs.Str.Parse.{signed_digits_value}
 use Rattle.std.proofs.lemmas.Int.{ints}
-use Rattle.clap.specs.Lexer.{without_minus}
-use Rattle.clap.specs.Values.{IsSignedIn, read_as}
-use Rattle.clap.specs.ValueTests.{is_signed_in}
-use Rattle.clap.specs.Kinds.{or_else, range_kinds, values_kinds}
+use Rattle.clap.specs.Values.{IsSignedIn, read_as, refused_kind}
+use Rattle.clap.specs.ValueTests.{accepts}
+use Rattle.clap.specs.Kinds.{or_else, range_kinds, value_kinds, values_kinds}
 use Rattle.clap.specs.Faults.{level_fault, repeat_fault, settle_fault, use_fault, values_fault, walk_fault}
 use Rattle.clap.specs.Simple.{Shape, filled, help_rule}
-use Rattle.clap.specs.Walk.{Row, Rule, Text, at_row, has_row, more_values, nothing_held, row_text, rows_after, used, values_or_missing, walk, walk_from, with_default, without}
+use Rattle.clap.specs.Walk.{Row, Rule, Text, at_row, first_of, has_row, more_values, nothing_held, one_of, row_text, rows_after, used, values_or_missing, walk, walk_from, with_default, with_values, without}
 use Rattle.clap.specs.declared.builder.value_parser.Reading.{Reading}
 use Rattle.clap.specs.declared.builder.value_parser.Reading.TheVariants as reading
 use Rattle.clap.specs.declared.builder.value_parser.ValueParser.{ValueParser}
 use Rattle.clap.specs.declared.builder.value_parser.ValueParser.TheVariants as vp
 use Rattle.clap.specs.declared.error.kind.ErrorKind.{ErrorKind}
 use Rattle.clap.specs.declared.error.kind.ErrorKind.TheVariants as kind
-use Rattle.clap.specs.declared.parser.matches.ValueSource.TheVariants.{CommandLine}
+use Rattle.clap.specs.declared.parser.matches.ValueSource.{ValueSource}
+use Rattle.clap.specs.declared.parser.matches.ValueSource.TheVariants.{CommandLine, DefaultValue}
 use Rattle.clap.proofs.WalkLemmas.{both}
 use Rattle.clap.proofs.ValueTestLemmas.{accepts-Accepts}
-use Rattle.dm_tool.specs.CommandLine.{IsBorderLimit, border_rule}
+use Rattle.dm_tool.specs.CommandLine.{IsBorderLimit, border_rule, shorter_rule}
 use Rattle.dm_tool.specs.CommandReads.{IsReadable}
 use Rattle.dm_tool.proofs.CommandWalks.{first_none, later_none, settle_keeps, walk_keeps}
+
+-- a parser that refuses nothing takes the text
+taken_by : (b : Bool) (k : ErrorKind) → cond b [] (k ∷ []) ≡ [] → b ≡ true
+taken_by true k e = refl
+taken_by false k e = (cc)
+
+-- a word that is one text isn't another
+apart_from : (x other id : Text) → bytes_eq other id ≡ false → bytes_eq x other ≡ true → bytes_eq x id ≡ true → ⊥
+apart_from x other id apart is same =
+    let e : x ≡ other = (bytes_eq-Decides x other).0 is in
+    true≢false (sym (subst (λ (t : Text). bytes_eq t id ≡ true) e same) ∙ apart)
+
+-- whether rows are as they are or as they are, they are good
+either : (P : List Row → Type 0) (b : Bool) (rows : List Row) → P rows → P (cond b rows rows)
+either P true rows good = good
+either P false rows good = good
+
+-- ---- the rows of one argument, with its parser
+
+module _ (id : Text) (how : Reading) (parser : ValueParser) where
+  -- the row's texts are those that the parser takes, and are read so
+  abbrev pub Passes : Row → Type 0
+  Passes r = (r.reading ≡ how) × (list_all (accepts false parser) r.values ≡ true)
+
+  -- each row of the argument passes
+  abbrev pub Good : List Row → Type 0
+  Good [] = Unit {0}
+  Good (r ∷ rs) = (bytes_eq r.id id ≡ true → Passes r) × Good rs
+
+  good_append : (xs ys : List Row) → Good xs → Good ys → Good (xs ++ ys)
+  good_append [] ys a b = b
+  good_append (x ∷ xs) ys a b = (a.0, good_append xs ys a.1 b)
+
+  all_append : (xs ys : List Text) → list_all (accepts false parser) xs ≡ true → list_all (accepts false parser) ys ≡ true
+      → list_all (accepts false parser) (xs ++ ys) ≡ true
+  all_append [] ys a b = b
+  all_append (x ∷ xs) ys a b =
+      let parts = both (accepts false parser x) (list_all (accepts false parser) xs) a in
+      rw parts.0 (all_append xs ys parts.1 b)
+
+  -- a change of the first row of an argument
+  good_at : (other : Text) (change : Row → List Row) (missing : List Row) → ((r : Row) → bytes_eq r.id other ≡ true → (bytes_eq r.id id ≡ true → Passes r) → Good (change r))
+      → Good missing → (rows : List Row) → Good rows → Good (at_row other change missing rows)
+  good_at other change missing keeps last [] good = last
+  good_at other change missing keeps last (r ∷ rs) good = go (bytes_eq r.id other) refl (good_at other change missing keeps last rs good.1)
+    where
+      go : (b : Bool) → bytes_eq r.id other ≡ b → Good (at_row other change missing rs) → Good (cond b (change r ++ rs) (r ∷ at_row other change missing rs))
+      go true e later = good_append (change r) rs (keeps r e good.0) good.1
+      go false e later = (good.0, later)
+
+  -- no row of an argument is left
+  good_without : (other : Text) (rows : List Row) → Good rows → Good (without other rows)
+  good_without other rows good = good_at other (λ r. []) [] (λ r is passes. tt) tt rows good
+
+  -- more texts that the parser takes
+  own_more : (s : ValueSource) (vs : List Text) (rows : List Row) → list_all (accepts false parser) vs ≡ true → Good rows → Good (with_values id how s vs rows)
+  own_more s vs rows taken good =
+      let new : Row = record { id = id; values = vs; count = None; source = Some s; reading = how } in
+      good_at id (more_values s vs) (new ∷ []) (λ r is passes. (λ same. ((passes is).0, all_append r.values vs (passes is).1 taken), tt)) (λ same. (refl, taken), tt) rows good
+
+  -- texts of another argument
+  other_more : (other : Text) (other_how : Reading) → bytes_eq other id ≡ false → (s : ValueSource) (vs : List Text) (rows : List Row) → Good rows
+      → Good (with_values other other_how s vs rows)
+  other_more other other_how apart s vs rows good =
+      let new : Row = record { id = other; values = vs; count = None; source = Some s; reading = other_how } in
+      good_at other (more_values s vs) (new ∷ []) (λ r is passes. (λ same. absurd (apart_from r.id other id apart is same), tt))
+      (λ same. absurd (true≢false (sym same ∙ apart)), tt) rows good
+
+  -- texts in which the parser finds no fault are taken
+  all_taken : (vs : List Text) → values_kinds false parser vs ≡ [] → list_all (accepts false parser) vs ≡ true
+  all_taken [] e = refl
+  all_taken (v ∷ vs) e =
+      let first = taken_by (accepts false parser v) (refused_kind parser) (first_none _ (values_kinds false parser vs) e) in
+      rw first (all_taken vs (later_none (value_kinds false parser v) (values_kinds false parser vs) e))
+
+  -- a use of the argument whose texts have no fault
+  own_use : (vs : List Text) (rows : List Row) → values_kinds false parser vs ≡ [] → Good rows → Good (with_values id how CommandLine vs (without id rows))
+  own_use vs rows e good = own_more CommandLine vs (without id rows) (all_taken vs e) (good_without id rows good)
+
+  -- a use of another
+  other_use : (other : Text) (other_how : Reading) → bytes_eq other id ≡ false → (vs : List Text) (rows : List Row) → Good rows
+      → Good (with_values other other_how CommandLine vs (without other rows))
+  other_use other other_how apart vs rows good = other_more other other_how apart CommandLine vs (without other rows) (good_without other rows good)
+
+  -- each use of the argument that has no fault keeps the rows good
+  abbrev pub KeepsOne : Bool → Rule → Type 0
+  KeepsOne again a = (values : List Text) (rows : List Row) → use_fault again a values rows ≡ [] → Good rows → Good (used a values rows)
+
+  -- each use of one of the arguments does
+  abbrev pub Keeps : Bool → List Rule → Type 0
+  Keeps again c = (p : Rule → Bool) (a : Rule) → find p c ≡ Some a → KeepsOne again a
+
+  nil_keeps : (again : Bool) → Keeps again []
+  nil_keeps again p a is values rows e good = (cc)
+
+  cons_keeps : (again : Bool) (x : Rule) (c : List Rule) → KeepsOne again x → Keeps again c → Keeps again (x ∷ c)
+  cons_keeps again x c first rest p a is values rows e good = go (p x) is
+    where
+      go : (b : Bool) → cond b (Some x) (find p c) ≡ Some a → Good (used a values rows)
+      go true is =
+          let same : x ≡ a = ap (λ o. unwrap_or o x) is in
+          subst (λ (y : Rule). use_fault again y values rows ≡ [] → Good rows → Good (used y values rows)) same (first values rows) e good
+      go false is = rest p a is values rows e good
+
+  -- the defaults of the arguments keep the rows good
+  abbrev pub KeepsDefaults : List Rule → Type 0
+  KeepsDefaults c = (rows : List Row) → Good rows → Good (fold with_default rows c)
+
+  -- the words in which the subcommand finds no fault leave good rows
+  abbrev pub Sound : Shape → Type 0
+  Sound s = (words : List Text) → level_fault s [] nothing_held words false [] ≡ [] → Good (rows_after s.rules [] words)
+
+  sound : (s : Shape) → Keeps s.args_override_self s.rules → KeepsDefaults s.rules → Sound s
+  sound s keeps defaults words e =
+      let end = (walk s.rules [] nothing_held words).held in
+      let walked = first_none (walk_fault s [] (walk_from nothing_held) words) _ e in
+      let settle = first_none (settle_fault s.rules s.args_override_self end) _ (later_none (walk_fault s [] (walk_from nothing_held) words) _ e) in
+      defaults _ (settle_keeps s.rules s.args_override_self Good keeps end settle
+      (walk_keeps s.rules s.args_override_self Good keeps s [] refl refl (walk_from nothing_held) words walked tt))
+
+  -- the row that is found passes
+  found_passes : (rows : List Row) → Good rows → (r : Row) → find (λ r. bytes_eq r.id id) rows ≡ Some r → Passes r
+  found_passes [] good r is = (cc)
+  found_passes (x ∷ xs) good r is = go (bytes_eq x.id id) refl is (found_passes xs good.1 r)
+    where
+      go : (b : Bool) → bytes_eq x.id id ≡ b → cond b (Some x) (find (λ r. bytes_eq r.id id) xs) ≡ Some r
+          → (find (λ r. bytes_eq r.id id) xs ≡ Some r → Passes r) → Passes r
+      go true e is later = subst Passes (ap (λ o. unwrap_or o x) is) (good.0 e)
+      go false e is later = later is
+
+  -- the argument's first text among good rows is taken, and is read so
+  first_taken : (rows : List Row) → Good rows → (text : Text) → first_of id rows ≡ Some text → (one_of id rows ≡ Some (read_as how text)) × (accepts false parser text ≡ true)
+  first_taken rows good text = go (find (λ r. bytes_eq r.id id) rows) refl
+    where
+      first : (found : Reading) (vs : List Text) → found ≡ how → list_all (accepts false parser) vs ≡ true → slice_get vs 0 ≡ Some text
+          → (option_map (read_as found) (slice_get vs 0) ≡ Some (read_as how text)) × (accepts false parser text ≡ true)
+      first found [] is taken e = (cc)
+      first found (v ∷ vs) is taken e =
+          let same : v ≡ text = ap (λ o. unwrap_or o v) e in
+          let as_written : Some (read_as found v) ≡ Some (read_as how text) = rw (is, same) refl in
+          (as_written, subst (λ (t : Text). accepts false parser t ≡ true) same (both _ _ taken).0)
+
+      go : (o : Option Row) → find (λ r. bytes_eq r.id id) rows ≡ o → option_and_then (λ r. slice_get r.values 0) o ≡ Some text
+          → (option_and_then row_text o ≡ Some (read_as how text)) × (accepts false parser text ≡ true)
+      go None is e = (cc)
+      go (Some r) is e =
+          let passes = found_passes rows good r is in
+          first r.reading r.values passes.0 passes.1 e
+
+-- ---- the arguments of the subcommands
 
 -- the parser of the border
 abbrev border_parser : ValueParser
 border_parser = vp.Signed (pos 0) (pos 65535)
 
--- the parser takes the text
-abbrev pub is_taken : Text → Bool
-is_taken = is_signed_in (pos 0) (pos 65535)
+-- the rows of the border are good
+abbrev GoodBorder : List Row → Type 0
+GoodBorder = Good (codes "border") reading.WithoutMinus border_parser
 
--- the row's texts are limits', and are read without a minus
-abbrev pub Passes : Row → Type 0
-Passes r = (r.reading ≡ reading.WithoutMinus) × (list_all is_taken r.values ≡ true)
-
--- each row of the border passes
-abbrev pub Good : List Row → Type 0
-Good [] = Unit {0}
-Good (r ∷ rs) = (bytes_eq r.id (codes "border") ≡ true → Passes r) × Good rs
-
-good_append : (xs ys : List Row) → Good xs → Good ys → Good (xs ++ ys)
-good_append [] ys a b = b
-good_append (x ∷ xs) ys a b = (a.0, good_append xs ys a.1 b)
-
-all_append : (xs ys : List Text) → list_all is_taken xs ≡ true → list_all is_taken ys ≡ true → list_all is_taken (xs ++ ys) ≡ true
-all_append [] ys a b = b
-all_append (x ∷ xs) ys a b =
-    let parts = both (is_taken x) (list_all is_taken xs) a in
-    rw parts.0 (all_append xs ys parts.1 b)
-
-good_at : (change : Row → List Row) (missing : List Row) → ((r : Row) → Passes r → Good (change r)) → Good missing
-    → (rows : List Row) → Good rows → Good (at_row (codes "border") change missing rows)
-good_at change missing keeps last [] good = last
-good_at change missing keeps last (r ∷ rs) good = go (bytes_eq r.id (codes "border")) refl (good_at change missing keeps last rs good.1)
-  where
-    go : (b : Bool) → bytes_eq r.id (codes "border") ≡ b → Good (at_row (codes "border") change missing rs)
-        → Good (cond b (change r ++ rs) (r ∷ at_row (codes "border") change missing rs))
-    go true e later = good_append (change r) rs (keeps r (good.0 e)) good.1
-    go false e later = (good.0, later)
-
-taken_by : (b : Bool) (k : ErrorKind) → cond b [] (k ∷ []) ≡ [] → b ≡ true
-taken_by true k e = refl
-taken_by false k e = (cc)
-
--- texts in which the parser finds no fault are taken
-all_taken : (vs : List Text) → values_kinds false border_parser vs ≡ [] → list_all is_taken vs ≡ true
-all_taken [] e = refl
-all_taken (v ∷ vs) e =
-    let first = taken_by (is_taken v) kind.ValueValidation (first_none _ (values_kinds false border_parser vs) e) in
-    rw first (all_taken vs (later_none (cond (is_taken v) [] (kind.ValueValidation ∷ [])) (values_kinds false border_parser vs) e))
+-- the rows of the flag are good
+abbrev GoodFlag : List Row → Type 0
+GoodFlag = Good (codes "shorter") reading.AsWritten vp.Bool
 
 abbrev pub border : Rule
 border = filled border_rule
 
+abbrev pub flag : Rule
+flag = filled shorter_rule
+
 abbrev pub help : Rule
 help = filled help_rule
 
--- a use of the border that has no fault keeps the rows good
-border_keeps : (again : Bool) (values : List Text) (rows : List Row) → use_fault again border values rows ≡ [] → Good rows → Good (used border values rows)
-border_keeps again values rows e good =
+-- a use of the option without a fault has texts without one
+border_values : (again : Bool) (values : List Text) (rows : List Row) → use_fault again border values rows ≡ [] → values_kinds false border_parser (values_or_missing border values) ≡ []
+border_values again values rows e =
     let vs = values_or_missing border values in
-    let set = later_none (range_kinds 1 1 (length values)) (or_else (repeat_fault again (codes "border") rows) (values_fault border vs)) e in
-    let taken = all_taken vs (later_none (repeat_fault again (codes "border") rows) (values_fault border vs) set) in
-    let more : (r : Row) → Passes r → Good (more_values CommandLine vs r) = λ r passes. (λ same. (passes.0, all_append r.values vs passes.1 taken), tt) in
-    let others : Good (without (codes "border") rows) = good_at (λ r. []) [] (λ r passes. tt) tt rows good in
-    let new : Row = record { id = codes "border"; values = vs; count = None; source = Some CommandLine; reading = reading.WithoutMinus } in
-    good_at (more_values CommandLine vs) (new ∷ []) more (λ same. (refl, taken), tt) (without (codes "border") rows) others
+    later_none (repeat_fault again (codes "border") rows) (values_fault border vs)
+    (later_none (range_kinds 1 1 (length values)) (or_else (repeat_fault again (codes "border") rows) (values_fault border vs)) e)
+
+-- so has one of the flag
+flag_values : (again : Bool) (values : List Text) (rows : List Row) → use_fault again flag values rows ≡ [] → values_kinds false vp.Bool (values_or_missing flag values) ≡ []
+flag_values again values rows e =
+    let vs = values_or_missing flag values in
+    later_none (repeat_fault again (codes "shorter") rows) (values_fault flag vs)
+    (later_none (range_kinds 0 0 (length values)) (or_else (repeat_fault again (codes "shorter") rows) (values_fault flag vs)) e)
 
 -- each use of help has a fault
-help_keeps : (again : Bool) (values : List Text) (rows : List Row) → use_fault again help values rows ≡ [] → Good rows → Good (used help values rows)
-help_keeps again values rows e good =
+help_none : (again : Bool) (values : List Text) (rows : List Row) → use_fault again help values rows ≡ [] → ⊥
+help_none again values rows e =
     let none : kind.DisplayHelp ∷ [] ≡ [] = later_none (range_kinds 0 0 (length values)) (kind.DisplayHelp ∷ []) e in
     (cc)
 
--- each use of one of the arguments that has no fault keeps the rows good
-abbrev pub Keeps : Bool → List Rule → Type 0
-Keeps again c = (p : Rule → Bool) (a : Rule) → find p c ≡ Some a → (values : List Text) (rows : List Row) → use_fault again a values rows ≡ []
-    → Good rows → Good (used a values rows)
+-- the uses keep the rows of the option
+border_keeps_border : (again : Bool) → KeepsOne (codes "border") reading.WithoutMinus border_parser again border
+border_keeps_border again values rows e good =
+    own_use (codes "border") reading.WithoutMinus border_parser (values_or_missing border values) rows (border_values again values rows e) good
 
-nil_keeps : (again : Bool) → Keeps again []
-nil_keeps again p a is values rows e good = (cc)
+flag_keeps_border : (again : Bool) → KeepsOne (codes "border") reading.WithoutMinus border_parser again flag
+flag_keeps_border again values rows e good =
+    other_use (codes "border") reading.WithoutMinus border_parser (codes "shorter") reading.AsWritten refl (values_or_missing flag values) rows good
 
-cons_keeps : (again : Bool) (x : Rule) (c : List Rule)
-    → ((values : List Text) (rows : List Row) → use_fault again x values rows ≡ [] → Good rows → Good (used x values rows))
-    → Keeps again c → Keeps again (x ∷ c)
-cons_keeps again x c first rest p a is values rows e good = go (p x) is
+help_keeps_border : (again : Bool) → KeepsOne (codes "border") reading.WithoutMinus border_parser again help
+help_keeps_border again values rows e good = absurd (help_none again values rows e)
+
+-- and those of the flag
+border_keeps_flag : (again : Bool) → KeepsOne (codes "shorter") reading.AsWritten vp.Bool again border
+border_keeps_flag again values rows e good =
+    other_use (codes "shorter") reading.AsWritten vp.Bool (codes "border") reading.WithoutMinus refl (values_or_missing border values) rows good
+
+flag_keeps_flag : (again : Bool) → KeepsOne (codes "shorter") reading.AsWritten vp.Bool again flag
+flag_keeps_flag again values rows e good =
+    own_use (codes "shorter") reading.AsWritten vp.Bool (values_or_missing flag values) rows (flag_values again values rows e) good
+
+help_keeps_flag : (again : Bool) → KeepsOne (codes "shorter") reading.AsWritten vp.Bool again help
+help_keeps_flag again values rows e good = absurd (help_none again values rows e)
+
+-- the default of the flag keeps both
+flag_default_border : (rows : List Row) → GoodBorder rows → GoodBorder (with_default rows flag)
+flag_default_border rows good = go (has_row (codes "shorter") rows)
   where
-    go : (b : Bool) → cond b (Some x) (find p c) ≡ Some a → Good (used a values rows)
-    go true is =
-        let same : x ≡ a = ap (λ o. unwrap_or o x) is in
-        subst (λ (y : Rule). use_fault again y values rows ≡ [] → Good rows → Good (used y values rows)) same (first values rows) e good
-    go false is = rest p a is values rows e good
+    go : (b : Bool) → GoodBorder (cond b rows (with_values (codes "shorter") reading.AsWritten DefaultValue (codes "false" ∷ []) rows))
+    go true = good
+    go false = other_more (codes "border") reading.WithoutMinus border_parser (codes "shorter") reading.AsWritten refl DefaultValue (codes "false" ∷ []) rows good
 
-pub bordered_keeps : (again : Bool) → Keeps again (border ∷ help ∷ [])
-bordered_keeps again = cons_keeps again border (help ∷ []) (border_keeps again) (cons_keeps again help [] (help_keeps again) (nil_keeps again))
-
-pub plain_keeps : (again : Bool) → Keeps again (help ∷ [])
-plain_keeps again = cons_keeps again help [] (help_keeps again) (nil_keeps again)
-
-either : (b : Bool) (rows : List Row) → Good rows → Good (cond b rows rows)
-either true rows good = good
-either false rows good = good
-
-pub bordered_defaults : (rows : List Row) → Good rows → Good (fold with_default rows (border ∷ help ∷ []))
-bordered_defaults rows good =
-    either (has_row (codes "help") (with_default rows border)) (with_default rows border) (either (has_row (codes "border") rows) rows good)
-
-pub plain_defaults : (rows : List Row) → Good rows → Good (fold with_default rows (help ∷ []))
-plain_defaults rows good = either (has_row (codes "help") rows) rows good
-
--- the words in which the subcommand finds no fault leave good rows
-abbrev pub Sound : Shape → Type 0
-Sound s = (words : List Text) → level_fault s [] nothing_held words false [] ≡ [] → Good (rows_after s.rules [] words)
-
-pub sound : (s : Shape) → Keeps s.args_override_self s.rules → ((rows : List Row) → Good rows → Good (fold with_default rows s.rules)) → Sound s
-sound s keeps defaults words e =
-    let end = (walk s.rules [] nothing_held words).held in
-    let walked = first_none (walk_fault s [] (walk_from nothing_held) words) _ e in
-    let settle = first_none (settle_fault s.rules s.args_override_self end) _ (later_none (walk_fault s [] (walk_from nothing_held) words) _ e) in
-    defaults _ (settle_keeps s.rules s.args_override_self Good keeps end settle
-    (walk_keeps s.rules s.args_override_self Good keeps s [] refl refl (walk_from nothing_held) words walked tt))
-
--- the row that is found passes
-found_passes : (rows : List Row) → Good rows → (r : Row) → find (λ r. bytes_eq r.id (codes "border")) rows ≡ Some r → Passes r
-found_passes [] good r is = (cc)
-found_passes (x ∷ xs) good r is = go (bytes_eq x.id (codes "border")) refl is (found_passes xs good.1 r)
+flag_default_flag : (rows : List Row) → GoodFlag rows → GoodFlag (with_default rows flag)
+flag_default_flag rows good = go (has_row (codes "shorter") rows)
   where
-    go : (b : Bool) → bytes_eq x.id (codes "border") ≡ b → cond b (Some x) (find (λ r. bytes_eq r.id (codes "border")) xs) ≡ Some r
-        → (find (λ r. bytes_eq r.id (codes "border")) xs ≡ Some r → Passes r) → Passes r
-    go true e is later = subst Passes (ap (λ o. unwrap_or o x) is) (good.0 e)
-    go false e is later = later is
+    go : (b : Bool) → GoodFlag (cond b rows (with_values (codes "shorter") reading.AsWritten DefaultValue (codes "false" ∷ []) rows))
+    go true = good
+    go false = own_more (codes "shorter") reading.AsWritten vp.Bool DefaultValue (codes "false" ∷ []) rows refl good
+
+-- the others have none
+module _ (P : List Row → Type 0) where
+  border_default : (rows : List Row) → P rows → P (with_default rows border)
+  border_default rows good = either P (has_row (codes "border") rows) rows good
+
+  help_default : (rows : List Row) → P rows → P (with_default rows help)
+  help_default rows good = either P (has_row (codes "help") rows) rows good
+
+-- the words in which the subcommand finds no fault leave rows that are good for both
+abbrev pub IsSound : Shape → Type 0
+IsSound s = Sound (codes "border") reading.WithoutMinus border_parser s × Sound (codes "shorter") reading.AsWritten vp.Bool s
+
+-- these are the arguments of the subcommand
+abbrev pub Ruled : Shape → List Rule → Type 0
+Ruled s c = s.rules ≡ c
+
+-- a subcommand with such arguments is sound
+ruled_sound : (s : Shape) (c : List Rule) → Ruled s c
+    → ((again : Bool) → Keeps (codes "border") reading.WithoutMinus border_parser again c) → KeepsDefaults (codes "border") reading.WithoutMinus border_parser c
+    → ((again : Bool) → Keeps (codes "shorter") reading.AsWritten vp.Bool again c) → KeepsDefaults (codes "shorter") reading.AsWritten vp.Bool c → IsSound s
+ruled_sound s c is keeps_border border_defaults keeps_flag flag_defaults = (
+  sound (codes "border") reading.WithoutMinus border_parser s (subst (Keeps (codes "border") reading.WithoutMinus border_parser s.args_override_self) (sym is) (keeps_border s.args_override_self))
+      (subst (KeepsDefaults (codes "border") reading.WithoutMinus border_parser) (sym is) border_defaults),
+  sound (codes "shorter") reading.AsWritten vp.Bool s (subst (Keeps (codes "shorter") reading.AsWritten vp.Bool s.args_override_self) (sym is) (keeps_flag s.args_override_self))
+      (subst (KeepsDefaults (codes "shorter") reading.AsWritten vp.Bool) (sym is) flag_defaults),
+)
+
+-- the uses of help alone, which each subcommand has, keep the rows good
+help_alone_border : (again : Bool) → Keeps (codes "border") reading.WithoutMinus border_parser again (help ∷ [])
+help_alone_border again =
+    cons_keeps (codes "border") reading.WithoutMinus border_parser again help [] (help_keeps_border again) (nil_keeps (codes "border") reading.WithoutMinus border_parser again)
+
+help_alone_flag : (again : Bool) → Keeps (codes "shorter") reading.AsWritten vp.Bool again (help ∷ [])
+help_alone_flag again =
+    cons_keeps (codes "shorter") reading.AsWritten vp.Bool again help [] (help_keeps_flag again) (nil_keeps (codes "shorter") reading.AsWritten vp.Bool again)
+
+-- so do those of the flag and help
+flag_alone_border : (again : Bool) → Keeps (codes "border") reading.WithoutMinus border_parser again (flag ∷ help ∷ [])
+flag_alone_border again = cons_keeps (codes "border") reading.WithoutMinus border_parser again flag (help ∷ []) (flag_keeps_border again) (help_alone_border again)
+
+flag_alone_flag : (again : Bool) → Keeps (codes "shorter") reading.AsWritten vp.Bool again (flag ∷ help ∷ [])
+flag_alone_flag again = cons_keeps (codes "shorter") reading.AsWritten vp.Bool again flag (help ∷ []) (flag_keeps_flag again) (help_alone_flag again)
+
+-- a subcommand with neither argument
+pub plain_sound : (s : Shape) → Ruled s (help ∷ []) → IsSound s
+plain_sound s is = ruled_sound s (help ∷ []) is help_alone_border (λ rows good. help_default GoodBorder rows good)
+    help_alone_flag (λ rows good. help_default GoodFlag rows good)
+
+-- one with the option
+pub bordered_sound : (s : Shape) → Ruled s (border ∷ help ∷ []) → IsSound s
+bordered_sound s is =
+    ruled_sound s (border ∷ help ∷ []) is
+    (λ again. cons_keeps (codes "border") reading.WithoutMinus border_parser again border (help ∷ []) (border_keeps_border again) (help_alone_border again))
+    (λ rows good. help_default GoodBorder (with_default rows border) (border_default GoodBorder rows good))
+    (λ again. cons_keeps (codes "shorter") reading.AsWritten vp.Bool again border (help ∷ []) (border_keeps_flag again) (help_alone_flag again))
+    (λ rows good. help_default GoodFlag (with_default rows border) (border_default GoodFlag rows good))
+
+-- one with the flag
+pub flagged_sound : (s : Shape) → Ruled s (flag ∷ help ∷ []) → IsSound s
+flagged_sound s is =
+    ruled_sound s (flag ∷ help ∷ []) is
+    flag_alone_border (λ rows good. help_default GoodBorder (with_default rows flag) (flag_default_border rows good))
+    flag_alone_flag (λ rows good. help_default GoodFlag (with_default rows flag) (flag_default_flag rows good))
+
+-- one with both
+pub both_sound : (s : Shape) → Ruled s (border ∷ flag ∷ help ∷ []) → IsSound s
+both_sound s is =
+    ruled_sound s (border ∷ flag ∷ help ∷ []) is
+    (λ again. cons_keeps (codes "border") reading.WithoutMinus border_parser again border (flag ∷ help ∷ []) (border_keeps_border again) (flag_alone_border again))
+    (λ rows good. help_default GoodBorder (with_default (with_default rows border) flag) (flag_default_border (with_default rows border) (border_default GoodBorder rows good)))
+    (λ again. cons_keeps (codes "shorter") reading.AsWritten vp.Bool again border (flag ∷ help ∷ []) (border_keeps_flag again) (flag_alone_flag again))
+    (λ rows good. help_default GoodFlag (with_default (with_default rows border) flag) (flag_default_flag (with_default rows border) (border_default GoodFlag rows good)))
+
+-- ---- what is readable
 
 -- a text that the parser takes is a limit's
-limit_of : (text : Text) → is_taken text ≡ true → (n : ℕ) × IsBorderLimit text n
+limit_of : (text : Text) → accepts false border_parser text ≡ true → (n : ℕ) × IsBorderLimit text n
 limit_of text e = go (signed_digits_value 10 text) refl
   where
     passed : IsSignedIn (pos 0) (pos 65535) text
@@ -169,21 +346,21 @@ limit_of text e = go (signed_digits_value 10 text) refl
         let low = rw is at passed.2 in
         absurd (omega (arith, ints))
 
--- the border's text among good rows is a limit's
-pub readable : (rows : List Row) → Good rows → IsReadable rows
-readable rows good text = go (find (λ r. bytes_eq r.id (codes "border")) rows) refl
+-- a text that the flag's parser takes is `true` or `false`
+flag_text : (text : Text) → accepts false vp.Bool text ≡ true → (text ≡ codes "true") ⊎ (text ≡ codes "false")
+flag_text text e = go (bytes_eq text (codes "true")) refl e
   where
-    first : (r : Row) (how : Reading) (vs : List Text) → how ≡ reading.WithoutMinus → list_all is_taken vs ≡ true → slice_get vs 0 ≡ Some text
-        → (option_map (read_as how) (slice_get vs 0) ≡ Some (without_minus text)) × ((n : ℕ) × IsBorderLimit text n)
-    first r how [] is taken e = (cc)
-    first r how (v ∷ vs) is taken e =
-        let same : v ≡ text = ap (λ o. unwrap_or o v) e in
-        let as_written : Some (read_as how v) ≡ Some (without_minus text) = rw (is, same) refl in
-        (as_written, limit_of text (subst (λ (t : Text). is_taken t ≡ true) same (both _ _ taken).0))
+    go : (b : Bool) → bytes_eq text (codes "true") ≡ b → (b || bytes_eq text (codes "false")) ≡ true → (text ≡ codes "true") ⊎ (text ≡ codes "false")
+    go true is e = inl ((bytes_eq-Decides text (codes "true")).0 is)
+    go false is e = inr ((bytes_eq-Decides text (codes "false")).0 e)
 
-    go : (o : Option Row) → find (λ r. bytes_eq r.id (codes "border")) rows ≡ o → option_and_then (λ r. slice_get r.values 0) o ≡ Some text
-        → (option_and_then row_text o ≡ Some (without_minus text)) × ((n : ℕ) × IsBorderLimit text n)
-    go None is e = (cc)
-    go (Some r) is e =
-        let passes = found_passes rows good r is in
-        first r r.reading r.values passes.0 passes.1 e
+-- the texts among good rows are a limit's and a flag's
+pub readable : (rows : List Row) → GoodBorder rows → GoodFlag rows → IsReadable rows
+readable rows border_good flag_good = record {
+  limit = λ text is.
+      let t = first_taken (codes "border") reading.WithoutMinus border_parser rows border_good text is in
+      (t.0, limit_of text t.1);
+  flag = λ text is.
+      let t = first_taken (codes "shorter") reading.AsWritten vp.Bool rows flag_good text is in
+      (t.0, flag_text text t.1);
+}

@@ -1,5 +1,6 @@
--- What clap's getter reads of a border's text that passed its parser is the limit that the text writes.
-use Rattle.std.proofs.Common.{◌≡◌, ◌∙◌, ◌<◌, ◌^◌, ◌==◌, ℕ, Bool, true, false, cond, drop, refl, sym, ap, subst, List, [], ◌∷◌, Option, Some, None, Result, Ok, Err, codes, arith}
+-- What clap's getters read of a border's text that passed its parser is the limit that the text writes, and of the flag's whether it was
+-- given.
+use Rattle.std.proofs.Common.{◌≡◌, ◌∙◌, ◌<◌, ◌^◌, ◌==◌, ℕ, Bool, true, false, true≢false, inl, inr, cond, drop, refl, sym, ap, subst, List, [], ◌∷◌, Option, Some, None, Result, Ok, Err, codes, arith}
 use Rattle.std.specs.Prelude.{option_and_then, slice_get, find, unwrap_or}
 use Rattle.std.specs.Str.{bytes_eq}
 use Rattle.std.specs.Str.Parse.{IsNumeral, ParsesUnsigned, digits_value, starts_with_minus, without_leading_plus}
@@ -59,8 +60,8 @@ limit_number {E} G parses t r n read limit =
         absurd (parses t (Err h.0) (rw minus at h.1) (numeral, omega (arith, ints)))
 
 -- where there is no first value, nothing is read
-none_of : (rows : List Row) → first_of (codes "border") rows ≡ None → one_of (codes "border") rows ≡ None
-none_of rows = go (find (λ r. bytes_eq r.id (codes "border")) rows)
+none_of : (id : Text) (rows : List Row) → first_of id rows ≡ None → one_of id rows ≡ None
+none_of id rows = go (find (λ r. bytes_eq r.id id) rows)
   where
     go : (o : Option Row) → option_and_then (λ r. slice_get r.values 0) o ≡ None → option_and_then row_text o ≡ None
     go None e = refl
@@ -73,8 +74,27 @@ pub limit_read : {E : Type 0} (G : Text → Result ℕ E → Type 0) → ((u : T
 limit_read {E} G parses rows r none value readable = go (first_of (codes "border") rows) refl
   where
     go : (o : Option Text) → first_of (codes "border") rows ≡ o → GivesLimit rows r
-    go None is = subst (GivesLimit rows) (sym (none (none_of rows is))) is
+    go None is = subst (GivesLimit rows) (sym (none (none_of (codes "border") rows is))) is
     go (Some text) is =
-        let found = readable text is in
+        let found = readable.limit text is in
         let number = limit_number {E = E} G parses text r found.1.0 (value (without_minus text) found.0) found.1.1 in
         subst (GivesLimit rows) (sym number) (text, is, found.1.1)
+
+module _ (rows : List Row) (readable : IsReadable rows) (b : Bool) (none : one_of (codes "shorter") rows ≡ None → b ≡ false)
+    (given : one_of (codes "shorter") rows ≡ Some (codes "true") → b ≡ true) (other : one_of (codes "shorter") rows ≡ Some (codes "false") → b ≡ false) where
+  -- where the getter says so, the flag was given
+  pub flag_given : b ≡ true → first_of (codes "shorter") rows ≡ Some (codes "true")
+  flag_given is = go (first_of (codes "shorter") rows) refl
+    where
+      go : (o : Option Text) → first_of (codes "shorter") rows ≡ o → first_of (codes "shorter") rows ≡ Some (codes "true")
+      go None e = absurd (true≢false (sym is ∙ none (none_of (codes "shorter") rows e)))
+      go (Some text) e =
+          let found = readable.flag text e in
+          elim found.1 [
+            | inl t ↦ e ∙ ap Some t
+            | inr f ↦ absurd (true≢false (sym is ∙ other (found.0 ∙ ap Some f)))
+          ]
+
+  -- else it wasn't
+  pub flag_left_out : b ≡ false → first_of (codes "shorter") rows ≡ Some (codes "true") → ⊥
+  flag_left_out is e = true≢false (sym (given (readable.flag (codes "true") e).0) ∙ is)

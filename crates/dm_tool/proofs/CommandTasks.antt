@@ -14,8 +14,8 @@ use Rattle.dm_tool.specs.CommandReads.{IsReadable}
 use Rattle.dm_tool.specs.declared.task.Task.{Task}
 use Rattle.dm_tool.specs.declared.task.Task.TheVariants.{Read, Check, Normal, Write, Table}
 use Rattle.dm_tool.proofs.CommandWalks.{first_none, later_none}
-use Rattle.dm_tool.proofs.CommandNames.{limit_given}
-use Rattle.dm_tool.proofs.CommandMatches.{Sound, bordered_defaults, bordered_keeps, plain_defaults, plain_keeps, readable, sound}
+use Rattle.dm_tool.proofs.CommandNames.{limit_given, profile_given}
+use Rattle.dm_tool.proofs.CommandMatches.{IsSound, bordered_sound, both_sound, flagged_sound, plain_sound, readable}
 
 -- two values in equal options are equal
 pub unwrapped : (x y : Text × List Row) → Some x ≡ Some y → x ≡ y
@@ -30,7 +30,7 @@ wanted false false rest false r e = (cc)
 
 -- the subcommand is a task by each of its readable matches, and leaves good ones
 abbrev Known : Shape → Type 0
-Known s = ((rows : List Row) → IsReadable rows → (t : Task) × IsTaskOf s.name rows t) × Sound s
+Known s = ((rows : List Row) → IsReadable rows → (t : Task) × IsTaskOf s.name rows t) × IsSound s
 
 -- each of them
 abbrev AllKnown : List Shape → Type 0
@@ -58,18 +58,21 @@ entered_there a (Some q) known has e = go (find (λ s. answers_to q.0 (label_of 
     go None is has e = absurd (true≢false (sym has))
     go (Some s) is has e =
         let known_s = found_known (λ s. answers_to q.0 (label_of s)) a.subs known s is in
-        let read = readable (rows_after s.rules [] q.1) (known_s.1 q.1 e) in
+        let read = readable (rows_after s.rules [] q.1) (known_s.1.0 q.1 e) (known_s.1.1 q.1 e) in
         (rows_at s q.1, refl, read, known_s.0 (rows_after s.rules [] q.1) read)
 
 -- each of the five subcommands is a task and leaves good matches
 all_known : AllKnown (built dm_app).subs
 all_known = (
-  (λ rows r. let l = limit_given rows r in (Read l.0, (refl, l.1)), sound _ (bordered_keeps false) bordered_defaults),
+  (λ rows r. let l = limit_given rows r in (Read l.0, (refl, l.1)), bordered_sound _ refl),
   (
-    (λ rows r. let l = limit_given rows r in (Check l.0, (refl, l.1)), sound _ (bordered_keeps false) bordered_defaults),
+    (λ rows r. let l = limit_given rows r in (Check l.0, (refl, l.1)), bordered_sound _ refl),
     (
-      (λ rows r. let l = limit_given rows r in (Normal l.0, (refl, l.1)), sound _ (bordered_keeps false) bordered_defaults),
-      ((λ rows r. (Write, refl), sound _ (plain_keeps false) plain_defaults), ((λ rows r. (Table, refl), sound _ (plain_keeps false) plain_defaults), tt)),
+      (λ rows r. let l = limit_given rows r in let p = profile_given rows in (Normal l.0 p.0, (refl, l.1, p.1)), both_sound _ refl),
+      (
+        (λ rows r. let p = profile_given rows in (Write p.0, (refl, p.1)), flagged_sound _ refl),
+        ((λ rows r. (Table, refl), plain_sound _ refl), tt),
+      ),
     ),
   ),
 )

@@ -6,8 +6,9 @@ use Rattle.std.proofs.lemmas.Bool.{and_parts, eqb-true}
 use Rattle.std.proofs.lemmas.List.{length-map}
 use Rattle.std.proofs.lemmas.List.Elements.{All-from_recursion}
 use Rattle.dm_symbol.specs.declared.Item.{Item}
+use Rattle.dm_symbol.specs.declared.Profile.{Profile}
 use Rattle.dm_symbol.specs.Messages.{IsMessage}
-use Rattle.dm_symbol.specs.Ascii.{ascii}
+use Rattle.dm_symbol.specs.NormalForm.{normal_form}
 use Rattle.dm_symbol.specs.Sizes.{SizeRow, row_for_words, row_with_side}
 use Rattle.dm_symbol.specs.Grid.{GridView, IsGrid}
 use Rattle.dm_symbol.proofs.SizeFacts.{has_that_side}
@@ -74,11 +75,11 @@ record_answer (Check border) of_grids (Ok grid) is =
     let x = answer_is_given grid (limit_for border grid.size.side) (is grid refl) in
     (checking_answer grid.size.side x.0, (x.0, x.1, refl))
 record_answer (Check border) of_grids (Err why) is = (refusal_answer (record_refusal why), refl)
-record_answer (Normal border) of_grids (Ok grid) is =
-    let x = normal_answer_is_given grid (limit_for border grid.size.side) (is grid refl) in
+record_answer (Normal border profile) of_grids (Ok grid) is =
+    let x = normal_answer_is_given profile grid (limit_for border grid.size.side) (is grid refl) in
     (normalising_answer x.0, (x.0, x.1, refl))
-record_answer (Normal border) of_grids (Err why) is = (blank_refusal_answer (record_refusal why), refl)
-record_answer Write of_grids r is = absurd of_grids
+record_answer (Normal border profile) of_grids (Err why) is = (blank_refusal_answer (record_refusal why), refl)
+record_answer (Write profile) of_grids r is = absurd of_grids
 record_answer Table of_grids r is = absurd of_grids
 
 -- each record has its answer
@@ -86,20 +87,20 @@ pub record_is_answered : (task : Task) → AnswersRecords task → (lines : List
 record_is_answered task of_grids lines = record_answer task of_grids (record_of lines) (record_grid lines)
 
 -- the answer to a message
-message_answer : (message : List Item) → IsMessage message → (answer : Answer) × IsMessageAnswer message answer
-message_answer message h =
-    elim (fits_or_not (row_for_words (length (ascii message)))) [
-      | inl fits ↦ let grid = normal_grid_is_there message h fits in (grid_answer grid.0, normal_grid grid.0 grid.1 refl)
+message_answer : (profile : Profile) (message : List Item) → IsMessage message → (answer : Answer) × IsMessageAnswer profile message answer
+message_answer profile message h =
+    elim (fits_or_not (row_for_words (length (normal_form profile message)))) [
+      | inl fits ↦ let grid = normal_grid_is_there profile message h fits in (grid_answer grid.0, normal_grid grid.0 grid.1 refl)
       | inr none ↦ (blank_refusal_answer too_long_refusal, too_long none refl)
     ]
 
 -- the answer to a message line, by what it means
-line_answer : (line : List ℕ) (message : LineAnswer) → IsLine line message → (answer : Answer) × IsAnswerToLine line answer
-line_answer line (Ok message) h =
-    let x = message_answer message (joined_message message line h.0) in
+line_answer : (profile : Profile) (line : List ℕ) (message : LineAnswer) → IsLine line message → (answer : Answer) × IsAnswerToLine profile line answer
+line_answer profile line (Ok message) h =
+    let x = message_answer profile message (joined_message message line h.0) in
     (x.0, (Ok message, h, x.1))
-line_answer line (Err why) h = (blank_refusal_answer (line_refusal why), (Err why, h, refl))
+line_answer profile line (Err why) h = (blank_refusal_answer (line_refusal why), (Err why, h, refl))
 
 -- each message line has its answer
-pub line_is_answered : (line : List ℕ) → (answer : Answer) × IsAnswerToLine line answer
-line_is_answered line = let means = line_is_there line in line_answer line means.0 means.1
+pub line_is_answered : (profile : Profile) (line : List ℕ) → (answer : Answer) × IsAnswerToLine profile line answer
+line_is_answered profile line = let means = line_is_there line in line_answer profile line means.0 means.1

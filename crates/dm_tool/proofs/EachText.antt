@@ -31,8 +31,8 @@ answers_to_records task of_grids lines free =
 answers_to : (task : Task) → task ≢ Table → (lines : List (List ℕ)) → AllByRecursion HasNoLf lines → (answers : List Answer) × AreAnswersTo task lines answers
 answers_to (Read border) reads lines free = answers_to_records (Read border) tt lines free
 answers_to (Check border) reads lines free = answers_to_records (Check border) tt lines free
-answers_to (Normal border) reads lines free = answers_to_records (Normal border) tt lines free
-answers_to Write reads lines free = matched_there IsAnswerToLine line_is_answered lines
+answers_to (Normal border profile) reads lines free = answers_to_records (Normal border profile) tt lines free
+answers_to (Write profile) reads lines free = matched_there (IsAnswerToLine profile) (line_is_answered profile) lines
 answers_to Table reads lines free = absurd (reads refl)
 
 -- the lines of a text, with the last one
@@ -59,8 +59,8 @@ closed_records task of_grids lines free =
 closed_there : (task : Task) → task ≢ Table → (lines : List (List ℕ)) → AllByRecursion HasNoLf lines → HasClosed task lines
 closed_there (Read border) reads lines free = closed_records (Read border) tt lines free
 closed_there (Check border) reads lines free = closed_records (Check border) tt lines free
-closed_there (Normal border) reads lines free = closed_records (Normal border) tt lines free
-closed_there Write reads lines free = record { closed = lines; are = refl; free = free }
+closed_there (Normal border profile) reads lines free = closed_records (Normal border profile) tt lines free
+closed_there (Write profile) reads lines free = record { closed = lines; are = refl; free = free }
 closed_there Table reads lines free = absurd (reads refl)
 
 -- the answers to all of a text
@@ -82,8 +82,8 @@ closed_answers task reads text =
 table_or_reads : (task : Task) → (task ≡ Table) ⊎ (task ≢ Table)
 table_or_reads (Read border) = inr (λ e. cc)
 table_or_reads (Check border) = inr (λ e. cc)
-table_or_reads (Normal border) = inr (λ e. cc)
-table_or_reads Write = inr (λ e. cc)
+table_or_reads (Normal border profile) = inr (λ e. cc)
+table_or_reads (Write profile) = inr (λ e. cc)
 table_or_reads Table = inl refl
 
 -- something is written for a text as a whole

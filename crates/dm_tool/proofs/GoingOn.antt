@@ -77,10 +77,10 @@ goes_on task (Records asked facts) text piece answers s =
         matched_append (IsRecordAnswer task) s.2 (map record_of later.records) answers matched.0 s.4 (matched_grids task later.records matched.0 matched.1),
       ),
     )
-goes_on task (Lines facts) text piece answers s =
+goes_on task (Lines profile facts) text piece answers s =
     let t = s.2 in
     let later = text_is_split (t.rest ++ piece) in
-    let matched = matched_there IsAnswerToLine line_is_answered later.lines in
+    let matched = matched_there (IsAnswerToLine profile) (line_is_answered profile) later.lines in
     let lines = t.lines ++ later.lines in
     let text_is : ended t.lines ++ (t.rest ++ piece) ≡ text ++ piece = sym (append_assoc (ended t.lines) t.rest piece) ∙ ap (λ l. l ++ piece) (sym t.split.whole) in (
       matched.0,
@@ -91,6 +91,6 @@ goes_on task (Lines facts) text piece answers s =
         closed = lines;
         are_closed = subst (λ w. AreClosedLines w lines lines) (sym s.0) refl;
         answered = subst (λ w. AreAnswersTo w lines (answers ++ matched.0)) (sym s.0)
-            (matched_append IsAnswerToLine t.lines later.lines answers matched.0 (matched_lines t.lines s.1 answers t.answered s.3) matched.1);
+            (matched_append (IsAnswerToLine profile) t.lines later.lines answers matched.0 (matched_lines profile t.lines s.1 answers t.answered s.3) matched.1);
       },
     )

@@ -4,9 +4,11 @@ use Rattle.std.specs.Prelude.{◌==◌, ◌||◌, nat_lt, if◌then◌else◌, s
 use Rattle.std.specs.List.{list_any, refill}
 use Rattle.std.specs.Int.RustNames.{bit_or}
 use Rattle.std.specs.Int.Bits.{or_shifted_r}
-use Rattle.std.proofs.Math.Nat.{div-div-eq-div-mul}
+use Rattle.std.proofs.Math.Nat.{div-div-eq-div-mul, mod-eq_of_lt, mul_left_comm}
+use Rattle.std.proofs.Math.Pow.{pow_mono}
 use Rattle.std.proofs.lemmas.Bool.{eqb-true, eqb-false, ltb-false, le-ltb, lt-ltb}
 use Rattle.std.proofs.lemmas.List.{length-map, length-set, map-append}
+use Rattle.std.proofs.lemmas.List.Folds.{list_any-append}
 use Rattle.std.proofs.Math.Seq.{take-append_seam}
 use Rattle.std.proofs.lemmas.List.FromFn.{fill_by_all}
 use Rattle.dm_symbol.specs.Sizes.{largest_side}
@@ -16,7 +18,7 @@ use Rattle.dm_tool.specs.Texts.{last_line}
 use Rattle.dm_tool.specs.Records.{is_foreign, has_foreign, is_large, rows_of}
 use Rattle.dm_tool.specs.RecordFacts.{Cells, contents_of, differ, first_length, last_length}
 use Rattle.dm_tool.specs.OpenRecords.{HoldsLines, Continues, cells_in, digit_of, is_dark, is_ended, line_count, number_of, rows_in, rows_seen}
-use Rattle.dm_tool.proofs.RecordSteps.{by_tests, same_cells, foreign_new, foreign_more, large_count, large_length, count_new, last_new, first_new, first_more, or_cases, or_false, any_last, long, zero_lines}
+use Rattle.dm_tool.proofs.RecordSteps.{by_tests, same_cells, count_new, last_new, first_new, or_cases, or_false, any_last, long, zero_lines}
 
 -- ---- a line as a number
 
@@ -33,25 +35,22 @@ doubled : (n : ℕ) → 2 ^ suc n ≡ 2 * 2 ^ n
 doubled n = omega arith
 
 -- the number of a line has no bit from its length on
-number_small : (line : List ℕ) → number_of line < 2 ^ length line
+pub number_small : (line : List ℕ) → number_of line < 2 ^ length line
 number_small [] = omega arith
 number_small (b ∷ line) =
     let weight : 2 ^ length (b ∷ line) ≡ 2 * 2 ^ length line = doubled (length line) in omega (arith, digit_small b, number_small line, weight)
 
--- one more character has the next weight
-number_more : (line : List ℕ) (b : ℕ) → number_of (line ++ b ∷ []) ≡ digit_of b * 2 ^ length line + number_of line
-number_more [] b = omega arith
-number_more (x ∷ line) b = by_digit (digit_of b) (number_of (line ++ b ∷ [])) (digit_small b) (number_more line b)
-  where
-    by_digit : (d n : ℕ) → d < 2 → n ≡ d * 2 ^ length line + number_of line
-        → digit_of x + 2 * n ≡ d * 2 ^ length (x ∷ line) + (digit_of x + 2 * number_of line)
-    by_digit zero n small e = omega (arith, e)
-    by_digit (suc zero) n small e = let weight : 2 ^ length (x ∷ line) ≡ 2 * 2 ^ length line = doubled (length line) in omega (arith, e, weight)
-    by_digit (suc (suc d)) n small e = absurd (omega (arith, small))
+-- more characters have the next weights
+pub number_more : (line more : List ℕ) → number_of (line ++ more) ≡ number_of more * 2 ^ length line + number_of line
+number_more [] more = omega arith
+number_more (x ∷ line) more =
+    let weight : number_of more * 2 ^ length (x ∷ line) ≡ 2 * (number_of more * 2 ^ length line) =
+    ap (λ (w : ℕ). number_of more * w) (doubled (length line)) ∙ mul_left_comm (number_of more) 2 (2 ^ length line) in
+    omega (arith, number_more line more, weight)
 
--- so it is put by bits
-number_put : (line : List ℕ) (b : ℕ) → bit_or (number_of line) (digit_of b * 2 ^ length line) ≡ number_of (line ++ b ∷ [])
-number_put line b = or_shifted_r (digit_of b) (length line) (number_of line) (number_small line) ∙ sym (number_more line b)
+-- so they are put by bits
+number_put : (line more : List ℕ) → bit_or (number_of line) (number_of more * 2 ^ length line) ≡ number_of (line ++ more)
+number_put line more = or_shifted_r (number_of more) (length line) (number_of line) (number_small line) ∙ sym (number_more line more)
 
 -- the first cell is the lowest digit
 lowest : (b n : ℕ) → is_dark_in (digit_of b + 2 * n) 0 ≡ is_dark b
@@ -141,14 +140,29 @@ without_line t lines h =
     let parts = or_cases (nat_lt largest_side (length lines)) (list_any long lines) small in
     (few (length lines) parts.0, counted t lines [] h ∙ ap length (append-nil lines))
 
--- ---- one more character
+-- ---- more characters
 
-full_new : (lines : List (List ℕ)) (b n : ℕ) → n ≡ length lines → n ≡ largest_side → is_large lines ≡ false → is_large (lines ++ (b ∷ []) ∷ []) ≡ true
-full_new lines b n e f small = large_count lines b small ∙ lt-ltb largest_side (length lines + 1) (omega arith)
+-- lines that aren't too large, and one more
+large_line : (lines : List (List ℕ)) (line : List ℕ) → is_large lines ≡ false → is_large (lines ++ line ∷ []) ≡ (nat_lt largest_side (length lines + 1) || long line)
+large_line lines line e =
+    let parts = or_cases (nat_lt largest_side (length lines)) (list_any long lines) e in
+    rw (count_new lines line, any_last long lines line, parts.1) refl
+
+or_true : (a : Bool) → (a || true) ≡ true
+or_true true = refl
+or_true false = refl
+
+true_or : (a b : Bool) → a ≡ true → (a || b) ≡ true
+true_or a b e = rw e refl
 
 -- no room for a new line
-pub begin_full : (t : Rows) (lines : List (List ℕ)) (b : ℕ) → HoldsLines t lines [] → line_count t ≡ largest_side → is_large (lines ++ (b ∷ []) ∷ []) ≡ true
-begin_full t lines b h full = full_new lines b (line_count t) (without_line t lines h).1 full (rw (append-nil lines) at h.small)
+pub begin_full : (t : Rows) (lines : List (List ℕ)) (more : List ℕ) → HoldsLines t lines [] → line_count t ≡ largest_side → 0 < length more
+    → is_large (lines ++ last_line more) ≡ true
+begin_full t lines [] h full some = absurd (omega arith)
+begin_full t lines (y ∷ ys) h full some =
+    let known = without_line t lines h in
+    large_line lines (y ∷ ys) (rw (append-nil lines) at h.small)
+    ∙ true_or (nat_lt largest_side (length lines + 1)) (long (y ∷ ys)) (lt-ltb largest_side (length lines + 1) (omega (arith, known.1, full)))
 
 false_both : (a b : Bool) → a ≡ false → b ≡ false → (a || b) ≡ false
 false_both a b e f = rw (e, f) refl
@@ -161,27 +175,29 @@ le_test : (m : ℕ) → m ≤ largest_side → nat_lt largest_side m ≡ false
 le_test m le = le-ltb largest_side m le
 
 -- a new line
-pub begin_done : (t s : Rows) (lines : List (List ℕ)) (b : ℕ) → HoldsLines t lines [] → is_foreign b ≡ false → line_count t ≢ largest_side
-    → s.rows.items ≡ t.rows.items ++ digit_of b * 2 ^ 0 ∷ [] → (line_count t ≡ 0 → s.first ≡ 1) → (line_count t ≢ 0 → s.first ≡ t.first) → s.last ≡ 1 → s.differs ≡ t.differs
-    → HoldsLines s lines (b ∷ [])
-begin_done t s lines b h cell room rows first_zero first_some last differs =
+pub begin_done : (t s : Rows) (lines : List (List ℕ)) (more : List ℕ) → HoldsLines t lines [] → list_any is_foreign more ≡ false → 0 < length more
+    → length more ≤ largest_side → line_count t ≢ largest_side → s.rows.items ≡ t.rows.items ++ number_of more ∷ []
+    → (line_count t ≡ 0 → s.first ≡ length more) → (line_count t ≢ 0 → s.first ≡ t.first) → s.last ≡ length more → s.differs ≡ t.differs
+    → HoldsLines s lines more
+begin_done t s lines [] h cells some few room rows first_zero first_some last differs = absurd (omega arith)
+begin_done t s lines (y ∷ ys) h cells some few room rows first_zero first_some last differs =
     let known = without_line t lines h in
     let small : is_large lines ≡ false = rw (append-nil lines) at h.small in
-    let cells : has_foreign lines ≡ false = rw (append-nil lines) at h.cells in
+    let before : has_foreign lines ≡ false = rw (append-nil lines) at h.cells in
     let firsts : t.first ≡ first_length lines = h.first_is ∙ ap first_length (append-nil lines) in
-    let one : digit_of b * 2 ^ 0 ≡ number_of (b ∷ []) = omega arith in
-    let within : nat_lt largest_side (length lines + 1) ≡ false = le_test (length lines + 1) (omega (arith, room, known.0, known.1)) in
     record {
-      rows_are = rows ∙ ap (λ l. l ++ digit_of b * 2 ^ 0 ∷ []) (h.rows_are ∙ ap (map number_of) (append-nil lines)) ∙ ap (λ n. map number_of lines ++ n ∷ []) one
-          ∙ sym (map-append number_of lines ((b ∷ []) ∷ []));
-      first_is = first_cases (length lines == 0) refl known.1 firsts ∙ sym (first_new lines (b ∷ []));
-      last_is = last ∙ sym (last_new lines (b ∷ []));
+      rows_are = rows ∙ ap (λ l. l ++ number_of (y ∷ ys) ∷ []) (h.rows_are ∙ ap (map number_of) (append-nil lines))
+          ∙ sym (map-append number_of lines ((y ∷ ys) ∷ []));
+      first_is = first_cases (length lines == 0) refl known.1 firsts ∙ sym (first_new lines (y ∷ ys));
+      last_is = last ∙ sym (last_new lines (y ∷ ys));
       differs_is = differs ∙ h.differs_is ∙ same_differ (length lines == 0) refl known.1;
-      cells = foreign_new lines b ∙ false_both (has_foreign lines) (is_foreign b) cells cell;
-      small = large_count lines b small ∙ within;
+      cells = any_last (list_any is_foreign) lines (y ∷ ys) ∙ false_both (has_foreign lines) (list_any is_foreign (y ∷ ys)) before cells;
+      small = large_line lines (y ∷ ys) small
+          ∙ false_both (nat_lt largest_side (length lines + 1)) (long (y ∷ ys)) (le_test (length lines + 1) (omega (arith, room, known.0, known.1))) (le_test (length (y ∷ ys)) few);
     }
   where
-    first_cases : (v : Bool) → (length lines == 0) ≡ v → line_count t ≡ length lines → t.first ≡ first_length lines → s.first ≡ (if length lines == 0 then 1 else first_length lines)
+    first_cases : (v : Bool) → (length lines == 0) ≡ v → line_count t ≡ length lines → t.first ≡ first_length lines
+        → s.first ≡ (if length lines == 0 then length (y ∷ ys) else first_length lines)
     first_cases true e c f = rw e (first_zero (c ∙ eqb-true (length lines) 0 e))
     first_cases false e c f = rw e (first_some (λ z. eqb-false (length lines) 0 e (sym c ∙ z)) ∙ f)
 
@@ -189,64 +205,93 @@ begin_done t s lines b h cell room rows first_zero first_some last differs =
     same_differ true e c = differ_none lines t.first s.first (eqb-true (length lines) 0 e)
     same_differ false e c = ap (λ k. differ k lines) (sym (first_some (λ z. eqb-false (length lines) 0 e (sym c ∙ z))))
 
--- no room in the last line
-pub lengthen_full : (t : Rows) (lines : List (List ℕ)) (x : ℕ) (r : List ℕ) (b : ℕ) → HoldsLines t lines (x ∷ r) → t.last ≡ largest_side
-    → is_large (lines ++ last_line ((x ∷ r) ++ b ∷ [])) ≡ true
-lengthen_full t lines x r b h full =
-    let last : length (x ∷ r) ≡ largest_side = sym (last_new lines (x ∷ r)) ∙ sym h.last_is ∙ full in
-    large_length lines (x ∷ r) b h.small ∙ lt-ltb largest_side (length (x ∷ r) + 1) (omega arith)
+-- what is known of lines that are kept, and a last one
+with_last : (lines : List (List ℕ)) (line : List ℕ) → is_large (lines ++ line ∷ []) ≡ false → (nat_lt largest_side (length lines + 1) ≡ false) × (list_any long lines ≡ false)
+with_last lines line e =
+    let tests : (nat_lt largest_side (length lines + 1) || (list_any long lines || long line)) ≡ false = rw (count_new lines line, any_last long lines line) at e in
+    let parts = or_cases (nat_lt largest_side (length lines + 1)) (list_any long lines || long line) tests in (parts.0, (or_cases (list_any long lines) (long line) parts.1).0)
 
--- the rows with a cell more in the last one
-abbrev pub with_cell : Rows → ℕ → List ℕ
-with_cell t b = set t.rows.items (line_count t - 1) (bit_or (get_or t.rows.items (line_count t - 1) 0) (digit_of b * 2 ^ t.last))
+-- in a longer last line only its length is a new test
+large_longer : (lines : List (List ℕ)) (line longer : List ℕ) → is_large (lines ++ line ∷ []) ≡ false → is_large (lines ++ longer ∷ []) ≡ long longer
+large_longer lines line longer e = let parts = with_last lines line e in rw (count_new lines longer, any_last long lines longer, parts.0, parts.1) refl
+
+-- no room in the last line
+pub lengthen_full : (t : Rows) (lines : List (List ℕ)) (x : ℕ) (r more : List ℕ) → HoldsLines t lines (x ∷ r) → largest_side < t.last + length more
+    → is_large (lines ++ last_line ((x ∷ r) ++ more)) ≡ true
+lengthen_full t lines x r more h full =
+    let lasts : t.last ≡ length (x ∷ r) = h.last_is ∙ last_new lines (x ∷ r) in
+    large_longer lines (x ∷ r) ((x ∷ r) ++ more) h.small
+    ∙ lt-ltb largest_side (length ((x ∷ r) ++ more)) (omega (arith, full, lasts, length-append (x ∷ r) more))
+
+-- the rows with these bits more in the last one
+abbrev pub with_bits : Rows → ℕ → List ℕ
+with_bits t bits = set t.rows.items (line_count t - 1) (bit_or (get_or t.rows.items (line_count t - 1) 0) bits)
 
 -- it is what a write through the slice leaves
-pub written : (t : Rows) (b count cell : ℕ) (rows : List ℕ) → rows ≡ t.rows.items → count ≡ line_count t → cell ≡ digit_of b * 2 ^ t.last
-    → refill (line_count t) t.rows.items (slice_set rows (count - 1) (bit_or (slice_index_or rows (count - 1) 0) cell)) ≡ with_cell t b
-written t b count cell rows e f g = rw (e, f, g) (whole t.rows.items (with_cell t b) (length-set t.rows.items (line_count t - 1) _))
+pub written : (t : Rows) (count bits : ℕ) (rows : List ℕ) → rows ≡ t.rows.items → count ≡ line_count t
+    → refill (line_count t) t.rows.items (slice_set rows (count - 1) (bit_or (slice_index_or rows (count - 1) 0) bits)) ≡ with_bits t bits
+written t count bits rows e f = rw (e, f) (whole t.rows.items (with_bits t bits) (length-set t.rows.items (line_count t - 1) _))
   where
     whole : (xs ys : List ℕ) → length ys ≡ length xs → refill (length xs) xs ys ≡ ys
     whole xs ys same = ap (λ n. take n (ys ++ drop (length ys) xs)) (sym same) ∙ take-append_seam ys (drop (length ys) xs)
 
+-- the shift loses no bit
+pub shifted : (t : Rows) (lines : List (List ℕ)) (x : ℕ) (r more : List ℕ) (bits : ℕ) → HoldsLines t lines (x ∷ r) → t.last + length more ≤ largest_side
+    → bits ≡ number_of more → bits * 2 ^ t.last % 2 ^ 128 ≡ number_of more * 2 ^ t.last
+shifted t lines x r more bits h room e =
+    let line = x ∷ r in
+    let lasts : t.last ≡ length line = h.last_is ∙ last_new lines line in
+    let long : length (line ++ more) ≤ 128 = omega (arith, length-append line more, lasts, room) in
+    let small : number_of more * 2 ^ length line < 2 ^ 128 = omega (arith, number_more line more, number_small (line ++ more), pow_mono long) in
+    ap (λ (k : ℕ). k * 2 ^ t.last % 2 ^ 128) e ∙ rw lasts (mod-eq_of_lt small)
+
 -- they are those of the longer line
-with_cell_is : (t : Rows) (lines : List (List ℕ)) (x : ℕ) (r : List ℕ) (b : ℕ) → HoldsLines t lines (x ∷ r)
-    → with_cell t b ≡ map number_of (lines ++ ((x ∷ r) ++ b ∷ []) ∷ [])
-with_cell_is t lines x r b h =
+with_bits_are : (t : Rows) (lines : List (List ℕ)) (x : ℕ) (r more : List ℕ) → HoldsLines t lines (x ∷ r)
+    → with_bits t (number_of more * 2 ^ t.last) ≡ map number_of (lines ++ ((x ∷ r) ++ more) ∷ [])
+with_bits_are t lines x r more h =
     let count : line_count t - 1 ≡ length lines = omega (arith, counted t lines (x ∷ r) h, count_new lines (x ∷ r)) in
     let long : t.last ≡ length (x ∷ r) = h.last_is ∙ last_new lines (x ∷ r) in
-    rw (count, long, h.rows_are) (put_last lines (x ∷ r) b)
+    rw (count, long, h.rows_are) (put_last lines (x ∷ r) more)
   where
-    put_last : (lines : List (List ℕ)) (line : List ℕ) (b : ℕ)
-        → set (map number_of (lines ++ line ∷ [])) (length lines) (bit_or (get_or (map number_of (lines ++ line ∷ [])) (length lines) 0) (digit_of b * 2 ^ length line))
-        ≡ map number_of (lines ++ (line ++ b ∷ []) ∷ [])
-    put_last [] line b = ap (λ n. n ∷ []) (number_put line b)
-    put_last (l ∷ lines) line b = ap (λ k. number_of l ∷ k) (put_last lines line b)
+    put_last : (lines : List (List ℕ)) (line more : List ℕ)
+        → set (map number_of (lines ++ line ∷ [])) (length lines) (bit_or (get_or (map number_of (lines ++ line ∷ [])) (length lines) 0) (number_of more * 2 ^ length line))
+        ≡ map number_of (lines ++ (line ++ more) ∷ [])
+    put_last [] line more = ap (λ n. n ∷ []) (number_put line more)
+    put_last (l ∷ lines) line more = ap (λ k. number_of l ∷ k) (put_last lines line more)
 
--- a character more in the last line
-pub lengthen_done : (t s : Rows) (lines : List (List ℕ)) (x : ℕ) (r : List ℕ) (b : ℕ) → HoldsLines t lines (x ∷ r) → is_foreign b ≡ false → t.last ≢ largest_side
-    → s.rows.items ≡ with_cell t b → (line_count t ≡ 1 → s.first ≡ t.last + 1) → (line_count t ≢ 1 → s.first ≡ t.first) → s.last ≡ t.last + 1
-    → s.differs ≡ t.differs → HoldsLines s lines ((x ∷ r) ++ b ∷ [])
-lengthen_done t s lines x r b h cell room rows first_one first_more' last differs =
-    let small = with_line t lines x r h in
+-- more characters in the last line
+pub lengthen_done : (t s : Rows) (lines : List (List ℕ)) (x : ℕ) (r more : List ℕ) → HoldsLines t lines (x ∷ r) → list_any is_foreign more ≡ false
+    → t.last + length more ≤ largest_side → s.rows.items ≡ with_bits t (number_of more * 2 ^ t.last) → (line_count t ≡ 1 → s.first ≡ t.last + length more)
+    → (line_count t ≢ 1 → s.first ≡ t.first) → s.last ≡ t.last + length more → s.differs ≡ t.differs → HoldsLines s lines ((x ∷ r) ++ more)
+lengthen_done t s lines x r more h cells room rows first_one first_other last differs =
+    let longer = (x ∷ r) ++ more in
     let lasts : t.last ≡ length (x ∷ r) = h.last_is ∙ last_new lines (x ∷ r) in
-    let within : nat_lt largest_side (length (x ∷ r) + 1) ≡ false = le_test (length (x ∷ r) + 1) (omega (arith, room, small.1, lasts)) in
+    let long_now : t.last + length more ≡ length longer = ap (λ n. n + length more) lasts ∙ sym (length-append (x ∷ r) more) in
+    let lines_now : line_count t ≡ length lines + 1 = counted t lines (x ∷ r) h ∙ count_new lines (x ∷ r) in
     record {
-      rows_are = rows ∙ with_cell_is t lines x r b h;
-      first_is = first_cases (length (lines ++ (x ∷ r) ∷ []) == 1) refl lasts ∙ sym (first_more lines (x ∷ r) b);
-      last_is = last ∙ ap (λ n. n + 1) lasts ∙ sym (length-append (x ∷ r) (b ∷ [])) ∙ sym (last_new lines ((x ∷ r) ++ b ∷ []));
-      differs_is = differs ∙ h.differs_is ∙ same_differ (length (lines ++ (x ∷ r) ∷ []) == 1) refl;
-      cells = foreign_more lines (x ∷ r) b ∙ false_both (has_foreign (lines ++ (x ∷ r) ∷ [])) (is_foreign b) h.cells cell;
-      small = large_length lines (x ∷ r) b h.small ∙ within;
+      rows_are = rows ∙ with_bits_are t lines x r more h;
+      first_is = first_cases (length lines == 0) refl long_now lines_now ∙ sym (first_new lines longer);
+      last_is = last ∙ long_now ∙ sym (last_new lines longer);
+      differs_is = differs ∙ h.differs_is ∙ same_differ (length lines == 0) refl lines_now;
+      cells = any_last (list_any is_foreign) lines longer
+          ∙ false_both (has_foreign lines) (list_any is_foreign longer) (before.0) (list_any-append is_foreign (x ∷ r) more ∙ false_both (list_any is_foreign (x ∷ r)) (list_any is_foreign more) before.1 cells);
+      small = large_longer lines (x ∷ r) longer h.small ∙ le_test (length longer) (omega (arith, room, long_now));
     }
   where
-    first_cases : (v : Bool) → (length (lines ++ (x ∷ r) ∷ []) == 1) ≡ v → t.last ≡ length (x ∷ r)
-        → s.first ≡ (if length (lines ++ (x ∷ r) ∷ []) == 1 then length (x ∷ r) + 1 else first_length (lines ++ (x ∷ r) ∷ []))
-    first_cases true e l = rw e (first_one (counted t lines (x ∷ r) h ∙ eqb-true (length (lines ++ (x ∷ r) ∷ [])) 1 e) ∙ ap (λ n. n + 1) l)
-    first_cases false e l = rw e (first_more' (λ z. eqb-false (length (lines ++ (x ∷ r) ∷ [])) 1 e (sym (counted t lines (x ∷ r) h) ∙ z)) ∙ h.first_is)
+    before : (has_foreign lines ≡ false) × (list_any is_foreign (x ∷ r) ≡ false)
+    before = or_cases (has_foreign lines) (list_any is_foreign (x ∷ r)) (sym (any_last (list_any is_foreign) lines (x ∷ r)) ∙ h.cells)
 
-    same_differ : (v : Bool) → (length (lines ++ (x ∷ r) ∷ []) == 1) ≡ v → differ t.first lines ≡ differ s.first lines
-    same_differ true e = let n = count_new lines (x ∷ r) in let one = eqb-true (length (lines ++ (x ∷ r) ∷ [])) 1 e in differ_none lines t.first s.first (omega arith)
-    same_differ false e = ap (λ k. differ k lines) (sym (first_more' (λ z. eqb-false (length (lines ++ (x ∷ r) ∷ [])) 1 e (sym (counted t lines (x ∷ r) h) ∙ z))))
+    first_cases : (v : Bool) → (length lines == 0) ≡ v → t.last + length more ≡ length ((x ∷ r) ++ more) → line_count t ≡ length lines + 1
+        → s.first ≡ (if length lines == 0 then length ((x ∷ r) ++ more) else first_length lines)
+    first_cases true e l c = rw e (first_one (omega (arith, c, eqb-true (length lines) 0 e)) ∙ l)
+    first_cases false e l c =
+        let some : length lines ≢ 0 = eqb-false (length lines) 0 e in
+        let was : first_length (lines ++ (x ∷ r) ∷ []) ≡ first_length lines = first_new lines (x ∷ r) ∙ rw e refl in
+        rw e (first_other (λ z. some (omega (arith, c, z))) ∙ h.first_is ∙ was)
+
+    same_differ : (v : Bool) → (length lines == 0) ≡ v → line_count t ≡ length lines + 1 → differ t.first lines ≡ differ s.first lines
+    same_differ true e c = differ_none lines t.first s.first (eqb-true (length lines) 0 e)
+    same_differ false e c = let some : length lines ≢ 0 = eqb-false (length lines) 0 e in ap (λ k. differ k lines) (sym (first_other (λ z. some (omega (arith, c, z)))))
 
 -- the last line ends
 pub end_holds : (t s : Rows) (lines : List (List ℕ)) (x : ℕ) (r : List ℕ) → HoldsLines t lines (x ∷ r) → s.rows ≡ t.rows → s.first ≡ t.first
@@ -265,10 +310,6 @@ end_holds t s lines x r h rows first last other same =
       small = ap is_large none ∙ h.small;
     }
   where
-    or_true : (a : Bool) → (a || true) ≡ true
-    or_true true = refl
-    or_true false = refl
-
     differs_cases : (v : Bool) → (t.last == t.first) ≡ v → s.differs ≡ (differ t.first lines || not (t.last == t.first))
     differs_cases true e = rw e (same (eqb-true t.last t.first e) ∙ h.differs_is ∙ sym (or_false (differ t.first lines)))
     differs_cases false e = rw e (other (eqb-false t.last t.first e) ∙ sym (or_true (differ t.first lines)))
@@ -303,14 +344,15 @@ pub lengthened : (t : Rows) (e : Bool) → Held t e → e ≡ false → line_cou
 lengthened t e held never some =
     let r = continues t held.0 held.1 e held.2 held.3 never some in (held.0, r.0, r.1, subst (HoldsLines t held.0) r.2 held.2)
 
-pub begun_goes_on : (t s : Rows) (e v : Bool) (lines : List (List ℕ)) (rest : List ℕ) (b : ℕ) → HoldsLines t lines rest → e ≡ is_ended lines rest → (e ≡ true) ⊎ (line_count t ≡ 0)
-    → ((lines : List (List ℕ)) → HoldsLines t lines [] → Continues v s lines (b ∷ [])) → Continues v s lines (rest ++ b ∷ [])
-begun_goes_on t s e v lines rest b h is why f =
+pub begun_goes_on : (t s : Rows) (e v : Bool) (lines : List (List ℕ)) (rest more : List ℕ) → HoldsLines t lines rest → e ≡ is_ended lines rest
+    → (e ≡ true) ⊎ (line_count t ≡ 0) → ((lines : List (List ℕ)) → HoldsLines t lines [] → Continues v s lines more) → Continues v s lines (rest ++ more)
+begun_goes_on t s e v lines rest more h is why f =
     let none = begins t lines rest e h is why in
-    subst (λ l. Continues v s lines (l ++ b ∷ [])) (sym none) (f lines (subst (HoldsLines t lines) none h))
+    subst (λ l. Continues v s lines (l ++ more)) (sym none) (f lines (subst (HoldsLines t lines) none h))
 
-pub lengthened_goes_on : (t s : Rows) (e v : Bool) (lines : List (List ℕ)) (rest : List ℕ) (b : ℕ) → HoldsLines t lines rest → e ≡ is_ended lines rest → e ≡ false → line_count t ≢ 0
-    → ((lines : List (List ℕ)) (x : ℕ) (r : List ℕ) → HoldsLines t lines (x ∷ r) → Continues v s lines ((x ∷ r) ++ b ∷ [])) → Continues v s lines (rest ++ b ∷ [])
-lengthened_goes_on t s e v lines rest b h is never some f =
+pub lengthened_goes_on : (t s : Rows) (e v : Bool) (lines : List (List ℕ)) (rest more : List ℕ) → HoldsLines t lines rest → e ≡ is_ended lines rest → e ≡ false
+    → line_count t ≢ 0 → ((lines : List (List ℕ)) (x : ℕ) (r : List ℕ) → HoldsLines t lines (x ∷ r) → Continues v s lines ((x ∷ r) ++ more))
+    → Continues v s lines (rest ++ more)
+lengthened_goes_on t s e v lines rest more h is never some f =
     let r = continues t lines rest e h is never some in
-    subst (λ l. Continues v s lines (l ++ b ∷ [])) (sym r.2) (f lines r.0 r.1 (subst (HoldsLines t lines) r.2 h))
+    subst (λ l. Continues v s lines (l ++ more)) (sym r.2) (f lines r.0 r.1 (subst (HoldsLines t lines) r.2 h))

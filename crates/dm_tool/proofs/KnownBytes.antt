@@ -1,7 +1,7 @@
 -- Known bytes that grow in steps.
-use Rattle.std.proofs.Common.{◌≡◌, ◌∙◌, ◌+◌, ◌-◌, ℕ, List, [], ◌++◌, Option, Some, None, sym, ap, length, take, drop, append_assoc, append-nil, length-drop}
+use Rattle.std.proofs.Common.{◌≡◌, ◌∙◌, ◌+◌, ◌-◌, ℕ, List, [], ◌++◌, Option, Some, None, sym, ap, subst, length, take, drop, append_assoc, append-nil, length-drop}
 use Rattle.std.specs.Io.KnownBytes.{Appends, Keeps}
-use Rattle.dm_tool.specs.Devices.{AppendsFront}
+use Rattle.dm_tool.specs.Devices.{AppendsFront, IsPassedOn}
 use Rattle.std.proofs.Math.Seq.{take-add, take-length}
 
 -- known bytes that stay grow by none
@@ -40,3 +40,31 @@ front_then a b c s t all p q e = (s ++ q.0, q.1, e ∙ ap (λ l. s ++ l) q.2 ∙
 -- a beginning of bytes is one of more bytes
 pub front_of_more : (a b : Option (List ℕ)) (s t : List ℕ) → AppendsFront a b s → AppendsFront a b (s ++ t)
 front_of_more a b s t p = (p.0, p.1 ++ t, ap (λ l. l ++ t) p.2 ∙ append_assoc p.0 p.1 t, p.3)
+
+-- ---- bytes that are kept back for a while
+
+-- nothing is passed on
+pub passed_none : (a : Option (List ℕ)) (g : List ℕ) → IsPassedOn a g [] a g
+passed_none a g = ([], append-nil g, appends_none a)
+
+-- more is kept
+pub passed_and_kept : (a b : Option (List ℕ)) (g h bytes new : List ℕ) → IsPassedOn a g [] b h → new ≡ h ++ bytes → IsPassedOn a g bytes b new
+passed_and_kept a b g h bytes new p e =
+    (p.0, ap (λ l. l ++ bytes) (sym (append-nil g) ∙ p.1) ∙ append_assoc p.0 h bytes ∙ ap (λ l. p.0 ++ l) (sym e), p.2)
+
+-- some bytes are passed on or kept, and then more
+pub passed_then : (a b c : Option (List ℕ)) (f g h x y : List ℕ) → IsPassedOn a f x b g → IsPassedOn b g y c h → IsPassedOn a f (x ++ y) c h
+passed_then a b c f g h x y p q = (
+  p.0 ++ q.0,
+  sym (append_assoc f x y) ∙ ap (λ l. l ++ y) p.1 ∙ append_assoc p.0 g y ∙ ap (λ l. p.0 ++ l) q.1 ∙ sym (append_assoc p.0 q.0 h),
+  appends_then a b c p.0 q.0 p.2 q.2,
+)
+
+-- what was kept is written after what was passed on
+pub passed_and_put : (a b c : Option (List ℕ)) (x h : List ℕ) → IsPassedOn a [] x b h → Appends b c h → Appends a c x
+passed_and_put a b c x h p q = subst (Appends a c) (sym p.1) (appends_then a b c p.0 h p.2 q)
+
+-- a beginning of what was kept is written after what was passed on
+pub passed_and_begun : (a b c : Option (List ℕ)) (x h more all : List ℕ) → IsPassedOn a [] x b h → AppendsFront b c h → all ≡ x ++ more → AppendsFront a c all
+passed_and_begun a b c x h more all p q e =
+    front_then a b c p.0 (h ++ more) all p.2 (front_of_more b c h more q) (e ∙ ap (λ l. l ++ more) p.1 ∙ append_assoc p.0 h more)

@@ -12,6 +12,8 @@ pub mod Texts
 pub mod LineCuts
 pub mod RecordSteps
 pub mod KeptRows
+pub mod Fronts
+pub mod PrintedCells
 pub mod OpenRecordTexts
 pub mod RecordStates
 pub mod RecordAnswers
@@ -31,3 +33,6 @@ pub mod EachSplit
 pub mod EachAnswer
 pub mod EachText
 pub mod GoingOn
+pub mod Cuts
+pub mod Flushes
+pub mod Asks

@@ -1,6 +1,7 @@
 -- What is written for a record or a line is one thing.
 use Rattle.std.proofs.Common.{◌≡◌, ℕ, List, Option, Ok, Err, refl, ap, sym, ◌∙◌}
 use Rattle.dm_symbol.specs.declared.Item.{Item}
+use Rattle.dm_symbol.specs.declared.Profile.{Profile}
 use Rattle.dm_symbol.specs.Grid.{GridView}
 use Rattle.dm_symbol.specs.NormalGrid.{IsNormalGrid, HasNormalGrid}
 use Rattle.dm_symbol.proofs.Readings.{one_given}
@@ -24,31 +25,31 @@ one_check_answer border (Ok grid) a b (x, p, e) (y, q, f) =
 one_check_answer border (Err why) a b e f = e ∙ sym f
 
 -- what is written where normal grids are asked for
-one_normalising_answer : (border : Option ℕ) (r : RecordAnswer) (a b : Answer) → IsNormalAnswer border r a → IsNormalAnswer border r b → a ≡ b
-one_normalising_answer border (Ok grid) a b (x, p, e) (y, q, f) =
-    e ∙ ap normalising_answer (one_normal_answer grid (limit_for border grid.size.side) x y p q) ∙ sym f
-one_normalising_answer border (Err why) a b e f = e ∙ sym f
+one_normalising_answer : (border : Option ℕ) (profile : Profile) (r : RecordAnswer) (a b : Answer) → IsNormalAnswer border profile r a → IsNormalAnswer border profile r b → a ≡ b
+one_normalising_answer border profile (Ok grid) a b (x, p, e) (y, q, f) =
+    e ∙ ap normalising_answer (one_normal_answer profile grid (limit_for border grid.size.side) x y p q) ∙ sym f
+one_normalising_answer border profile (Err why) a b e f = e ∙ sym f
 
 -- one thing is written for a record
 pub one_record_answer : (task : Task) (r : RecordAnswer) (a b : Answer) → IsRecordAnswer task r a → IsRecordAnswer task r b → a ≡ b
 one_record_answer (Read border) r a b p q = one_read_answer border r a b p q
 one_record_answer (Check border) r a b p q = one_check_answer border r a b p q
-one_record_answer (Normal border) r a b p q = one_normalising_answer border r a b p q
-one_record_answer Write r a b p q = absurd p
+one_record_answer (Normal border profile) r a b p q = one_normalising_answer border profile r a b p q
+one_record_answer (Write profile) r a b p q = absurd p
 one_record_answer Table r a b p q = absurd p
 
 -- a message with a normal grid has one
-has_normal_grid : (message : List Item) (grid : GridView) → IsNormalGrid message grid → HasNormalGrid message
-has_normal_grid message grid is_normal = rw is_normal.smallest refl
+has_normal_grid : (profile : Profile) (message : List Item) (grid : GridView) → IsNormalGrid profile message grid → HasNormalGrid profile message
+has_normal_grid profile message grid is_normal = rw is_normal.smallest refl
 
 -- one thing is written for a message
-one_message_answer : (message : List Item) (a b : Answer) → IsMessageAnswer message a → IsMessageAnswer message b → a ≡ b
-one_message_answer message a b (normal_grid g p e) (normal_grid h q f) = e ∙ ap grid_answer (normal_grid_is_one message g h p q) ∙ sym f
-one_message_answer message a b (normal_grid g p e) (too_long none f) = absurd (none (has_normal_grid message g p))
-one_message_answer message a b (too_long none e) (normal_grid h q f) = absurd (none (has_normal_grid message h q))
-one_message_answer message a b (too_long none e) (too_long never f) = e ∙ sym f
+one_message_answer : (profile : Profile) (message : List Item) (a b : Answer) → IsMessageAnswer profile message a → IsMessageAnswer profile message b → a ≡ b
+one_message_answer profile message a b (normal_grid g p e) (normal_grid h q f) = e ∙ ap grid_answer (normal_grid_is_one profile message g h p q) ∙ sym f
+one_message_answer profile message a b (normal_grid g p e) (too_long none f) = absurd (none (has_normal_grid profile message g p))
+one_message_answer profile message a b (too_long none e) (normal_grid h q f) = absurd (none (has_normal_grid profile message h q))
+one_message_answer profile message a b (too_long none e) (too_long never f) = e ∙ sym f
 
 -- one thing is written for a message line
-pub one_line_answer : (r : LineAnswer) (a b : Answer) → IsWriteAnswer r a → IsWriteAnswer r b → a ≡ b
-one_line_answer (Ok message) a b p q = one_message_answer message a b p q
-one_line_answer (Err why) a b e f = e ∙ sym f
+pub one_line_answer : (profile : Profile) (r : LineAnswer) (a b : Answer) → IsWriteAnswer profile r a → IsWriteAnswer profile r b → a ≡ b
+one_line_answer profile (Ok message) a b p q = one_message_answer profile message a b p q
+one_line_answer profile (Err why) a b e f = e ∙ sym f

@@ -1,5 +1,6 @@
 -- What is written for a text is one thing.
 use Rattle.std.proofs.Common.{◌≡◌, ◌∙◌, ◌++◌, ℕ, List, [], ◌∷◌, refl, ap, sym, subst}
+use Rattle.dm_symbol.specs.declared.Profile.{Profile}
 use Rattle.dm_tool.specs.declared.task.Task.{Task}
 use Rattle.dm_tool.specs.declared.task.Task.TheVariants.{Read, Check, Normal, Write, Table}
 use Rattle.dm_tool.specs.declared.task.Tally.{Tally}
@@ -24,8 +25,8 @@ matched_unique R one (x ∷ xs) (y ∷ ys) (z ∷ zs) p q =
     ap (λ w. w ∷ ys) (one x y z p.0 q.0) ∙ ap (λ l. z ∷ l) (matched_unique R one xs ys zs p.1 q.1)
 
 -- a line has one answer
-line_answer_is_one : (line : List ℕ) (a b : Answer) → IsAnswerToLine line a → IsAnswerToLine line b → a ≡ b
-line_answer_is_one line a b p q = one_line_answer q.0 a b (subst (λ m. IsWriteAnswer m a) (line_unique line p.0 q.0 p.1 q.1) p.2) q.2
+line_answer_is_one : (profile : Profile) (line : List ℕ) (a b : Answer) → IsAnswerToLine profile line a → IsAnswerToLine profile line b → a ≡ b
+line_answer_is_one profile line a b p q = one_line_answer profile q.0 a b (subst (λ m. IsWriteAnswer profile m a) (line_unique line p.0 q.0 p.1 q.1) p.2) q.2
 
 -- the records of lines have their answers in one way
 record_answers_are_one : (task : Task) (lines : List (List ℕ)) (a b : List Answer) → AreAnswersToRecords task lines a → AreAnswersToRecords task lines b → a ≡ b
@@ -38,16 +39,16 @@ record_answers_are_one task lines a b p q =
 answers_are_one : (task : Task) (lines : List (List ℕ)) (a b : List Answer) → AreAnswersTo task lines a → AreAnswersTo task lines b → a ≡ b
 answers_are_one (Read border) lines a b p q = record_answers_are_one (Read border) lines a b p q
 answers_are_one (Check border) lines a b p q = record_answers_are_one (Check border) lines a b p q
-answers_are_one (Normal border) lines a b p q = record_answers_are_one (Normal border) lines a b p q
-answers_are_one Write lines a b p q = matched_unique IsAnswerToLine line_answer_is_one lines a b p q
+answers_are_one (Normal border profile) lines a b p q = record_answers_are_one (Normal border profile) lines a b p q
+answers_are_one (Write profile) lines a b p q = matched_unique (IsAnswerToLine profile) (line_answer_is_one profile) lines a b p q
 answers_are_one Table lines a b p q = record_answers_are_one Table lines a b p q
 
 -- the lines in which all is closed are one front
 closed_is_one : (task : Task) (lines c d : List (List ℕ)) → AreClosedLines task lines c → AreClosedLines task lines d → c ≡ d
 closed_is_one (Read border) lines c d p q = (last_blank_unique c p.0 d q.0 (sym p.1.whole ∙ q.1.whole) p.1.full q.1.full p.1.blank q.1.blank).0
 closed_is_one (Check border) lines c d p q = (last_blank_unique c p.0 d q.0 (sym p.1.whole ∙ q.1.whole) p.1.full q.1.full p.1.blank q.1.blank).0
-closed_is_one (Normal border) lines c d p q = (last_blank_unique c p.0 d q.0 (sym p.1.whole ∙ q.1.whole) p.1.full q.1.full p.1.blank q.1.blank).0
-closed_is_one Write lines c d p q = p ∙ sym q
+closed_is_one (Normal border profile) lines c d p q = (last_blank_unique c p.0 d q.0 (sym p.1.whole ∙ q.1.whole) p.1.full q.1.full p.1.blank q.1.blank).0
+closed_is_one (Write profile) lines c d p q = p ∙ sym q
 closed_is_one Table lines c d p q = (last_blank_unique c p.0 d q.0 (sym p.1.whole ∙ q.1.whole) p.1.full q.1.full p.1.blank q.1.blank).0
 
 all_answers_are_one : (task : Task) (text : List ℕ) (a b : List Answer) → AreAllAnswers task text a → AreAllAnswers task text b → a ≡ b
@@ -66,14 +67,14 @@ closed_answers_are_one task text a b p q =
 pub one_out : (task : Task) (text a b : List ℕ) (s t : Tally) → IsOut task text a s → IsOut task text b t → (a ≡ b) × (s ≡ t)
 one_out (Read border) text a b s t p q = let same = all_answers_are_one (Read border) text p.0 q.0 p.1 q.1 in (p.2 ∙ ap written same ∙ sym q.2, p.3 ∙ ap tally_of same ∙ sym q.3)
 one_out (Check border) text a b s t p q = let same = all_answers_are_one (Check border) text p.0 q.0 p.1 q.1 in (p.2 ∙ ap written same ∙ sym q.2, p.3 ∙ ap tally_of same ∙ sym q.3)
-one_out (Normal border) text a b s t p q = let same = all_answers_are_one (Normal border) text p.0 q.0 p.1 q.1 in (p.2 ∙ ap written same ∙ sym q.2, p.3 ∙ ap tally_of same ∙ sym q.3)
-one_out Write text a b s t p q = let same = all_answers_are_one Write text p.0 q.0 p.1 q.1 in (p.2 ∙ ap written same ∙ sym q.2, p.3 ∙ ap tally_of same ∙ sym q.3)
+one_out (Normal border profile) text a b s t p q = let same = all_answers_are_one (Normal border profile) text p.0 q.0 p.1 q.1 in (p.2 ∙ ap written same ∙ sym q.2, p.3 ∙ ap tally_of same ∙ sym q.3)
+one_out (Write profile) text a b s t p q = let same = all_answers_are_one (Write profile) text p.0 q.0 p.1 q.1 in (p.2 ∙ ap written same ∙ sym q.2, p.3 ∙ ap tally_of same ∙ sym q.3)
 one_out Table text a b s t p q = (p.1 ∙ sym q.1, p.2 ∙ sym q.2)
 
 -- what is done by a text is one thing
 pub one_done : (task : Task) (text a b : List ℕ) → IsDone task text a → IsDone task text b → a ≡ b
 one_done (Read border) text a b p q = p.2 ∙ ap written (closed_answers_are_one (Read border) text p.0 q.0 p.1 q.1) ∙ sym q.2
 one_done (Check border) text a b p q = p.2 ∙ ap written (closed_answers_are_one (Check border) text p.0 q.0 p.1 q.1) ∙ sym q.2
-one_done (Normal border) text a b p q = p.2 ∙ ap written (closed_answers_are_one (Normal border) text p.0 q.0 p.1 q.1) ∙ sym q.2
-one_done Write text a b p q = p.2 ∙ ap written (closed_answers_are_one Write text p.0 q.0 p.1 q.1) ∙ sym q.2
+one_done (Normal border profile) text a b p q = p.2 ∙ ap written (closed_answers_are_one (Normal border profile) text p.0 q.0 p.1 q.1) ∙ sym q.2
+one_done (Write profile) text a b p q = p.2 ∙ ap written (closed_answers_are_one (Write profile) text p.0 q.0 p.1 q.1) ∙ sym q.2
 one_done Table text a b p q = p.1 ∙ sym q.1

@@ -1,7 +1,7 @@
 -- The facts of an open line, as the line grows and as it ends.
-use Rattle.std.proofs.Common.{◌≡◌, ◌∙◌, ◌+◌, ◌≤◌, ◌<◌, min, ℕ, Bool, true, false, List, [], ◌∷◌, ◌++◌, Option, Some, None, Result, Ok, Err, refl, sym, ap, subst, append_assoc, append-nil, length, length-append, arith, inl, inr}
+use Rattle.std.proofs.Common.{◌≡◌, ◌∙◌, ◌+◌, ◌≤◌, ◌<◌, min, ℕ, Bool, true, false, List, [], ◌∷◌, ◌++◌, Option, Some, None, Result, Ok, Err, refl, sym, ap, subst, append_assoc, append-nil, length, length-append, map, suc, take, arith, inl, inr}
 use Rattle.std.specs.Prelude.{nat_le, if◌then◌else◌, ok_or, ◌↔◌}
-use Rattle.std.proofs.lemmas.Bool.{cases_lt, leb-true, leb-false}
+use Rattle.std.proofs.lemmas.Bool.{cases_lt, le-leb, leb-true, leb-false}
 use Rattle.dm_symbol.specs.declared.Item.{Item}
 use Rattle.dm_symbol.specs.declared.Item.TheVariants.{Byte}
 use Rattle.dm_tool.specs.declared.message_line.LineFault.{LineFault}
@@ -9,7 +9,10 @@ use Rattle.dm_tool.specs.declared.message_line.LineFault.TheVariants.{BadEscape,
 use Rattle.dm_tool.specs.Spellings.{IsSpelling, plain, IsJoining, IsJoined}
 use Rattle.dm_tool.specs.MessageLines.{IsBadEscape, IsLine, most_bytes, most_items}
 use Rattle.dm_tool.specs.LineFacts.{CanBecomeSpelling, LineFacts, IsFaultyLine, IsGoodLine, AreLineFacts, kept}
-use Rattle.dm_tool.specs.OpenLines.{BeginsNoSpelling}
+use Rattle.std.specs.List.{AllByRecursion}
+use Rattle.std.proofs.lemmas.List.{length-map, length-take-le}
+use Rattle.dm_tool.specs.Texts.{HasNoLf}
+use Rattle.dm_tool.specs.OpenLines.{BeginsNoSpelling, IsPlain}
 use Rattle.dm_tool.proofs.Joinings.{front_longest, joining_append, joining_one, joining_unique, spelling_some}
 
 -- a line that stands before what makes it longer by one byte
@@ -82,6 +85,67 @@ good_whole line pending b n known more item good spelling pushed =
       count_is = counted n (length good.front) (length pending) (length (line ++ b ∷ [])) good.count_is long;
       known_is = pushed good.items good.known_is;
     }
+
+-- what is kept of items, and one more, for which there is room
+kept_more : (items all : List Item) (item : Item) → Some items ≡ kept all → length items + 1 ≤ most_items → Some (items ++ item ∷ []) ≡ kept (all ++ item ∷ [])
+kept_more items all item e room = by_test (nat_le (length all) most_items) e
+  where
+    by_test : (t : Bool) → Some items ≡ (if t then Some all else None) → Some (items ++ item ∷ []) ≡ kept (all ++ item ∷ [])
+    by_test true h =
+        let same : items ≡ all = cc in
+        let long : length (all ++ item ∷ []) ≤ most_items = rw length-append (omega (arith, room, ap length same)) in
+        rw (le-leb (length (all ++ item ∷ [])) most_items long) (ap (λ l. Some (l ++ item ∷ [])) same)
+    by_test false h = cc
+
+counted_more : (n k : ℕ) → min (min (n + (0 + 1)) most_bytes + k) most_bytes ≡ min (n + suc k) most_bytes
+counted_more n k = omega arith
+
+-- bytes that stand for themselves
+pub good_plain : (line bytes : List ℕ) (n : ℕ) (items : List Item) → IsGoodLine line n (Some items) [] → AllByRecursion IsPlain bytes
+    → length items + length bytes ≤ most_items → IsGoodLine (line ++ bytes) (min (n + length bytes) most_bytes) (Some (items ++ map Byte bytes)) []
+good_plain line [] n items good plains few =
+    let count : n ≡ min (n + 0) most_bytes = let c = good.count_is in omega arith in
+    subst (λ (l : List ℕ). IsGoodLine l (min (n + 0) most_bytes) (Some (items ++ [])) []) (sym (append-nil line))
+    (subst (λ (l : List Item). IsGoodLine line (min (n + 0) most_bytes) (Some l) []) (sym (append-nil items)) (subst (λ (k : ℕ). IsGoodLine line k (Some items) []) count good))
+good_plain line (b ∷ bytes) n items good plains few =
+    let p = plains.0 in
+    let one = good_whole line [] b n (Some items) (Some (items ++ Byte b ∷ [])) (Byte b) good (plain b p.0 p.1 p.2 refl refl)
+    (λ all e. kept_more items all (Byte b) e (omega (arith, few))) in
+    let more : length (items ++ Byte b ∷ []) + length bytes ≤ most_items = rw length-append (omega (arith, few)) in
+    let rest = good_plain (line ++ b ∷ []) bytes (min (n + (0 + 1)) most_bytes) (items ++ Byte b ∷ []) one plains.1 more in
+    subst (λ (l : List ℕ). IsGoodLine l (min (n + suc (length bytes)) most_bytes) (Some (items ++ map Byte (b ∷ bytes))) []) (append_assoc line (b ∷ []) bytes)
+    (subst (λ (l : List Item). IsGoodLine ((line ++ b ∷ []) ++ bytes) (min (n + suc (length bytes)) most_bytes) (Some l) []) (append_assoc items (Byte b ∷ []) (map Byte bytes))
+    (subst (λ (k : ℕ). IsGoodLine ((line ++ b ∷ []) ++ bytes) k (Some ((items ++ Byte b ∷ []) ++ map Byte bytes)) []) (counted_more n (length bytes)) rest))
+
+kept_few : (items all : List Item) → Some items ≡ kept all → length items ≤ most_items
+kept_few items all e = by_test (nat_le (length all) most_items) refl e
+  where
+    by_test : (t : Bool) → nat_le (length all) most_items ≡ t → Some items ≡ (if t then Some all else None) → length items ≤ most_items
+    by_test true few h = let same : items ≡ all = cc in omega (arith, ap length same, leb-true (length all) most_items few)
+    by_test false few h = cc
+
+no_bytes : (bytes : List ℕ) → length bytes ≡ 0 → bytes ≡ []
+no_bytes [] e = refl
+no_bytes (x ∷ bytes) e = absurd (omega arith)
+
+-- bytes at the front that stand for themselves
+pub good_front : (line bytes pending : List ℕ) (front n : ℕ) (known : Option (List Item)) (old new : List Item) → IsGoodLine line front known pending
+    → length pending ≡ 0 → known ≡ Some old → AllByRecursion IsPlain (take n bytes) → n ≤ length bytes → new ≡ old ++ map Byte (take n bytes)
+    → (length old ≤ most_items → length new ≤ most_items) → IsGoodLine (line ++ take n bytes) (min (front + n) most_bytes) (Some new) pending
+good_front line bytes pending front n known old new good zero_p is plains le added few =
+    let none : pending ≡ [] = no_bytes pending zero_p in
+    let good0 : IsGoodLine line front (Some old) [] = subst (λ (k : Option (List Item)). IsGoodLine line front k []) is (subst (λ (p : List ℕ). IsGoodLine line front known p) none good) in
+    let less : length new ≤ most_items = few (kept_few old good0.items good0.known_is) in
+    let parts : length new ≡ length old + length (take n bytes) = ap length added ∙ length-append old (map Byte (take n bytes)) ∙ ap (λ (k : ℕ). length old + k) (length-map (take n bytes) Byte) in
+    subst (λ (p : List ℕ). IsGoodLine (line ++ take n bytes) (min (front + n) most_bytes) (Some new) p) (sym none)
+    (subst (λ (m : List Item). IsGoodLine (line ++ take n bytes) (min (front + n) most_bytes) (Some m) []) (sym added)
+    (subst (λ (k : ℕ). IsGoodLine (line ++ take n bytes) (min (front + k) most_bytes) (Some (old ++ map Byte (take n bytes))) []) (length-take-le n bytes le)
+    (good_plain line (take n bytes) front old good0 plains (omega arith))))
+
+-- they are no LF
+pub plain_no_lf : (bytes : List ℕ) → AllByRecursion IsPlain bytes → HasNoLf bytes
+plain_no_lf [] h = tt
+plain_no_lf (b ∷ bytes) h = (λ e. let low = h.0.0 in omega arith, plain_no_lf bytes h.1)
 
 column_is : (n front : ℕ) → n ≡ min front most_bytes → min (n + 1) most_bytes ≡ min (front + 1) most_bytes
 column_is n front e = omega arith

@@ -1,5 +1,5 @@
 -- Texts in which a record stands open, as they grow.
-use Rattle.std.proofs.Common.{◌≡◌, ◌≢◌, ◌∙◌, ℕ, true, false, not, List, [], ◌∷◌, ◌++◌, refl, sym, ap, append_assoc, append-nil}
+use Rattle.std.proofs.Common.{◌≡◌, ◌≢◌, ◌∙◌, ℕ, true, false, not, List, [], ◌∷◌, ◌++◌, refl, sym, ap, subst, append_assoc, append-nil}
 use Rattle.std.specs.Prelude.{◌&&◌}
 use Rattle.std.proofs.lemmas.Grind.{flat_map-append}
 use Rattle.dm_tool.specs.Texts.{lf, HasNoLf, ended}
@@ -39,6 +39,18 @@ grown_character text f g lines rest b known n e h =
       };
       facts_are = h ∙ character_is lines rest b ∙ ap (λ k. character_facts k b) (sym e ∙ known.facts_are) ∙ sym (character_is known.lines known.rest b);
     }
+
+-- more characters
+pub grown_characters : (text : List ℕ) (f g : RecordFacts) (lines : List (List ℕ)) (rest more : List ℕ) → AreRecordFacts text f → HasNoLf more
+    → f ≡ facts_of_record lines rest → g ≡ facts_of_record lines (rest ++ more) → AreRecordFacts (text ++ more) g
+grown_characters text f g lines rest [] known n e h =
+    let same : f ≡ g = e ∙ ap (facts_of_record lines) (sym (append-nil rest)) ∙ sym h in
+    subst (λ (k : RecordFacts). AreRecordFacts (text ++ []) k) same (subst (λ (l : List ℕ). AreRecordFacts l f) (sym (append-nil text)) known)
+grown_characters text f g lines rest (b ∷ more) known n e h =
+    let one = grown_character text f (facts_of_record lines (rest ++ b ∷ [])) lines rest b known n.0 e refl in
+    subst (λ (l : List ℕ). AreRecordFacts l g) (append_assoc text (b ∷ []) more)
+    (grown_characters (text ++ b ∷ []) (facts_of_record lines (rest ++ b ∷ [])) g lines (rest ++ b ∷ []) more one n.1 refl
+    (h ∙ ap (facts_of_record lines) (sym (append_assoc rest (b ∷ []) more))))
 
 ended_more : (lines : List (List ℕ)) (line : List ℕ) → ended (lines ++ line ∷ []) ≡ ended lines ++ (line ++ lf ∷ [])
 ended_more lines line = flat_map-append (λ l. l ++ lf ∷ []) lines (line ∷ []) ∙ ap (λ l. ended lines ++ l) (append-nil (line ++ lf ∷ []))

@@ -1,6 +1,7 @@
 -- Pieces of a text that are taken bit by bit.
-use Rattle.std.proofs.Common.{◌≡◌, ◌∙◌, ◌-◌, ℕ, List, ◌++◌, sym, ap, length, length-drop, take, drop, append_assoc}
-use Rattle.std.proofs.lemmas.List.{take-append-drop}
+use Rattle.std.proofs.Common.{◌≡◌, ◌∙◌, ◌+◌, ◌-◌, ◌<◌, ◌≤◌, ℕ, suc, List, [], ◌∷◌, ◌++◌, sym, ap, get_or, length, length-drop, take, drop, append_assoc, arith}
+use Rattle.std.proofs.lemmas.List.{take-append-drop, take_all, take_more}
+use Rattle.std.proofs.Math.Seq.{drop-cons, take-add}
 use Rattle.dm_tool.proofs.KnownBytes.{rest_is}
 
 -- a piece, as what was taken of it, the next bytes and all that is left
@@ -16,3 +17,25 @@ cut_again piece front rest taken whole =
 -- how long the rest is
 pub rest_length : (rest : List ℕ) (taken : ℕ) → length (take (length rest - taken) (drop taken rest)) ≡ length rest - taken
 rest_length rest taken = ap length (rest_is rest taken) ∙ length-drop taken rest
+
+-- what was taken of the bytes after a text, and more of them
+pub go_on : (text bytes : List ℕ) (at n : ℕ) → (text ++ take at bytes) ++ take n (take (length bytes - at) (drop at bytes)) ≡ text ++ take (at + n) bytes
+go_on text bytes at n =
+    append_assoc text (take at bytes) (take n (take (length bytes - at) (drop at bytes)))
+    ∙ ap (λ (l : List ℕ). text ++ (take at bytes ++ take n l)) (rest_is bytes at) ∙ ap (λ (l : List ℕ). text ++ l) (sym (take-add at n bytes))
+
+-- what was taken, and the next byte
+pub go_on_by_one : (text bytes : List ℕ) (i : ℕ) → i < length bytes → (text ++ take i bytes) ++ get_or bytes i 0 ∷ [] ≡ text ++ take (i + 1) bytes
+go_on_by_one text bytes i l =
+    append_assoc text (take i bytes) (get_or bytes i 0 ∷ []) ∙ ap (λ (k : List ℕ). text ++ k) (sym (take_more bytes i 0 l))
+
+-- where the end is reached all is taken
+pub all_taken : (text bytes : List ℕ) (i : ℕ) → length bytes ≤ i → text ++ take i bytes ≡ text ++ bytes
+all_taken text bytes i l = ap (λ (k : List ℕ). text ++ k) (take_all i bytes l)
+
+-- bytes, cut at one of them
+pub cut_at : (bytes : List ℕ) (i b : ℕ) → i < length bytes → get_or bytes i 0 ≡ b → bytes ≡ take i bytes ++ b ∷ drop (i + 1) bytes
+cut_at bytes i b l e =
+    let next : suc i ≡ i + 1 = omega arith in
+    sym (take-append-drop i bytes)
+    ∙ ap (λ (k : List ℕ). take i bytes ++ k) (drop-cons bytes i 0 l ∙ ap (λ (k : ℕ). k ∷ drop (suc i) bytes) e ∙ ap (λ (k : ℕ). b ∷ drop k bytes) next)

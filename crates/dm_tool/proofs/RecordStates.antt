@@ -1,17 +1,19 @@
 -- How an open record is kept, as it grows.
-use Rattle.std.proofs.Common.{◌≡◌, ◌≢◌, ◌∙◌, ℕ, Bool, true, false, List, [], ◌∷◌, ◌++◌, refl, sym, ap, subst, append-nil, length, arith}
+use Rattle.std.proofs.Common.{◌≡◌, ◌≢◌, ◌∙◌, ℕ, Bool, true, false, List, [], ◌∷◌, ◌++◌, ◌<◌, refl, sym, ap, subst, append_assoc, append-nil, length, arith}
 use Rattle.std.specs.Prelude.{◌||◌}
+use Rattle.std.specs.List.{list_any}
+use Rattle.std.proofs.lemmas.List.Folds.{list_any-append}
 use Rattle.dm_tool.specs.declared.rows.Rows.{Rows}
 use Rattle.dm_tool.specs.declared.record.Contents.{Contents}
 use Rattle.dm_tool.specs.declared.record.Contents.TheVariants as kept
-use Rattle.dm_tool.specs.Texts.{lf, last_line}
+use Rattle.dm_tool.specs.Texts.{lf, HasNoLf, last_line}
 use Rattle.dm_tool.specs.Records.{has_foreign, is_foreign, is_large}
 use Rattle.dm_tool.specs.RecordFacts.{RecordContents, Foreign, Large, Cells, RecordFacts, AreRecordFacts, contents_of, facts_of_record}
 use Rattle.dm_tool.specs.OpenRecords.{AreContents, HoldsLines, IsRecordState, contents_seen, is_ended, line_count, rows_seen}
 use Rattle.std.proofs.lemmas.Bool.{eqb-true, eq-eqb}
-use Rattle.dm_tool.proofs.RecordSteps.{contents_passed, foreign_new, foreign_more as foreign_more_line, character_is, character_step, contents_end, no_lines, same_facts}
+use Rattle.dm_tool.proofs.RecordSteps.{any_last, contents_passed, character_is, character_step, contents_end, no_lines, or_cases, same_facts}
 use Rattle.dm_tool.proofs.KeptRows.{seen_is}
-use Rattle.dm_tool.proofs.OpenRecordTexts.{grown_character, grown_end}
+use Rattle.dm_tool.proofs.OpenRecordTexts.{grown_characters, grown_end}
 
 -- the value that is kept
 abbrev pub value : Bool → Contents → RecordFacts
@@ -27,13 +29,15 @@ contents_are (kept.Cells t) lines rest h = seen_is t lines rest h
 pub value_is : (e : Bool) (c : Contents) → (s : IsRecordState e c) → value e c ≡ facts_of_record s.lines s.rest
 value_is e c s = same_facts e (is_ended s.lines s.rest) (contents_seen c) (contents_of s.lines s.rest) s.ended_is (contents_are c s.lines s.rest s.contents_are)
 
-pub not_nothing : (lines : List (List ℕ)) (rest : List ℕ) (b : ℕ) → false ≡ is_ended lines (rest ++ b ∷ [])
-not_nothing lines [] b = refl
-not_nothing lines (x ∷ r) b = refl
+pub not_nothing : (lines : List (List ℕ)) (rest more : List ℕ) → 0 < length more → false ≡ is_ended lines (rest ++ more)
+not_nothing lines [] [] some = absurd (omega arith)
+not_nothing lines [] (y ∷ ys) some = refl
+not_nothing lines (x ∷ r) more some = refl
 
--- one more character is kept
-abbrev pub with_character : (e : Bool) (c d : Contents) (b : ℕ) (s : IsRecordState e c) → AreContents d s.lines (s.rest ++ b ∷ []) → IsRecordState false d
-with_character e c d b s h = record { lines = s.lines; rest = s.rest ++ b ∷ []; ended_is = not_nothing s.lines s.rest b; contents_are = h }
+-- more characters are kept
+abbrev pub with_characters : (e : Bool) (c d : Contents) (more : List ℕ) (s : IsRecordState e c) → 0 < length more → AreContents d s.lines (s.rest ++ more) → IsRecordState false d
+with_characters e c d more s some h =
+    record { lines = s.lines; rest = s.rest ++ more; ended_is = not_nothing s.lines s.rest more some; contents_are = h }
 
 step_contents : (lines : List (List ℕ)) (rest : List ℕ) (b : ℕ)
     → contents_of lines (rest ++ b ∷ []) ≡ character_step (is_ended lines rest || no_lines (contents_of lines rest)) (contents_of lines rest) b
@@ -49,25 +53,32 @@ pub foreign_more : (lines : List (List ℕ)) (rest : List ℕ) (b : ℕ) → is_
 foreign_more lines rest b e = step_contents lines rest b ∙ foreign_step _ (contents_of lines rest) b e
 
 -- after a foreign character
-pub foreign_stays : (lines : List (List ℕ)) (rest : List ℕ) (b : ℕ) → contents_of lines rest ≡ Foreign → contents_of lines (rest ++ b ∷ []) ≡ Foreign
+foreign_stays : (lines : List (List ℕ)) (rest : List ℕ) (b : ℕ) → contents_of lines rest ≡ Foreign → contents_of lines (rest ++ b ∷ []) ≡ Foreign
 foreign_stays lines rest b e = step_contents lines rest b ∙ ap (λ C. character_step (is_ended lines rest || no_lines C) C b) e
 
 -- in a record that is too large
-pub large_stays : (lines : List (List ℕ)) (rest : List ℕ) (b : ℕ) → is_foreign b ≡ false → contents_of lines rest ≡ Large → contents_of lines (rest ++ b ∷ []) ≡ Large
+large_stays : (lines : List (List ℕ)) (rest : List ℕ) (b : ℕ) → is_foreign b ≡ false → contents_of lines rest ≡ Large → contents_of lines (rest ++ b ∷ []) ≡ Large
 large_stays lines rest b n e = step_contents lines rest b ∙ ap (λ C. character_step (is_ended lines rest || no_lines C) C b) e ∙ rw n refl
 
 -- marks stay
-pub mark_stays : (c : Contents) (lines : List (List ℕ)) (rest : List ℕ) (b : ℕ) → is_foreign b ≡ false → ((t : Rows) → c ≢ kept.Cells t) → AreContents c lines rest
+mark_stays : (c : Contents) (lines : List (List ℕ)) (rest : List ℕ) (b : ℕ) → is_foreign b ≡ false → ((t : Rows) → c ≢ kept.Cells t) → AreContents c lines rest
     → AreContents c lines (rest ++ b ∷ [])
 mark_stays kept.Foreign lines rest b n m h = foreign_stays lines rest b h
 mark_stays kept.Large lines rest b n m h = large_stays lines rest b n h
 mark_stays (kept.Cells t) lines rest b n m h = absurd (m t refl)
 
--- the text is longer by the character
-pub grown_by : (text : List ℕ) (f : RecordFacts) (e : Bool) (c d : Contents) (b : ℕ) (s : IsRecordState e c) → AreRecordFacts text f → b ≢ lf → value e c ≡ f
-    → AreContents d s.lines (s.rest ++ b ∷ []) → AreRecordFacts (text ++ b ∷ []) (value false d)
-grown_by text f e c d b s known n is h =
-    grown_character text f (value false d) s.lines s.rest b known n (sym is ∙ value_is e c s) (value_is false d (with_character e c d b s h))
+pub marks_stay : (c : Contents) (lines : List (List ℕ)) (rest more : List ℕ) → list_any is_foreign more ≡ false → ((t : Rows) → c ≢ kept.Cells t)
+    → AreContents c lines rest → AreContents c lines (rest ++ more)
+marks_stay c lines rest [] n m h = subst (AreContents c lines) (sym (append-nil rest)) h
+marks_stay c lines rest (b ∷ more) n m h =
+    let both = or_cases (is_foreign b) (list_any is_foreign more) n in
+    subst (AreContents c lines) (append_assoc rest (b ∷ []) more) (marks_stay c lines (rest ++ b ∷ []) more both.1 m (mark_stays c lines rest b both.0 m h))
+
+-- the text is longer by these characters
+pub grown_by : (text : List ℕ) (f : RecordFacts) (e : Bool) (c d : Contents) (more : List ℕ) (s : IsRecordState e c) → AreRecordFacts text f → HasNoLf more → 0 < length more
+    → value e c ≡ f → AreContents d s.lines (s.rest ++ more) → AreRecordFacts (text ++ more) (value false d)
+grown_by text f e c d more s known n some is h =
+    grown_characters text f (value false d) s.lines s.rest more known n (sym is ∙ value_is e c s) (value_is false d (with_characters e c d more s some h))
 
 some_lines : (lines : List (List ℕ)) (rest : List ℕ) → false ≡ is_ended lines rest → (no_lines (contents_of lines rest) ≡ true → ⊥) → (x : ℕ) × (r : List ℕ) × (rest ≡ x ∷ r)
 some_lines lines (x ∷ r) e n = (x, r, refl)
@@ -115,14 +126,20 @@ marks_ended_by text f c s m known is =
     let r = some_rest_kept c s (mark_some c m) in
     ended_by text f c c s r.0 r.1 known is r.2 (mark_ends c s.lines r.0 r.1 m (subst (AreContents c s.lines) r.2 s.contents_are))
 
-foreign_none : (lines : List (List ℕ)) (rest : List ℕ) (b : ℕ) → has_foreign (lines ++ last_line rest) ≡ false → is_foreign b ≡ false → has_foreign (lines ++ last_line (rest ++ b ∷ [])) ≡ false
-foreign_none lines [] b h n = let g : has_foreign lines ≡ false = rw (append-nil lines) at h in foreign_new lines b ∙ rw (g, n) refl
-foreign_none lines (x ∷ r) b h n = foreign_more_line lines (x ∷ r) b ∙ rw (h, n) refl
+foreign_none : (lines : List (List ℕ)) (rest more : List ℕ) → has_foreign (lines ++ last_line rest) ≡ false → list_any is_foreign more ≡ false
+    → has_foreign (lines ++ last_line (rest ++ more)) ≡ false
+foreign_none lines [] [] h n = h
+foreign_none lines [] (y ∷ ys) h n =
+    let g : has_foreign lines ≡ false = rw (append-nil lines) at h in any_last (list_any is_foreign) lines (y ∷ ys) ∙ rw (g, n) refl
+foreign_none lines (x ∷ r) more h n =
+    let parts = or_cases (has_foreign lines) (list_any is_foreign (x ∷ r)) (sym (any_last (list_any is_foreign) lines (x ∷ r)) ∙ h) in
+    let longer : list_any is_foreign ((x ∷ r) ++ more) ≡ false = list_any-append is_foreign (x ∷ r) more ∙ rw (parts.1, n) refl in
+    any_last (list_any is_foreign) lines ((x ∷ r) ++ more) ∙ rw (parts.0, longer) refl
 
--- a character for which there is no room
-pub large_by : (t : Rows) (lines : List (List ℕ)) (rest : List ℕ) (b : ℕ) → HoldsLines t lines rest → is_foreign b ≡ false → is_large (lines ++ last_line (rest ++ b ∷ [])) ≡ true
-    → contents_of lines (rest ++ b ∷ []) ≡ Large
-large_by t lines rest b h n large = rw (foreign_none lines rest b h.cells n, large) refl
+-- characters for which there is no room
+pub large_by : (t : Rows) (lines : List (List ℕ)) (rest more : List ℕ) → HoldsLines t lines rest → list_any is_foreign more ≡ false
+    → is_large (lines ++ last_line (rest ++ more)) ≡ true → contents_of lines (rest ++ more) ≡ Large
+large_by t lines rest more h n large = rw (foreign_none lines rest more h.cells n, large) refl
 
 -- the states below are told by an equation
 at_false : (e : Bool) (c : Contents) → e ≡ false → IsRecordState e c → IsRecordState false c

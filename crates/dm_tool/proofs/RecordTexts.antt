@@ -38,7 +38,7 @@ some_after these lines n full h e =
     n (blank_is_none these alone (full_some these full))
 
 -- records of lines that end blank, before the records of others
-records_append : (l m : List (List ℕ)) (r s : List (List (List ℕ))) → AreRecords l r → EndsBlank l → AreRecords m s → AreRecords (l ++ m) (r ++ s)
+pub records_append : (l m : List (List ℕ)) (r s : List (List (List ℕ))) → AreRecords l r → EndsBlank l → AreRecords m s → AreRecords (l ++ m) (r ++ s)
 records_append _ m _ s no_line h k = k
 records_append _ m _ s (empty_line lines records g) h k = empty_line (lines ++ m) (records ++ s) (records_append lines m records s g (later_blank [] lines h) k)
 records_append _ m _ s (longest_run these lines records n f b g) h k =

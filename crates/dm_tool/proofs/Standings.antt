@@ -1,8 +1,9 @@
 -- What stands between the bytes of a text that is answered as it comes, at its next byte and at its end.
 use Rattle.std.proofs.Common.{◌≡◌, ◌≢◌, ◌∙◌, ◌≤◌, ◌+◌, ◌↔◌, ◌⊎◌, inl, inr, ℕ, zero, suc, List, [], ◌∷◌, ◌++◌, refl, sym, ap, subst, append-nil, append_assoc, map, length, length-take-le, drop, take, arith, Option, Some, IsSome, Result, Ok, Err, OnOk, OnErr}
 use Rattle.std.specs.Io.KnownBytes.{Appends, Keeps}
-use Rattle.dm_tool.specs.Devices.{AppendsFront}
-use Rattle.dm_tool.proofs.KnownBytes.{appends_kept}
+use Rattle.dm_tool.specs.Devices.{AppendsFront, IsPassedOn}
+use Rattle.dm_tool.proofs.KnownBytes.{appends_kept, passed_and_put}
+use Rattle.dm_symbol.specs.declared.Profile.{Profile}
 use Rattle.dm_tool.specs.declared.task.Task.{Task}
 use Rattle.dm_tool.specs.declared.task.Task.TheVariants.{Read, Check, Normal, Write, Table}
 use Rattle.dm_tool.specs.declared.answering.Answering.{Answering}
@@ -40,29 +41,29 @@ matched_records task (x ∷ records) [] h = absurd h
 matched_records task (x ∷ records) (y ∷ answers) h = (h.0, matched_records task records answers h.1)
 
 -- lines whose messages or faults are matched
-pub matched_lines : (lines : List (List ℕ)) (messages : List LineAnswer) (answers : List Answer) → AreAnswered lines messages → AreMatched IsWriteAnswer messages answers
-    → AreMatched IsAnswerToLine lines answers
-matched_lines [] [] [] p q = tt
-matched_lines [] [] (y ∷ answers) p q = absurd q
-matched_lines [] (x ∷ messages) answers p q = absurd p
-matched_lines (l ∷ lines) [] answers p q = absurd p
-matched_lines (l ∷ lines) (x ∷ messages) [] p q = absurd q
-matched_lines (l ∷ lines) (x ∷ messages) (y ∷ answers) p q = ((x, p.0, q.0), matched_lines lines messages answers p.1 q.1)
+pub matched_lines : (profile : Profile) (lines : List (List ℕ)) (messages : List LineAnswer) (answers : List Answer) → AreAnswered lines messages
+    → AreMatched (IsWriteAnswer profile) messages answers → AreMatched (IsAnswerToLine profile) lines answers
+matched_lines profile [] [] [] p q = tt
+matched_lines profile [] [] (y ∷ answers) p q = absurd q
+matched_lines profile [] (x ∷ messages) answers p q = absurd p
+matched_lines profile (l ∷ lines) [] answers p q = absurd p
+matched_lines profile (l ∷ lines) (x ∷ messages) [] p q = absurd q
+matched_lines profile (l ∷ lines) (x ∷ messages) (y ∷ answers) p q = ((x, p.0, q.0), matched_lines profile lines messages answers p.1 q.1)
 
 -- ---- tasks of grids
 
 pub answers_of_grids : (task : Task) (lines : List (List ℕ)) (answers : List Answer) → AnswersRecords task → AreAnswersToRecords task lines answers → AreAnswersTo task lines answers
 answers_of_grids (Read border) lines answers g h = h
 answers_of_grids (Check border) lines answers g h = h
-answers_of_grids (Normal border) lines answers g h = h
-answers_of_grids Write lines answers g h = absurd g
+answers_of_grids (Normal border profile) lines answers g h = h
+answers_of_grids (Write profile) lines answers g h = absurd g
 answers_of_grids Table lines answers g h = absurd g
 
 pub closed_of_grids : (task : Task) (lines closed : List (List ℕ)) → AnswersRecords task → (after : List (List ℕ)) × IsLastBlank lines closed after → AreClosedLines task lines closed
 closed_of_grids (Read border) lines closed g h = h
 closed_of_grids (Check border) lines closed g h = h
-closed_of_grids (Normal border) lines closed g h = h
-closed_of_grids Write lines closed g h = absurd g
+closed_of_grids (Normal border profile) lines closed g h = h
+closed_of_grids (Write profile) lines closed g h = absurd g
 closed_of_grids Table lines closed g h = absurd g
 
 -- ---- more of the text
@@ -121,12 +122,12 @@ record_closed asked old new piece taken grid answer now is task text answers s =
       matched_append (IsRecordAnswer task) s.2 (grid ∷ []) answers (answer ∷ []) s.4 (subst (λ t. IsRecordAnswer t grid answer) s.0 is, tt),
     )
 
-pub line_open : (old new : LineFacts) (piece : List ℕ) (taken : ℕ) → LeavesLineOpen old piece taken new → Goes (Lines old) piece [] (Lines new)
-line_open old new piece taken now task text answers s = (
+pub line_open : (profile : Profile) (old new : LineFacts) (piece : List ℕ) (taken : ℕ) → LeavesLineOpen old piece taken new → Goes (Lines profile old) piece [] (Lines profile new)
+line_open profile old new piece taken now task text answers s = (
   s.0,
   s.1 ++ [],
   lines_stay_open text s.1 old new piece taken s.2 now,
-  matched_append IsWriteAnswer s.1 [] answers [] s.3 tt,
+  matched_append (IsWriteAnswer profile) s.1 [] answers [] s.3 tt,
 )
 
 -- the bytes up to and with the one that closes the line
@@ -137,9 +138,9 @@ closing piece (b ∷ before) after taken e n =
     ap (λ k. take k piece) more ∙ ap (take (suc (length before + 1))) e
     ∙ ap (λ l. b ∷ l) (closing (before ++ 10 ∷ after) before after (length before + 1) refl refl)
 
-pub line_closed : (old new : LineFacts) (piece : List ℕ) (taken : ℕ) (message : LineAnswer) (answer : Answer) → ClosesLine old piece taken message new
-    → IsWriteAnswer message answer → Goes (Lines old) (take taken piece) (answer ∷ []) (Lines new)
-line_closed old new piece taken message answer now is task text answers s =
+pub line_closed : (profile : Profile) (old new : LineFacts) (piece : List ℕ) (taken : ℕ) (message : LineAnswer) (answer : Answer) → ClosesLine old piece taken message new
+    → IsWriteAnswer profile message answer → Goes (Lines profile old) (take taken piece) (answer ∷ []) (Lines profile new)
+line_closed profile old new piece taken message answer now is task text answers s =
     let front : ClosesLine old (take taken piece) taken message new = record {
       before = now.before;
       after = [];
@@ -152,7 +153,7 @@ line_closed old new piece taken message answer now is task text answers s =
       s.0,
       s.1 ++ message ∷ [],
       line_is_closed text s.1 old new (take taken piece) taken message s.2 front (none_after taken piece),
-      matched_append IsWriteAnswer s.1 (message ∷ []) answers (answer ∷ []) s.3 (is, tt),
+      matched_append (IsWriteAnswer profile) s.1 (message ∷ []) answers (answer ∷ []) s.3 (is, tt),
     )
 
 -- ---- the end
@@ -188,8 +189,8 @@ last_record_ends asked facts grid answer last is task text answers s =
       );
     }
 
-pub lines_end : (facts : LineFacts) → ((line : List ℕ) → AreLineFacts line facts → line ≡ []) → Ends (Lines facts) []
-lines_end facts none task text answers s =
+pub lines_end : (profile : Profile) (facts : LineFacts) → ((line : List ℕ) → AreLineFacts line facts → line ≡ []) → Ends (Lines profile facts) []
+lines_end profile facts none task text answers s =
     let t = s.2 in
     let rest = none t.rest t.left in
     record {
@@ -197,8 +198,8 @@ lines_end facts none task text answers s =
       rest = t.rest;
       split = t.split;
       answered = subst (λ w. AreAnswersTo w (t.lines ++ last_line t.rest) (answers ++ [])) (sym s.0)
-          (subst (λ r. AreMatched IsAnswerToLine (t.lines ++ last_line r) (answers ++ [])) (sym rest)
-          (matched_append IsAnswerToLine t.lines [] answers [] (matched_lines t.lines s.1 answers t.answered s.3) tt));
+          (subst (λ r. AreMatched (IsAnswerToLine profile) (t.lines ++ last_line r) (answers ++ [])) (sym rest)
+          (matched_append (IsAnswerToLine profile) t.lines [] answers [] (matched_lines profile t.lines s.1 answers t.answered s.3) tt));
     }
 
 -- some bytes are the line that the end closes
@@ -206,9 +207,9 @@ last_line_is : (rest : List ℕ) → rest ≢ [] → last_line rest ≡ rest ∷
 last_line_is [] n = absurd (n refl)
 last_line_is (b ∷ rest) n = refl
 
-pub last_line_ends : (facts : LineFacts) (message : LineAnswer) (answer : Answer) → ((line : List ℕ) → AreLineFacts line facts → (line ≢ []) × IsLine line message)
-    → IsWriteAnswer message answer → Ends (Lines facts) (answer ∷ [])
-last_line_ends facts message answer last is task text answers s =
+pub last_line_ends : (profile : Profile) (facts : LineFacts) (message : LineAnswer) (answer : Answer) → ((line : List ℕ) → AreLineFacts line facts → (line ≢ []) × IsLine line message)
+    → IsWriteAnswer profile message answer → Ends (Lines profile facts) (answer ∷ [])
+last_line_ends profile facts message answer last is task text answers s =
     let t = s.2 in
     let here = last t.rest t.left in
     record {
@@ -216,8 +217,8 @@ last_line_ends facts message answer last is task text answers s =
       rest = t.rest;
       split = t.split;
       answered = subst (λ w. AreAnswersTo w (t.lines ++ last_line t.rest) (answers ++ answer ∷ [])) (sym s.0)
-          (subst (λ l. AreMatched IsAnswerToLine (t.lines ++ l) (answers ++ answer ∷ [])) (sym (last_line_is t.rest here.0))
-          (matched_append IsAnswerToLine t.lines (t.rest ∷ []) answers (answer ∷ []) (matched_lines t.lines s.1 answers t.answered s.3) ((message, here.1, is), tt)));
+          (subst (λ l. AreMatched (IsAnswerToLine profile) (t.lines ++ l) (answers ++ answer ∷ [])) (sym (last_line_is t.rest here.0))
+          (matched_append (IsAnswerToLine profile) t.lines (t.rest ∷ []) answers (answer ∷ []) (matched_lines profile t.lines s.1 answers t.answered s.3) ((message, here.1, is), tt)));
     }
 
 -- ---- what is written
@@ -235,7 +236,7 @@ stands_closed task (Records asked facts) text answers s =
       answered = answers_of_grids task t.before answers s.1
           (t.records, t.are_records, matched_records task t.records answers (subst (λ r. AreMatched (IsRecordAnswer task) r answers) t.answered s.4));
     }
-stands_closed task (Lines facts) text answers s =
+stands_closed task (Lines profile facts) text answers s =
     let t = s.2 in
     record {
       lines = t.lines;
@@ -243,26 +244,26 @@ stands_closed task (Lines facts) text answers s =
       split = t.split;
       closed = t.lines;
       are_closed = subst (λ w. AreClosedLines w t.lines t.lines) (sym s.0) refl;
-      answered = subst (λ w. AreAnswersTo w t.lines answers) (sym s.0) (matched_lines t.lines s.1 answers t.answered s.3);
+      answered = subst (λ w. AreAnswersTo w t.lines answers) (sym s.0) (matched_lines profile t.lines s.1 answers t.answered s.3);
     }
 
 -- a task with an input isn't the table
 pub not_table : (task : Task) (state : Answering) (text : List ℕ) (answers : List Answer) → Stands task state text answers → task ≢ Table
 not_table task (Records asked facts) text answers s e = subst AnswersRecords e s.1
-not_table task (Lines facts) text answers s e = let n : Write ≡ Table = sym s.0 ∙ e in cc
+not_table task (Lines profile facts) text answers s e = let n : Write profile ≡ Table = sym s.0 ∙ e in cc
 
 pub done_by : (task : Task) (text : List ℕ) (answers : List Answer) → task ≢ Table → AreClosedAnswers task text answers → IsDone task text (written answers)
 done_by (Read border) text answers n h = (answers, h, refl)
 done_by (Check border) text answers n h = (answers, h, refl)
-done_by (Normal border) text answers n h = (answers, h, refl)
-done_by Write text answers n h = (answers, h, refl)
+done_by (Normal border profile) text answers n h = (answers, h, refl)
+done_by (Write profile) text answers n h = (answers, h, refl)
 done_by Table text answers n h = absurd (n refl)
 
 pub out_by : (task : Task) (text : List ℕ) (answers : List Answer) → task ≢ Table → AreAllAnswers task text answers → IsOut task text (written answers) (tally_of answers)
 out_by (Read border) text answers n h = (answers, h, refl, refl)
 out_by (Check border) text answers n h = (answers, h, refl, refl)
-out_by (Normal border) text answers n h = (answers, h, refl, refl)
-out_by Write text answers n h = (answers, h, refl, refl)
+out_by (Normal border profile) text answers n h = (answers, h, refl, refl)
+out_by (Write profile) text answers n h = (answers, h, refl, refl)
 out_by Table text answers n h = absurd (n refl)
 
 -- the answers so far, joined, are what is done
@@ -279,8 +280,8 @@ pub stands_ended : (task : Task) (state : Answering) (text : List ℕ) (answers 
     → HasEnded task Ended
 stands_ended (Read border) state text answers Ended s h = h
 stands_ended (Check border) state text answers Ended s h = h
-stands_ended (Normal border) state text answers Ended s h = h
-stands_ended Write state text answers Ended s h = h
+stands_ended (Normal border profile) state text answers Ended s h = h
+stands_ended (Write profile) state text answers Ended s h = h
 stands_ended Table state text answers Ended s h = tt
 
 -- ---- what the feeds tell
@@ -295,10 +296,10 @@ pub some_left : {X : Type 0} (x : X) (line : List ℕ) → IsSome (Some x) ↔ (
 some_left x line h = h.0 refl
 
 -- reading, checking and normalising are tasks of grids
-pub one_of_grids : (task : Task) → ((border : Option ℕ) × (task ≡ Read border)) ⊎ (((border : Option ℕ) × (task ≡ Check border)) ⊎ ((border : Option ℕ) × (task ≡ Normal border))) → AnswersRecords task
+pub one_of_grids : (task : Task) → ((border : Option ℕ) × (task ≡ Read border)) ⊎ (((border : Option ℕ) × (task ≡ Check border)) ⊎ ((border : Option ℕ) × (profile : Profile) × (task ≡ Normal border profile))) → AnswersRecords task
 one_of_grids task (inl is) = subst AnswersRecords (sym is.1) tt
 one_of_grids task (inr (inl is)) = subst AnswersRecords (sym is.1) tt
-one_of_grids task (inr (inr is)) = subst AnswersRecords (sym is.1) tt
+one_of_grids task (inr (inr is)) = subst AnswersRecords (sym is.2) tt
 
 -- ---- what the sink takes
 
@@ -318,6 +319,23 @@ pub one_begun : {X E : Type 0} (Goes : List Answer → Type 0) (result : Result 
     → OnErr result (AppendsFront a b answer.text) → OnErr result ((more : List Answer) × Goes more × AppendsFront a b (written more))
 one_begun Goes (Ok x) answer a b goes took = tt
 one_begun Goes (Err e) answer a b goes took = (answer ∷ [], goes, subst (AppendsFront a b) (sym (written_one answer)) took)
+
+-- what holds in any case holds where it is Ok
+pub on_ok : {X E : Type 0} (result : Result X E) (P : Type 0) → P → OnOk result P
+on_ok (Ok x) P p = p
+on_ok (Err e) P p = tt
+
+-- what follows from what holds where it is an error
+pub on_err : {X E : Type 0} (result : Result X E) (P Q : Type 0) → OnErr result P → (P → Q) → OnErr result Q
+on_err (Ok x) P Q p f = tt
+on_err (Err e) P Q p f = f p
+
+-- answers that were gathered are written in the end
+pub gathered_put : {X E : Type 0} (Goes Counted : List Answer → Type 0) (result : Result X E) (a b c : Option (List ℕ)) (more : List Answer) (left : List ℕ) → Goes more
+    → Counted more → IsPassedOn a [] (written more) b left → OnOk result (Appends b c left)
+    → OnOk result ((more : List Answer) × Goes more × Appends a c (written more) × Counted more)
+gathered_put Goes Counted (Ok x) a b c more left goes counted passed took = (more, goes, passed_and_put a b c (written more) left passed took, counted)
+gathered_put Goes Counted (Err e) a b c more left goes counted passed took = tt
 
 -- a flush after the last answer changes no byte
 pub all_flushed : {X E : Type 0} {Goes : List Answer → Type 0} {Counted : List Answer → Type 0} (result : Result X E) (a b c : Option (List ℕ))

@@ -2,6 +2,7 @@
 use Rattle.std.specs.Prelude.{◌≡◌, ◌/◌, ℕ, Bool, true, false, List, [], ◌∷◌, ◌++◌, map, flat_map, codes, if◌then◌else◌, Option, Some, None, Result, Ok, Err}
 use Rattle.std.specs.Fmt.{decimal}
 use Rattle.dm_symbol.specs.declared.Item.{Item}
+use Rattle.dm_symbol.specs.declared.Profile.{Profile}
 use Rattle.dm_symbol.specs.declared.Reading.{Reading}
 use Rattle.dm_symbol.specs.declared.ReadFault.{ReadFault}
 use Rattle.dm_symbol.specs.declared.NormalFault.{NormalFault}
@@ -93,37 +94,37 @@ IsCheckAnswer border (Ok grid) answer =
     (reading : Result Reading ReadFault) × ReadAnswer grid (limit_for border grid.size.side) reading × (answer ≡ checking_answer grid.size.side reading)
 IsCheckAnswer border (Err why) answer = answer ≡ refusal_answer (record_refusal why)
 
--- What is written for a record whose normal grid is asked for.
-abbrev pub IsNormalAnswer : Option ℕ → RecordAnswer → Answer → Type 0
-IsNormalAnswer border (Ok grid) answer =
-    (normal : Result GridView NormalFault) × NormalAnswer grid (limit_for border grid.size.side) normal × (answer ≡ normalising_answer normal)
-IsNormalAnswer border (Err why) answer = answer ≡ blank_refusal_answer (record_refusal why)
+-- What is written for a record whose normal grid under a profile is asked for.
+abbrev pub IsNormalAnswer : Option ℕ → Profile → RecordAnswer → Answer → Type 0
+IsNormalAnswer border profile (Ok grid) answer =
+    (normal : Result GridView NormalFault) × NormalAnswer profile grid (limit_for border grid.size.side) normal × (answer ≡ normalising_answer normal)
+IsNormalAnswer border profile (Err why) answer = answer ≡ blank_refusal_answer (record_refusal why)
 
 -- The task answers records: it is none of the other two.
 abbrev pub AnswersRecords : Task → Type 0
 AnswersRecords (Read border) = Unit {0}
 AnswersRecords (Check border) = Unit {0}
-AnswersRecords (Normal border) = Unit {0}
-AnswersRecords Write = ⊥
+AnswersRecords (Normal border profile) = Unit {0}
+AnswersRecords (Write profile) = ⊥
 AnswersRecords Table = ⊥
 
 -- What is written for a record.
 abbrev pub IsRecordAnswer : Task → RecordAnswer → Answer → Type 0
 IsRecordAnswer (Read border) record_answer answer = IsReadAnswer border record_answer answer
 IsRecordAnswer (Check border) record_answer answer = IsCheckAnswer border record_answer answer
-IsRecordAnswer (Normal border) record_answer answer = IsNormalAnswer border record_answer answer
-IsRecordAnswer Write record_answer answer = ⊥
+IsRecordAnswer (Normal border profile) record_answer answer = IsNormalAnswer border profile record_answer answer
+IsRecordAnswer (Write profile) record_answer answer = ⊥
 IsRecordAnswer Table record_answer answer = ⊥
 
--- What is written for a message: its normal grid, or that it has none.
-pub data IsMessageAnswer (message : List Item) (answer : Answer) : Type 0 where
-  normal_grid : (grid : GridView) → IsNormalGrid message grid → answer ≡ grid_answer grid → IsMessageAnswer message answer
-  too_long : (HasNormalGrid message → ⊥) → answer ≡ blank_refusal_answer too_long_refusal → IsMessageAnswer message answer
+-- What is written for a message: its normal grid under a profile, or that it has none.
+pub data IsMessageAnswer (profile : Profile) (message : List Item) (answer : Answer) : Type 0 where
+  normal_grid : (grid : GridView) → IsNormalGrid profile message grid → answer ≡ grid_answer grid → IsMessageAnswer profile message answer
+  too_long : (HasNormalGrid profile message → ⊥) → answer ≡ blank_refusal_answer too_long_refusal → IsMessageAnswer profile message answer
 
--- What is written for a message line.
-abbrev pub IsWriteAnswer : LineAnswer → Answer → Type 0
-IsWriteAnswer (Ok message) answer = IsMessageAnswer message answer
-IsWriteAnswer (Err why) answer = answer ≡ blank_refusal_answer (line_refusal why)
+-- What is written for a message line under a profile.
+abbrev pub IsWriteAnswer : Profile → LineAnswer → Answer → Type 0
+IsWriteAnswer profile (Ok message) answer = IsMessageAnswer profile message answer
+IsWriteAnswer profile (Err why) answer = answer ≡ blank_refusal_answer (line_refusal why)
 
 -- ---- the table
 

@@ -1,10 +1,13 @@
 -- The program's command line, in the words of clap, and the task that its matches name.
-use Rattle.std.specs.Prelude.{◌≡◌, ◌<◌, ◌^◌, ℕ, true, List, map, Option, Some, None, codes, pos}
+use Rattle.std.specs.Prelude.{◌≡◌, ◌≢◌, ◌<◌, ◌^◌, ℕ, true, List, map, Option, Some, None, codes, pos}
 use Rattle.std.specs.Str.Parse.{IsNumeral, signed_digits_value, without_leading_sign}
 use Rattle.std.specs.Borrow.{Bor}
 use Rattle.clap.specs.Walk.{Row, Rule, Text, first_of}
 use Rattle.clap.specs.Simple.{App, Shape, new_app, new_rule, new_shape, with_rule, with_subcommand}
+use Rattle.clap.specs.declared.builder.action.ArgAction.TheVariants.{SetTrue}
 use Rattle.clap.specs.declared.builder.value_parser.ValueParser.TheVariants as vp
+use Rattle.dm_symbol.specs.declared.Profile.{Profile}
+use Rattle.dm_symbol.specs.declared.Profile.TheVariants.{Ascii, Shorter}
 use Rattle.dm_tool.specs.declared.task.Task.{Task}
 use Rattle.dm_tool.specs.declared.task.Task.TheVariants.{Read, Check, Normal, Write, Table}
 
@@ -19,9 +22,21 @@ border_rule = record (new_rule (codes "border")) {
   parser = Some (vp.Signed (pos 0) (pos 65535));
 }
 
--- a subcommand with this option
+-- the flag `--shorter`
+abbrev pub shorter_rule : Rule
+shorter_rule = record (new_rule (codes "shorter")) { long = Some (codes "shorter"); action = Some SetTrue }
+
+-- a subcommand with the option alone
 abbrev pub with_border : Text → Shape
 with_border name = (with_rule (new_app name) border_rule).top
+
+-- a subcommand with the flag alone
+abbrev pub with_shorter : Text → Shape
+with_shorter name = (with_rule (new_app name) shorter_rule).top
+
+-- a subcommand with both
+abbrev pub with_both : Text → Shape
+with_both name = (with_rule (with_rule (new_app name) border_rule) shorter_rule).top
 
 -- the command, which wants a subcommand and has none for help
 abbrev pub top_app : App
@@ -31,8 +46,8 @@ top_app = let a = new_app (codes "dm_tool") in
 -- the command with its five subcommands
 abbrev pub dm_app : App
 dm_app = with_subcommand (with_subcommand (with_subcommand (with_subcommand (with_subcommand top_app
-    (with_border (codes "read"))) (with_border (codes "check"))) (with_border (codes "normal")))
-    (new_shape (codes "write"))) (new_shape (codes "table"))
+    (with_border (codes "read"))) (with_border (codes "check"))) (with_both (codes "normal")))
+    (with_shorter (codes "write"))) (new_shape (codes "table"))
 
 -- the text is decimal digits, after one sign or none, which with that sign write n, a number of 0 to 65535: `+007` is 7, and `-0` is 0
 abbrev pub IsBorderLimit : Text → ℕ → Type 0
@@ -43,12 +58,18 @@ abbrev pub GivesLimit : List Row → Option ℕ → Type 0
 GivesLimit rows None = first_of (codes "border") rows ≡ None
 GivesLimit rows (Some n) = (text : Text) × (first_of (codes "border") rows ≡ Some text) × IsBorderLimit text n
 
+-- the matches choose this profile: `Shorter` exactly where they have the text `true` for the flag, which clap puts there where the flag
+-- is given
+abbrev pub GivesProfile : List Row → Profile → Type 0
+GivesProfile rows Shorter = first_of (codes "shorter") rows ≡ Some (codes "true")
+GivesProfile rows Ascii = first_of (codes "shorter") rows ≢ Some (codes "true")
+
 -- the subcommand of this name and with these matches is this task
 abbrev pub IsTaskOf : Text → List Row → Task → Type 0
 IsTaskOf name rows (Read limit) = (name ≡ codes "read") × GivesLimit rows limit
 IsTaskOf name rows (Check limit) = (name ≡ codes "check") × GivesLimit rows limit
-IsTaskOf name rows (Normal limit) = (name ≡ codes "normal") × GivesLimit rows limit
-IsTaskOf name rows Write = name ≡ codes "write"
+IsTaskOf name rows (Normal limit profile) = (name ≡ codes "normal") × GivesLimit rows limit × GivesProfile rows profile
+IsTaskOf name rows (Write profile) = (name ≡ codes "write") × GivesProfile rows profile
 IsTaskOf name rows Table = name ≡ codes "table"
 
 -- the matches name this task by their subcommand

@@ -18,8 +18,8 @@ IsEndingOf (Err run.Read) status line = Ends 3 (codes "dm_tool: read failed") st
 IsEndingOf (Err run.Write) status line = Ends 3 (codes "dm_tool: write failed") status line
 IsEndingOf (Err run.TooMuchInput) status line = Ends 3 (codes "dm_tool: too much input") status line
 
--- after a command line that names no task: 2 with the usage for one that isn't known, 3 for want of memory
+-- where the command line gave no task: 2 with the usage where it names none, 3 for want of memory
 abbrev pub IsEndingOfCall : CallFault → ℕ → List ℕ → Type 0
 IsEndingOfCall Usage status line =
-    Ends 2 (codes "dm_tool: usage: dm_tool read|check|normal [--border N] | write | table") status line
+    Ends 2 (codes "dm_tool: usage: dm_tool read|check [--border N] | normal [--border N] [--shorter] | write [--shorter] | table") status line
 IsEndingOfCall Memory status line = Ends 3 (codes "dm_tool: no memory") status line

@@ -17,3 +17,5 @@ pub mod Refusals
 pub mod Answers
 pub mod Runs
 pub mod Standings
+pub mod Cuts
+pub mod TestDevices

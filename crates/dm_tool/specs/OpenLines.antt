@@ -1,5 +1,5 @@
 -- What the bytes of a spelling come to, one after another.
-use Rattle.std.specs.Prelude.{◌≡◌, ℕ, List, [], ◌∷◌, ◌++◌}
+use Rattle.std.specs.Prelude.{◌≡◌, ◌≢◌, ◌≤◌, ℕ, List, [], ◌∷◌, ◌++◌}
 use Rattle.dm_symbol.specs.declared.Item.{Item}
 use Rattle.dm_tool.specs.Spellings.{IsSpelling}
 use Rattle.dm_tool.specs.LineFacts.{CanBecomeSpelling, LineFacts, Faulty, Good}
@@ -9,6 +9,10 @@ use Rattle.dm_tool.specs.declared.spelling.Next.{Next}
 use Rattle.dm_tool.specs.declared.spelling.Next.TheVariants as next
 use Rattle.dm_tool.specs.declared.open_line.State.{State}
 use Rattle.dm_tool.specs.declared.open_line.State.TheVariants as state
+
+-- A byte that stands for itself: 32 to 126, but not the backslash, which is 92.
+abbrev pub IsPlain : ℕ → Type 0
+IsPlain b = (32 ≤ b) × (b ≤ 126) × (b ≢ 92)
 
 -- No spelling stands at the front of these bytes.
 abbrev pub BeginsNoSpelling : List ℕ → Type 0

@@ -1,12 +1,13 @@
 -- How an open record is kept: as rows of cells, each a number.
-use Rattle.std.specs.Prelude.{◌≡◌, ◌==◌, ◌&&◌, ◌+◌, ◌*◌, ℕ, Bool, true, false, not, if◌then◌else◌, List, [], ◌∷◌, ◌++◌, length, map, Option, Some, None}
-use Rattle.std.specs.List.{range_with_len}
+use Rattle.std.specs.Prelude.{◌≡◌, ◌==◌, ◌&&◌, ◌+◌, ◌*◌, ◌<◌, ◌≤◌, ℕ, Bool, true, false, not, if◌then◌else◌, List, [], ◌∷◌, ◌++◌, length, map, take, Option, Some, None}
+use Rattle.std.specs.List.{list_any, range_with_len}
 use Rattle.dm_symbol.specs.Grid.{is_dark_in}
+use Rattle.dm_tool.specs.declared.front.Front.{Front}
 use Rattle.dm_tool.specs.declared.rows.Rows.{Rows}
 use Rattle.dm_tool.specs.declared.record.Contents.{Contents}
 use Rattle.dm_tool.specs.declared.record.Contents.TheVariants as kept
 use Rattle.dm_tool.specs.Texts.{last_line}
-use Rattle.dm_tool.specs.Records.{IsClosedRecord, has_foreign, is_large}
+use Rattle.dm_tool.specs.Records.{IsClosedRecord, has_foreign, is_foreign, is_large}
 use Rattle.dm_tool.specs.RecordFacts.{AreRecordFacts, RecordContents, RecordFacts, Foreign, Large, Cells, contents_of, facts_of_record, differ, first_length, last_length, is_nothing}
 
 -- A character is a dark cell.
@@ -54,6 +55,19 @@ pub record HoldsLines (t : Rows) (lines : List (List ℕ)) (rest : List ℕ) : T
   pub differs_is : t.differs ≡ differ t.first lines
   pub cells : has_foreign (lines ++ last_line rest) ≡ false
   pub small : is_large (lines ++ last_line rest) ≡ false
+
+-- The cells are those of these characters: 1 to 64, each of them 0 or 1.
+pub record AreCells (characters : List ℕ) (front : Front) : Type 0 where
+  pub bits_are : front.bits ≡ number_of characters
+  pub count_is : front.count ≡ length characters
+  pub some : 0 < front.count
+  pub few : front.count ≤ 64
+  pub cells : list_any is_foreign characters ≡ false
+
+-- The cells are those of the characters at the front of a text.
+pub record IsFrontOf (text : List ℕ) (front : Front) : Type 0 where
+  pub within : front.count ≤ length text
+  pub cells : AreCells (take front.count text) front
 
 -- The last byte of lines, each ended by LF, and a rest is LF.
 abbrev pub is_ended : List (List ℕ) → List ℕ → Bool

@@ -17,8 +17,8 @@ AreLfs bytes = AllByRecursion (λ b. b ≡ lf) bytes
 abbrev pub AreFullLines : List (List ℕ) → Type 0
 AreFullLines lines = AllByRecursion (λ line. (line ≢ []) × HasNoLf line) lines
 
--- A text in which a record stands open, or none does: empty lines, lines that aren't empty, and a rest without LF. The lines and the rest
--- are what is known of the record.
+-- A text that closes no record: empty lines, lines that aren't empty, and a rest without LF. The lines and the rest are what is known of the
+-- record that stands open; where both are empty, none does.
 pub record IsOpenRecord (text : List ℕ) (lines : List (List ℕ)) (rest : List ℕ) : Type 0 where
   pub blank : List ℕ
   pub are_lfs : AreLfs blank

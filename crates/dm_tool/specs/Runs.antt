@@ -1,5 +1,6 @@
 -- What is written for a whole text, and how reading and writing it ends.
-use Rattle.std.specs.Prelude.{◌≡◌, ◌≢◌, ◌≤◌, ◌⊎◌, ℕ, not, List, [], ◌∷◌, ◌++◌, length, count_by, flat_map}
+use Rattle.std.specs.Prelude.{◌≡◌, ◌≢◌, ◌≤◌, ◌⊎◌, ◌+◌, nat_lt, if◌then◌else◌, ℕ, not, List, [], ◌∷◌, ◌++◌, length, count_by, flat_map}
+use Rattle.dm_symbol.specs.declared.Profile.{Profile}
 use Rattle.dm_tool.specs.declared.task.Task.{Task}
 use Rattle.dm_tool.specs.declared.task.Task.TheVariants.{Write, Table}
 use Rattle.dm_tool.specs.declared.task.Tally.{Tally}
@@ -22,9 +23,9 @@ AreMatched Matches _ _ = ⊥
 abbrev pub IsAnswerToRecord : Task → List (List ℕ) → Answer → Type 0
 IsAnswerToRecord task lines answer = IsRecordAnswer task (record_of lines) answer
 
--- The answer to a message line.
-abbrev pub IsAnswerToLine : List ℕ → Answer → Type 0
-IsAnswerToLine line answer = (message : LineAnswer) × IsLine line message × IsWriteAnswer message answer
+-- The answer to a message line under a profile.
+abbrev pub IsAnswerToLine : Profile → List ℕ → Answer → Type 0
+IsAnswerToLine profile line answer = (message : LineAnswer) × IsLine line message × IsWriteAnswer profile message answer
 
 -- The answers to the records in some lines, in order.
 abbrev pub AreAnswersToRecords : Task → List (List ℕ) → List Answer → Type 0
@@ -33,7 +34,7 @@ AreAnswersToRecords task lines answers =
 
 -- The answers to all records or message lines of some lines, in order.
 abbrev pub AreAnswersTo : Task → List (List ℕ) → List Answer → Type 0
-AreAnswersTo Write lines answers = AreMatched IsAnswerToLine lines answers
+AreAnswersTo (Write profile) lines answers = AreMatched (IsAnswerToLine profile) lines answers
 AreAnswersTo task lines answers = AreAnswersToRecords task lines answers
 
 -- The answers to all records or message lines of a text. The end of the text closes the last one.
@@ -46,7 +47,7 @@ pub record AreAllAnswers (task : Task) (text : List ℕ) (answers : List Answer)
 -- Of the lines of a text that LF ends, the front in which every record or message line is closed: for message lines all of them, for
 -- records those up to the last empty line.
 abbrev pub AreClosedLines : Task → List (List ℕ) → List (List ℕ) → Type 0
-AreClosedLines Write lines closed = closed ≡ lines
+AreClosedLines (Write profile) lines closed = closed ≡ lines
 AreClosedLines task lines closed = (after : List (List ℕ)) × IsLastBlank lines closed after
 
 -- The answers to the records or message lines that are closed within a text: a record by an empty line after it, a message line by its LF.
@@ -134,3 +135,12 @@ pub record IsBroken (task : Task) (most : ℕ) (Gave : List ℕ → Type 0) (End
   pub gave : Gave text
   pub within : length text ≤ most
   pub began : IsBegunDone task text TookFront ⊎ (HasEnded task Ended × IsBegunOut task text TookFront)
+
+-- Up to which byte, counted from the first, may be asked where so many were given: up to `most`, and where all of these have come one more.
+abbrev pub most_asked : ℕ → ℕ → ℕ
+most_asked most given = if nat_lt given most then most else most + 1
+
+-- There was no flush, Ok or not, or one, when all was answered and the sink had taken all that is written for it.
+abbrev pub IsFlushedAtEnd : Task → ℕ → (List ℕ → Type 0) → Type 0 → (List ℕ → Type 0) → Type 0 → Type 0 → Type 0
+IsFlushedAtEnd task most Gave Ended Took Unflushed FlushedOnce =
+    Unflushed ⊎ ((tally : Tally) × IsAnswered task most Gave Ended Took tally × FlushedOnce)

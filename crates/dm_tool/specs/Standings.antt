@@ -13,8 +13,8 @@ use Rattle.dm_tool.specs.Runs.{AreAllAnswers, AreClosedAnswers, AreMatched, writ
 abbrev pub Stands : Task → Answering → List ℕ → List Answer → Type 0
 Stands task (Records asked facts) text answers =
     (asked ≡ task) × AnswersRecords task × (records : List RecordAnswer) × AreRecordsOfText text records facts × AreMatched (IsRecordAnswer task) records answers
-Stands task (Lines facts) text answers =
-    (task ≡ Write) × (lines : List LineAnswer) × AreOfText text lines facts × AreMatched IsWriteAnswer lines answers
+Stands task (Lines profile facts) text answers =
+    (task ≡ Write profile) × (lines : List LineAnswer) × AreOfText text lines facts × AreMatched (IsWriteAnswer profile) lines answers
 
 -- Some text has come.
 abbrev pub StandsAnywhere : Answering → Type 0

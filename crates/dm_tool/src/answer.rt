@@ -11,7 +11,9 @@ use crate::refusal::{
 };
 use crate::task::Task;
 use arrayvec::ArrayVec;
-use dm_symbol::{Grid, MOST_BLOCKS, Message, Reading, normal, read, usual_limit, write};
+use dm_symbol::{
+    Grid, MOST_BLOCKS, Message, Profile, Reading, normal_as, read, usual_limit, write_as,
+};
 use std::marker::Model;
 
 /// What is written for a record or a line, its LFs included, and whether it is a refusal.
@@ -88,7 +90,8 @@ impl Answer {
 
     /// What is written.
     pub(crate) fn text(&self) -> &[u8]
-        ensures { result.now ≡ self.now.text }
+        ensures value { result.now ≡ self.now.text }
+        ensures most { length result.now ≤ MOST_ANSWER }
     {
         self.text.as_slice()
     }
@@ -111,17 +114,17 @@ pub(crate) fn answer_record(task: Task, found: &Result<Grid, RecordFault>, answe
     match task {
         Task::Read(border) => answer_read(border, found, answer),
         Task::Check(border) => answer_check(border, found, answer),
-        Task::Normal(border) => answer_normal(border, found, answer),
-        Task::Write | Task::Table => unreachable!(),
+        Task::Normal(border, profile) => answer_normal(border, profile, found, answer),
+        Task::Write(_) | Task::Table => unreachable!(),
     }
 }
 
-/// What is written for a message line.
-pub(crate) fn answer_line(line: &Result<Message, LineFault>, answer: &mut Answer)
-    ensures { IsWriteAnswer line.now answer.new }
+/// What is written for a message line under a profile.
+pub(crate) fn answer_line(profile: Profile, line: &Result<Message, LineFault>, answer: &mut Answer)
+    ensures { IsWriteAnswer profile line.now answer.new }
 {
     match line {
-        Ok(message) => match write(message) {
+        Ok(message) => match write_as(profile, message) {
             Ok(grid) => answer.be_grid(&grid),
             Err(_) => answer.be_blank_refusal(too_long_refusal().as_slice()),
         },
@@ -155,12 +158,17 @@ fn answer_check(border: Option<u16>, found: &Result<Grid, RecordFault>, answer: 
     }
 }
 
-/// The normal grid of what a record's grid says.
-fn answer_normal(border: Option<u16>, found: &Result<Grid, RecordFault>, answer: &mut Answer)
-    ensures { IsNormalAnswer border found.now answer.new }
+/// The normal grid under a profile of what a record's grid says.
+fn answer_normal(
+    border: Option<u16>,
+    profile: Profile,
+    found: &Result<Grid, RecordFault>,
+    answer: &mut Answer,
+)
+    ensures { IsNormalAnswer border profile found.now answer.new }
 {
     match found {
-        Ok(grid) => match normal(grid, limit_for(border, grid)) {
+        Ok(grid) => match normal_as(profile, grid, limit_for(border, grid)) {
             Ok(normal) => answer.be_grid(&normal),
             Err(fault) => answer.be_blank_refusal(normal_refusal(fault).as_slice()),
         },

@@ -7,14 +7,15 @@ use crate::answer::{Answer, answer_line, answer_record};
 use crate::grid_feed::{Fed, GridFeed};
 use crate::line_feed::{LineFed, LineFeed};
 use crate::task::Task;
+use dm_symbol::Profile;
 
 /// Cuts a text that comes in pieces into what its task asks about, and answers each record or line.
 #[derive(Drop)]
 pub(crate) enum Answering {
     /// Records, with the task that asks about their grids.
     Records(Task, GridFeed),
-    /// Message lines, to be written as grids.
-    Lines(LineFeed),
+    /// Message lines, to be written as grids under a profile.
+    Lines(Profile, LineFeed),
 }
 
 impl Answering {
@@ -24,11 +25,11 @@ impl Answering {
         ensures none { IfNone result (task ≡ Task.Table) }
     {
         match task {
-            Task::Read(_) | Task::Check(_) | Task::Normal(_) => Some(Answering::Records(
+            Task::Read(_) | Task::Check(_) | Task::Normal(_, _) => Some(Answering::Records(
                 task,
                 GridFeed::new(),
             )),
-            Task::Write => Some(Answering::Lines(LineFeed::new())),
+            Task::Write(profile) => Some(Answering::Lines(profile, LineFeed::new())),
             Task::Table => None,
         }
     }
@@ -54,12 +55,12 @@ impl Answering {
                     }
                 }
             }
-            Answering::Lines(feed) => {
+            Answering::Lines(profile, feed) => {
                 let LineFed { taken, closed } = feed.feed(piece);
                 match closed {
                     None => None,
                     Some(line) => {
-                        answer_line(&line, answer);
+                        answer_line(*profile, &line, answer);
                         Some(taken)
                     }
                 }
@@ -81,10 +82,10 @@ impl Answering {
                     true
                 }
             },
-            Answering::Lines(feed) => match feed.finish() {
+            Answering::Lines(profile, feed) => match feed.finish() {
                 None => false,
                 Some(line) => {
-                    answer_line(&line, answer);
+                    answer_line(*profile, &line, answer);
                     true
                 }
             },

@@ -7,12 +7,13 @@ ghost use Rattle.clap.specs.Matches.{found_of};
 ghost use Rattle.clap.specs.Values.{kind_of};
 ghost use Rattle.clap.specs.Simple.{app_of, shape_of, subcommand_of, subcommand_rows_of, new_shape, with_subcommand};
 ghost use Rattle.clap.specs.declared.builder.command.Command.TheViews.{out-Command};
-ghost use Rattle.dm_tool.specs.CommandLine.{GivesLimit, IsTaskOf, NamesTask, border_rule, dm_app, texts_of, top_app, with_border as bordered};
+ghost use Rattle.dm_tool.specs.CommandLine.{GivesLimit, GivesProfile, IsTaskOf, NamesTask, border_rule, dm_app, shorter_rule, texts_of, top_app, with_border as bordered, with_both as both, with_shorter as shortened};
 ghost use Rattle.dm_tool.specs.CommandReads.{HasNoTask, IsReadable};
 
 use crate::task::{CallFault, Task};
 use clap::error::ErrorKind;
-use clap::{Arg, ArgMatches, Command, Error};
+use clap::{Arg, ArgAction, ArgMatches, Command, Error};
+use dm_symbol::Profile;
 use std::alloc::{AllocError, Global};
 
 /// The option `--border N`.
@@ -25,7 +26,17 @@ fn border<'a>(alloc: Global) -> Arg<'a>
         .value_parser(clap::value_parser!(u16))
 }
 
-/// A subcommand with that option.
+/// The flag `--shorter`.
+fn shorter<'a>(alloc: Global) -> Arg<'a>
+    ensures rule { rule_of result ≡ shorter_rule }
+    ensures local { result.global ≡ false }
+{
+    Arg::new(alloc, "shorter")
+        .long("shorter")
+        .action(ArgAction::SetTrue)
+}
+
+/// A subcommand with the option alone.
 fn with_border<'a>(alloc: Global, name: &'a str) -> Result<Command<'a>, AllocError>
     ensures shape { IfOk result (λ c. shape_of c ≡ bordered name.entry.now) }
     ensures local { IfOk result (λ c. (out-Command c).has_globals ≡ false) }
@@ -33,7 +44,25 @@ fn with_border<'a>(alloc: Global, name: &'a str) -> Result<Command<'a>, AllocErr
     Command::new(alloc, name).arg(border(alloc))
 }
 
-/// A subcommand with no option.
+/// A subcommand with the flag alone.
+fn with_shorter<'a>(alloc: Global, name: &'a str) -> Result<Command<'a>, AllocError>
+    ensures shape { IfOk result (λ c. shape_of c ≡ shortened name.entry.now) }
+    ensures local { IfOk result (λ c. (out-Command c).has_globals ≡ false) }
+{
+    Command::new(alloc, name).arg(shorter(alloc))
+}
+
+/// A subcommand with both.
+fn with_both<'a>(alloc: Global, name: &'a str) -> Result<Command<'a>, AllocError>
+    ensures shape { IfOk result (λ c. shape_of c ≡ both name.entry.now) }
+    ensures local { IfOk result (λ c. (out-Command c).has_globals ≡ false) }
+{
+    Command::new(alloc, name)
+        .arg(border(alloc))?
+        .arg(shorter(alloc))
+}
+
+/// A subcommand with neither.
 fn plain<'a>(alloc: Global, name: &'a str) -> Command<'a>
     ensures shape { shape_of result ≡ new_shape name.entry.now }
     ensures local { (out-Command result).has_globals ≡ false }
@@ -64,8 +93,8 @@ fn command<'a>(alloc: Global) -> Result<Command<'a>, AllocError>
 {
     let with_read = joined(top(alloc), with_border(alloc, "read")?)?;
     let with_check = joined(with_read, with_border(alloc, "check")?)?;
-    let with_normal = joined(with_check, with_border(alloc, "normal")?)?;
-    let with_write = joined(with_normal, plain(alloc, "write"))?;
+    let with_normal = joined(with_check, with_both(alloc, "normal")?)?;
+    let with_write = joined(with_normal, with_shorter(alloc, "write")?)?;
     joined(with_write, plain(alloc, "table"))
 }
 
@@ -74,6 +103,17 @@ fn limit_in(matches: &ArgMatches<'_>) -> Option<u16>
     ensures { IsReadable (rows_of (found_of matches.now)) → GivesLimit (rows_of (found_of matches.now)) result }
 {
     matches.get_one::<u16>("border")
+}
+
+/// The profile among the matches of a subcommand.
+fn profile_in(matches: &ArgMatches<'_>) -> Profile
+    ensures { IsReadable (rows_of (found_of matches.now)) → GivesProfile (rows_of (found_of matches.now)) result }
+{
+    if matches.get_flag("shorter") {
+        Profile::Shorter
+    } else {
+        Profile::Ascii
+    }
 }
 
 /// The task of a subcommand, by its name and its matches.
@@ -85,8 +125,8 @@ fn task_in(name: &str, matches: &ArgMatches<'_>) -> Option<Task>
     match name {
         "read" => Some(Task::Read(limit_in(matches))),
         "check" => Some(Task::Check(limit_in(matches))),
-        "normal" => Some(Task::Normal(limit_in(matches))),
-        "write" => Some(Task::Write),
+        "normal" => Some(Task::Normal(limit_in(matches), profile_in(matches))),
+        "write" => Some(Task::Write(profile_in(matches))),
         "table" => Some(Task::Table),
         _ => None,
     }
@@ -115,7 +155,7 @@ fn named(matches: &ArgMatches<'_>) -> Option<Task>
 
 /// The task of a command line, whose first word is the program's name.
 ///
-/// It is `CallFault::Usage` where clap finds a fault in the words, a wish for help among them, and
+/// It is `CallFault::Usage` where clap finds a fault in the words, a request for help among them, and
 /// `CallFault::Memory` where there was no memory to take them apart.
 pub fn task_of<'a>(alloc: Global, words: &'a [&'a str]) -> Result<Task, CallFault>
     ensures task { IfOk result (NamesTask (subcommand_of dm_app (texts_of words.entry.now))) }

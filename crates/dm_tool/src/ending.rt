@@ -29,7 +29,7 @@ pub(crate) fn call_ending(fault: CallFault) -> (u8, &'static str)
     match fault {
         CallFault::Usage => (
             2,
-            "dm_tool: usage: dm_tool read|check|normal [--border N] | write | table",
+            "dm_tool: usage: dm_tool read|check [--border N] | normal [--border N] [--shorter] | write [--shorter] | table",
         ),
         CallFault::Memory => (3, "dm_tool: no memory"),
     }

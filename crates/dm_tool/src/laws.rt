@@ -17,6 +17,8 @@ ghost use Rattle.dm_tool.specs.declared.task.Tally.{Tally};
 ghost use Rattle.dm_tool.specs.Runs.{IsDone, IsOut};
 ghost use Rattle.dm_tool.specs.LineFeeds.{AreLinesFed, AreOfText, LineAnswer};
 
+pub mod cuts;
+
 /// The text of a message is read as the message.
 pub fn text_is_read_back()
     ensures { (message : List Item) → IsMessage message → length message ≤ most_items

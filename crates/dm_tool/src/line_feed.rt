@@ -6,7 +6,6 @@ ghost use Rattle.dm_tool.specs.LineFeeds.{ClosesLine, LeavesLineOpen};
 
 use crate::message_line::LineFault;
 use crate::open_line::OpenLine;
-use crate::text::line_end;
 use dm_symbol::Message;
 use std::marker::Model;
 
@@ -57,14 +56,12 @@ impl LineFeed {
         ensures closed { IfSome result.closed (λ line. ClosesLine self.old piece.now result.taken line self.new) }
         ensures some_line { (line : List ℕ) × AreLineFacts line self.old }
     {
-        let Some(end) = line_end(piece) else {
-            self.line.take(piece);
+        let Some(end) = self.line.take_to_lf(piece) else {
             return LineFed {
                 taken: piece.len(),
                 closed: None,
             };
         };
-        self.line.take(&piece[..end]);
         LineFed {
             taken: end + 1,
             closed: Some(self.close()),

@@ -13,6 +13,8 @@ mod answering;
 mod command_line;
 mod device;
 mod ending;
+mod front;
+mod gathering;
 mod grid_feed;
 pub mod laws;
 mod line_feed;
@@ -26,6 +28,7 @@ mod running;
 mod sink;
 mod source;
 mod spelling;
+mod streams;
 mod table;
 mod task;
 #[cfg(test)]
@@ -46,12 +49,10 @@ pub use source::{FromRead, Source};
 use std::io::Write;
 use std::process::ExitCode;
 use std::{env, io};
+pub use streams::run_streams;
 pub use task::{CallFault, RunFault, Tally, Task};
 
-/// The most bytes of input that are read.
-const MOST_INPUT: u64 = 1 << 30;
-
-/// The task of the program's own command line. A word that isn't UTF-8 is none of any task.
+/// The task of the program's own command line. A word that isn't UTF-8 names no task.
 fn task_of_call(rt: &HostRuntime) -> Result<Task, CallFault> {
     let given = match env::args(rt) {
         Ok(given) => given,
@@ -69,16 +70,12 @@ fn task_of_call(rt: &HostRuntime) -> Result<Task, CallFault> {
     task_of(rt.alloc(), words.as_slice())
 }
 
-/// Does a task over the standard streams.
-fn run_over_streams(rt: &HostRuntime, task: Task) -> Result<Tally, RunFault> {
-    let mut source = FromRead::new(rt.stdin());
-    let mut sink = ToWrite::new(rt.stdout());
-    run(task, &mut source, &mut sink, MOST_INPUT)
-}
-
 fn main(rt: HostRuntime) -> ExitCode {
     let (status, line) = match task_of_call(&rt) {
-        Ok(task) => ending(&run_over_streams(&rt, task)),
+        Ok(task) => {
+            let (mut source, mut sink) = (FromRead::new(rt.stdin()), ToWrite::new(rt.stdout()));
+            ending(&run_streams(task, &mut source, &mut sink))
+        }
         Err(fault) => call_ending(fault),
     };
     if !line.is_empty() {

@@ -1,12 +1,16 @@
-//! A message line that is read byte by byte.
-ghost use Rattle.std.specs.Prelude.{◌≡◌, ◌∷◌, ◌++◌, [], ℕ, List, IsTrue, ◌↔◌};
+//! A message line, as it comes.
+ghost use Rattle.std.specs.Prelude.{◌≡◌, ◌≤◌, ◌<◌, ◌+◌, ◌∷◌, ◌++◌, [], ℕ, List, IsTrue, ◌↔◌, IfNone, IfSome, drop, length, map, take};
+ghost use Rattle.std.specs.List.{AllByRecursion};
 ghost use Rattle.dm_tool.specs.MessageLines.{IsLine};
+ghost use Rattle.dm_tool.specs.Texts.{HasNoLf, IsFirstLf};
 ghost use Rattle.dm_tool.specs.LineFacts.{AreLineFacts, kept};
+ghost use Rattle.dm_tool.specs.OpenLines.{IsPlain};
 ghost use Rattle.dm_symbol.specs.declared.Item.{Item as AnItem};
 
 use crate::message_line::LineFault;
 use crate::spelling::{Next, Pending};
-use dm_symbol::{Item, Message};
+use crate::text::LF;
+use dm_symbol::{Item, MOST_ITEMS, Message};
 use std::marker::Model;
 
 /// A line in which no fault stands: so many bytes are spellings, joined; their items, unless they are
@@ -74,6 +78,42 @@ impl OpenLine {
         }
     }
 
+    /// More bytes of the line, up to the first LF, which ends it: how many stand before that, where it has come.
+    pub(crate) fn take_to_lf(&mut self, bytes: &[u8]) -> Option<usize>
+        ensures none { IfNone result (HasNoLf bytes.now) }
+        ensures open { IfNone result ((line : List ℕ) → AreLineFacts line self.old → AreLineFacts (line ++ bytes.now) self.new) }
+        ensures first { IfSome result (λ end. IsFirstLf bytes.now (take end bytes.now) (drop (end + 1) bytes.now)) }
+        ensures within { IfSome result (λ end. end < length bytes.now) }
+        ensures before { IfSome result (λ end. (line : List ℕ) → AreLineFacts line self.old → AreLineFacts (line ++ take end bytes.now) self.new) }
+    {
+        let mut at = 0;
+        while at < bytes.len() {
+            let end = at + self.take_plain(&bytes[at..]);
+            if end == bytes.len() {
+                return None;
+            }
+            let byte = bytes[end];
+            if byte == LF {
+                return Some(end);
+            }
+            self.push(byte);
+            at = end + 1;
+        }
+        None
+    }
+
+    /// Takes bytes at the front that stand for themselves, where no other spelling is begun, and says how many.
+    fn take_plain(&mut self, bytes: &[u8]) -> usize
+        ensures within { result ≤ length bytes.now }
+        ensures no_lf { HasNoLf (take result bytes.now) }
+        ensures grown { (line : List ℕ) → AreLineFacts line self.old → AreLineFacts (line ++ take result bytes.now) self.new }
+    {
+        match &mut self.state {
+            State::Faulty(_) => 0,
+            State::Good(good) => good.take_plain(bytes),
+        }
+    }
+
     /// One more byte of the line.
     pub(crate) fn push(&mut self, byte: u8)
         ensures { (line : List ℕ) → AreLineFacts line self.old → AreLineFacts (line ++ byte ∷ []) self.new }
@@ -110,6 +150,24 @@ impl GoodLine {
     ghost use Rattle.dm_tool.specs.LineFacts.{IsGoodLine};
     ghost use Rattle.dm_tool.specs.OpenLines.{pending_bytes};
 
+    /// Takes bytes at the front that stand for themselves, where no other spelling is begun, and says how many.
+    fn take_plain(&mut self, bytes: &[u8]) -> usize
+        ensures within { result ≤ length bytes.now }
+        ensures no_lf { HasNoLf (take result bytes.now) }
+        ensures grown { (line : List ℕ) → IsGoodLine line self.old.front self.old.items (pending_bytes self.old.pending)
+            → IsGoodLine (line ++ take result bytes.now) self.new.front self.new.items (pending_bytes self.new.pending) }
+    {
+        if self.pending.count() > 0 {
+            return 0;
+        }
+        let Some(message) = &mut self.items else {
+            return 0;
+        };
+        let count = push_plain(message, bytes);
+        self.front = self.front.saturating_add(count as u64);
+        count
+    }
+
     /// The line ends.
     fn close(self) -> Result<Message, LineFault>
         ensures { (line : List ℕ) → IsGoodLine line self.front self.items (pending_bytes self.pending) → IsLine line result }
@@ -131,4 +189,26 @@ fn push_item(items: &mut Option<Message>, item: Item)
     if message.push(item).is_err() {
         *items = None;
     }
+}
+
+/// Adds the bytes at the front that stand for themselves, as many as there is room for, and says how many.
+fn push_plain(message: &mut Message, bytes: &[u8]) -> usize
+    ensures within { result ≤ length bytes.now }
+    ensures plain { AllByRecursion IsPlain (take result bytes.now) }
+    ensures items { message.new ≡ message.old ++ map AnItem.Byte (take result bytes.now) }
+    ensures few { length message.old ≤ MOST_ITEMS → length message.new ≤ MOST_ITEMS }
+{
+    for (i, byte) in bytes.iter().enumerate() {
+        if !is_plain(*byte) || message.push(Item::Byte(*byte)).is_err() {
+            return i;
+        }
+    }
+    bytes.len()
+}
+
+/// Whether a byte stands for itself.
+fn is_plain(byte: u8) -> bool
+    ensures { IsTrue result ↔ IsPlain byte }
+{
+    (b' '..=b'~').contains(&byte) && byte != b'\\'
 }

@@ -2,9 +2,11 @@
 ghost use Rattle.std.specs.Prelude.{◌≡◌, ◌≤◌, ◌<◌, ◌++◌, ◌∷◌, [], ◌+◌, ◌*◌, get_or, length, map};
 ghost use Rattle.std.specs.Fmt.{decimal};
 ghost use Rattle.dm_tool.specs.Answers.{character_of, grid_text, spaced};
+ghost use Rattle.dm_tool.specs.OpenRecords.{cells_in};
 
 use arrayvec::ArrayVec;
 use dm_symbol::{Grid, LARGEST_SIDE};
+use std::simd::prelude::*;
 
 /// The most bytes of an answer: those of a grid of the largest side, each row with its LF, and of an empty line.
 pub(crate) const MOST_ANSWER: usize = LARGEST_SIDE * (LARGEST_SIDE + 1) + 1;
@@ -65,15 +67,41 @@ fn push_row(text: &mut AnswerText, grid: &Grid, row: u16)
     requires room { length text.old.items + grid.now.size.side < MOST_ANSWER }
     ensures { text.new.items ≡ text.old.items ++ map character_of (get_or grid.now.rows row []) ++ 10 ∷ [] }
 {
-    for column in 0..grid.size().side() {
-        text.push(character(grid.cell(row, column)));
-    }
+    push_cells(text, grid.row(row), grid.size().side());
     text.push(b'\n');
 }
 
-/// The character of a cell.
-fn character(dark: bool) -> u8
-    ensures { result ≡ character_of dark }
+/// Appends the characters of a row's first cells, of which the first is the lowest bit.
+fn push_cells(text: &mut AnswerText, cells: u128, width: u16)
+    requires width { width ≤ LARGEST_SIDE }
+    requires room { length text.old.items + width ≤ MOST_ANSWER }
+    ensures { text.new.items ≡ text.old.items ++ map character_of (cells_in width cells) }
 {
-    if dark { b'1' } else { b'0' }
+    let mut column = 0;
+    while column < width {
+        let few = (width - column).min(TOGETHER);
+        let characters = characters((cells >> column & 0xffff) as u16);
+        push_all(text, &characters[..usize::from(few)]);
+        column += few;
+    }
 }
+
+/// So many cells are written together.
+const TOGETHER: u16 = 16;
+
+/// The characters of sixteen cells, of which the first is the lowest bit.
+fn characters(cells: u16) -> [u8; 16]
+    ensures { result ≡ map character_of (cells_in 16 cells) }
+{
+    let low = (cells & 0xff) as u8;
+    let high = (cells >> 8) as u8;
+    let spread = u8x16::from_array([
+        low, low, low, low, low, low, low, low, high, high, high, high, high, high, high, high,
+    ]);
+    let dark = (spread & u8x16::from_array(WEIGHTS)).simd_ne(u8x16::splat(0));
+    dark.select(u8x16::splat(b'1'), u8x16::splat(b'0'))
+        .to_array()
+}
+
+/// The weight of each cell in its byte.
+const WEIGHTS: [u8; 16] = [1, 2, 4, 8, 16, 32, 64, 128, 1, 2, 4, 8, 16, 32, 64, 128];

@@ -1,11 +1,12 @@
-//! A record of a grid text that is read byte by byte.
-ghost use Rattle.std.specs.Prelude.{◌≡◌, ◌≢◌, ◌∷◌, ◌++◌, [], ℕ, Bool, true, false, List, IsTrue, ◌↔◌, ◌+◌, ◌<◌, IfNone, IfSome, length, take};
+//! A record of a grid text, as it comes.
+ghost use Rattle.std.specs.Prelude.{◌≡◌, ◌≢◌, ◌∷◌, ◌++◌, [], ℕ, Bool, true, false, List, IsTrue, ◌↔◌, ◌+◌, ◌<◌, ◌≤◌, IfNone, IfSome, length, take};
 ghost use Rattle.std.specs.Bool.{OnTrue, OnFalse};
 ghost use Rattle.dm_tool.specs.Records.{IsClosedRecord, is_foreign, record_of};
 ghost use Rattle.dm_tool.specs.RecordFacts.{AreRecordFacts, facts_of_record};
 ghost use Rattle.dm_tool.specs.Texts.{last_line};
-ghost use Rattle.dm_tool.specs.OpenRecords.{EndsAt};
+ghost use Rattle.dm_tool.specs.OpenRecords.{AreCells, EndsAt};
 
+use crate::front::Front;
 use crate::rows::Rows;
 use crate::text::LF;
 use dm_symbol::Grid;
@@ -87,12 +88,48 @@ impl OpenRecord {
         ensures within { IfSome result (λ end. end < length bytes.now) }
         ensures closes { IfSome result (λ end. (text : List ℕ) → AreRecordFacts text self.old → EndsAt (text ++ take end bytes.now) (text ++ take (end + 1) bytes.now) self.new) }
     {
-        for (i, byte) in bytes.iter().enumerate() {
-            if self.push(*byte) {
-                return Some(i);
+        let mut at = 0;
+        while at < bytes.len() {
+            let end = at + self.take_cells(&bytes[at..]);
+            if end == bytes.len() {
+                return None;
             }
+            if self.push(bytes[end]) {
+                return Some(end);
+            }
+            at = end + 1;
         }
         None
+    }
+
+    /// Takes cells at the front of some bytes together, and says how many. Where a foreign character stands in the record already it
+    /// takes none, since no cell changes anything then.
+    fn take_cells(&mut self, bytes: &[u8]) -> usize
+        ensures within { result ≤ length bytes.now }
+        ensures grown { (text : List ℕ) → AreRecordFacts text self.old → AreRecordFacts (text ++ take result bytes.now) self.new }
+    {
+        if let Contents::Foreign = self.contents {
+            return 0;
+        }
+        let Some(front) = Front::of_text(bytes) else {
+            return 0;
+        };
+        self.push_cells(front);
+        usize::from(front.count)
+    }
+
+    /// Cells, in a new line where the last line is ended.
+    fn push_cells(&mut self, front: Front)
+        requires { (characters : List ℕ) × AreCells characters front }
+        ensures { (text characters : List ℕ) → AreRecordFacts text self.old → AreCells characters front → AreRecordFacts (text ++ characters) self.new }
+    {
+        let ended = self.ended;
+        self.ended = false;
+        if let Contents::Cells(rows) = &mut self.contents {
+            if !rows.push(front, ended) {
+                self.contents = Contents::Large;
+            }
+        }
     }
 
     /// A byte that is no LF.
@@ -100,17 +137,12 @@ impl OpenRecord {
         requires { byte ≢ 10 }
         ensures { (text : List ℕ) → AreRecordFacts text self.old → AreRecordFacts (text ++ byte ∷ []) self.new }
     {
-        let ended = self.ended;
-        self.ended = false;
         if is_foreign(byte) {
+            self.ended = false;
             self.contents = Contents::Foreign;
             return;
         }
-        if let Contents::Cells(cells) = &mut self.contents {
-            if !cells.push(byte, ended) {
-                self.contents = Contents::Large;
-            }
-        }
+        self.push_cells(Front::of_character(byte));
     }
 
     /// An LF after a line, or before all lines.

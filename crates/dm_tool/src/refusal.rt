@@ -82,7 +82,7 @@ pub(crate) fn line_refusal(fault: LineFault) -> RefusalText
     }
 }
 
-/// Few words.
+/// The text of a refusal that carries no number.
 fn text_of(words: &[u8]) -> RefusalText
     requires { length words.now ≤ 30 }
     ensures text { result.items ≡ words.now }
@@ -93,7 +93,7 @@ fn text_of(words: &[u8]) -> RefusalText
     text
 }
 
-/// Few words, and a number in decimal digits.
+/// The text of a refusal, and its number in decimal digits.
 fn numbered(words: &[u8], number: u64) -> RefusalText
     requires { length words.now ≤ 30 }
     ensures text { result.items ≡ words.now ++ decimal number }

@@ -1,10 +1,10 @@
 //! The lines of a record, as rows of cells.
-ghost use Rattle.std.specs.Prelude.{◌≡◌, ◌≢◌, ◌∷◌, ◌++◌, ◌*◌, ◌^◌, ◌<◌, ◌↔◌, [], ℕ, Bool, true, false, List, IsTrue};
-ghost use Rattle.dm_symbol.specs.Sizes.{largest_side};
-ghost use Rattle.dm_tool.specs.Records.{is_foreign, record_of};
-ghost use Rattle.dm_tool.specs.OpenRecords.{Continues, HoldsLines, digit_of, is_ended, line_count};
+ghost use Rattle.std.specs.Prelude.{◌≡◌, ◌≢◌, ◌∷◌, ◌++◌, ◌↔◌, [], ℕ, Bool, true, false, List, IsTrue};
+ghost use Rattle.dm_tool.specs.Records.{record_of};
+ghost use Rattle.dm_tool.specs.OpenRecords.{AreCells, Continues, HoldsLines, is_ended, line_count};
 ghost use Rattle.dm_tool.specs.Texts.{last_line};
 
+use crate::front::Front;
 use crate::record::RecordFault;
 use arrayvec::ArrayVec;
 use dm_symbol::{Grid, LARGEST_SIDE};
@@ -44,52 +44,56 @@ impl Rows {
         self.rows.is_empty()
     }
 
-    /// One more character, in a new line where the last line is ended; false where the lines are too many
-    /// or too long then.
-    pub(crate) fn push(&mut self, character: u8, ended: bool) -> bool
-        requires cell { is_foreign character ≡ false }
+    /// More cells, in a new line where the last line is ended; false where the lines are too many or too long then.
+    pub(crate) fn push(&mut self, front: Front, ended: bool) -> bool
+        requires cells { (characters : List ℕ) × AreCells characters front }
         requires lines { (lines : List (List ℕ)) × (rest : List ℕ) × HoldsLines self.old lines rest × (ended ≡ is_ended lines rest) }
-        ensures { (lines : List (List ℕ)) (rest : List ℕ) → HoldsLines self.old lines rest → ended ≡ is_ended lines rest
-            → Continues result self.new lines (rest ++ character ∷ []) }
+        ensures { (lines : List (List ℕ)) (rest characters : List ℕ) → HoldsLines self.old lines rest → ended ≡ is_ended lines rest
+            → AreCells characters front → Continues result self.new lines (rest ++ characters) }
     {
         if ended || self.is_empty() {
-            self.begin_line(character)
+            self.begin_line(front)
         } else {
-            self.lengthen_line(character)
+            self.lengthen_line(front)
         }
     }
 
-    /// One more character, in a new line; false where the lines are too many then.
-    fn begin_line(&mut self, character: u8) -> bool
-        requires cell { is_foreign character ≡ false }
+    /// Cells in a new line; false where the lines are too many then.
+    fn begin_line(&mut self, front: Front) -> bool
+        requires cells { (characters : List ℕ) × AreCells characters front }
         requires lines { (lines : List (List ℕ)) × HoldsLines self.old lines [] }
-        ensures { (lines : List (List ℕ)) → HoldsLines self.old lines [] → Continues result self.new lines (character ∷ []) }
+        ensures { (lines : List (List ℕ)) (characters : List ℕ) → HoldsLines self.old lines [] → AreCells characters front
+            → Continues result self.new lines characters }
     {
         if self.rows.is_full() {
             return false;
         }
-        let first = if self.is_empty() { 1 } else { self.first };
-        self.rows.push(cell(character, 0));
+        let first = if self.is_empty() {
+            front.count
+        } else {
+            self.first
+        };
+        self.rows.push(front.bits);
         self.first = first;
-        self.last = 1;
+        self.last = front.count;
         true
     }
 
-    /// One more character in the last line; false where it is too long then.
-    fn lengthen_line(&mut self, character: u8) -> bool
-        requires cell { is_foreign character ≡ false }
+    /// More cells in the last line; false where it is too long then.
+    fn lengthen_line(&mut self, front: Front) -> bool
+        requires cells { (characters : List ℕ) × AreCells characters front }
         requires lines { (lines : List (List ℕ)) × (x : ℕ) × (rest : List ℕ) × HoldsLines self.old lines (x ∷ rest) }
-        ensures { (lines : List (List ℕ)) (x : ℕ) (rest : List ℕ) → HoldsLines self.old lines (x ∷ rest)
-            → Continues result self.new lines (x ∷ rest ++ character ∷ []) }
+        ensures { (lines : List (List ℕ)) (x : ℕ) (rest characters : List ℕ) → HoldsLines self.old lines (x ∷ rest) → AreCells characters front
+            → Continues result self.new lines (x ∷ rest ++ characters) }
     {
         let column = self.last;
-        if usize::from(column) == LARGEST_SIDE {
+        let last = column + front.count;
+        if usize::from(last) > LARGEST_SIDE {
             return false;
         }
-        let last = column + 1;
         let count = self.rows.len();
         let first = if count == 1 { last } else { self.first };
-        self.rows.as_mut_slice()[count - 1] |= cell(character, column);
+        self.rows.as_mut_slice()[count - 1] |= front.bits << column;
         self.first = first;
         self.last = last;
         true
@@ -118,12 +122,4 @@ impl Rows {
             Err(_) => Err(RecordFault::NoSuchSize(side)),
         }
     }
-}
-
-/// The cell of a character in a row, at a column: its bit for the character 1, and none for 0.
-fn cell(character: u8, column: u16) -> u128
-    requires { column < largest_side }
-    ensures { result ≡ digit_of character * 2 ^ column }
-{
-    u128::from(character == b'1') << column
 }

@@ -1,14 +1,15 @@
 //! A task done over a source and a sink.
-ghost use Rattle.std.specs.Prelude.{◌≡◌, ◌≤◌, ◌<◌, ◌+◌, ◌-◌, ◌^◌, ◌∷◌, ◌++◌, [], false, List, MatchResult, IfOk, OnOk, OnErr, IsErrOf, length, max, take};
+ghost use Rattle.std.specs.Prelude.{◌≡◌, ◌≤◌, ◌<◌, ◌+◌, ◌-◌, ◌^◌, ◌∷◌, ◌++◌, ◌⊎◌, [], ℕ, false, List, MatchResult, IfOk, OnOk, OnErr, IsErrOf, length, max, take};
 ghost use Rattle.std.specs.Io.KnownBytes.{Appends};
 ghost use Rattle.dm_tool.specs.Answers.{Answer as AnAnswer, table_text};
-ghost use Rattle.dm_tool.specs.Devices.{AppendsFront, Counts, HasRisen};
-ghost use Rattle.dm_tool.specs.Runs.{IsAnswered, IsBroken, IsDoneSoFar, IsTooMuch, tally_of, written};
+ghost use Rattle.dm_tool.specs.Devices.{AppendsFront, Counts, HasRisen, IsFlushedOnce, IsPassedOn};
+ghost use Rattle.dm_tool.specs.Runs.{IsAnswered, IsBroken, IsDoneSoFar, IsFlushedAtEnd, IsTooMuch, most_asked, tally_of, written};
 ghost use Rattle.dm_tool.specs.Standings.{Ends, Goes, IsBegun, StandsAnywhere};
 
 use crate::answer::Answer;
 use crate::answering::Answering;
 use crate::device::Failed;
+use crate::gathering::{Gathered, gather, put_gathered};
 use crate::sink::{Sink, put};
 use crate::source::Source;
 use crate::table::table_text;
@@ -21,6 +22,10 @@ use crate::task::{RunFault, Tally, Task};
 /// It asks for at most `most` bytes, and only when all of them have come for one byte more. `Read` and
 /// `TooMuchInput` come after the answers to all that was closed by then have been written; where the sink
 /// fails, `Write` comes after a beginning of what was to be written. A device that failed isn't tried again.
+/// It flushes once, when the end of the input has come and all is written; where that is Ok, the sink's mark of
+/// pending bytes is clear.
+///
+/// The clauses speak of the bytes that source and sink tell: of one that doesn't tell its own they say nothing.
 pub fn run<I: Source, O: Sink>(
     task: Task,
     source: &mut I,
@@ -44,6 +49,13 @@ pub fn run<I: Source, O: Sink>(
         (AppendsFront (O.contents sink.old) (O.contents sink.new)) }
     ensures write_failed { IsErrOf result RunFault.Write → HasRisen (O.failed sink.old) (O.failed sink.new)
         × (I.failed source.new ≡ I.failed source.old) }
+    ensures asked { (text : List ℕ) × I.gave source.old source.new text × I.asked source.old source.new (most_asked most (length text)) }
+    ensures flushed_last { OnOk result (IsFlushedOnce (O.flushed sink.old sink.new) (O.contents sink.old) (O.contents sink.new)) }
+    ensures read_unflushed { IsErrOf result RunFault.Read → O.flushed sink.old sink.new [] }
+    ensures too_much_unflushed { IsErrOf result RunFault.TooMuchInput → O.flushed sink.old sink.new [] }
+    ensures write_flushed { IsErrOf result RunFault.Write → IsFlushedAtEnd task most (I.gave source.old source.new) (I.ended source.new)
+        (Appends (O.contents sink.old) (O.contents sink.new)) (O.flushed sink.old sink.new [])
+        (IsFlushedOnce (O.flushed sink.old sink.new) (O.contents sink.old) (O.contents sink.new)) }
 {
     let Some(mut answering) = Answering::new(task) else {
         return print_table(sink);
@@ -52,6 +64,7 @@ pub fn run<I: Source, O: Sink>(
     let mut left = most;
     let mut place = [0u8; PIECE];
     let mut answer = Answer::none();
+    let mut gathered = Gathered::new();
     'pieces: loop {
         let count = match next_piece(source, &mut place, left) {
             Ok(0) => {
@@ -68,7 +81,14 @@ pub fn run<I: Source, O: Sink>(
         }
         left -= count as u64;
         let piece = &place[..count];
-        if let Err(Failed) = answer_piece(&mut answering, sink, &mut tally, piece, &mut answer) {
+        if let Err(Failed) = answer_piece(
+            &mut answering,
+            sink,
+            &mut tally,
+            piece,
+            &mut answer,
+            &mut gathered,
+        ) {
             return Err(RunFault::Write);
         }
     }
@@ -92,6 +112,9 @@ fn print_table<O: Sink>(sink: &mut O) -> Result<Tally, RunFault>
     ensures err { OnErr result (AppendsFront (O.contents sink.old) (O.contents sink.new) table_text) }
     ensures failed { OnErr result (HasRisen (O.failed sink.old) (O.failed sink.new)) }
     ensures write { (fault : RunFault) → IsErrOf result fault → fault ≡ RunFault.Write }
+    ensures held { OnOk result (IsFlushedOnce (O.flushed sink.old sink.new) (O.contents sink.old) (O.contents sink.new)) }
+    ensures late { OnErr result (O.flushed sink.old sink.new [] ⊎ (IsFlushedOnce (O.flushed sink.old sink.new) (O.contents sink.old) (O.contents sink.new)
+        × Appends (O.contents sink.old) (O.contents sink.new) table_text)) }
 {
     let text = table_text();
     match put_all(sink, text.as_slice()) {
@@ -105,6 +128,9 @@ fn put_all<O: Sink>(sink: &mut O, bytes: &[u8]) -> Result<(), Failed>
     ensures ok { OnOk result (Appends (O.contents sink.old) (O.contents sink.new) bytes.now) }
     ensures flushed { OnOk result (O.is_pending sink.new ≡ false) }
     ensures err { OnErr result (AppendsFront (O.contents sink.old) (O.contents sink.new) bytes.now) }
+    ensures held { OnOk result (IsFlushedOnce (O.flushed sink.old sink.new) (O.contents sink.old) (O.contents sink.new)) }
+    ensures late { OnErr result (O.flushed sink.old sink.new [] ⊎ (IsFlushedOnce (O.flushed sink.old sink.new) (O.contents sink.old) (O.contents sink.new)
+        × Appends (O.contents sink.old) (O.contents sink.new) bytes.now)) }
     ensures count { Counts (O.failed sink.old) (O.failed sink.new) result }
 {
     match put(sink, bytes) {
@@ -125,6 +151,7 @@ fn next_piece<I: Source>(
     ensures few { IfOk result (λ n. n ≤ max left 1) }
     ensures bytes { MatchResult result (λ n. I.gave source.old source.new (take n place.new)) (λ _. I.gave source.old source.new []) }
     ensures end { IfOk result (λ n. n ≡ 0 → I.ended source.new) }
+    ensures asked { I.asked source.old source.new (max left 1) }
     ensures count { Counts (I.failed source.old) (I.failed source.new) result }
 {
     let most = if left < PIECE as u64 {
@@ -135,13 +162,15 @@ fn next_piece<I: Source>(
     source.read(&mut place[..most])
 }
 
-/// Takes a piece of the text, and writes the answers to what it closes, each from `answer`, its place.
+/// Takes a piece of the text, and writes the answers to what it closes. Each comes from `answer`, its place, and they are put together
+/// in `gathered`, which begins with none; it is written whenever it is full, and in the end.
 fn answer_piece<O: Sink>(
     answering: &mut Answering,
     sink: &mut O,
     tally: &mut Tally,
     piece: &[u8],
     answer: &mut Answer,
+    gathered: &mut Gathered,
 ) -> Result<(), Failed>
     requires stands { StandsAnywhere answering.old }
     requires room { tally.old.answered + tally.old.refused + length piece.now < 2 ^ 64 }
@@ -150,19 +179,45 @@ fn answer_piece<O: Sink>(
         × ((answers : List AnAnswer) → tally.old ≡ tally_of answers → tally.new ≡ tally_of (answers ++ more))) }
     ensures sum { OnOk result (tally.new.answered + tally.new.refused ≤ tally.old.answered + tally.old.refused + length piece.now) }
     ensures err { OnErr result (IsBegun answering.old piece.now (AppendsFront (O.contents sink.old) (O.contents sink.new))) }
+    ensures unflushed { O.flushed sink.old sink.new [] }
     ensures count { Counts (O.failed sink.old) (O.failed sink.new) result }
 {
+    gathered.clear();
     let mut rest = piece;
     loop {
         match answering.feed(rest, answer) {
-            None => return Ok(()),
+            None => return put_gathered(sink, gathered),
             Some(taken) => {
-                if let Err(Failed) = put_answer(sink, tally, answer) {
+                if let Err(Failed) = gather_answer(sink, tally, answer, gathered) {
                     return Err(Failed);
                 }
                 rest = &rest[taken..];
             }
         }
+    }
+}
+
+/// Gathers an answer, and counts it.
+fn gather_answer<O: Sink>(
+    sink: &mut O,
+    tally: &mut Tally,
+    answer: &Answer,
+    gathered: &mut Gathered,
+) -> Result<(), Failed>
+    requires room { tally.old.answered + tally.old.refused + 1 < 2 ^ 64 }
+    ensures ok { OnOk result (IsPassedOn (O.contents sink.old) gathered.old.items answer.now.text (O.contents sink.new) gathered.new.items) }
+    ensures tally { OnOk result ((answers : List AnAnswer) → tally.old ≡ tally_of answers → tally.new ≡ tally_of (answers ++ answer.now ∷ [])) }
+    ensures sum { OnOk result (tally.new.answered + tally.new.refused ≡ tally.old.answered + tally.old.refused + 1) }
+    ensures err { OnErr result (AppendsFront (O.contents sink.old) (O.contents sink.new) gathered.old.items) }
+    ensures unflushed { O.flushed sink.old sink.new [] }
+    ensures count { Counts (O.failed sink.old) (O.failed sink.new) result }
+{
+    match gather(sink, gathered, answer.text()) {
+        Ok(()) => {
+            count(tally, answer.is_refusal());
+            Ok(())
+        }
+        Err(Failed) => Err(Failed),
     }
 }
 
@@ -181,6 +236,10 @@ fn end<O: Sink>(
     ensures flushed { OnOk result (O.is_pending sink.new ≡ false) }
     ensures err { OnErr result ((last : List AnAnswer) × Ends answering.old last
         × AppendsFront (O.contents sink.old) (O.contents sink.new) (written last)) }
+    ensures held { OnOk result (IsFlushedOnce (O.flushed sink.old sink.new) (O.contents sink.old) (O.contents sink.new)) }
+    ensures late { OnErr result (O.flushed sink.old sink.new [] ⊎ (IsFlushedOnce (O.flushed sink.old sink.new) (O.contents sink.old) (O.contents sink.new)
+        × ((last : List AnAnswer) × Ends answering.old last × Appends (O.contents sink.old) (O.contents sink.new) (written last)
+        × ((answers : List AnAnswer) → tally.old ≡ tally_of answers → tally.new ≡ tally_of (answers ++ last))))) }
     ensures count { Counts (O.failed sink.old) (O.failed sink.new) result }
 {
     match put_last(answering, sink, tally, answer) {
@@ -203,6 +262,7 @@ fn put_last<O: Sink>(
         × ((answers : List AnAnswer) → tally.old ≡ tally_of answers → tally.new ≡ tally_of (answers ++ last))) }
     ensures err { OnErr result ((last : List AnAnswer) × Ends answering.old last
         × AppendsFront (O.contents sink.old) (O.contents sink.new) (written last)) }
+    ensures unflushed { O.flushed sink.old sink.new [] }
     ensures count { Counts (O.failed sink.old) (O.failed sink.new) result }
 {
     if answering.finish(answer) {
@@ -219,6 +279,7 @@ fn put_answer<O: Sink>(sink: &mut O, tally: &mut Tally, answer: &Answer) -> Resu
     ensures tally { OnOk result ((answers : List AnAnswer) → tally.old ≡ tally_of answers → tally.new ≡ tally_of (answers ++ answer.now ∷ [])) }
     ensures sum { OnOk result (tally.new.answered + tally.new.refused ≡ tally.old.answered + tally.old.refused + 1) }
     ensures err { OnErr result (AppendsFront (O.contents sink.old) (O.contents sink.new) answer.now.text) }
+    ensures unflushed { O.flushed sink.old sink.new [] }
     ensures count { Counts (O.failed sink.old) (O.failed sink.new) result }
 {
     match put(sink, answer.text()) {

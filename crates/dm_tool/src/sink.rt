@@ -1,7 +1,7 @@
 //! Where the program's bytes go.
-ghost use Rattle.std.specs.Prelude.{◌≡◌, ◌≤◌, ◌<◌, ℕ, Bool, true, false, List, Option, IfOk, OnOk, OnErr, length};
+ghost use Rattle.std.specs.Prelude.{◌≡◌, ◌≤◌, ◌<◌, ◌++◌, [], ℕ, Bool, true, false, List, Option, IfOk, OnOk, OnErr, length};
 ghost use Rattle.std.specs.Io.KnownBytes.{Appends, Keeps, WriteAppends};
-ghost use Rattle.dm_tool.specs.Devices.{AppendsFront, Counts, Marks};
+ghost use Rattle.dm_tool.specs.Devices.{AppendsFront, Counts, IsFlushedOnce, Marks};
 
 use crate::device::{Failed, counted, failure};
 use std::io::Write;
@@ -19,12 +19,17 @@ pub trait Sink {
     // Bytes may have been taken that no Ok flush has handed on.
     ghost is_pending: { Self → Bool };
 
+    // From the first state to the second there was a flush, Ok or not, for each of these numbers, which says how many bytes had
+    // been taken in all by then, as far as the sink tells it.
+    ghost flushed: { Self → Self → List ℕ → Type 0 };
+
     /// Takes a front of `bytes`, and says how long it is: at least 1, unless `bytes` is empty.
     fn write(&mut self, bytes: &[u8]) -> Result<usize, Failed>
         ensures bound { IfOk result (λ n. n ≤ length bytes.now) }
         ensures some { IfOk result (λ n. 0 < length bytes.now → 0 < n) }
         ensures bytes { WriteAppends (contents self.old) (contents self.new) result bytes.now }
         ensures mark { Marks (is_pending self.old) (is_pending self.new) result (length bytes.now) }
+        ensures unflushed { flushed self.old self.new [] }
         ensures count { Counts (failed self.old) (failed self.new) result };
 
     /// Hands on all that was taken, where it is Ok.
@@ -32,6 +37,7 @@ pub trait Sink {
         ensures bytes { Keeps (contents self.old) (contents self.new) }
         ensures clear { OnOk result (is_pending self.new ≡ false) }
         ensures kept { OnErr result (is_pending self.new ≡ is_pending self.old) }
+        ensures held { IsFlushedOnce (flushed self.old self.new) (contents self.old) (contents self.new) }
         ensures count { Counts (failed self.old) (failed self.new) result };
 
     /// How many writes and flushes have failed. At `u64::MAX` the count stays.
@@ -41,10 +47,16 @@ pub trait Sink {
     /// Whether bytes may have been taken that no flush has handed on.
     fn pending(&self) -> bool
         ensures { result ≡ is_pending self.now };
+
+    // In no time there is no flush.
+    ghost flushed_none: { (s : Self) → flushed s s [] };
+
+    // The flushes of two times that follow on one another are joined.
+    ghost flushed_joined: { (a b c : Self) → (x y : List ℕ) → flushed a b x → flushed b c y → flushed a c (x ++ y) };
 }
 
 /// A sink from any writer of std. Each error of the writer is a failure, `Interrupted` too, and so
-/// is a write that takes none of some bytes.
+/// is a write that takes none of some bytes. It doesn't tell its flushes.
 #[derive(Drop)]
 pub struct ToWrite<W: Write + Drop> {
     writer: W,
@@ -76,6 +88,12 @@ impl<W: Write + Drop> Sink for ToWrite<W> {
     ghost failed = { λ s. s.failures };
 
     ghost is_pending = { λ s. s.pending };
+
+    ghost flushed = { λ s t held. Unit {0} };
+
+    ghost flushed_none = { λ s. tt };
+
+    ghost flushed_joined = { λ a b c x y first then. tt };
 
     fn write(&mut self, bytes: &[u8]) -> Result<usize, Failed> {
         let answer = self.writer.write(bytes);
@@ -110,6 +128,7 @@ impl<W: Write + Drop> Sink for ToWrite<W> {
 pub(crate) fn put<O: Sink>(sink: &mut O, bytes: &[u8]) -> Result<(), Failed>
     ensures ok { OnOk result (Appends (O.contents sink.old) (O.contents sink.new) bytes.now) }
     ensures err { OnErr result (AppendsFront (O.contents sink.old) (O.contents sink.new) bytes.now) }
+    ensures unflushed { O.flushed sink.old sink.new [] }
     ensures count { Counts (O.failed sink.old) (O.failed sink.new) result }
 {
     let mut at = 0;

@@ -1,5 +1,5 @@
 //! Where the program's bytes come from.
-ghost use Rattle.std.specs.Prelude.{◌≡◌, ◌≤◌, ◌<◌, ◌++◌, ℕ, [], List, Option, MatchResult, IfOk, length, take};
+ghost use Rattle.std.specs.Prelude.{◌≡◌, ◌≤◌, ◌<◌, ◌+◌, ◌++◌, ℕ, [], List, Option, MatchResult, IfOk, length, take};
 ghost use Rattle.std.specs.Io.KnownBytes.{Consumes, IsAtEnd};
 ghost use Rattle.dm_tool.specs.Devices.{Counts, consumed_none, consumed_joined};
 
@@ -20,6 +20,9 @@ pub trait Source {
     // How many calls have failed, up to the most that a `u64` holds.
     ghost failed: { Self → ℕ };
 
+    // From the first state to the second no byte after so many was asked for, counted from the first, as far as the source tells it.
+    ghost asked: { Self → Self → ℕ → Type 0 };
+
     /// Reads bytes into the front of `into`, and says how many. The number 0 is the end of the
     /// input, unless `into` is empty.
     fn read(&mut self, into: &mut [u8]) -> Result<usize, Failed>
@@ -27,6 +30,7 @@ pub trait Source {
         ensures bytes { MatchResult result (λ n. gave self.old self.new (take n into.new))
             (λ _. gave self.old self.new []) }
         ensures end { IfOk result (λ n. n ≡ 0 → 0 < length into.new → ended self.new) }
+        ensures asked { asked self.old self.new (length into.new) }
         ensures count { Counts (failed self.old) (failed self.new) result };
 
     /// How many reads have failed. At `u64::MAX` the count stays.
@@ -38,9 +42,17 @@ pub trait Source {
 
     // What is given in two times that follow on one another is joined.
     ghost gave_joined: { (a b c : Self) → (x y : List ℕ) → gave a b x → gave b c y → gave a c (x ++ y) };
+
+    // In no time nothing is asked for.
+    ghost asked_none: { (s : Self) → asked s s 0 };
+
+    // What is asked for in two times that follow on one another comes after what was given in the first.
+    ghost asked_joined: { (a b c : Self) → (x : List ℕ) (m n most : ℕ) → gave a b x → asked a b m → asked b c n
+        → m ≤ most → length x + n ≤ most → asked a c most };
 }
 
-/// A source from any reader of std. Each error of the reader is a failure, `Interrupted` too.
+/// A source from any reader of std. Each error of the reader is a failure, `Interrupted` too. It doesn't tell how much is
+/// asked for.
 #[derive(Drop)]
 pub struct FromRead<R: Read + Drop> {
     reader: R,
@@ -68,6 +80,12 @@ impl<R: Read + Drop> Source for FromRead<R> {
     ghost ended = { λ s. IsAtEnd (R.remaining s.reader) };
 
     ghost failed = { λ s. s.failures };
+
+    ghost asked = { λ s t most. Unit {0} };
+
+    ghost asked_none = { λ s. tt };
+
+    ghost asked_joined = { λ a b c x m n most gave first then within after. tt };
 
     ghost gave_none = { λ s. consumed_none (R.remaining s.reader) };
 

@@ -1,5 +1,6 @@
 //! What the program is asked to do, and what came of it.
 
+use dm_symbol::Profile;
 use thiserror::Error;
 
 /// What is to be done with the input.
@@ -11,10 +12,10 @@ pub enum Task {
     Read(Option<u16>),
     /// How damaged grids are.
     Check(Option<u16>),
-    /// The normal grids of what grids say.
-    Normal(Option<u16>),
-    /// The normal grids of messages.
-    Write,
+    /// The normal grids under a profile of what grids say.
+    Normal(Option<u16>, Profile),
+    /// The normal grids under a profile of messages.
+    Write(Profile),
     /// The sizes.
     Table,
 }
@@ -26,7 +27,7 @@ pub struct Tally {
     pub refused: u64,
 }
 
-/// Why a run ended before its input did.
+/// Why a run failed: before its input ended, or, where the sink failed, maybe after it.
 #[derive(Clone, Copy, Debug, PartialEq, Eq, Error)]
 pub enum RunFault {
     /// A read of the source failed.
@@ -44,7 +45,7 @@ pub enum RunFault {
 #[derive(Clone, Copy, Debug, PartialEq, Eq, Error)]
 pub enum CallFault {
     /// It isn't one that the program knows.
-    #[error("dm_tool: usage: dm_tool read|check|normal [--border N] | write | table")]
+    #[error("dm_tool: usage: dm_tool read|check [--border N] | normal [--border N] [--shorter] | write [--shorter] | table")]
     Usage,
     /// There was no memory to take it apart.
     #[error("dm_tool: no memory")]

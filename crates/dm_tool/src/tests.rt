@@ -2,8 +2,8 @@
 
 mod command_line;
 mod devices;
-mod marks;
 mod memory;
+mod readers;
 mod running;
 mod texts;
 mod worked;

@@ -3,12 +3,13 @@
 use crate::command_line::task_of;
 use crate::ending::{call_ending, ending};
 use crate::task::{CallFault, RunFault, Tally, Task};
+use dm_symbol::Profile;
 
-static TASKS: [(&[&str], Task); 16] = [
+static TASKS: [(&[&str], Task); 20] = [
     (&["dm_tool", "read"], Task::Read(None)),
     (&["dm_tool", "check"], Task::Check(None)),
-    (&["dm_tool", "normal"], Task::Normal(None)),
-    (&["dm_tool", "write"], Task::Write),
+    (&["dm_tool", "normal"], Task::Normal(None, Profile::Ascii)),
+    (&["dm_tool", "write"], Task::Write(Profile::Ascii)),
     (&["dm_tool", "table"], Task::Table),
     (&["another name", "table"], Task::Table),
     (&["dm_tool", "read", "--border", "0"], Task::Read(Some(0))),
@@ -19,7 +20,7 @@ static TASKS: [(&[&str], Task); 16] = [
     (&["dm_tool", "check", "--border=10"], Task::Check(Some(10))),
     (
         &["dm_tool", "normal", "--border", "2"],
-        Task::Normal(Some(2)),
+        Task::Normal(Some(2), Profile::Ascii),
     ),
     (
         &["dm_tool", "read", "--border", "65535"],
@@ -35,10 +36,26 @@ static TASKS: [(&[&str], Task); 16] = [
         Task::Read(Some(65535)),
     ),
     (&["dm_tool", "read", "--border=-0"], Task::Read(Some(0))),
-    (&["dm_tool", "write", "--"], Task::Write),
+    (&["dm_tool", "write", "--"], Task::Write(Profile::Ascii)),
+    (
+        &["dm_tool", "write", "--shorter"],
+        Task::Write(Profile::Shorter),
+    ),
+    (
+        &["dm_tool", "normal", "--shorter"],
+        Task::Normal(None, Profile::Shorter),
+    ),
+    (
+        &["dm_tool", "normal", "--shorter", "--border", "2"],
+        Task::Normal(Some(2), Profile::Shorter),
+    ),
+    (
+        &["dm_tool", "normal", "--border=2", "--shorter"],
+        Task::Normal(Some(2), Profile::Shorter),
+    ),
 ];
 
-static REFUSED: [&[&str]; 35] = [
+static REFUSED: [&[&str]; 45] = [
     &[],
     &["dm_tool"],
     &["dm_tool", ""],
@@ -74,6 +91,16 @@ static REFUSED: [&[&str]; 35] = [
     &["dm_tool", "read", "--border", "1", "--border", "2"],
     &["dm_tool", "read", "--bord", "1"],
     &["dm_tool", "read", "-b", "1"],
+    &["dm_tool", "read", "--shorter"],
+    &["dm_tool", "check", "--shorter"],
+    &["dm_tool", "check", "--border", "2", "--shorter"],
+    &["dm_tool", "table", "--shorter"],
+    &["dm_tool", "--shorter", "write"],
+    &["dm_tool", "write", "--shorter", "--shorter"],
+    &["dm_tool", "write", "--shorter=true"],
+    &["dm_tool", "normal", "--shorter", "2"],
+    &["dm_tool", "write", "--short"],
+    &["dm_tool", "normal", "-s"],
 ];
 
 #[test]
@@ -126,7 +153,7 @@ fn calls_end_with_status_and_line(rt: HostRuntime) {
         (
             CallFault::Usage,
             2,
-            "dm_tool: usage: dm_tool read|check|normal [--border N] | write | table",
+            "dm_tool: usage: dm_tool read|check [--border N] | normal [--border N] [--shorter] | write [--shorter] | table",
         ),
         (CallFault::Memory, 3, "dm_tool: no memory"),
     ];

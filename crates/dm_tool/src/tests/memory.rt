@@ -1,6 +1,7 @@
 //! A source and a sink in memory, which fail where they are told to.
-ghost use Rattle.std.specs.Prelude.{◌≡◌, ◌++◌, [], Some, refl};
-ghost use Rattle.std.proofs.Common.{sym, ap, ◌∙◌, append_assoc};
+ghost use Rattle.std.specs.Prelude.{◌≡◌, ◌≤◌, ◌<◌, ◌+◌, ◌++◌, ℕ, [], Some, length, refl};
+ghost use Rattle.std.proofs.Common.{sym, ap, ◌∙◌, append_assoc, append-nil, le-add_right};
+ghost use Rattle.dm_tool.specs.TestDevices.{given_joined, kept_joined, place_before, place_within};
 
 use crate::device::{Failed, failure};
 use crate::sink::Sink;
@@ -20,6 +21,10 @@ pub(super) struct TextSource<'a> {
     later: usize,
     good_reads: usize,
     reads: usize,
+    /// How many bytes it has given.
+    given: usize,
+    /// The last place up to which it was asked for bytes.
+    reach: usize,
     failures: u64,
 }
 
@@ -44,6 +49,8 @@ impl<'a> TextSource<'a> {
             later: piece.max(1),
             good_reads,
             reads: 0,
+            given: 0,
+            reach: 0,
             failures: 0,
         }
     }
@@ -52,21 +59,37 @@ impl<'a> TextSource<'a> {
     pub(super) fn reads(&self) -> usize {
         self.reads
     }
+
+    /// The last place up to which it was asked for bytes, the first byte's being 1.
+    pub(super) fn reach(&self) -> usize {
+        self.reach
+    }
 }
 
 impl<'a> Source for TextSource<'a> {
-    ghost gave = { λ s t bytes. s.rest.now ≡ bytes ++ t.rest.now };
+    ghost gave = { λ s t bytes. (s.rest.now ≡ bytes ++ t.rest.now) × (t.given ≤ s.given + length bytes) };
 
     ghost ended = { λ s. s.rest.now ≡ [] };
 
     ghost failed = { λ s. s.failures };
 
-    ghost gave_none = { λ s. refl };
+    ghost asked = { λ s t most. (k : ℕ) → s.reach ≤ k → s.given + most ≤ k → t.reach ≤ k };
 
-    ghost gave_joined = { λ a b c x y first then. first ∙ ap (λ l. x ++ l) then ∙ sym (append_assoc x y c.rest.now) };
+    ghost gave_none = { λ s. (refl, le-add_right s.given 0) };
+
+    ghost gave_joined = { λ a b c x y first then. (
+      first.0 ∙ ap (λ l. x ++ l) then.0 ∙ sym (append_assoc x y c.rest.now),
+      given_joined a.given b.given c.given x y first.1 then.1,
+    ) };
+
+    ghost asked_none = { λ s k low high. low };
+
+    ghost asked_joined = { λ a b c x m n most gave first then fewer within k low high.
+        then k (first k low (place_before a.given m most k fewer high)) (place_within a.given b.given (length x) n most k gave.1 within high) };
 
     fn read(&mut self, into: &mut [u8]) -> Result<usize, Failed> {
         self.reads = self.reads.saturating_add(1);
+        self.reach = self.reach.max(self.given.saturating_add(into.len()));
         if self.good_reads == 0 {
             return Err(failure(&mut self.failures));
         }
@@ -74,6 +97,7 @@ impl<'a> Source for TextSource<'a> {
         let count = self.piece.max(1).min(into.len()).min(self.rest.len());
         into[..count].copy_from_slice(&self.rest[..count]);
         self.rest = &self.rest[count..];
+        self.given = self.given.saturating_add(count);
         self.piece = self.later;
         Ok(count)
     }
@@ -83,7 +107,7 @@ impl<'a> Source for TextSource<'a> {
     }
 }
 
-/// Keeps what it takes, and how much it had taken at each flush. A write of no byte fails: no run needs one.
+/// Keeps what it takes, and how much it had taken at each of the first flushes. A write of no byte fails: no run needs one.
 #[derive(Drop)]
 pub(super) struct MemorySink {
     taken: Taken,
@@ -126,7 +150,7 @@ impl MemorySink {
         self.taken.as_slice()
     }
 
-    /// How many bytes it had taken at each flush, failed ones too.
+    /// How many bytes it had taken at each of the first four flushes, failed ones too.
     pub(super) fn flushes(&self) -> &[usize] {
         self.flushes.as_slice()
     }
@@ -139,6 +163,12 @@ impl Sink for MemorySink {
 
     ghost is_pending = { λ s. s.pending };
 
+    ghost flushed = { λ s t held. length t.flushes.items < 4 → t.flushes.items ≡ s.flushes.items ++ held };
+
+    ghost flushed_none = { λ s few. sym (append-nil s.flushes.items) };
+
+    ghost flushed_joined = { λ a b c x y first then. kept_joined a.flushes.items b.flushes.items c.flushes.items x y first then };
+
     fn write(&mut self, bytes: &[u8]) -> Result<usize, Failed> {
         let room = self.room.saturating_sub(self.taken.len());
         let count = self.piece.min(room).min(bytes.len());
@@ -150,7 +180,9 @@ impl Sink for MemorySink {
     }
 
     fn flush(&mut self) -> Result<(), Failed> {
-        let _kept = self.flushes.try_push(self.taken.len());
+        if !self.flushes.is_full() {
+            self.flushes.push(self.taken.len());
+        }
         if self.flush_fails {
             return Err(failure(&mut self.failures));
         }

@@ -3,6 +3,7 @@
 mod failing;
 mod grids;
 mod messages;
+mod profiles;
 
 use super::memory::{MemorySink, Taken, TextSource};
 use super::texts::TWO_GRIDS;
@@ -10,6 +11,7 @@ use crate::ending::ending;
 use crate::running::run;
 use crate::task::{Tally, Task};
 use arrayvec::ArrayVec;
+use dm_symbol::Profile;
 use std::process::Abort;
 
 /// More bytes than any text of these tests has.
@@ -58,8 +60,10 @@ fn no_text_has_no_answers(rt: HostRuntime) {
     for task in [
         Task::Read(None),
         Task::Check(None),
-        Task::Normal(None),
-        Task::Write,
+        Task::Normal(None, Profile::Ascii),
+        Task::Write(Profile::Ascii),
+        Task::Normal(None, Profile::Shorter),
+        Task::Write(Profile::Shorter),
     ] {
         writes(&rt, task, b"", b"", 0, 0);
     }

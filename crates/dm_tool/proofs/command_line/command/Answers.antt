@@ -7,4 +7,4 @@ pub returns : goal.returns
 returns c = IfOk-weaker c.joined-5.result _ _ (λ a h. h ∙ ap₂ with_subcommand (c.in_ok-with_write.ensures
     ∙ ap₂ with_subcommand (c.in_ok-with_normal.ensures ∙ ap₂ with_subcommand (c.in_ok-with_check.ensures
     ∙ ap₂ with_subcommand (c.in_ok-with_read.ensures ∙ ap₂ with_subcommand c.top.ensures c.in_ok-with_border.ensures.shape)
-    c.in_ok-with_border-2.ensures.shape) c.in_ok-with_border-3.ensures.shape) c.plain.ensures.shape) c.plain-2.ensures.shape) c.joined-5.ensures
+    c.in_ok-with_border-2.ensures.shape) c.in_ok-with_both.ensures.shape) c.in_ok-with_shorter.ensures.shape) c.plain.ensures.shape) c.joined-5.ensures

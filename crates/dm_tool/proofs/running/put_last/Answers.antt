@@ -20,3 +20,6 @@ returns-then-finish-clause-ok g c = one_more (λ last. Ends c.args.answering.now
 pub returns-then-finish-clause-err : goal.returns-then-finish-clause-err
 returns-then-finish-clause-err g c = one_begun (λ last. Ends c.args.answering.now last) c.put_answer.result c.finish.new.answer (g.O.Sink.contents c.args.sink.now) (g.O.Sink.contents c.put_answer.new.sink)
     (rw c.if-finish.true at c.finish.ensures.last) c.put_answer.ensures.err
+
+pub returns-else-finish-clause-unflushed : goal.returns-else-finish-clause-unflushed
+returns-else-finish-clause-unflushed g c = g.met.O.Sink.flushed_none c.args.sink.now

@@ -1,8 +1,10 @@
-use Rattle.std.proofs.Common.{◌≡◌, ◌≤◌, ◌+◌, ◌-◌, ◌∙◌, [], ◌∷◌, ◌++◌, List, ℕ, zero, suc, append-nil, arith, length, length-append, length-take-le, max, refl, subst, sym, take}
+use Rattle.std.proofs.Common.{◌≡◌, ◌≤◌, ◌+◌, ◌-◌, ◌∙◌, [], ◌∷◌, ◌++◌, List, ℕ, zero, suc, append-nil, arith, inl, length, length-append, length-take-le, max, refl, subst, sym, take}
 use Rattle.std.specs.Io.KnownBytes.{Appends}
-use Rattle.dm_tool.specs.Devices.{AppendsFront}
-use Rattle.dm_tool.specs.Runs.{written}
-use Rattle.dm_tool.proofs.KnownBytes.{appends_then, front_then}
+use Rattle.dm_tool.specs.Devices.{AppendsFront, IsFlushedOnce}
+use Rattle.dm_tool.specs.Runs.{most_asked, written}
+use Rattle.dm_tool.proofs.Asks.{asked_in_all, next_is_within}
+use Rattle.dm_tool.proofs.Flushes.{flushed_later, table_flushed, text_flushed}
+use Rattle.dm_tool.proofs.KnownBytes.{appends_none, appends_then, front_then}
 use Rattle.dm_tool.proofs.Outcomes.{all_answered, broken_after, broken_before, done_so_far, table_answered, table_broken, too_much, written_append}
 use Rattle.dm_tool.proofs.Standings.{done_by, not_table}
 use Rattle.dm_tool.proofs.running.run.Goals as goal
@@ -31,6 +33,17 @@ one_byte (suc (suc count)) place n h k = absurd (omega arith)
 -- nothing more
 no_more : (Gave : List ℕ → Type 0) (text place : List ℕ) (count : ℕ) → count ≡ 0 → Gave (text ++ take count place) → Gave text
 no_more Gave text place count e gave = subst Gave (append-nil text) (subst (λ n. Gave (text ++ take n place)) e gave)
+
+pub pieces-init : goal.pieces-init
+pieces-init g c = record {
+  read_well = refl;
+  wrote_well = refl;
+  unflushed = g.met.O.Sink.flushed_none c.args.sink.now;
+  asked = g.met.I.Source.asked_joined c.args.source.now c.args.source.now c.args.source.now [] 0 0 c.args.most (g.met.I.Source.gave_none c.args.source.now)
+      (g.met.I.Source.asked_none c.args.source.now) (g.met.I.Source.asked_none c.args.source.now) (omega arith) (omega arith);
+  room = omega arith;
+  so_far = ([], [], g.met.I.Source.gave_none c.args.source.now, omega arith, c.in-Some.ensures.some, appends_none (g.O.Sink.contents c.args.sink.now), refl);
+}
 
 pub returns-in_default-clause-answered : goal.returns-in_default-clause-answered
 returns-in_default-clause-answered g c = table_answered c.args.task c.args.most (g.I.Source.gave c.args.source.now c.args.source.now)
@@ -114,6 +127,9 @@ pieces-preserved g c =
     record {
       read_well = c.in-Ok.ensures.count ∙ c.pieces.invariant.read_well;
       wrote_well = c.in_default-answer_piece.ensures.count ∙ c.pieces.invariant.wrote_well;
+      unflushed = g.met.O.Sink.flushed_joined c.args.sink.now c.pieces.sink c.answer_piece.new.sink [] [] c.pieces.invariant.unflushed c.answer_piece.ensures.unflushed;
+      asked = g.met.I.Source.asked_joined c.args.source.now c.pieces.source c.next_piece.new.source s.0 c.args.most (max c.pieces.left 1) c.args.most s.2 c.pieces.invariant.asked
+          c.next_piece.ensures.asked (omega arith) (next_is_within (length s.0) c.pieces.left c.args.most s.3 c.if-left-eq0.false);
       room =
           omega (arith, c.pieces.invariant.room, c.in_default-answer_piece.ensures.sum, length-take-le count place fits, within count c.pieces.left c.in-Ok.ensures.few c.if-left-eq0.false);
       so_far = (
@@ -127,3 +143,92 @@ pieces-preserved g c =
         e.3 s.1 s.6,
       );
     }
+
+pub returns-in_default-clause-asked : goal.returns-in_default-clause-asked
+returns-in_default-clause-asked g c = (
+  [],
+  g.met.I.Source.gave_none c.args.source.now,
+  g.met.I.Source.asked_joined c.args.source.now c.args.source.now c.args.source.now [] 0 0 (most_asked c.args.most 0) (g.met.I.Source.gave_none c.args.source.now)
+      (g.met.I.Source.asked_none c.args.source.now) (g.met.I.Source.asked_none c.args.source.now) (omega arith) (omega arith),
+)
+
+pub returns-in-Ok-end-clause-asked : goal.returns-in-Ok-end-clause-asked
+returns-in-Ok-end-clause-asked g c =
+    let s = c.pieces.invariant.so_far in
+    let gave = g.met.I.Source.gave_joined c.args.source.now c.pieces.source c.next_piece.new.source s.0 _ s.2 c.in-Ok-eq0.ensures.bytes in (
+      s.0,
+      no_more (g.I.Source.gave c.args.source.now c.next_piece.new.source) s.0 c.next_piece.new.place c.in-Ok-eq0.field-0 c.in-Ok-eq0.field-0-test gave,
+      asked_in_all g.I.Source.gave g.I.Source.asked g.met.I.Source.asked_joined c.args.source.now c.pieces.source c.next_piece.new.source s.0 s.0 c.pieces.left c.args.most s.2
+          c.pieces.invariant.asked c.next_piece.ensures.asked s.3 (omega arith),
+    )
+
+pub returns-in-Err-end-clause-asked : goal.returns-in-Err-end-clause-asked
+returns-in-Err-end-clause-asked g c =
+    let s = c.pieces.invariant.so_far in
+    let gave = g.met.I.Source.gave_joined c.args.source.now c.pieces.source c.next_piece.new.source s.0 _ s.2 c.in-Ok-eq0.ensures.bytes in (
+      s.0,
+      no_more (g.I.Source.gave c.args.source.now c.next_piece.new.source) s.0 c.next_piece.new.place c.in-Ok-eq0.field-0 c.in-Ok-eq0.field-0-test gave,
+      asked_in_all g.I.Source.gave g.I.Source.asked g.met.I.Source.asked_joined c.args.source.now c.pieces.source c.next_piece.new.source s.0 s.0 c.pieces.left c.args.most s.2
+          c.pieces.invariant.asked c.next_piece.ensures.asked s.3 (omega arith),
+    )
+
+pub returns-in-Err-clause-asked : goal.returns-in-Err-clause-asked
+returns-in-Err-clause-asked g c =
+    let s = c.pieces.invariant.so_far in
+    let gave = g.met.I.Source.gave_joined c.args.source.now c.pieces.source c.next_piece.new.source s.0 [] s.2 c.in-Err.ensures.bytes in (
+      s.0,
+      rw append-nil at gave,
+      asked_in_all g.I.Source.gave g.I.Source.asked g.met.I.Source.asked_joined c.args.source.now c.pieces.source c.next_piece.new.source s.0 s.0 c.pieces.left c.args.most s.2
+          c.pieces.invariant.asked c.next_piece.ensures.asked s.3 (omega arith),
+    )
+
+pub returns-then-left-eq0-clause-asked : goal.returns-then-left-eq0-clause-asked
+returns-then-left-eq0-clause-asked g c =
+    let s = c.pieces.invariant.so_far in
+    let text = s.0 ++ take c.in-Ok.count c.next_piece.new.place in (
+      text,
+      g.met.I.Source.gave_joined c.args.source.now c.pieces.source c.next_piece.new.source s.0 _ s.2 c.in-Ok.ensures.bytes,
+      asked_in_all g.I.Source.gave g.I.Source.asked g.met.I.Source.asked_joined c.args.source.now c.pieces.source c.next_piece.new.source s.0 text c.pieces.left c.args.most s.2
+          c.pieces.invariant.asked c.next_piece.ensures.asked s.3 (omega (arith, length-append s.0 (take c.in-Ok.count c.next_piece.new.place))),
+    )
+
+pub returns-in-Err-answer_piece-clause-asked : goal.returns-in-Err-answer_piece-clause-asked
+returns-in-Err-answer_piece-clause-asked g c =
+    let s = c.pieces.invariant.so_far in
+    let text = s.0 ++ take c.in-Ok.count c.next_piece.new.place in (
+      text,
+      g.met.I.Source.gave_joined c.args.source.now c.pieces.source c.next_piece.new.source s.0 _ s.2 c.in-Ok.ensures.bytes,
+      asked_in_all g.I.Source.gave g.I.Source.asked g.met.I.Source.asked_joined c.args.source.now c.pieces.source c.next_piece.new.source s.0 text c.pieces.left c.args.most s.2
+          c.pieces.invariant.asked c.next_piece.ensures.asked s.3 (omega (arith, length-append s.0 (take c.in-Ok.count c.next_piece.new.place))),
+    )
+
+pub returns-in-Ok-end-clause-flushed_last : goal.returns-in-Ok-end-clause-flushed_last
+returns-in-Ok-end-clause-flushed_last g c =
+    let s = c.pieces.invariant.so_far in
+    flushed_later (g.O.Sink.flushed c.args.sink.now c.pieces.sink) (g.O.Sink.flushed c.pieces.sink c.end.new.sink) (g.O.Sink.flushed c.args.sink.now c.end.new.sink)
+    (g.O.Sink.contents c.args.sink.now) (g.O.Sink.contents c.pieces.sink) (g.O.Sink.contents c.end.new.sink) (written s.1)
+    (g.met.O.Sink.flushed_joined c.args.sink.now c.pieces.sink c.end.new.sink) c.pieces.invariant.unflushed s.5 c.in-Ok-end.ensures.held
+
+pub returns-in_default-clause-write_flushed : goal.returns-in_default-clause-write_flushed
+returns-in_default-clause-write_flushed g c = table_flushed c.args.task c.args.most (g.I.Source.gave c.args.source.now c.args.source.now)
+    (Appends (g.O.Sink.contents c.args.sink.now) (g.O.Sink.contents c.print_table.new.sink)) (g.I.Source.ended c.args.source.now)
+    (g.O.Sink.flushed c.args.sink.now c.print_table.new.sink [])
+    (IsFlushedOnce (g.O.Sink.flushed c.args.sink.now c.print_table.new.sink) (g.O.Sink.contents c.args.sink.now) (g.O.Sink.contents c.print_table.new.sink))
+    c.print_table.result c.in_default.ensures.none (g.met.I.Source.gave_none c.args.source.now) c.print_table.ensures.late
+
+pub returns-in-Err-end-clause-write_flushed : goal.returns-in-Err-end-clause-write_flushed
+returns-in-Err-end-clause-write_flushed g c is =
+    let s = c.pieces.invariant.so_far in
+    let zero_bytes = c.in-Ok-eq0.field-0-test in
+    let gave = g.met.I.Source.gave_joined c.args.source.now c.pieces.source c.next_piece.new.source s.0 _ s.2 c.in-Ok-eq0.ensures.bytes in
+    text_flushed c.args.task c.args.most (g.I.Source.gave c.args.source.now c.next_piece.new.source) (g.I.Source.ended c.next_piece.new.source) c.pieces.answering s.0 s.1
+    c.pieces.tally c.end.new.tally
+    (g.O.Sink.flushed c.args.sink.now c.pieces.sink) (g.O.Sink.flushed c.pieces.sink c.end.new.sink) (g.O.Sink.flushed c.args.sink.now c.end.new.sink)
+    (g.O.Sink.contents c.args.sink.now) (g.O.Sink.contents c.pieces.sink) (g.O.Sink.contents c.end.new.sink)
+    (g.met.O.Sink.flushed_joined c.args.sink.now c.pieces.sink c.end.new.sink) c.pieces.invariant.unflushed s.5
+    (no_more (g.I.Source.gave c.args.source.now c.next_piece.new.source) s.0 c.next_piece.new.place c.in-Ok-eq0.field-0 zero_bytes gave)
+    (c.in-Ok-eq0.ensures.end zero_bytes) (few s.0 c.pieces.left c.args.most s.3) s.4 s.6 c.in-Err-end.ensures.late
+
+pub returns-in-Err-answer_piece-clause-write_flushed : goal.returns-in-Err-answer_piece-clause-write_flushed
+returns-in-Err-answer_piece-clause-write_flushed g c is =
+    inl (g.met.O.Sink.flushed_joined c.args.sink.now c.pieces.sink c.answer_piece.new.sink [] [] c.pieces.invariant.unflushed c.answer_piece.ensures.unflushed)

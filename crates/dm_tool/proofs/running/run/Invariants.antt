@@ -1,4 +1,4 @@
-use Rattle.std.proofs.Common.{◌≡◌, ◌+◌, ◌≤◌, List, ℕ, length}
+use Rattle.std.proofs.Common.{◌≡◌, ◌+◌, ◌≤◌, [], List, ℕ, length}
 use Rattle.std.specs.Io.KnownBytes.{Appends}
 use Rattle.dm_tool.specs.Answers.{Answer}
 use Rattle.dm_tool.specs.Runs.{tally_of, written}
@@ -9,6 +9,8 @@ abbrev pub invariant-pieces : goal.invariant-pieces
 invariant-pieces g l = record {
   read_well : g.I.Source.failed l.source ≡ g.I.Source.failed l.initial.source;
   wrote_well : g.O.Sink.failed l.sink ≡ g.O.Sink.failed l.initial.sink;
+  unflushed : g.O.Sink.flushed l.initial.sink l.sink [];
+  asked : g.I.Source.asked l.initial.source l.source l.most;
   room : l.tally.answered + l.tally.refused + l.left ≤ l.most;
   so_far : (text : List ℕ) × (answers : List Answer) × g.I.Source.gave l.initial.source l.source text × (length text + l.left ≡ l.most)
       × Stands l.fn.task l.answering text answers × Appends (g.O.Sink.contents l.initial.sink) (g.O.Sink.contents l.sink) (written answers)

@@ -9,6 +9,7 @@ use crate::running::run;
 use crate::sink::{Sink, ToWrite};
 use crate::source::{FromRead, Source};
 use crate::task::{RunFault, Tally, Task};
+use dm_symbol::Profile;
 use std::io::{self, ErrorKind, Read, Write};
 use std::process::Abort;
 
@@ -67,6 +68,7 @@ fn ends(
     assert_eq!(rt; outcome, end.outcome);
     assert_eq!(rt; ending(&outcome), end.ending);
     assert_eq!(rt; source.reads(), end.reads);
+    assert!(rt; source.reach() as u64 <= u64::from(most).saturating_add(1));
     assert!(rt; sink.taken() == end.written);
     assert!(rt; sink.flushes() == end.flushes);
     let read_failures = u64::from(outcome == Err(RunFault::Read));
@@ -198,7 +200,14 @@ fn a_read_fails_between_lines(rt: HostRuntime) {
         let written = if good < 2 { b"".as_slice() } else { LINES[1].1 };
         let source = TextSource::failing(TWO_LINES, 1, good);
         let end = read_failed(good.saturating_add(1), written);
-        ends(&rt, Task::Write, source, MemorySink::new(), 1000, &end);
+        ends(
+            &rt,
+            Task::Write(Profile::Ascii),
+            source,
+            MemorySink::new(),
+            1000,
+            &end,
+        );
     }
 }
 
@@ -213,7 +222,7 @@ fn a_write_fails_within_a_grid(rt: HostRuntime) {
         let sink = MemorySink::failing(7, room);
         ends(
             &rt,
-            Task::Write,
+            Task::Write(Profile::Ascii),
             TextSource::new(TWO_LINES),
             sink,
             1000,
@@ -230,7 +239,7 @@ fn lines_are_limited(rt: HostRuntime) {
         let sink = MemorySink::new();
         ends(
             &rt,
-            Task::Write,
+            Task::Write(Profile::Ascii),
             TextSource::new(TWO_LINES),
             sink,
             most,

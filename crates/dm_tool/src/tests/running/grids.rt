@@ -1,15 +1,30 @@
 //! Runs that read, check and normalise grids.
 
-use super::super::marks::push_record;
 use super::super::memory::Taken;
 use super::super::texts::TWO_GRIDS;
 use super::super::worked::{AIM, GRIDS, LARGE, LINES, RAISED};
 use super::{push, writes, written_for};
 use crate::task::Task;
+use arrayvec::ArrayVec;
+use dm_symbol::Profile;
 use std::process::Abort;
 
+/// Appends the record of rows of modules, from the top, without an empty line after it: the leftmost module is the highest of as
+/// many bits as there are rows; 1 is dark.
+fn push_record<const N: usize>(rt: &impl Abort, text: &mut ArrayVec<u8, N>, rows: &[u128]) {
+    for row in rows {
+        for column in (0..rows.len()).rev() {
+            if column < 128 {
+                let dark = (row >> column) % 2 == 1;
+                push(rt, text, if dark { b"1" } else { b"0" });
+            }
+        }
+        push(rt, text, b"\n");
+    }
+}
+
 /// The record of rows of modules.
-fn record_of(rt: &impl Abort, rows: &[u128]) -> Taken {
+pub(super) fn record_of(rt: &impl Abort, rows: &[u128]) -> Taken {
     let mut text = Taken::new();
     push_record(rt, &mut text, rows);
     text
@@ -80,7 +95,7 @@ fn two_records_are_read(rt: HostRuntime) {
     push(&rt, &mut normal, LINES[1].1);
     writes(
         &rt,
-        Task::Normal(None),
+        Task::Normal(None, Profile::Ascii),
         text.as_slice(),
         normal.as_slice(),
         2,
@@ -140,10 +155,10 @@ fn runs_of_other_encodations_are_read(rt: HostRuntime) {
             bad,
         );
         if !refused {
-            let normal = written_for(Task::Write, line);
+            let normal = written_for(Task::Write(Profile::Ascii), line);
             writes(
                 &rt,
-                Task::Normal(None),
+                Task::Normal(None, Profile::Ascii),
                 record.as_slice(),
                 normal.as_slice(),
                 1,
@@ -166,8 +181,12 @@ fn borders_are_borne_up_to_the_limit(rt: HostRuntime) {
             b"ok 10 border 10 corrected 0\n".as_slice(),
             0,
         ),
-        (Task::Normal(Some(2)), b"\\no 5 border 10\n\n".as_slice(), 1),
-        (Task::Normal(Some(10)), LINES[0].1, 0),
+        (
+            Task::Normal(Some(2), Profile::Ascii),
+            b"\\no 5 border 10\n\n".as_slice(),
+            1,
+        ),
+        (Task::Normal(Some(10), Profile::Ascii), LINES[0].1, 0),
     ];
     for (task, written, refused) in table {
         let answered = 1u64.saturating_sub(refused);
@@ -179,7 +198,7 @@ fn borders_are_borne_up_to_the_limit(rt: HostRuntime) {
 fn grids_are_normalised_in_order(rt: HostRuntime) {
     let mut text = Taken::new();
     let mut normal = Taken::new();
-    let raised = written_for(Task::Write, b"\\xC1");
+    let raised = written_for(Task::Write(Profile::Ascii), b"\\xC1");
     let table = [
         (0, LINES[0].1),
         (1, b"\\no 6 block 0\n\n".as_slice()),
@@ -197,14 +216,21 @@ fn grids_are_normalised_in_order(rt: HostRuntime) {
     }
     writes(
         &rt,
-        Task::Normal(None),
+        Task::Normal(None, Profile::Ascii),
         text.as_slice(),
         normal.as_slice(),
         5,
         2,
     );
-    writes(&rt, Task::Normal(None), AIM, AIM, 1, 0);
-    writes(&rt, Task::Normal(None), RAISED, RAISED, 1, 0);
+    writes(&rt, Task::Normal(None, Profile::Ascii), AIM, AIM, 1, 0);
+    writes(
+        &rt,
+        Task::Normal(None, Profile::Ascii),
+        RAISED,
+        RAISED,
+        1,
+        0,
+    );
 }
 
 /// A record that is no grid has this line, whatever is asked of it, and the records after it are read.
@@ -217,7 +243,7 @@ fn refuses(rt: &impl Abort, record: &[u8], line: &[u8]) {
     let mut blank = Taken::new();
     push(rt, &mut blank, line);
     push(rt, &mut blank, b"\n");
-    let normal = Task::Normal(None);
+    let normal = Task::Normal(None, Profile::Ascii);
     writes(rt, normal, text.as_slice(), blank.as_slice(), 0, 1);
     push(rt, &mut text, b"\n");
     push(rt, &mut text, TWO_GRIDS);
@@ -263,8 +289,15 @@ fn a_normal_grid_may_be_larger(rt: HostRuntime) {
     push(&rt, &mut line, b"\n");
     let (grid, text) = (record.as_slice(), line.as_slice());
     writes(&rt, Task::Read(None), grid, text, 1, 0);
-    let normal = written_for(Task::Write, text);
+    let normal = written_for(Task::Write(Profile::Ascii), text);
     assert_eq!(rt; normal.len(), 80 * 81 + 1);
-    writes(&rt, Task::Normal(None), grid, normal.as_slice(), 1, 0);
+    writes(
+        &rt,
+        Task::Normal(None, Profile::Ascii),
+        grid,
+        normal.as_slice(),
+        1,
+        0,
+    );
     writes(&rt, Task::Read(None), normal.as_slice(), text, 1, 0);
 }

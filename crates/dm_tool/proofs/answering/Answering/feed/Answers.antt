@@ -15,10 +15,10 @@ returns-in-Some-clause-closed c =
 pub returns-in-None-closed-clause-open : goal.returns-in-None-closed-clause-open
 returns-in-None-closed-clause-open c =
     let now = rw c.in-None-closed.is at c.feed-taken-in-Lines.ensures.«open» in
-    rw c.in-Lines.is (line_open c.in-Lines.feed c.feed-taken-in-Lines.new.self c.args.piece.now c.feed-taken-in-Lines.result.taken now)
+    rw c.in-Lines.is (line_open c.in-Lines.profile c.in-Lines.feed c.feed-taken-in-Lines.new.self c.args.piece.now c.feed-taken-in-Lines.result.taken now)
 
 pub returns-in-Some-closed-clause-closed : goal.returns-in-Some-closed-clause-closed
 returns-in-Some-closed-clause-closed c =
     let now = rw c.in-Some-closed.is at c.feed-taken-in-Lines.ensures.closed in
-    rw c.in-Lines.is (line_closed c.in-Lines.feed c.feed-taken-in-Lines.new.self c.args.piece.now c.feed-taken-in-Lines.result.taken c.in-Some-closed.line
+    rw c.in-Lines.is (line_closed c.in-Lines.profile c.in-Lines.feed c.feed-taken-in-Lines.new.self c.args.piece.now c.feed-taken-in-Lines.result.taken c.in-Some-closed.line
     c.answer_line.new.answer now c.answer_line.ensures)

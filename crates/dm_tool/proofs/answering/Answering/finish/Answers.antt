@@ -11,9 +11,9 @@ returns-in-Some-clause-last c =
 
 pub returns-in-None-finish-clause-none : goal.returns-in-None-finish-clause-none
 returns-in-None-finish-clause-none c =
-    rw c.in-Lines.is (lines_end c.in-Lines.feed (λ line known. none_left line (λ some. true≢false (sym ((c.in-None-finish.ensures.some line known).1 some)))))
+    rw c.in-Lines.is (lines_end c.in-Lines.profile c.in-Lines.feed (λ line known. none_left line (λ some. true≢false (sym ((c.in-None-finish.ensures.some line known).1 some)))))
 
 pub returns-in-Some-finish-clause-last : goal.returns-in-Some-finish-clause-last
 returns-in-Some-finish-clause-last c =
-    rw c.in-Lines.is (last_line_ends c.in-Lines.feed c.in-Some-finish.line c.answer_line.new.answer
+    rw c.in-Lines.is (last_line_ends c.in-Lines.profile c.in-Lines.feed c.in-Some-finish.line c.answer_line.new.answer
     (λ line known. (some_left c.in-Some-finish.line line (c.in-Some-finish.ensures.some line known), c.in-Some-finish.ensures.line line known)) c.answer_line.ensures)

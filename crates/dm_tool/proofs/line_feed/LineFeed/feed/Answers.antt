@@ -3,17 +3,17 @@ use Rattle.dm_tool.proofs.Texts.{length-front}
 use Rattle.dm_tool.proofs.line_feed.LineFeed.feed.Goals as goal
 
 pub invariant_of-self : goal.invariant_of-self
-invariant_of-self c = (c.self.invariant.0 ++ c.args.piece.now, c.take.ensures c.self.invariant.0 c.self.invariant.1)
+invariant_of-self c = (c.self.invariant.0 ++ c.args.piece.now, c.in_default.ensures.«open» c.self.invariant.0 c.self.invariant.1)
 
 pub returns-in_default-clause-open : goal.returns-in_default-clause-open
 returns-in_default-clause-open c = record {
   whole = refl;
   no_lf = c.in_default.ensures.none;
-  grown = λ line facts. c.take.ensures line (rw (← c.self.view_is) at facts);
+  grown = λ line facts. c.in_default.ensures.«open» line (rw (← c.self.view_is) at facts);
 }
 
 pub invariant_of-self-2 : goal.invariant_of-self-2
-invariant_of-self-2 c = (c.self.invariant.0 ++ take c.in-Some.end c.args.piece.now, c.take-2.ensures c.self.invariant.0 c.self.invariant.1)
+invariant_of-self-2 c = (c.self.invariant.0 ++ take c.in-Some.end c.args.piece.now, c.in-Some.ensures.before c.self.invariant.0 c.self.invariant.1)
 
 pub returns-clause-closed : goal.returns-clause-closed
 returns-clause-closed c = record {
@@ -22,6 +22,6 @@ returns-clause-closed c = record {
   piece_is = c.in-Some.ensures.first.whole;
   no_lf = c.in-Some.ensures.first.no_lf;
   taken_is = length-front c.in-Some.end c.args.piece.now c.in-Some.ensures.within;
-  answered = λ line facts. c.close.ensures.line (line ++ take c.in-Some.end c.args.piece.now) (c.take-2.ensures line (rw (← c.self.view_is) at facts));
+  answered = λ line facts. c.close.ensures.line (line ++ take c.in-Some.end c.args.piece.now) (c.in-Some.ensures.before line (rw (← c.self.view_is) at facts));
   empty = c.close.ensures.empty;
 }

@@ -1,0 +1,120 @@
+-- Cells that are looked at together.
+use Rattle.std.proofs.Common.{◌≡◌, ◌∙◌, ◌+◌, ◌-◌, ◌*◌, ◌%◌, ◌^◌, ◌<◌, ◌≤◌, ℕ, suc, Bool, true, false, not, List, [], ◌∷◌, ◌++◌, refl, sym, ap, subst, length, map, get_or, take, drop, bit_and, bit_or, ◌≢◌, arith, w8, Fits}
+use Rattle.std.specs.Prelude.{◌==◌, ◌||◌}
+use Rattle.std.specs.List.{list_all, list_any, prefix_len, range_with_len}
+use Rattle.std.specs.Simd.Lanes.{mask_l, chunk, Each1}
+use Rattle.std.proofs.Math.Nat.{mod-eq_of_lt, one-mul, zero-add}
+use Rattle.std.proofs.Math.Pow.{pow_mono}
+use Rattle.std.proofs.lemmas.List.{length-take-le, take-append-drop, take-take}
+use Rattle.std.proofs.lemmas.List.Folds.{list_all_at}
+use Rattle.std.proofs.lemmas.List.FromFn.{get_or-range_with_len, length-range_with_len}
+use Rattle.std.proofs.lemmas.List.Sums.{prefix_len-le-length}
+use Rattle.std.proofs.lemmas.Nat.{and_mask, mod-mul-add, pow_pos}
+use Rattle.std.proofs.lemmas.Simd.{length-chunk, get_or-chunk, Each1-from_get_or}
+use Rattle.dm_tool.specs.Texts.{HasNoLf}
+use Rattle.dm_tool.specs.Records.{is_foreign}
+use Rattle.dm_tool.specs.declared.front.Front.{Front}
+use Rattle.dm_tool.specs.OpenRecords.{IsFrontOf, digit_of, is_dark, number_of}
+use Rattle.dm_tool.proofs.RecordSteps.{or_cases}
+use Rattle.dm_tool.proofs.KeptRows.{number_more, number_small}
+
+-- the number of a line is the mask of its dark cells
+pub number_is_mask : (line : List ℕ) → number_of line ≡ mask_l (map is_dark line)
+number_is_mask [] = refl
+number_is_mask (b ∷ line) = ap (λ (n : ℕ). digit_of b + 2 * n) (number_is_mask line)
+
+-- the low bits of the number of a line are the number of its front
+pub front_number : (n : ℕ) (line : List ℕ) → n ≤ length line → number_of line % 2 ^ n ≡ number_of (take n line)
+front_number n line le =
+    let long : length (take n line) ≡ n = length-take-le n line le in
+    let parts : number_of line ≡ number_of (drop n line) * 2 ^ n + number_of (take n line) =
+    ap number_of (sym (take-append-drop n line)) ∙ number_more (take n line) (drop n line)
+    ∙ ap (λ (k : ℕ). number_of (drop n line) * 2 ^ k + number_of (take n line)) long in
+    ap (λ (k : ℕ). k % 2 ^ n) parts ∙ mod-mul-add (number_of (drop n line)) (2 ^ n) (number_of (take n line)) (subst (λ (k : ℕ). number_of (take n line) < 2 ^ k) long (number_small (take n line)))
+
+-- they are what a mask leaves
+pub masked_front : (n : ℕ) (line : List ℕ) → n ≤ length line → bit_and (number_of line) (2 ^ n - 1) ≡ number_of (take n line)
+masked_front n line le = and_mask (number_of line) n ∙ front_number n line le
+
+-- a character that differs from 1 in the lowest bit at most
+abbrev pub is_near : ℕ → Bool
+is_near b = bit_or b 1 == 49
+
+-- it is a cell
+abbrev cell_if_near : ℕ → Bool
+cell_if_near b = not (is_near b) || not (is_foreign b)
+
+all_bytes : list_all cell_if_near (range_with_len 0 256) ≡ true
+all_bytes = refl
+
+-- a test that all numbers of a run from 0 pass is passed by each
+pub holds_at : (p : ℕ → Bool) (n : ℕ) → list_all p (range_with_len 0 n) ≡ true → (b : ℕ) → b < n → p b ≡ true
+holds_at p n all b l = by_test (p b) refl
+  where
+    by_test : (t : Bool) → p b ≡ t → p b ≡ true
+    by_test true e = e
+    by_test false e =
+        let here : get_or (range_with_len 0 n) b 0 ≡ b = get_or-range_with_len 0 n b 0 l ∙ zero-add b in
+        let none : list_all p (range_with_len 0 n) ≡ false = list_all_at p (range_with_len 0 n) b 0 (omega (arith, length-range_with_len 0 n)) (ap p here ∙ e) in
+        let never : false ≡ true = sym none ∙ all in cc
+
+cell_by : (near foreign : Bool) → (not near || not foreign) ≡ true → near ≡ true → foreign ≡ false
+cell_by true true e n = sym e
+cell_by true false e n = refl
+cell_by false foreign e n = cc
+
+near_cell : (b : ℕ) → b < 256 → is_near b ≡ true → is_foreign b ≡ false
+near_cell b l e = cell_by (is_near b) (is_foreign b) (holds_at cell_if_near 256 all_bytes b l) e
+
+-- the front of such characters is cells
+pub front_cells : (xs : List ℕ) → Each1 (Fits w8) xs → list_any is_foreign (take (prefix_len is_near xs) xs) ≡ false
+front_cells [] fits = refl
+front_cells (b ∷ xs) fits = by_test (is_near b) refl (front_cells xs fits.1)
+  where
+    by_test : (t : Bool) → is_near b ≡ t → list_any is_foreign (take (prefix_len is_near xs) xs) ≡ false
+        → list_any is_foreign (take (prefix_len is_near (b ∷ xs)) (b ∷ xs)) ≡ false
+    by_test true e rest =
+        let more : prefix_len is_near (b ∷ xs) ≡ suc (prefix_len is_near xs) = rw e (omega arith) in
+        ap (λ (n : ℕ). list_any is_foreign (take n (b ∷ xs))) more ∙ rw (near_cell b fits.0.fits e) rest
+    by_test false e rest = let none : prefix_len is_near (b ∷ xs) ≡ 0 = rw e refl in ap (λ (n : ℕ). list_any is_foreign (take n (b ∷ xs))) none
+
+-- cells are no LF
+pub cells_no_lf : (more : List ℕ) → list_any is_foreign more ≡ false → HasNoLf more
+cells_no_lf [] e = tt
+cells_no_lf (b ∷ more) e =
+    let both = or_cases (is_foreign b) (list_any is_foreign more) e in
+    (λ lf. let foreign : true ≡ false = ap is_foreign (sym lf) ∙ both.0 in cc, cells_no_lf more both.1)
+
+-- ---- the front of a text
+
+-- it is no longer than a block
+pub front_short : (text : List ℕ) (n : ℕ) → 64 ≤ length text → n ≡ prefix_len is_near (chunk 0 64 text) → n ≤ 64
+front_short text n long e = omega (arith, e, prefix_len-le-length is_near (chunk 0 64 text), length-chunk 0 64 text long)
+
+-- so many low bits are within 128
+pub mask_within : (n : ℕ) → n ≤ 64 → 1 * 2 ^ n % 2 ^ 128 ≡ 2 ^ n
+mask_within n le = ap (λ (k : ℕ). k % 2 ^ 128) (one-mul (2 ^ n)) ∙ mod-eq_of_lt (omega (arith, pow_mono le))
+
+pub mask_is : (n : ℕ) → n ≤ 64 → 1 ≤ 1 * 2 ^ n % 2 ^ 128
+mask_is n le = rw (mask_within n le) (pow_pos n)
+
+-- what stands at the front is taken
+pub front_is : (text : List ℕ) (n bits : ℕ) → 64 ≤ length text → n ≡ prefix_len is_near (chunk 0 64 text) → bits ≡ mask_l (map is_dark (chunk 0 64 text))
+    → n ≢ 0 → ((i : ℕ) → Fits w8 (get_or text i 0))
+    → IsFrontOf text (let f : Front = record { bits = bit_and bits (1 * 2 ^ n % 2 ^ 128 - 1); count = n } in f)
+front_is text n bits long count is some bytes =
+    let block = chunk 0 64 text in
+    let whole : length block ≡ 64 = length-chunk 0 64 text long in
+    let short : n ≤ 64 = front_short text n long count in
+    let front : take n block ≡ take n text = take-take n 64 text short in
+    record {
+      within = omega arith;
+      cells = record {
+        bits_are = ap (λ (k : ℕ). bit_and bits (k - 1)) (mask_within n short) ∙ ap (λ (k : ℕ). bit_and k (2 ^ n - 1)) (is ∙ sym (number_is_mask block))
+            ∙ masked_front n block (omega (arith, whole, short)) ∙ ap number_of front;
+        count_is = sym (length-take-le n text (omega arith));
+        some = omega (arith, some);
+        few = short;
+        cells = ap (list_any is_foreign) (sym front) ∙ ap (λ (k : ℕ). list_any is_foreign (take k block)) count ∙ front_cells block (Each1-from_get_or (Fits w8) block 0 (λ i l. subst (Fits w8) (sym (get_or-chunk 0 64 text i 0 (omega (arith, l, whole)))) (bytes (0 + i))));
+      };
+    }

@@ -1,0 +1,47 @@
+-- Texts that are cut between records, or between message lines, and answered part by part.
+use Rattle.std.specs.Prelude.{◌≡◌, ◌⊎◌, ◌+◌, ℕ, max, List, [], ◌∷◌, ◌++◌, Ok, Result}
+use Rattle.dm_tool.specs.declared.task.Task.{Task}
+use Rattle.dm_tool.specs.declared.task.Task.TheVariants.{Write}
+use Rattle.dm_tool.specs.declared.task.Tally.{Tally}
+use Rattle.dm_tool.specs.declared.task.RunFault.{RunFault}
+use Rattle.dm_tool.specs.Texts.{lf}
+use Rattle.dm_tool.specs.Runs.{AreMatched, IsOut, tally_of}
+use Rattle.dm_tool.specs.Endings.{IsEndingOf}
+
+-- The text ends where no record is open: it is empty, or ends with an empty line. Of message lines it is empty, or ends with LF.
+abbrev pub EndsBetween : Task → List ℕ → Type 0
+EndsBetween (Write profile) text = (text ≡ []) ⊎ ((front : List ℕ) × (text ≡ front ++ lf ∷ []))
+EndsBetween task text = (text ≡ []) ⊎ ((text ≡ lf ∷ []) ⊎ ((front : List ℕ) × (text ≡ front ++ lf ∷ lf ∷ [])))
+
+-- Each part of a text but the last ends between records, or between message lines.
+abbrev pub AreCutBetween : Task → List (List ℕ) → Type 0
+AreCutBetween task [] = Unit {0}
+AreCutBetween task (part ∷ []) = Unit {0}
+AreCutBetween task (part ∷ next ∷ parts) = EndsBetween task part × AreCutBetween task (next ∷ parts)
+
+-- What is written for a part, and its tally.
+pub record PartOut : Type 0 where
+  pub out : List ℕ
+  pub tally : Tally
+
+-- What is written for each part, as for a text of its own.
+abbrev pub AreOuts : Task → List (List ℕ) → List PartOut → Type 0
+AreOuts task parts outs = AreMatched (λ part given. IsOut task part given.out given.tally) parts outs
+
+-- The sum of two tallies.
+abbrev pub added : Tally → Tally → Tally
+added s t = record { answered = s.answered + t.answered; refused = s.refused + t.refused }
+
+-- The sum of tallies.
+abbrev pub sum_of : List Tally → Tally
+sum_of [] = tally_of []
+sum_of (tally ∷ tallies) = added tally (sum_of tallies)
+
+-- The largest of some numbers, and 0 where there are none.
+abbrev pub largest : List ℕ → ℕ
+largest [] = 0
+largest (number ∷ numbers) = max number (largest numbers)
+
+-- The program ends with this status after a run with this tally, and says nothing on standard error.
+abbrev pub EndsWith : Tally → ℕ → Type 0
+EndsWith tally status = IsEndingOf (Ok tally) status []
