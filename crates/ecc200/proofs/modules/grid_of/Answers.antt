@@ -1,0 +1,27 @@
+use Rattle.std.proofs.Common.{◌≡◌, ◌<◌, ◌*◌, ◌+◌, ◌∙◌, ℕ, length, take, get_or, ap, subst, arith}
+use Rattle.dm_symbol.specs.Grid.{square_of_rows, is_dark_in}
+use Rattle.ecc200.specs.Modules.{no_size, is_dark}
+use Rattle.ecc200.proofs.Packing.{square_packed}
+use Rattle.ecc200.proofs.Sides.{none_above}
+use Rattle.ecc200.proofs.modules.grid_of.Goals as goal
+
+pub returns-then-across-gt-LARGEST_SIDE-clause-fault : goal.returns-then-across-gt-LARGEST_SIDE-clause-fault
+returns-then-across-gt-LARGEST_SIDE-clause-fault c =
+    no_size (rw (← c.from-across.ensures) c.if-modules-across.false) (none_above c.args.side (omega (arith, c.from-across.ensures, c.if-across-gt-LARGEST_SIDE.true)))
+    c.of-then-across-gt-LARGEST_SIDE.ensures
+
+pub returns-in-Ok-clause-grid : goal.returns-in-Ok-clause-grid
+returns-in-Ok-clause-grid c =
+    let modules = c.args.modules.now in
+    let side = c.args.side in
+    let across : c.from-across.result ≡ side = c.from-across.ensures in
+    let count : length modules ≡ side * side = rw (← across) c.if-modules-across.false in
+    let above : (r k : ℕ) → r < c.loop-row.row → k < side → is_dark_in (get_or c.loop-row.rows r 0) k ≡ is_dark (get_or modules (r * side + k) 0) =
+    subst (λ x. (r k : ℕ) → r < c.loop-row.row → k < x → is_dark_in (get_or c.loop-row.rows r 0) k ≡ is_dark (get_or modules (r * x + k) 0)) across c.loop-row.invariant.above in
+    record {
+      count = count;
+      size = c.in-Ok.ensures.size;
+      cells =
+          c.in-Ok.ensures.cells ∙ ap (λ k. square_of_rows side (take k c.loop-row.rows)) across
+          ∙ square_packed side modules c.loop-row.rows count (λ r k lr lk. above r k (omega (arith, lr, c.loop-row-test.false, across)) lk);
+    }

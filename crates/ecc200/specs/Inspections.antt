@@ -1,0 +1,49 @@
+-- What comes out of inspecting.
+use Rattle.std.specs.Prelude.{◌≡◌, ℕ, List, map, length, replicate, Option, Some, None}
+use Rattle.dm_symbol.specs.declared.Inspection.{Inspection}
+use Rattle.dm_symbol.specs.Grid.{GridView}
+use Rattle.dm_symbol.specs.Inspection.{IsInspection}
+use Rattle.ecc200.specs.declared.fault.Fault.{Fault}
+use Rattle.ecc200.specs.declared.inspection.InspectionOut.{InspectionOut}
+use Rattle.ecc200.specs.Arrays.{filled}
+use Rattle.ecc200.specs.Faults.{no_fault}
+use Rattle.ecc200.specs.Modules.{IsGridOf, IsModulesFault}
+
+-- a fault, and zeros
+abbrev pub no_inspection : Fault → InspectionOut
+no_inspection why =
+    record {
+      fault = why;
+      side = 0;
+      border_faults = 0;
+      block_count = 0;
+      codeword_count = 0;
+      held = replicate 1152 0;
+      mended = replicate 1152 0;
+      corrected = replicate 6 0;
+    }
+
+-- how many codewords of a block are corrected, or 255 where no codeword is near
+abbrev pub count_shown : Option ℕ → ℕ
+count_shown (Some count) = count
+count_shown None = 255
+
+-- an inspection at this side
+abbrev pub inspection_shown : ℕ → Inspection → InspectionOut
+inspection_shown side inspection =
+    record {
+      fault = no_fault;
+      side = side;
+      border_faults = inspection.border_faults;
+      block_count = length inspection.corrected.items;
+      codeword_count = length inspection.held.list;
+      held = filled 1152 inspection.held.list;
+      mended = filled 1152 inspection.mended.list;
+      corrected = filled 6 (map count_shown inspection.corrected.items);
+    }
+
+-- what comes out for these modules: why they make no grid; or the inspection of their grid
+pub data IsInspectAnswer (side : ℕ) (modules : List ℕ) (out : InspectionOut) : Type 0 where
+  no_grid : (why : Fault) → IsModulesFault side modules why → out ≡ no_inspection why → IsInspectAnswer side modules out
+  inspected : (grid : GridView) (inspection : Inspection) → IsGridOf side modules grid → IsInspection grid inspection
+      → out ≡ inspection_shown side inspection → IsInspectAnswer side modules out

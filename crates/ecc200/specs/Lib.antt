@@ -1,0 +1,10 @@
+pub mod Arrays
+pub mod Faults
+pub mod Items
+pub mod Modules
+pub mod Readings
+pub mod Symbols
+pub mod Inspections
+pub mod Places
+pub mod Sizes
+pub mod inner

@@ -1,0 +1,41 @@
+-- What comes out of reading.
+use Rattle.std.specs.Prelude.{◌≡◌, ℕ, List, length, replicate, Result, Ok, Err}
+use Rattle.dm_symbol.specs.declared.Reading.{Reading}
+use Rattle.dm_symbol.specs.declared.ReadFault.{ReadFault}
+use Rattle.dm_symbol.specs.Grid.{GridView}
+use Rattle.dm_symbol.specs.Reading.{ReadAnswer}
+use Rattle.ecc200.specs.declared.fault.Fault.{Fault}
+use Rattle.ecc200.specs.declared.reading.ReadingOut.{ReadingOut}
+use Rattle.ecc200.specs.Arrays.{filled}
+use Rattle.ecc200.specs.Faults.{no_fault, read_fault}
+use Rattle.ecc200.specs.Items.{numbers_of}
+use Rattle.ecc200.specs.Modules.{IsGridOf, IsModulesFault}
+
+-- a fault, and zeros
+abbrev pub no_reading : Fault → ReadingOut
+no_reading why =
+    record { fault = why; side = 0; border_faults = 0; block_count = 0; item_count = 0; items = replicate 1632 0; corrected = replicate 6 0 }
+
+-- a reading at this side
+abbrev pub reading_shown : ℕ → Reading → ReadingOut
+reading_shown side reading =
+    record {
+      fault = no_fault;
+      side = side;
+      border_faults = reading.border_faults;
+      block_count = length reading.corrected.items;
+      item_count = length reading.message;
+      items = filled 1632 (numbers_of reading.message);
+      corrected = filled 6 reading.corrected.items;
+    }
+
+-- an answer of reading at this side
+abbrev pub answer_shown : ℕ → Result Reading ReadFault → ReadingOut
+answer_shown side (Ok reading) = reading_shown side reading
+answer_shown side (Err why) = no_reading (read_fault why)
+
+-- what comes out for these modules: why they make no grid; or the answer of reading to their grid
+pub data IsReadAnswer (side : ℕ) (modules : List ℕ) (limit : ℕ) (out : ReadingOut) : Type 0 where
+  no_grid : (why : Fault) → IsModulesFault side modules why → out ≡ no_reading why → IsReadAnswer side modules limit out
+  answered : (grid : GridView) (answer : Result Reading ReadFault) → IsGridOf side modules grid → ReadAnswer grid limit answer
+      → out ≡ answer_shown side answer → IsReadAnswer side modules limit out

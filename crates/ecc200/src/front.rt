@@ -1,0 +1,10 @@
+//! The front of a list.
+ghost use Rattle.std.specs.Prelude.{◌≡◌, ◌≤◌, ◌++◌, drop, length};
+
+/// Writes these bytes over the first ones.
+pub(crate) fn put_bytes(all: &mut [u8], bytes: &[u8])
+    requires { length bytes.now ≤ length all.old }
+    ensures { all.new ≡ bytes.now ++ drop (length bytes.now) all.old }
+{
+    all[..bytes.len()].copy_from_slice(bytes);
+}

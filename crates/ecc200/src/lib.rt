@@ -1,0 +1,25 @@
+//! Data Matrix ECC 200 (ISO/IEC 16022, square sizes) for C and for whatever calls C: `library/ecc200.h` declares these functions and is
+//! their manual.
+//!
+//! Each is total, takes no memory but its stack, keeps nothing between calls, and writes all of `out` and nothing else. What
+//! comes out is said in `specs/`, over the definitions of `dm_symbol`: `Readings`, `Symbols`, `Inspections`, `Places`, `Sizes`.
+#![tactic(auto)]
+
+mod fault;
+mod front;
+mod inspection;
+mod message;
+mod modules;
+mod places;
+mod reading;
+mod sizes;
+mod symbol;
+mod version;
+
+pub use fault::Fault;
+pub use inspection::{InspectionOut, ecc200_inspect};
+pub use places::{PlaceOut, PlacesOut, ecc200_places};
+pub use reading::{ReadingOut, ecc200_read, ecc200_usual_limit};
+pub use sizes::{SizeOut, SizesOut, ecc200_sizes};
+pub use symbol::{SymbolOut, ecc200_normal, ecc200_write};
+pub use version::ecc200_abi;

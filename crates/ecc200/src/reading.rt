@@ -1,0 +1,79 @@
+//! Reading.
+ghost use Rattle.std.specs.Prelude.{◌≡◌, ◌/◌};
+ghost use Rattle.ecc200.specs.Readings.{IsReadAnswer, no_reading, reading_shown};
+
+use crate::fault::{Fault, read_fault};
+use crate::front::put_bytes;
+use crate::message::put_message;
+use crate::modules::grid_of;
+use dm_symbol::{MOST_BLOCKS, MOST_ITEMS, Reading, read, usual_limit};
+
+/// What a grid says, and how much of it was wrong. Where there is a fault, all else is 0.
+#[repr(C)]
+#[derive(Drop)]
+pub struct ReadingOut {
+    pub fault: Fault,
+    pub side: u16,
+    pub border_faults: u16,
+    pub block_count: u16,
+    pub item_count: u16,
+    pub items: [u16; MOST_ITEMS],
+    pub corrected: [u8; MOST_BLOCKS],
+}
+
+/// Reads the grid of these modules.
+#[unsafe(no_mangle)]
+pub extern "C" fn ecc200_read(
+    modules: &[u8],
+    side: u16,
+    border_limit: u16,
+    out: &mut ReadingOut,
+) -> u16
+    ensures answer { IsReadAnswer side modules.now border_limit out.new }
+    ensures code { result ≡ out.new.fault.code }
+{
+    match grid_of(modules, side) {
+        Ok(grid) => match read(&grid, border_limit) {
+            Ok(reading) => show_reading(out, side, &reading),
+            Err(why) => show_fault(out, read_fault(why)),
+        },
+        Err(why) => show_fault(out, why),
+    }
+    out.fault.code
+}
+
+/// How many wrong border modules are usually borne in a symbol of this side.
+#[unsafe(no_mangle)]
+pub extern "C" fn ecc200_usual_limit(side: u16) -> u16
+    ensures { result ≡ side / 4 }
+{
+    usual_limit(side)
+}
+
+/// No reading, but a fault.
+fn show_fault(out: &mut ReadingOut, why: Fault)
+    ensures { out.new ≡ no_reading why }
+{
+    out.fault = why;
+    out.side = 0;
+    out.border_faults = 0;
+    out.block_count = 0;
+    out.item_count = 0;
+    out.items = [0; MOST_ITEMS];
+    out.corrected = [0; MOST_BLOCKS];
+}
+
+/// A reading at this side.
+fn show_reading(out: &mut ReadingOut, side: u16, reading: &Reading)
+    ensures { out.new ≡ reading_shown side reading.now }
+{
+    out.fault = Fault::none();
+    out.side = side;
+    out.border_faults = reading.border_faults;
+    out.block_count = reading.corrected.len() as u16;
+    out.item_count = reading.message.items().len() as u16;
+    out.items = [0; MOST_ITEMS];
+    put_message(&mut out.items, &reading.message);
+    out.corrected = [0; MOST_BLOCKS];
+    put_bytes(&mut out.corrected, reading.corrected.as_slice());
+}

@@ -1,0 +1,122 @@
+//! Writing and normalising.
+ghost use Rattle.std.specs.Prelude.{◌≡◌, ◌≤◌, All};
+ghost use Rattle.ecc200.specs.Symbols.{IsNormalAnswer, IsWriteAnswer, NormalisedAnswer, WrittenAnswer, no_symbol, profile_of, symbol_shown};
+
+use crate::fault::{Fault, normal_fault};
+use crate::message::{first_foreign, message_of};
+use crate::modules::{MOST_MODULES, grid_of, put_modules};
+use dm_symbol::{Grid, MOST_ITEMS, Profile, TooLong, normal_as, write_as};
+
+/// A symbol: the first `side * side` modules, row by row from the top, 1 for dark. Where there is a fault, all else is 0.
+#[repr(C)]
+#[derive(Drop)]
+pub struct SymbolOut {
+    pub fault: Fault,
+    pub side: u16,
+    pub modules: [u8; MOST_MODULES],
+}
+
+/// Writes the normal grid of the message of these numbers.
+#[unsafe(no_mangle)]
+pub extern "C" fn ecc200_write(items: &[u16], profile: u16, out: &mut SymbolOut) -> u16
+    ensures answer { IsWriteAnswer items.now profile out.new }
+    ensures code { result ≡ out.new.fault.code }
+{
+    match profile_of(profile) {
+        Some(profile) => match written(items, profile) {
+            Ok(grid) => show_grid(out, &grid),
+            Err(why) => show_fault(out, why),
+        },
+        None => show_fault(out, Fault::of(16, profile, 0)),
+    }
+    out.fault.code
+}
+
+/// Writes the normal grid of what the grid of these modules says.
+#[unsafe(no_mangle)]
+pub extern "C" fn ecc200_normal(
+    modules: &[u8],
+    side: u16,
+    border_limit: u16,
+    profile: u16,
+    out: &mut SymbolOut,
+) -> u16
+    ensures answer { IsNormalAnswer side modules.now border_limit profile out.new }
+    ensures code { result ≡ out.new.fault.code }
+{
+    match profile_of(profile) {
+        Some(profile) => match normalised(modules, side, border_limit, profile) {
+            Ok(grid) => show_grid(out, &grid),
+            Err(why) => show_fault(out, why),
+        },
+        None => show_fault(out, Fault::of(16, profile, 0)),
+    }
+    out.fault.code
+}
+
+/// The profile of a number.
+fn profile_of(number: u16) -> Option<Profile>
+    ensures { result ≡ profile_of number }
+{
+    match number {
+        0 => Some(Profile::Ascii),
+        1 => Some(Profile::Shorter),
+        _ => None,
+    }
+}
+
+/// The normal grid of the message of these numbers.
+fn written(items: &[u16], profile: Profile) -> Result<Grid, Fault>
+    ensures { WrittenAnswer profile items.now result }
+{
+    match first_foreign(items) {
+        Some(place) => Err(Fault::of(15, items[place], place.min(65535) as u16)),
+        None => written_message(items, profile),
+    }
+}
+
+/// The same where all are items.
+fn written_message(items: &[u16], profile: Profile) -> Result<Grid, Fault>
+    requires { All (λ item. item ≤ 256) items.now }
+    ensures { WrittenAnswer profile items.now result }
+{
+    if items.len() > MOST_ITEMS {
+        return Err(Fault::of(14, 0, 0));
+    }
+    match write_as(profile, &message_of(items)) {
+        Ok(grid) => Ok(grid),
+        Err(TooLong) => Err(Fault::of(14, 0, 0)),
+    }
+}
+
+/// The normal grid of what the grid of these modules says.
+fn normalised(modules: &[u8], side: u16, border_limit: u16, profile: Profile) -> Result<Grid, Fault>
+    ensures { NormalisedAnswer profile side modules.now border_limit result }
+{
+    match grid_of(modules, side) {
+        Ok(grid) => match normal_as(profile, &grid, border_limit) {
+            Ok(normal) => Ok(normal),
+            Err(why) => Err(normal_fault(why)),
+        },
+        Err(why) => Err(why),
+    }
+}
+
+/// No symbol, but a fault.
+fn show_fault(out: &mut SymbolOut, why: Fault)
+    ensures { out.new ≡ no_symbol why }
+{
+    out.fault = why;
+    out.side = 0;
+    out.modules = [0; MOST_MODULES];
+}
+
+/// The symbol of a grid.
+fn show_grid(out: &mut SymbolOut, grid: &Grid)
+    ensures { out.new ≡ symbol_shown grid.now }
+{
+    out.fault = Fault::none();
+    out.side = grid.size().side();
+    out.modules = [0; MOST_MODULES];
+    put_modules(&mut out.modules, grid);
+}

@@ -1,0 +1,285 @@
+//! Data Matrix ECC 200 (ISO/IEC 16022), the 21 square symbols, by the C library ecc200: a safe face over `ecc200.h`, whose conventions hold
+//! here too. Put this file beside yours, write `mod ecc200;`, and link the library: `rustc -l ecc200`, with `-L` where it lies.
+//!
+//! A slice's pointer is never null, and a `&mut` overlaps nothing: that is all that the library asks of its callers.
+#![deny(unsafe_op_in_unsafe_fn)]
+#![allow(dead_code)]
+
+use std::fmt;
+
+/// FNC1 among the items of a message.
+pub const FNC1: u16 = 256;
+/// A border limit that refuses nothing.
+pub const ANY_LIMIT: u16 = 65535;
+
+const ABI: u16 = 1;
+const MOST_ITEMS: usize = 1632;
+const MOST_MODULES: usize = 104 * 104;
+const MOST_CODEWORDS: usize = 1152;
+const MOST_BLOCKS: usize = 6;
+const SIZE_COUNT: usize = 21;
+const BEYOND: u8 = 255;
+
+/// The normal form of a message: ASCII encodation, or one Base 256 segment where that is shorter.
+#[derive(Clone, Copy, Debug, PartialEq, Eq)]
+pub enum Profile {
+    Ascii = 0,
+    Shorter = 1,
+}
+
+/// Why a symbol or a message is refused: a code of `ecc200.h`, and the numbers that it says.
+#[repr(C)]
+#[derive(Clone, Copy, Debug, Default, PartialEq, Eq)]
+pub struct Fault {
+    pub code: u16,
+    pub value: u16,
+    pub place: u16,
+}
+
+impl fmt::Display for Fault {
+    fn fmt(&self, f: &mut fmt::Formatter<'_>) -> fmt::Result {
+        f.write_str(match self.code {
+            0 => "no fault",
+            3 => "the modules make no square of this side",
+            4 => "no size has this side",
+            5 => "too many border modules have the wrong colour",
+            6 => "a block is damaged beyond correction",
+            7 => "a reserved codeword",
+            8 => "an encodation or function that isn't supported",
+            9 => "an Upper Shift before no character",
+            10 => "a pair of codewords that stands for no three values",
+            11 => "a value that has no meaning after a shift",
+            12 => "a wrong Base 256 length",
+            13 => "the symbol ends before the character of an Upper Shift",
+            14 => "the message is too long for any size",
+            15 => "an item above 256",
+            16 => "no such profile",
+            _ => "no code of this library",
+        })
+    }
+}
+
+impl std::error::Error for Fault {}
+
+/// A symbol: `side * side` modules, row by row from the top, 1 for dark.
+#[derive(Clone, Debug, PartialEq, Eq)]
+pub struct Symbol {
+    pub side: u16,
+    pub modules: Vec<u8>,
+}
+
+/// What a symbol says, and how much of it was wrong.
+#[derive(Clone, Debug, PartialEq, Eq)]
+pub struct Reading {
+    /// The message: 0 to 255, or [`FNC1`].
+    pub items: Vec<u16>,
+    /// For each block, how many of its codewords were corrected.
+    pub corrected: Vec<u8>,
+    /// How many border modules have the wrong colour.
+    pub border_faults: u16,
+}
+
+impl Reading {
+    /// The bytes of the message, and whether FNC1 stands in front, which is left out; any other FNC1 is the byte 0x1D.
+    pub fn text(&self) -> (Vec<u8>, bool) {
+        let gs1 = self.items.first() == Some(&FNC1);
+        let rest = self.items[usize::from(gs1)..].iter();
+        (rest.map(|item| u8::try_from(*item).unwrap_or(0x1D)).collect(), gs1)
+    }
+}
+
+/// The codewords of a symbol.
+#[derive(Clone, Debug, PartialEq, Eq)]
+pub struct Inspection {
+    /// As they stand in the symbol: data codewords and then check codewords.
+    pub held: Vec<u8>,
+    /// With each block corrected; a block beyond correction is left as it is.
+    pub mended: Vec<u8>,
+    /// For each block, in how many codewords these differ, or None beyond correction.
+    pub corrected: Vec<Option<u8>>,
+    /// How many border modules have the wrong colour.
+    pub border_faults: u16,
+}
+
+/// What a module is.
+#[derive(Clone, Copy, Debug, PartialEq, Eq)]
+pub enum Place {
+    /// A bit of a codeword, which counts from 0; the bit from 1, the highest, to 8.
+    Bit { codeword: u16, bit: u8 },
+    /// A module of the border, which is to be dark or light.
+    Border { dark: bool },
+    /// A module of the fixed square.
+    Fixed { dark: bool },
+}
+
+/// A row of the table of sizes.
+#[repr(C)]
+#[derive(Clone, Copy, Debug, Default, PartialEq, Eq)]
+pub struct Size {
+    pub side: u16,
+    pub regions: u16,
+    pub region_side: u16,
+    pub mapping: u16,
+    pub data_codewords: u16,
+    pub check_codewords: u16,
+    pub blocks: u16,
+    pub limit: u16,
+}
+
+mod sys {
+    use super::*;
+
+    #[repr(C)]
+    pub struct ReadingOut {
+        pub fault: Fault,
+        pub side: u16,
+        pub border_faults: u16,
+        pub block_count: u16,
+        pub item_count: u16,
+        pub items: [u16; MOST_ITEMS],
+        pub corrected: [u8; MOST_BLOCKS],
+    }
+
+    #[repr(C)]
+    pub struct SymbolOut {
+        pub fault: Fault,
+        pub side: u16,
+        pub modules: [u8; MOST_MODULES],
+    }
+
+    #[repr(C)]
+    pub struct InspectionOut {
+        pub fault: Fault,
+        pub side: u16,
+        pub border_faults: u16,
+        pub block_count: u16,
+        pub codeword_count: u16,
+        pub held: [u8; MOST_CODEWORDS],
+        pub mended: [u8; MOST_CODEWORDS],
+        pub corrected: [u8; MOST_BLOCKS],
+    }
+
+    #[repr(C)]
+    #[derive(Clone, Copy)]
+    pub struct PlaceOut {
+        pub codeword: u16,
+        pub bit: u8,
+        pub kind: u8,
+    }
+
+    #[repr(C)]
+    pub struct PlacesOut {
+        pub fault: Fault,
+        pub side: u16,
+        pub places: [PlaceOut; MOST_MODULES],
+    }
+
+    unsafe extern "C" {
+        pub safe fn ecc200_abi() -> u16;
+        pub safe fn ecc200_usual_limit(side: u16) -> u16;
+        pub fn ecc200_read(modules: *const u8, count: usize, side: u16, border_limit: u16, out: *mut ReadingOut) -> u16;
+        pub fn ecc200_write(items: *const u16, count: usize, profile: u16, out: *mut SymbolOut) -> u16;
+        pub fn ecc200_normal(modules: *const u8, count: usize, side: u16, border_limit: u16, profile: u16, out: *mut SymbolOut) -> u16;
+        pub fn ecc200_inspect(modules: *const u8, count: usize, side: u16, out: *mut InspectionOut) -> u16;
+        pub safe fn ecc200_places(side: u16, out: &mut PlacesOut) -> u16;
+        pub safe fn ecc200_sizes(out: &mut [Size; SIZE_COUNT]);
+    }
+
+    const _: () = assert!(size_of::<ReadingOut>() == 3284 && size_of::<SymbolOut>() == 10824);
+    const _: () = assert!(size_of::<InspectionOut>() == 2324 && size_of::<PlacesOut>() == 43272);
+}
+
+/// A struct of the library's, all zeros, on the heap.
+///
+/// # Safety
+/// All zeros have to be a value of the type.
+unsafe fn zeros<T>() -> Box<T> {
+    unsafe { Box::<T>::new_zeroed().assume_init() }
+}
+
+/// Whether the library that is linked has the interface of this file.
+pub fn is_compatible() -> bool {
+    sys::ecc200_abi() == ABI
+}
+
+/// A quarter of the side, rounded down.
+pub fn usual_limit(side: u16) -> u16 {
+    sys::ecc200_usual_limit(side)
+}
+
+/// What a symbol says. `border_limit`: how many border modules may have the wrong colour.
+pub fn read(modules: &[u8], side: u16, border_limit: u16) -> Result<Reading, Fault> {
+    let mut out = unsafe { zeros::<sys::ReadingOut>() };
+    match unsafe { sys::ecc200_read(modules.as_ptr(), modules.len(), side, border_limit, &mut *out) } {
+        0 => Ok(Reading {
+            items: out.items[..usize::from(out.item_count)].to_vec(),
+            corrected: out.corrected[..usize::from(out.block_count)].to_vec(),
+            border_faults: out.border_faults,
+        }),
+        _ => Err(out.fault),
+    }
+}
+
+fn symbol(code: u16, out: &sys::SymbolOut) -> Result<Symbol, Fault> {
+    let side = usize::from(out.side);
+    match code {
+        0 => Ok(Symbol { side: out.side, modules: out.modules[..side * side].to_vec() }),
+        _ => Err(out.fault),
+    }
+}
+
+/// The normal symbol of a message.
+pub fn write(items: &[u16], profile: Profile) -> Result<Symbol, Fault> {
+    let mut out = unsafe { zeros::<sys::SymbolOut>() };
+    let code = unsafe { sys::ecc200_write(items.as_ptr(), items.len(), profile as u16, &mut *out) };
+    symbol(code, &out)
+}
+
+/// The normal symbol of what a symbol says.
+pub fn normal(modules: &[u8], side: u16, border_limit: u16, profile: Profile) -> Result<Symbol, Fault> {
+    let mut out = unsafe { zeros::<sys::SymbolOut>() };
+    let code = unsafe { sys::ecc200_normal(modules.as_ptr(), modules.len(), side, border_limit, profile as u16, &mut *out) };
+    symbol(code, &out)
+}
+
+/// The codewords of a symbol, also where it can't be read.
+pub fn inspect(modules: &[u8], side: u16) -> Result<Inspection, Fault> {
+    let mut out = unsafe { zeros::<sys::InspectionOut>() };
+    match unsafe { sys::ecc200_inspect(modules.as_ptr(), modules.len(), side, &mut *out) } {
+        0 => {
+            let count = usize::from(out.codeword_count);
+            let corrected = out.corrected[..usize::from(out.block_count)].iter();
+            Ok(Inspection {
+                held: out.held[..count].to_vec(),
+                mended: out.mended[..count].to_vec(),
+                corrected: corrected.map(|count| (*count != BEYOND).then_some(*count)).collect(),
+                border_faults: out.border_faults,
+            })
+        }
+        _ => Err(out.fault),
+    }
+}
+
+/// What each module of a symbol of this side is, row by row.
+pub fn places(side: u16) -> Result<Vec<Place>, Fault> {
+    let mut out = unsafe { zeros::<sys::PlacesOut>() };
+    match sys::ecc200_places(side, &mut out) {
+        0 => Ok(out.places[..usize::from(side) * usize::from(side)].iter().map(place).collect()),
+        _ => Err(out.fault),
+    }
+}
+
+fn place(at: &sys::PlaceOut) -> Place {
+    match at.kind {
+        1 => Place::Bit { codeword: at.codeword, bit: at.bit },
+        kind @ (2 | 3) => Place::Border { dark: kind == 3 },
+        kind => Place::Fixed { dark: kind == 5 },
+    }
+}
+
+/// The table of sizes, by rising side.
+pub fn sizes() -> [Size; SIZE_COUNT] {
+    let mut out = [Size::default(); SIZE_COUNT];
+    sys::ecc200_sizes(&mut out);
+    out
+}

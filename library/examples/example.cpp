@@ -1,0 +1,71 @@
+// One printed symbol, one damaged symbol, one refusal.
+//
+//     c++ -std=c++17 example.cpp $(pkg-config --cflags --libs ecc200) && ./a.out
+#include <ecc200.h>
+
+#include <iostream>
+#include <memory>
+#include <stdexcept>
+#include <string>
+#include <string_view>
+#include <vector>
+
+struct Refused : std::runtime_error {
+    ecc200_fault fault;
+    explicit Refused(ecc200_fault why) : std::runtime_error(ecc200_words(why.code)), fault(why) {}
+};
+
+using Symbol = std::unique_ptr<ecc200_symbol>;
+using Reading = std::unique_ptr<ecc200_reading>;
+
+static Symbol write(std::string_view text) {
+    std::vector<uint16_t> items;
+    for (unsigned char byte : text) items.push_back(byte);
+    auto symbol = std::make_unique<ecc200_symbol>();
+    if (ecc200_write(items.data(), items.size(), ECC200_ASCII, symbol.get()) != ECC200_OK) throw Refused(symbol->fault);
+    return symbol;
+}
+
+static Reading read(const ecc200_symbol &symbol) {
+    size_t count = size_t{symbol.side} * symbol.side;
+    auto reading = std::make_unique<ecc200_reading>();
+    if (ecc200_read(symbol.modules, count, symbol.side, ecc200_usual_limit(symbol.side), reading.get()) != ECC200_OK) throw Refused(reading->fault);
+    return reading;
+}
+
+static std::string text_of(const ecc200_reading &reading) {
+    std::vector<uint8_t> bytes(ECC200_MOST_ITEMS);
+    bytes.resize(ecc200_text(&reading, bytes.data(), bytes.size(), nullptr));
+    return std::string(bytes.begin(), bytes.end());
+}
+
+// A symbol with its quiet zone of a module all round.
+static void print(const ecc200_symbol &symbol) {
+    int side = symbol.side;
+    for (int row = -1; row <= side; row++, std::cout << '\n')
+        for (int column = -1; column <= side; column++) {
+            bool inside = row >= 0 && row < side && column >= 0 && column < side;
+            std::cout << (inside && symbol.modules[row * side + column] ? "##" : "  ");
+        }
+}
+
+int main() {
+    // a printed symbol
+    Symbol symbol = write("Mitsubadoor");
+    print(*symbol);
+
+    // a damaged symbol: four modules in one corner
+    int side = symbol->side;
+    for (int at = 1; at < 5; at++) symbol->modules[at * side + at] ^= 1;
+    Reading reading = read(*symbol);
+    std::cout << text_of(*reading) << ": " << int{reading->corrected[0]} << " codewords corrected, " << reading->border_faults << " border modules wrong\n";
+
+    // a refusal: a symbol that is cut off below
+    for (int column = 0; column < side; column++) symbol->modules[(side - 1) * side + column] = 0;
+    try {
+        read(*symbol);
+        return 1;
+    } catch (const Refused &why) {
+        std::cout << "refused with " << why.fault.code << ": " << why.what() << " (" << why.fault.value << ")\n";
+    }
+}

@@ -1,0 +1,31 @@
+"""One printed symbol, one damaged symbol, one refusal.
+
+    PYTHONPATH=library python3 example.py
+"""
+import ecc200
+
+
+def show(rows):
+    """A symbol with its quiet zone of a module all round."""
+    blank = bytes(len(rows))
+    for row in [blank, *rows, blank]:
+        print("".join("##" if module else "  " for module in b"\0" + row + b"\0"))
+
+
+# a printed symbol
+rows = ecc200.write(b"Mitsubadoor")
+show(rows)
+
+# a damaged symbol: four modules in one corner
+grid = [bytearray(row) for row in rows]
+for at in range(1, 5):
+    grid[at][at] ^= 1
+reading = ecc200.read(grid)
+print(f"{reading.data.decode()}: {reading.corrected[0]} codewords corrected, {reading.border_faults} border modules wrong")
+
+# a refusal: a symbol that is cut off below
+grid[-1] = bytearray(len(grid))
+try:
+    ecc200.read(grid)
+except ecc200.Refused as why:
+    print(f"refused with {why.code.value}: {str(why).split(' (')[0]} ({why.value})")

@@ -1,0 +1,46 @@
+//! One printed symbol, one damaged symbol, one refusal.
+//!
+//!     rustc --edition 2021 -O example.rs -l ecc200
+#[path = "../ecc200.rs"]
+mod ecc200;
+
+use ecc200::{Fault, Profile, Symbol};
+
+/// A symbol with its quiet zone of a module all round.
+fn print(symbol: &Symbol) {
+    let blank = vec![0; usize::from(symbol.side)];
+    let rows = symbol.modules.chunks(blank.len());
+    for row in std::iter::once(&blank[..]).chain(rows).chain(std::iter::once(&blank[..])) {
+        let inside: String = row.iter().map(|module| if *module == 1 { "##" } else { "  " }).collect();
+        println!("  {inside}  ");
+    }
+}
+
+fn main() -> Result<(), Fault> {
+    // a printed symbol
+    let items: Vec<u16> = "Mitsubadoor".bytes().map(u16::from).collect();
+    let mut symbol = ecc200::write(&items, Profile::Ascii)?;
+    print(&symbol);
+
+    // a damaged symbol: four modules in one corner
+    let side = usize::from(symbol.side);
+    let limit = ecc200::usual_limit(symbol.side);
+    for at in 1..5 {
+        symbol.modules[at * side + at] ^= 1;
+    }
+    let reading = ecc200::read(&symbol.modules, symbol.side, limit)?;
+    let (text, _) = reading.text();
+    println!(
+        "{}: {} codewords corrected, {} border modules wrong",
+        String::from_utf8_lossy(&text),
+        reading.corrected[0],
+        reading.border_faults
+    );
+
+    // a refusal: a symbol that is cut off below
+    symbol.modules[(side - 1) * side..].fill(0);
+    if let Err(why) = ecc200::read(&symbol.modules, symbol.side, limit) {
+        println!("refused with {}: {why} ({})", why.code, why.value);
+    }
+    Ok(())
+}

@@ -1,0 +1,134 @@
+/* Eight threads, each with a stack of so many KiB as the first argument says, read, normalise and inspect at once: each answer is
+ * that of one thread alone. Then prints how many bytes of stack each call takes at the most, one a line with its name. */
+#define _GNU_SOURCE
+#include <ecc200.h>
+#include <pthread.h>
+#include <stdio.h>
+#include <stdlib.h>
+#include <string.h>
+#include <sys/mman.h>
+
+enum { THREADS = 8, ROUNDS = 300, CASES = 64, STACK = 1 << 20 };
+
+typedef struct {
+    uint8_t modules[ECC200_MOST_MODULES];
+    uint16_t side;
+    ecc200_reading reading;
+    ecc200_symbol normal;
+    ecc200_inspection inspection;
+} example;
+
+typedef struct {
+    unsigned first;
+    int wrong;
+    ecc200_reading reading;
+    ecc200_symbol normal;
+    ecc200_inspection inspection;
+} job;
+
+static example examples[CASES], largest;
+static uint16_t items[ECC200_MOST_ITEMS];
+
+static void answer(const example *e, ecc200_reading *reading, ecc200_symbol *normal, ecc200_inspection *inspection) {
+    size_t count = (size_t)e->side * e->side;
+    ecc200_read(e->modules, count, e->side, ecc200_usual_limit(e->side), reading);
+    ecc200_normal(e->modules, count, e->side, ecc200_usual_limit(e->side), e->side % 4 == 0, normal);
+    ecc200_inspect(e->modules, count, e->side, inspection);
+}
+
+static void *work(void *at) {
+    job *j = at;
+    for (unsigned i = 0; i < ROUNDS; i++) {
+        example *e = &examples[(i * 7 + j->first) % CASES];
+        answer(e, &j->reading, &j->normal, &j->inspection);
+        j->wrong += memcmp(&j->reading, &e->reading, sizeof j->reading) || memcmp(&j->normal, &e->normal, sizeof j->normal)
+            || memcmp(&j->inspection, &e->inspection, sizeof j->inspection);
+    }
+    return 0;
+}
+
+/* a symbol of random items, with some modules turned over */
+static void make(example *e, size_t count, int turns) {
+    static ecc200_symbol symbol;
+    for (size_t i = 0; i < count; i++)
+        items[i] = (uint16_t)(rand() % 257);
+    if (ecc200_write(items, count, ECC200_ASCII, &symbol))
+        exit(2);
+    e->side = symbol.side;
+    memcpy(e->modules, symbol.modules, sizeof symbol.modules);
+    for (; turns > 0; turns--)
+        e->modules[rand() % (e->side * e->side)] ^= 1;
+    answer(e, &e->reading, &e->normal, &e->inspection);
+}
+
+static int threads_agree(size_t kib) {
+    static job jobs[THREADS];
+    pthread_t threads[THREADS];
+    pthread_attr_t attributes;
+    pthread_attr_init(&attributes);
+    if (pthread_attr_setstacksize(&attributes, kib << 10))
+        exit(2);
+    for (unsigned i = 0; i < THREADS; i++) {
+        jobs[i].first = i;
+        if (pthread_create(&threads[i], &attributes, work, &jobs[i]))
+            exit(2);
+    }
+    int wrong = 0;
+    for (unsigned i = 0; i < THREADS; i++)
+        pthread_join(threads[i], 0), wrong += jobs[i].wrong;
+    return wrong == 0;
+}
+
+static void *do_nothing(void *at) { return at; }
+static void *do_read(void *at) { return ecc200_read(largest.modules, 104 * 104, 104, ECC200_ANY_LIMIT, &largest.reading), at; }
+static void *do_inspect(void *at) { return ecc200_inspect(largest.modules, 104 * 104, 104, &largest.inspection), at; }
+static void *do_normal(void *at) { return ecc200_normal(largest.modules, 104 * 104, 104, ECC200_ANY_LIMIT, ECC200_ASCII, &largest.normal), at; }
+static void *do_normal_shorter(void *at) { return ecc200_normal(largest.modules, 104 * 104, 104, ECC200_ANY_LIMIT, ECC200_SHORTER, &largest.normal), at; }
+static void *do_write(void *at) { return ecc200_write(items, ECC200_MOST_ITEMS, ECC200_ASCII, &largest.normal), at; }
+static void *do_write_shorter(void *at) { return ecc200_write(items, 813, ECC200_SHORTER, &largest.normal), at; }
+static void *do_places(void *at) { static ecc200_place_table table; return ecc200_places(104, &table), at; }
+static void *do_sizes(void *at) { static ecc200_size_table table; return ecc200_sizes(&table), at; }
+
+/* how much of a stack that was filled with a pattern is written over */
+static size_t touched(void *(*call)(void *)) {
+    uint8_t *stack = mmap(0, STACK, PROT_READ | PROT_WRITE, MAP_PRIVATE | MAP_ANONYMOUS, -1, 0);
+    pthread_attr_t attributes;
+    pthread_t thread;
+    size_t low = 0;
+    memset(stack, 0xA5, STACK);
+    pthread_attr_init(&attributes);
+    if (pthread_attr_setstack(&attributes, stack, STACK) || pthread_create(&thread, &attributes, call, 0))
+        exit(2);
+    pthread_join(thread, 0);
+    while (low < STACK && stack[low] == 0xA5)
+        low++;
+    munmap(stack, STACK);
+    return STACK - low;
+}
+
+int main(int argc, char **argv) {
+    size_t kib = argc > 1 ? strtoul(argv[1], 0, 10) : 64;
+    srand(1);
+    for (int i = 0; i < CASES; i++)
+        make(&examples[i], (size_t)(rand() % 300), rand() % 40);
+    if (!threads_agree(kib))
+        return puts("the threads' answers differ"), 1;
+    for (size_t i = 0; i < 813; i++)
+        items[i] = 255;
+    if (ecc200_write(items, 813, ECC200_SHORTER, &largest.normal) || largest.normal.side != 104)
+        return puts("no symbol of side 104"), 1;
+    memcpy(largest.modules, largest.normal.modules, sizeof largest.modules);
+    for (int turns = 60; turns > 0; turns--)
+        largest.modules[rand() % (104 * 104)] ^= 1;
+    static const struct { const char *name; void *(*call)(void *); } calls[] = {
+        {"ecc200_read", do_read}, {"ecc200_inspect", do_inspect}, {"ecc200_normal", do_normal}, {"ecc200_normal, shorter", do_normal_shorter},
+        {"ecc200_write", do_write}, {"ecc200_write, shorter", do_write_shorter}, {"ecc200_places", do_places}, {"ecc200_sizes", do_sizes},
+    };
+    size_t alone = touched(do_nothing);
+    for (size_t i = 0; i < sizeof calls / sizeof *calls; i++) {
+        for (size_t k = 0; k < ECC200_MOST_ITEMS; k++)
+            items[k] = calls[i].call == do_write ? (uint16_t)('0' + k % 10) : 255;
+        printf("%s %zu\n", calls[i].name, touched(calls[i].call) - alone);
+    }
+    return 0;
+}
