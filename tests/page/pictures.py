@@ -1,0 +1,96 @@
+"""Pictures that are opened and saved."""
+import random
+import shutil
+import struct
+import subprocess
+import time
+import zlib
+
+from stage import Keys, agree, count, find, grid, on, push, put, run, shown, text_of, turned, wait_for, write, written
+
+
+def png(rows, scale, around, light=255, dark=0):
+    """A grey picture of a grid."""
+    side = len(rows) + 2 * around
+    blank = [bytes([light]) * (side * scale)] * (around * scale)
+    lines = blank + [b"".join(bytes([dark if module == "1" else light]) * scale for module in "0" * around + row + "0" * around) for row in rows for _ in range(scale)] + blank
+    chunk = lambda kind, body: struct.pack(">I", len(body)) + kind + body + struct.pack(">I", zlib.crc32(kind + body))
+    return b"\x89PNG\r\n\x1a\n" + chunk(b"IHDR", struct.pack(">IIBBBBB", side * scale, side * scale, 8, 0, 0, 0, 0)) + chunk(b"IDAT", zlib.compress(b"".join(b"\0" + line for line in lines))) + chunk(b"IEND", b"")
+
+
+def opened(name, body):
+    """Opens a picture, and gives what is said of it."""
+    file = on.folder / name
+    file.write_bytes(body)
+    run("document.getElementById('picture-hint').textContent = ''")
+    find("picture").send_keys(str(file))
+    return wait_for(lambda: text_of("picture-hint"))
+
+
+def pictures():
+    push("tab-read")
+    short, long = written("Mitsubadoor"), written("Pictures of larger symbols are opened too. " * 4)
+    for name, text, scale, around, light, dark, stand in [
+        ("a.png", short, 1, 0, 255, 0, (0, False, False)), ("b.png", short, 3, 2, 255, 0, (0, False, False)), ("c.png", short, 8, 4, 200, 90, (1, False, False)),
+        ("d.png", short, 5, 1, 255, 0, (2, True, False)), ("e.png", short, 4, 3, 255, 0, (3, False, True)), ("f.png", long, 1, 2, 255, 0, (0, False, False)),
+        ("g.png", long, 4, 2, 255, 0, (1, True, True)), ("h.png", long, 2, 0, 255, 0, (2, False, False)),
+    ]:
+        quarters, mirrored, inverted = stand
+        grey = (dark, light) if inverted else (light, dark)
+        said = opened(name, png(turned(text, quarters, mirrored, False).split("\n"), scale, around, *grey))
+        count.expect(f"picture {name}", grid(), text)
+        agree(f"picture {name}")
+        how = ", and ".join(filter(None, [inverted and "inverted, light for dark", mirrored and "mirrored left to right", ["", "turned a quarter to the right", "turned by half", "turned a quarter to the left"][quarters]]))
+        side = text.index("\n")
+        count.expect(f"picture {name}: said", said, f"{name}: side {side}. " + (f"The symbol is {how}: found by trying, and shown upright." if how else "Read as it stands."))
+    spoilt = "\n".join(["0" * 10, *written("123456").split("\n")[1:-1], "0" * 10])
+    said = opened("i.png", png(["1" + row[1:] for row in spoilt.split("\n")], 8, 3))
+    count.expect("a picture that isn't read has the largest modules that fit", (said.split(".")[1].split(":")[1], said.split(". ")[1]), (" side 10", "As it stands it isn’t read, nor turned, mirrored or inverted"))
+    before = grid()
+    noise = ["".join(random.choice("01") for _ in range(23)) for _ in range(23)]
+    count.expect("noise", opened("noise.png", png(noise, 5, 2)).split(".")[0], "No symbol of equal squares was found")
+    count.expect("one colour", opened("white.png", png(["0" * 10] * 10, 2, 2)), "The picture is of one colour.")
+    count.expect("no picture", opened("text.png", b"no picture"), "The file can’t be opened as a picture.")
+    count.expect("what isn't opened changes nothing", grid(), before)
+    push("tab-write")
+
+
+def saved():
+    write("123456")
+    put("millimetres", "0.4")
+    count.expect("size in print", text_of("print-size"), "5.6 × 5.6 mm with 2 modules of quiet zone")
+    svg, picture = on.folder / "symbol-10.svg", on.folder / "symbol-10.png"
+    for file in (svg, picture):
+        file.unlink(missing_ok=True)
+    push("save-svg", "save-png")
+    wait_for(lambda: svg.exists() and picture.exists())
+    time.sleep(0.2)
+    text = svg.read_text()
+    count.expect("SVG", text.startswith('<svg xmlns="http://www.w3.org/2000/svg" width="5.6mm" height="5.6mm" viewBox="-2 -2 14 14"'), True)
+    body = picture.read_bytes()
+    at = body.index(b"pHYs") + 4
+    width, across, down, unit = (*struct.unpack(">I", body[16:20]), *struct.unpack(">IIB", body[at : at + 9]))
+    count.expect("PNG: pixels a metre", (across, down, unit, zlib.crc32(body[at - 4 : at + 9])), (25000, 25000, 1, struct.unpack(">I", body[at + 9 : at + 13])[0]))
+    count.expect("PNG: millimetres", round(1000 * width / across, 3), 5.6)
+    push("tab-read")
+    write("other")
+    for name, file in (("SVG", svg), ("PNG", picture)):
+        count.expect(f"{name} opened again", (opened(f"again{file.suffix}", file.read_bytes()), grid()), (f"again{file.suffix}: side 10. Read as it stands.", written("123456")))
+    if shutil.which("dmtxread"):
+        out = subprocess.run(["dmtxread", "-n", str(picture)], stdout=subprocess.PIPE, timeout=60, check=False).stdout.decode()
+        count.expect("PNG by dmtxread", out.strip(), "123456")
+    else:
+        print("left out: the saved picture read by another reader, since dmtxread isn't installed")
+    put("millimetres", "0.5")
+    write("Mitsubadoor")
+    find("copy").click()
+    count.expect("copied", wait_for(lambda: text_of("toast")), "Copied: a line for each row")
+    push("tab-read")
+    find("grid").send_keys(Keys.CONTROL, "a", Keys.NULL, Keys.DELETE)
+    find("grid").send_keys(Keys.CONTROL, "v", Keys.NULL)
+    count.expect("what was copied", find("grid").get_attribute("value").strip("\n"), written("Mitsubadoor"))
+    push("tab-write")
+    find("message").send_keys(Keys.CONTROL, "a", Keys.NULL)
+    find("message").send_keys(Keys.CONTROL, "v", Keys.NULL)
+    count.expect("a grid that is pasted as a message", (find("pane-read").is_displayed(), shown()["says"]), (True, "Mitsubadoor"))
+    push("tab-write")

@@ -1,0 +1,255 @@
+"""What the parts of the page's test have in common: the program, the page in its browser, and the count of what was compared."""
+import os
+import re
+import subprocess
+import sys
+import time
+
+DEBIANS = "/usr/bin/python3"
+try:
+    from selenium import webdriver
+    from selenium.webdriver.chrome.service import Service
+    from selenium.webdriver.common.action_chains import ActionChains
+    from selenium.webdriver.common.by import By
+    from selenium.webdriver.common.keys import Keys
+except ImportError:
+    if os.path.realpath(sys.executable) != os.path.realpath(DEBIANS) and os.path.exists(DEBIANS):
+        os.execv(DEBIANS, [DEBIANS, *sys.argv])  # Debian's packages are seen by Debian's interpreter alone
+    webdriver = ActionChains = By = Keys = Service = None
+
+QUIET = 2
+LEFT_OUT = {"structured append": 233, "reader programming": 234, "macro 05": 236, "macro 06": 237, "EDIFACT": 240, "an ECI": 241}
+
+# What the page shows, as text alone: the verdict, the meters and the facts.
+SHOWN = """
+    const text = (id) => document.getElementById(id).textContent, meters = [...document.querySelectorAll("#meters .meter")];
+    return { state: text("state"), says: text("says"), why: text("why"), side: parseInt(document.querySelector("#facts dd").textContent),
+             meters: meters.map((meter) => meter.querySelector(".count").textContent) };"""
+
+
+class On:
+    """What the test runs on."""
+
+    program = page = folder = shots = None
+
+
+on = On()
+
+
+class Failed(Exception):
+    """The first failure, where that is all that is asked."""
+
+
+class Count:
+    passed = failed = 0
+    stops = False
+
+    def expect(self, name, got, wanted):
+        if got == wanted:
+            self.passed += 1
+            return
+        self.failed += 1
+        if self.stops:
+            raise Failed(name)
+        print(f"{name}: {str(got)[:600]!r}, and not {str(wanted)[:600]!r}")
+
+
+count = Count()
+
+
+# ---- The program
+
+def ran(task, text, *more):
+    return subprocess.run([on.program, *task.split(), *more], input=text.encode(), stdout=subprocess.PIPE, timeout=300, check=False).stdout.decode()
+
+
+def written(message, profile=0):
+    return ran("write --shorter" if profile else "write", message + "\n").rstrip("\n")
+
+
+def refused(line):
+    """A refusal's code, and what the page tells of it beside."""
+    words = line.split()
+    return " ".join([words[1], *([words[3]] if words[1] in ("5", "6") else words[3:])])
+
+
+def told(grids):
+    """What the program's `read` and `check` answer to grids: message and counts, or the refusal."""
+    reads, checks = (ran(task, "\n".join(grid.rstrip("\n") + "\n" for grid in grids)).splitlines() for task in ("read", "check"))
+    return [(f"refused {refused(check)}",) * 2 if check.startswith("\\no ") else (read, check) for read, check in zip(reads, checks)]
+
+
+# ---- The page
+
+def as_program(shown):
+    """What the page shows, in the program's words: message and counts, or the refusal. Its parts have to agree."""
+    bounds = [line.split(" of at most ") for line in shown["meters"]]
+    beyond = [b for b, line in enumerate(shown["meters"][:-1]) if line.startswith("more than ")]
+    if shown["state"] != "Refused":
+        assert not beyond, shown
+        read = "" if shown["says"] == "the empty message" else shown["says"]
+        return read, f"ok {shown['side']} border {bounds[-1][0]} corrected {' '.join(count for count, _ in bounds[:-1])}"
+    assert shown["says"] == "no message", shown
+    why = shown["why"]
+    for code, pattern in REFUSALS:
+        found = re.match(pattern, why)
+        if not found:
+            continue
+        parts = [part for part in found.groups() if part is not None]
+        if code == 5:
+            assert parts[0] == bounds[-1][0] and int(parts[0]) > int(parts[1]) and parts[1] == bounds[-1][1], shown
+            parts = parts[:1]
+        if code == 6:
+            parts = [str(int(parts[0]) - 1 if parts else 0)]
+            assert int(parts[0]) == beyond[0], shown
+        if code == 8:
+            parts = [str(LEFT_OUT[parts[1]]), parts[0]]
+        return (f"refused {' '.join([str(code), *parts])}",) * 2
+    return why, why
+
+
+REFUSALS = [
+    (5, r"(\d+) modules? of the border ha(?:s|ve) the wrong colour, and (\d+) may"),
+    (6, r"More than \d+ codewords are wrong(?: in block (\d+) of \d+)?\. Its \d+ check codewords correct no more"),
+    (7, r"A value that the standard keeps back, 0 or 242 to 255, is data codeword (\d+)\."),
+    (8, r"At data codeword (\d+) begins (structured append|reader programming|macro 05|macro 06|EDIFACT|an ECI)"),
+    (9, r"An Upper Shift, data codeword (\d+), comes before no character"),
+    (10, r"A pair of codewords of C40, Text or X12 stands for no three values: data codeword (\d+)"),
+    (11, r"A value in a pair of C40 or Text has no meaning: data codeword (\d+)"),
+    (12, r"The length of a Base 256 segment doesn’t fit; it begins at data codeword (\d+)"),
+    (13, r"The symbol ends before the character of an Upper Shift, data codeword (\d+)"),
+]
+
+
+def find(name):
+    return on.page.find_element(By.ID, name)
+
+
+def text_of(name):
+    return find(name).get_attribute("textContent").strip()
+
+
+def run(script, *arguments):
+    return on.page.execute_script(script, *arguments)
+
+
+def shown():
+    return run(SHOWN)
+
+
+def put(name, text):
+    """Gives a field a value as typing does, but at once."""
+    run("const n = document.getElementById(arguments[0]); n.value = arguments[1]; n.dispatchEvent(new Event('input', { bubbles: true }))", name, text)
+
+
+def push(*names):
+    for name in names:
+        run("document.getElementById(arguments[0]).click()", name)
+
+
+def write(message, profile=0):
+    push("tab-write", f"profile-{profile}")
+    put("message", message)
+
+
+def grid():
+    return run("return mitsubadoor.gridText(mitsubadoor.mark.modules)").rstrip("\n")
+
+
+def agree(name):
+    count.expect(name, as_program(shown()), told([grid()])[0])
+
+
+def flat(text):
+    return text.replace("\n", "")
+
+
+def changed(before, after):
+    return [k for k, (a, b) in enumerate(zip(flat(before), flat(after))) if a != b]
+
+
+def turned(text, quarters, mirrored, inverted):
+    """A grid as it stands when it is mirrored left to right, then turned clockwise by quarters, and inverted."""
+    rows = text.rstrip("\n").split("\n")
+    if mirrored:
+        rows = [row[::-1] for row in rows]
+    for _ in range(quarters):
+        rows = ["".join(column)[::-1] for column in zip(*rows)]
+    return "\n".join(rows).translate(str.maketrans("01", "10") if inverted else {})
+
+
+def offset(cell, side):
+    """Where a module lies from the middle of the symbol, in pixels."""
+    scale = find("symbol").rect["width"] / (side + 2 * QUIET)
+    return [round((at + QUIET + 0.5) * scale - find("symbol").rect["width"] / 2) for at in (cell % side, cell // side)]
+
+
+def acting():
+    return ActionChains(on.page, duration=0)
+
+
+def click(*cells, side=10):
+    for cell in cells:
+        acting().move_to_element_with_offset(find("symbol"), *offset(cell, side)).click().perform()
+
+
+def wait_for(what):
+    for _ in range(100):
+        got = what()
+        if got:
+            return got
+        time.sleep(0.05)
+    return what()
+
+
+def drawn(side):
+    """The grid as the pixels of the screen say, at a corner of each module, away from crosses and numbers; with its quiet zone."""
+    picture = find("symbol").screenshot_as_base64
+    text = on.page.execute_async_script("""
+        const [picture, side, quiet, done] = arguments, image = new Image(), all = side + 2 * quiet;
+        image.src = "data:image/png;base64," + picture;
+        image.decode().then(() => {
+            const { naturalWidth: width, naturalHeight: height } = image, pen = Object.assign(document.createElement("canvas"), { width, height }).getContext("2d");
+            pen.drawImage(image, 0, 0);
+            const { data } = pen.getImageData(0, 0, width, height), rows = [];
+            const at = (line) => Math.min(width - 2, Math.max(1, Math.floor(1 + ((line + 0.12) * (width - 2)) / all)));
+            for (let r = 0; r < all; r++) {
+                let row = "";
+                for (let c = 0; c < all; c++) { const p = 4 * (at(r) * width + at(c)); row += data[p] + data[p + 1] + data[p + 2] < 384 ? 1 : 0; }
+                rows.push(row);
+            }
+            done(rows.join("\\n"));
+        });""", picture, side, QUIET)
+    lines = text.split("\n")
+    assert "1" not in "".join(lines[:QUIET] + lines[-QUIET:] + [line[:QUIET] + line[-QUIET:] for line in lines]), "a quiet zone that isn't"
+    return "\n".join(line[QUIET:-QUIET] for line in lines[QUIET:-QUIET])
+
+
+def coloured():
+    """The colours in the symbol but dark and light, and what is marked: turned over, or wrong as it came."""
+    return run("""
+        const fills = [...document.querySelectorAll("#symbol > path")].map((path) => path.getAttribute("fill")).filter((fill) => fill !== "none" && fill !== "#14181f");
+        return [...fills, ...["turned", "wrong"].filter((it) => document.querySelector(`#symbol .${it}`))];""")
+
+
+def cells():
+    """What stands in each codeword's cell: its value, what it is corrected to, and how it is coloured."""
+    got = run("return [...document.querySelectorAll('#words > b')].map((b) => [b.firstChild.textContent, (b.querySelector('small') || b).textContent, b.className])")
+    return [(int(held), int(below[1:]) if below.startswith("→") else int(held), kind) for held, below, kind in got]
+
+
+def pointed(words=None):
+    """These codewords, or all, are pointed at: what is told of each, and the numbers in the symbol with where they stand."""
+    return run("""
+        return [...document.querySelectorAll("#words > b")].filter((_, w) => !arguments[0] || arguments[0].includes(w)).map((cell) => {
+            cell.dispatchEvent(new PointerEvent("pointerover", { bubbles: true }));
+            const bits = [...document.querySelectorAll("#symbol .bits text")].map((bit) => [bit.textContent, Math.floor(bit.getAttribute("x")), Math.floor(bit.getAttribute("y"))]);
+            return [document.getElementById("about").textContent, bits];
+        });""", words)
+
+
+def value_at(bits, text):
+    """The value of the modules at which the numbers 1, the highest, to 8 stand."""
+    rows = text.split("\n")
+    assert sorted(number for number, _, _ in bits) == [str(k) for k in range(1, 9)], bits
+    return sum(int(rows[y][x]) << (8 - int(number)) for number, x, y in bits)

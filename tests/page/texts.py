@@ -1,0 +1,151 @@
+"""Messages, profiles, grids as text, marks of other encoders, and two symbols compared."""
+import pathlib
+
+from stage import By, Keys, agree, as_program, count, find, grid, on, push, put, run, shown, text_of, told, turned, write, written
+
+HERE = pathlib.Path(__file__).resolve().parent
+# The marks of other encoders, and three that dmtxwrite made (-e c, t and x): characters of each shift set, with and without an Upper Shift.
+MARKS = (HERE.parent / "marks" / "grids.txt", HERE / "shifts.txt")
+
+
+def spellings():
+    for text in ["A\\\\B", "\\F011234567890123110ABC\\F17251231", "\\x80\\FA", "\\x8f", " ", "", "~" * 50, "0" * 1632, "0" * 1631, "A\\", "A\\xg1", "AB\\q", "A\\x4", "12\\f", "\\x", "caf\u00e9", "100 \u20ac", "tab\t", "0" * 1633, "\\xFF" * 409]:
+        write(text)
+        line, words = written(text), find("message-hint").text
+        name = f"spelling {text[:12]!r}"
+        if line.startswith("\\no 15 escape "):
+            count.expect(name, words.split(" ")[:2], ["Column", line.split(" ")[3]])
+            count.expect(f"{name} is marked", find("message").get_attribute("aria-invalid"), "true")
+        elif line.startswith("\\no 14"):
+            count.expect(name, words.startswith("No size of symbol up to side 104 holds this message"), True)
+        else:
+            count.expect(name, grid(), line)
+            agree(f"{name} read")
+            count.expect(f"{name} isn't marked", find("message").get_attribute("aria-invalid"), None)
+    for text, spelt in (("caf\u00e9", {"as Latin-1": "caf\\xE9", "as UTF-8": "caf\\xC3\\xA9"}), ("100 \u20ac", {"as UTF-8": "100 \\xE2\\x82\\xAC"}), ("a\nb", {"as bytes": "a\\x0Ab"})):
+        for way, wanted in spelt.items():
+            write(text)
+            buttons = {button.text: button for button in find("message-hint").find_elements(By.TAG_NAME, "button")}
+            count.expect(f"ways to spell {text!r}", sorted(buttons), sorted(f"Spell it {each}" for each in spelt))
+            buttons[f"Spell it {way}"].click()
+            count.expect(f"{text!r} {way}", find("message").get_attribute("value"), wanted)
+    write("A" * 10)
+    find("message").send_keys(Keys.ENTER)
+    count.expect("Enter is no line break", find("message").get_attribute("value"), "A" * 10)
+
+
+def profiles():
+    """Both normal forms, against the program's."""
+    letters = "".join(f"\\x{byte:02X}" for byte in range(128, 256))
+    for text in ("123456", "\\xE9\\xE8", "\\xE9\\xE8\\xEA", letters, letters * 2, letters[: 4 * 122] * 2 + letters[:24], "\\F" + letters, "A" * 30 + letters[:200], "", letters * 6):
+        sides = []
+        for profile in (0, 1):
+            write(text, profile)
+            line = written(text, profile)
+            fits = not line.startswith("\\no ")
+            sides.append(f"{line.index(chr(10))} × {line.index(chr(10))}" if fits else "fits no size")
+            if fits:
+                count.expect(f"profile {profile} of {text[:24]}", grid(), line)
+                agree(f"profile {profile} of {text[:24]} read")
+                push("to-limit")
+                agree(f"profile {profile} of {text[:24]} at the limit")
+            else:
+                count.expect(f"profile {profile} of {text[:24]}", find("message-hint").text.startswith("No size of symbol"), True)
+        count.expect(f"sides told for {text[:24]}", [text_of("side-0"), text_of("side-1")], sides)
+    write("123456")
+
+
+def pasted():
+    push("tab-read", "example-c40")
+    count.expect("C40", [shown()[it] for it in ("state", "says")], ["Read", "Every answer is proved."])
+    push("example-turned")
+    count.expect("turned and inverted", (find("grid-hint").text, shown()["says"]), ("The grid is inverted, light for dark, and turned a quarter to the right: found by trying, and shown upright.", "Every answer is proved."))
+    push("example-edifact")
+    count.expect("EDIFACT", shown()["why"], "At data codeword 1 begins EDIFACT, an encodation that isn’t read here.")
+    agree("EDIFACT")
+    for text, why in [("10\n1x0", "Row 1 has a character other than #, X, . and space."), ("10\n12", "Row 2 has a character other than 0 and 1."), ("111\n11", "No square: there are 2 rows, and row 1 has 3 modules."),
+                      ("1\n0\n1", "No square: there are 3 rows, and row 1 has 1 module."), ("11\n11", "A square of side 2, but no size has this side."),
+                      ("1" * 105, "More than 104 rows or columns: no symbol that is read here is as large."), ("1\n" * 105, "More than 104 rows or columns: no symbol that is read here is as large.")]:
+        put("grid", text)
+        count.expect(f"grid refused: {why}", (find("grid-hint").text, find("grid").get_attribute("aria-invalid")), (why, "true"))
+    clean = written("Mitsubadoor")
+    spoilt = clean[:30] + "10"[int(clean[30])] + clean[31:]
+    for name, text in {
+        "as it is": spoilt, "with CR": spoilt.replace("\n", "\r\n"), "with blank lines around": f"\n\n{spoilt}\n\n",
+        "#.": spoilt.translate(str.maketrans("10", "#.")), "X.": spoilt.translate(str.maketrans("10", "X.")),
+        "# and space, cut off at the right and indented": "\n".join("   " + row.rstrip() for row in spoilt.translate(str.maketrans("10", "# ")).split("\n")),
+    }.items():
+        put("grid", "")
+        write("other")
+        push("tab-read")
+        put("grid", text)
+        count.expect(f"pasted {name}", grid(), spoilt)
+        agree(f"pasted {name}")
+        count.expect(f"pasted {name}: said", find("grid-hint").text, "Read as it stands.")
+    count.expect("a wrong module that wasn't turned here has a dot", [len(on.page.find_elements(By.CSS_SELECTOR, f"#symbol .{it}")) for it in ("wrong", "turned")], [1, 0])
+    push("to-limit")
+    agree("pasted, to the limit")
+    count.expect("pasted, to the limit: meters", shown()["meters"][0], "7 of at most 7" if len(clean.split("\n")) == 18 else "6 of at most 6")
+    push("undo")
+    count.expect("pasted, undone", grid(), spoilt)
+    quarter = ["", "turned a quarter to the right", "turned by half", "turned a quarter to the left"]
+    for inverted in (False, True):
+        for mirrored in (False, True):
+            for quarters in range(4):
+                put("grid", turned(spoilt, quarters, mirrored, inverted))
+                how = ", and ".join(filter(None, [inverted and "inverted, light for dark", mirrored and "mirrored left to right", quarter[quarters]]))
+                count.expect(f"stands {how or 'upright'}", (find("grid-hint").text, grid()), (f"The grid is {how}: found by trying, and shown upright." if how else "Read as it stands.", spoilt))
+    put("grid", "\n".join(["1" * 10] * 10))
+    agree("all dark")
+    count.expect("all dark: said", find("grid-hint").text, "As it stands it isn’t read, nor turned, mirrored or inverted. Shown as it stands.")
+    push("tab-write")
+
+
+def other_encoders():
+    """The marks of other encoders: what is shown, and what each of their codewords stands for."""
+    grids = [record.rstrip("\n") + "\n" for file in MARKS for record in file.read_text().split("\n\n") if record.strip()]
+    push("tab-read")
+    for text, answer in zip(grids, told(grids)):
+        put("grid", text)
+        name = f"mark of another encoder, {answer[0][:20]}"
+        count.expect(name, as_program(shown()), answer)
+        if shown()["state"] != "Refused":
+            count.expect(f"{name}: its codewords", run("return mitsubadoor.spelled(mitsubadoor.mark.seen.told.flatMap((it) => it.items))"), answer[0])
+            count.expect(f"{name}: one for each", run("const { told, size } = mitsubadoor.mark.seen; return told.length === size.data"), True)
+
+
+def compared():
+    head = lambda: run("return [...document.querySelectorAll('#same strong, #same p')].map((it) => it.textContent)")
+    count.expect("same", head(), ["Yes, they say the same.", "Their modules differ, but both have this one normal symbol:"])
+    count.expect("one normal symbol", len(find("same").find_elements(By.TAG_NAME, "svg")), 1)
+    area = lambda slot: find(f"slot-{slot}").find_element(By.TAG_NAME, "textarea")
+    fill = lambda slot, text: run("arguments[0].value = arguments[1]; arguments[0].dispatchEvent(new Event('input'))", area(slot), text)
+    take = lambda slot: run("arguments[0].click()", find(f"slot-{slot}").find_element(By.TAG_NAME, "button"))
+    write("another")
+    take("a")
+    count.expect("different", (head(), len(find("same").find_elements(By.TAG_NAME, "svg"))), (["No, they say different things.", "Their normal symbols differ:"], 2))
+    fill("b", "1" * 10)
+    count.expect("no grid", head(), ["No answer", "Symbol B is no grid."])
+    take("b")
+    count.expect("alike", head(), ["Yes, they say the same.", "Both have this one normal symbol:"])
+    fill("b", turned(written("another"), 1, False, True))
+    count.expect("turned", (head()[0], "inverted, light for dark, and turned a quarter to the right" in find("slot-b").text), ("Yes, they say the same.", True))
+    fill("b", turned(written("Another"), 1, False, True))
+    count.expect("one letter", head()[0], "No, they say different things.")
+    message = "".join(f"\\x{128 + k % 128:02X}" for k in range(60))
+    write(message, 1)
+    take("a")
+    write(message, 0)
+    push("to-limit")
+    take("b")
+    count.expect("two profiles", head(), ["Yes, they say the same.", "Their modules differ, but both have this one normal symbol:"])
+    message = "".join(f"\\x{128 + k % 128:02X}" for k in range(700))
+    write(message, 1)
+    take("a")
+    push("to-limit")
+    take("b")
+    count.expect("too long for ASCII", head()[0], "Yes, they say the same.")
+    push("one-more")
+    take("b")
+    if shown()["state"] == "Refused":
+        count.expect("refused", head(), ["No answer", "Symbol B isn’t read."])
