@@ -1,21 +1,70 @@
 # What a person's hands try first. `make test` is the merge gate.
 PREFIX ?= /usr/local
 TOOL := crates/dm_tool/out/dm_tool
+# The crates that the program stands on, lowest first, and the program.
+CRATES := $(shell sed -n 's/^\([a-z0-9_]*\):.*/\1/p' crates.txt)
+# What no contract sees. Each of these ends with a line 'N passed, M failed', and with status 1 where something failed.
+SCRIPTS := tests/definitions tests/program tests/library tests/marks/run tests/scale tests/page/run
 
-.PHONY: build test install bench
+.PHONY: build library try test $(SCRIPTS) install install-library bench
 
 # Proves the program and all that it stands on, and leaves it at crates/dm_tool/out/dm_tool.
 build:
-	cd crates/dm_tool && rt run -- write </dev/null
+	@mkdir -p out && : > out/build.log
+	@echo "Proving $(words $(CRATES)) crates, lowest first; what the toolchain says goes to out/build.log."
+	@for crate in $(CRATES); do \
+	  if [ $$crate = dm_tool ]; then step='rt run -- table'; else step='rt lib'; fi; \
+	  begun=$$(date +%s); \
+	  (cd crates/$$crate && $$step) > out/step.log 2>&1 < /dev/null; status=$$?; \
+	  cat out/step.log >> out/build.log; \
+	  if [ $$status -ne 0 ]; then tail -n 5 out/step.log; echo "  $$crate: failed; out/build.log says more"; exit 1; fi; \
+	  echo "  $$crate: proved, $$(($$(date +%s) - begun)) s"; \
+	done
+	@echo "The program is $(TOOL). It writes 123456 as"
+	@printf '123456\n' | $(TOOL) write
 
-# Every proof from nothing, the must-fail edits and the tests, then the program's lines and statuses.
+# Proves the library ecc200 and what it stands on, and leaves it as library/out/libecc200.a and libecc200.so.
+library:
+	@mkdir -p library/out
+	@echo "Proving the library; what the toolchain says goes to library/out/build.log."
+	@cd crates/ecc200 && rt lib > ../../library/out/build.log 2>&1 < /dev/null || { tail -n 5 ../../library/out/build.log; exit 1; }
+	@cp crates/ecc200/out/libecc200.a library/out/
+	@$(CC) -shared -o library/out/libecc200.so -Wl,-soname,libecc200.so.1 -Wl,--whole-archive library/out/libecc200.a -Wl,--no-whole-archive
+	@echo "The library is library/out/libecc200.a and library/out/libecc200.so; its manual is library/ecc200.h."
+
+# Shows the program at work at once. Nothing is proved by it.
+try:
+	@mkdir -p out
+	@echo "Unproved, for a first look (make build proves the program): dm_tool writes 123456 as"
+	@cd crates/dm_tool && printf '123456\n' | rt try --steps 1 -- write 2> ../../out/try.log || { cat ../../out/try.log; exit 1; }
+
+# The merge gate: every proof from nothing, the must-fail edits and the tests, then the scripts.
 test:
 	rt ci
-	tests/program
+	@$(MAKE) --no-print-directory --keep-going $(SCRIPTS)
 
-install: build
+$(SCRIPTS):
+	$@
+
+install: build install-library
 	install -D $(TOOL) $(DESTDIR)$(PREFIX)/bin/dm_tool
 
-# Times the program that `make build` left, beside ZXing, zint and libdmtx where these are installed.
+# The library, its header, and what pkg-config reads.
+install-library: library
+	install -D -m 644 library/ecc200.h $(DESTDIR)$(PREFIX)/include/ecc200.h
+	install -D -m 644 library/out/libecc200.a $(DESTDIR)$(PREFIX)/lib/libecc200.a
+	install -D -m 755 library/out/libecc200.so $(DESTDIR)$(PREFIX)/lib/libecc200.so.1
+	ln -sf libecc200.so.1 $(DESTDIR)$(PREFIX)/lib/libecc200.so
+	@mkdir -p $(DESTDIR)$(PREFIX)/lib/pkgconfig
+	sed 's|@PREFIX@|$(PREFIX)|' library/ecc200.pc.in > $(DESTDIR)$(PREFIX)/lib/pkgconfig/ecc200.pc
+
+# Times the program that `make build` left, and the library that `make library` left, beside others where these are installed.
 bench:
 	bench/run
+	@if [ -f library/out/libecc200.a ]; then bench/library; else echo "The library isn't built (make library), and not timed."; fi
+
+.PHONY: page
+
+# Builds the page, one file that opens from disk: web/out/mitsubadoor.html. Its library is proved anew, for WebAssembly, in a copy.
+page:
+	web/build

@@ -7,6 +7,9 @@ import zipfile
 
 HERE = os.path.dirname(os.path.abspath(__file__))
 
+# What is said of an encoder that chooses among all encodations.
+CHOSE_OTHERS = "; for the rest it chose EDIFACT, or a rectangle, and they are refused"
+
 
 def version_of(package):
     """The version of an installed Debian package, as its authors number it, or nothing."""
@@ -59,6 +62,41 @@ class Zxing:
         return int(wrong), int(nanoseconds) * 1e-9
 
 
+class ZxingCpp:
+    """zxing-cpp, as a decoder of bit matrices (`reads`) or as an encoder, in a program in C++."""
+
+    def __init__(self, reads, folder):
+        self.reads = reads
+        self.same = False
+        self.rest = CHOSE_OTHERS
+        self.name = "zxing-cpp" + version_of("libzxing-dev")
+        self.built = os.path.join(folder, "zxing_cpp")
+        self.notes = []
+
+    def missing(self):
+        """The packages without which it can't be timed."""
+        if not shutil.which("c++"):
+            return ["g++", "libzxing-dev"]
+        test = ["c++", "-std=c++17", "-fsyntax-only", "-include", "ZXing/BitMatrix.h", "-x", "c++", os.devnull]
+        return ["libzxing-dev"] if subprocess.run(test, stderr=subprocess.DEVNULL).returncode else []
+
+    def build(self):
+        """Compiles the program into the folder, once for both."""
+        if not os.path.exists(self.built):
+            printed_by(["c++", "-std=c++17", "-O2", "-o", self.built, os.path.join(HERE, "zxing_cpp.cpp"), "-lZXing"])
+
+    def timed(self, given, other, rounds):
+        """As a decoder, given grids and lines: how many it doesn't read as their lines, and the best round's seconds. As an
+        encoder, given lines and the file for grids: the best round's seconds."""
+        wrong, seconds = printed_by([self.built, "read" if self.reads else "write", given, other, str(rounds)]).split()
+        return (int(wrong), float(seconds)) if self.reads else float(seconds)
+
+
+def decoders(jar, folder):
+    """ZXing, and zxing-cpp, in C++."""
+    return [Zxing(jar, folder), ZxingCpp(True, folder)]
+
+
 class Encoder:
     """An encoder of a C library, in a program that hands it lines. `same` is whether it is told to use ASCII encodation,
     so that its symbols have to be the same as ours; `rest` says what it may choose otherwise."""
@@ -68,7 +106,7 @@ class Encoder:
         self.way = way
         self.package = f"lib{library}-dev"
         self.same = library == "dmtx"
-        self.rest = ", the same as its own" if self.same else "; for the rest zint chose EDIFACT, and they are refused"
+        self.rest = ", the same as its own" if self.same else CHOSE_OTHERS
         self.name = " ".join([("lib" if self.same else "") + library + version_of(self.package), *way])
         self.built = os.path.join(folder, library + "_writes")
         self.notes = []
@@ -91,5 +129,6 @@ class Encoder:
 
 
 def encoders(folder):
-    """zint at its usual and its faster choice of encodations, and libdmtx in ASCII encodation."""
-    return [Encoder("zint", [], folder), Encoder("zint", ["fast"], folder), Encoder("dmtx", [], folder)]
+    """zint at its usual and its faster choice of encodations, zxing-cpp, and libdmtx in ASCII encodation."""
+    zint = [Encoder("zint", way, folder) for way in ([], ["fast"])]
+    return [*zint, ZxingCpp(False, folder), Encoder("dmtx", [], folder)]

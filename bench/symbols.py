@@ -14,21 +14,21 @@ CODEWORDS = 288
 BLOCKS = 2
 LIMIT = 21
 
-# How the program refuses a symbol in which EDIFACT encodation was chosen.
-EDIFACT = "\\no 8 left-out 240 "
+# How the program refuses a symbol in which EDIFACT encodation was chosen, and a rectangular one, which zxing-cpp chooses at times.
+LEFT_OUT = "\\no 8 left-out 240 ", "\\no 3 shape"
 
 DIGITS = "0123456789"
 LETTERS = "ABCDEFGHIJKLMNOPQRSTUVWXYZabcdefghijklmnopqrstuvwxyz"
 MARKS = " -./:"
 
 
-def long_lines(count):
-    """Lines of 180 letters, digits and marks. No two digits stand side by side, so each character takes one codeword."""
-    chance = random.Random(180)
+def lines_of(length, count):
+    """Lines of letters, digits and marks. No two digits stand side by side, so each character takes one codeword."""
+    chance = random.Random(length)
     lines = []
     for _ in range(count):
         line = ""
-        while len(line) < 180:
+        while len(line) < length:
             line += chance.choice(LETTERS + MARKS if line[-1:].isdigit() else LETTERS + MARKS + DIGITS)
         lines.append(line)
     return lines

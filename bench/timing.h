@@ -10,6 +10,9 @@
 #include <string.h>
 #include <time.h>
 
+/* The most lines that are timed. */
+enum { MOST = 100000 };
+
 /* Encodes one line, and prints its grid to `grids` unless that is NULL. Ends the program where the encoder refuses. */
 typedef void writer(char *line, int length, FILE *grids);
 
@@ -26,15 +29,15 @@ static void refused(const char *why)
     exit(1);
 }
 
-/* The lines of a file, up to 20,000. */
+/* The lines of a file, up to MOST. */
 static struct lines lines_of(const char *path)
 {
-    struct lines lines = { calloc(20000, sizeof(char *)), calloc(20000, sizeof(int)), 0 };
+    struct lines lines = { calloc(MOST, sizeof(char *)), calloc(MOST, sizeof(int)), 0 };
     FILE *file = fopen(path, "r");
-    char text[512];
+    char text[2048];
     if (!file || !lines.line || !lines.length)
         refused(path);
-    while (lines.count < 20000 && fgets(text, sizeof text, file)) {
+    while (lines.count < MOST && fgets(text, sizeof text, file)) {
         int length = (int)strcspn(text, "\n");
         text[length] = 0;
         lines.line[lines.count] = strdup(text);

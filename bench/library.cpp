@@ -1,0 +1,225 @@
+// Times the calls of the library ecc200 in process, beside libdmtx, zint and zxing-cpp where they are compiled in (WITH_DMTX, WITH_ZINT,
+// WITH_ZXING), on the same symbols: microseconds of processor time a call, the best of some rounds. Each answer is compared with what
+// was written. A line for each work: side, work, who, microseconds.
+#include <ecc200.h>
+
+#include <algorithm>
+#include <cstdio>
+#include <cstdlib>
+#include <cstring>
+#include <ctime>
+#include <random>
+#include <string>
+#include <vector>
+
+#ifdef WITH_DMTX
+#include <dmtx.h>
+#endif
+#ifdef WITH_ZINT
+#include <zint.h>
+#endif
+#ifdef WITH_ZXING
+#include <ZXing/BitMatrix.h>
+#include <ZXing/MultiFormatWriter.h>
+// zxing-cpp 1.4 exports its decoder of a bit matrix, but installs no header for it. It returns an object in memory of the caller, whose
+// first members are the vectors of the codewords and of the bytes read; the object is let go without being destroyed.
+namespace ZXing {
+struct DecoderResult {
+    alignas(16) unsigned char all[2048];
+    ~DecoderResult() {}
+};
+namespace DataMatrix {
+DecoderResult Decode(const BitMatrix &);
+}
+}
+#endif
+
+struct Mark {
+    std::string text;
+    std::vector<uint16_t> items;
+    uint16_t side;
+    std::vector<uint8_t> clean, damaged;
+};
+
+static std::mt19937 chance(7);
+static ecc200_symbol symbol;
+static ecc200_reading reading;
+static ecc200_inspection inspection;
+static int rounds = 30;
+
+[[noreturn]] static void die(const char *why) {
+    std::fprintf(stderr, "%s\n", why);
+    std::exit(1);
+}
+
+// Letters and digits; in the damaged mark as many codewords of each block are wrong as can be corrected, by one module each.
+static Mark made(const ecc200_size &size, size_t length) {
+    Mark mark;
+    do {
+        mark.text.clear();
+        for (size_t i = 0; i < length; i++) mark.text += (char)(chance() % 3 ? 'A' + chance() % 26 : '0' + chance() % 10);
+        mark.items.assign(mark.text.begin(), mark.text.end());
+    } while (ecc200_write(mark.items.data(), mark.items.size(), ECC200_ASCII, &symbol) || symbol.side != size.side);
+    mark.side = size.side;
+    mark.clean.assign(symbol.modules, symbol.modules + size.side * size.side);
+    mark.damaged = mark.clean;
+    for (int done = 0; done < size.limit * size.blocks;) {
+        size_t at = chance() % mark.damaged.size();
+        mark.damaged[at] ^= 1;
+        int corrected = 0;
+        if (!ecc200_read(mark.damaged.data(), mark.damaged.size(), size.side, 0, &reading))
+            for (int b = 0; b < size.blocks; b++) corrected += reading.corrected[b];
+        if (corrected == done + 1) done++;
+        else mark.damaged[at] ^= 1;
+    }
+    return mark;
+}
+
+static double now() {
+    timespec at;
+    clock_gettime(CLOCK_PROCESS_CPUTIME_ID, &at);
+    return at.tv_sec + 1e-9 * at.tv_nsec;
+}
+
+template <class Work> static void timed(const char *work, const char *who, const std::vector<Mark> &marks, Work one) {
+    double best = 1e9;
+    for (int i = 0; i < rounds; i++) {
+        double from = now();
+        for (const Mark &mark : marks) one(mark);
+        best = std::min(best, now() - from);
+    }
+    std::printf("%d|%s|%s|%.2f\n", marks[0].side, work, who, 1e6 * best / marks.size());
+}
+
+static void read(const std::vector<uint8_t> &modules, const Mark &mark) {
+    if (ecc200_read(modules.data(), modules.size(), mark.side, ecc200_usual_limit(mark.side), &reading) || reading.item_count != mark.items.size()
+        || !std::equal(mark.items.begin(), mark.items.end(), reading.items))
+        die("ecc200 reads something else");
+}
+
+static void time_ours(const std::vector<Mark> &marks) {
+    timed("read", "ecc200", marks, [](const Mark &mark) { read(mark.clean, mark); });
+    timed("read, damaged", "ecc200", marks, [](const Mark &mark) { read(mark.damaged, mark); });
+    timed("normal, damaged", "ecc200", marks, [](const Mark &mark) {
+        if (ecc200_normal(mark.damaged.data(), mark.damaged.size(), mark.side, 0, ECC200_ASCII, &symbol) || std::memcmp(symbol.modules, mark.clean.data(), mark.clean.size()))
+            die("ecc200 normalises to something else");
+    });
+    timed("inspect, damaged", "ecc200", marks, [](const Mark &mark) {
+        if (ecc200_inspect(mark.damaged.data(), mark.damaged.size(), mark.side, &inspection)) die("ecc200 refuses to inspect");
+    });
+    timed("write", "ecc200", marks, [](const Mark &mark) {
+        if (ecc200_write(mark.items.data(), mark.items.size(), ECC200_ASCII, &symbol) || std::memcmp(symbol.modules, mark.clean.data(), mark.clean.size()))
+            die("ecc200 writes something else");
+    });
+}
+
+#ifdef WITH_ZXING
+static void time_zxing(const std::vector<Mark> &marks) {
+    std::vector<ZXing::BitMatrix> clean, damaged;
+    for (const Mark &mark : marks)
+        for (auto *list : {&clean, &damaged}) {
+            ZXing::BitMatrix bits(mark.side, mark.side);
+            const auto &modules = list == &clean ? mark.clean : mark.damaged;
+            for (int i = 0; i < mark.side * mark.side; i++)
+                if (modules[i]) bits.set(i % mark.side, i / mark.side);
+            list->push_back(std::move(bits));
+        }
+    auto decode = [&](const std::vector<ZXing::BitMatrix> &list) {
+        return [&](const Mark &mark) {
+            auto result = ZXing::DataMatrix::Decode(list[&mark - marks.data()]);
+            auto *bytes = reinterpret_cast<std::vector<uint8_t> *>(&result) + 1;
+            if (bytes->size() != mark.text.size() || std::memcmp(bytes->data(), mark.text.data(), bytes->size())) die("zxing-cpp reads something else");
+        };
+    };
+    timed("read", "zxing-cpp", marks, decode(clean));
+    timed("read, damaged", "zxing-cpp", marks, decode(damaged));
+    timed("write", "zxing-cpp, its encodation", marks, [](const Mark &mark) {
+        ZXing::MultiFormatWriter writer(ZXing::BarcodeFormat::DataMatrix);
+        writer.setMargin(0);
+        if (writer.encode(mark.text, 0, 0).width() < 2) die("zxing-cpp writes nothing");
+    });
+}
+#endif
+
+#ifdef WITH_DMTX
+// From a picture of five pixels a module, in which libdmtx has found the region: its search isn't timed.
+static void time_dmtx_reading(const char *work, const std::vector<Mark> &marks, std::vector<uint8_t> Mark::*modules) {
+    struct Found {
+        DmtxDecode *decode;
+        DmtxRegion *region;
+    };
+    std::vector<std::vector<unsigned char>> pictures(marks.size());
+    std::vector<Found> found;
+    std::vector<Mark> seen;
+    const int scale = 5, quiet = 2;
+    for (size_t i = 0; i < marks.size() && seen.size() < 100; i++) {
+        int side = marks[i].side, across = (side + 2 * quiet) * scale;
+        pictures[i].assign(across * across, 255);
+        for (int r = 0; r < side * scale; r++)
+            for (int c = 0; c < side * scale; c++)
+                if ((marks[i].*modules)[r / scale * side + c / scale]) pictures[i][(r + quiet * scale) * across + c + quiet * scale] = 0;
+        Found f;
+        f.decode = dmtxDecodeCreate(dmtxImageCreate(pictures[i].data(), across, across, DmtxPack8bppK), 1);
+        DmtxTime end = dmtxTimeAdd(dmtxTimeNow(), 500);
+        f.region = dmtxRegionFindNext(f.decode, &end);
+        DmtxMessage *message = f.region ? dmtxDecodeMatrixRegion(f.decode, f.region, -1) : nullptr;
+        if (message && !std::memcmp(message->output, marks[i].text.data(), marks[i].text.size())) found.push_back(f), seen.push_back(marks[i]);
+        if (message) dmtxMessageDestroy(&message);
+    }
+    if (seen.empty()) return;
+    timed(work, "libdmtx, from its region", seen, [&](const Mark &mark) {
+        const Found &f = found[&mark - seen.data()];
+        DmtxMessage *message = dmtxDecodeMatrixRegion(f.decode, f.region, -1);
+        if (!message) die("libdmtx reads nothing");
+        dmtxMessageDestroy(&message);
+    });
+}
+
+static void time_dmtx(const std::vector<Mark> &marks) {
+    time_dmtx_reading("read", marks, &Mark::clean);
+    time_dmtx_reading("read, damaged", marks, &Mark::damaged);
+    timed("write", "libdmtx, ASCII", marks, [](const Mark &mark) {
+        DmtxEncode *encode = dmtxEncodeCreate();
+        dmtxEncodeSetProp(encode, DmtxPropSizeRequest, DmtxSymbolSquareAuto);
+        dmtxEncodeSetProp(encode, DmtxPropScheme, DmtxSchemeAscii);
+        dmtxEncodeSetProp(encode, DmtxPropModuleSize, 1);
+        dmtxEncodeSetProp(encode, DmtxPropMarginSize, 1);
+        if (!dmtxEncodeDataMatrix(encode, (int)mark.text.size(), (unsigned char *)mark.text.data())) die("libdmtx writes nothing");
+        dmtxEncodeDestroy(&encode);
+    });
+}
+#endif
+
+#ifdef WITH_ZINT
+static void time_zint(const std::vector<Mark> &marks) {
+    timed("write", "zint, its encodation", marks, [](const Mark &mark) {
+        zint_symbol *made = ZBarcode_Create();
+        made->symbology = BARCODE_DATAMATRIX;
+        made->option_3 = DM_SQUARE;
+        if (ZBarcode_Encode(made, (unsigned char *)mark.text.data(), (int)mark.text.size()) >= ZINT_ERROR) die("zint writes nothing");
+        ZBarcode_Delete(made);
+    });
+}
+#endif
+
+int main(int argc, char **argv) {
+    if (argc > 1) rounds = std::max(1, std::atoi(argv[1]));
+    static ecc200_size_table table;
+    ecc200_sizes(&table);
+    const struct { uint16_t side; size_t length, count; } sets[] = {{52, 180, 200}, {14, 8, 1000}};
+    for (const auto &set : sets) {
+        const ecc200_size *size = std::find_if(table.sizes, table.sizes + ECC200_SIZE_COUNT, [&](const ecc200_size &s) { return s.side == set.side; });
+        std::vector<Mark> marks;
+        while (marks.size() < set.count) marks.push_back(made(*size, set.length));
+        time_ours(marks);
+#ifdef WITH_ZXING
+        time_zxing(marks);
+#endif
+#ifdef WITH_DMTX
+        time_dmtx(marks);
+#endif
+#ifdef WITH_ZINT
+        time_zint(marks);
+#endif
+    }
+}
