@@ -3,7 +3,7 @@ use Rattle.std.proofs.Common.{◌≡◌, ℕ, zero, suc, ◌+◌, ◌-◌, ◌<�
 use lib.Bits.{xor_self, xor_zero_r}
 use Rattle.gf301.specs.Field.{◌⊕◌, ◌⊗◌}
 use Rattle.gf301.specs.Polynomial.{coefficient}
-use Rattle.dm_code.specs.LinearSystem.{dot, row, Solves, Unsolvable}
+use Rattle.dm_code.specs.inner.LinearSystem.{dot, row, Solves, Unsolvable}
 use Rattle.gf301.proofs.Additive.{xor_swap}
 use Rattle.gf301.proofs.FieldLaws.{product_sum_left, product_sum_right, product_assoc, product_comm, product_zero_left, product_zero_right, product_one_left, product_one_right, product_one_middle, product_below, sum_below}
 

@@ -4,7 +4,7 @@ use Rattle.std.proofs.lemmas.List.{get_or_past}
 use Rattle.gf301.specs.Field.{◌⊕◌, ◌⊗◌}
 use Rattle.gf301.specs.Polynomial.{coefficient, convolution, shift}
 use Rattle.dm_code.proofs.Connections.{Connects}
-use Rattle.dm_code.specs.LinearSystem.{dot, row, Solves, Unsolvable}
+use Rattle.dm_code.specs.inner.LinearSystem.{dot, row, Solves, Unsolvable}
 use lib.Bits.{xor_zero_r}
 use Rattle.gf301.proofs.FieldLaws.{product_zero_right}
 use Rattle.gf301.proofs.Series.{conv_comm, conv_same_left}

@@ -3,7 +3,7 @@
 ghost use Rattle.std.specs.Prelude.{◌≡◌, ◌+◌, ◌-◌, ◌*◌, ◌<◌, ◌≤◌, ℕ, length};
 ghost use Rattle.gf301.specs.Polynomial.{Bytes, coefficient, convolution};
 ghost use Rattle.arrayvec.specs.ArrayVec.{array_vec_len};
-ghost use Rattle.dm_code.specs.LinearSystem.{row};
+ghost use Rattle.dm_code.specs.inner.LinearSystem.{row};
 
 use super::key::{Key, KeySolver};
 use super::system::{Row, solve};

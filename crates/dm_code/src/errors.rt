@@ -9,7 +9,7 @@ ghost use Rattle.gf301.specs.Field.{◌⊕◌, ◌⊗◌, raise, power};
 ghost use Rattle.gf301.specs.Polynomial.{value, values_from, coefficient};
 ghost use Rattle.dm_code.specs.KeyEquation.{IsBelow};
 ghost use Rattle.dm_code.specs.KeyEquationLaws.{IsSamePolynomial};
-ghost use Rattle.dm_code.specs.OddTerms.{odd_part};
+ghost use Rattle.dm_code.specs.inner.OddTerms.{odd_part};
 
 use arrayvec::ArrayVec;
 use gf301::{Gf, power_row, scaled};

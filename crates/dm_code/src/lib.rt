@@ -17,7 +17,7 @@
 //!
 //! What the contracts say is defined in `specs/`: `Codeword`, `Syndromes` and `KeyEquation`. What holds of these
 //! definitions, whatever the code does, is stated in `CodewordLaws` and `KeyEquationLaws` there and proved in [`laws`].
-//! `LinearSystem` serves the private functions of the elimination alone, and `OddTerms` those that find errors.
+//! `inner` has the definitions that private functions alone cite: `LinearSystem` for the elimination, `OddTerms` for finding errors.
 #![tactic(auto)]
 
 mod correction;

@@ -3,7 +3,7 @@
 ghost use Rattle.std.specs.Prelude.{◌≡◌, ◌+◌, ◌-◌, ◌<◌, ◌≤◌, ℕ, length, IfNone, IfSome, MatchOption};
 ghost use Rattle.gf301.specs.Field.{◌⊕◌, ◌⊗◌};
 ghost use Rattle.gf301.specs.Polynomial.{coefficient};
-ghost use Rattle.dm_code.specs.LinearSystem.{dot, row, Solves, Unsolvable};
+ghost use Rattle.dm_code.specs.inner.LinearSystem.{dot, row, Solves, Unsolvable};
 
 use arrayvec::ArrayVec;
 use gf301::Gf;

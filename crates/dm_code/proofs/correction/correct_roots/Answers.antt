@@ -1,7 +1,7 @@
 use Rattle.std.proofs.Common.{◌≡◌, ◌-◌, ◌*◌, ◌+◌, ◌<◌, ℕ, suc, List, length, get_or, slice_set, refl, sym, ap, subst, ◌∙◌, arith}
 use Rattle.gf301.specs.Field.{◌⊕◌, power}
 use Rattle.gf301.specs.Polynomial.{value, coefficient, values_from}
-use Rattle.dm_code.specs.OddTerms.{odd_part}
+use Rattle.dm_code.specs.inner.OddTerms.{odd_part}
 use Rattle.dm_code.proofs.First.{first, values_are_first}
 use Rattle.dm_code.proofs.ErrorPlaces.{locator_at}
 use Rattle.dm_code.proofs.Nearness.{IsTrimmed, IsCorrected, corrected_bytes, corrected_near}

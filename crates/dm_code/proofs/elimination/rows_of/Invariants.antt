@@ -1,5 +1,5 @@
 use Rattle.std.proofs.Common.{◌≡◌, ◌+◌, ◌-◌, ◌<◌, ◌≤◌, ℕ, length, get_or}
-use Rattle.dm_code.specs.LinearSystem.{row}
+use Rattle.dm_code.specs.inner.LinearSystem.{row}
 use Rattle.dm_code.proofs.elimination.rows_of.Given as goal
 
 abbrev pub invariant-loop-i : goal.invariant-loop-i

@@ -2,7 +2,7 @@ use Rattle.std.proofs.Common.{◌-◌, ◌<◌, ◌≢◌, length, IfNone, sym, 
 use Rattle.std.proofs.lemmas.List.{get_or-set_same, get_or-set_other}
 use Rattle.gf301.specs.Field.{◌⊗◌}
 use Rattle.gf301.specs.Polynomial.{coefficient}
-use Rattle.dm_code.specs.LinearSystem.{row, Unsolvable}
+use Rattle.dm_code.specs.inner.LinearSystem.{row, Unsolvable}
 use Rattle.dm_code.proofs.LinearLaws.{Reduced, column_down, column_up, free_some, free_none}
 use Rattle.dm_code.proofs.system.+solve.Goals as goal
 

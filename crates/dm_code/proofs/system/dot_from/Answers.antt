@@ -1,7 +1,7 @@
 use Rattle.std.proofs.Common.{◌≡◌, ◌-◌, refl, sym, ap, ◌∙◌, arith}
 use Rattle.gf301.specs.Field.{◌⊕◌, ◌⊗◌}
 use Rattle.gf301.specs.Polynomial.{coefficient}
-use Rattle.dm_code.specs.LinearSystem.{dot}
+use Rattle.dm_code.specs.inner.LinearSystem.{dot}
 use Rattle.dm_code.proofs.LinearLaws.{dot_step}
 use Rattle.dm_code.proofs.system.dot_from.Goals as goal
 

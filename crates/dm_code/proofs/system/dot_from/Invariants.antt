@@ -1,6 +1,6 @@
 use Rattle.std.proofs.Common.{◌≡◌, ◌≤◌, ◌-◌}
 use Rattle.gf301.specs.Polynomial.{coefficient}
-use Rattle.dm_code.specs.LinearSystem.{dot}
+use Rattle.dm_code.specs.inner.LinearSystem.{dot}
 use Rattle.dm_code.proofs.system.dot_from.Given as goal
 
 abbrev pub invariant-loop-j : goal.invariant-loop-j

@@ -1,6 +1,6 @@
 use Rattle.std.proofs.Common.{◌≡◌, ◌<◌, ℕ, length}
 use Rattle.gf301.specs.Field.{◌⊕◌, ◌⊗◌}
-use Rattle.dm_code.specs.LinearSystem.{row}
+use Rattle.dm_code.specs.inner.LinearSystem.{row}
 use Rattle.dm_code.proofs.system.without.Given as goal
 
 abbrev pub invariant-loop-k : goal.invariant-loop-k

@@ -1,7 +1,7 @@
 use Rattle.std.proofs.Common.{◌≡◌, ◌+◌, ◌-◌, ◌≤◌, length, arith, subst, inl, inr}
 use Rattle.std.proofs.lemmas.Bool.{cases_eq}
 use Rattle.gf301.specs.Polynomial.{coefficient}
-use Rattle.dm_code.specs.LinearSystem.{Solves, Unsolvable}
+use Rattle.dm_code.specs.inner.LinearSystem.{Solves, Unsolvable}
 use Rattle.dm_code.proofs.Connections.{Connects, NoneBelow, none_connects, first_is_least}
 use Rattle.dm_code.proofs.Systems.{IsSystem, unsolvable_none, solved_connects}
 use Rattle.dm_code.proofs.elimination.EliminationKeySolver.solve.Goals as goal

@@ -4,20 +4,20 @@ use Rattle.std.specs.Prelude.{◌≡◌, ℕ, zero, suc, ◌+◌, ◌<◌, List,
 use Rattle.gf301.specs.Field.{◌⊕◌, ◌⊗◌}
 use Rattle.gf301.specs.Polynomial.{coefficient}
 
--- The sum of f j times v j over the n places j from c on.
+-- The sum of the products of two series over n places, from the place `first` on.
 unfoldable pub dot : (ℕ → ℕ) → (ℕ → ℕ) → ℕ → ℕ → ℕ
-dot f v c zero = 0
-dot f v c (suc n) = f c ⊗ v c ⊕ dot f v (suc c) n
+dot f v first zero = 0
+dot f v first (suc n) = f first ⊗ v first ⊕ dot f v (suc first) n
 
 -- The coefficients of row k.
 abbrev pub row : List (List ℕ) → ℕ → ℕ → ℕ
 row rows k = coefficient (get_or rows k [])
 
--- v solves the rows in the n + 1 unknowns from c on, of which the last is 1.
-pub record Solves (rows : List (List ℕ)) (c n : ℕ) (v : ℕ → ℕ) : Type 0 where
-  pub last : v (c + n) ≡ 1
-  pub each : (k : ℕ) → k < length rows → dot (row rows k) v c (suc n) ≡ 0
+-- v solves the rows in the n + 1 unknowns from the place `first` on, of which the last is 1.
+pub record Solves (rows : List (List ℕ)) (first n : ℕ) (v : ℕ → ℕ) : Type 0 where
+  pub last : v (first + n) ≡ 1
+  pub each : (k : ℕ) → k < length rows → dot (row rows k) v first (suc n) ≡ 0
 
--- Nothing solves the rows in the n + 1 unknowns from c on.
+-- Nothing solves the rows in the n + 1 unknowns from the place `first` on.
 abbrev pub Unsolvable : List (List ℕ) → ℕ → ℕ → Type 0
-Unsolvable rows c n = (v : ℕ → ℕ) → Solves rows c n v → ⊥
+Unsolvable rows first n = (v : ℕ → ℕ) → Solves rows first n v → ⊥

@@ -1,0 +1,2 @@
+pub mod LinearSystem
+pub mod OddTerms
