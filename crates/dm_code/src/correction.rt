@@ -9,15 +9,16 @@ ghost use Rattle.dm_code.specs.KeyEquation.{IsBelow, IsLeastPair};
 
 use super::errors::{add_error, error_value, first_coefficients, step, sums, trimmed};
 use super::key::{Key, KeySolver};
+use super::limits::{LONGEST_WORD, MOST_COEFFICIENTS};
 use super::syndrome::syndromes;
 use arrayvec::ArrayVec;
-use gf301::Gf;
+use gf301::{Gf, MOST_CHECKS};
 
 /// A corrected word.
 #[derive(Debug, PartialEq, Eq, Drop)]
 pub struct Fixed {
     /// The codeword within the correction limit.
-    pub word: ArrayVec<u8, 255>,
+    pub word: ArrayVec<u8, LONGEST_WORD>,
     /// The number of places at which it differs from the word that was given.
     pub changed: u8,
 }
@@ -28,19 +29,19 @@ pub struct BeyondLimit;
 
 /// The codeword of k check codewords that differs from the word in at most k div 2 places, and in how many. It is
 /// answered exactly where there is one, and [`BeyondLimit`] exactly where there is none; a word that is a codeword is
-/// answered with itself and 0. The word has k + 1 to 255 codewords, the data codewords first, and k is 1 to 68 (ISO/IEC
-/// 16022, error checking and correction).
+/// answered with itself and 0. The word has k + 1 to [`LONGEST_WORD`] codewords, the data codewords
+/// first, and k is 1 to [`MOST_CHECKS`] (ISO/IEC 16022, error checking and correction).
 ///
-/// No word of at most 255 codewords lies within k div 2 places of two codewords, so there is no choice. A word with more
+/// No such word lies within k div 2 places of two codewords, so there is no choice. A word with more
 /// wrong codewords than that may lie near to another codeword, and is then corrected to it.
 ///
 /// For a word of n codewords, with t for k div 2, the work is some n k + 2 n t products, sixteen at a time, t k more and that
 /// of the solver; for a codeword n k alone.
 pub fn correct<S: KeySolver>(solver: &S, word: &[u8], k: usize) -> Result<Fixed, BeyondLimit>
     requires checks { 0 < k }
-    requires most { k ≤ 68 }
+    requires most { k ≤ MOST_CHECKS }
     requires data { k < length word.now }
-    requires long { length word.now ≤ 255 }
+    requires long { length word.now ≤ LONGEST_WORD }
     ensures near { MatchResult result (λ fixed. IsNear k word.now fixed.word.items) (λ _. (c : List ℕ) → IsNear k word.now c → ⊥) }
     ensures changed { IfOk result (λ fixed. fixed.changed ≡ distance word.now fixed.word.items) }
     ensures itself { IsCodeword k word.now → IsOkAnd result (λ fixed. (fixed.word.items ≡ word.now) × (fixed.changed ≡ 0)) }
@@ -72,7 +73,7 @@ pub fn correct<S: KeySolver>(solver: &S, word: &[u8], k: usize) -> Result<Fixed,
 /// is this codeword. The syndromes are kept those of the word, so that the answer is tested without new ones.
 fn correct_errors(word: &mut [u8], syndromes: &mut [u8], key: &Key)
     requires checks { 0 < length syndromes.old }
-    requires long { length word.old ≤ 255 }
+    requires long { length word.old ≤ LONGEST_WORD }
     requires syndromes { syndromes.old ≡ syndromes_of word.old (length syndromes.old) }
     requires key { IsLeastPair syndromes.old (length syndromes.old / 2) key.now.locator.items key.now.evaluator.items }
     ensures near { (c : List ℕ) → IsNear (length syndromes.old) word.old c → word.new ≡ c }
@@ -88,9 +89,9 @@ fn correct_errors(word: &mut [u8], syndromes: &mut [u8], key: &Key)
 /// sixteen places at once, from the last place on.
 fn correct_roots(word: &mut [u8], syndromes: &mut [u8], locator: &[u8], evaluator: &[u8])
     requires checks { 0 < length syndromes.old }
-    requires long { length word.old ≤ 255 }
+    requires long { length word.old ≤ LONGEST_WORD }
     requires syndromes { syndromes.old ≡ syndromes_of word.old (length syndromes.old) }
-    requires short { length locator.now ≤ 35 }
+    requires short { length locator.now ≤ MOST_COEFFICIENTS }
     requires tight { (n : ℕ) → IsBelow n locator.now → length locator.now ≤ n }
     requires key { IsLeastPair syndromes.old (length syndromes.old / 2) locator.now evaluator.now }
     ensures near { (c : List ℕ) → IsNear (length syndromes.old) word.old c → word.new ≡ c }
@@ -98,7 +99,7 @@ fn correct_roots(word: &mut [u8], syndromes: &mut [u8], locator: &[u8], evaluato
     ensures bytes { Bytes word.new }
     ensures kept { syndromes.new ≡ syndromes_of word.new (length syndromes.old) }
 {
-    let mut terms: ArrayVec<u8, 35> = copy_of(locator);
+    let mut terms: ArrayVec<u8, MOST_COEFFICIENTS> = copy_of(locator);
     let terms = terms.as_mut_slice();
     let mut upper_terms = first_coefficients(evaluator, locator.len().saturating_sub(1));
     let upper_terms = upper_terms.as_mut_slice();
@@ -145,7 +146,7 @@ fn are_zero(list: &[u8]) -> bool
 /// The number of places at which two words of one length differ.
 fn differences(word: &[u8], other: &[u8]) -> u8
     requires same { length other.now ≡ length word.now }
-    requires long { length word.now ≤ 255 }
+    requires long { length word.now ≤ LONGEST_WORD }
     ensures { result ≡ distance word.now other.now }
 {
     let mut count = 0;

@@ -6,9 +6,10 @@ ghost use Rattle.arrayvec.specs.ArrayVec.{array_vec_len};
 ghost use Rattle.dm_code.specs.inner.LinearSystem.{row};
 
 use super::key::{Key, KeySolver};
+use super::limits::{MOST_COEFFICIENTS, MOST_ERRORS};
 use super::system::{Row, solve};
 use arrayvec::ArrayVec;
-use gf301::{Gf, product_at};
+use gf301::{Gf, MOST_CHECKS, product_at};
 
 /// Solves the key equation by elimination. For each degree of the locator, from 0 on, its coefficients are the unknowns
 /// of a system of linear equations; the first system with a solution gives the least pair. The work grows with the
@@ -20,7 +21,7 @@ impl KeySolver for Elimination {
     fn solve(&self, s: &[u8], t: usize) -> Option<Key> {
         for degree in 0..t + 1 {
             let rows = rows_of(s, degree);
-            if let Some(solution) = solve(&rows, 34 - degree) {
+            if let Some(solution) = solve(&rows, MOST_ERRORS - degree) {
                 return Some(key_of(s, &solution, degree));
             }
         }
@@ -30,12 +31,12 @@ impl KeySolver for Elimination {
 
 /// The equations for a locator of a degree of at most `degree`: for each place from `degree` on, that the product of the
 /// locator and the syndromes has the coefficient 0 there.
-fn rows_of(s: &[u8], degree: usize) -> ArrayVec<Row, 68>
-    requires small { degree ≤ 34 }
-    requires few { length s.now ≤ 68 }
+fn rows_of(s: &[u8], degree: usize) -> ArrayVec<Row, MOST_CHECKS>
+    requires small { degree ≤ MOST_ERRORS }
+    requires few { length s.now ≤ MOST_CHECKS }
     requires within { degree ≤ length s.now }
     ensures long { array_vec_len result + degree ≡ length s.now }
-    ensures each { (i : ℕ) → i + degree < length s.now → (m : ℕ) → m ≤ degree → row result.items i (34 - degree + m) ≡ coefficient s.now (i + m) }
+    ensures each { (i : ℕ) → i + degree < length s.now → (m : ℕ) → m ≤ degree → row result.items i (MOST_ERRORS - degree + m) ≡ coefficient s.now (i + m) }
 {
     let mut rows = ArrayVec::new();
     for i in 0..s.len() - degree {
@@ -46,44 +47,44 @@ fn rows_of(s: &[u8], degree: usize) -> ArrayVec<Row, 68>
 
 /// The equation of the place `i + degree`. Its unknowns are the coefficients of the locator, that of x^0 last.
 fn row_of(s: &[u8], degree: usize, i: usize) -> Row
-    requires small { degree ≤ 34 }
+    requires small { degree ≤ MOST_ERRORS }
     requires within { i + degree < length s.now }
-    ensures { (m : ℕ) → m ≤ degree → coefficient result (34 - degree + m) ≡ coefficient s.now (i + m) }
+    ensures { (m : ℕ) → m ≤ degree → coefficient result (MOST_ERRORS - degree + m) ≡ coefficient s.now (i + m) }
 {
-    let mut row = [0; 35];
+    let mut row = [0; MOST_COEFFICIENTS];
     for m in 0..degree + 1 {
-        row[34 - degree + m] = s[i + m];
+        row[MOST_ERRORS - degree + m] = s[i + m];
     }
     row
 }
 
 /// The pair of a locator that solves the equations.
 fn key_of(s: &[u8], solution: &Row, degree: usize) -> Key
-    requires small { degree ≤ 34 }
+    requires small { degree ≤ MOST_ERRORS }
     requires within { degree ≤ length s.now }
     ensures locator_long { array_vec_len result.locator ≡ degree + 1 }
-    ensures locator { (i : ℕ) → i ≤ degree → coefficient result.locator.items i ≡ coefficient solution.now (34 - i) }
+    ensures locator { (i : ℕ) → i ≤ degree → coefficient result.locator.items i ≡ coefficient solution.now (MOST_ERRORS - i) }
     ensures locator_bytes { Bytes result.locator.items }
     ensures evaluator_long { array_vec_len result.evaluator ≡ degree }
     ensures evaluator { (i : ℕ) → i < degree → coefficient result.evaluator.items i ≡ convolution (coefficient result.locator.items) (coefficient s.now) i }
     ensures evaluator_bytes { Bytes result.evaluator.items }
 {
-    let mut locator: ArrayVec<u8, 35> = ArrayVec::new();
+    let mut locator: ArrayVec<u8, MOST_COEFFICIENTS> = ArrayVec::new();
     for i in 0..degree + 1 {
-        locator.push(solution[34 - i]);
+        locator.push(solution[MOST_ERRORS - i]);
     }
     let evaluator = evaluator_of(s, &locator, degree);
     Key { locator, evaluator }
 }
 
 /// The first `count` coefficients of the product of the locator and the syndromes.
-fn evaluator_of(s: &[u8], locator: &[u8], count: usize) -> ArrayVec<u8, 34>
-    requires small { count ≤ 34 }
+fn evaluator_of(s: &[u8], locator: &[u8], count: usize) -> ArrayVec<u8, MOST_ERRORS>
+    requires small { count ≤ MOST_ERRORS }
     requires within { count ≤ length s.now }
     ensures long { array_vec_len result ≡ count }
     ensures each { (i : ℕ) → i < count → coefficient result.items i ≡ convolution (coefficient locator.now) (coefficient s.now) i }
 {
-    let mut evaluator: ArrayVec<u8, 34> = ArrayVec::new();
+    let mut evaluator: ArrayVec<u8, MOST_ERRORS> = ArrayVec::new();
     for i in 0..count {
         evaluator.push(product_at(locator, s, i).0);
     }

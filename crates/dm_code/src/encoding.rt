@@ -5,22 +5,26 @@ ghost use Rattle.gf301.specs.Field.{power};
 ghost use Rattle.gf301.specs.Polynomial.{Bytes, value};
 ghost use Rattle.dm_code.specs.Codeword.{IsCodeword};
 
+use super::limits::LONGEST_WORD;
 use arrayvec::ArrayVec;
-use gf301::{add_scaled, taps};
+use gf301::{MOST_CHECKS, add_scaled, taps};
 
-/// The k check codewords of the data codewords `front`, k of 1 to 68, where both together are at most 255: the one list
-/// of k codewords that completes `front` to a codeword of k checks.
-pub fn encode(front: &[u8], k: usize) -> ArrayVec<u8, 68>
+/// Room for a word, and behind it for the rest of the last sixteen numbers that a step of the division writes.
+const ROOM: usize = LONGEST_WORD + 17;
+
+/// The k check codewords of the data codewords `front`, k of 1 to [`MOST_CHECKS`], where both together are at most
+/// [`LONGEST_WORD`]: the one list of k codewords that completes `front` to a codeword of k checks.
+pub fn encode(front: &[u8], k: usize) -> ArrayVec<u8, MOST_CHECKS>
     requires some { 1 ≤ k }
-    requires most { k ≤ 68 }
-    requires room { length front.now + k ≤ 255 }
+    requires most { k ≤ MOST_CHECKS }
+    requires room { length front.now + k ≤ LONGEST_WORD }
     ensures count { length result.items ≡ k }
     ensures bytes { Bytes result.items }
     ensures completes { IsCodeword k (front.now ++ result.items) }
     ensures only { (c : List ℕ) → length c ≡ k → IsCodeword k (front.now ++ c) → c ≡ result.items }
 {
     let count = front.len();
-    let mut rest = [0; 272];
+    let mut rest = [0; ROOM];
     rest[..count].copy_from_slice(front);
     divide(&mut rest, count, k);
     let mut checks = ArrayVec::new();
@@ -30,10 +34,10 @@ pub fn encode(front: &[u8], k: usize) -> ArrayVec<u8, 68>
 
 /// Divides the first `count` + k numbers, as a polynomial, by the generator for k check codewords: takes a multiple of it
 /// away from each of the first `count` places on, so that its last k numbers are then what is left.
-fn divide(rest: &mut [u8; 272], count: usize, k: usize)
+fn divide(rest: &mut [u8; ROOM], count: usize, k: usize)
     requires some { 1 ≤ k }
-    requires most { k ≤ 68 }
-    requires room { count + k ≤ 255 }
+    requires most { k ≤ MOST_CHECKS }
+    requires room { count + k ≤ LONGEST_WORD }
     ensures bytes { (i : ℕ) → get_or rest.new i 0 < 256 }
     ensures same { (i : ℕ) → i < k → value (take k (drop count rest.new)) (power (suc i)) ≡ value (take (count + k) rest.old) (power (suc i)) }
 {

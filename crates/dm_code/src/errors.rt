@@ -11,6 +11,7 @@ ghost use Rattle.dm_code.specs.KeyEquation.{IsBelow};
 ghost use Rattle.dm_code.specs.KeyEquationLaws.{IsSamePolynomial};
 ghost use Rattle.dm_code.specs.inner.OddTerms.{odd_part};
 
+use super::limits::{MOST_COEFFICIENTS, MOST_ERRORS};
 use arrayvec::ArrayVec;
 use gf301::{Gf, power_row, scaled};
 use std::simd::prelude::*;
@@ -33,7 +34,7 @@ pub fn trimmed(list: &[u8]) -> &[u8]
 /// The values of a polynomial, its highest power first, at the sixteen elements 2^0 to 2^15, and there the sums of its
 /// terms of odd powers.
 pub fn sums(terms: &[u8]) -> (Simd<u8, 16>, Simd<u8, 16>)
-    requires { length terms.now ≤ 35 }
+    requires { length terms.now ≤ MOST_COEFFICIENTS }
     ensures values { result.0 ≡ map (value terms.now) (values_from power 0 16) }
     ensures odd { result.1 ≡ map (odd_part terms.now) (values_from power 0 16) }
 {
@@ -52,7 +53,7 @@ pub fn sums(terms: &[u8]) -> (Simd<u8, 16>, Simd<u8, 16>)
 /// Steps from the terms of a polynomial at an element to those at 2^16 times it: each term is multiplied by its power of
 /// 2^16.
 pub fn step(terms: &mut [u8])
-    requires { length terms.old ≤ 35 }
+    requires { length terms.old ≤ MOST_COEFFICIENTS }
     ensures long { length terms.new ≡ length terms.old }
     ensures each { (i : ℕ) → i < length terms.old → get_or terms.new i 0 ≡ get_or terms.old i 0 ⊗ power (16 * (length terms.old - suc i)) }
 {
@@ -77,8 +78,8 @@ pub fn error_value(numerator: Gf, divisor: Gf) -> Gf
 }
 
 /// The first `count` coefficients of a list, which are 0 past its end.
-pub fn first_coefficients(list: &[u8], count: usize) -> ArrayVec<u8, 34>
-    requires { count ≤ 34 }
+pub fn first_coefficients(list: &[u8], count: usize) -> ArrayVec<u8, MOST_ERRORS>
+    requires { count ≤ MOST_ERRORS }
     ensures { result.items ≡ values_from (coefficient list.now) 0 count }
 {
     let mut first = ArrayVec::new();

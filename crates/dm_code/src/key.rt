@@ -3,16 +3,18 @@
 ghost use Rattle.std.specs.Prelude.{◌*◌, ◌≤◌, length, IfNone, IfSome};
 ghost use Rattle.dm_code.specs.KeyEquation.{IsLeastPair, NoPair};
 
+use super::limits::{MOST_COEFFICIENTS, MOST_ERRORS};
 use arrayvec::ArrayVec;
+use gf301::MOST_CHECKS;
 
 /// A pair of polynomials, both with the lowest power first. Zeros at the end of a list don't matter to what it means;
 /// `==` compares the lists as they are.
 #[derive(Debug, PartialEq, Eq, Drop)]
 pub struct Key {
-    /// The error locator, of a degree of at most 34. In an answer of a [`KeySolver`] its coefficient of x^0 is 1.
-    pub locator: ArrayVec<u8, 35>,
-    /// The error evaluator, of a degree below 34.
-    pub evaluator: ArrayVec<u8, 34>,
+    /// The error locator, of a degree of at most [`MOST_ERRORS`]. In an answer of a [`KeySolver`] its coefficient of x^0 is 1.
+    pub locator: ArrayVec<u8, MOST_COEFFICIENTS>,
+    /// The error evaluator, of a degree below [`MOST_ERRORS`].
+    pub evaluator: ArrayVec<u8, MOST_ERRORS>,
 }
 
 /// A way to solve the key equation of Reed-Solomon decoding.
@@ -24,9 +26,9 @@ pub struct Key {
 /// of it.
 pub trait KeySolver {
     /// The least pair for the syndromes `s` and the limit `t`, and None where there is no pair at all. There are at most
-    /// 68 syndromes, and 2 t is at most their number.
+    /// [`MOST_CHECKS`] syndromes, and 2 t is at most their number.
     fn solve(&self, s: &[u8], t: usize) -> Option<Key>
-        requires few { length s.now ≤ 68 }
+        requires few { length s.now ≤ MOST_CHECKS }
         requires half { 2 * t ≤ length s.now }
         ensures least { IfSome result (λ key. IsLeastPair s.now t key.locator.items key.evaluator.items) }
         ensures none { IfNone result (NoPair s.now t) };

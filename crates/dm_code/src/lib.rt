@@ -2,8 +2,8 @@
 //! correction.
 //!
 //! A block is a list of codewords, bytes that stand for elements of [`gf301::Gf`]: first the data codewords, then k
-//! check codewords, 255 in all at the most. As a polynomial, the highest power first, it is a multiple of the generator
-//! polynomial for k ([`gf301::generator`]); such a list is a codeword of k checks. k is a number of 1 to 68.
+//! check codewords, [`LONGEST_WORD`] in all at the most. As a polynomial, the highest power first, it is a multiple of the
+//! generator polynomial for k ([`gf301::generator`]); such a list is a codeword of k checks. k is 1 to [`MOST_CHECKS`].
 //!
 //! [`encode`] makes the check codewords of a block. [`correct`] gives the codeword within k div 2 wrong codewords of a
 //! word, or says that there is none; it takes the [`syndromes`], has a [`KeySolver`] solve the key equation for them,
@@ -26,6 +26,7 @@ mod encoding;
 mod errors;
 mod key;
 pub mod laws;
+mod limits;
 mod quick;
 mod syndrome;
 mod system;
@@ -33,7 +34,9 @@ mod system;
 pub use correction::{BeyondLimit, Fixed, correct};
 pub use elimination::Elimination;
 pub use encoding::encode;
+pub use gf301::MOST_CHECKS;
 pub use key::{Key, KeySolver};
+pub use limits::{LONGEST_WORD, MOST_COEFFICIENTS, MOST_ERRORS};
 pub use quick::Quick;
 pub use syndrome::syndromes;
 

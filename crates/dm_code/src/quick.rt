@@ -7,8 +7,9 @@ ghost use Rattle.dm_code.specs.KeyEquation.{IsLeastPair, IsExact, NoPair};
 
 use super::errors::coefficient_at;
 use super::key::{Key, KeySolver};
+use super::limits::{MOST_COEFFICIENTS, MOST_ERRORS};
 use arrayvec::ArrayVec;
-use gf301::{Gf, Meter};
+use gf301::{Gf, MOST_CHECKS, Meter};
 use std::mem::replace;
 
 /// Solves the key equation by the algorithm of Berlekamp and Massey. The syndromes are taken one after the other, and the
@@ -19,13 +20,13 @@ pub struct Quick;
 
 impl Quick {
     /// What [`KeySolver::solve`] answers for the syndromes `s` and the limit `t`, and the products and inversions that were
-    /// made for it: for k syndromes at most 4 k^2 products and k inversions. There are at most 68 syndromes, and 2 t is at
-    /// most their number.
+    /// made for it: for k syndromes at most 4 k^2 products and k inversions. There are at most [`MOST_CHECKS`]
+    /// syndromes, and 2 t is at most their number.
     ///
     /// Every product and every inversion goes through the [`Meter`]. So an answer takes a product for each syndrome or more,
     /// also a None takes one where there are syndromes, and a locator of more than one coefficient takes an inversion.
     pub fn solve_counted(&self, s: &[u8], t: usize) -> (Option<Key>, Meter)
-        requires few { length s.now ≤ 68 }
+        requires few { length s.now ≤ MOST_CHECKS }
         requires half { 2 * t ≤ length s.now }
         ensures least { IfSome result.0 (λ key. IsLeastPair s.now t key.locator.items key.evaluator.items) }
         ensures none { IfNone result.0 (NoPair s.now t) }
@@ -63,7 +64,7 @@ impl KeySolver for Quick {
     /// What [`Quick::solve_counted`] answers, without the counts: the lists of both are those of the least pair with no number
     /// too many, and so the same ([`crate::laws::exact_least_pair_is_one`]).
     fn solve(&self, s: &[u8], t: usize) -> Option<Key>
-        requires few { length s.now ≤ 68 }
+        requires few { length s.now ≤ MOST_CHECKS }
         requires half { 2 * t ≤ length s.now }
         ensures least { IfSome result (λ key. IsLeastPair s.now t key.locator.items key.evaluator.items) }
         ensures none { IfNone result (NoPair s.now t) }
@@ -79,9 +80,9 @@ impl KeySolver for Quick {
 struct Search {
     /// The locator of the least degree that has no discrepancy among these syndromes, with a coefficient for each power up
     /// to that degree.
-    locator: ArrayVec<u8, 35>,
+    locator: ArrayVec<u8, MOST_COEFFICIENTS>,
     /// The locator before that degree last grew.
-    earlier: ArrayVec<u8, 35>,
+    earlier: ArrayVec<u8, MOST_COEFFICIENTS>,
     /// The inverse of the earlier locator's discrepancy.
     inverse: Gf,
     /// How many syndromes have been taken from that discrepancy on.
@@ -112,7 +113,7 @@ impl Search {
     /// it has grown, what it was before is the earlier one from now on.
     fn correct(&mut self, discrepancy: Gf, degree: usize, meter: &mut Meter)
         requires some { 0 < discrepancy.0 }
-        requires small { degree ≤ 34 }
+        requires small { degree ≤ MOST_ERRORS }
         requires locator_fits { length self.old.locator.items ≤ degree + 1 }
         requires earlier_fits { self.old.gap + length self.old.earlier.items ≤ degree + 1 }
         requires products_room { meter.old.products + degree + 2 < 2 ^ 32 }
@@ -137,8 +138,13 @@ impl Search {
     }
 
     /// The locator plus `factor` times the earlier one, which is moved up by the gap, with the degree `degree`.
-    fn with_multiple(&self, factor: Gf, degree: usize, meter: &mut Meter) -> ArrayVec<u8, 35>
-        requires small { degree ≤ 34 }
+    fn with_multiple(
+        &self,
+        factor: Gf,
+        degree: usize,
+        meter: &mut Meter,
+    ) -> ArrayVec<u8, MOST_COEFFICIENTS>
+        requires small { degree ≤ MOST_ERRORS }
         requires locator_fits { length self.now.locator.items ≤ degree + 1 }
         requires earlier_fits { self.now.gap + length self.now.earlier.items ≤ degree + 1 }
         requires room { meter.old.products + degree + 1 < 2 ^ 32 }
@@ -164,9 +170,9 @@ impl Search {
 
 /// The evaluator of a locator that has a coefficient for each power up to its degree: the coefficients below that degree of
 /// its product with the syndromes.
-fn evaluator_of(locator: &[u8], s: &[u8], meter: &mut Meter) -> ArrayVec<u8, 34>
+fn evaluator_of(locator: &[u8], s: &[u8], meter: &mut Meter) -> ArrayVec<u8, MOST_ERRORS>
     requires some { 0 < length locator.now }
-    requires small { length locator.now ≤ 35 }
+    requires small { length locator.now ≤ MOST_COEFFICIENTS }
     requires within { length locator.now ≤ length s.now + 1 }
     requires room { meter.old.products + 1190 < 2 ^ 32 }
     ensures long { length result.items + 1 ≡ length locator.now }

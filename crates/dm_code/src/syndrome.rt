@@ -7,13 +7,13 @@ ghost use Rattle.gf301.specs.Polynomial.{Bytes, value, values_from};
 ghost use Rattle.dm_code.specs.Syndromes.{syndromes_of};
 
 use arrayvec::ArrayVec;
-use gf301::{Gf, lanes_mul, power_row, powers, scaled, value_at};
+use gf301::{Gf, MOST_CHECKS, lanes_mul, power_row, powers, scaled, value_at};
 use std::simd::prelude::*;
 
-/// The syndromes of a word of a block with k check codewords, k of at most 68: its values at 2^1 to 2^k, in this order.
+/// The syndromes of a word of a block with k check codewords, k of at most [`MOST_CHECKS`]: its values at 2^1 to 2^k, in this order.
 /// They are all 0 exactly where the word, of more than k and at most 255 codewords, is a codeword of k checks.
-pub fn syndromes(word: &[u8], k: usize) -> ArrayVec<u8, 68>
-    requires { k ≤ 68 }
+pub fn syndromes(word: &[u8], k: usize) -> ArrayVec<u8, MOST_CHECKS>
+    requires { k ≤ MOST_CHECKS }
     ensures values { result.items ≡ syndromes_of word.now k }
     ensures bytes { Bytes result.items }
 {
@@ -27,7 +27,7 @@ pub fn syndromes(word: &[u8], k: usize) -> ArrayVec<u8, 68>
 }
 
 /// The first syndromes of a word, 16 for each group: the values at the 16 roots of a group are computed at once.
-fn syndromes_in_groups(word: &[u8], groups: usize) -> ArrayVec<u8, 68>
+fn syndromes_in_groups(word: &[u8], groups: usize) -> ArrayVec<u8, MOST_CHECKS>
     requires { groups ≤ 4 }
     ensures { result.items ≡ syndromes_of word.now (16 * groups) }
 {
@@ -98,7 +98,7 @@ fn front_in_lanes(word: &[u8]) -> Simd<u8, 16>
 /// The value of a word at 2 to the power `exponent`, by Horner's rule with 16 codewords at a time: the lanes are the
 /// coefficients of a polynomial with that value, at first of the word's front.
 fn value_by_sixteens(front: Simd<u8, 16>, word: &[u8], exponent: u16) -> Gf
-    requires small { exponent ≤ 68 }
+    requires small { exponent ≤ MOST_CHECKS }
     requires front { (x : ℕ) → value front x ≡ value (take (length word.now % 16) word.now) x }
     ensures { result.0 ≡ value word.now (power exponent) }
 {

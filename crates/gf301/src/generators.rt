@@ -8,11 +8,14 @@ use super::field::Gf;
 use super::polynomial::{Poly, times};
 use super::tap_rows::TAP_ROWS;
 
-/// The generator polynomial for k check codewords, k of 1 to 68: (x - 2^1) (x - 2^2) .. (x - 2^k), with k + 1
+/// The most check codewords of a block: that of the square symbols of sides 48 and 96.
+pub const MOST_CHECKS: usize = 68;
+
+/// The generator polynomial for k check codewords, k of 1 to [`MOST_CHECKS`]: (x - 2^1) (x - 2^2) .. (x - 2^k), with k + 1
 /// coefficients, of which the first is 1.
 pub fn generator(k: usize) -> Poly
     requires some { 1 ≤ k }
-    requires most { k ≤ 68 }
+    requires most { k ≤ MOST_CHECKS }
     ensures { result.items ≡ generator k }
 {
     let mut product = Poly::new();
@@ -23,10 +26,10 @@ pub fn generator(k: usize) -> Poly
     product
 }
 
-/// The coefficients of the generator for k check codewords after the first, k of at most 68, and then zeros.
+/// The coefficients of the generator for k check codewords after the first, k of at most [`MOST_CHECKS`], and then zeros.
 #[inline]
 pub fn taps(k: usize) -> &'static [u8; 80]
-    requires { k ≤ 68 }
+    requires { k ≤ MOST_CHECKS }
     ensures { (i : ℕ) → i < 80 → get_or result.now i 0 ≡ coefficient (generator k) (suc i) }
 {
     &TAP_ROWS[k]

@@ -19,7 +19,7 @@ mod product_rows;
 mod tap_rows;
 
 pub use field::Gf;
-pub use generators::{generator, taps};
+pub use generators::{MOST_CHECKS, generator, taps};
 pub use lanes::{add_scaled, lanes_mul, power_row, powers, scaled};
 pub use meter::Meter;
 pub use polynomial::{Poly, product_at, times, value_at};

@@ -21,4 +21,4 @@ loop-j-preserved c =
     }
 
 pub returns : goal.returns
-returns c = c.loop-j.invariant.sum ∙ ap (λ j. dot (coefficient c.args.f.now) (coefficient c.args.v.now) j (35 - j)) (let e : c.loop-j.j ≡ c.args.c = omega arith in e)
+returns c = c.loop-j.invariant.sum ∙ ap (λ j. dot (coefficient c.args.f.now) (coefficient c.args.v.now) j (35 - j)) (let e : c.loop-j.j ≡ c.args.first = omega arith in e)
