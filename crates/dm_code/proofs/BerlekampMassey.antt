@@ -5,8 +5,7 @@ use Rattle.std.proofs.lemmas.List.{get_or_past}
 use lib.Bits.{xor_self, xor_zero_r}
 use Rattle.gf301.specs.Field.{◌⊕◌, ◌⊗◌}
 use Rattle.gf301.specs.Polynomial.{Bytes, coefficient, convolution}
-use Rattle.gf301.proofs.FieldLaws.{product_assoc, product_comm, product_one_left, product_one_right, product_zero_left}
-use Rattle.gf301.proofs.Series.{conv_below, conv_first, conv_same_left, conv_scale_left, conv_sum_left, conv_swap, conv_zero, product_at_zero, product_zero_at}
+use Rattle.gf301.proofs.Exported.{product_assoc, product_comm, product_one_left, product_one_right, product_zero_left, conv_below, conv_first, conv_same_left, conv_scale_left, conv_sum_left, conv_swap, conv_zero, product_at_zero, product_zero_at}
 use Rattle.dm_code.specs.KeyEquation.{IsLeastPair, IsExact, NoPair}
 use Rattle.dm_code.proofs.Connections.{Connects, first_is_least, none_connects, pair_connects}
 use Rattle.dm_code.proofs.Multiples.{both_zero}

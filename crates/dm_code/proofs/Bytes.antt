@@ -1,7 +1,7 @@
 -- Lists of bytes, place by place.
 use Rattle.std.proofs.Common.{ℕ, suc, ◌<◌, List, [], ◌∷◌, length, get_or, arith}
 use Rattle.gf301.specs.Polynomial.{Bytes}
-use Rattle.gf301.proofs.Weights.{bytes_cons}
+use Rattle.gf301.proofs.Exported.{bytes_cons}
 
 -- A list whose places all hold bytes is one of bytes.
 pub bytes_places : (p : List ℕ) → ((i : ℕ) → i < length p → get_or p i 0 < 256) → Bytes p

@@ -4,11 +4,7 @@ use Rattle.std.proofs.lemmas.List.{length-append, length-replicate, get_or-repli
 use Rattle.gf301.specs.Field.{◌⊕◌, ◌⊗◌, raise, power}
 use Rattle.gf301.specs.Polynomial.{value, Bytes}
 use Rattle.gf301.specs.Generator.{generator}
-use Rattle.gf301.proofs.Lists.{plus, scale}
-use Rattle.gf301.proofs.FieldLaws.{product_zero_left, product_below}
-use Rattle.gf301.proofs.PolyLaws.{length_plus, length_scale, bytes_plus, get_or-plus, value_zeros}
-use Rattle.gf301.proofs.GeneratorLaws.{generator_root}
-use Rattle.gf301.proofs.Weights.{bytes_cons, bytes_head, bytes_tail}
+use Rattle.gf301.proofs.Exported.{plus, scale, product_zero_left, product_below, length_plus, length_scale, bytes_plus, get_or-plus, value_zeros, generator_root, bytes_cons, bytes_head, bytes_tail}
 use Rattle.dm_code.specs.Codeword.{IsCodeword}
 use Rattle.dm_code.proofs.Bytes.{bytes_places}
 use Rattle.dm_code.proofs.Codewords.{codeword_from_values}

@@ -3,7 +3,7 @@
 use Rattle.std.proofs.Common.{◌≡◌, ◌⊎◌, ℕ, zero, suc, ◌<◌, List, [], ◌∷◌, length, refl, inl, inr, subst, arith}
 use Rattle.std.proofs.lemmas.Bool.{cases_eq}
 use Rattle.gf301.specs.Polynomial.{Bytes}
-use Rattle.gf301.proofs.Weights.{bytes_cons, bytes_head, bytes_tail}
+use Rattle.gf301.proofs.Exported.{bytes_cons, bytes_head, bytes_tail}
 
 -- It holds, or it doesn't.
 abbrev pub Decided : Type 0 → Type 0

@@ -4,9 +4,7 @@ use Rattle.std.proofs.Math.Nat.{le_refl}
 use Rattle.gf301.specs.Field.{◌⊗◌, power}
 use Rattle.gf301.specs.Polynomial.{value, times, Bytes}
 use Rattle.gf301.specs.Generator.{generator}
-use Rattle.gf301.proofs.FieldLaws.{product_comm, product_zero_right, product_one_right, product_cancel}
-use Rattle.gf301.proofs.PolyLaws.{length_times, value_times, bytes_times, times_assoc, same_values, value_below, quotient, length_quotient, bytes_quotient, root_divides}
-use Rattle.gf301.proofs.GeneratorLaws.{generator_length, generator_is, generator_root, generator_positive, value_one}
+use Rattle.gf301.proofs.Exported.{product_comm, product_zero_right, product_one_right, product_cancel, length_times, value_times, bytes_times, times_assoc, same_values, value_below, quotient, length_quotient, bytes_quotient, root_divides, generator_length, generator_is, generator_root, generator_positive, value_one}
 use Rattle.dm_code.specs.Codeword.{IsCodeword}
 
 -- The numbers of a codeword are field elements.

@@ -4,9 +4,7 @@ use Rattle.std.proofs.lemmas.Bool.{cases_lt, cases_eq, eq-eqb, ne_eqb}
 use Rattle.std.proofs.lemmas.List.{get_or_append_left, append_cancel_left}
 use lib.Bits.{xor_self}
 use Rattle.gf301.specs.Field.{◌⊕◌}
-use Rattle.gf301.proofs.FieldLaws.{sum_zero}
-use Rattle.gf301.proofs.Lists.{plus, nonzeros}
-use Rattle.gf301.proofs.PolyLaws.{same_from_values}
+use Rattle.gf301.proofs.Exported.{sum_zero, plus, nonzeros, same_from_values}
 use Rattle.dm_code.specs.Codeword.{IsCodeword, IsNear, differs, differing, distance}
 use Rattle.dm_code.proofs.Codewords.{codeword_bytes, codeword_values}
 

@@ -7,10 +7,7 @@ use lib.Bits.{xor_comm, xor_zero_r}
 use Rattle.gf301.specs.Field.{◌⊕◌, ◌⊗◌, raise}
 use Rattle.gf301.specs.Polynomial.{value, coefficient, values_from}
 use Rattle.gf301.specs.Generator.{generator}
-use Rattle.gf301.proofs.FieldLaws.{product_zero_left, product_zero_right}
-use Rattle.gf301.proofs.Lists.{plus, scale}
-use Rattle.gf301.proofs.PolyLaws.{length_plus, length_scale, value_plus, value_scale, value_shift, get_or-plus, length-values_from, get_or-values_from}
-use Rattle.gf301.proofs.GeneratorLaws.{generator_length, generator_first}
+use Rattle.gf301.proofs.Exported.{product_zero_left, product_zero_right, plus, scale, length_plus, length_scale, value_plus, value_scale, value_shift, get_or-plus, length-values_from, get_or-values_from, generator_length, generator_first}
 use Rattle.dm_code.proofs.Register.{get_or-scaled, tap_value}
 
 -- Zeros at the end change no number.

@@ -8,13 +8,7 @@ use Rattle.std.proofs.Math.Nat.{pos_of_ne-zero, le_refl}
 use lib.Bits.{xor_zero_r}
 use Rattle.gf301.specs.Field.{◌⊕◌, ◌⊗◌, raise, power}
 use Rattle.gf301.specs.Polynomial.{Bytes, value, coefficient, convolution}
-use Rattle.gf301.proofs.Lists.{nonzeros}
-use Rattle.gf301.proofs.FieldLaws.{product_zero_left, product_zero_right, product_comm, product_cancel, raise_below, sum_zero, sum_below, power_injective}
-use Rattle.gf301.proofs.Weights.{weighted, weigh_same, weigh_weighted, length-weighted, bytes_weighted, nonzeros_weighted, distance, bytes_cons}
-use Rattle.gf301.proofs.PolyLaws.{value_below, quotient, length_quotient, bytes_quotient, root_divides, value_times, factor_value, bytes_times}
-use Rattle.gf301.proofs.Series.{conv_same_right, conv_same_left, conv_below}
-use Rattle.gf301.proofs.Locate.{sums, conv_laid, laid_sums, connects, locate, length-locate, head-locate, zeros-locate, zeros_parts}
-use Rattle.gf301.proofs.Roots.{quotient_more, roots, roots_step, roots_le, zero_step}
+use Rattle.gf301.proofs.Exported.{nonzeros, product_zero_left, product_zero_right, product_comm, product_cancel, raise_below, sum_zero, sum_below, power_injective, weighted, weigh_same, weigh_weighted, length-weighted, bytes_weighted, nonzeros_weighted, distance, bytes_cons, value_below, quotient, length_quotient, bytes_quotient, root_divides, value_times, factor_value, bytes_times, conv_same_right, conv_same_left, conv_below, sums, conv_laid, laid_sums, connects, locate, length-locate, head-locate, zeros-locate, zeros_parts, quotient_more, roots, roots_step, roots_le, zero_step}
 use Rattle.dm_code.specs.KeyEquation.{IsPair}
 use Rattle.dm_code.proofs.First.{first, first_at, first_past, bytes_first}
 

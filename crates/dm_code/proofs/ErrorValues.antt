@@ -3,12 +3,7 @@ use Rattle.std.proofs.Common.{◌≡◌, ℕ, zero, suc, ◌+◌, ◌-◌, ◌<�
 use lib.Bits.{xor_assoc, xor_comm, xor_zero_r}
 use Rattle.gf301.specs.Field.{◌⊕◌, ◌⊗◌, raise, power}
 use Rattle.gf301.specs.Polynomial.{Bytes, value, coefficient, convolution, shift}
-use Rattle.gf301.proofs.Lists.{nonzeros}
-use Rattle.gf301.proofs.Additive.{xor_swap}
-use Rattle.gf301.proofs.FieldLaws.{product_zero_left, product_zero_right, product_comm, product_assoc, product_sum_left, product_sum_right, product_cancels, product_positive, product_one_right, product_below, raise_below, raise_positive}
-use Rattle.gf301.proofs.Weights.{weigh}
-use Rattle.gf301.proofs.PolyLaws.{quotient, length_quotient, value_below, value_push}
-use Rattle.gf301.proofs.Locate.{sums, laid, laid_sums}
+use Rattle.gf301.proofs.Exported.{nonzeros, xor_swap, product_zero_left, product_zero_right, product_comm, product_assoc, product_sum_left, product_sum_right, product_cancels, product_positive, product_one_right, product_below, raise_below, raise_positive, weigh, quotient, length_quotient, value_below, value_push, sums, laid, laid_sums}
 use Rattle.dm_code.proofs.First.{first, length-first, first_push, first_same}
 use Rattle.dm_code.proofs.ErrorPlaces.{locator_at, Vanishes, not_root, quotient_vanishes, quotient_positive}
 

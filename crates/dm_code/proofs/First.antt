@@ -2,7 +2,7 @@
 use Rattle.std.proofs.Common.{◌≡◌, ℕ, zero, suc, ◌+◌, List, ◌<◌, ◌≤◌, [], ◌∷◌, ◌++◌, length, refl, sym, ap, ◌∙◌, arith, inl, inr}
 use Rattle.std.proofs.lemmas.Bool.{cases_lt}
 use Rattle.gf301.specs.Polynomial.{Bytes, coefficient, shift, values_from}
-use Rattle.gf301.proofs.Weights.{bytes_cons}
+use Rattle.gf301.proofs.Exported.{bytes_cons}
 
 -- The first n coefficients.
 unfoldable pub first : (ℕ → ℕ) → ℕ → List ℕ

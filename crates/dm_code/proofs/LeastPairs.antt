@@ -5,8 +5,7 @@ use Rattle.std.proofs.lemmas.Bool.{cases_lt, cases_eq}
 use Rattle.std.proofs.lemmas.List.{get_or_past}
 use Rattle.std.proofs.Math.Nat.{le_refl}
 use Rattle.gf301.specs.Polynomial.{Bytes, coefficient, convolution}
-use Rattle.gf301.proofs.Series.{conv_same_left, conv_below}
-use Rattle.gf301.proofs.Weights.{bytes_head, bytes_tail, bytes_cons}
+use Rattle.gf301.proofs.Exported.{conv_same_left, conv_below, bytes_head, bytes_tail, bytes_cons}
 use Rattle.dm_code.specs.KeyEquation.{IsPair, IsLeastPair}
 use Rattle.dm_code.proofs.First.{first, first_at, first_past, first_whole, bytes_first, length-first}
 use Rattle.dm_code.proofs.Pairs.{byte_at, IsLeastAt, least_from_at}

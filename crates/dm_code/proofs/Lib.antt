@@ -1,27 +1,28 @@
 pub mod Codewords
 pub mod Distance
-pub mod Register
-pub mod SyndromeLaws
-pub mod SyndromeLanes
-pub mod Bytes
-pub mod Degrees
-pub mod Connections
-pub mod BerlekampMassey
-pub mod Counts
-pub mod First
-pub mod Multiples
-pub mod LinearLaws
-pub mod Systems
-pub mod Pairs
-pub mod LeastPairs
-pub mod ErrorPlaces
-pub mod ErrorValues
-pub mod Nearness
-pub mod OddTerms
-pub mod Corrections
-pub mod CleanWords
-pub mod Choices
+mod Register
+mod SyndromeLaws
+mod SyndromeLanes
+mod Bytes
+mod Degrees
+mod Connections
+mod BerlekampMassey
+mod Counts
+mod First
+mod Multiples
+mod LinearLaws
+mod Systems
+mod Pairs
+mod LeastPairs
+mod ErrorPlaces
+mod ErrorValues
+mod Nearness
+mod OddTerms
+mod Corrections
+mod CleanWords
+mod Choices
 pub mod NearOrNone
 pub mod Checks
-pub mod Parts
-pub mod Division
+mod Parts
+mod Division
+pub mod Exported

@@ -4,8 +4,7 @@ use lib.Bits.{xor_self, xor_zero_r}
 use Rattle.gf301.specs.Field.{◌⊕◌, ◌⊗◌}
 use Rattle.gf301.specs.Polynomial.{coefficient}
 use Rattle.dm_code.specs.inner.LinearSystem.{dot, row, Solves, Unsolvable}
-use Rattle.gf301.proofs.Additive.{xor_swap}
-use Rattle.gf301.proofs.FieldLaws.{product_sum_left, product_sum_right, product_assoc, product_comm, product_zero_left, product_zero_right, product_one_left, product_one_right, product_one_middle, product_below, sum_below}
+use Rattle.gf301.proofs.Exported.{xor_swap, product_sum_left, product_sum_right, product_assoc, product_comm, product_zero_left, product_zero_right, product_one_left, product_one_right, product_one_middle, product_below, sum_below}
 
 -- The rows after a multiple of the pivot row g has been added to each, y being the inverse of its coefficient at c.
 pub record Reduced (rows less : List (List ℕ)) (g : ℕ → ℕ) (y c : ℕ) : Type 0 where

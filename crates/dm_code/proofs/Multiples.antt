@@ -4,9 +4,8 @@ use Rattle.std.proofs.lemmas.Bool.{cases_lt, cases_eq}
 use Rattle.std.proofs.Math.Nat.{pos_of_ne-zero}
 use lib.Bits.{xor_assoc, xor_comm, xor_self, xor_zero_r}
 use Rattle.gf301.specs.Field.{◌⊕◌, ◌⊗◌}
-use Rattle.gf301.proofs.FieldLaws.{product_zero_left, product_zero_right, product_one_left, product_one_right, product_comm, product_inverse, inverse_of, sum_zero, sum_below, product_below}
+use Rattle.gf301.proofs.Exported.{product_zero_left, product_zero_right, product_one_left, product_one_right, product_comm, product_inverse, inverse_of, sum_zero, sum_below, product_below, conv_sum_left, conv_scale_left, conv_below, conv_comm, conv_swap, conv_same_right, conv_zero}
 use Rattle.gf301.specs.Polynomial.{shift, convolution, coefficient}
-use Rattle.gf301.proofs.Series.{conv_sum_left, conv_scale_left, conv_below, conv_comm, conv_swap, conv_same_right, conv_zero}
 
 -- l and w are a pair for the first k coefficients of s, of length d.
 pub record IsSeriesPair (l w s : ℕ → ℕ) (d k : ℕ) : Type 0 where

@@ -5,12 +5,7 @@ use Rattle.std.proofs.lemmas.List.{ext_get_or}
 use lib.Bits.{xor_assoc, xor_comm, xor_self, xor_zero_r}
 use Rattle.gf301.specs.Field.{◌⊕◌, raise, power}
 use Rattle.gf301.specs.Polynomial.{Bytes, value, coefficient, convolution}
-use Rattle.gf301.proofs.Lists.{plus, nonzeros}
-use Rattle.gf301.proofs.FieldLaws.{sum_below}
-use Rattle.gf301.proofs.Weights.{weigh, value_weigh, bytes_cons}
-use Rattle.gf301.proofs.PolyLaws.{length_plus, bytes_plus, get_or-plus, value_plus}
-use Rattle.gf301.proofs.Series.{conv_same_left}
-use Rattle.gf301.proofs.Locate.{sums, locate}
+use Rattle.gf301.proofs.Exported.{plus, nonzeros, sum_below, weigh, value_weigh, bytes_cons, length_plus, bytes_plus, get_or-plus, value_plus, conv_same_left, sums, locate}
 use Rattle.dm_code.specs.Codeword.{IsNear}
 use Rattle.dm_code.specs.Syndromes.{syndromes_of}
 use Rattle.dm_code.specs.KeyEquation.{IsLeastPair, NoPair, IsBelow}

@@ -8,9 +8,7 @@ use lib.Lanes.{zip2, Each1}
 use lib.Bits.{xor_comm}
 use Rattle.gf301.specs.Field.{◌⊕◌, ◌⊗◌, raise, power}
 use Rattle.gf301.specs.Polynomial.{value, values_from}
-use Rattle.gf301.proofs.FieldLaws.{product_comm, product_one_right, product_zero_left, raise_add}
-use Rattle.gf301.proofs.Lists.{plus, scale}
-use Rattle.gf301.proofs.PolyLaws.{length_scale, value_plus, value_scale, value_zeros}
+use Rattle.gf301.proofs.Exported.{product_comm, product_one_right, product_zero_left, raise_add, plus, scale, length_scale, value_plus, value_scale, value_zeros}
 use Rattle.dm_code.proofs.Register.{value_append}
 use Rattle.dm_code.specs.Syndromes.{syndromes_of}
 

@@ -3,8 +3,7 @@ use Rattle.std.proofs.Common.{◌≡◌, ℕ, zero, suc, ◌+◌, ◌<◌, ◌�
 use Rattle.std.proofs.lemmas.List.{ext_get_or, length-replicate, get_or-replicate}
 use Rattle.gf301.specs.Field.{power}
 use Rattle.gf301.specs.Polynomial.{value, values_from, Bytes}
-use Rattle.gf301.proofs.Weights.{bytes_cons}
-use Rattle.gf301.proofs.PolyLaws.{length-values_from, get_or-values_from, values_from_push, value_below}
+use Rattle.gf301.proofs.Exported.{bytes_cons, length-values_from, get_or-values_from, values_from_push, value_below}
 use Rattle.dm_code.specs.Codeword.{IsCodeword}
 use Rattle.dm_code.specs.Syndromes.{syndromes_of}
 use Rattle.dm_code.proofs.Codewords.{codeword_values, codeword_from_values}

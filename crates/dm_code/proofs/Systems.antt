@@ -6,8 +6,7 @@ use Rattle.gf301.specs.Polynomial.{coefficient, convolution, shift}
 use Rattle.dm_code.proofs.Connections.{Connects}
 use Rattle.dm_code.specs.inner.LinearSystem.{dot, row, Solves, Unsolvable}
 use lib.Bits.{xor_zero_r}
-use Rattle.gf301.proofs.FieldLaws.{product_zero_right}
-use Rattle.gf301.proofs.Series.{conv_comm, conv_same_left}
+use Rattle.gf301.proofs.Exported.{product_zero_right, conv_comm, conv_same_left}
 
 -- The first values meet coefficients above the degree.
 conv_skip : (s l : ℕ → ℕ) (o e : ℕ) → ((j : ℕ) → e < j → l j ≡ 0) → convolution s l (o + e) ≡ convolution (λ m. s (o + m)) l e

@@ -1,12 +1,11 @@
 -- The places of a list that are not 0, from the sums of powers of their locators.
-use Rattle.std.proofs.Common.{◌≡◌, ℕ, zero, suc, ◌+◌, ◌-◌, ◌<◌, ◌≤◌, List, [], ◌∷◌, length, get_or, refl, sym, ap, ◌∙◌, arith, bit_xor, inl, inr, ◌⊎◌}
+use Rattle.std.proofs.Common.{◌≡◌, ℕ, zero, suc, ◌+◌, ◌-◌, ◌<◌, ◌≤◌, List, [], ◌∷◌, length, get_or, refl, sym, ap, ◌∙◌, arith, bit_xor}
 use lib.Bits.{xor_self, xor_zero_r}
 use Rattle.gf301.specs.Field.{◌⊕◌, ◌⊗◌, raise, power}
 use Rattle.gf301.specs.Polynomial.{value, convolution, coefficient, times}
 use Rattle.gf301.proofs.Lists.{nonzeros}
 use Rattle.gf301.proofs.FieldLaws.{product_sum_right, product_comm, product_zero_left, product_zero_right, product_one_left, raise_below, raise_add}
-use Rattle.gf301.proofs.Weights.{weigh, weighted, weigh_sum, weigh_scale, weigh_same, weigh_weighted, weigh_zeros, length-weighted, bytes_weighted, nonzeros_weighted, distance, product_swap}
-use Rattle.std.proofs.lemmas.Bool.{cases_eq}
+use Rattle.gf301.proofs.Weights.{weigh, weighted, weigh_sum, weigh_scale, weigh_same, weigh_weighted, weigh_zeros, product_swap}
 use Rattle.gf301.proofs.PolyLaws.{value_times, length_times, factor_value, get_or-times}
 use Rattle.gf301.proofs.Series.{conv_cons, conv_single}
 
@@ -42,18 +41,7 @@ laid_sums e (a ∷ p) u =
     ∙ ap (λ y. y ⊕ raise x (suc u) ⊗ value p x) (product_swap a (raise x (suc u)) (raise x (length p)))
     ∙ sym (product_sum_right (raise x (suc u)) (a ⊗ raise x (length p)) (value p x))) e
 
--- ---- What connects the sums is 0 at each place that isn't 0
-pub vanishes : (e : List ℕ) (a : ℕ) (p : List ℕ) (m k : ℕ) → length e ≤ 255 → nonzeros e ≤ m → length p + m ≤ k
-    → ((i : ℕ) → length p ≤ i → i < k → convolution (coefficient (a ∷ p)) (sums e) i ≡ 0) → nonzeros (weighted (value (a ∷ p)) e) ≡ 0
-vanishes e a p m k h z n g =
-    distance (length (weighted (value (a ∷ p)) e)) (weighted (value (a ∷ p)) e) m 1 refl (let q : length (weighted (value (a ∷ p)) e) ≤ 255 = omega (arith, length-weighted (value (a ∷ p)) e) in q)
-    (bytes_weighted (value (a ∷ p)) e) (let q : nonzeros (weighted (value (a ∷ p)) e) ≤ m = omega (arith, nonzeros_weighted (value (a ∷ p)) e) in q)
-    (λ i l. weigh_weighted (λ x. raise x (1 + i)) (value (a ∷ p)) e
-    ∙ weigh_same (λ x. value (a ∷ p) x ⊗ raise x (1 + i)) (λ x. raise x (suc i) ⊗ value (a ∷ p) x)
-    (λ x. product_comm (value (a ∷ p) x) (raise x (1 + i)) ∙ ap (λ j. raise x j ⊗ value (a ∷ p) x) (let q : 1 + i ≡ suc i = omega arith in q)) e
-    ∙ sym (laid_sums e (a ∷ p) i) ∙ sym (conv_laid a p (sums e) i) ∙ g (length p + i) (omega arith) (omega arith))
-
--- ---- And what is 0 at each of them connects the sums
+-- ---- What is 0 at each place that isn't 0 connects the sums
 pub connects : (e : List ℕ) (a : ℕ) (p : List ℕ) → nonzeros (weighted (value (a ∷ p)) e) ≡ 0 → (i : ℕ) → length p ≤ i → convolution (coefficient (a ∷ p)) (sums e) i ≡ 0
 connects e a p z i h =
     let u = i - length p in
@@ -132,58 +120,3 @@ zeros-locate (suc a ∷ e) =
     zeros_cons (suc a ⊗ value (times (1 ∷ r ∷ []) g) r) (weighted (value (times (1 ∷ r ∷ []) g)) e)
     (ap (λ y. suc a ⊗ y) (v r ∙ ap (λ y. y ⊗ value g r) (factor_value r r (raise_below 2 (length e)) (raise_below 2 (length e)) ∙ xor_self r) ∙ product_zero_left (value g r)) ∙ product_zero_right (suc a))
     (ap (λ f. nonzeros (weighted f e)) (same_functions v) ∙ weighted_factor (value g) (value (1 ∷ r ∷ [])) e (zeros-locate e))
-
--- ---- The value at a place, from a polynomial that is 0 at each other place that isn't 0
--- The element with i elements after it.
-unfoldable pub at_place : List ℕ → ℕ → ℕ
-at_place e i = get_or e (length e - suc i) 0
-
--- The head has all the others after it.
-place_head : (a : ℕ) (e : List ℕ) → at_place (a ∷ e) (length e) ≡ a
-unfolding at_place
-place_head a e = ap (λ n. get_or (a ∷ e) n 0) (let q : suc (length e) - suc (length e) ≡ 0 = omega arith in q)
-
--- A later element has as many after it with the head as without.
-place_tail : (a : ℕ) (e : List ℕ) (i : ℕ) → i < length e → at_place (a ∷ e) i ≡ at_place e i
-unfolding at_place
-place_tail a e i h = ap (λ n. get_or (a ∷ e) n 0) (let q : suc (length e) - suc i ≡ suc (length e - suc i) = omega arith in q)
-
--- A smaller number is another one.
-below_not : {m n : ℕ} → m < n → m ≡ n → ⊥
-below_not h e = omega arith
-
--- A sum whose every part is 0.
-weigh_nothing : (f : ℕ → ℕ) (e : List ℕ) → ((i : ℕ) → i < length e → at_place e i ⊗ f (power i) ≡ 0) → weigh f e ≡ 0
-unfolding weigh
-weigh_nothing f [] h = refl
-weigh_nothing f (a ∷ e) h =
-    ap (λ y. y ⊕ weigh f e) (ap (λ x. x ⊗ f (power (length e))) (sym (place_head a e)) ∙ h (length e) (omega arith))
-    ∙ weigh_nothing f e (λ i l. ap (λ x. x ⊗ f (power i)) (sym (place_tail a e i l)) ∙ h i (omega arith))
-
--- A sum of which one part is left.
-pub weigh_one : (f : ℕ → ℕ) (j : ℕ) (e : List ℕ) → j < length e → ((i : ℕ) → i < length e → (i ≡ j → ⊥) → at_place e i ⊗ f (power i) ≡ 0) → weigh f e ≡ at_place e j ⊗ f (power j)
-unfolding weigh
-weigh_one f j [] l h = absurd (omega arith)
-weigh_one f j (a ∷ e) l h =
-    elim (cases_eq j (length e)) [
-      | inl q ↦
-          ap (bit_xor (a ⊗ f (power (length e)))) (weigh_nothing f e (λ i m. ap (λ x. x ⊗ f (power i)) (sym (place_tail a e i m)) ∙ h i (omega arith) (λ z. below_not m (z ∙ q))))
-          ∙ xor_zero_r (a ⊗ f (power (length e)))
-          ∙ ap (λ n. a ⊗ f (power n)) (sym q) ∙ ap (λ x. x ⊗ f (power j)) (sym (place_head a e) ∙ ap (at_place (a ∷ e)) (sym q))
-      | inr q ↦
-          let m : j < length e = omega arith in
-          ap (λ y. y ⊕ weigh f e) (ap (λ x. x ⊗ f (power (length e))) (sym (place_head a e)) ∙ h (length e) (omega arith) (λ z. q (sym z)))
-          ∙ weigh_one f j e m (λ i n d. ap (λ x. x ⊗ f (power i)) (sym (place_tail a e i n)) ∙ h i (omega arith) d)
-          ∙ ap (λ x. x ⊗ f (power j)) (sym (place_tail a e j m))
-    ]
-
--- p laid on the sums gives the value at j times what is known.
-pub value_from_sums : (e p : List ℕ) (j : ℕ) → j < length e → ((i : ℕ) → i < length e → (i ≡ j → ⊥) → (at_place e i ≡ 0) ⊎ (value p (power i) ≡ 0))
-    → laid p (sums e) 0 ≡ at_place e j ⊗ (raise (power j) 1 ⊗ value p (power j))
-value_from_sums e p j l h =
-    laid_sums e p 0
-    ∙ weigh_one (λ x. raise x 1 ⊗ value p x) j e l
-    (λ i m d. elim (h i m d) [
-      | inl z ↦ ap (λ x. x ⊗ (raise (power i) 1 ⊗ value p (power i))) z ∙ product_zero_left (raise (power i) 1 ⊗ value p (power i))
-      | inr z ↦ ap (λ x. at_place e i ⊗ (raise (power i) 1 ⊗ x)) z ∙ ap (λ x. at_place e i ⊗ x) (product_zero_right (raise (power i) 1)) ∙ product_zero_right (at_place e i)
-    ])

@@ -1,6 +1,6 @@
 use Rattle.std.proofs.Common.{◌<◌, arith, sym, subst}
 use Rattle.gf301.specs.Polynomial.{coefficient}
-use Rattle.gf301.proofs.Series.{conv_below}
+use Rattle.gf301.proofs.Exported.{conv_below}
 use Rattle.dm_code.proofs.Bytes.{bytes_places}
 use Rattle.dm_code.proofs.elimination.key_of.Goals as goal
 

@@ -5,8 +5,7 @@ use borrow.Rule.Slice.PartMut.{put_mid}
 use Rattle.gf301.specs.Field.{◌⊕◌, ◌⊗◌, power}
 use Rattle.gf301.specs.Polynomial.{value, coefficient}
 use Rattle.gf301.specs.Generator.{generator}
-use Rattle.gf301.proofs.FieldLaws.{sum_below, product_below}
-use Rattle.gf301.proofs.GeneratorLaws.{generator_root}
+use Rattle.gf301.proofs.Exported.{sum_below, product_below, generator_root}
 use Rattle.dm_code.proofs.Parts.{length-mid, mid_before, mid_at, mid_past}
 use Rattle.dm_code.proofs.Division.{divided, generator_past}
 use Rattle.dm_code.proofs.encoding.divide.Goals as goal

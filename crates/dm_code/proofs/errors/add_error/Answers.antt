@@ -2,7 +2,7 @@ use Rattle.std.proofs.Common.{◌≡◌, ◌+◌, ◌<◌, ◌≢◌, ℕ, suc, 
 use Rattle.std.proofs.lemmas.Bool.{cases_eq}
 use Rattle.std.proofs.lemmas.List.{get_or-set_same, get_or-set_other}
 use Rattle.gf301.specs.Field.{◌⊕◌, ◌⊗◌, raise}
-use Rattle.gf301.proofs.FieldLaws.{product_assoc, product_comm, product_one_right}
+use Rattle.gf301.proofs.Exported.{product_assoc, product_comm, product_one_right}
 use Rattle.dm_code.proofs.errors.add_error.Goals as goal
 
 -- One power more of x.

@@ -1,6 +1,6 @@
 use Rattle.std.proofs.Common.{◌≡◌, ◌<◌, ℕ, sym, ap, subst, ◌∙◌, arith}
 use Rattle.gf301.specs.Field.{◌⊗◌}
-use Rattle.gf301.proofs.FieldLaws.{product_assoc, product_below, product_comm, product_one_right}
+use Rattle.gf301.proofs.Exported.{product_assoc, product_below, product_comm, product_one_right}
 use Rattle.dm_code.proofs.errors.error_value.Goals as goal
 
 -- A number times the inverse of a divisor, times the divisor, is the number.

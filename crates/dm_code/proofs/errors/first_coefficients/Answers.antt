@@ -1,6 +1,6 @@
 use Rattle.std.proofs.Common.{◌≡◌, ◌+◌, ◌++◌, ◌∷◌, [], suc, length, sym, ap, ◌∙◌, arith}
 use Rattle.gf301.specs.Polynomial.{coefficient, values_from}
-use Rattle.gf301.proofs.PolyLaws.{length-values_from, values_from_push}
+use Rattle.gf301.proofs.Exported.{length-values_from, values_from_push}
 use Rattle.dm_code.proofs.errors.first_coefficients.Goals as goal
 
 pub loop-i-init : goal.loop-i-init

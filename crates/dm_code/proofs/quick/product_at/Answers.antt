@@ -3,7 +3,7 @@ use Rattle.std.proofs.lemmas.Bool.{cases_lt}
 use Rattle.std.proofs.lemmas.List.{get_or-take, get_or_past, take_more}
 use Rattle.gf301.specs.Field.{◌⊕◌}
 use Rattle.gf301.specs.Polynomial.{coefficient, convolution}
-use Rattle.gf301.proofs.Series.{conv_push, conv_nothing, conv_same_left}
+use Rattle.gf301.proofs.Exported.{conv_push, conv_nothing, conv_same_left}
 use Rattle.dm_code.proofs.quick.product_at.Goals as goal
 
 -- The first coefficients of a list, as many as there are or up to the place n, have its product at n.

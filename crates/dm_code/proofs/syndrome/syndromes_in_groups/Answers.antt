@@ -2,7 +2,7 @@ use Rattle.std.proofs.Common.{◌≡◌, ◌+◌, ◌*◌, ◌≤◌, ◌++◌, 
 use Rattle.std.proofs.lemmas.List.{length-map}
 use Rattle.gf301.specs.Field.{power}
 use Rattle.gf301.specs.Polynomial.{value, values_from}
-use Rattle.gf301.proofs.PolyLaws.{length-values_from}
+use Rattle.gf301.proofs.Exported.{length-values_from}
 use Rattle.dm_code.specs.Syndromes.{syndromes_of}
 use Rattle.dm_code.proofs.SyndromeLaws.{syndromes_length}
 use Rattle.dm_code.proofs.SyndromeLanes.{more_syndromes}

@@ -3,7 +3,7 @@ use Rattle.std.proofs.lemmas.Simd.{length-chunk}
 use lib.Lanes.{zip2, chunk}
 use Rattle.gf301.specs.Field.{power}
 use Rattle.gf301.specs.Polynomial.{value}
-use Rattle.gf301.proofs.FieldLaws.{raise_mul}
+use Rattle.gf301.proofs.Exported.{raise_mul}
 use Rattle.dm_code.proofs.SyndromeLanes.{joined_value, take_parts}
 use Rattle.dm_code.proofs.syndrome.value_by_sixteens.Goals as goal
 

@@ -2,7 +2,7 @@ use Rattle.std.proofs.Common.{◌≡◌, ◌-◌, ◌+◌, suc, length, map, dro
 use lib.Lanes.{zip2}
 use Rattle.gf301.specs.Field.{◌⊗◌, power, raise}
 use Rattle.gf301.specs.Polynomial.{value, values_from}
-use Rattle.gf301.proofs.PolyLaws.{length-values_from}
+use Rattle.gf301.proofs.Exported.{length-values_from}
 use Rattle.dm_code.proofs.SyndromeLanes.{lanes_start, lanes_more, drop_whole}
 use Rattle.dm_code.proofs.syndrome.values_of_part.Goals as goal
 

@@ -2,7 +2,7 @@ use Rattle.std.proofs.Common.{get_or, sym, ap, ◌∙◌, arith, inl, inr}
 use Rattle.std.proofs.lemmas.List.{get_or_past}
 use Rattle.std.proofs.lemmas.Bool.{cases_lt}
 use Rattle.gf301.specs.Field.{◌⊕◌, ◌⊗◌}
-use Rattle.gf301.proofs.FieldLaws.{product_zero_right}
+use Rattle.gf301.proofs.Exported.{product_zero_right}
 use Rattle.dm_code.proofs.system.with_multiple.Goals as goal
 
 pub returns : goal.returns

@@ -1,5 +1,5 @@
 use Rattle.std.proofs.Common.{length, ap, ◌∙◌, arith}
-use Rattle.gf301.proofs.GeneratorLaws.{generator_length}
+use Rattle.gf301.proofs.Exported.{generator_length}
 use Rattle.dm_code.proofs.tests.divided.Goals as goal
 
 pub times-requires-clause-right_filled : goal.times-requires-clause-right_filled

@@ -2,7 +2,7 @@ use Rattle.std.proofs.Common.{◌≡◌, ◌+◌, ◌-◌, ◌*◌, ◌<◌, ◌
 use Rattle.std.proofs.lemmas.Bool.{cases_lt}
 use Rattle.gf301.specs.Polynomial.{Bytes, coefficient, convolution}
 use Rattle.gf301.specs.declared.meter.Meter.{Meter}
-use Rattle.gf301.proofs.Weights.{bytes_cons}
+use Rattle.gf301.proofs.Exported.{bytes_cons}
 use Rattle.dm_code.specs.declared.quick.Search.{Search}
 use Rattle.dm_code.proofs.BerlekampMassey.{IsCorrected, restated, search_start, search_kept, search_same, search_grown, search_refuses, search_answers, search_exact}
 use Rattle.dm_code.proofs.Counts.{step_products, all_products}

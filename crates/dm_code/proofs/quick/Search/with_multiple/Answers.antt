@@ -3,7 +3,7 @@ use Rattle.std.proofs.lemmas.Bool.{cases_lt}
 use Rattle.std.proofs.lemmas.List.{get_or_past}
 use lib.Bits.{xor_zero_r}
 use Rattle.gf301.specs.Field.{◌⊕◌, ◌⊗◌}
-use Rattle.gf301.proofs.FieldLaws.{product_zero_right}
+use Rattle.gf301.proofs.Exported.{product_zero_right}
 use Rattle.dm_code.proofs.quick.Search.with_multiple.Goals as goal
 
 pub returns-clause-high : goal.returns-clause-high
