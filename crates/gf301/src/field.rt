@@ -88,3 +88,6 @@ impl Gf {
         LOGS[usize::from(self.0)]
     }
 }
+
+#[cfg(test)]
+mod tests;

@@ -34,3 +34,6 @@ pub fn taps(k: usize) -> &'static [u8; 80]
 {
     &TAP_ROWS[k]
 }
+
+#[cfg(test)]
+mod tests;

@@ -23,6 +23,3 @@ pub use generators::{MOST_CHECKS, generator, taps};
 pub use lanes::{add_scaled, lanes_mul, power_row, powers, scaled};
 pub use meter::Meter;
 pub use polynomial::{Poly, product_at, times, value_at};
-
-#[cfg(test)]
-mod tests;

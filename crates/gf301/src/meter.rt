@@ -40,3 +40,6 @@ impl Meter {
         a.inverse()
     }
 }
+
+#[cfg(test)]
+mod tests;
