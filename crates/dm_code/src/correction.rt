@@ -157,3 +157,6 @@ fn differences(word: &[u8], other: &[u8]) -> u8
     }
     count
 }
+
+#[cfg(test)]
+mod tests;

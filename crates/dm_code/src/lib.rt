@@ -41,10 +41,4 @@ pub use quick::Quick;
 pub use syndrome::syndromes;
 
 #[cfg(test)]
-mod correction_tests;
-#[cfg(test)]
-mod hostile;
-#[cfg(test)]
-mod solver_tests;
-#[cfg(test)]
-mod tests;
+mod samples;

@@ -2,9 +2,10 @@
 
 ghost use Rattle.std.specs.Prelude.{◌*◌, ◌≤◌, length};
 
-use super::correction_tests::{BLOCKS, WORD, codeword};
-use super::errors::{coefficient_at, trimmed};
-use super::{Elimination, KeySolver, Quick, correct, syndromes};
+use super::*;
+use crate::errors::{coefficient_at, trimmed};
+use crate::samples::{BLOCKS, WORD, codeword};
+use crate::{Elimination, Quick, correct, syndromes};
 
 /// Whether two lists are equal as polynomials of a degree below 35.
 fn are_same(p: &[u8], q: &[u8]) -> bool {
@@ -57,7 +58,7 @@ fn are_alike(word: &[u8], k: usize) -> bool
 }
 
 #[test]
-fn keys(rt: HostRuntime) {
+fn least_pairs_and_lists_without_a_pair(rt: HostRuntime) {
     let zeros = [0; 68];
     let pairs: [(&[u8], usize, &[u8], &[u8]); 5] = [
         (&zeros, 34, &[1], &[]),
@@ -94,7 +95,7 @@ fn keys(rt: HostRuntime) {
 }
 
 #[test]
-fn both_solvers_are_alike(rt: HostRuntime) {
+fn both_solvers_answer_alike(rt: HostRuntime) {
     for damaged in [
         WORD,
         [0, 0, 186, 114, 25, 5, 88, 102],
