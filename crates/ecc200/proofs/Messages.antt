@@ -3,12 +3,13 @@ use Rattle.std.proofs.Common.{◌≡◌, ◌⊎◌, inl, inr, ℕ, zero, suc, �
 use Rattle.std.specs.Prelude.{All, IsSome}
 use Rattle.std.specs.List.{AllByRecursion}
 use Rattle.std.proofs.lemmas.List.{length-map}
-use Rattle.std.proofs.lemmas.List.Elements.{recursion_from_All}
+use Rattle.std.proofs.lemmas.List.Elements.{recursion_from_All, All-from_recursion}
 use Rattle.std.proofs.lemmas.Bool.{cases_lt, false≢true}
 use Rattle.dm_symbol.specs.declared.Item.{Item}
 use Rattle.dm_symbol.specs.declared.Item.TheVariants.{Byte, Fnc1}
 use Rattle.dm_symbol.specs.declared.Profile.{Profile}
 use Rattle.dm_symbol.specs.Sizes.{SizeRow, row_for_words}
+use Rattle.dm_symbol.specs.Messages.{IsItem, IsMessage}
 use Rattle.dm_symbol.specs.NormalForm.{normal_form}
 use Rattle.dm_symbol.specs.NormalGrid.{HasNormalGrid}
 use Rattle.dm_symbol.proofs.SizeFacts.{holds_that_many, size_facts}
@@ -16,23 +17,25 @@ use Rattle.dm_words.proofs.NormalForms.{normal_form_items}
 use Rattle.ecc200.specs.Items.{number_of, numbers_of}
 
 -- A number up to 256 is an item's.
-item_there : (number : ℕ) → number ≤ 256 → (item : Item) × (number_of item ≡ number)
+item_there : (number : ℕ) → number ≤ 256 → (item : Item) × IsItem item × (number_of item ≡ number)
 item_there number few = by_case (cases_lt number 256)
   where
-    by_case : (number < 256) ⊎ (256 ≤ number) → (item : Item) × (number_of item ≡ number)
-    by_case (inl h) = (Byte number, refl)
-    by_case (inr h) = (Fnc1, omega (arith, h, few))
+    by_case : (number < 256) ⊎ (256 ≤ number) → (item : Item) × IsItem item × (number_of item ≡ number)
+    by_case (inl h) = (Byte number, h, refl)
+    by_case (inr h) = (Fnc1, omega arith, omega (arith, h, few))
 
-items_there : (numbers : List ℕ) → AllByRecursion (λ number. number ≤ 256) numbers → (m : List Item) × (numbers_of m ≡ numbers)
-items_there [] h = ([], refl)
+items_there : (numbers : List ℕ) → AllByRecursion (λ number. number ≤ 256) numbers → (m : List Item) × AllByRecursion IsItem m × (numbers_of m ≡ numbers)
+items_there [] h = ([], tt, refl)
 items_there (number ∷ rest) h =
     let first = item_there number h.0 in
     let others = items_there rest h.1 in
-    (first.0 ∷ others.0, ap (λ x. x ∷ numbers_of others.0) first.1 ∙ ap (λ xs. number ∷ xs) others.1)
+    (first.0 ∷ others.0, (first.1, others.1), ap (λ x. x ∷ numbers_of others.0) first.2 ∙ ap (λ xs. number ∷ xs) others.2)
 
 -- Numbers up to 256 are those of a message.
-pub message_there : (numbers : List ℕ) → All (λ number. number ≤ 256) numbers → (m : List Item) × (numbers_of m ≡ numbers)
-message_there numbers h = items_there numbers (recursion_from_All (λ number. number ≤ 256) numbers h)
+pub message_there : (numbers : List ℕ) → All (λ number. number ≤ 256) numbers → (m : List Item) × IsMessage m × (numbers_of m ≡ numbers)
+message_there numbers h =
+    let there = items_there numbers (recursion_from_All (λ number. number ≤ 256) numbers h) in
+    (there.0, All-from_recursion IsItem there.0 there.1, there.2)
 
 -- No size has more than 816 data codewords.
 none_found : (count : ℕ) (o : Option SizeRow) → row_for_words count ≡ o → 816 < count → IsSome o → ⊥

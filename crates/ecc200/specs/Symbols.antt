@@ -5,6 +5,7 @@ use Rattle.dm_symbol.specs.declared.Profile.{Profile}
 use Rattle.dm_symbol.specs.declared.Profile.TheVariants.{Ascii, Shorter}
 use Rattle.dm_symbol.specs.declared.NormalFault.{NormalFault}
 use Rattle.dm_symbol.specs.Grid.{GridView}
+use Rattle.dm_symbol.specs.Messages.{IsMessage}
 use Rattle.dm_symbol.specs.NormalGrid.{IsNormalGrid, HasNormalGrid}
 use Rattle.dm_symbol.specs.Normal.{NormalAnswer}
 use Rattle.ecc200.specs.declared.fault.Fault.{Fault}
@@ -35,8 +36,8 @@ profile_of number = if nat_eq number 0 then Some Ascii else (if nat_eq number 1 
 -- more; that the message has no normal grid; or its normal grid
 pub data WrittenAnswer (profile : Profile) (numbers : List ℕ) (answer : Result GridView Fault) : Type 0 where
   no_message : (place : ℕ) → IsFirstForeign numbers place → answer ≡ Err (foreign (get_or numbers place 0) (min place 65535)) → WrittenAnswer profile numbers answer
-  no_grid : (m : List Item) → numbers_of m ≡ numbers → (HasNormalGrid profile m → ⊥) → answer ≡ Err too_long → WrittenAnswer profile numbers answer
-  normal : (m : List Item) (grid : GridView) → numbers_of m ≡ numbers → IsNormalGrid profile m grid → answer ≡ Ok grid → WrittenAnswer profile numbers answer
+  no_grid : (m : List Item) → IsMessage m → numbers_of m ≡ numbers → (HasNormalGrid profile m → ⊥) → answer ≡ Err too_long → WrittenAnswer profile numbers answer
+  normal : (m : List Item) (grid : GridView) → IsMessage m → numbers_of m ≡ numbers → IsNormalGrid profile m grid → answer ≡ Ok grid → WrittenAnswer profile numbers answer
 
 -- the answer to modules under a profile: why they make no grid; that their grid has no normal grid; or its normal grid
 pub data NormalisedAnswer (profile : Profile) (side : ℕ) (modules : List ℕ) (limit : ℕ) (answer : Result GridView Fault) : Type 0 where
