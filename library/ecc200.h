@@ -6,7 +6,7 @@
  *     ecc200_inspect        the codewords that a symbol holds, and as they are corrected
  *     ecc200_places         what each module of a symbol is: the bit of a codeword, border, or fixed square
  *     ecc200_sizes          the table of sizes and limits
- *     ecc200_usual_limit    how many wrong border modules are usually borne
+ *     ecc200_usual_limit    how many wrong border modules are usually accepted
  *     ecc200_abi            which version of this interface the library has
  *
  * An example: writes a symbol, prints it, turns a module over, and reads it.
@@ -40,9 +40,10 @@
  * turn items into bytes and back.
  *
  * A PROFILE chooses the normal form of a message, its one symbol: under ECC200_ASCII its codewords are those of ASCII encodation;
- * under ECC200_SHORTER those of one Base 256 segment where that is shorter, which serves binary messages. Either way they
- * stand in the smallest symbol that holds them, followed by pads. Symbols say the same exactly where their normal symbols under one
- * profile are equal, byte by byte; and the normal symbol of a normal symbol is itself.
+ * under ECC200_SHORTER those of one Base 256 segment where the message has no FNC1 and the segment is shorter, which serves binary
+ * messages. Either way they stand in the smallest symbol that holds them, followed by pads; a message that no symbol holds so has no
+ * normal symbol. Symbols that have normal symbols under one profile say the same exactly where these are equal, byte by byte; and the
+ * normal symbol of a normal symbol is itself.
  *
  * EACH CALL returns, whatever it is given. It takes no memory but less than ECC200_STACK bytes of stack, keeps nothing, waits for
  * nothing, calls nothing but memcpy, memmove and memset, and touches only what it was given: any number of threads may call at once,

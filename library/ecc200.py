@@ -217,7 +217,7 @@ def _rows(out: _SymbolOut) -> Rows:
 
 
 def usual_limit(side: int) -> int:
-    """How many wrong border modules are usually borne in a symbol of this side: a quarter of it, rounded down."""
+    """How many wrong border modules are usually accepted in a symbol of this side: a quarter of it, rounded down."""
     return side // 4
 
 

@@ -24,14 +24,14 @@ use Rattle.ecc200.specs.inner.PlaceSteps.{structure_by, structure_place, with_bi
 abbrev pub module_of_cell : SizeRow → ℕ → ℕ → ℕ
 module_of_cell size r c = symbol_line size.region_side r * size.side + symbol_line size.region_side c
 
--- A row and a column tell where a module stands, and that tells them.
+-- Modules with different rows or columns stand at different places.
 pub one_module : (side r c u v : ℕ) → c < side → v < side → r * side + c ≡ u * side + v → (r ≡ u) × (c ≡ v)
 one_module side r c u v lc lv e = (
   sym (div-mul-add r side c lc) ∙ ap (λ x. x / side) e ∙ div-mul-add u side v lv,
   sym (mod-mul-add r side c lc) ∙ ap (λ x. x % side) e ∙ mod-mul-add u side v lv,
 )
 
--- So for the cells of the mapping square.
+-- The same said of cells of the mapping square.
 pub one_cell : (size : SizeRow) (r c u v : ℕ) → IsRow size → c < size.mapping → v < size.mapping → module_of_cell size r c ≡ module_of_cell size u v → (r ≡ u) × (c ≡ v)
 one_cell size r c u v row lc lv e =
     let d : ℕ = size.region_side in
@@ -84,7 +84,7 @@ bits_stay size (p ∷ rest) xs w b r c row are place room e =
         ap (λ i. get_or next i nothing) x.1 ∙ get_or-set_same xs at (bit_place p.word p.bit) nothing (omega (arith, cell_inside size p.row p.column row its.0 its.1, room))
         ∙ ap (λ i. bit_place i p.bit) one.0 ∙ ap (bit_place w) one.1
 
--- And it becomes right when its place comes.
+-- It becomes right when its place is written.
 bits_come : (size : SizeRow) (ps : List Place) (xs : List PlaceOut) (i : ℕ) (d : Place) → IsRow size → ArePlaces size.mapping ps → size.side * size.side ≤ length xs → i < length ps
     → get_or (with_bits size ps xs) (module_of_cell size (get_or ps i d).row (get_or ps i d).column) nothing ≡ bit_place (get_or ps i d).word (get_or ps i d).bit
 bits_come size [] xs i d row are room l = absurd (omega arith)

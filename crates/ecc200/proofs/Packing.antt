@@ -29,7 +29,7 @@ from_bool_one false = refl
 pub packed_small : (row i : ℕ) (b : Bool) → row < 2 ^ i → 2 * row + from_bool b < 2 ^ (i + 1)
 packed_small row i b h = omega (arith, pow_next i, from_bool_small b, h)
 
--- And 128 bits hold them.
+-- A number of 128 bits holds them.
 pub packed_fits : (row i : ℕ) (b : Bool) → row < 2 ^ i → i < 127 → Fits w128 (2 * row + from_bool b)
 packed_fits row i b h l =
     let k : 2 ^ (i + 1) < 2 ^ 128 = pow_below (i + 1) 128 (omega arith) in
@@ -41,7 +41,7 @@ dark_first row b =
     let e : (2 * row + from_bool b) / 1 % 2 ≡ from_bool b = omega (arith, from_bool_small b) in
     ap (λ x. nat_eq x 1) e ∙ from_bool_one b
 
--- The others move by one.
+-- The other bits move up by one.
 dark_next : (row c : ℕ) (b : Bool) → is_dark_in (2 * row + from_bool b) (c + 1) ≡ is_dark_in row c
 dark_next row c b =
     let e : (2 * row + from_bool b) / 2 ≡ row = omega (arith, from_bool_small b) in

@@ -29,7 +29,7 @@ row_more init all cells start column v l lc e h =
     ap (λ k. take k (set all (start + column) v)) next ∙ take_more_set all (start + column) v l ∙ ap (λ xs. xs ++ v ∷ []) h
     ∙ append_assoc front done (v ∷ []) ∙ ap (λ xs. front ++ xs) line
 
--- And what lies behind it.
+-- What lies behind the row stays.
 pub row_behind : (init all : List ℕ) (start column v : ℕ) → drop (start + column) all ≡ drop (start + column) init
     → drop (start + (column + 1)) (set all (start + column) v) ≡ drop (start + (column + 1)) init
 row_behind init all start column v h =

@@ -24,6 +24,6 @@ modules_fit side size e =
     let small : size.side ≤ 104 = omega (arith, fits, row.0) in
     mul-le-mul small small
 
--- So do its codewords.
+-- The codewords of a symbol fit an array of the most.
 pub words_fit : (words : WordsView) → IsWords words → length words.list ≤ 1152
 words_fit words h = omega (arith, h.count, (row_facts words.size h.row).codewords)

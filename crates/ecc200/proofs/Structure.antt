@@ -12,7 +12,7 @@ module_put places start column f l h =
     (λ c k. let ne : start + c ≢ start + column = omega (arith, k) in get_or-set_other places (start + column) (start + c) (f column) nothing ne ∙ h c k)
     (get_or-set_same places (start + column) (f column) nothing l)
 
--- The others stay.
+-- The other modules stay as they were.
 pub module_kept : (init places : List PlaceOut) (i j : ℕ) (x : PlaceOut) → j ≢ i → get_or places j nothing ≡ get_or init j nothing → get_or (set places i x) j nothing ≡ get_or init j nothing
 module_kept init places i j x ne h = get_or-set_other places i j x nothing ne ∙ h
 

@@ -1,6 +1,6 @@
--- Arrays of which the front counts.
+-- Arrays of which only the first numbers count.
 use Rattle.std.specs.Prelude.{ℕ, ◌-◌, List, ◌++◌, length, replicate}
 
--- the numbers, and zeros behind them up to so many
+-- The numbers, followed by zeros: `most` numbers in all.
 abbrev pub filled : ℕ → List ℕ → List ℕ
 filled most numbers = numbers ++ replicate (most - length numbers) 0

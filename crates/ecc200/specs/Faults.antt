@@ -8,23 +8,23 @@ use Rattle.dm_symbol.specs.declared.NormalFault.{NormalFault}
 use Rattle.dm_symbol.specs.declared.NormalFault.TheVariants as normal
 use Rattle.ecc200.specs.declared.fault.Fault.{Fault}
 
--- these three numbers
+-- The fault with these three numbers.
 abbrev pub fault : ℕ → ℕ → ℕ → Fault
 fault code value place = record { code = code; value = value; place = place }
 
--- there is none
+-- There is no fault.
 abbrev pub no_fault : Fault
 no_fault = fault 0 0 0
 
--- the modules are not as many as the side times itself
+-- The modules are not as many as the side times itself.
 abbrev pub shape : Fault
 shape = fault 3 0 0
 
--- no size has this side
+-- No size has this side.
 abbrev pub no_such_side : ℕ → Fault
 no_such_side side = fault 4 side 0
 
--- data codewords spell no message; places count them from 1
+-- The data codewords spell no message; places count them from 1.
 abbrev pub word_fault : WordFault → Fault
 word_fault (word.Reserved place) = fault 7 0 place
 word_fault (word.LeftOut value place) = fault 8 value place
@@ -34,25 +34,25 @@ word_fault (word.Value place) = fault 11 0 place
 word_fault (word.Length place) = fault 12 0 place
 word_fault (word.Unfinished place) = fault 13 0 place
 
--- a grid is not read: for its border, the number of wrong modules; for a block, which, from 0; or for its data codewords
+-- A grid is not read: for its border, with the number of wrong modules; for a block, with which one, from 0; or for its data codewords.
 abbrev pub read_fault : ReadFault → Fault
 read_fault (read.Border count) = fault 5 count 0
 read_fault (read.Block block) = fault 6 0 block
 read_fault (read.Words why) = word_fault why
 
--- a message has no normal grid
+-- A message has no normal grid.
 abbrev pub too_long : Fault
 too_long = fault 14 0 0
 
--- a grid has no normal grid
+-- A grid has no normal grid.
 abbrev pub normal_fault : NormalFault → Fault
 normal_fault (normal.Read why) = read_fault why
 normal_fault normal.TooLong = too_long
 
--- this number, at this place, is no item
+-- This number, at this place, is no item's.
 abbrev pub foreign : ℕ → ℕ → Fault
 foreign number place = fault 15 number place
 
--- this number is no profile
+-- This number is no profile's.
 abbrev pub no_such_profile : ℕ → Fault
 no_such_profile number = fault 16 number 0

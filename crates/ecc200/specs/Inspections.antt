@@ -9,7 +9,7 @@ use Rattle.ecc200.specs.Arrays.{filled}
 use Rattle.ecc200.specs.Faults.{no_fault}
 use Rattle.ecc200.specs.Modules.{IsGridOf, IsModulesFault}
 
--- a fault, and zeros
+-- A fault, and 0 in all else.
 abbrev pub no_inspection : Fault → InspectionOut
 no_inspection why =
     record {
@@ -23,12 +23,12 @@ no_inspection why =
       corrected = replicate 6 0;
     }
 
--- how many codewords of a block are corrected, or 255 where no codeword is near
+-- How many places of a block are corrected, or 255 where no codeword is near the block.
 abbrev pub count_shown : Option ℕ → ℕ
 count_shown (Some count) = count
 count_shown None = 255
 
--- an inspection at this side
+-- An inspection of a grid of this side.
 abbrev pub inspection_shown : ℕ → Inspection → InspectionOut
 inspection_shown side inspection =
     record {
@@ -42,7 +42,7 @@ inspection_shown side inspection =
       corrected = filled 6 (map count_shown inspection.corrected.items);
     }
 
--- what comes out for these modules: why they make no grid; or the inspection of their grid
+-- What comes out of inspecting these modules: why they make no grid; or the inspection of their grid.
 pub data IsInspectAnswer (side : ℕ) (modules : List ℕ) (out : InspectionOut) : Type 0 where
   no_grid : (why : Fault) → IsModulesFault side modules why → out ≡ no_inspection why → IsInspectAnswer side modules out
   inspected : (grid : GridView) (inspection : Inspection) → IsGridOf side modules grid → IsInspection grid inspection

@@ -3,16 +3,16 @@ use Rattle.std.specs.Prelude.{ℕ, ◌<◌, ◌≤◌, List, map, length, get_or
 use Rattle.dm_symbol.specs.declared.Item.{Item}
 use Rattle.dm_symbol.specs.declared.Item.TheVariants.{Byte, Fnc1}
 
--- the number of an item: a byte is itself, FNC1 is 256
+-- The number of an item: a byte is itself, FNC1 is 256.
 abbrev pub number_of : Item → ℕ
 number_of (Byte byte) = byte
 number_of Fnc1 = 256
 
--- the numbers of a message
+-- The numbers of a message.
 abbrev pub numbers_of : List Item → List ℕ
 numbers_of m = map number_of m
 
--- here stands the first of the numbers that is no item's
+-- At this place stands the first of the numbers that is no item's.
 pub record IsFirstForeign (numbers : List ℕ) (place : ℕ) : Type 0 where
   pub inside : place < length numbers
   pub foreign : 256 < get_or numbers place 0

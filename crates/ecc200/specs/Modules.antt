@@ -5,25 +5,25 @@ use Rattle.dm_symbol.specs.Grid.{GridView, square_of}
 use Rattle.ecc200.specs.declared.fault.Fault.{Fault}
 use Rattle.ecc200.specs.Faults.{shape, no_such_side}
 
--- any number but 0 is a dark module
+-- Any number but 0 is a dark module.
 abbrev pub is_dark : ℕ → Bool
 is_dark number = not (nat_eq number 0)
 
--- the number of a module: 1 where it is dark, else 0
+-- The number of a module: 1 where it is dark, else 0.
 abbrev pub module_of : Bool → ℕ
 module_of dark = if dark then 1 else 0
 
--- the modules of a grid
+-- The modules of a grid.
 abbrev pub modules_of : GridView → List ℕ
 modules_of grid = flat_map (map module_of) grid.rows
 
--- these are the modules of the grid
+-- These are the modules of the grid, whose size has this side.
 pub record IsGridOf (side : ℕ) (modules : List ℕ) (grid : GridView) : Type 0 where
   pub count : length modules ≡ side * side
   pub size : row_with_side side ≡ Some grid.size
   pub cells : grid.rows ≡ square_of side (map is_dark modules)
 
--- why modules make no grid: they are not as many as the side times itself; or no size has this side
+-- Why modules make no grid: they are not as many as the side times itself; or no size has this side.
 pub data IsModulesFault (side : ℕ) (modules : List ℕ) (why : Fault) : Type 0 where
   not_square : length modules ≢ side * side → why ≡ shape → IsModulesFault side modules why
   no_size : length modules ≡ side * side → IsNone (row_with_side side) → why ≡ no_such_side side → IsModulesFault side modules why

@@ -9,32 +9,32 @@ use Rattle.ecc200.specs.declared.places.PlaceOut.{PlaceOut}
 use Rattle.ecc200.specs.declared.places.PlacesOut.{PlacesOut}
 use Rattle.ecc200.specs.Faults.{no_fault, no_such_side}
 
--- no module
+-- No module.
 abbrev pub nothing : PlaceOut
 nothing = record { codeword = 0; bit = 0; kind = 0 }
 
--- a bit of a codeword
+-- A bit of a codeword.
 abbrev pub bit_place : ℕ → ℕ → PlaceOut
 bit_place codeword bit = record { codeword = codeword; bit = bit; kind = 1 }
 
--- a module of a border, that is to be dark or light
+-- A module of a border, which is to be dark or light.
 abbrev pub border_place : Bool → PlaceOut
 border_place dark = record { codeword = 0; bit = 0; kind = if dark then 3 else 2 }
 
--- a module of the fixed square, that is to be dark or light
+-- A module of the fixed square, which is to be dark or light.
 abbrev pub fixed_place : Bool → PlaceOut
 fixed_place dark = record { codeword = 0; bit = 0; kind = if dark then 5 else 4 }
 
--- the module of a row and a column of the symbol
+-- The module at a row and a column of the symbol.
 abbrev pub place_at : SizeRow → List PlaceOut → ℕ → ℕ → PlaceOut
 place_at size places row column = get_or places (row * size.side + column) nothing
 
--- the module of the symbol to which a cell of the mapping square is moved
+-- The module of the symbol to which a cell of the mapping square is moved.
 abbrev pub mapped_place : SizeRow → List PlaceOut → ℕ → ℕ → PlaceOut
 mapped_place size places row column = place_at size places (symbol_line size.region_side row) (symbol_line size.region_side column)
 
--- these are the modules of a symbol of this size: each bit of each codeword where it lies, the borders, the fixed square, and behind
--- them nothing. That each module is exactly one of these is a law of the placement.
+-- These are the modules of a symbol of this size: each bit of each codeword where it lies, the borders, the fixed square, and nothing
+-- behind them. That each module is exactly one of these is a law of the placement.
 pub record AreModulesOf (size : SizeRow) (places : List PlaceOut) : Type 0 where
   pub bits : (word bit : ℕ) (cell : Cell) → IsPlace size.mapping word bit cell → mapped_place size places cell.row cell.column ≡ bit_place word bit
   pub border : (row column : ℕ) → row < size.side → column < size.side → is_border size row column ≡ true →
@@ -43,11 +43,11 @@ pub record AreModulesOf (size : SizeRow) (places : List PlaceOut) : Type 0 where
       mapped_place size places row column ≡ fixed_place (fixed_is_dark row column)
   pub behind : (i : ℕ) → size.side * size.side ≤ i → get_or places i nothing ≡ nothing
 
--- a fault, and zeros
+-- A fault, and 0 in all else.
 abbrev pub no_places : Fault → PlacesOut
 no_places why = record { fault = why; side = 0; places = replicate 10816 nothing }
 
--- what comes out for this side: that no size has it; or the modules of its size
+-- What comes out for this side: that no size has it; or the modules of its size.
 pub data IsPlacesAnswer (side : ℕ) (out : PlacesOut) : Type 0 where
   no_size : IsNone (row_with_side side) → out ≡ no_places (no_such_side side) → IsPlacesAnswer side out
   modules : (size : SizeRow) → row_with_side side ≡ Some size → out.fault ≡ no_fault → out.side ≡ side → AreModulesOf size out.places → IsPlacesAnswer side out

@@ -7,7 +7,7 @@ use crate::fault::Fault;
 use dm_symbol::{Grid, LARGEST_SIDE};
 
 /// The most modules of a symbol.
-pub(crate) const MOST_MODULES: usize = 10816;
+pub(crate) const MOST_MODULES: usize = LARGEST_SIDE * LARGEST_SIDE;
 
 /// The grid of these modules.
 pub(crate) fn grid_of(modules: &[u8], side: u16) -> Result<Grid, Fault>

@@ -7,16 +7,16 @@ use Rattle.dm_layout.specs.Modules.{border_colour}
 use Rattle.ecc200.specs.declared.places.PlaceOut.{PlaceOut}
 use Rattle.ecc200.specs.Places.{bit_place, border_place, fixed_place}
 
--- a module of a border by its colour, or else one of the fixed square by its row and column
+-- A module by the colour that the border has there, or else, where there is no border, one of the fixed square.
 abbrev pub structure_by : Option Bool → ℕ → ℕ → PlaceOut
 structure_by (Some dark) row column = border_place dark
 structure_by None row column = fixed_place (nat_eq row column)
 
--- a module before the bits are written
+-- A module before the bits are written.
 abbrev pub structure_place : SizeRow → ℕ → ℕ → PlaceOut
 structure_place size row column = structure_by (border_colour size row column) row column
 
--- the modules after these bits are written, one after the other
+-- The modules after these bits are written, one after the other.
 abbrev pub with_bits : SizeRow → List Place → List PlaceOut → List PlaceOut
 with_bits size [] places = places
 with_bits size (p ∷ rest) places =

@@ -3,7 +3,7 @@ use Rattle.dm_symbol.specs.Grid.{is_dark_in}
 use Rattle.ecc200.specs.Modules.{is_dark}
 use Rattle.ecc200.proofs.modules.packed.Given as goal
 
--- the modules from the last on, as the lowest bits
+-- The last modules are packed, the first of them as the lowest bit.
 abbrev pub invariant-loop-i : goal.invariant-loop-i
 invariant-loop-i l = record {
   bits : (column : ℕ) → column < l.i → is_dark_in l.row column ≡ is_dark (get_or l.modules (l.across - l.i + column) 0);
