@@ -1,11 +1,11 @@
 -- Rows of the mapping square as numbers, and the codewords that are read from them.
-use Rattle.std.proofs.Common.{◌≡◌, ◌⊎◌, inl, inr, ℕ, ◌+◌, ◌-◌, ◌*◌, ◌/◌, ◌%◌, ◌^◌, ◌<◌, ◌≤◌, Bool, true, false, nat_eq, nat_lt, List, [], ◌∷◌, ◌++◌, map, length, get_or, refl, sym, ◌∙◌, ap, arith, subst, ◌≢◌, set, below_more, get_or-set_other, get_or-set_same, append-nil, length-append}
+use Rattle.std.proofs.Common.{◌≡◌, ◌⊎◌, inl, inr, ℕ, ◌+◌, ◌-◌, ◌*◌, ◌/◌, ◌%◌, ◌^◌, ◌<◌, ◌≤◌, Bool, true, false, nat_eq, nat_lt, List, [], ◌∷◌, ◌++◌, map, length, get_or, refl, sym, ◌∙◌, ap, arith, subst, ◌≢◌, set, below_more, get_or-set_other, get_or-set_same, append-nil, append_assoc, take}
 use Rattle.std.specs.Int.{bit_at}
 use Rattle.std.specs.Int.RustNames.{bit_or}
 use Rattle.std.specs.Int.Bits.{or_shifted_r}
 use Rattle.std.proofs.lemmas.Bool.{ltb-true, ltb-false, le-ltb}
 use Rattle.std.proofs.Math.Nat.{mod-eq_of_lt, div-div-eq-div-mul, mul-le-mul_right, mul-div_cancel}
-use Rattle.std.proofs.lemmas.List.{length-map}
+use Rattle.std.proofs.lemmas.List.{length-map, take_all, take_more_set}
 use Rattle.dm_layout.specs.Sizes.{SizeRow, regions_across, codeword_count}
 use Rattle.dm_layout.proofs.TableRows.{row_facts}
 use Rattle.dm_layout.proofs.SymbolLines.{lies_inside}
@@ -241,17 +241,20 @@ lines_more grid rows line x count small old new r c l lc =
 mapped-length : (f : Shape → ℕ) (ss : List Shape) → length (map f ss) ≡ length ss
 mapped-length f ss = simp length-map
 
--- there is room for one more codeword
-pub push_room : (f : Shape → ℕ) (items : List ℕ) (ss rest all : List Shape) (s : Shape) → ss ≡ s ∷ rest → items ++ map f ss ≡ map f all → length items < length (map f all)
-push_room f items ss rest all s e h =
-    let k : length (items ++ map f (s ∷ rest)) ≡ length (map f all) = ap length (ap (λ (t : List Shape). items ++ map f t) (sym e) ∙ h) in
-    let m = length-append items (map f (s ∷ rest)) in
-    let b = mapped-length f (s ∷ rest) in
-    omega (arith, k, m, b)
+-- one more codeword is put behind those that are read
+pub read_more : (f : Shape → ℕ) (list : List ℕ) (i x : ℕ) (ss rest all : List Shape) (s : Shape) → i < length list → x ≡ f s → ss ≡ s ∷ rest → take i list ++ map f ss ≡ map f all →
+    take (i + 1) (set list i x) ++ map f rest ≡ map f all
+read_more f list i x ss rest all s l e g h =
+    ap (λ (ws : List ℕ). ws ++ map f rest) (take_more_set list i x l)
+    ∙ append_assoc (take i list) (x ∷ []) (map f rest)
+    ∙ ap (λ (w : ℕ). take i list ++ w ∷ map f rest) e
+    ∙ ap (λ (t : List Shape). take i list ++ map f t) (sym g)
+    ∙ h
 
 -- at the end all are read
-pub all_read : (f : Shape → ℕ) (items : List ℕ) (ss all : List Shape) → ss ≡ [] → items ++ map f ss ≡ map f all → items ≡ map f all
-all_read f items ss all e h = sym (append-nil items) ∙ ap (λ (t : List Shape). items ++ map f t) (sym e) ∙ h
+pub all_read : (f : Shape → ℕ) (list : List ℕ) (i : ℕ) (ss all : List Shape) → length list ≤ i → ss ≡ [] → take i list ++ map f ss ≡ map f all → list ≡ map f all
+all_read f list i ss all l e h =
+    sym (take_all i list l) ∙ sym (append-nil (take i list)) ∙ ap (λ (t : List Shape). take i list ++ map f t) (sym e) ∙ h
 
 -- as many codewords as the size has
 pub as_many : (grid : GridView) (f : Shape → ℕ) → IsGrid grid → length (map f (shapes grid.size.mapping)) ≡ codeword_count grid.size

@@ -1,6 +1,7 @@
 pub mod TableRows
 pub mod Pointwise
 pub mod FirstItem
+pub mod KeptWords
 pub mod Moves
 pub mod CellTables
 pub mod OnePlace

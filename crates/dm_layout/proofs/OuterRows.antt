@@ -8,15 +8,13 @@ use Rattle.std.proofs.Math.Bool.{or-false}
 use Rattle.std.proofs.Math.Nat.{mod-eq_of_lt, mul-le-mul_right, mul-le-mul}
 use Rattle.std.proofs.Math.Pow.{pow_pos, pow_mono}
 use Rattle.std.proofs.lemmas.Bool.{eqb-true, eqb-false, ltb-true, ltb-false}
-use Rattle.std.proofs.lemmas.List.{length-set}
-use Rattle.std.proofs.lemmas.List.Elements.{All-get_or, All-set}
 use Rattle.std.proofs.lemmas.Nat.{pow-add, mul-add-lt, div-mul-add, mod-mul-add, pow_below, or_lt}
 use Rattle.std.proofs.lemmas.Nat.Bits.{bit_at_cat_low, bit_at_cat_high, bit_at-lt, bit_at_or, bit_at_above}
 use Rattle.dm_layout.specs.Sizes.{SizeRow}
 use Rattle.dm_layout.specs.Border.{symbol_line}
 use Rattle.dm_layout.specs.Grid.{is_dark_in, cell_at, kept_grid, IsKept}
 use Rattle.dm_layout.proofs.InnerRows.{moved_bit}
-use Rattle.dm_layout.proofs.PackedRows.{weight, front_cell, cell_of_kept}
+use Rattle.dm_layout.proofs.PackedRows.{weight, front_cell, cell_of_kept, kept_set, kept_narrow}
 use Rattle.dm_layout.proofs.SymbolLines.{symbol_line-form, region_below}
 
 -- ---- rows in which cells are made dark
@@ -38,15 +36,7 @@ or_dark a b c = ap (λ (i : ℕ). nat_eq i 1) (bit_at_or a b c) ∙ max_one (bit
 -- a row of a kept grid may be laid over by one of no more columns
 pub kept_or : (size : SizeRow) (rows : List ℕ) (row cells : ℕ) → IsKept size rows → row < size.side → cells < 2 ^ size.side → IsKept size (set rows row (bit_or (get_or rows row 0) cells))
 kept_or size rows row cells kept l narrow =
-    let inside : row < length rows = omega (arith, kept.fits, kept.height) in
-    record {
-      row = kept.row;
-      fits = kept.fits;
-      height = length-set rows row _ ∙ kept.height;
-      width =
-          All-set (λ (x : ℕ). x < 2 ^ size.side) rows row (bit_or (get_or rows row 0) cells)
-          (or_lt size.side (get_or rows row 0) cells (All-get_or (λ (x : ℕ). x < 2 ^ size.side) rows row 0 inside kept.width) narrow) kept.width;
-    }
+    kept_set size rows row (bit_or (get_or rows row 0) cells) kept l (or_lt size.side (get_or rows row 0) cells (kept_narrow size rows row kept l) narrow)
 
 -- its cells are then dark where they were or are in that row
 pub cell_or : (size : SizeRow) (rows : List ℕ) (row cells : ℕ) → IsKept size rows → row < size.side → (r c : ℕ) → r < size.side → c < size.side →

@@ -1,5 +1,5 @@
 -- A grid: the square of cells of a symbol, each dark or light.
-use Rattle.std.specs.Prelude.{◌≡◌, ℕ, ◌+◌, ◌*◌, ◌/◌, ◌%◌, ◌^◌, ◌<◌, ◌≤◌, Bool, false, List, [], map, length, nat_eq, get_or, set, All}
+use Rattle.std.specs.Prelude.{◌≡◌, ℕ, ◌+◌, ◌*◌, ◌/◌, ◌%◌, ◌^◌, ◌<◌, ◌≤◌, Bool, false, List, [], map, length, nat_eq, get_or, set, take, All}
 use Rattle.std.specs.List.{range_with_len}
 use Rattle.dm_layout.specs.Sizes.{SizeRow, IsRow, largest_side}
 
@@ -50,9 +50,9 @@ square_of_rows side rows = square_by side (λ row. is_dark_in (get_or rows row 0
 abbrev pub kept_grid : SizeRow → List ℕ → GridView
 kept_grid size rows = record { size = size; rows = square_of_rows size.side rows }
 
--- the size stands in the table, there are as many numbers as the largest side, and none has a bit from the side on
+-- the size stands in the table, there are as many numbers as the largest side, and none of those that count has a bit from the side on
 pub record IsKept (size : SizeRow) (rows : List ℕ) : Type 0 where
   pub row : IsRow size
   pub fits : size.side ≤ largest_side
   pub height : length rows ≡ largest_side
-  pub width : All (λ row. row < 2 ^ size.side) rows
+  pub width : All (λ row. row < 2 ^ size.side) (take size.side rows)

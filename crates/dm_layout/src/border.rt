@@ -128,14 +128,14 @@ impl Borders {
     }
 }
 
-/// The grid of a size with correct borders and fixed square and all other cells light.
-pub(crate) fn bordered(size: Size) -> Grid
-    ensures value { result ≡ empty_grid size }
-    ensures grid { IsGrid result }
+/// Makes it the grid of a size with correct borders and fixed square and all other cells light.
+pub(crate) fn draw_borders(grid: &mut Grid, size: Size)
+    ensures value { grid.new ≡ empty_grid size }
+    ensures grid { IsGrid grid.new }
 {
     let side = size.side();
     let borders = Borders::new(size);
-    let mut grid = Grid::light(size);
+    grid.begin(size);
     let mut inner = 0;
     for row in 0..side {
         grid.darken(row, borders.dark(inner));
@@ -145,7 +145,6 @@ pub(crate) fn bordered(size: Size) -> Grid
         grid.set_cell(side - 3, side - 3, true);
         grid.set_cell(side - 2, side - 2, true);
     }
-    grid
 }
 
 #[cfg(test)]

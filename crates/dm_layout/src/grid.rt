@@ -22,7 +22,7 @@ pub enum GridFault {
 /// on it being upright: the solid column at the left, the solid row at the bottom.
 ///
 /// Each row is kept as one number: the cell of column `c`, which counts from 0 at the left, is the bit of
-/// weight 2^c, 1 for dark. The bits from the side on are 0.
+/// weight 2^c, 1 for dark. The bits from the side on are 0, and the rows from the side on mean nothing.
 #[derive(Clone, Debug, Drop)]
 pub struct Grid {
     size: Size,
@@ -97,6 +97,18 @@ impl Grid {
         Grid {
             size,
             rows: [0; LARGEST_SIDE],
+        }
+    }
+
+    /// Makes it a grid of this size with all cells light.
+    pub(crate) fn begin(&mut self, size: Size)
+        ensures size { self.new.size ≡ size }
+        ensures grid { IsGrid self.new }
+        ensures light { IsLight self.new }
+    {
+        self.size = size;
+        for row in 0..size.side() {
+            self.rows[row as usize] = 0;
         }
     }
 

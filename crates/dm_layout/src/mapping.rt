@@ -10,7 +10,7 @@ ghost use Rattle.dm_layout.specs.Holds.{bit_of};
 ghost use Rattle.dm_layout.specs.declared.shape.Cell.{Cell};
 ghost use Rattle.dm_layout.specs.Walking.{AnchorInside, CellsInside, largest_mapping};
 
-use crate::border::bordered;
+use crate::border::draw_borders;
 use crate::grid::Grid;
 use crate::order::Shapes;
 use crate::shape::{Cell, LARGEST_MAPPING, Shape};
@@ -226,20 +226,19 @@ fn outer_row(inner: u128, region_side: u16, across: u16) -> u128
     outer
 }
 
-/// The grid with these rows of the mapping square, correct borders and the fixed square.
-pub(crate) fn grid_of_rows(size: Size, rows: &[u128; LARGEST_MAPPING]) -> Grid
-    ensures size { result.size ≡ size }
-    ensures grid { IsGrid result }
-    ensures border { (u v : ℕ) → u < size.side → v < size.side → is_border size u v ≡ true → cell_at result u v ≡ border_is_dark size u v }
-    ensures mapped { (r c : ℕ) → r < size.mapping → c < size.mapping → mapped_cell result r c ≡ (is_fixed_dark size.mapping r c || look_in rows.now r c) }
+/// Makes it the grid with these rows of the mapping square, correct borders and the fixed square.
+pub(crate) fn draw_rows(grid: &mut Grid, size: Size, rows: &[u128; LARGEST_MAPPING])
+    ensures size { grid.new.size ≡ size }
+    ensures grid { IsGrid grid.new }
+    ensures border { (u v : ℕ) → u < size.side → v < size.side → is_border size u v ≡ true → cell_at grid.new u v ≡ border_is_dark size u v }
+    ensures mapped { (r c : ℕ) → r < size.mapping → c < size.mapping → mapped_cell grid.new r c ≡ (is_fixed_dark size.mapping r c || look_in rows.now r c) }
 {
     let region_side = size.region_side();
     let mapping = size.mapping();
     let across = mapping / region_side;
-    let mut grid = bordered(size);
+    draw_borders(grid, size);
     for line in 0..mapping {
         let cells = outer_row(rows[line as usize], region_side, across);
         grid.darken(line + 2 * (line / region_side) + 1, cells);
     }
-    grid
 }

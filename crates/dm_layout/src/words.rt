@@ -1,29 +1,29 @@
 //! The codewords of a symbol.
 
-ghost use Rattle.std.specs.Prelude.{◌≡◌, ◌<◌, length, set};
-ghost use Rattle.dm_layout.specs.Sizes.{codeword_count};
+ghost use Rattle.std.specs.Prelude.{◌≡◌, ◌<◌, ◌≤◌, length, set};
+ghost use Rattle.dm_layout.specs.Sizes.{codeword_count, most_codewords};
 ghost use Rattle.dm_layout.specs.Words.{WordsView, IsWords, data_of};
 
 use crate::size::{MOST_CODEWORDS, Size};
-use arrayvec::ArrayVec;
 use std::marker::Model;
 
 /// The codewords of a symbol of some [`Size`]: exactly its data codewords and then its check codewords,
-/// in the order in which they are placed.
+/// in the order in which they are placed. They stand at the front of a place for the most codewords; what
+/// stands behind them means nothing.
 #[derive(Clone, Debug, Drop)]
 pub struct Words {
     size: Size,
-    list: ArrayVec<u8, MOST_CODEWORDS>,
+    kept: [u8; MOST_CODEWORDS],
 }
 
 impl Model for Words {
-    ghost use Rattle.dm_layout.specs.Words.{WordsView, IsWords};
+    ghost use Rattle.dm_layout.specs.Words.{WordsView, kept_words, AreKept};
 
     ghost Value = { WordsView };
 
-    ghost view = { λ w. record { size = w.size; list = w.list.items } };
+    ghost view = { λ w. kept_words w.size w.kept };
 
-    ghost invariant = { λ w. IsWords (record { size = w.size; list = w.list.items }) };
+    ghost invariant = { λ w. AreKept w.size w.kept };
 }
 
 impl Words {
@@ -37,11 +37,44 @@ impl Words {
         // That they fit is known from the size's methods.
         let _checks = size.check_count();
         let _side = size.side();
-        let mut words = ArrayVec::new();
-        for word in list {
-            words.push(*word);
+        let mut kept = [0; MOST_CODEWORDS];
+        for (i, word) in list.iter().enumerate() {
+            kept[i] = *word;
         }
-        Words { size, list: words }
+        Words { size, kept }
+    }
+
+    /// Codewords of this size, all of them 0.
+    pub(crate) fn zeros(size: Size) -> Words
+        ensures size { result.size ≡ size }
+        ensures words { IsWords result }
+    {
+        // That they fit is known from the size's methods.
+        let _checks = size.check_count();
+        let _side = size.side();
+        Words {
+            size,
+            kept: [0; MOST_CODEWORDS],
+        }
+    }
+
+    /// Makes them codewords of this size, which may be anything.
+    pub(crate) fn begin(&mut self, size: Size)
+        ensures size { self.new.size ≡ size }
+        ensures words { IsWords self.new }
+    {
+        // That they fit is known from the size's methods.
+        let _checks = size.check_count();
+        let _side = size.side();
+        self.size = size;
+    }
+
+    /// How many codewords there are.
+    fn count(&self) -> usize
+        ensures value { result ≡ codeword_count self.now.size }
+        ensures fits { result ≤ most_codewords }
+    {
+        (self.size.data_count() + self.size.check_count()) as usize
     }
 
     /// The size of the symbol.
@@ -57,7 +90,7 @@ impl Words {
         ensures value { result.now ≡ self.now.list }
         ensures words { IsWords self.now }
     {
-        self.list.as_slice()
+        &self.kept[..self.count()]
     }
 
     /// The data codewords.
@@ -65,7 +98,7 @@ impl Words {
         ensures value { result.now ≡ data_of self.now }
         ensures words { IsWords self.now }
     {
-        &self.list.as_slice()[..self.size.data_count() as usize]
+        &self.kept[..self.size.data_count() as usize]
     }
 
     /// Puts a codeword at a place, counted from 0.
@@ -74,7 +107,7 @@ impl Words {
         ensures value { self.new ≡ record { size = self.old.size; list = set self.old.list place word } }
         ensures words { IsWords self.new }
     {
-        self.list.as_mut_slice()[place] = word;
+        self.kept[place] = word;
     }
 }
 

@@ -1,5 +1,5 @@
 use Rattle.std.proofs.Common.{ℕ, ◌∙◌, replicate, arith, ◌<◌, ◌^◌, refl}
-use Rattle.std.proofs.lemmas.List.Elements.{All-replicate}
+use Rattle.std.proofs.lemmas.List.Elements.{All-replicate, All-take}
 use Rattle.std.proofs.lemmas.Nat.{pow_pos}
 use Rattle.dm_layout.specs.Sizes.{largest_side}
 use Rattle.dm_layout.proofs.PackedRows.{cell_of_kept, grid_of_kept, none_dark}
@@ -10,7 +10,7 @@ invariant_of-result c = record {
   row = c.side-side.ensures.row;
   fits = c.side-side.ensures.most;
   height = refl;
-  width = All-replicate (λ (row : ℕ). row < 2 ^ c.args.size.side) largest_side 0 (pow_pos c.args.size.side);
+  width = All-take (λ (row : ℕ). row < 2 ^ c.args.size.side) c.args.size.side (replicate largest_side 0) (All-replicate (λ (row : ℕ). row < 2 ^ c.args.size.side) largest_side 0 (pow_pos c.args.size.side));
 }
 
 pub returns-clause-grid : goal.returns-clause-grid

@@ -1,5 +1,11 @@
-use Rattle.std.proofs.Common.{◌≡◌, take}
+use Rattle.std.proofs.Common.{◌≡◌, ◌<◌, take, length}
+use Rattle.std.specs.Prelude.{All}
+use Rattle.dm_layout.specs.Sizes.{most_codewords}
 use Rattle.dm_layout.proofs.words.Words.new.Given as goal
 
-abbrev pub invariant-loop-word : goal.invariant-loop-word
-invariant-loop-word l = l.words.items ≡ take l.word-index l.list
+abbrev pub invariant-loop-i : goal.invariant-loop-i
+invariant-loop-i l = record {
+  count : length l.kept ≡ most_codewords;
+  bytes : All (λ word. word < 256) l.kept;
+  so_far : take l.i l.kept ≡ take l.i l.list;
+}

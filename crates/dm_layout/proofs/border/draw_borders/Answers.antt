@@ -5,14 +5,14 @@ use Rattle.dm_layout.specs.Border.{is_border, border_is_dark, is_on_edge, edge_i
 use Rattle.dm_layout.proofs.EmptyGrid.{IsBordered, drawn_above_more, none_above, all_above, empty_without, empty_with}
 use Rattle.dm_layout.proofs.BorderMasks.{row_below}
 use Rattle.dm_layout.proofs.GridLemmas.{grid_of_square}
-use Rattle.dm_layout.proofs.border.bordered.Goals as goal
+use Rattle.dm_layout.proofs.border.draw_borders.Goals as goal
 
 pub loop-row-init : goal.loop-row-init
 loop-row-init c =
-    let light = subst (λ (s : SizeRow). (r q : ℕ) → r < s.side → q < s.side → cell_at c.light-grid.result r q ≡ false) c.light-grid.ensures.size c.light-grid.ensures.light in
+    let light = subst (λ (s : SizeRow). (r q : ℕ) → r < s.side → q < s.side → cell_at c.begin.new.self r q ≡ false) c.begin.ensures.size c.begin.ensures.light in
     record {
-      grid = c.light-grid.ensures.grid;
-      size = c.light-grid.ensures.size;
+      grid = c.begin.ensures.grid;
+      size = c.begin.ensures.size;
       cells = λ row column below inside. light row column below inside ∙ none_above row (is_border c.args.size row column) (border_is_dark c.args.size row column);
       place = omega arith;
     }

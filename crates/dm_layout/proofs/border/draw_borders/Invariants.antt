@@ -1,7 +1,7 @@
 use Rattle.std.proofs.Common.{◌≡◌, ℕ, ◌+◌, ◌%◌, ◌<◌, ◌&&◌, nat_lt}
 use Rattle.dm_layout.specs.Grid.{IsGrid, cell_at}
 use Rattle.dm_layout.specs.Border.{is_border, border_is_dark}
-use Rattle.dm_layout.proofs.border.bordered.Given as goal
+use Rattle.dm_layout.proofs.border.draw_borders.Given as goal
 
 abbrev pub invariant-loop-row : goal.invariant-loop-row
 invariant-loop-row l = record {

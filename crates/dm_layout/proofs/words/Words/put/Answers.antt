@@ -1,0 +1,12 @@
+use Rattle.std.proofs.Common.{◌<◌, ℕ, List, length, ap, subst, sym, length-take, arith}
+use Rattle.std.proofs.Math.Seq.{take-set-lt}
+use Rattle.dm_layout.specs.Sizes.{codeword_count}
+use Rattle.dm_layout.specs.Words.{WordsView}
+use Rattle.dm_layout.proofs.words.Words.put.Goals as goal
+
+pub returns-clause-value : goal.returns-clause-value
+returns-clause-value c =
+    let n : ℕ = codeword_count c.self.inside.size in
+    let l = subst (λ (w : WordsView). c.args.place < length w.list) (sym c.self.view_is) c.requires in
+    let k = length-take n c.self.inside.kept in
+    rw (← c.self.view_is) (ap (λ (ws : List ℕ). record { size = c.self.inside.size; list = ws }) (take-set-lt n c.self.inside.kept c.args.place c.args.word (omega (arith, l, k))))

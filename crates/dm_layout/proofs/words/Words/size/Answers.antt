@@ -1,4 +1,0 @@
-use Rattle.dm_layout.proofs.words.Words.size.Goals as goal
-
-pub returns-clause-words : goal.returns-clause-words
-returns-clause-words c = rw (← c.self.view_is) c.self.invariant
