@@ -2,17 +2,20 @@
 ghost use Rattle.std.specs.Prelude.{◌≡◌, ◌<◌, ◌≤◌, ◌+◌, ◌∷◌, ◌++◌, [], length};
 ghost use Rattle.dm_tool.specs.Answers.{AnswersRecords, IsCheckAnswer, IsNormalAnswer, IsReadAnswer, IsRecordAnswer, IsWriteAnswer, blank_refusal_answer, check_text, grid_answer, limit_for, line_answer, refusal_answer};
 ghost use Rattle.dm_tool.specs.Spellings.{text_of};
+ghost use Rattle.dm_tool.specs.Refusals.{line_refusal, normal_refusal, read_refusal, record_refusal, too_long_refusal};
 
-use crate::message_line::{LineFault, message_text};
+use crate::message_line::{LineFault, push_items};
 use crate::printed::{AnswerText, MOST_ANSWER, push_all, push_decimal, push_grid, push_spaced};
 use crate::record::RecordFault;
 use crate::refusal::{
-    line_refusal, normal_refusal, read_refusal, record_refusal, too_long_refusal,
+    push_line_refusal, push_normal_refusal, push_read_refusal, push_record_refusal,
+    push_too_long_refusal,
 };
 use crate::task::Task;
 use arrayvec::ArrayVec;
 use dm_symbol::{
-    Grid, MOST_BLOCKS, Message, Profile, Reading, normal_as, read, usual_limit, write_as,
+    Grid, MOST_BLOCKS, Message, NormalFault, Profile, ReadFault, Reading, TooLong, normal_as, read,
+    usual_limit, write_as,
 };
 use std::marker::Model;
 
@@ -40,33 +43,75 @@ impl Answer {
         }
     }
 
-    /// Becomes a line, which has no LF yet.
-    fn be_line(&mut self, line: &[u8])
-        requires { length line.now < MOST_ANSWER }
-        ensures { self.new ≡ line_answer line.now }
+    /// Becomes the text of a message, as a line.
+    fn be_message(&mut self, message: &Message)
+        ensures { self.new ≡ line_answer (text_of message.now) }
     {
         self.begin(false);
-        push_all(&mut self.text, line);
+        push_items(&mut self.text, message.items());
         push_all(&mut self.text, b"\n");
     }
 
-    /// Becomes a refusal.
-    fn be_refusal(&mut self, refusal: &[u8])
-        requires { length refusal.now < MOST_ANSWER }
-        ensures { self.new ≡ refusal_answer refusal.now }
+    /// Becomes a line that says how damaged a grid of this side is.
+    fn be_counts(&mut self, side: u16, reading: &Reading)
+        ensures { self.new ≡ line_answer (check_text side reading.now) }
     {
-        self.begin(true);
-        push_all(&mut self.text, refusal);
+        self.begin(false);
+        push_counts(&mut self.text, side, reading);
         push_all(&mut self.text, b"\n");
     }
 
-    /// Becomes a refusal, and an empty line.
-    fn be_blank_refusal(&mut self, refusal: &[u8])
-        requires { length refusal.now + 1 < MOST_ANSWER }
-        ensures { self.new ≡ blank_refusal_answer refusal.now }
+    /// Becomes the refusal of a record.
+    fn refuse_record(&mut self, fault: RecordFault)
+        ensures { self.new ≡ refusal_answer (record_refusal fault) }
     {
         self.begin(true);
-        push_all(&mut self.text, refusal);
+        push_record_refusal(&mut self.text, fault);
+        push_all(&mut self.text, b"\n");
+    }
+
+    /// Becomes the refusal of a grid that is not read.
+    fn refuse_reading(&mut self, fault: ReadFault)
+        ensures { self.new ≡ refusal_answer (read_refusal fault) }
+    {
+        self.begin(true);
+        push_read_refusal(&mut self.text, fault);
+        push_all(&mut self.text, b"\n");
+    }
+
+    /// Becomes the refusal of a record, and an empty line.
+    fn refuse_record_for_grid(&mut self, fault: RecordFault)
+        ensures { self.new ≡ blank_refusal_answer (record_refusal fault) }
+    {
+        self.begin(true);
+        push_record_refusal(&mut self.text, fault);
+        push_all(&mut self.text, b"\n\n");
+    }
+
+    /// Becomes the refusal of a grid that has no normal grid, and an empty line.
+    fn refuse_normal(&mut self, fault: NormalFault)
+        ensures { self.new ≡ blank_refusal_answer (normal_refusal fault) }
+    {
+        self.begin(true);
+        push_normal_refusal(&mut self.text, fault);
+        push_all(&mut self.text, b"\n\n");
+    }
+
+    /// Becomes the refusal of a line, and an empty line.
+    fn refuse_line(&mut self, fault: LineFault)
+        ensures { self.new ≡ blank_refusal_answer (line_refusal fault) }
+    {
+        self.begin(true);
+        push_line_refusal(&mut self.text, fault);
+        push_all(&mut self.text, b"\n\n");
+    }
+
+    /// Becomes the refusal of a message that fits no size, and an empty line.
+    fn refuse_too_long(&mut self)
+        ensures { self.new ≡ blank_refusal_answer too_long_refusal }
+    {
+        self.begin(true);
+        push_too_long_refusal(&mut self.text);
         push_all(&mut self.text, b"\n\n");
     }
 
@@ -126,9 +171,9 @@ pub(crate) fn answer_line(profile: Profile, line: &Result<Message, LineFault>, a
     match line {
         Ok(message) => match write_as(profile, message) {
             Ok(grid) => answer.be_grid(&grid),
-            Err(_) => answer.be_blank_refusal(too_long_refusal().as_slice()),
+            Err(TooLong) => answer.refuse_too_long(),
         },
-        Err(fault) => answer.be_blank_refusal(line_refusal(*fault).as_slice()),
+        Err(fault) => answer.refuse_line(*fault),
     }
 }
 
@@ -138,10 +183,10 @@ fn answer_read(border: Option<u16>, found: &Result<Grid, RecordFault>, answer: &
 {
     match found {
         Ok(grid) => match read(grid, limit_for(border, grid)) {
-            Ok(reading) => answer.be_line(message_text(&reading.message).as_slice()),
-            Err(fault) => answer.be_refusal(read_refusal(fault).as_slice()),
+            Ok(reading) => answer.be_message(&reading.message),
+            Err(fault) => answer.refuse_reading(fault),
         },
-        Err(fault) => answer.be_refusal(record_refusal(*fault).as_slice()),
+        Err(fault) => answer.refuse_record(*fault),
     }
 }
 
@@ -151,10 +196,10 @@ fn answer_check(border: Option<u16>, found: &Result<Grid, RecordFault>, answer: 
 {
     match found {
         Ok(grid) => match read(grid, limit_for(border, grid)) {
-            Ok(reading) => answer.be_line(check_text(grid.size().side(), &reading).as_slice()),
-            Err(fault) => answer.be_refusal(read_refusal(fault).as_slice()),
+            Ok(reading) => answer.be_counts(grid.size().side(), &reading),
+            Err(fault) => answer.refuse_reading(fault),
         },
-        Err(fault) => answer.be_refusal(record_refusal(*fault).as_slice()),
+        Err(fault) => answer.refuse_record(*fault),
     }
 }
 
@@ -170,9 +215,9 @@ fn answer_normal(
     match found {
         Ok(grid) => match normal_as(profile, grid, limit_for(border, grid)) {
             Ok(normal) => answer.be_grid(&normal),
-            Err(fault) => answer.be_blank_refusal(normal_refusal(fault).as_slice()),
+            Err(fault) => answer.refuse_normal(fault),
         },
-        Err(fault) => answer.be_blank_refusal(record_refusal(*fault).as_slice()),
+        Err(fault) => answer.refuse_record_for_grid(*fault),
     }
 }
 
@@ -186,22 +231,22 @@ fn limit_for(border: Option<u16>, grid: &Grid) -> u16
     }
 }
 
+/// Appends how damaged a grid of this side is, where there is room for the most.
+fn push_counts(text: &mut AnswerText, side: u16, reading: &Reading)
+    requires { length text.old.items + MOST_COUNTS ≤ MOST_ANSWER }
+    ensures text { text.new.items ≡ text.old.items ++ check_text side reading.now }
+    ensures room { length text.new.items ≤ length text.old.items + MOST_COUNTS }
+{
+    push_all(text, b"ok ");
+    push_decimal(text, u64::from(side));
+    push_all(text, b" border ");
+    push_decimal(text, u64::from(reading.border_faults));
+    push_all(text, b" corrected ");
+    push_spaced(text, &widened(&reading.corrected));
+}
+
 /// More bytes than a line of counts has.
 const MOST_COUNTS: usize = 160;
-
-/// How damaged a grid of this side is.
-fn check_text(side: u16, reading: &Reading) -> ArrayVec<u8, MOST_COUNTS>
-    ensures { result.items ≡ check_text side reading.now }
-{
-    let mut text = ArrayVec::new();
-    push_all(&mut text, b"ok ");
-    push_decimal(&mut text, u64::from(side));
-    push_all(&mut text, b" border ");
-    push_decimal(&mut text, u64::from(reading.border_faults));
-    push_all(&mut text, b" corrected ");
-    push_spaced(&mut text, &widened(&reading.corrected));
-    text
-}
 
 /// Few numbers, each in more bits.
 fn widened(counts: &ArrayVec<u8, MOST_BLOCKS>) -> ArrayVec<u16, MOST_BLOCKS>

@@ -43,15 +43,25 @@ pub fn message_text(message: &Message) -> ArrayVec<u8, MOST_TEXT>
     ensures { result.items ≡ text_of message.now }
 {
     let mut text = ArrayVec::new();
-    for item in message.items() {
-        spell(&mut text, *item);
-    }
+    push_items(&mut text, message.items());
     text
 }
 
+/// Appends the text of a message with these items.
+pub(crate) fn push_items<const N: usize>(text: &mut ArrayVec<u8, N>, items: &[Item])
+    requires { length text.old.items + 4 * length items.now ≤ N }
+    ensures text { text.new.items ≡ text.old.items ++ text_of items.now }
+    ensures room { length text.new.items ≤ length text.old.items + 4 * length items.now }
+{
+    for item in items {
+        spell(text, *item);
+    }
+}
+
 /// Appends how an item is written.
-fn spell(text: &mut ArrayVec<u8, MOST_TEXT>, item: Item)
-    requires { length text.old.items + 4 ≤ MOST_TEXT }
+#[inline]
+fn spell<const N: usize>(text: &mut ArrayVec<u8, N>, item: Item)
+    requires { length text.old.items + 4 ≤ N }
     ensures text { text.new.items ≡ text.old.items ++ spelled item }
     ensures room { length text.new.items ≤ length text.old.items + 4 }
 {
