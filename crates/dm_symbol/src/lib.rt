@@ -10,6 +10,7 @@ mod inspection;
 pub mod laws;
 mod limit;
 mod normalising;
+mod place;
 mod reading;
 mod writing;
 
@@ -17,9 +18,10 @@ pub use dm_layout::{Grid, GridFault, LARGEST_SIDE, MOST_BLOCKS, Size, Words, tab
 pub use dm_words::{Item, MOST_ITEMS, Message, Profile, TooLong, WordFault};
 pub use inspection::{Inspection, inspect};
 pub use limit::usual_limit;
-pub use normalising::{NormalFault, normal, normal_as};
-pub use reading::{ReadFault, Reading, read};
-pub use writing::{write, write_as};
+pub use normalising::{NormalFault, normal, normal_as, normal_to};
+pub use place::light_grid;
+pub use reading::{ReadFault, Reading, read, read_to};
+pub use writing::{write, write_as, write_to};
 
 #[cfg(test)]
 mod tests;

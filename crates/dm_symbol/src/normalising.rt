@@ -1,9 +1,13 @@
 //! The normal grid of what a grid says.
 
+ghost use Rattle.std.specs.Prelude.{OnOk};
+ghost use Rattle.dm_words.specs.Places.{outcome};
+ghost use Rattle.dm_symbol.specs.Reading.{ReadAnswer};
 ghost use Rattle.dm_symbol.specs.Normal.{IsNormalised};
 
-use crate::reading::{ReadFault, read};
-use crate::writing::write_as;
+use crate::place::light_grid;
+use crate::reading::{ReadFault, Reading, read_to};
+use crate::writing::write_to;
 use dm_layout::Grid;
 use dm_words::{Profile, TooLong};
 
@@ -25,16 +29,36 @@ pub fn normal(grid: &Grid, border_limit: u16) -> Result<Grid, NormalFault>
 
 /// The normal grid under a profile of the message that the grid says, whatever size, encodation and damage it came with. Two grids
 /// that are read have equal normal grids under one profile exactly where they say the same, and a normal grid is its own. `Read`
-/// comes where [`read`] refuses, with its fault, and `TooLong` where [`write_as`] refuses the message under this profile.
+/// comes where [`read`](crate::read()) refuses, with its fault, and `TooLong` where [`write_as`](crate::write_as()) refuses the message under this profile.
 pub fn normal_as(profile: Profile, grid: &Grid, border_limit: u16) -> Result<Grid, NormalFault>
     ensures { IsNormalised profile grid.now border_limit result }
 {
-    let reading = match read(grid, border_limit) {
-        Ok(reading) => reading,
+    let mut reading = Reading::new();
+    let mut normal = light_grid();
+    match normal_to(profile, grid, border_limit, &mut reading, &mut normal) {
+        Ok(()) => Ok(normal),
+        Err(fault) => Err(fault),
+    }
+}
+
+/// Does the same as [`normal_as`] in places: where it answers `Ok`, the normal grid stands in `normal` and what the grid says in
+/// `reading`, whatever stood there before. After a fault the places hold some reading and some grid.
+pub fn normal_to(
+    profile: Profile,
+    grid: &Grid,
+    border_limit: u16,
+    reading: &mut Reading,
+    normal: &mut Grid,
+) -> Result<(), NormalFault>
+    ensures normal { IsNormalised profile grid.now border_limit (outcome result normal.new) }
+    ensures reading { OnOk result (ReadAnswer grid.now border_limit (Ok reading.new)) }
+{
+    match read_to(grid, border_limit, reading) {
+        Ok(()) => {}
         Err(fault) => return Err(NormalFault::Read(fault)),
-    };
-    match write_as(profile, &reading.message) {
-        Ok(normal) => Ok(normal),
+    }
+    match write_to(profile, &reading.message, normal) {
+        Ok(()) => Ok(()),
         Err(TooLong) => Err(NormalFault::TooLong),
     }
 }

@@ -1,15 +1,16 @@
 //! Reading: the message of a grid.
 
-ghost use Rattle.std.specs.Prelude.{◌≡◌, ◌<◌, ◌↔◌, ℕ, List, IfOk, IfErr};
+ghost use Rattle.std.specs.Prelude.{◌≡◌, ◌<◌, ◌↔◌, ℕ, List, [], OnOk, IfErr};
 ghost use Rattle.dm_words.specs.declared.item.Item.{Item};
 ghost use Rattle.dm_layout.specs.Border.{border_fault_count};
 ghost use Rattle.dm_symbol.specs.Blocks.{AreWordsOf, BlocksAreNear, distances};
-ghost use Rattle.dm_symbol.specs.Reading.{Reads, ReadAnswer, IsReadAs, IsFirstBeyond};
+ghost use Rattle.dm_words.specs.Places.{outcome};
+ghost use Rattle.dm_symbol.specs.Reading.{Reads, ReadAnswer, IsReadAs, IsFirstBeyond, reading_of};
 
 use arrayvec::ArrayVec;
 use dm_code::{BeyondLimit, Quick, correct};
 use dm_layout::{Grid, MOST_BLOCKS, Words, block, border_faults, lift, put_block};
-use dm_words::{Message, WordFault, message_of};
+use dm_words::{Message, WordFault, message_to};
 
 /// What a grid says, and how much of it was wrong.
 #[derive(Clone, Debug, Drop, PartialEq, Eq)]
@@ -33,6 +34,19 @@ pub enum ReadFault {
     Words(WordFault),
 }
 
+impl Reading {
+    /// The reading of an empty message with nothing corrected: a place for [`read_to`].
+    pub fn new() -> Reading
+        ensures { result ≡ reading_of [] [] 0 }
+    {
+        Reading {
+            message: Message::new(),
+            corrected: ArrayVec::new(),
+            border_faults: 0,
+        }
+    }
+}
+
 /// Reads a grid (ISO/IEC 16022, decoding): looks whether more border cells than `border_limit` have the wrong colour, corrects the
 /// blocks in order, each up to half of its check codewords, and reads the data codewords. The first of these that fails gives the
 /// fault. The fixed square is not looked at, nor what follows the first pad. The grid is taken as upright; one with more damage may
@@ -42,39 +56,50 @@ pub fn read(grid: &Grid, border_limit: u16) -> Result<Reading, ReadFault>
     ensures message { (m : List Item) → IsReadAs result m ↔ Reads grid.now border_limit m }
     ensures border { (count : ℕ) → (result ≡ Err (ReadFault.Border count)) ↔ ((border_limit < border_fault_count grid.now) × (count ≡ border_fault_count grid.now)) }
 {
+    let mut reading = Reading::new();
+    match read_to(grid, border_limit, &mut reading) {
+        Ok(()) => Ok(reading),
+        Err(fault) => Err(fault),
+    }
+}
+
+/// Does the same as [`read`] in a place: where it answers `Ok`, the reading stands there, whatever stood there before. After a fault
+/// the place holds some reading. One place serves for any number of grids, and a small symbol pays nothing for the room of the largest.
+pub fn read_to(grid: &Grid, border_limit: u16, reading: &mut Reading) -> Result<(), ReadFault>
+    ensures answer { ReadAnswer grid.now border_limit (outcome result reading.new) }
+    ensures message { (m : List Item) → IsReadAs (outcome result reading.new) m ↔ Reads grid.now border_limit m }
+    ensures border { (count : ℕ) → (outcome result reading.new ≡ Err (ReadFault.Border count)) ↔ ((border_limit < border_fault_count grid.now) × (count ≡ border_fault_count grid.now)) }
+{
     let border_faults = border_faults(grid);
     if border_faults > border_limit {
         return Err(ReadFault::Border(border_faults));
     }
+    reading.border_faults = border_faults;
     let mut words = lift(grid);
-    let corrected = match correct_blocks(&mut words) {
-        Ok(corrected) => corrected,
+    match correct_blocks(&mut words, &mut reading.corrected) {
+        Ok(()) => {}
         Err(b) => return Err(ReadFault::Block(b)),
-    };
-    match message_of(words.data_part()) {
-        Ok(message) => Ok(Reading {
-            message,
-            corrected,
-            border_faults,
-        }),
+    }
+    match message_to(words.data_part(), &mut reading.message) {
+        Ok(()) => Ok(()),
         Err(fault) => Err(ReadFault::Words(fault)),
     }
 }
 
-/// Puts the codeword near each block in its place, and gives the number of codewords that this changes in each; or the first block
-/// that no codeword is near.
+/// Puts the codeword near each block in its place, and leaves in `counts` the number of codewords that this changes in each; or gives
+/// the first block that no codeword is near.
 // The words of a block stand in a frame of their own, beside that in which the message is read.
 #[inline(never)]
-fn correct_blocks(words: &mut Words) -> Result<ArrayVec<u8, MOST_BLOCKS>, u8>
+fn correct_blocks(words: &mut Words, counts: &mut ArrayVec<u8, MOST_BLOCKS>) -> Result<(), u8>
     ensures size { words.new.size ≡ words.old.size }
     ensures words { AreWordsOf words.old.size words.new.list }
-    ensures near { IfOk result (λ _. BlocksAreNear words.old.size words.old.list words.new.list) }
-    ensures counts { IfOk result (λ counts. counts.items ≡ distances words.old.size words.old.list words.new.list) }
+    ensures near { OnOk result (BlocksAreNear words.old.size words.old.list words.new.list) }
+    ensures counts { OnOk result (counts.new.items ≡ distances words.old.size words.old.list words.new.list) }
     ensures beyond { IfErr result (λ b. IsFirstBeyond words.old.size words.old.list b) }
 {
     let size = words.size();
     let checks = usize::from(size.block_check());
-    let mut counts = ArrayVec::new();
+    counts.clear();
     for b in 0..size.blocks() as u8 {
         let fixed = match correct(&Quick, &block(words, usize::from(b)), checks) {
             Ok(fixed) => fixed,
@@ -83,5 +108,5 @@ fn correct_blocks(words: &mut Words) -> Result<ArrayVec<u8, MOST_BLOCKS>, u8>
         put_block(words, usize::from(b), &fixed.word);
         counts.push(fixed.changed);
     }
-    Ok(counts)
+    Ok(())
 }

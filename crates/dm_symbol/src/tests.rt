@@ -301,3 +301,39 @@ fn ignores_the_fixed_square(rt: HostRuntime) {
         Err(ReadFault::Words(WordFault::Reserved(1)))
     );
 }
+
+/// One place after the other holds the answer to the last grid or message, whatever stood there before.
+#[test]
+fn answers_in_places(rt: HostRuntime) {
+    let mut reading = Reading::new();
+    let mut grid = light_grid();
+    let mut normal_grid = light_grid();
+    assert_eq!(rt; grid.size().side(), 10);
+    for count in [90, 3, 0, 40] {
+        let message = of_many(&rt, 200, count);
+        for profile in [Profile::Ascii, Profile::Shorter] {
+            assert!(rt; write_to(profile, &message, &mut grid).is_ok());
+            assert!(rt; is_grid(&write_as(profile, &message), &grid));
+            assert_eq!(rt; read_to(&grid, 0, &mut reading), Ok(()));
+            assert!(rt; reading.message == message);
+            assert_eq!(rt; reading.corrected.len(), usize::from(grid.size().blocks()));
+            assert!(rt; normal_to(profile, &grid, 0, &mut reading, &mut normal_grid).is_ok());
+            assert!(rt; same(&normal_grid, &grid));
+            assert!(rt; reading.message == message);
+        }
+    }
+    let wrong = grid_of(&rt, 12, &[0; 12]);
+    let fault = ReadFault::Words(WordFault::Reserved(1));
+    assert_eq!(rt; read_to(&wrong, 0, &mut reading), Err(fault));
+    assert_eq!(rt;
+        normal_to(Profile::Ascii, &wrong, 0, &mut reading, &mut grid),
+        Err(NormalFault::Read(fault))
+    );
+    let long = of_many(&rt, 200, 409);
+    assert!(rt; write_to(Profile::Ascii, &long, &mut grid).is_err());
+    assert!(rt; write_to(Profile::Shorter, &long, &mut grid).is_ok());
+    assert_eq!(rt;
+        normal_to(Profile::Ascii, &grid, 0, &mut reading, &mut normal_grid),
+        Err(NormalFault::TooLong)
+    );
+}

@@ -4,12 +4,14 @@ ghost use Rattle.std.specs.Prelude.{◌≡◌, ◌≢◌, ◌++◌, ◌<◌, ℕ
 ghost use Rattle.dm_code.specs.Codeword.{IsCodeword};
 ghost use Rattle.dm_layout.specs.Sizes.{codeword_count, block_check};
 ghost use Rattle.dm_symbol.specs.Blocks.{AreWordsOf, BlocksAreCodewords, block_at, data_part};
+ghost use Rattle.dm_words.specs.Places.{outcome};
 ghost use Rattle.dm_symbol.specs.NormalGrid.{IsWritten};
 
+use crate::place::light_grid;
 use arrayvec::ArrayVec;
 use dm_code::encode;
 use dm_layout::{Grid, MOST_CODEWORDS, Size, Words, block, lay, put_block};
-use dm_words::{Message, Profile, TooLong, normal_words, padded};
+use dm_words::{Message, Profile, TooLong, add_pads, normal_words_to};
 
 /// The normal grid of a message under [`Profile::Ascii`]: what [`write_as`] answers for that profile.
 pub fn write(message: &Message) -> Result<Grid, TooLong>
@@ -24,43 +26,57 @@ pub fn write(message: &Message) -> Result<Grid, TooLong>
 pub fn write_as(profile: Profile, message: &Message) -> Result<Grid, TooLong>
     ensures { IsWritten profile message.now result }
 {
-    let words = normal_words(profile, message)?;
-    let Some(size) = Size::for_words(words.len() as u16) else {
-        return Err(TooLong);
-    };
-    Ok(lay(&completed(&padded(&words, size), size)))
+    let mut grid = light_grid();
+    match write_to(profile, message, &mut grid) {
+        Ok(()) => Ok(grid),
+        Err(TooLong) => Err(TooLong),
+    }
 }
 
-/// The codewords of a symbol of this size with these data codewords: the check codewords make each block a codeword.
-fn completed(data_words: &[u8], size: Size) -> Words
-    requires { length data_words.now ≡ size.data_count }
+/// Does the same as [`write_as`] in a place: where it answers `Ok`, the normal grid stands there, whatever stood there before. After
+/// `TooLong` the place holds some grid.
+pub fn write_to(profile: Profile, message: &Message, grid: &mut Grid) -> Result<(), TooLong>
+    ensures { IsWritten profile message.now (outcome result grid.new) }
+{
+    let mut list = ArrayVec::new();
+    match normal_words_to(profile, message, &mut list) {
+        Ok(()) => {}
+        Err(TooLong) => return Err(TooLong),
+    }
+    let Some(size) = Size::for_words(list.len() as u16) else {
+        return Err(TooLong);
+    };
+    add_pads(&mut list, size);
+    *grid = lay(&completed(&mut list, size));
+    Ok(())
+}
+
+/// The codewords of a symbol of this size with these data codewords: the check codewords make each block a codeword. The list is left
+/// with 0 at the place of each check codeword.
+fn completed(list: &mut ArrayVec<u8, MOST_CODEWORDS>, size: Size) -> Words
+    requires { length list.old.items ≡ size.data_count }
     ensures size { result.size ≡ size }
-    ensures data_words { data_part size result.list ≡ data_words.now }
+    ensures data_words { data_part size result.list ≡ list.old.items }
     ensures checked { BlocksAreCodewords size result.list }
 {
-    let mut words = Words::new(size, &with_room(data_words, size));
+    add_room(list, size);
+    let mut words = Words::new(size, list);
     for b in 0..size.blocks() as usize {
         complete_block(&mut words, b);
     }
     words
 }
 
-/// The data codewords, and 0 at the place of each check codeword.
-fn with_room(data_words: &[u8], size: Size) -> ArrayVec<u8, MOST_CODEWORDS>
-    requires { length data_words.now ≡ size.data_count }
-    ensures count { length result.items ≡ codeword_count size }
-    ensures front { take size.data_count result.items ≡ data_words.now }
-    ensures room { drop size.data_count result.items ≡ replicate size.check_count 0 }
+/// Adds 0 at the place of each check codeword to the data codewords.
+fn add_room(list: &mut ArrayVec<u8, MOST_CODEWORDS>, size: Size)
+    requires { length list.old.items ≡ size.data_count }
+    ensures count { length list.new.items ≡ codeword_count size }
+    ensures front { take size.data_count list.new.items ≡ list.old.items }
+    ensures room { drop size.data_count list.new.items ≡ replicate size.check_count 0 }
 {
-    let count = usize::from(size.data_count() + size.check_count());
-    let mut list = ArrayVec::new();
-    for word in data_words {
-        list.push(*word);
-    }
-    for _ in data_words.len()..count {
+    for _ in 0..size.check_count() {
         list.push(0);
     }
-    list
 }
 
 /// Puts the check codewords of one block: its data codewords stay, and the block becomes a codeword.

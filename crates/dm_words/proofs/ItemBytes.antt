@@ -1,6 +1,6 @@
 -- What codewords spell is a message: its bytes are 0 to 255.
 use Rattle.std.proofs.Common.{◌≡◌, ℕ, ◌+◌, ◌<◌, List, [], ◌∷◌, ◌++◌, length, refl, sym, subst, arith, Some, Result, Ok, Err}
-use Rattle.std.specs.Prelude.{IfOk}
+use Rattle.std.specs.Prelude.{OnOk}
 use Rattle.std.specs.List.{AllByRecursion}
 use Rattle.std.proofs.lemmas.Bool.Decides.{nat_tests}
 use Rattle.std.proofs.lemmas.List.Elements.{All-from_recursion}
@@ -20,6 +20,7 @@ use Rattle.dm_words.specs.Values.{IsCharacter, plain, by_shift, IsSpelling}
 use Rattle.dm_words.specs.Values as values
 use Rattle.dm_words.specs.Base256.{AreBytes, byte_items}
 use Rattle.dm_words.specs.Spells.{IsPart, ascii, run, segment, Spells}
+use Rattle.dm_words.specs.Places.{outcome}
 use Rattle.dm_words.proofs.AsciiWords.{AreItems, character_is, digits_are}
 
 -- A byte of a basic set is below 128.
@@ -85,7 +86,8 @@ parts_items place (p ∷ ps) after h = items-append p.what (gathered ps) (part_i
 pub spelled_is_message : (words : List ℕ) (m : List Item) → Spells words m → IsMessage m
 spelled_is_message words m s = All-from_recursion IsItem m (subst AreItems (sym s.items) (parts_items 1 s.parts s.after s.joined))
 
--- So is an answer that is spelled.
-pub ok_is_message : (words : List ℕ) (r : Result (List Item) WordFault) → ((m : List Item) → r ≡ Ok m → Spells words m) → IfOk r IsMessage
-ok_is_message words (Ok m) h = spelled_is_message words m (h m refl)
-ok_is_message words (Err f) h = tt
+-- So is what is left in a place.
+pub left_is_message : {U : Type 0} (words : List ℕ) (r : Result U WordFault) (place : List Item) → ((m : List Item) → outcome r place ≡ Ok m → Spells words m)
+    → OnOk r (IsMessage place)
+left_is_message words (Ok u) place h = spelled_is_message words place (h place refl)
+left_is_message words (Err f) place h = tt

@@ -11,5 +11,6 @@ pub mod Base256
 pub mod NormalForm
 pub mod Spells
 pub mod Refused
+pub mod Places
 pub mod Laws
 pub mod Scan

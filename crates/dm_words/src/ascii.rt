@@ -1,14 +1,16 @@
 //! The ASCII codewords of a message (ISO/IEC 16022, ASCII encodation).
 
-ghost use Rattle.std.specs.Prelude.{◌≡◌, ◌+◌, ◌≤◌, ◌<◌, ◌↔◌, length, IfOk, IsErr};
+ghost use Rattle.std.specs.Prelude.{◌≡◌, ◌+◌, ◌≤◌, ◌<◌, ◌↔◌, length, IfOk, OnOk, IsErr};
 ghost use Rattle.dm_words.specs.Ascii.{ascii, is_digit as is_digit_byte};
 ghost use Rattle.dm_words.specs.Scan.Answers.{BeginsAscii, IsSingle};
 
+use crate::codeword::data_words;
 use crate::fault::TooLong;
 use crate::item::Item;
 use crate::limits::MOST_DATA;
 use crate::message::Message;
 use arrayvec::ArrayVec;
+use dm_layout::MOST_CODEWORDS;
 
 const UPPER_SHIFT: u8 = 235;
 
@@ -61,18 +63,35 @@ pub fn ascii_words(message: &Message) -> Result<ArrayVec<u8, MOST_DATA>, TooLong
     ensures words { IfOk result (λ words. words.items ≡ ascii message.now) }
     ensures too_long { IsErr result ↔ (MOST_DATA < length (ascii message.now)) }
 {
-    let items = message.items();
     let mut words = ArrayVec::new();
+    match ascii_words_to(message, &mut words) {
+        Ok(()) => Ok(data_words(&words)),
+        Err(TooLong) => Err(TooLong),
+    }
+}
+
+/// Does the same as [`ascii_words()`] in a place: where it answers `Ok`, they are all that
+/// stands there, whatever stood there before.
+pub fn ascii_words_to(
+    message: &Message,
+    words: &mut ArrayVec<u8, MOST_CODEWORDS>,
+) -> Result<(), TooLong>
+    ensures words { OnOk result (words.new.items ≡ ascii message.now) }
+    ensures too_long { IsErr result ↔ (MOST_DATA < length (ascii message.now)) }
+    ensures most { OnOk result (length words.new.items ≤ MOST_DATA) }
+{
+    let items = message.items();
+    words.clear();
     let mut at = 0;
     while at < items.len() {
         let unit = unit_at(items, at);
         if let Unit::Raised(_) = unit {
-            if words.is_full() {
+            if words.len() == MOST_DATA {
                 return Err(TooLong);
             }
             words.push(UPPER_SHIFT);
         }
-        if words.is_full() {
+        if words.len() == MOST_DATA {
             return Err(TooLong);
         }
         match unit {
@@ -86,5 +105,5 @@ pub fn ascii_words(message: &Message) -> Result<ArrayVec<u8, MOST_DATA>, TooLong
             }
         }
     }
-    Ok(words)
+    Ok(())
 }

@@ -12,6 +12,7 @@ use crate::item::{Item, byte};
 use crate::limits::{MOST_DATA, MOST_ITEMS};
 use crate::message::Message;
 use arrayvec::ArrayVec;
+use dm_layout::MOST_CODEWORDS;
 
 const LATCH: u8 = 231;
 
@@ -84,7 +85,7 @@ pub fn segment_part(words: &[u8], at: usize, message: &mut Message) -> Result<us
 }
 
 /// Writes a value as the next codeword of a symbol that begins with these words.
-fn push_value(words: &mut ArrayVec<u8, MOST_DATA>, value: u8)
+fn push_value(words: &mut ArrayVec<u8, MOST_CODEWORDS>, value: u8)
     requires { length words.old.items < MOST_DATA }
     ensures { words.new.items ≡ words.old.items ++ randomised (length words.old.items + 1) value ∷ [] }
 {
@@ -93,7 +94,7 @@ fn push_value(words: &mut ArrayVec<u8, MOST_DATA>, value: u8)
 }
 
 /// Writes the length of so many bytes: one number up to 249, else two.
-fn push_length(words: &mut ArrayVec<u8, MOST_DATA>, count: usize)
+fn push_length(words: &mut ArrayVec<u8, MOST_CODEWORDS>, count: usize)
     requires room { length words.old.items + 2 ≤ MOST_DATA }
     requires few { count ≤ MOST_DATA }
     ensures { words.new.items ≡ words.old.items ++ written (length words.old.items + 1) (length_numbers count) }
@@ -118,16 +119,15 @@ pub fn segment_length(count: usize) -> usize
     }
 }
 
-/// The bytes of the items in one segment whose latch is the first codeword of the symbol.
-pub fn segment_words(items: &[Item]) -> ArrayVec<u8, MOST_DATA>
+/// Writes the bytes of the items, in one segment whose latch is the first codeword of the symbol, into the place.
+pub fn write_segment(items: &[Item], words: &mut ArrayVec<u8, MOST_CODEWORDS>)
     requires { length (one_segment (map byte_of items.now)) ≤ MOST_DATA }
-    ensures { result.items ≡ one_segment (map byte_of items.now) }
+    ensures { words.new.items ≡ one_segment (map byte_of items.now) }
 {
-    let mut words = ArrayVec::new();
+    words.clear();
     words.push(LATCH);
-    push_length(&mut words, items.len());
+    push_length(words, items.len());
     for item in items {
-        push_value(&mut words, byte(*item));
+        push_value(words, byte(*item));
     }
-    words
 }

@@ -1,9 +1,11 @@
 //! The codewords of ASCII encodation (ISO/IEC 16022, ASCII encodation).
 
-ghost use Rattle.std.specs.Prelude.{◌≡◌};
+ghost use Rattle.std.specs.Prelude.{◌≡◌, ◌≤◌, length};
 ghost use Rattle.dm_words.specs.Codewords.{codeword_of};
 
 use crate::c40::set::CodeSet;
+use crate::limits::MOST_DATA;
+use arrayvec::ArrayVec;
 
 /// What a codeword means where ASCII encodation is in force.
 #[derive(Clone, Copy, Debug, PartialEq, Eq)]
@@ -43,4 +45,16 @@ pub fn meaning(codeword: u8) -> Option<Codeword>
         233 | 234 | 236 | 237 | 240 | 241 => Some(Codeword::LeftOut),
         _ => None,
     }
+}
+
+/// These data codewords of a symbol, as a list of their own.
+pub fn data_words(words: &[u8]) -> ArrayVec<u8, MOST_DATA>
+    requires { length words.now ≤ MOST_DATA }
+    ensures { result.items ≡ words.now }
+{
+    let mut list = ArrayVec::new();
+    for word in words {
+        list.push(*word);
+    }
+    list
 }

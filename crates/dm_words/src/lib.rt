@@ -22,12 +22,12 @@ mod shorter;
 #[cfg(test)]
 mod tests;
 
-pub use ascii::ascii_words;
+pub use ascii::{ascii_words, ascii_words_to};
 pub use fault::{TooLong, WordFault};
 pub use item::Item;
 pub use limits::{MOST_DATA, MOST_ITEMS};
 pub use message::Message;
-pub use pad::padded;
+pub use pad::{add_pads, padded};
 pub use profile::Profile;
-pub use reading::message_of;
-pub use shorter::{normal_words, shorter_words};
+pub use reading::{message_of, message_to};
+pub use shorter::{normal_words, normal_words_to, shorter_words, shorter_words_to};

@@ -38,6 +38,13 @@ impl Message {
         }
     }
 
+    /// Takes all items away. The work is that of the items that were there.
+    pub fn clear(&mut self)
+        ensures { self.new ≡ [] }
+    {
+        self.list.clear();
+    }
+
     /// Adds an item at the end. Gives the item back exactly where `MOST_ITEMS` are there, and then changes nothing.
     pub fn push(&mut self, item: Item) -> Result<(), Item>
         ensures room { IsOk result ↔ (length self.old < MOST_ITEMS) }

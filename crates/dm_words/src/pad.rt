@@ -3,14 +3,15 @@
 ghost use Rattle.std.specs.Prelude.{◌≡◌, ◌≤◌, length};
 ghost use Rattle.dm_words.specs.Pads.{padded as padded_words, pad_at};
 
+use crate::codeword::data_words;
 use crate::limits::MOST_DATA;
 use arrayvec::ArrayVec;
-use dm_layout::Size;
+use dm_layout::{MOST_CODEWORDS, Size};
 
 const FIRST_PAD: u8 = 129;
 
 /// The pad at a place, which isn't the first pad of the symbol.
-fn pad(place: u16) -> u8
+fn pad_word(place: u16) -> u8
     requires { place ≤ MOST_DATA }
     ensures { result ≡ pad_at place }
 {
@@ -29,16 +30,28 @@ pub fn padded(words: &[u8], size: Size) -> ArrayVec<u8, MOST_DATA>
     ensures words { result.items ≡ padded_words words.now size.data_count }
     ensures count { length result.items ≡ size.data_count }
 {
-    let count = size.data_count() as usize;
+    // That they fit is known from the size's methods.
+    let _most = size.data_count();
     let mut all = ArrayVec::new();
     for word in words {
         all.push(*word);
     }
-    if words.len() < count {
-        all.push(FIRST_PAD);
-        for place in words.len() + 2..count + 1 {
-            all.push(pad(place as u16));
+    add_pads(&mut all, size);
+    data_words(&all)
+}
+
+/// Adds pads to the words of a message, as [`padded()`] does, where they stand.
+pub fn add_pads(words: &mut ArrayVec<u8, MOST_CODEWORDS>, size: Size)
+    requires { length words.old.items ≤ size.data_count }
+    ensures words { words.new.items ≡ padded_words words.old.items size.data_count }
+    ensures count { length words.new.items ≡ size.data_count }
+{
+    let count = size.data_count() as usize;
+    let used = words.len();
+    if used < count {
+        words.push(FIRST_PAD);
+        for place in used + 2..count + 1 {
+            words.push(pad_word(place as u16));
         }
     }
-    all
 }

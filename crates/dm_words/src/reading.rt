@@ -1,11 +1,12 @@
 //! Reading: the message that data codewords spell, or the fault with which they are refused.
 
-ghost use Rattle.std.specs.Prelude.{◌≡◌, ◌+◌, ◌≤◌, ◌<◌, ◌*◌, ◌↔◌, List, length, drop, Ok, Err, IfOk};
+ghost use Rattle.std.specs.Prelude.{◌≡◌, ◌+◌, ◌≤◌, ◌<◌, ◌*◌, ◌↔◌, List, length, drop, Ok, Err, IfOk, OnOk};
 ghost use Rattle.dm_words.specs.declared.item.Item.{Item};
 ghost use Rattle.dm_words.specs.declared.fault.WordFault.{WordFault};
 ghost use Rattle.dm_words.specs.Messages.{IsMessage};
 ghost use Rattle.dm_words.specs.Spells.{Spells};
 ghost use Rattle.dm_words.specs.Refused.{Refused};
+ghost use Rattle.dm_words.specs.Places.{outcome};
 ghost use Rattle.dm_words.specs.Scan.Fronts.{reading, part_front, raised_unit};
 ghost use Rattle.dm_words.specs.Scan.Answers.{Took, TookSome};
 
@@ -71,26 +72,24 @@ fn raised_part(words: &[u8], at: usize, message: &mut Message) -> Result<usize, 
     }
 }
 
-/// The message that the words spell, or the first fault.
-fn read_all(words: &[u8]) -> Result<Message, WordFault>
+/// Leaves the message that the words spell in the place, or gives the first fault.
+fn read_all(words: &[u8], message: &mut Message) -> Result<(), WordFault>
     requires { length words.now ≤ MOST_DATA }
-    ensures exact { result ≡ reading words.now }
-    ensures two_for_each_codeword { IfOk result (λ m. length m ≤ 2 * length words.now) }
+    ensures exact { outcome result message.new ≡ reading words.now }
+    ensures two_for_each_codeword { OnOk result (length message.new ≤ 2 * length words.now) }
 {
-    let mut message = Message::new();
+    message.clear();
     let mut at = 0;
-    while let Some(count) = next_part(words, at, &mut message)? {
+    while let Some(count) = next_part(words, at, message)? {
         at += count;
     }
-    Ok(message)
+    Ok(())
 }
 
 /// The message that the data codewords of a symbol spell, in any of the five encodations, or the fault with which they are
 /// refused. The list is the whole data part, at most `MOST_DATA` codewords, so its end is the end of the symbol. What follows the
 /// first pad is ignored. The first part from the left that is faulty decides; `WordFault` says when each fault comes.
 /// ISO/IEC 16022, encodation schemes.
-// Its copies of messages stand in a frame of their own: inlined, they would lie in those of its callers, too.
-#[inline(never)]
 pub fn message_of(words: &[u8]) -> Result<Message, WordFault>
     requires { length words.now ≤ MOST_DATA }
     ensures message { (m : List Item) → (result ≡ Ok m) ↔ Spells words.now m }
@@ -98,5 +97,21 @@ pub fn message_of(words: &[u8]) -> Result<Message, WordFault>
     ensures two_for_each_codeword { IfOk result (λ m. length m ≤ 2 * length words.now) }
     ensures bytes { IfOk result IsMessage }
 {
-    read_all(words)
+    let mut message = Message::new();
+    match message_to(words, &mut message) {
+        Ok(()) => Ok(message),
+        Err(fault) => Err(fault),
+    }
+}
+
+/// Does the same as [`message_of()`] in a place: where it answers `Ok`, the message stands there, whatever stood there before. After a
+/// fault the place holds some message.
+pub fn message_to(words: &[u8], message: &mut Message) -> Result<(), WordFault>
+    requires { length words.now ≤ MOST_DATA }
+    ensures message { (m : List Item) → (outcome result message.new ≡ Ok m) ↔ Spells words.now m }
+    ensures fault { (why : WordFault) → (outcome result message.new ≡ Err why) ↔ Refused words.now why }
+    ensures two_for_each_codeword { OnOk result (length message.new ≤ 2 * length words.now) }
+    ensures bytes { OnOk result (IsMessage message.new) }
+{
+    read_all(words, message)
 }

@@ -310,3 +310,34 @@ fn the_longest_segment(rt: HostRuntime) {
     words[2] = 193;
     assert!(rt; is_refused(&words, WordFault::Length(1)));
 }
+
+/// One place after the other holds what was written and read last, whatever stood there before.
+#[test]
+fn writes_and_reads_in_places(rt: HostRuntime) {
+    let mut words = ArrayVec::new();
+    let mut message = Message::new();
+    let mut read = Message::new();
+    for (text, expected) in [
+        (b"123456".as_slice(), [142, 164, 186, 129, 115].as_slice()),
+        (b"\x80\x80\x80", &[231, 47, 65, 215, 108]),
+        (b"A", &[66, 129, 70, 220, 115]),
+    ] {
+        message.clear();
+        for byte in text {
+            assert!(rt; message.push(Item::Byte(*byte)).is_ok());
+        }
+        assert!(rt; normal_words_to(Profile::Shorter, &message, &mut words).is_ok());
+        let size = Size::of_side(12).expect(&rt, "side 12");
+        assert!(rt; words.len() <= usize::from(size.data_count()));
+        add_pads(&mut words, size);
+        assert_eq!(rt; words.as_slice(), expected);
+        assert!(rt; words.len() <= MOST_DATA);
+        assert!(rt; message_to(&words, &mut read).is_ok());
+        assert!(rt; read == message);
+    }
+    assert!(rt; message_to(&[240], &mut read) == Err(WordFault::LeftOut(240, 1)));
+    assert!(rt; ascii_words_to(&message, &mut words).is_ok());
+    assert_eq!(rt; words.as_slice(), [66].as_slice());
+    assert!(rt; shorter_words_to(&message, &mut words).is_ok());
+    assert_eq!(rt; words.as_slice(), [66].as_slice());
+}

@@ -8,8 +8,8 @@ pub loop-count-init : goal.loop-count-init
 unfolding reading
 loop-count-init c = record {
   in_range = omega arith;
-  room = rw c.new-message.ensures (omega arith);
-  so_far = rw c.new-message.ensures refl;
+  room = rw c.clear.ensures (omega arith);
+  so_far = rw c.clear.ensures refl;
 }
 
 pub loop-count-preserved : goal.loop-count-preserved

@@ -1,6 +1,6 @@
 use Rattle.std.proofs.Common.{arith}
 use Rattle.dm_words.proofs.PadWords.{pads_more}
-use Rattle.dm_words.proofs.pad.padded.Goals as goal
+use Rattle.dm_words.proofs.pad.add_pads.Goals as goal
 
 pub loop-place-preserved : goal.loop-place-preserved
 loop-place-preserved c =
@@ -9,5 +9,5 @@ loop-place-preserved c =
     record {
       start = omega (arith, v.start);
       len = omega (arith, v.len, e.len);
-      so_far = pads_more c.args.words.now c.loop-place.place c.loop-place.all.items c.push-in-loop-place.new.self.items c.pad.result v.start c.pad.ensures v.so_far e.items;
+      so_far = pads_more c.args.words.now.items c.loop-place.place c.loop-place.words.items c.push-in-loop-place.new.self.items c.pad_word.result v.start c.pad_word.ensures v.so_far e.items;
     }

@@ -4,19 +4,19 @@ use Rattle.dm_words.specs.NormalForm.{normal_form}
 use Rattle.dm_words.specs.Pads.{padded}
 use Rattle.dm_symbol.specs.Blocks.{data_part}
 use Rattle.dm_symbol.proofs.WriteSteps.{laid_is_normal, is_written, none_is_written, too_long_fits_none}
-use Rattle.dm_symbol.proofs.writing.write_as.Goals as goal
+use Rattle.dm_symbol.proofs.writing.write_to.Goals as goal
 
-pub returns-in_err-words : goal.returns-in_err-words
-returns-in_err-words c = none_is_written c.args.profile c.args.message.now c.from_residual.result c.from_residual.ensures.0
-    (too_long_fits_none c.args.profile c.args.message.now ((c.in_err-words.ensures.too_long).0 refl))
+pub returns-in-Err : goal.returns-in-Err
+returns-in-Err c = none_is_written c.args.profile c.args.message.now _ refl
+    (too_long_fits_none c.args.profile c.args.message.now ((c.in-Err.ensures.too_long).0 refl))
 
 pub returns : goal.returns
 returns c =
     let p = c.args.profile in
     let m = c.args.message.now in
     let size = c.in-Some.size in
-    let count : row_for_words (length (normal_form p m)) ≡ Some size = sym (c.in-Some.ensures.value ∙ ap row_for_words (c.len.ensures.value ∙ ap length c.in_ok-words.ensures.words)) in
+    let count : row_for_words (length (normal_form p m)) ≡ Some size = sym (c.in-Some.ensures.value ∙ ap row_for_words (c.len.ensures.value ∙ ap length c.in-Ok.ensures.words)) in
     let front : data_part size c.completed.result.list ≡ padded (normal_form p m) size.data_count =
-    c.completed.ensures.data_words ∙ c.deref-2.ensures.0 ∙ c.padded.ensures.words ∙ ap (λ w. padded w size.data_count) (c.deref.ensures.0 ∙ c.in_ok-words.ensures.words) in
+    c.completed.ensures.data_words ∙ c.add_pads.ensures.words ∙ ap (λ w. padded w size.data_count) c.in-Ok.ensures.words in
     is_written p m c.lay.result (laid_is_normal p m c.lay.result c.completed.result size count c.completed.ensures.size front c.completed.ensures.checked
     (record { holds = c.lay.ensures.holds; border = c.lay.ensures.border; fixed_square = c.lay.ensures.fixed_square }))

@@ -1,9 +1,9 @@
-use Rattle.std.proofs.Common.{◌≡◌, ◌<◌, length, map, arith, ap}
+use Rattle.std.proofs.Common.{◌<◌, length, map, arith}
 use Rattle.std.proofs.lemmas.List.{length-map}
 use Rattle.dm_words.specs.Messages.{byte_of}
 use Rattle.dm_words.specs.NormalForm.{one_segment}
 use Rattle.dm_words.proofs.NormalForms.{length-one_segment, has_room, one_item_more}
-use Rattle.dm_words.proofs.base256.segment_words.Goals as goal
+use Rattle.dm_words.proofs.base256.write_segment.Goals as goal
 
 pub push_length-requires-clause-few : goal.push_length-requires-clause-few
 push_length-requires-clause-few c =

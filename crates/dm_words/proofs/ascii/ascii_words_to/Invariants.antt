@@ -1,7 +1,7 @@
 use Rattle.std.proofs.Common.{◌≡◌, ◌-◌, ◌++◌, ◌≤◌, length, drop}
 use Rattle.dm_words.specs.declared.limits.TheConstants.{MOST_DATA}
 use Rattle.dm_words.specs.Ascii.{ascii}
-use Rattle.dm_words.proofs.ascii.ascii_words.Given as goal
+use Rattle.dm_words.proofs.ascii.ascii_words_to.Given as goal
 
 abbrev pub invariant-loop-at : goal.invariant-loop-at
 invariant-loop-at l = record {
