@@ -1,9 +1,10 @@
 //! Grids from pieces of a text.
-ghost use Rattle.std.specs.Prelude.{◌≡◌, ◌≢◌, ◌∷◌, ◌++◌, [], ℕ, List, IfNone, IfSome};
+ghost use Rattle.std.specs.Prelude.{◌≡◌, ◌≢◌, ◌∷◌, ◌++◌, [], ℕ, List, IfNone, IfSome, length};
 ghost use Rattle.dm_tool.specs.Texts.{last_line};
 ghost use Rattle.dm_tool.specs.Records.{AreLfs, record_of};
 ghost use Rattle.dm_tool.specs.RecordFacts.{AreRecordFacts, facts_of_record};
 ghost use Rattle.dm_tool.specs.RecordFeeds.{ClosesRecord, IsLastRecord, LeavesRecordOpen};
+ghost use Rattle.dm_tool.specs.Places.{outcome};
 
 use crate::record::{OpenRecord, RecordFault};
 use dm_symbol::Grid;
@@ -82,12 +83,51 @@ impl GridFeed {
         Some(self.close())
     }
 
+    /// Takes bytes as [`GridFeed::feed`] does, with the grid in a place that is handed in: how many, where they close a record, and its
+    /// fault where it is no grid; the place may then hold anything. None where all of the piece is taken.
+    pub(crate) fn feed_to(
+        &mut self,
+        piece: &[u8],
+        grid: &mut Grid,
+    ) -> Option<(usize, Result<(), RecordFault>)>
+        ensures open { IfNone result (LeavesRecordOpen self.old piece.now (length piece.now) self.new) }
+        ensures closed { IfSome result (λ fed. ClosesRecord self.old piece.now fed.0 (outcome fed.1 grid.new) self.new) }
+    {
+        let Some(end) = self.record.take(piece) else {
+            return None;
+        };
+        Some((end + 1, self.record.close_to(grid)))
+    }
+
+    /// Closes the record that is open, if one is, as [`GridFeed::finish`] does, with the grid in a place that is handed in.
+    pub(crate) fn finish_to(&mut self, grid: &mut Grid) -> Option<Result<(), RecordFault>>
+        ensures none { IfNone result ((text : List ℕ) → AreRecordFacts text self.old → AreLfs text) }
+        ensures last { IfSome result (λ found. (text : List ℕ) → AreRecordFacts text self.old → IsLastRecord text (outcome found grid.new)) }
+    {
+        if self.record.is_empty() {
+            return None;
+        }
+        Some(self.record.close_to(grid))
+    }
+
     /// The record ends, and none stands open.
     fn close(&mut self) -> Result<Grid, RecordFault>
         ensures answer { (lines : List (List ℕ)) (rest : List ℕ) → self.old ≡ facts_of_record lines rest
             → result ≡ record_of (lines ++ last_line rest) }
         ensures empty { AreRecordFacts [] self.new }
     {
-        std::mem::replace(&mut self.record, OpenRecord::new()).close()
+        let mut grid = blank_grid();
+        match self.record.close_to(&mut grid) {
+            Ok(()) => Ok(grid),
+            Err(fault) => Err(fault),
+        }
+    }
+}
+
+/// A grid of the smallest size, for a place.
+pub(crate) fn blank_grid() -> Grid {
+    match Grid::of_rows(10, &[0; 10]) {
+        Ok(grid) => grid,
+        Err(_) => unreachable!(),
     }
 }

@@ -5,6 +5,7 @@ ghost use Rattle.dm_tool.specs.Records.{IsClosedRecord, is_foreign, record_of};
 ghost use Rattle.dm_tool.specs.RecordFacts.{AreRecordFacts, facts_of_record};
 ghost use Rattle.dm_tool.specs.Texts.{last_line};
 ghost use Rattle.dm_tool.specs.OpenRecords.{AreCells, EndsAt};
+ghost use Rattle.dm_tool.specs.Places.{outcome};
 
 use crate::front::Front;
 use crate::rows::Rows;
@@ -173,15 +174,37 @@ impl OpenRecord {
         }
     }
 
-    /// The record ends.
-    pub(crate) fn close(self) -> Result<Grid, RecordFault>
-        ensures { (lines : List (List ℕ)) (rest : List ℕ) → self ≡ facts_of_record lines rest
-            → result ≡ record_of (lines ++ last_line rest) }
+    /// The record ends, and none is open: its grid in a place that is handed in, or why it is none.
+    pub(crate) fn close_to(&mut self, grid: &mut Grid) -> Result<(), RecordFault>
+        ensures answer { (lines : List (List ℕ)) (rest : List ℕ) → self.old ≡ facts_of_record lines rest
+            → outcome result grid.new ≡ record_of (lines ++ last_line rest) }
+        ensures empty { AreRecordFacts [] self.new }
     {
-        match self.contents {
+        let found = self.grid_to(grid);
+        self.clear();
+        found
+    }
+
+    /// The grid of the record as it is so far, in a place that is handed in.
+    fn grid_to(&self, grid: &mut Grid) -> Result<(), RecordFault>
+        ensures { (lines : List (List ℕ)) (rest : List ℕ) → self.now ≡ facts_of_record lines rest
+            → outcome result grid.new ≡ record_of (lines ++ last_line rest) }
+    {
+        match &self.contents {
             Contents::Foreign => Err(RecordFault::Character),
             Contents::Large => Err(RecordFault::Large),
-            Contents::Cells(cells) => cells.grid(),
+            Contents::Cells(rows) => rows.grid_to(grid),
+        }
+    }
+
+    /// No record is open any more.
+    fn clear(&mut self)
+        ensures { AreRecordFacts [] self.new }
+    {
+        self.ended = false;
+        match &mut self.contents {
+            Contents::Cells(rows) => rows.clear(),
+            _ => self.contents = Contents::Cells(Rows::new()),
         }
     }
 }

@@ -3,6 +3,7 @@ ghost use Rattle.std.specs.Prelude.{◌≡◌, ◌≢◌, ◌∷◌, ◌++◌, �
 ghost use Rattle.dm_tool.specs.Records.{record_of};
 ghost use Rattle.dm_tool.specs.OpenRecords.{AreCells, Continues, HoldsLines, is_ended, line_count};
 ghost use Rattle.dm_tool.specs.Texts.{last_line};
+ghost use Rattle.dm_tool.specs.Places.{outcome};
 
 use crate::front::Front;
 use crate::record::RecordFault;
@@ -108,18 +109,31 @@ impl Rows {
         }
     }
 
-    /// The grid of these lines.
-    pub(crate) fn grid(self) -> Result<Grid, RecordFault>
-        requires { (lines : List (List ℕ)) × (rest : List ℕ) × HoldsLines self lines rest }
-        ensures { (lines : List (List ℕ)) (rest : List ℕ) → HoldsLines self lines rest → result ≡ record_of (lines ++ last_line rest) }
+    /// The grid of these lines, in a place that is handed in. Where they make none, the place may hold anything.
+    pub(crate) fn grid_to(&self, grid: &mut Grid) -> Result<(), RecordFault>
+        requires { (lines : List (List ℕ)) × (rest : List ℕ) × HoldsLines self.now lines rest }
+        ensures { (lines : List (List ℕ)) (rest : List ℕ) → HoldsLines self.now lines rest → outcome result grid.new ≡ record_of (lines ++ last_line rest) }
     {
         let side = self.first;
         if self.differs || self.last != side || usize::from(side) != self.rows.len() {
             return Err(RecordFault::NotSquare);
         }
         match Grid::of_rows(side, self.rows.as_slice()) {
-            Ok(grid) => Ok(grid),
+            Ok(found) => {
+                *grid = found;
+                Ok(())
+            }
             Err(_) => Err(RecordFault::NoSuchSize(side)),
         }
+    }
+
+    /// There is no line any more.
+    pub(crate) fn clear(&mut self)
+        ensures { HoldsLines self.new [] [] }
+    {
+        self.rows.clear();
+        self.first = 0;
+        self.last = 0;
+        self.differs = false;
     }
 }

@@ -4,7 +4,7 @@ use Rattle.dm_tool.specs.declared.rows.Rows.{Rows}
 use Rattle.dm_tool.specs.OpenRecords.{HoldsLines, contents_seen}
 use Rattle.dm_tool.proofs.RecordAnswers.{answer_is, answer_of}
 use Rattle.dm_tool.proofs.KeptRows.{seen_is}
-use Rattle.dm_tool.proofs.record.OpenRecord.close.Goals as goal
+use Rattle.dm_tool.proofs.record.OpenRecord.grid_to.Goals as goal
 
 pub returns-in-Foreign : goal.returns-in-Foreign
 returns-in-Foreign c lines rest e =
@@ -21,5 +21,5 @@ returns-in-Cells c lines rest e =
     let s = c.self.invariant in
     let seen = ap (λ (f : RecordFacts). f.contents) (c.self.view_is ∙ e) in
     let held = rw c.in-Cells.is at s.contents_are in
-    c.grid.ensures s.lines s.rest (subst (λ (t : Rows). HoldsLines t s.lines s.rest) (sym c.in-Cells.cells-is) held) ∙ answer_is s.lines s.rest
-    ∙ ap answer_of (sym (seen_is c.in-Cells.cells s.lines s.rest held) ∙ sym (ap contents_seen c.in-Cells.is) ∙ seen) ∙ sym (answer_is lines rest)
+    c.grid_to.ensures s.lines s.rest held ∙ answer_is s.lines s.rest
+    ∙ ap answer_of (sym (seen_is c.in-Cells.rows s.lines s.rest held) ∙ sym (ap contents_seen c.in-Cells.is) ∙ seen) ∙ sym (answer_is lines rest)
