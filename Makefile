@@ -1,14 +1,14 @@
-# What a person's hands try first. `make test` is the merge gate.
+# What people run by hand. `make test` is the merge gate.
 PREFIX ?= /usr/local
 TOOL := crates/dm_tool/out/dm_tool
-# The crates that the program stands on, lowest first, and the program.
+# The crates below the program, lowest first, and the program.
 CRATES := $(shell sed -n 's/^\([a-z0-9_]*\):.*/\1/p' crates.txt)
-# What no contract sees. Each of these ends with a line 'N passed, M failed', and with status 1 where something failed.
+# They test what no contract mentions. Each ends with a line 'N passed, M failed', and with status 1 if something failed.
 SCRIPTS := tests/definitions tests/program tests/library tests/marks/run tests/scale tests/page/run
 
 .PHONY: build library try test $(SCRIPTS) install install-library bench
 
-# Proves the program and all that it stands on, and leaves it at crates/dm_tool/out/dm_tool.
+# Proves the program and everything below it, and leaves it at crates/dm_tool/out/dm_tool.
 build:
 	@mkdir -p out && : > out/build.log
 	@echo "Proving $(words $(CRATES)) crates, lowest first; what the toolchain says goes to out/build.log."
@@ -23,7 +23,7 @@ build:
 	@echo "The program is $(TOOL). It writes 123456 as"
 	@printf '123456\n' | $(TOOL) write
 
-# Proves the library ecc200 and what it stands on, and leaves it as library/out/libecc200.a and libecc200.so.
+# Proves the library ecc200 and everything below it, and leaves it as library/out/libecc200.a and libecc200.so.
 library:
 	@mkdir -p library/out
 	@echo "Proving the library; what the toolchain says goes to library/out/build.log."
@@ -32,13 +32,13 @@ library:
 	@$(CC) -shared -o library/out/libecc200.so -Wl,-soname,libecc200.so.1 -Wl,--whole-archive library/out/libecc200.a -Wl,--no-whole-archive
 	@echo "The library is library/out/libecc200.a and library/out/libecc200.so; its manual is library/ecc200.h."
 
-# Shows the program at work at once. Nothing is proved by it.
+# Shows the program at work at once. This proves nothing.
 try:
 	@mkdir -p out
 	@echo "Unproved, for a first look (make build proves the program): dm_tool writes 123456 as"
 	@cd crates/dm_tool && printf '123456\n' | rt try --steps 1 -- write 2> ../../out/try.log || { cat ../../out/try.log; exit 1; }
 
-# The merge gate: every proof from nothing, the must-fail edits and the tests, then the scripts.
+# The merge gate: every proof from scratch, the edits that must fail and the crates' tests, then the scripts.
 test:
 	rt ci
 	@$(MAKE) --no-print-directory --keep-going $(SCRIPTS)
@@ -49,7 +49,7 @@ $(SCRIPTS):
 install: build install-library
 	install -D $(TOOL) $(DESTDIR)$(PREFIX)/bin/dm_tool
 
-# The library, its header, and what pkg-config reads.
+# Installs the library, its header, and what pkg-config reads.
 install-library: library
 	install -D -m 644 library/ecc200.h $(DESTDIR)$(PREFIX)/include/ecc200.h
 	install -D -m 644 library/out/libecc200.a $(DESTDIR)$(PREFIX)/lib/libecc200.a
@@ -58,13 +58,13 @@ install-library: library
 	@mkdir -p $(DESTDIR)$(PREFIX)/lib/pkgconfig
 	sed 's|@PREFIX@|$(PREFIX)|' library/ecc200.pc.in > $(DESTDIR)$(PREFIX)/lib/pkgconfig/ecc200.pc
 
-# Times the program that `make build` left, and the library that `make library` left, beside others where these are installed.
+# Times the program that `make build` left, and the library that `make library` left, beside others that are installed.
 bench:
 	bench/run
-	@if [ -f library/out/libecc200.a ]; then bench/library; else echo "The library isn't built (make library), and not timed."; fi
+	@if [ -f library/out/libecc200.a ]; then bench/library; else echo "left out: the library (not built: run \`make library\` first)"; fi
 
 .PHONY: page
 
-# Builds the page, one file that opens from disk: web/out/mitsubadoor.html. Its library is proved anew, for WebAssembly, in a copy.
+# Builds the page, one file that opens from disk: web/out/mitsubadoor.html. Its library is proved again, for WebAssembly, in a copy.
 page:
 	web/build

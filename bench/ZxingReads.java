@@ -12,11 +12,11 @@ import java.util.ArrayList;
 import java.util.List;
 
 /**
- * Times ZXing's decoder on grids that are bit matrices already, and compares its answers with the lines written.
+ * Times ZXing's decoder on grids that are already bit matrices, and compares its answers with the lines written.
  *
  * <p>It is called with the file of grids, the file of lines, and the number of rounds. It warms up, then times the rounds,
- * and prints the most wrong answers of a round and the best round's nanoseconds of this thread's processor time, so that
- * compiling and collecting garbage, which have threads of their own, count nothing.
+ * and prints the largest number of wrong answers in a round and the best round's nanoseconds of this thread's processor
+ * time, so that compilation and garbage collection, which have threads of their own, don't count.
  */
 public final class ZxingReads {
     private static final ThreadMXBean THREADS = ManagementFactory.getThreadMXBean();
@@ -41,7 +41,7 @@ public final class ZxingReads {
         System.out.println(wrong + " " + best);
     }
 
-    /** Reads all grids again and again, until ten rounds in a row were no faster than the best before them. */
+    /** Reads all grids again and again, until ten rounds in a row are no faster than the best before them. */
     private static void warm(List<BitMatrix> grids, String[] lines) {
         long best = Long.MAX_VALUE;
         int slower = 0;
@@ -54,7 +54,7 @@ public final class ZxingReads {
         }
     }
 
-    /** Reads all grids: how many are refused, or read as another line than was written. */
+    /** Reads all grids, and counts those that are refused or read as another line than the one written. */
     private static int wrong(List<BitMatrix> grids, String[] lines) {
         int wrong = 0;
         for (int i = 0; i < lines.length; i++) {

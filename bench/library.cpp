@@ -1,6 +1,6 @@
-// Times the calls of the library ecc200 in process, beside libdmtx, zint and zxing-cpp where they are compiled in (WITH_DMTX, WITH_ZINT,
+// Times the calls of the library ecc200 in process, beside libdmtx, zint and zxing-cpp if they are compiled in (WITH_DMTX, WITH_ZINT,
 // WITH_ZXING), on the same symbols: microseconds of processor time a call, the best of some rounds. Each answer is compared with what
-// was written. A line for each work: side, work, who, microseconds.
+// was written. Prints a line for each kind of work: side, work, library, microseconds.
 #include <ecc200.h>
 
 #include <algorithm>
@@ -19,19 +19,9 @@
 #include <zint.h>
 #endif
 #ifdef WITH_ZXING
-#include <ZXing/BitMatrix.h>
 #include <ZXing/MultiFormatWriter.h>
-// zxing-cpp 1.4 exports its decoder of a bit matrix, but installs no header for it. It returns an object in memory of the caller, whose
-// first members are the vectors of the codewords and of the bytes read; the object is let go without being destroyed.
-namespace ZXing {
-struct DecoderResult {
-    alignas(16) unsigned char all[2048];
-    ~DecoderResult() {}
-};
-namespace DataMatrix {
-DecoderResult Decode(const BitMatrix &);
-}
-}
+
+#include "zxing_decoder.h"
 #endif
 
 struct Mark {
@@ -52,7 +42,7 @@ static int rounds = 30;
     std::exit(1);
 }
 
-// Letters and digits; in the damaged mark as many codewords of each block are wrong as can be corrected, by one module each.
+// A mark of letters and digits. In its damaged copy as many codewords of each block are wrong as can be corrected, each by one module.
 static Mark made(const ecc200_size &size, size_t length) {
     Mark mark;
     do {
@@ -127,8 +117,8 @@ static void time_zxing(const std::vector<Mark> &marks) {
     auto decode = [&](const std::vector<ZXing::BitMatrix> &list) {
         return [&](const Mark &mark) {
             auto result = ZXing::DataMatrix::Decode(list[&mark - marks.data()]);
-            auto *bytes = reinterpret_cast<std::vector<uint8_t> *>(&result) + 1;
-            if (bytes->size() != mark.text.size() || std::memcmp(bytes->data(), mark.text.data(), bytes->size())) die("zxing-cpp reads something else");
+            const auto &bytes = bytes_of(result);
+            if (bytes.size() != mark.text.size() || std::memcmp(bytes.data(), mark.text.data(), bytes.size())) die("zxing-cpp reads something else");
         };
     };
     timed("read", "zxing-cpp", marks, decode(clean));
@@ -142,7 +132,7 @@ static void time_zxing(const std::vector<Mark> &marks) {
 #endif
 
 #ifdef WITH_DMTX
-// From a picture of five pixels a module, in which libdmtx has found the region: its search isn't timed.
+// Reads from a picture of five pixels a module in which libdmtx has already found the region; its search isn't timed.
 static void time_dmtx_reading(const char *work, const std::vector<Mark> &marks, std::vector<uint8_t> Mark::*modules) {
     struct Found {
         DmtxDecode *decode;

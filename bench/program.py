@@ -1,4 +1,4 @@
-"""The program under test, run over files of a folder, and what was found wrong in its answers."""
+"""The program under test, run on files in a folder, and what was wrong in its answers."""
 import os
 import resource
 import subprocess
@@ -28,7 +28,7 @@ class Program:
             return file.read()
 
     def run(self, task, given, answers="answers"):
-        """Runs a task from a file to a file, and gives its seconds of processor time, from its start to its end."""
+        """Runs a task from a file to a file, and returns its seconds of processor time, from start to end."""
         with open(self.file(given), "rb") as source, open(self.file(answers), "wb") as sink:
             before = resource.getrusage(resource.RUSAGE_CHILDREN)
             status = subprocess.run([self.path, task], stdin=source, stdout=sink).returncode
@@ -43,7 +43,7 @@ class Program:
         return min(self.run(task, given) for _ in range(self.rounds))
 
     def compare(self, what, got, wanted):
-        """Compares two lists of answers, and notes what is wrong."""
+        """Compares two lists of answers, and notes how many are wrong."""
         differ = sum(one != other for one, other in zip(got, wanted)) + abs(len(got) - len(wanted))
         if differ:
             self.wrong.append(f"{what}: {differ} answers of {len(wanted)} are wrong")

@@ -1,4 +1,4 @@
-"""The programs that are timed beside ours: each is built from a small source of this folder where its package is there."""
+"""The programs that are timed beside ours: each is built from a small source in this folder, if its package is installed."""
 import os
 import re
 import shutil
@@ -7,7 +7,7 @@ import zipfile
 
 HERE = os.path.dirname(os.path.abspath(__file__))
 
-# What is said of an encoder that chooses among all encodations.
+# The note on an encoder that chooses among all encodations.
 CHOSE_OTHERS = "; for the rest it chose EDIFACT, or a rectangle, and they are refused"
 
 
@@ -21,7 +21,7 @@ def version_of(package):
 
 
 def version_in(jar):
-    """The version that a Java library says of itself, or nothing."""
+    """The version that a Java library states, or nothing."""
     if not zipfile.is_zipfile(jar):
         return ""
     with zipfile.ZipFile(jar) as library:
@@ -30,7 +30,7 @@ def version_in(jar):
 
 
 def printed_by(words):
-    """What a command prints. Where it fails, this program ends with what it said."""
+    """What a command prints. If it fails, this program ends too."""
     done = subprocess.run(words, stdout=subprocess.PIPE, text=True)
     if done.returncode:
         raise SystemExit(f"{words[0]} failed with status {done.returncode}")
@@ -55,7 +55,7 @@ class Zxing:
         printed_by(["javac", "-cp", self.jar, "-d", self.folder, os.path.join(HERE, "ZxingReads.java")])
 
     def timed(self, grids, lines, rounds):
-        """How many grids it doesn't read as their lines, and the best round's seconds."""
+        """How many grids it doesn't read as the lines written, and the best round's seconds."""
         path = os.pathsep.join([self.jar, self.folder])
         told = printed_by(["java", "-XX:+UseSerialGC", "-cp", path, "ZxingReads", grids, lines, str(rounds)])
         wrong, nanoseconds = told.split()
@@ -86,20 +86,20 @@ class ZxingCpp:
             printed_by(["c++", "-std=c++17", "-O2", "-o", self.built, os.path.join(HERE, "zxing_cpp.cpp"), "-lZXing"])
 
     def timed(self, given, other, rounds):
-        """As a decoder, given grids and lines: how many it doesn't read as their lines, and the best round's seconds. As an
+        """As a decoder, given grids and lines: how many grids it doesn't read as the lines written, and the best round's seconds. As an
         encoder, given lines and the file for grids: the best round's seconds."""
         wrong, seconds = printed_by([self.built, "read" if self.reads else "write", given, other, str(rounds)]).split()
         return (int(wrong), float(seconds)) if self.reads else float(seconds)
 
 
 def decoders(jar, folder):
-    """ZXing, and zxing-cpp, in C++."""
+    """ZXing and zxing-cpp."""
     return [Zxing(jar, folder), ZxingCpp(True, folder)]
 
 
 class Encoder:
     """An encoder of a C library, in a program that hands it lines. `same` is whether it is told to use ASCII encodation,
-    so that its symbols have to be the same as ours; `rest` says what it may choose otherwise."""
+    so that its symbols have to be the same as ours; `rest` is the note on the symbols that may differ."""
 
     def __init__(self, library, way, folder):
         self.library = library

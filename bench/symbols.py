@@ -1,11 +1,11 @@
-"""Lines to write, and damage to the symbols that come of them.
+"""Lines to write, and damage to the symbols made from them.
 
-Nothing here is taken from the program: codewords and their places are worked out anew, so that what the program writes
-can be compared with something."""
+Nothing here is taken from the program: codewords and their places are computed independently, so that what the program writes can
+be compared with them."""
 import random
 
 # A large symbol: four regions of 24 by 24 modules make a mapping square of 48 by 48, in which 204 data
-# codewords and 84 check codewords lie, dealt into two blocks in turn. In each block 21 wrong codewords can be corrected.
+# codewords and 84 check codewords lie, dealt alternately into two blocks. In each block 21 wrong codewords can be corrected.
 SIDE = 52
 REGION = 24
 MAPPING = 48
@@ -23,7 +23,7 @@ MARKS = " -./:"
 
 
 def lines_of(length, count):
-    """Lines of letters, digits and marks. No two digits stand side by side, so each character takes one codeword."""
+    """Lines of letters, digits and punctuation. No two digits are adjacent, so each character takes one codeword."""
     chance = random.Random(length)
     lines = []
     for _ in range(count):
@@ -46,7 +46,7 @@ def short_lines(count):
 
 
 def ascii_codewords(line):
-    """The codewords of a line of printable characters in ASCII encodation: two digits that meet make one codeword."""
+    """The codewords of a line of printable characters in ASCII encodation: two adjacent digits make one codeword."""
     codewords = []
     at = 0
     while at < len(line):
@@ -61,7 +61,7 @@ def ascii_codewords(line):
 
 
 def padded(codewords):
-    """The codewords, followed by pads up to the data codewords of the largest symbol."""
+    """The codewords, followed by pads up to the data codewords of the symbol of side 52."""
     codewords = list(codewords)
     if len(codewords) < DATA:
         codewords.append(129)
@@ -72,9 +72,9 @@ def padded(codewords):
 
 
 def places():
-    """For each codeword of the largest symbol the cells of its bits, the highest first, as pairs of row and column.
+    """For each codeword of the symbol of side 52 the cells of its bits, the highest first, as pairs of row and column.
 
-    At this size no corner shape comes. The last cells of the shapes are those with (5 row + column) mod 8 = 4, taken by
+    At this size there is no corner shape. The last cells of the shapes are those with (5 row + column) mod 8 = 4, taken by
     diagonals upwards and downwards in turn; what leaves the square at one edge comes in at the opposite one."""
     lasts = [(row, column) for row in range(MAPPING) for column in range(MAPPING) if (5 * row + column) % 8 == 4]
     lasts.sort(key=lambda cell: (sum(cell), cell[1] if cell[0] % 2 == 0 else cell[0]))
@@ -92,7 +92,7 @@ PLACES = places()
 
 
 def data_of(grid):
-    """The data codewords of a grid, given as its rows. Of another side than the largest there are none."""
+    """The data codewords of a grid, given as its rows; none if it has another side."""
     if [len(row) for row in grid] != [SIDE] * SIDE:
         return []
     return [int("".join(grid[row][column] for row, column in cells), 2) for cells in PLACES[:DATA]]

@@ -1,7 +1,7 @@
-/* What the two encoders' programs share: lines of a file, and the best time of writing them all.
+/* What the programs of the two encoders share: the lines of a file, and the best time of writing them all.
  *
  * Each program is called with the file of lines, the file for its grids, and the number of rounds. It writes the grids
- * once, which also warms it, then times the rounds without printing, and prints the best round's processor time in seconds. */
+ * once, which also warms it up, then times the rounds without printing, and prints the best round's processor time in seconds. */
 #ifndef TIMING_H
 #define TIMING_H
 
@@ -13,7 +13,7 @@
 /* The most lines that are timed. */
 enum { MOST = 100000 };
 
-/* Encodes one line, and prints its grid to `grids` unless that is NULL. Ends the program where the encoder refuses. */
+/* Encodes one line, and prints its grid to `grids` unless that is NULL. Ends the program if the encoder refuses. */
 typedef void writer(char *line, int length, FILE *grids);
 
 /* Lines without their line ends. */

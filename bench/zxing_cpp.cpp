@@ -1,8 +1,8 @@
-// Times zxing-cpp: `read GRIDS LINES ROUNDS` its decoder of a bit matrix, `write LINES GRIDS ROUNDS` its encoder, which chooses among all
-// encodations. The grids are bit matrices and the lines strings before the time begins; the first pass, which isn't timed, warms it.
-// Prints how many answers are wrong, and the best round's seconds of processor time.
-#include <ZXing/BitMatrix.h>
+// Times zxing-cpp: with `read GRIDS LINES ROUNDS` its decoder of a bit matrix, with `write LINES GRIDS ROUNDS` its encoder, which chooses
+// among all encodations. Before the timing starts, the grids are made into bit matrices and the lines into strings, and a first pass warms
+// it up. Prints how many answers are wrong, and the best round's seconds of processor time.
 #include <ZXing/MultiFormatWriter.h>
+
 #include <algorithm>
 #include <cstdint>
 #include <cstdio>
@@ -12,17 +12,7 @@
 #include <string>
 #include <vector>
 
-// zxing-cpp 1.4 exports its decoder of a bit matrix, but installs no header for it. What it returns stands in memory of the caller; its
-// first members are the vectors of the codewords and of the bytes read. It is let go without being destroyed, since its end isn't known.
-namespace ZXing {
-struct DecoderResult {
-    alignas(16) unsigned char all[2048];
-    ~DecoderResult() {}
-};
-namespace DataMatrix {
-DecoderResult Decode(const BitMatrix &);
-}
-}  // namespace ZXing
+#include "zxing_decoder.h"
 
 using Lines = std::vector<std::string>;
 using Grids = std::vector<ZXing::BitMatrix>;
@@ -67,8 +57,8 @@ static int wrong_of(const Grids &grids, const Lines &lines)
     int wrong = grids.size() != lines.size();
     for (size_t i = 0; i < std::min(grids.size(), lines.size()); i++) {
         auto answer = ZXing::DataMatrix::Decode(grids[i]);
-        auto *bytes = reinterpret_cast<std::vector<uint8_t> *>(&answer) + 1;
-        wrong += !std::equal(bytes->begin(), bytes->end(), lines[i].begin(), lines[i].end());
+        const auto &bytes = bytes_of(answer);
+        wrong += !std::equal(bytes.begin(), bytes.end(), lines[i].begin(), lines[i].end());
     }
     return wrong;
 }

@@ -3,13 +3,13 @@
  *     ecc200_read           what a symbol says, and how much of it was wrong
  *     ecc200_write          the normal symbol of a message
  *     ecc200_normal         the normal symbol of what a symbol says
- *     ecc200_inspect        the codewords that a symbol holds, and as they are corrected
+ *     ecc200_inspect        the codewords that a symbol holds, and what they are corrected to
  *     ecc200_places         what each module of a symbol is: the bit of a codeword, border, or fixed square
  *     ecc200_sizes          the table of sizes and limits
  *     ecc200_usual_limit    how many wrong border modules are usually accepted
  *     ecc200_abi            which version of this interface the library has
  *
- * An example: writes a symbol, prints it, turns a module over, and reads it.
+ * An example, which writes a symbol, prints it, turns a module over, and reads it:
  *
  *     #include <ecc200.h>
  *     #include <stdio.h>
@@ -31,34 +31,33 @@
  *
  *     cc example.c $(pkg-config --cflags --libs ecc200)
  *
- * MODULES are bytes, row by row from the top and each row from the left, `side` rows of `side` bytes, without a quiet zone. In what
- * comes in 0 is light and anything else dark; what comes out is 0 or 1. A symbol stands upright: the solid column is at the left,
- * the solid row at the bottom. The module of row r and column c, both counted from 0, is modules[r * side + c].
+ * MODULES are bytes, row by row from the top and each row from the left, `side` rows of `side` bytes, without a quiet zone. On
+ * input 0 is light and anything else is dark; on output a module is 0 or 1. A symbol stands upright: the solid column is on the left,
+ * the solid row at the bottom. The module in row r and column c, both counted from 0, is modules[r * side + c].
  *
- * ITEMS are what a message consists of: 0 to 255 is that byte, ECC200_FNC1 is the function character FNC1. None is interpreted. A GS1
+ * ITEMS make up a message: 0 to 255 is that byte, ECC200_FNC1 is the function character FNC1. None is interpreted. A GS1
  * message has ECC200_FNC1 first and another, or more rarely the byte 0x1D, between its fields. ecc200_text and ecc200_items, below,
  * turn items into bytes and back.
  *
- * A PROFILE chooses the normal form of a message, its one symbol: under ECC200_ASCII its codewords are those of ASCII encodation;
- * under ECC200_SHORTER those of one Base 256 segment where the message has no FNC1 and the segment is shorter, which serves binary
- * messages. Either way they stand in the smallest symbol that holds them, followed by pads; a message that no symbol holds so has no
- * normal symbol. Symbols that have normal symbols under one profile say the same exactly where these are equal, byte by byte; and the
- * normal symbol of a normal symbol is itself.
+ * A PROFILE chooses the normal form of a message, and so its one normal symbol: under ECC200_ASCII its codewords are those of ASCII
+ * encodation; under ECC200_SHORTER they are those of one Base 256 segment where the message has no FNC1 and the segment is shorter,
+ * which serves binary messages. Either way they stand in the smallest symbol that holds them, followed by pads; a message that no
+ * symbol holds in this form has no normal symbol. Symbols that have normal symbols under one profile say the same exactly if these are
+ * equal, byte by byte; and a normal symbol is its own normal symbol.
  *
- * EACH CALL returns, whatever it is given. It takes no memory but less than ECC200_STACK bytes of stack, keeps nothing, waits for
- * nothing, calls nothing but memcpy, memmove and memset, and touches only what it was given: any number of threads may call at once,
- * each with an `out` of its own.
+ * EACH CALL returns, whatever it is given. It allocates nothing and uses less than ECC200_STACK bytes of stack, keeps nothing, waits
+ * for nothing, calls nothing but memcpy, memmove and memset, and touches only what it was given: any number of threads may call at
+ * once, each with an `out` of its own.
  *
- * WHAT IS WRITTEN: `out` needn't hold anything before. A call writes all of it. Where there is a fault, everything in `out` but
- * `fault` is 0; where there is none, `fault` is 0, and so is what lies behind the counted part of an array. The calls return the
- * fault's code.
+ * WHAT IS WRITTEN: a call writes all of `out`, whatever it held before. If there is a fault, everything in `out` but `fault` is 0; if
+ * there is none, `fault` is 0, and so are the elements of an array past those that count. The calls return the fault's code.
  *
  * WHAT A CALLER OWES, since C can't check it:
- *  - a pointer points to as many elements as are said, aligned for their type. It may be NULL where the count is 0; `out` may not;
- *  - `out` overlaps no input, and nobody writes either, nor reads `out`, during the call.
+ *  - a pointer points to as many elements as the call says, aligned for their type. It may be NULL if the count is 0; `out` may not;
+ *  - `out` overlaps no input, and during the call nobody else writes either of them or reads `out`.
  *
- * The library is proved to do what this file says, but for the functions under "Conveniences", which are C; docs/LIBRARY.md says
- * how, and what is taken on trust. */
+ * The library is proved to do what this file says, except for the functions under "Conveniences", which are in C; docs/LIBRARY.md
+ * says how, and what is trusted. */
 #ifndef ECC200_H
 #define ECC200_H
 
@@ -74,10 +73,10 @@ extern "C" {
 #define ECC200_ASSERT(condition) _Static_assert(condition, #condition)
 #endif
 
-/* The version of this interface. It changes where a program that was built with this file would no longer work with the library. */
+/* The version of this interface. It changes when a program that was built with this file would no longer work with the library. */
 #define ECC200_ABI 1
 
-/* The version of the interface that the library has: to be compared with ECC200_ABI where a library is loaded while a program runs. */
+/* The version of the library's interface, to be compared with ECC200_ABI if the library is loaded at run time. */
 uint16_t ecc200_abi(void);
 
 enum {
@@ -101,7 +100,7 @@ enum ecc200_profile {
 
 /* ---- Faults */
 
-/* What a call returns, and puts into fault.code. `value` and `place` are 0 where nothing is said of them. */
+/* What a call returns, and puts into fault.code. `value` and `place` are 0 unless they are mentioned. */
 enum ecc200_code {
     ECC200_OK = 0,
 
@@ -110,20 +109,20 @@ enum ecc200_code {
     ECC200_SIDE = 4,        /* no size has this side; value: the side */
 
     /* The symbol isn't read. `place` counts the data codewords of the symbol from 1. */
-    ECC200_BORDER = 5,      /* more border modules have the wrong colour than the limit; value: how many have */
+    ECC200_BORDER = 5,      /* more border modules have the wrong colour than the limit allows; value: how many have */
     ECC200_BLOCK = 6,       /* a block is damaged beyond correction; place: the first such block, from 0 */
     ECC200_RESERVED = 7,    /* a codeword that ASCII encodation doesn't use: 0, or 242 to 255; place: where it stands */
-    ECC200_LEFT_OUT = 8,    /* value: a codeword that begins what isn't supported: structured append (233), reader programming
-                               (234), macro 05 (236), macro 06 (237), EDIFACT (240) or ECI (241); place: where it stands */
+    ECC200_LEFT_OUT = 8,    /* value: a codeword that begins something that isn't supported: structured append (233), reader
+                               programming (234), macro 05 (236), macro 06 (237), EDIFACT (240) or ECI (241); place: where it stands */
     ECC200_UPPER_SHIFT = 9, /* something other than a character follows an Upper Shift; place: that of the Upper Shift */
-    ECC200_TRIPLET = 10,    /* two codewords of C40, Text or X12 that stand for no three values; place: that of the first */
+    ECC200_TRIPLET = 10,    /* two codewords of C40, Text or X12 that don't stand for three values; place: that of the first */
     ECC200_VALUE = 11,      /* a value of C40 or Text that has no meaning after a shift; place: that of its codewords */
     ECC200_LENGTH = 12,     /* a Base 256 length that is missing, ill-formed, or too large; place: that of the latch */
     ECC200_UNFINISHED = 13, /* the symbol ends before the character of an Upper Shift; place: that of the Upper Shift */
 
     /* The message isn't written. */
     ECC200_TOO_LONG = 14,   /* no size holds the message in its normal form */
-    ECC200_ITEM = 15,       /* an item above 256; value: the item; place: its index from 0, 65535 where that is larger */
+    ECC200_ITEM = 15,       /* an item above 256; value: the item; place: its index from 0, or 65535 if that is larger */
 
     ECC200_PROFILE = 16     /* a profile above 1; value: the profile */
 };
@@ -146,12 +145,12 @@ typedef struct ecc200_reading {
     uint8_t corrected[ECC200_MOST_BLOCKS]; /* for each block, how many of its codewords were corrected */
 } ecc200_reading;
 
-/* Reads a symbol. `border_limit`: how many border modules may have the wrong colour, mostly ecc200_usual_limit(side). Each block
- * is corrected where a codeword of the error correcting code is near, that is, differs in at most `limit` codewords (ecc200_sizes).
- * The fixed square isn't looked at, nor what follows the first pad.
- * A symbol with more damage than that is mostly refused, but can be near the codewords of another message, and is then read as that:
- * where a wrong message would be worse than none, refuse where `corrected` comes close to the limit.
- * The first that applies: SHAPE, SIDE, BORDER, BLOCK, RESERVED to UNFINISHED. */
+/* Reads a symbol. `border_limit`: how many border modules may have the wrong colour, usually ecc200_usual_limit(side). Each block
+ * is corrected if it differs in at most `limit` codewords (ecc200_sizes) from a codeword of the error correcting code. Neither the
+ * fixed square nor what follows the first pad is looked at.
+ * A symbol with more damage than that is mostly refused, but it can come near the codewords of another message, and is then read as
+ * that message: if a wrong message is worse than none, refuse a symbol whose `corrected` comes close to the limit.
+ * Returns the first fault that applies: SHAPE, SIDE, BORDER, BLOCK, RESERVED to UNFINISHED. */
 uint16_t ecc200_read(const uint8_t *ECC200_RESTRICT modules, size_t count, uint16_t side, uint16_t border_limit, ecc200_reading *ECC200_RESTRICT out);
 
 /* A quarter of the side, rounded down. */
@@ -166,11 +165,11 @@ typedef struct ecc200_symbol {
 } ecc200_symbol;
 
 /* Writes the normal symbol of a message. ecc200_read reads it as that message, with nothing corrected.
- * The first that applies: PROFILE, ITEM, TOO_LONG. */
+ * Returns the first fault that applies: PROFILE, ITEM, TOO_LONG. */
 uint16_t ecc200_write(const uint16_t *ECC200_RESTRICT items, size_t count, uint16_t profile, ecc200_symbol *ECC200_RESTRICT out);
 
-/* Writes the normal symbol of what a symbol says, whatever size, encodation and damage it came with.
- * The first that applies: PROFILE, those of ecc200_read, TOO_LONG. */
+/* Writes the normal symbol of what a symbol says, whatever its size, encodation and damage.
+ * Returns the first fault that applies: PROFILE, those of ecc200_read, TOO_LONG. */
 uint16_t ecc200_normal(const uint8_t *ECC200_RESTRICT modules, size_t count, uint16_t side, uint16_t border_limit, uint16_t profile, ecc200_symbol *ECC200_RESTRICT out);
 
 /* ---- Showing and mending */
@@ -183,28 +182,28 @@ typedef struct ecc200_inspection {
     uint16_t codeword_count;               /* of the whole symbol, 8 to 1152: data codewords and then check codewords */
     uint8_t held[ECC200_MOST_CODEWORDS];   /* the codewords as they stand in the symbol */
     uint8_t mended[ECC200_MOST_CODEWORDS]; /* the same with each block corrected; a block beyond correction is left as it is */
-    uint8_t corrected[ECC200_MOST_BLOCKS]; /* for each block, in how many codewords these differ, or ECC200_BEYOND */
+    uint8_t corrected[ECC200_MOST_BLOCKS]; /* for each block, in how many codewords the two differ, or ECC200_BEYOND */
 } ecc200_inspection;
 
-/* The codewords of a symbol, whatever its border, and as far as they can be corrected: unlike ecc200_read it goes on after a bad
- * border, after a block that is damaged beyond correction, and where the data codewords spell no message. Of B blocks, block b has
- * the codewords b, b + B, b + 2 B, ..
- * The first that applies: SHAPE, SIDE. */
+/* Gives the codewords of a symbol, corrected as far as they can be: unlike ecc200_read it goes on after a bad border, after a block
+ * that is damaged beyond correction, and if the data codewords spell no message. Of B blocks, block b has the codewords b, b + B,
+ * b + 2 B, ..
+ * Returns the first fault that applies: SHAPE, SIDE. */
 uint16_t ecc200_inspect(const uint8_t *ECC200_RESTRICT modules, size_t count, uint16_t side, ecc200_inspection *ECC200_RESTRICT out);
 
 /* What a module is. */
 enum ecc200_kind {
-    ECC200_NO_MODULE = 0,    /* behind the modules of the symbol */
-    ECC200_BIT = 1,          /* a bit of a codeword: dark where it is 1 */
-    ECC200_BORDER_LIGHT = 2, /* of the finder and alignment patterns, and to be light */
+    ECC200_NO_MODULE = 0,    /* past the modules of the symbol */
+    ECC200_BIT = 1,          /* a bit of a codeword: dark if it is 1 */
+    ECC200_BORDER_LIGHT = 2, /* part of the finder and alignment patterns, and should be light */
     ECC200_BORDER_DARK = 3,
-    ECC200_FIXED_LIGHT = 4,  /* of the fixed square at the lower right of some sizes, and light where it is as it should be */
+    ECC200_FIXED_LIGHT = 4,  /* part of the fixed square at the lower right of some sizes, and should be light */
     ECC200_FIXED_DARK = 5
 };
 
 typedef struct ecc200_place {
-    uint16_t codeword; /* for a bit, its codeword, in the order of the symbol from 0; else 0 */
-    uint8_t bit;       /* for a bit, which: 1 is the highest, 8 the lowest; else 0 */
+    uint16_t codeword; /* for a bit, its codeword, counted from 0 in the order of the symbol; else 0 */
+    uint8_t bit;       /* for a bit, which one: 1 is the highest, 8 the lowest; else 0 */
     uint8_t kind;      /* an ecc200_kind */
 } ecc200_place;
 
@@ -214,20 +213,20 @@ typedef struct ecc200_place_table {
     ecc200_place places[ECC200_MOST_MODULES]; /* for each module, row by row: the first side * side count */
 } ecc200_place_table;
 
-/* What each module of a symbol of this side is. SIDE is the only fault. */
+/* Says what each module of a symbol of this side is. SIDE is the only fault. */
 uint16_t ecc200_places(uint16_t side, ecc200_place_table *ECC200_RESTRICT out);
 
 /* ---- Sizes */
 
 typedef struct ecc200_size {
-    uint16_t side;            /* modules a side of the symbol */
+    uint16_t side;            /* modules on a side of the symbol */
     uint16_t regions;         /* data regions */
-    uint16_t region_side;     /* modules a side of a region, without its border */
-    uint16_t mapping;         /* modules a side of all regions put together without their borders */
+    uint16_t region_side;     /* modules on a side of a region, without its border */
+    uint16_t mapping;         /* modules on a side of the mapping matrix, which is all regions together, without their borders */
     uint16_t data_codewords;
     uint16_t check_codewords;
     uint16_t blocks;          /* into which the codewords are dealt */
-    uint16_t limit;           /* how many wrong codewords are corrected in each block */
+    uint16_t limit;           /* how many wrong codewords can be corrected in each block */
 } ecc200_size;
 
 typedef struct ecc200_size_table {
@@ -239,8 +238,8 @@ void ecc200_sizes(ecc200_size_table *ECC200_RESTRICT out);
 
 /* ---- Conveniences: C, and not proved */
 
-/* The bytes of a reading as most decoders give them: an FNC1 in front is left out and told by *gs1 (NULL where that isn't asked); any
- * other becomes the byte 0x1D. Returns how many bytes there are, at most ECC200_MOST_ITEMS, and writes the first `room` of them. */
+/* The bytes of a reading as most decoders give them: an FNC1 in front is left out and reported in *gs1 (which may be NULL); any other
+ * becomes the byte 0x1D. Returns how many bytes there are, at most ECC200_MOST_ITEMS, and writes the first `room` of them. */
 static inline size_t ecc200_text(const ecc200_reading *reading, uint8_t *bytes, size_t room, int *gs1) {
     size_t first = reading->item_count > 0 && reading->items[0] == ECC200_FNC1, k;
     if (gs1)
@@ -250,8 +249,8 @@ static inline size_t ecc200_text(const ecc200_reading *reading, uint8_t *bytes, 
     return reading->item_count - first;
 }
 
-/* The items of bytes: with gs1, FNC1 in front and in the place of each byte 0x1D. Returns how many items there are, and writes the
- * first `room` of them. */
+/* The items of bytes; with gs1, FNC1 in front and in place of each byte 0x1D. Returns how many items there are, and writes the first
+ * `room` of them. */
 static inline size_t ecc200_items(const uint8_t *bytes, size_t count, int gs1, uint16_t *items, size_t room) {
     size_t first = gs1 != 0, k;
     if (gs1 && room > 0)
@@ -261,7 +260,7 @@ static inline size_t ecc200_items(const uint8_t *bytes, size_t count, int gs1, u
     return count + first;
 }
 
-/* A code in words, to be shown to people. */
+/* A code in words, to show to people. */
 static inline const char *ecc200_words(uint16_t code) {
     switch (code) {
     case ECC200_OK: return "no fault";
@@ -271,19 +270,19 @@ static inline const char *ecc200_words(uint16_t code) {
     case ECC200_BLOCK: return "a block is damaged beyond correction";
     case ECC200_RESERVED: return "a reserved codeword";
     case ECC200_LEFT_OUT: return "an encodation or function that isn't supported";
-    case ECC200_UPPER_SHIFT: return "an Upper Shift before no character";
-    case ECC200_TRIPLET: return "a pair of codewords that stands for no three values";
+    case ECC200_UPPER_SHIFT: return "an Upper Shift that no character follows";
+    case ECC200_TRIPLET: return "a pair of codewords that doesn't stand for three values";
     case ECC200_VALUE: return "a value that has no meaning after a shift";
     case ECC200_LENGTH: return "a wrong Base 256 length";
     case ECC200_UNFINISHED: return "the symbol ends before the character of an Upper Shift";
     case ECC200_TOO_LONG: return "the message is too long for any size";
     case ECC200_ITEM: return "an item above 256";
     case ECC200_PROFILE: return "no such profile";
-    default: return "no code of this library";
+    default: return "not a code of this library";
     }
 }
 
-/* ---- What the library was built with: nothing here is for callers. */
+/* ---- The layout with which the library was built: nothing here is for callers. */
 
 ECC200_ASSERT(sizeof(ecc200_fault) == 6 && sizeof(ecc200_place) == 4 && sizeof(ecc200_size) == 16);
 ECC200_ASSERT(sizeof(ecc200_reading) == 3284 && sizeof(ecc200_symbol) == 10824 && sizeof(ecc200_inspection) == 2324);

@@ -4,16 +4,17 @@
     >>> read(rows).data
     b'123456'
 
-A grid is the rows of a symbol from the top, each of as many modules from the left, without a quiet zone: true or 1 is dark, false
-or 0 light. What comes out are rows of bytes, whose items are 1 and 0. A symbol stands upright: the solid column is at the left, the solid row at
-the bottom.
+A grid is the rows of a symbol from the top, each with its modules from the left, without a quiet zone: true or 1 is dark, false or 0
+is light. Functions return rows as bytes, whose items are 1 and 0. A symbol stands upright: the solid column is on the left, the solid row
+at the bottom.
 
-A message is its bytes, and whether FNC1 stands in front, which marks GS1 messages; further FNC1s are the byte 0x1D, GS. Where FNC1 and GS
-have to be told apart, there are the items: 0 to 255, and FNC1.
+A message is its bytes, and whether FNC1 stands in front, which marks GS1 messages; further FNC1s are the byte 0x1D, GS. To tell FNC1 from
+GS, use the items: 0 to 255, and FNC1.
 
-What isn't read or written raises Refused. All functions may be called from any number of threads.
+What can't be read or written raises Refused. All functions may be called from any number of threads.
 
-The shared library is looked for at the environment's ECC200_LIBRARY, beside this file, and where the system has its libraries.
+The shared library is looked for at the path in the environment variable ECC200_LIBRARY, then beside this file, then where the system keeps
+its libraries.
 """
 import ctypes
 import ctypes.util
@@ -41,7 +42,7 @@ class Profile(enum.IntEnum):
 
 
 class Code(enum.IntEnum):
-    """Why a symbol or a message is refused. What `value` and `place` say is said in ecc200.h."""
+    """Why a symbol or a message is refused. ecc200.h explains `value` and `place` for each code."""
     SHAPE = 3
     SIDE = 4
     BORDER = 5
@@ -65,8 +66,8 @@ _WORDS = {
     Code.BLOCK: "a block is damaged beyond correction",
     Code.RESERVED: "a reserved codeword",
     Code.LEFT_OUT: "an encodation or function that isn't supported",
-    Code.UPPER_SHIFT: "an Upper Shift before no character",
-    Code.TRIPLET: "a pair of codewords that stands for no three values",
+    Code.UPPER_SHIFT: "an Upper Shift that no character follows",
+    Code.TRIPLET: "a pair of codewords that doesn't stand for three values",
     Code.VALUE: "a value that has no meaning after a shift",
     Code.LENGTH: "a wrong Base 256 length",
     Code.UNFINISHED: "the symbol ends before the character of an Upper Shift",
@@ -77,7 +78,7 @@ _WORDS = {
 
 
 class Refused(ValueError):
-    """A symbol that isn't read, or a message that isn't written: the code, and the numbers that it says."""
+    """A symbol that can't be read, or a message that can't be written: the code, and its numbers."""
 
     def __init__(self, code: int, value: int = 0, place: int = 0) -> None:
         self.code, self.value, self.place = Code(code), value, place
@@ -97,12 +98,12 @@ class Inspection(NamedTuple):
     """The codewords of a symbol: of B blocks, block b has the codewords b, b + B, b + 2 B, .."""
     held: bytes                           # as they stand in the symbol, data codewords and then check codewords
     mended: bytes                         # with each block corrected; a block beyond correction is left as it is
-    corrected: Tuple[Optional[int], ...]  # for each block, in how many codewords these differ, or None beyond correction
+    corrected: Tuple[Optional[int], ...]  # for each block, in how many codewords the two differ, or None beyond correction
     border_faults: int                    # how many border modules have the wrong colour
 
 
 class Kind(enum.IntEnum):
-    """What a module is: the bit of a codeword, or of the border or the fixed square, and of which colour."""
+    """What a module is: the bit of a codeword, or part of the border or the fixed square, and then its colour."""
     BIT = 1
     BORDER_LIGHT = 2
     BORDER_DARK = 3
@@ -118,8 +119,8 @@ class Place(NamedTuple):
 
 
 class Size(NamedTuple):
-    """A row of the table of sizes: modules a side of the symbol, of a region, and of all regions put together; codewords; the blocks
-    that they are dealt into; and how many wrong codewords are corrected in each."""
+    """A row of the table of sizes: modules on a side of the symbol, of a region, and of the mapping matrix, which is all regions together;
+    codewords; the blocks into which they are dealt; and how many wrong codewords can be corrected in each block."""
     side: int
     regions: int
     region_side: int
@@ -171,7 +172,7 @@ def _load() -> ctypes.CDLL:
     beside = os.path.join(os.path.dirname(os.path.abspath(__file__)), "libecc200.so")
     found = os.environ.get("ECC200_LIBRARY") or (beside if os.path.exists(beside) else ctypes.util.find_library("ecc200"))
     if not found:
-        raise ImportError("libecc200.so isn't found; ECC200_LIBRARY may say where it is")
+        raise ImportError("libecc200.so wasn't found; set ECC200_LIBRARY to its path")
     library = ctypes.CDLL(found)
     modules, size, pointer = ctypes.c_char_p, ctypes.c_size_t, ctypes.POINTER
     for name, words in {
@@ -187,7 +188,7 @@ def _load() -> ctypes.CDLL:
         function = getattr(library, "ecc200_" + name)
         function.argtypes, function.restype = words, None if name == "sizes" else _u16
     if library.ecc200_abi() != ABI:
-        raise ImportError(f"{found} has the interface {library.ecc200_abi()}, and this module wants {ABI}")
+        raise ImportError(f"{found} has version {library.ecc200_abi()} of the interface, but this module needs version {ABI}")
     return library
 
 
@@ -200,7 +201,7 @@ def _refuse(fault: _Fault) -> None:
 
 
 def _modules(grid: Grid) -> Tuple[bytes, int, int]:
-    """The modules of the rows, how many they are, and the side."""
+    """The modules of the rows, their number, and the side."""
     rows = [bytes(1 if module else 0 for module in row) for row in grid]
     if any(len(row) != len(rows) for row in rows):
         raise Refused(Code.SHAPE)
@@ -228,8 +229,8 @@ def _limit(side: int, border_limit: Optional[int]) -> int:
 def read(grid: Grid, border_limit: Optional[int] = None) -> Reading:
     """What a symbol says. `border_limit`: how many border modules may have the wrong colour, by default the usual limit.
 
-    A symbol with more damage than can be corrected is mostly refused, but can be near the codewords of another message, and is then
-    read as that: where that would be worse than a refusal, look at `corrected`."""
+    A symbol with more damage than can be corrected is mostly refused, but it can come near the codewords of another message, and is then
+    read as that message: if that is worse than a refusal, look at `corrected`."""
     modules, count, side = _modules(grid)
     out = _ReadingOut()
     _library.ecc200_read(modules, count, side, _limit(side, border_limit), out)
@@ -241,7 +242,7 @@ def read(grid: Grid, border_limit: Optional[int] = None) -> Reading:
 
 
 def write(message: Union[bytes, Iterable[int]], gs1: bool = False, profile: Profile = Profile.ASCII) -> Rows:
-    """The normal symbol of a message: of bytes, or of items, which are 0 to 255 or FNC1. With `gs1` FNC1 stands in front and in the
+    """The normal symbol of a message, given as bytes or as items, which are 0 to 255 or FNC1. With `gs1`, FNC1 stands in front and in
     place of each 0x1D."""
     items = [FNC1 if gs1 and item == _GS else item for item in message]
     if gs1:
@@ -255,7 +256,7 @@ def write(message: Union[bytes, Iterable[int]], gs1: bool = False, profile: Prof
 
 
 def normal(grid: Grid, border_limit: Optional[int] = None, profile: Profile = Profile.ASCII) -> Rows:
-    """The normal symbol of what a symbol says. Symbols say the same exactly where their normal symbols are equal."""
+    """The normal symbol of what a symbol says. Symbols say the same exactly if their normal symbols under one profile are equal."""
     modules, count, side = _modules(grid)
     out = _SymbolOut()
     _library.ecc200_normal(modules, count, side, _limit(side, border_limit), profile, out)
@@ -263,7 +264,7 @@ def normal(grid: Grid, border_limit: Optional[int] = None, profile: Profile = Pr
 
 
 def inspect(grid: Grid) -> Inspection:
-    """The codewords of a symbol, as they stand in it and as they are corrected, also where it can't be read."""
+    """The codewords of a symbol, as they stand in it and as they are corrected, even if it can't be read."""
     modules, count, side = _modules(grid)
     out = _InspectionOut()
     _library.ecc200_inspect(modules, count, side, out)

@@ -1,7 +1,7 @@
-//! Data Matrix ECC 200 (ISO/IEC 16022), the 21 square symbols, by the C library ecc200: a safe face over `ecc200.h`, whose conventions hold
-//! here too. Put this file beside yours, write `mod ecc200;`, and link the library: `rustc -l ecc200`, with `-L` where it lies.
+//! Data Matrix ECC 200 (ISO/IEC 16022), the 21 square symbols, by the C library ecc200: a safe interface over `ecc200.h`, whose conventions
+//! hold here too. Put this file beside yours, write `mod ecc200;`, and link the library: `rustc -l ecc200`, with `-L` for its folder.
 //!
-//! A slice's pointer is never null, and a `&mut` overlaps nothing: that is all that the library asks of its callers.
+//! What `ecc200.h` asks of callers holds here for any arguments: slices point to all of their elements, and a `&mut` overlaps nothing.
 #![deny(unsafe_op_in_unsafe_fn)]
 #![allow(dead_code)]
 
@@ -27,7 +27,7 @@ pub enum Profile {
     Shorter = 1,
 }
 
-/// Why a symbol or a message is refused: a code of `ecc200.h`, and the numbers that it says.
+/// Why a symbol or a message is refused: a code of `ecc200.h`, and its numbers.
 #[repr(C)]
 #[derive(Clone, Copy, Debug, Default, PartialEq, Eq)]
 pub struct Fault {
@@ -46,15 +46,15 @@ impl fmt::Display for Fault {
             6 => "a block is damaged beyond correction",
             7 => "a reserved codeword",
             8 => "an encodation or function that isn't supported",
-            9 => "an Upper Shift before no character",
-            10 => "a pair of codewords that stands for no three values",
+            9 => "an Upper Shift that no character follows",
+            10 => "a pair of codewords that doesn't stand for three values",
             11 => "a value that has no meaning after a shift",
             12 => "a wrong Base 256 length",
             13 => "the symbol ends before the character of an Upper Shift",
             14 => "the message is too long for any size",
             15 => "an item above 256",
             16 => "no such profile",
-            _ => "no code of this library",
+            _ => "not a code of this library",
         })
     }
 }
@@ -80,7 +80,7 @@ pub struct Reading {
 }
 
 impl Reading {
-    /// The bytes of the message, and whether FNC1 stands in front, which is left out; any other FNC1 is the byte 0x1D.
+    /// The bytes of the message without an FNC1 in front, and whether there was one; any other FNC1 becomes the byte 0x1D.
     pub fn text(&self) -> (Vec<u8>, bool) {
         let gs1 = self.items.first() == Some(&FNC1);
         let rest = self.items[usize::from(gs1)..].iter();
@@ -95,7 +95,7 @@ pub struct Inspection {
     pub held: Vec<u8>,
     /// With each block corrected; a block beyond correction is left as it is.
     pub mended: Vec<u8>,
-    /// For each block, in how many codewords these differ, or None beyond correction.
+    /// For each block, in how many codewords the two differ, or None beyond correction.
     pub corrected: Vec<Option<u8>>,
     /// How many border modules have the wrong colour.
     pub border_faults: u16,
@@ -104,9 +104,9 @@ pub struct Inspection {
 /// What a module is.
 #[derive(Clone, Copy, Debug, PartialEq, Eq)]
 pub enum Place {
-    /// A bit of a codeword, which counts from 0; the bit from 1, the highest, to 8.
+    /// A bit of a codeword: codewords count from 0, bits from 1, the highest, to 8.
     Bit { codeword: u16, bit: u8 },
-    /// A module of the border, which is to be dark or light.
+    /// A module of the border, which should be dark or light.
     Border { dark: bool },
     /// A module of the fixed square.
     Fixed { dark: bool },
@@ -189,15 +189,15 @@ mod sys {
     const _: () = assert!(size_of::<InspectionOut>() == 2324 && size_of::<PlacesOut>() == 43272);
 }
 
-/// A struct of the library's, all zeros, on the heap.
+/// A struct of the library with all its bytes 0, on the heap.
 ///
 /// # Safety
-/// All zeros have to be a value of the type.
+/// All bytes 0 must be a valid value of the type.
 unsafe fn zeros<T>() -> Box<T> {
     unsafe { Box::<T>::new_zeroed().assume_init() }
 }
 
-/// Whether the library that is linked has the interface of this file.
+/// Whether the linked library has the interface of this file.
 pub fn is_compatible() -> bool {
     sys::ecc200_abi() == ABI
 }
@@ -242,7 +242,7 @@ pub fn normal(modules: &[u8], side: u16, border_limit: u16, profile: Profile) ->
     symbol(code, &out)
 }
 
-/// The codewords of a symbol, also where it can't be read.
+/// The codewords of a symbol, even if it can't be read.
 pub fn inspect(modules: &[u8], side: u16) -> Result<Inspection, Fault> {
     let mut out = unsafe { zeros::<sys::InspectionOut>() };
     match unsafe { sys::ecc200_inspect(modules.as_ptr(), modules.len(), side, &mut *out) } {

@@ -1,5 +1,5 @@
-/* Loaded before the C library: refuses one growth of memory, the one whose number stands in REFUSED_GROWTH, counted from 1, and writes how
-   many were asked for to the file named in GROWTHS. */
+/* Loaded before the C library. Refuses one growth of memory, whose number, counted from 1, is in the environment variable REFUSED_GROWTH, and
+   writes how many were asked for to the file named in GROWTHS. */
 #define _GNU_SOURCE
 #include <dlfcn.h>
 #include <stdio.h>

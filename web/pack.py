@@ -1,7 +1,7 @@
 #!/usr/bin/env python3
-"""Packs the page, its looks, its script and the library into one HTML file that opens from disk: pack.py LIBRARY.wasm PAGE.html
+"""Packs the page, its styles, its script and the library into one HTML file that opens from disk: pack.py LIBRARY.wasm PAGE.html
 
-The file fetches nothing and asks nobody: its policy, which the browser keeps, lets it run this one script and no connection.
+The file fetches nothing: its policy, which the browser enforces, lets it run this one script and make no connection.
 """
 import base64
 import hashlib

@@ -1,19 +1,19 @@
-// The page of Mitsubadoor. Whatever it knows of Data Matrix symbols (sizes, places, codewords, correction, messages, borders, normal
-// forms) it asks of the proved library, ecc200.wasm, whose interface is that of library/ecc200.h. Here are only the glue to it, how messages
-// and grids are spelled, what single codewords stand for, words for refusals, and drawing: none of that is proved.
+// The page of Mitsubadoor. For everything about Data Matrix symbols (sizes, places, codewords, correction, messages, borders, normal forms)
+// it asks the proved library, ecc200.wasm, whose interface is that of library/ecc200.h. Here are only the glue to it, how messages and
+// grids are spelled, what single codewords stand for, words for refusals, and drawing: none of that is proved.
 
 const FNC1 = 256, BEYOND = 255, ABI = 1, MOST_SIDE = 104, MOST_ITEMS = 1632, SIZE_COUNT = 21;
 const ASCII = 0, SHORTER = 1;
 const TOO_LONG = 14;
 const BIT = 1, BORDER_LIGHT = 2, BORDER_DARK = 3;
-const QUIET = 2; // modules of quiet zone around what is drawn and saved: readers want one, some of them two
+const QUIET = 2; // modules of quiet zone around what is drawn and saved: readers need one, some of them two
 const $ = (id) => document.getElementById(id);
 const made = (tag, properties) => Object.assign(document.createElement(tag), properties);
 
 // ---- The library: WebAssembly with 64-bit memory, so that addresses and lengths are BigInts
 
 const NO_MEMORY = "no 64-bit memory";
-const SMALL_MODULE = new Uint8Array([0, 97, 115, 109, 1, 0, 0, 0, 5, 3, 1, 4, 1]); // a module of nothing but a page of such memory
+const SMALL_MODULE = new Uint8Array([0, 97, 115, 109, 1, 0, 0, 0, 5, 3, 1, 4, 1]); // a module that has only a page of such memory
 
 async function load() {
   if (typeof WebAssembly !== "object" || !WebAssembly.validate(SMALL_MODULE)) throw new Error(NO_MEMORY);
@@ -26,14 +26,14 @@ class Library {
   constructor(exports) {
     this.c = exports;
     if (exports.ecc200_abi() !== ABI) throw new Error("the library has another interface than this page");
-    const start = this.grow(1) * 65536; // a page of memory that is added is the caller's
+    const start = this.grow(1) * 65536; // memory that the caller adds is the caller's
     this.modulesAt = start;
     this.itemsAt = start + 12288;
     this.outAt = start + 16384;
     this.sizes = new Map(this.sizeTable().map((size) => [size.side, size]));
     this.maps = new Map();
   }
-  // Older engines count pages by numbers.
+  // Older engines count pages in ordinary numbers.
   grow(pages) {
     try { return Number(this.c.memory.grow(BigInt(pages))); } catch { return Number(this.c.memory.grow(pages)); }
   }
@@ -64,7 +64,7 @@ class Library {
     return { border, items: Array.from(this.numbers(this.outAt + 14, items)), corrected: Array.from(this.bytes(this.outAt + 3278, blocks)) };
   }
   write(items, profile) {
-    const some = items.slice(0, MOST_ITEMS + 1); // one more than any symbol says is as good as all
+    const some = items.slice(0, MOST_ITEMS + 1); // one item too many has the same effect as all of them
     this.numbers(this.itemsAt, some.length).set(some);
     return this.c.ecc200_write(BigInt(this.itemsAt), BigInt(some.length), profile, this.out) ? this.fault() : this.symbol();
   }
@@ -76,7 +76,7 @@ class Library {
     const [border, blocks, codewords] = this.numbers(this.outAt + 8, 3), list = (at, count) => this.bytes(this.outAt + at, count).slice();
     return { border, held: list(14, codewords), mended: list(1166, codewords), corrected: Array.from(list(2318, blocks)) };
   }
-  // What each module of a side is: its kind and, for a bit, its codeword and how far the bit is shifted; and the modules of each codeword.
+  // What each module of a symbol of this side is: its kind and, for a bit, its codeword and number; and the modules of each codeword.
   map(side) {
     if (!this.maps.has(side)) {
       this.c.ecc200_places(side, this.out);
@@ -94,7 +94,7 @@ class Library {
   }
 }
 
-// ---- Messages: a character of 32 to 126 is itself, \\ the backslash, \F FNC1, \xHH a byte
+// ---- Messages: \\ is the backslash, \F FNC1, \xHH a byte, and any other character of 32 to 126 itself
 
 function parse(text) {
   const items = [];
@@ -103,7 +103,7 @@ function parse(text) {
     if (rest.startsWith("\\\\")) { items.push(92); at += 2; }
     else if (rest.startsWith("\\F")) { items.push(FNC1); at += 2; }
     else if (/^\\x[0-9A-Fa-f]{2}$/.test(rest)) { items.push(parseInt(rest.slice(2), 16)); at += 4; }
-    else if (code === 92) return { column: at + 1, why: "is a backslash that begins no spelling: those are \\\\, \\F and \\xHH" };
+    else if (code === 92) return { column: at + 1, why: "is a backslash that doesn’t begin a spelling; those are \\\\, \\F and \\xHH" };
     else if (code >= 32 && code <= 126) { items.push(code); at += 1; }
     else return { column: at + 1, why: `is ${named(code)}, which has no spelling of its own`, ways: respelled(text) };
   }
@@ -112,7 +112,7 @@ function parse(text) {
 const named = (code) => ({ 9: "a tab", 10: "a line break", 13: "a line break" })[code] ?? (code < 32 || code === 127 ? "a control character" : String.fromCodePoint(code));
 const hexed = (byte) => "\\x" + byte.toString(16).toUpperCase().padStart(2, "0");
 
-// The text with what has no spelling as bytes: those of Latin-1, where it has them, and those of UTF-8.
+// The text with each character that has no spelling as bytes: those of Latin-1, if it has them, and those of UTF-8.
 function respelled(text) {
   const spell = (bytesOf) => Array.from(text, (c) => (c >= " " && c <= "~" ? c : bytesOf(c).map(hexed).join(""))).join("");
   const utf8 = { name: "as UTF-8", text: spell((c) => [...new TextEncoder().encode(c)]) };
@@ -139,7 +139,7 @@ function meanings(data) {
     const value = data[told.length];
     if (value === 129) {
       say("the end of the message, and the first pad", "end");
-      while (told.length < data.length) say("a pad, which fills the symbol up", "pad");
+      while (told.length < data.length) say("a pad, which fills up the symbol", "pad");
     } else if (value >= 1 && value <= 128) say(character(value - 1), shown([value - 1]), [value - 1]);
     else if (value >= 130 && value <= 229) {
       const digits = String(value - 130).padStart(2, "0");
@@ -156,7 +156,7 @@ function meanings(data) {
   return told;
 }
 
-// A Base 256 segment: a length of one or two codewords, then bytes, each with a number added that depends on its place.
+// A Base 256 segment: a length of one or two codewords, then bytes; a number that depends on the place is added to each.
 function sayBytes(data, told, say) {
   const plain = (at) => (data[at] - (((149 * (at + 1)) % 255) + 1) + 256) % 256, most = () => data.length - told.length;
   let length = plain(told.length);
@@ -172,7 +172,7 @@ function sayBytes(data, told, say) {
   }
 }
 
-// Pairs of C40, Text or X12, each of three values, up to an unlatch or to where no pair is left.
+// Pairs of C40, Text or X12, each of three values, up to an unlatch or until no pair is left.
 function sayTriplets(mode, data, told, say) {
   let shift = 0, upper = 0;
   const valueOf = (value) => { // [what it is called, its items]
@@ -209,7 +209,7 @@ function gridText(modules) {
   return lines.join("\n") + "\n";
 }
 
-// Rows of 0 and 1; or with # or X for dark and . or space for light, where spaces that an editor cut off at the right are put back.
+// Rows of 0 and 1; or with # or X for dark and . or space for light, in which spaces that an editor cut off at the right are restored.
 function gridFrom(text) {
   const pictured = /[#Xx]/.test(text);
   let lines = text.split(/\r?\n/).filter((line) => line.trim());
@@ -220,14 +220,14 @@ function gridFrom(text) {
   } else lines = lines.map((line) => line.trim());
   const odd = lines.findIndex((line) => (pictured ? /[^#Xx. ]/ : /[^01]/).test(line));
   if (odd >= 0) return { why: `Row ${odd + 1} has a character other than ${pictured ? "#, X, . and space" : "0 and 1"}.` };
-  if (lines.length > MOST_SIDE || lines.some((line) => line.length > MOST_SIDE)) return { why: `More than ${MOST_SIDE} rows or columns: no symbol that is read here is as large.` };
+  if (lines.length > MOST_SIDE || lines.some((line) => line.length > MOST_SIDE)) return { why: `More than ${MOST_SIDE} rows or columns: symbols as large as that aren’t read here.` };
   const uneven = lines.findIndex((line) => line.length !== lines.length);
-  if (uneven >= 0) return { why: `No square: there ${lines.length === 1 ? "is 1 row" : `are ${lines.length} rows`}, and row ${uneven + 1} has ${plural(lines[uneven].length, "module", "modules")}.` };
+  if (uneven >= 0) return { why: `Not a square: there ${lines.length === 1 ? "is 1 row" : `are ${lines.length} rows`}, and row ${uneven + 1} has ${plural(lines[uneven].length, "module", "modules")}.` };
   if (!lib.sizes.has(lines.length)) return { why: `A square of side ${lines.length}, but no size has this side.` };
   return { modules: Uint8Array.from(lines.join(""), (c) => +/[1#Xx]/.test(c)) };
 }
 
-// The upright modules of those that stand mirrored left to right or not, then turned clockwise by so many quarters, inverted or not.
+// The upright modules of a symbol that was mirrored left to right or not, then turned clockwise by so many quarters, and inverted or not.
 function upright(modules, { quarters, mirrored, inverted }) {
   const side = sideOf(modules), out = new Uint8Array(modules.length);
   for (let k = 0; k < out.length; k++) {
@@ -240,11 +240,11 @@ function upright(modules, { quarters, mirrored, inverted }) {
 }
 const STANDS = [false, true].flatMap((inverted) => [false, true].flatMap((mirrored) => [0, 1, 2, 3].map((quarters) => ({ quarters, mirrored, inverted }))));
 function standsHow({ quarters, mirrored, inverted }) {
-  const words = [inverted && "inverted, light for dark", mirrored && "mirrored left to right", quarters && `turned ${["", "a quarter to the right", "by half", "a quarter to the left"][quarters]}`];
+  const words = [inverted && "inverted, light for dark", mirrored && "mirrored left to right", quarters && `turned ${["", "a quarter to the right", "upside down", "a quarter to the left"][quarters]}`];
   return words.filter(Boolean).join(", and ");
 }
 
-// The first way in which the modules are read, upright first; where there is none, as they stand.
+// The first way to stand in which the modules are read, upright first; if there is none, as they are.
 function found(modules) {
   const limit = lib.usualLimit(sideOf(modules));
   const how = STANDS.find((stand) => !lib.read(upright(modules, stand), limit).fault);
@@ -263,7 +263,7 @@ function frame(isInk, width, height) {
   return { left, top, width: right - left + 1, height: bottom - top + 1 };
 }
 
-// The grid of a side in a frame, and how many of the looked-at pixels differ from most of their module, of 1.
+// The grid of a side in a frame, and the share of sampled pixels that differ from most of their module.
 function sampled(isInk, pictureWidth, at, side) {
   const each = [at.width / side, at.height / side], looks = Math.min(5, Math.floor(Math.min(...each))), modules = new Uint8Array(side * side);
   let odd = 0;
@@ -280,12 +280,12 @@ function sampled(isInk, pictureWidth, at, side) {
   return { modules, odd: odd / (modules.length * looks * looks) };
 }
 
-// The symbol in a picture, within the frame of what is darker than the middle or of what is lighter. Of sides that fit about as well the
-// smallest comes first, since a module can be seen as four.
+// The symbol in a picture, within the frame of what is darker than the middle grey or of what is lighter. Among sides that fit about
+// equally well the smallest comes first, since one module can also be seen as four.
 function gridInPicture({ data, width, height }) {
   const grey = Uint8Array.from({ length: width * height }, (_, k) => { const p = 4 * k; return 255 - ((255 - (data[p] * 77 + data[p + 1] * 150 + data[p + 2] * 29) / 256) * data[p + 3]) / 255; });
   const [least, most] = grey.reduce(([a, b], value) => [Math.min(a, value), Math.max(b, value)], [255, 0]), middle = (least + most) / 2;
-  if (most - least < 32) return { why: "The picture is of one colour." };
+  if (most - least < 32) return { why: "The picture has only one colour." };
   const isDark = (k) => grey[k] < middle, likely = [];
   for (const isInk of [isDark, (k) => !isDark(k)]) {
     const at = frame(isInk, width, height);
@@ -299,7 +299,7 @@ function gridInPicture({ data, width, height }) {
     if (symbol && symbol.isRead) return symbol;
   }
   const unread = likely.find(({ odd, isExact }) => odd < 0.02 && isExact);
-  return unread ? found(unread.modules) : { why: "No symbol of equal squares was found. It must stand alone and straight in the picture; this page seeks no symbols in photographs." };
+  return unread ? found(unread.modules) : { why: "No symbol of equal squares was found. It must stand alone and straight in the picture; this page doesn’t look for symbols in photographs." };
 }
 
 // ---- Words
@@ -307,22 +307,22 @@ function gridInPicture({ data, width, height }) {
 const plural = (count, one, many) => `${count} ${count === 1 ? one : many}`;
 const LEFT_OUT = {
   233: "structured append: this symbol has one part of a message that several symbols share",
-  234: "reader programming: an order to the reader, and no message",
+  234: "reader programming: an instruction to the reader, and not a message",
   236: "macro 05: the symbol stands for text that isn’t in its codewords", 237: "macro 06: the symbol stands for text that isn’t in its codewords",
-  240: "EDIFACT, an encodation that isn’t read here", 241: "an ECI, which changes how the bytes are to be taken",
+  240: "EDIFACT, an encodation that isn’t read here", 241: "an ECI, which changes how the bytes are to be interpreted",
 };
 function refusal({ code, value, place }, size, limit) {
   const at = `data codeword ${place}`;
   switch (code) {
-    case 5: return `${plural(value, "module", "modules")} of the border ${value === 1 ? "has" : "have"} the wrong colour, and ${limit} may. The message may still be there: bear more, below.`;
+    case 5: return `${plural(value, "module", "modules")} of the border ${value === 1 ? "has" : "have"} the wrong colour, and ${limit} may. The message may still be readable: raise the limit below.`;
     case 6: return `More than ${size.limit} codewords are wrong${size.blocks > 1 ? ` in block ${place + 1} of ${size.blocks}` : ""}. Its ${size.check / size.blocks} check codewords correct no more than that, and nothing is guessed.`;
-    case 7: return `A value that the standard keeps back, 0 or 242 to 255, is ${at}.`;
-    case 8: return `At ${at} begins ${LEFT_OUT[value]}.`;
-    case 9: return `An Upper Shift, ${at}, comes before no character.`;
-    case 10: return `A pair of codewords of C40, Text or X12 stands for no three values: ${at} and the next.`;
+    case 7: return `The standard reserves the value of ${at}: 0, or 242 to 255.`;
+    case 8: return `Data codeword ${place} begins ${LEFT_OUT[value]}.`;
+    case 9: return `No character follows the Upper Shift at ${at}.`;
+    case 10: return `A pair of C40, Text or X12 codewords doesn’t stand for three values: ${at} and the next.`;
     case 11: return `A value in a pair of C40 or Text has no meaning: ${at} and the next.`;
-    case 12: return `The length of a Base 256 segment doesn’t fit; it begins at ${at}.`;
-    case 13: return `The symbol ends before the character of an Upper Shift, ${at}.`;
+    case 12: return `The length of the Base 256 segment at ${at} is missing, ill-formed or too large.`;
+    case 13: return `The run or the symbol ends before the character to which the Upper Shift at ${at} applies.`;
     case TOO_LONG: return "No size of symbol up to side 104 holds this message in this normal form.";
     default: return `Refused: ${code} ${value} ${place}.`;
   }
@@ -334,17 +334,17 @@ let lib;
 const mark = {
   modules: null, // as they are now
   original: null, // as they were written or opened
-  items: null, // the message that was written, where one was
-  limit: null, // of wrong border modules, where it isn't the usual one
+  items: null, // the message that was written, if one was
+  limit: null, // of wrong border modules, if it isn't the usual one
   past: [], // the modules before each step, to be undone
   seen: null, // what examine says of the modules
-  cursor: 0, // the module at which the keys are
+  cursor: 0, // the module that the keys act on
   byKeys: false,
   module: null, // pointed at
   word: null,
 };
 
-// All that is shown of modules. The state of a codeword: 0 as it should be, 1 corrected, 2 in a block beyond correction.
+// Everything that is shown about modules. The state of a codeword: 0 as it should be, 1 corrected, 2 in a block beyond correction.
 function examine(modules, limit) {
   const side = sideOf(modules), size = lib.sizes.get(side), map = lib.map(side);
   const answer = lib.read(modules, limit), held = lib.inspect(modules);
@@ -406,7 +406,7 @@ function drawSymbol() {
       if (path && kind === 2 && !dark) drawing += `<path fill="url(#hatch)" d="${path}"/>`;
     }
   }
-  // A cross where a module was turned over here, a dot where one is wrong that wasn't; in the codeword pointed at, a frame around the bit's number.
+  // A cross marks a module that was turned over here, a dot one that is wrong without that; in the codeword pointed at, a frame around the bit's number.
   const marks = [["", ""], ["", ""], ["", ""]];
   for (let k = 0; k < modules.length; k++) {
     const isTurned = modules[k] !== original[k], x = k % side, y = Math.floor(k / side);
@@ -433,13 +433,13 @@ function drawSymbol() {
 function drawFacts() {
   const { side, size } = mark.seen, fact = (number, what) => `<div><dt>${what}</dt><dd>${number}</dd></div>`;
   $("facts").innerHTML = fact(`${side} × ${side}`, "modules") + fact(size.data, "data codewords") + fact(size.check, "check codewords")
-    + fact(size.limit, size.blocks > 1 ? `wrong codewords borne in each of ${size.blocks} blocks` : "wrong codewords borne");
+    + fact(size.limit, size.blocks > 1 ? `wrong codewords correctable in each of ${size.blocks} blocks` : "wrong codewords correctable");
   drawPrintSize();
 }
 function drawLegend() {
   const swatch = (kind, path, width) => `<svg viewBox="0 0 2 1" shape-rendering="crispEdges" aria-hidden="true"><path fill="${COLOURS[kind][0]}" d="M0 0h1v1H0z"/>${kind === 2 ? '<path fill="url(#hatch)" d="M0 0h1v1H0z"/>' : ""}<path fill="${COLOURS[kind][1]}" d="M1 0h1v1H1z"/>${
     path ? `<path d="${path(0, 0)}" stroke="#14181f" stroke-width="${width}" stroke-linecap="round" shape-rendering="auto"/><path d="${path(1, 0)}" stroke="#fff" stroke-width="${width}" stroke-linecap="round" shape-rendering="auto"/>` : ""}</svg>`;
-  const entries = [["turned over", 0, crossAt, 0.13], ["corrected", 1], ["beyond correction", 2], ["pointed at", 3], ["wrong as it came", 0, dotAt, 0.3]];
+  const entries = [["turned over", 0, crossAt, 0.13], ["corrected", 1], ["beyond correction", 2], ["pointed at", 3], ["wrong from the start", 0, dotAt, 0.3]];
   $("legend").innerHTML = entries.map(([name, kind, path, width]) => `<li>${swatch(kind, path, width)}${name}</li>`).join("");
 }
 
@@ -456,7 +456,7 @@ function showItems(node, items) {
   for (const item of items) node.append(isPlain(item) ? String.fromCharCode(item) : made("i", { textContent: spelledItem(item) }));
 }
 
-// What had to be borne, in words; nothing where nothing had.
+// What had to be corrected or accepted, in words; empty if nothing had.
 function borne(corrected, border) {
   const sum = corrected.reduce((a, b) => a + b, 0), parts = [];
   if (sum) parts.push(`${plural(sum, "wrong codeword was", "wrong codewords were")} corrected`);
@@ -478,7 +478,7 @@ function drawVerdict() {
   showItems($("says"), answer.items);
   const words = borne(answer.corrected, answer.border);
   if (mark.items && spelled(mark.items) !== spelled(answer.items))
-    say("other", "Read as another message", "The damage is beyond the limit, and what is left is within the limit of another message’s codewords. No reader can tell: only within the limit is a message sure.");
+    say("other", "Read as another message", "The damage is beyond the limit, and what is left is within the limit of another message’s codewords. No reader can notice that: only damage within the limit leaves the message certain.");
   else say("good", answer.items[0] === FNC1 ? "Read, as GS1 data" : "Read", words ? `${words}. ${mark.items ? "Damage within the limits never changes the message." : ""}`.trim() : "Nothing had to be corrected.");
 }
 function meter(name, count, limit, isOver) {
@@ -532,7 +532,7 @@ function drawAbout() {
   if (w === null) {
     const isBorder = map.kind[k] === BORDER_LIGHT || map.kind[k] === BORDER_DARK;
     node.innerHTML = `<b>Row ${Math.floor(k / side) + 1}, column ${(k % side) + 1}</b> belongs to ${isBorder ? "the border, which shows where the modules lie" : "the fixed square in the corner, which holds no codeword and isn’t looked at"}.${
-      isWrong(k) ? ` It ought to be ${map.kind[k] === BORDER_DARK ? "dark" : "light"}.` : ""}`;
+      isWrong(k) ? ` It should be ${map.kind[k] === BORDER_DARK ? "dark" : "light"}.` : ""}`;
     return;
   }
   const block = size.blocks > 1 ? `, block ${(w % size.blocks) + 1}` : "";
@@ -638,7 +638,7 @@ function wireWords() {
   });
 }
 
-// ---- Damage by the buttons: of codewords that are right yet, one module each
+// ---- Damage by the buttons: one module each of codewords that are still right
 
 const any = (list) => list[Math.floor(Math.random() * list.length)];
 function spoilOne(block) {
@@ -714,7 +714,7 @@ function plainSvg(modules, each) {
   return `<svg xmlns="http://www.w3.org/2000/svg" width="${length}" height="${length}" viewBox="${viewBox(side)}" shape-rendering="crispEdges"><path fill="#fff" d="M${-QUIET} ${-QUIET}h${all}v${all}h${-all}z"/><path d="${runs(side, (k) => modules[k])}"/></svg>\n`;
 }
 
-// A PNG with how many pixels a metre it has, in a chunk behind its first.
+// A PNG with its pixels per metre, in a chunk after the first.
 function withResolution(png, perMetre) {
   const chunk = new Uint8Array(21), view = new DataView(chunk.buffer);
   view.setUint32(0, 9);
@@ -754,7 +754,7 @@ function writeMessage() {
     $(`side-${profile}`).textContent = !symbol ? "" : symbol.fault ? "fits no size" : `${symbol.side} × ${symbol.side}`;
   }
   if (!read.items) {
-    hint("message-hint", `Column ${read.column} ${read.why}. Below is still what was written before. `, true, "message");
+    hint("message-hint", `Column ${read.column} ${read.why}. The symbol below is still the one before. `, true, "message");
     for (const { name, text } of read.ways ?? []) {
       const button = made("button", { textContent: `Spell it ${name}` });
       button.addEventListener("click", () => { area.value = text; writeMessage(); area.focus(); });
@@ -763,12 +763,12 @@ function writeMessage() {
     return;
   }
   const symbol = lib.write(read.items, profileNow());
-  if (symbol.fault) { hint("message-hint", `${refusal(symbol.fault)} Below is still what was written before.`, true, "message"); return; }
+  if (symbol.fault) { hint("message-hint", `${refusal(symbol.fault)} The symbol below is still the one before.`, true, "message"); return; }
   hint("message-hint", "", false, "message");
   $("message-hint").innerHTML = "<code>\\\\</code> is the backslash, <code>\\F</code> FNC1 (in front: GS1 data), <code>\\xHH</code> a byte.";
   setMark(symbol.modules, read.items);
 }
-const stood = ({ isRead, how }, as) => (!isRead ? `As it stands it isn’t read, nor turned, mirrored or inverted. Shown as it stands.` : how ? `${as} ${how}: found by trying, and shown upright.` : "Read as it stands.");
+const stood = ({ isRead, how }, as) => (!isRead ? `It can’t be read as it stands, nor turned, mirrored or inverted. It is shown as it stands.` : how ? `${as} ${how}: found by trying, and shown upright.` : "Read as it stands.");
 function readGrid() {
   const grid = gridFrom($("grid").value);
   if (!grid.modules) { hint("grid-hint", grid.why, $("grid").value.trim() !== "", "grid"); return; }
@@ -819,7 +819,7 @@ function wireSource() {
   addEventListener("paste", (event) => {
     const file = fileOf(event.clipboardData), text = event.clipboardData.getData("text");
     if (file) { event.preventDefault(); readPicture(file); }
-    else if (event.target === $("message") && /^\s*[01]{10,}\r?\n[01]{10,}/.test(text)) { // a grid that is pasted as a message is a grid
+    else if (event.target === $("message") && /^\s*[01]{10,}\r?\n[01]{10,}/.test(text)) { // a grid that is pasted as a message is taken as a grid
       event.preventDefault();
       $("grid").value = text;
       showPane(false); readGrid();
@@ -854,12 +854,12 @@ function wireCompare() {
   compare(slots);
 }
 
-// What a slot says: its modules, upright, and whether they are read.
+// The contents of a slot: its modules, upright, and whether they are read.
 function judge({ svg, area, reads }) {
   const grid = gridFrom(area.value), symbol = grid.modules && found(grid.modules);
   drawSmall(svg, symbol?.modules);
   reads.textContent = "";
-  if (!symbol) { reads.textContent = grid.why; return { why: "is no grid" }; }
+  if (!symbol) { reads.textContent = grid.why; return { why: "isn’t a grid" }; }
   const { modules, how } = symbol, side = sideOf(modules), limit = lib.usualLimit(side), answer = lib.read(modules, limit);
   if (answer.fault) { reads.textContent = `Refused. ${refusal(answer.fault, lib.sizes.get(side), limit)}`; return { why: "isn’t read" }; }
   reads.append(`${side} × ${side}${how ? `, ${how}` : ""}; ${borne(answer.corrected, answer.border) || "nothing had to be corrected"}: `, made("b", { textContent: spelled(answer.items) || "the empty message" }));
@@ -883,7 +883,7 @@ function compare(slots) {
   };
   const unread = slots.map(({ name }, k) => judged[k].why && `Symbol ${name} ${judged[k].why}.`).filter(Boolean);
   if (unread.length) { say("unknown", "No answer", unread.join(" "), []); return; }
-  // Under one profile: ASCII, or where a message fits no size in that, Shorter.
+  // Under one profile: ASCII, or Shorter if a message fits no size in ASCII.
   const under = [ASCII, SHORTER].map((profile) => judged.map(({ modules, limit }) => lib.normal(modules, limit, profile))).find((pair) => pair.every((symbol) => !symbol.fault));
   if (!under) { say("unknown", "No answer", "Both are read, but the normal form of a message fits no size.", []); return; }
   const [a, b] = under.map(({ modules }) => modules);
@@ -930,7 +930,7 @@ const EDIFACT = `101010101010
 111111111111
 `;
 
-// ---- The beginning
+// ---- Start
 
 function wire() {
   wirePointer(); wireKeys(); wireWords(); wireSource(); wireCompare();

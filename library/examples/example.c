@@ -5,7 +5,7 @@
 #include <stdio.h>
 #include <string.h>
 
-/* A symbol with its quiet zone of a module all round. */
+/* A symbol with a quiet zone of one module on all sides. */
 static void print(const ecc200_symbol *symbol) {
     int side = symbol->side;
     for (int row = -1; row <= side; row++) {

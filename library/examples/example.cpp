@@ -39,7 +39,7 @@ static std::string text_of(const ecc200_reading &reading) {
     return std::string(bytes.begin(), bytes.end());
 }
 
-// A symbol with its quiet zone of a module all round.
+// A symbol with a quiet zone of one module on all sides.
 static void print(const ecc200_symbol &symbol) {
     int side = symbol.side;
     for (int row = -1; row <= side; row++, std::cout << '\n')

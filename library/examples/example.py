@@ -6,7 +6,7 @@ import ecc200
 
 
 def show(rows):
-    """A symbol with its quiet zone of a module all round."""
+    """A symbol with a quiet zone of one module on all sides."""
     blank = bytes(len(rows))
     for row in [blank, *rows, blank]:
         print("".join("##" if module else "  " for module in b"\0" + row + b"\0"))

@@ -6,7 +6,7 @@ mod ecc200;
 
 use ecc200::{Fault, Profile, Symbol};
 
-/// A symbol with its quiet zone of a module all round.
+/// A symbol with a quiet zone of one module on all sides.
 fn print(symbol: &Symbol) {
     let blank = vec![0; usize::from(symbol.side)];
     let rows = symbol.modules.chunks(blank.len());

@@ -1,6 +1,6 @@
-/* Random calls, with a page that can't be touched right behind each input and each output: nothing outside is touched, each call
- * returns, all of the output is written whatever was in it, and what the calls answer hangs together. The first argument is the
- * number of rounds. */
+/* Random calls, with an inaccessible page directly behind each input and each output: nothing outside is touched, each call returns,
+ * all of the output is written whatever was in it, and the answers of the calls agree with one another. The first argument is the number
+ * of rounds. */
 #define _GNU_SOURCE
 #include <ecc200.h>
 #include <stdio.h>
@@ -22,7 +22,7 @@ static int fail(const char *what) {
     return 1;
 }
 
-/* so many bytes, which end at a page that can't be touched */
+/* so many bytes, which end at an inaccessible page */
 static void *guarded(size_t size) {
     size_t room = (size + 4095) / 4096 * 4096;
     uint8_t *at = mmap(0, room + 4096, PROT_READ | PROT_WRITE, MAP_PRIVATE | MAP_ANONYMOUS, -1, 0);
@@ -31,7 +31,7 @@ static void *guarded(size_t size) {
     return at + room - size;
 }
 
-/* random modules, or none of the counts of a square */
+/* random modules, now and then a number of them that makes no square */
 static uint8_t *noise(uint16_t side, size_t *count) {
     *count = rand() % 20 ? (size_t)side * side : (size_t)(rand() % 12000);
     if (*count > AREA)
@@ -42,7 +42,7 @@ static uint8_t *noise(uint16_t side, size_t *count) {
     return modules;
 }
 
-/* the modules of a written symbol, damaged or not; or noise where the items aren't written */
+/* the modules of a written symbol, damaged or not; or noise if the items can't be written */
 static uint8_t *written(uint16_t *side, size_t *count) {
     size_t items_count = (size_t)(rand() % 2 ? rand() % 1700 : rand() % 40);
     uint16_t *items = (uint16_t *)(void *)(area + AREA) - items_count;

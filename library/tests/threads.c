@@ -1,5 +1,5 @@
-/* Eight threads, each with a stack of so many KiB as the first argument says, read, normalise and inspect at once: each answer is
- * that of one thread alone. Then prints how many bytes of stack each call takes at the most, one a line with its name. */
+/* Eight threads, each with a stack of as many KiB as the first argument says, read, normalise and inspect at the same time: each answer
+ * must be that of one thread alone. Then prints how many bytes of stack each call uses, a line for each call. */
 #define _GNU_SOURCE
 #include <ecc200.h>
 #include <pthread.h>
@@ -89,7 +89,7 @@ static void *do_write_shorter(void *at) { return ecc200_write(items, 813, ECC200
 static void *do_places(void *at) { static ecc200_place_table table; return ecc200_places(104, &table), at; }
 static void *do_sizes(void *at) { static ecc200_size_table table; return ecc200_sizes(&table), at; }
 
-/* how much of a stack that was filled with a pattern is written over */
+/* how many bytes of a stack that was filled with a pattern a call overwrites */
 static size_t touched(void *(*call)(void *)) {
     uint8_t *stack = mmap(0, STACK, PROT_READ | PROT_WRITE, MAP_PRIVATE | MAP_ANONYMOUS, -1, 0);
     pthread_attr_t attributes;

@@ -12,7 +12,7 @@ def small_symbol():
     count.expect("123456 by its pixels", drawn(10), clean)
     count.expect("123456 in the page", grid(), clean)
     count.expect("facts", run("return [...document.querySelectorAll('#facts dd, #facts dt')].map((it) => it.textContent)"),
-                 ["modules", "10 × 10", "data codewords", "3", "check codewords", "5", "wrong codewords borne", "2"])
+                 ["modules", "10 × 10", "data codewords", "3", "check codewords", "5", "wrong codewords correctable", "2"])
     count.expect("clean", [shown()[it] for it in ("state", "says", "why")], ["Read", "123456", "Nothing had to be corrected."])
     click(11)  # bit 1 of codeword 2
     agree("one module")
@@ -45,7 +45,7 @@ def border():
     click(1)
     count.expect("border coloured, dark and light", coloured(), ["#ffdf9e", "#a65f00", "turned"])
     push("undo")
-    count.expect("border said", shown()["why"], "3 modules of the border have the wrong colour, and 2 may. The message may still be there: bear more, below.")
+    count.expect("border said", shown()["why"], "3 modules of the border have the wrong colour, and 2 may. The message may still be readable: raise the limit below.")
     put("border-limit", "3")
     count.expect("border borne", [shown()[it] for it in ("state", "says", "why")],
                  ["Read", "123456", "3 modules of the border have the wrong colour. Damage within the limits never changes the message."])

@@ -1,9 +1,9 @@
-"""That the page asks nobody for anything, and serves everyone: contrast, names, narrow screens, old browsers."""
+"""The page connects to nobody and serves everyone: contrast, names, narrow screens, old browsers."""
 from stage import By, count, find, on, push, run, text_of, wait_for, write
 
 
 def one_file():
-    """The page is one file: it asks nobody for anything, and its policy lets it connect to nobody."""
+    """The page is one file: it fetches nothing, and its policy allows no connection."""
     count.expect("resources", run("return performance.getEntriesByType('resource').map((it) => it.name).filter((it) => !/^(data|blob):/.test(it))"), [])
     policy = on.page.find_element(By.CSS_SELECTOR, "meta[http-equiv=Content-Security-Policy]").get_attribute("content")
     count.expect("policy", (policy.startswith("default-src 'none'; script-src 'sha256-"), "connect-src" in policy), (True, False))
@@ -50,7 +50,7 @@ def to_be_seen_by_all():
 
 
 def old_browser():
-    """A browser that takes no module with 64-bit memory is told so, and shows nothing that doesn't work."""
+    """In a browser without 64-bit memory the page says so, and shows nothing that wouldn't work."""
     script = on.page.execute_cdp_cmd("Page.addScriptToEvaluateOnNewDocument", {"source": "WebAssembly.validate = () => false"})
     on.page.refresh()
     said = wait_for(lambda: text_of("broken"))

@@ -19,7 +19,7 @@ def png(rows, scale, around, light=255, dark=0):
 
 
 def opened(name, body):
-    """Opens a picture, and gives what is said of it."""
+    """Opens a picture, and returns what the page says about it."""
     file = on.folder / name
     file.write_bytes(body)
     run("document.getElementById('picture-hint').textContent = ''")
@@ -40,16 +40,16 @@ def pictures():
         said = opened(name, png(turned(text, quarters, mirrored, False).split("\n"), scale, around, *grey))
         count.expect(f"picture {name}", grid(), text)
         agree(f"picture {name}")
-        how = ", and ".join(filter(None, [inverted and "inverted, light for dark", mirrored and "mirrored left to right", ["", "turned a quarter to the right", "turned by half", "turned a quarter to the left"][quarters]]))
+        how = ", and ".join(filter(None, [inverted and "inverted, light for dark", mirrored and "mirrored left to right", ["", "turned a quarter to the right", "turned upside down", "turned a quarter to the left"][quarters]]))
         side = text.index("\n")
         count.expect(f"picture {name}: said", said, f"{name}: side {side}. " + (f"The symbol is {how}: found by trying, and shown upright." if how else "Read as it stands."))
     spoilt = "\n".join(["0" * 10, *written("123456").split("\n")[1:-1], "0" * 10])
     said = opened("i.png", png(["1" + row[1:] for row in spoilt.split("\n")], 8, 3))
-    count.expect("a picture that isn't read has the largest modules that fit", (said.split(".")[1].split(":")[1], said.split(". ")[1]), (" side 10", "As it stands it isn’t read, nor turned, mirrored or inverted"))
+    count.expect("a picture that isn't read has the largest modules that fit", (said.split(".")[1].split(":")[1], said.split(". ")[1]), (" side 10", "It can’t be read as it stands, nor turned, mirrored or inverted"))
     before = grid()
     noise = ["".join(random.choice("01") for _ in range(23)) for _ in range(23)]
     count.expect("noise", opened("noise.png", png(noise, 5, 2)).split(".")[0], "No symbol of equal squares was found")
-    count.expect("one colour", opened("white.png", png(["0" * 10] * 10, 2, 2)), "The picture is of one colour.")
+    count.expect("one colour", opened("white.png", png(["0" * 10] * 10, 2, 2)), "The picture has only one colour.")
     count.expect("no picture", opened("text.png", b"no picture"), "The file can’t be opened as a picture.")
     count.expect("what isn't opened changes nothing", grid(), before)
     push("tab-write")

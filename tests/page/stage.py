@@ -20,7 +20,7 @@ except ImportError:
 QUIET = 2
 LEFT_OUT = {"structured append": 233, "reader programming": 234, "macro 05": 236, "macro 06": 237, "EDIFACT": 240, "an ECI": 241}
 
-# What the page shows, as text alone: the verdict, the meters and the facts.
+# What the page shows, as plain text: the verdict, the meters and the facts.
 SHOWN = """
     const text = (id) => document.getElementById(id).textContent, meters = [...document.querySelectorAll("#meters .meter")];
     return { state: text("state"), says: text("says"), why: text("why"), side: parseInt(document.querySelector("#facts dd").textContent),
@@ -28,7 +28,7 @@ SHOWN = """
 
 
 class On:
-    """What the test runs on."""
+    """What the tests run on."""
 
     program = page = folder = shots = None
 
@@ -37,7 +37,7 @@ on = On()
 
 
 class Failed(Exception):
-    """The first failure, where that is all that is asked."""
+    """The first failure, if the run stops there."""
 
 
 class Count:
@@ -68,7 +68,7 @@ def written(message, profile=0):
 
 
 def refused(line):
-    """A refusal's code, and what the page tells of it beside."""
+    """A refusal's code, and the numbers that the page tells along with it."""
     words = line.split()
     return " ".join([words[1], *([words[3]] if words[1] in ("5", "6") else words[3:])])
 
@@ -111,13 +111,13 @@ def as_program(shown):
 REFUSALS = [
     (5, r"(\d+) modules? of the border ha(?:s|ve) the wrong colour, and (\d+) may"),
     (6, r"More than \d+ codewords are wrong(?: in block (\d+) of \d+)?\. Its \d+ check codewords correct no more"),
-    (7, r"A value that the standard keeps back, 0 or 242 to 255, is data codeword (\d+)\."),
-    (8, r"At data codeword (\d+) begins (structured append|reader programming|macro 05|macro 06|EDIFACT|an ECI)"),
-    (9, r"An Upper Shift, data codeword (\d+), comes before no character"),
-    (10, r"A pair of codewords of C40, Text or X12 stands for no three values: data codeword (\d+)"),
+    (7, r"The standard reserves the value of data codeword (\d+): 0, or 242 to 255\."),
+    (8, r"Data codeword (\d+) begins (structured append|reader programming|macro 05|macro 06|EDIFACT|an ECI)"),
+    (9, r"No character follows the Upper Shift at data codeword (\d+)\."),
+    (10, r"A pair of C40, Text or X12 codewords doesn’t stand for three values: data codeword (\d+)"),
     (11, r"A value in a pair of C40 or Text has no meaning: data codeword (\d+)"),
-    (12, r"The length of a Base 256 segment doesn’t fit; it begins at data codeword (\d+)"),
-    (13, r"The symbol ends before the character of an Upper Shift, data codeword (\d+)"),
+    (12, r"The length of the Base 256 segment at data codeword (\d+) is missing"),
+    (13, r"The run or the symbol ends before the character to which the Upper Shift at data codeword (\d+) applies"),
 ]
 
 
@@ -138,7 +138,7 @@ def shown():
 
 
 def put(name, text):
-    """Gives a field a value as typing does, but at once."""
+    """Gives a field a value as typing does, but all at once."""
     run("const n = document.getElementById(arguments[0]); n.value = arguments[1]; n.dispatchEvent(new Event('input', { bubbles: true }))", name, text)
 
 
@@ -169,7 +169,7 @@ def changed(before, after):
 
 
 def turned(text, quarters, mirrored, inverted):
-    """A grid as it stands when it is mirrored left to right, then turned clockwise by quarters, and inverted."""
+    """A grid mirrored left to right, then turned clockwise by quarters, and inverted."""
     rows = text.rstrip("\n").split("\n")
     if mirrored:
         rows = [row[::-1] for row in rows]
@@ -203,7 +203,7 @@ def wait_for(what):
 
 
 def drawn(side):
-    """The grid as the pixels of the screen say, at a corner of each module, away from crosses and numbers; with its quiet zone."""
+    """The grid according to the pixels of the screen, taken at a corner of each module, away from crosses and numbers; also checks the quiet zone."""
     picture = find("symbol").screenshot_as_base64
     text = on.page.execute_async_script("""
         const [picture, side, quiet, done] = arguments, image = new Image(), all = side + 2 * quiet;
@@ -226,20 +226,20 @@ def drawn(side):
 
 
 def coloured():
-    """The colours in the symbol but dark and light, and what is marked: turned over, or wrong as it came."""
+    """The colours in the symbol other than dark and light, and what is marked: turned over, or wrong from the start."""
     return run("""
         const fills = [...document.querySelectorAll("#symbol > path")].map((path) => path.getAttribute("fill")).filter((fill) => fill !== "none" && fill !== "#14181f");
         return [...fills, ...["turned", "wrong"].filter((it) => document.querySelector(`#symbol .${it}`))];""")
 
 
 def cells():
-    """What stands in each codeword's cell: its value, what it is corrected to, and how it is coloured."""
+    """What each codeword's cell shows: its value, what it is corrected to, and its colour."""
     got = run("return [...document.querySelectorAll('#words > b')].map((b) => [b.firstChild.textContent, (b.querySelector('small') || b).textContent, b.className])")
     return [(int(held), int(below[1:]) if below.startswith("→") else int(held), kind) for held, below, kind in got]
 
 
 def pointed(words=None):
-    """These codewords, or all, are pointed at: what is told of each, and the numbers in the symbol with where they stand."""
+    """Points at these codewords, or at all: what is told of each, and the numbers in the symbol with their places."""
     return run("""
         return [...document.querySelectorAll("#words > b")].filter((_, w) => !arguments[0] || arguments[0].includes(w)).map((cell) => {
             cell.dispatchEvent(new PointerEvent("pointerover", { bubbles: true }));
@@ -249,7 +249,7 @@ def pointed(words=None):
 
 
 def value_at(bits, text):
-    """The value of the modules at which the numbers 1, the highest, to 8 stand."""
+    """The value of the modules that are numbered from 1, the highest, to 8."""
     rows = text.split("\n")
     assert sorted(number for number, _, _ in bits) == [str(k) for k in range(1, 9)], bits
     return sum(int(rows[y][x]) << (8 - int(number)) for number, x, y in bits)

@@ -61,11 +61,11 @@ def pasted():
     push("example-turned")
     count.expect("turned and inverted", (find("grid-hint").text, shown()["says"]), ("The grid is inverted, light for dark, and turned a quarter to the right: found by trying, and shown upright.", "Every answer is proved."))
     push("example-edifact")
-    count.expect("EDIFACT", shown()["why"], "At data codeword 1 begins EDIFACT, an encodation that isn’t read here.")
+    count.expect("EDIFACT", shown()["why"], "Data codeword 1 begins EDIFACT, an encodation that isn’t read here.")
     agree("EDIFACT")
-    for text, why in [("10\n1x0", "Row 1 has a character other than #, X, . and space."), ("10\n12", "Row 2 has a character other than 0 and 1."), ("111\n11", "No square: there are 2 rows, and row 1 has 3 modules."),
-                      ("1\n0\n1", "No square: there are 3 rows, and row 1 has 1 module."), ("11\n11", "A square of side 2, but no size has this side."),
-                      ("1" * 105, "More than 104 rows or columns: no symbol that is read here is as large."), ("1\n" * 105, "More than 104 rows or columns: no symbol that is read here is as large.")]:
+    for text, why in [("10\n1x0", "Row 1 has a character other than #, X, . and space."), ("10\n12", "Row 2 has a character other than 0 and 1."), ("111\n11", "Not a square: there are 2 rows, and row 1 has 3 modules."),
+                      ("1\n0\n1", "Not a square: there are 3 rows, and row 1 has 1 module."), ("11\n11", "A square of side 2, but no size has this side."),
+                      ("1" * 105, "More than 104 rows or columns: symbols as large as that aren’t read here."), ("1\n" * 105, "More than 104 rows or columns: symbols as large as that aren’t read here.")]:
         put("grid", text)
         count.expect(f"grid refused: {why}", (find("grid-hint").text, find("grid").get_attribute("aria-invalid")), (why, "true"))
     clean = written("Mitsubadoor")
@@ -88,7 +88,7 @@ def pasted():
     count.expect("pasted, to the limit: meters", shown()["meters"][0], "7 of at most 7" if len(clean.split("\n")) == 18 else "6 of at most 6")
     push("undo")
     count.expect("pasted, undone", grid(), spoilt)
-    quarter = ["", "turned a quarter to the right", "turned by half", "turned a quarter to the left"]
+    quarter = ["", "turned a quarter to the right", "turned upside down", "turned a quarter to the left"]
     for inverted in (False, True):
         for mirrored in (False, True):
             for quarters in range(4):
@@ -97,7 +97,7 @@ def pasted():
                 count.expect(f"stands {how or 'upright'}", (find("grid-hint").text, grid()), (f"The grid is {how}: found by trying, and shown upright." if how else "Read as it stands.", spoilt))
     put("grid", "\n".join(["1" * 10] * 10))
     agree("all dark")
-    count.expect("all dark: said", find("grid-hint").text, "As it stands it isn’t read, nor turned, mirrored or inverted. Shown as it stands.")
+    count.expect("all dark: said", find("grid-hint").text, "It can’t be read as it stands, nor turned, mirrored or inverted. It is shown as it stands.")
     push("tab-write")
 
 
@@ -125,7 +125,7 @@ def compared():
     take("a")
     count.expect("different", (head(), len(find("same").find_elements(By.TAG_NAME, "svg"))), (["No, they say different things.", "Their normal symbols differ:"], 2))
     fill("b", "1" * 10)
-    count.expect("no grid", head(), ["No answer", "Symbol B is no grid."])
+    count.expect("no grid", head(), ["No answer", "Symbol B isn’t a grid."])
     take("b")
     count.expect("alike", head(), ["Yes, they say the same.", "Both have this one normal symbol:"])
     fill("b", turned(written("another"), 1, False, True))
