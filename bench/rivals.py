@@ -8,7 +8,7 @@ import zipfile
 HERE = os.path.dirname(os.path.abspath(__file__))
 
 # The note on an encoder that chooses among all encodations.
-CHOSE_OTHERS = "; for the rest it chose EDIFACT, or a rectangle, and they are refused"
+CHOSE_OTHERS = "; the rest are in EDIFACT or rectangular, and are refused"
 
 
 def version_of(package):
