@@ -35,8 +35,8 @@ pub struct BeyondLimit;
 /// No such word lies within k div 2 places of two codewords, so there is no choice. A word with more
 /// wrong codewords than that may lie near to another codeword, and is then corrected to it.
 ///
-/// For a word of n codewords, with t for k div 2, the work is some n k + 2 n t products, sixteen at a time, t k more and that
-/// of the solver; for a codeword n k alone.
+/// For a word of n codewords, with t for k div 2, the work is about n k + 2 n t products, sixteen at a time, t k more one by one,
+/// and that of the solver; for a codeword it is n k alone.
 pub fn correct<S: KeySolver>(solver: &S, word: &[u8], k: usize) -> Result<Fixed, BeyondLimit>
     requires checks { 0 < k }
     requires most { k ≤ MOST_CHECKS }
@@ -85,7 +85,7 @@ fn correct_errors(word: &mut [u8], syndromes: &mut [u8], key: &Key)
     correct_roots(word, syndromes, locator, &key.evaluator);
 }
 
-/// Does so for a locator without zeros at its end. Roots are looked for, and what gives the errors' values is computed, at
+/// The same for a locator without zeros at its end. Roots are looked for, and what gives the errors' values is computed, at
 /// sixteen places at once, from the last place on.
 fn correct_roots(word: &mut [u8], syndromes: &mut [u8], locator: &[u8], evaluator: &[u8])
     requires checks { 0 < length syndromes.old }

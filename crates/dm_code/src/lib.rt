@@ -15,7 +15,7 @@
 //! are what is left of a division in place, syndromes are sums over parts of a word, and roots of the error locator are
 //! looked for at sixteen places together.
 //!
-//! What the contracts say is defined in `specs/`: `Codeword`, `Syndromes` and `KeyEquation`. What holds of these
+//! The definitions that the contracts cite are in `specs/`: `Codeword`, `Syndromes` and `KeyEquation`. What holds of these
 //! definitions, whatever the code does, is stated in `CodewordLaws` and `KeyEquationLaws` there and proved in [`laws`].
 //! `inner` has the definitions that private functions alone cite: `LinearSystem` for the elimination, `OddTerms` for finding errors.
 #![tactic(auto)]

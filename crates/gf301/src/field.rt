@@ -51,8 +51,8 @@ impl Gf {
         Gf(self.0 ^ other.0)
     }
 
-    /// The product of two elements: without carries, modulo 301. It is the sum of the products with the two halves of the
-    /// other one's bits.
+    /// The product of two elements: without carries, modulo 301. It is looked up as the sum of this element's products with
+    /// the low and the high four bits of the other one.
     pub fn mul(self, other: Gf) -> Gf
         ensures { result.0 ≡ self.0 ⊗ other.0 }
     {

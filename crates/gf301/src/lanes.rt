@@ -61,7 +61,7 @@ pub fn scaled(c: u8, v: Simd<u8, 16>) -> Simd<u8, 16>
     low ^ high
 }
 
-/// In each lane the number of the table at its place there, which is below 16.
+/// In each lane the number of the table at the place that stands in this lane, which is below 16.
 #[inline]
 fn by_table(table: Simd<u8, 16>, places: Simd<u8, 16>) -> Simd<u8, 16>
     requires { All (λ i. i < 16) places }

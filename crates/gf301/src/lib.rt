@@ -1,11 +1,13 @@
 //! The field of 256 elements of ISO/IEC 16022, polynomials over it, and the generator polynomials of its
 //! Reed-Solomon codes (ECC 200).
 //!
-//! Field elements stand as bytes: in a list `&[u8]` or [`Poly`] each byte is an element of the field, and [`Gf`]
-//! is one element with its operations; [`lanes_mul`] multiplies sixteen at once, [`scaled`] sixteen by one element, by
-//! look-ups in tables, and [`add_scaled`] adds such multiples of a list. A [`Meter`] counts the products and inversions that
-//! are made through it. What the contracts say is defined in `specs/`: `Field`, `Polynomial` and `Generator`. Laws of
-//! these definitions are in [`laws`].
+//! An element of the field is a byte: [`Gf`] is one element with its operations, and in a list, a `&[u8]` or a [`Poly`], each
+//! byte is one. Sixteen elements at once are multiplied lane by lane by [`lanes_mul`] and by one element by [`scaled`], which
+//! looks the products up; [`add_scaled`] adds such multiples of one list to another. A [`Meter`] counts the products and
+//! inversions that are made through it.
+//!
+//! The definitions that the contracts cite are in `specs/`: `Field`, `Polynomial` and `Generator`. What holds of these definitions,
+//! whatever the code does, is stated and proved in [`laws`].
 #![tactic(auto)]
 
 mod field;

@@ -5,7 +5,7 @@ ghost use Rattle.gf301.specs.Field.{◌⊗◌};
 
 use super::field::Gf;
 
-/// How many products and inversions were made through it.
+/// Counts the products and inversions that are made through it.
 #[derive(Clone, Copy, Debug, Default, PartialEq, Eq)]
 pub struct Meter {
     /// The number of products, of [`Meter::mul`].
@@ -15,7 +15,7 @@ pub struct Meter {
 }
 
 impl Meter {
-    /// The product of two elements, which is counted. Below `u32::MAX` products have been counted before.
+    /// The product of two elements. It is counted; fewer than `u32::MAX` products have been before.
     pub fn mul(&mut self, a: Gf, b: Gf) -> Gf
         requires { self.old.products < 2 ^ 32 - 1 }
         ensures product { result.0 ≡ a.0 ⊗ b.0 }
@@ -26,8 +26,7 @@ impl Meter {
         a.mul(b)
     }
 
-    /// The element whose product with `a` is 1, which is counted. 0 has none. Below `u32::MAX` inversions have been
-    /// counted before.
+    /// The element whose product with `a` is 1; 0 has none. It is counted as an inversion; fewer than `u32::MAX` have been before.
     pub fn inverse(&mut self, a: Gf) -> Gf
         requires some { 0 < a.0 }
         requires room { self.old.inversions < 2 ^ 32 - 1 }
