@@ -1,6 +1,6 @@
 -- The normal form of a message spells it.
-use Rattle.std.proofs.Common.{◌≡◌, ◌⊎◌, inl, inr, ℕ, ◌+◌, ◌-◌, ◌*◌, ◌/◌, ◌%◌, ◌<◌, ◌≤◌, ◌↔◌, List, [], ◌∷◌, ◌++◌, length, map, take, get_or, append_assoc, add-one, refl, sym, ap, subst, ◌∙◌, arith, Bool, true, false, not, cond, ltb, leb, ◌&&◌, Result, Ok, Err, OnOk, OnErr, IsErr}
-use Rattle.std.proofs.lemmas.Bool.{cases_lt, cases_Bool, leb-true, leb-false, ltb-true, ltb-false, false≢true}
+use Rattle.std.proofs.Common.{◌≡◌, ◌⊎◌, inl, inr, ℕ, ◌+◌, ◌-◌, ◌*◌, ◌/◌, ◌%◌, ◌<◌, ◌≤◌, List, [], ◌∷◌, ◌++◌, length, map, take, get_or, append_assoc, add-one, refl, sym, ap, subst, ◌∙◌, arith, Bool, true, false, not, cond, ltb, ◌&&◌}
+use Rattle.std.proofs.lemmas.Bool.{cases_lt, cases_Bool}
 use Rattle.std.proofs.lemmas.Bool.Decides.{nat_tests}
 use Rattle.std.proofs.lemmas.List.{append-nil, length-append, length-map, length-take, map-append}
 use Rattle.std.proofs.Math.Seq.{take-suc}
@@ -8,7 +8,6 @@ use Rattle.std.proofs.lemmas.List.Elements.{recursion_from_All, All-from_recursi
 use Rattle.dm_layout.specs.Sizes.{most_data}
 use Rattle.dm_words.specs.declared.item.Item.{Item}
 use Rattle.dm_words.specs.declared.item.Item.TheVariants.{Byte, Fnc1}
-use Rattle.dm_words.specs.declared.fault.TooLong.{TooLong}
 use Rattle.dm_words.specs.declared.profile.Profile.{Profile}
 use Rattle.dm_words.specs.declared.profile.Profile.TheVariants.{Ascii, Shorter}
 use Rattle.dm_words.specs.Joined.{Piece}
@@ -282,63 +281,15 @@ has_room old m i lt so_far =
 
 -- ---- choosing
 
--- Where neither fits, the shorter form doesn't.
-neither : (m : List Item) (most : ℕ) → most < length (segment_of m) → most < length (ascii m) → most < length (shorter m)
-neither m most many_segment many_ascii = elim (which m) [ inl s ↦ omega (arith, ap length s.is, many_segment) | inr e ↦ omega (arith, ap length e, many_ascii) ]
+-- How many codewords the segment has.
+pub length-segment_of : (m found : List Item) (count : ℕ) → found ≡ m → count ≡ 1 + length (length_numbers (length found)) + length found → count ≡ length (segment_of m)
+length-segment_of m found count same is =
+    let here : length (map byte_of m) ≡ length found = length-map m byte_of ∙ ap length (sym same) in
+    omega (arith, is, length-one_segment (map byte_of m), here, ap (λ (n : ℕ). length (length_numbers n)) here)
 
-module _ {U : Type 0} (words : List ℕ) (m : List Item) (most : ℕ) where
-  -- What is known of the ASCII codewords and of the test whether they are more than those of the segment.
-  pub record IsTested (r : Result U TooLong) (longer : Bool) (count : ℕ) : Type 0 where
-    pub ascii_words : OnOk r (words ≡ ascii m)
-    pub too_long : IsErr r ↔ (most < length (ascii m))
-    pub count_is : count ≡ length (segment_of m)
-    pub ok : OnOk r (longer ≡ ltb count (length words))
-    pub err : OnErr r (longer ≡ leb count most)
-
-  -- So it was tested.
-  pub tested : (r : Result U TooLong) (longer : Bool) (count : ℕ) (found : List Item) → OnOk r (words ≡ ascii m) → IsErr r ↔ (most < length (ascii m))
-      → found ≡ m → count ≡ 1 + length (length_numbers (length found)) + length found → OnOk r (longer ≡ ltb count (length words))
-      → OnErr r (longer ≡ leb count most) → IsTested r longer count
-  tested r longer count found ascii_words too_long same is ok err =
-      let here : length (map byte_of m) ≡ length found = length-map m byte_of ∙ ap length (sym same) in
-      record {
-        ascii_words = ascii_words;
-        too_long = too_long;
-        count_is = omega (arith, is, length-one_segment (map byte_of m), here, ap (λ (n : ℕ). length (length_numbers n)) here);
-        ok = ok;
-        err = err;
-      }
-
-  -- A segment that is taken is the shorter form, and fits.
-  pub segment_taken : (r : Result U TooLong) (longer : Bool) (count : ℕ) → IsTested r longer count → longer ≡ true → has_fnc1 m ≡ false
-      → (shorter m ≡ segment_of m) × (length (segment_of m) ≤ most)
-  segment_taken (Ok u) longer count t is none =
-      let lt : length (segment_of m) < length (ascii m) = omega (arith, ltb-true count (length words) (sym t.ok ∙ is), ap length t.ascii_words, t.count_is) in
-      (takes_segment m none lt, elim (cases_lt most (length (ascii m))) [ inl many ↦ absurd (false≢true (t.too_long.1 many)) | inr le ↦ omega (arith, lt, le) ])
-  segment_taken (Err e) longer count t is none =
-      let le : length (segment_of m) ≤ most = omega (arith, leb-true count most (sym t.err ∙ is), t.count_is) in
-      (takes_segment m none (omega (arith, le, t.too_long.0 refl)), le)
-
-  -- What is answered where the ASCII codewords are kept.
-  pub record IsKept (r : Result U TooLong) : Type 0 where
-    pub words_are : OnOk r (words ≡ shorter m)
-    pub too_long : IsErr r ↔ (most < length (shorter m))
-
-  -- ASCII codewords that are the shorter form.
-  kept_as : (r : Result U TooLong) (longer : Bool) (count : ℕ) → IsTested r longer count → shorter m ≡ ascii m → IsKept r
-  kept_as r longer count t e = record {
-    words_are = subst (λ (x : List ℕ). OnOk r (words ≡ x)) (sym e) t.ascii_words;
-    too_long = subst (λ (x : List ℕ). IsErr r ↔ (most < length x)) (sym e) t.too_long;
-  }
-
-  -- ASCII codewords are kept where they aren't more.
-  pub ascii_kept : (r : Result U TooLong) (longer : Bool) (count : ℕ) → IsTested r longer count → longer ≡ false → IsKept r
-  ascii_kept (Ok u) longer count t is =
-      kept_as (Ok u) longer count t (takes_ascii m (omega (arith, ltb-false count (length words) (sym t.ok ∙ is), ap length t.ascii_words, t.count_is)))
-  ascii_kept (Err e) longer count t is =
-      let many : most < length (segment_of m) = omega (arith, leb-false count most (sym t.err ∙ is), t.count_is) in
-      record { words_are = tt; too_long = (λ h. neither m most many (t.too_long.0 refl), λ h. refl) }
-
-  -- They are kept where there is an FNC1.
-  pub ascii_kept_with_fnc1 : (r : Result U TooLong) (longer : Bool) (count : ℕ) → IsTested r longer count → has_fnc1 m ≡ true → IsKept r
-  ascii_kept_with_fnc1 r longer count t some = kept_as r longer count t (takes_ascii_with_fnc1 m some)
+-- The form that was chosen is the normal form.
+pub chosen_form : (profile : Profile) (m : List Item) (takes marked : Bool) (count words : ℕ) → (profile ≡ Ascii → takes ≡ false)
+    → (profile ≡ Shorter → takes ≡ (not marked && ltb count words)) → marked ≡ has_fnc1 m → count ≡ length (segment_of m) → words ≡ length (ascii m)
+    → normal_form profile m ≡ cond takes (segment_of m) (ascii m)
+chosen_form Ascii m takes marked count words never when mark is lengths = rw (never refl) refl
+chosen_form Shorter m takes marked count words never when mark is lengths = rw (when refl, mark, is, lengths) refl

@@ -1,25 +1,26 @@
 //! The ASCII codewords of a message (ISO/IEC 16022, ASCII encodation).
 
-ghost use Rattle.std.specs.Prelude.{◌≡◌, ◌+◌, ◌≤◌, ◌<◌, ◌↔◌, length, IfOk, OnOk, IsErr};
+ghost use Rattle.std.specs.Prelude.{◌≡◌, ◌+◌, ◌≤◌, ◌<◌, length};
 ghost use Rattle.dm_words.specs.Ascii.{ascii, is_digit as is_digit_byte};
+ghost use Rattle.dm_words.specs.NormalForm.{has_fnc1};
 ghost use Rattle.dm_words.specs.Scan.Answers.{BeginsAscii, IsSingle};
 
-use crate::codeword::data_words;
-use crate::fault::TooLong;
 use crate::item::Item;
-use crate::limits::MOST_DATA;
-use crate::message::Message;
+use crate::limits::{MOST_DATA, MOST_ITEMS};
 use arrayvec::ArrayVec;
 use dm_layout::MOST_CODEWORDS;
 
 const UPPER_SHIFT: u8 = 235;
 
-/// A unit of ASCII: an item in one codeword, two digits in one codeword, or a byte of 128 or more behind an Upper Shift.
+const FNC1: u8 = 232;
+
+/// A unit of ASCII: an item in one codeword, two digits in one codeword, a byte of 128 or more behind an Upper Shift, or FNC1.
 #[derive(Clone, Copy)]
 pub enum Unit {
     One(u8),
     Digits(u8),
     Raised(u8),
+    Fnc1,
 }
 
 fn is_digit(byte: u8) -> bool
@@ -45,7 +46,7 @@ fn unit_at(items: &[Item], at: usize) -> Unit
     ensures { BeginsAscii result items.now at }
 {
     let Item::Byte(first) = items[at] else {
-        return Unit::One(232);
+        return Unit::Fnc1;
     };
     if at + 1 < items.len()
         && is_digit(first)
@@ -57,45 +58,60 @@ fn unit_at(items: &[Item], at: usize) -> Unit
     single(first)
 }
 
-/// The ASCII codewords of a message: from the left, two digits in one codeword wherever two stand at the front. `TooLong` is
-/// answered exactly where they are more than `MOST_DATA`. No pad is among them. ISO/IEC 16022, ASCII encodation.
-pub fn ascii_words(message: &Message) -> Result<ArrayVec<u8, MOST_DATA>, TooLong>
-    ensures words { IfOk result (λ words. words.items ≡ ascii message.now) }
-    ensures too_long { IsErr result ↔ (MOST_DATA < length (ascii message.now)) }
-{
-    let mut words = ArrayVec::new();
-    match ascii_words_to(message, &mut words) {
-        Ok(()) => Ok(data_words(&words)),
-        Err(TooLong) => Err(TooLong),
-    }
+/// What there is to be known of the ASCII form before it is written.
+#[derive(Clone, Copy)]
+pub struct AsciiForm {
+    /// How many codewords it has.
+    pub length: usize,
+    /// Whether FNC1 is among its items.
+    pub has_fnc1: bool,
 }
 
-/// Does the same as [`ascii_words()`] in a place: where it answers `Ok`, they are all that
-/// stands there, whatever stood there before.
-pub fn ascii_words_to(
-    message: &Message,
-    words: &mut ArrayVec<u8, MOST_CODEWORDS>,
-) -> Result<(), TooLong>
-    ensures words { OnOk result (words.new.items ≡ ascii message.now) }
-    ensures too_long { IsErr result ↔ (MOST_DATA < length (ascii message.now)) }
-    ensures most { OnOk result (length words.new.items ≤ MOST_DATA) }
+/// Looks through the items once, without writing.
+pub fn ascii_form(items: &[Item]) -> AsciiForm
+    requires { length items.now ≤ MOST_ITEMS }
+    ensures length { result.length ≡ length (ascii items.now) }
+    ensures has_fnc1 { result.has_fnc1 ≡ has_fnc1 items.now }
 {
-    let items = message.items();
+    let mut form = AsciiForm {
+        length: 0,
+        has_fnc1: false,
+    };
+    let mut at = 0;
+    while at < items.len() {
+        match unit_at(items, at) {
+            Unit::One(_) => {
+                form.length += 1;
+                at += 1;
+            }
+            Unit::Digits(_) => {
+                form.length += 1;
+                at += 2;
+            }
+            Unit::Raised(_) => {
+                form.length += 2;
+                at += 1;
+            }
+            Unit::Fnc1 => {
+                form.length += 1;
+                form.has_fnc1 = true;
+                at += 1;
+            }
+        }
+    }
+    form
+}
+
+/// Writes the ASCII codewords of the items, from the left two digits in one codeword wherever two stand at the front, into the place.
+pub fn write_ascii(items: &[Item], words: &mut ArrayVec<u8, MOST_CODEWORDS>)
+    requires { length (ascii items.now) ≤ MOST_DATA }
+    ensures { words.new.items ≡ ascii items.now }
+{
     words.clear();
     let mut at = 0;
     while at < items.len() {
-        let unit = unit_at(items, at);
-        if let Unit::Raised(_) = unit {
-            if words.len() == MOST_DATA {
-                return Err(TooLong);
-            }
-            words.push(UPPER_SHIFT);
-        }
-        if words.len() == MOST_DATA {
-            return Err(TooLong);
-        }
-        match unit {
-            Unit::One(word) | Unit::Raised(word) => {
+        match unit_at(items, at) {
+            Unit::One(word) => {
                 words.push(word);
                 at += 1;
             }
@@ -103,7 +119,15 @@ pub fn ascii_words_to(
                 words.push(word);
                 at += 2;
             }
+            Unit::Raised(word) => {
+                words.push(UPPER_SHIFT);
+                words.push(word);
+                at += 1;
+            }
+            Unit::Fnc1 => {
+                words.push(FNC1);
+                at += 1;
+            }
         }
     }
-    Ok(())
 }

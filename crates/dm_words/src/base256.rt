@@ -1,6 +1,6 @@
 //! Base 256 encodation (ISO/IEC 16022, Base 256 encodation and its 255-state randomising): a latch, a length and so many bytes.
 
-ghost use Rattle.std.specs.Prelude.{◌≡◌, ◌+◌, ◌≤◌, ◌<◌, ◌*◌, ◌∷◌, [], ◌++◌, length, drop, take, map, slice_index};
+ghost use Rattle.std.specs.Prelude.{◌≡◌, ℕ, ◌+◌, ◌≤◌, ◌<◌, ◌*◌, ◌∷◌, [], ◌++◌, length, drop, take, map, slice_index};
 ghost use Rattle.dm_words.specs.Messages.{byte_of};
 ghost use Rattle.dm_words.specs.Base256.{byte_items, random_at, randomised, written};
 ghost use Rattle.dm_words.specs.NormalForm.{length_numbers, one_segment};
@@ -119,6 +119,19 @@ pub fn segment_length(count: usize) -> usize
     }
 }
 
+/// The pseudo-random number of the place behind one with this number.
+fn next_random(number: u32) -> u32
+    requires { number ≤ 255 }
+    ensures next { (place : ℕ) → number ≡ random_at place → result ≡ random_at (place + 1) }
+    ensures most { result ≤ 255 }
+{
+    if number <= 106 {
+        number + 149
+    } else {
+        number - 106
+    }
+}
+
 /// Writes the bytes of the items, in one segment whose latch is the first codeword of the symbol, into the place.
 pub fn write_segment(items: &[Item], words: &mut ArrayVec<u8, MOST_CODEWORDS>)
     requires { length (one_segment (map byte_of items.now)) ≤ MOST_DATA }
@@ -127,7 +140,9 @@ pub fn write_segment(items: &[Item], words: &mut ArrayVec<u8, MOST_CODEWORDS>)
     words.clear();
     words.push(LATCH);
     push_length(words, items.len());
+    let mut number = random(words.len() + 1);
     for item in items {
-        push_value(words, byte(*item));
+        words.push(((byte(*item) as u32 + number) % 256) as u8);
+        number = next_random(number);
     }
 }

@@ -15,19 +15,20 @@ mod item;
 pub mod laws;
 mod limits;
 mod message;
+mod normal_form;
 mod pad;
 mod profile;
 mod reading;
-mod shorter;
 #[cfg(test)]
 mod tests;
 
-pub use ascii::{ascii_words, ascii_words_to};
 pub use fault::{TooLong, WordFault};
 pub use item::Item;
 pub use limits::{MOST_DATA, MOST_ITEMS};
 pub use message::Message;
+pub use normal_form::{
+    ascii_words, ascii_words_to, normal_words, normal_words_to, shorter_words, shorter_words_to,
+};
 pub use pad::{add_pads, padded};
 pub use profile::Profile;
 pub use reading::{message_of, message_to};
-pub use shorter::{normal_words, normal_words_to, shorter_words, shorter_words_to};

@@ -1,5 +1,5 @@
 -- What the private functions that look at the front of a list answer.
-use Rattle.std.specs.Prelude.{◌≡◌, ℕ, ◌+◌, ◌<◌, ◌≤◌, length, drop, List, [], ◌∷◌, ◌++◌, Option, Some, None, Result, Ok, Err}
+use Rattle.std.specs.Prelude.{◌≡◌, ℕ, ◌+◌, ◌<◌, ◌≤◌, length, drop, List, [], ◌∷◌, ◌++◌, Option, Some, None, Result, Ok, Err, true}
 use Rattle.dm_words.specs.declared.item.Item.{Item}
 use Rattle.dm_words.specs.declared.fault.WordFault.{WordFault}
 use Rattle.dm_words.specs.declared.ascii.Unit.{Unit}
@@ -11,6 +11,7 @@ use Rattle.dm_words.specs.declared.c40.value.Spelling.{Spelling}
 use Rattle.dm_words.specs.declared.c40.value.Spelling.TheVariants as item
 use Rattle.dm_words.specs.declared.c40.value.Rest.{Rest}
 use Rattle.dm_words.specs.Ascii.{single, ascii}
+use Rattle.dm_words.specs.NormalForm.{has_fnc1}
 use Rattle.dm_words.specs.Scan.Walk.{Step, Takes, Stops}
 
 -- The part of so many words was taken and its items stand behind the old ones; or there was the end; or a fault.
@@ -43,9 +44,13 @@ abbrev pub IsSingle : Unit → ℕ → Type 0
 IsSingle (unit.One w) b = single b ≡ w ∷ []
 IsSingle (unit.Digits w) b = ⊥
 IsSingle (unit.Raised w) b = single b ≡ 235 ∷ w ∷ []
+IsSingle unit.Fnc1 b = ⊥
 
--- The ASCII codewords of the items from an index on begin with the unit.
+-- The ASCII codewords of the items from an index on begin with the unit, and FNC1 is among these items where it is the unit or stands
+-- behind it.
 abbrev pub BeginsAscii : Unit → List Item → ℕ → Type 0
-BeginsAscii (unit.One w) items at = ascii (drop at items) ≡ w ∷ ascii (drop (at + 1) items)
-BeginsAscii (unit.Digits w) items at = (ascii (drop at items) ≡ w ∷ ascii (drop (at + 2) items)) × (at + 2 ≤ length items)
-BeginsAscii (unit.Raised w) items at = ascii (drop at items) ≡ 235 ∷ w ∷ ascii (drop (at + 1) items)
+BeginsAscii (unit.One w) items at = (ascii (drop at items) ≡ w ∷ ascii (drop (at + 1) items)) × (has_fnc1 (drop at items) ≡ has_fnc1 (drop (at + 1) items))
+BeginsAscii (unit.Digits w) items at =
+    (ascii (drop at items) ≡ w ∷ ascii (drop (at + 2) items)) × (has_fnc1 (drop at items) ≡ has_fnc1 (drop (at + 2) items)) × (at + 2 ≤ length items)
+BeginsAscii (unit.Raised w) items at = (ascii (drop at items) ≡ 235 ∷ w ∷ ascii (drop (at + 1) items)) × (has_fnc1 (drop at items) ≡ has_fnc1 (drop (at + 1) items))
+BeginsAscii unit.Fnc1 items at = (ascii (drop at items) ≡ 232 ∷ ascii (drop (at + 1) items)) × (has_fnc1 (drop at items) ≡ true)

@@ -1,12 +1,10 @@
 use Rattle.std.proofs.Common.{◌≡◌, ◌-◌, ◌++◌, ◌≤◌, length, drop}
-use Rattle.dm_words.specs.declared.limits.TheConstants.{MOST_DATA}
 use Rattle.dm_words.specs.Ascii.{ascii}
-use Rattle.dm_words.proofs.ascii.ascii_words_to.Given as goal
+use Rattle.dm_words.proofs.ascii.write_ascii.Given as goal
 
 abbrev pub invariant-loop-at : goal.invariant-loop-at
 invariant-loop-at l = record {
   in_range : l.at ≤ length l.items;
-  room : length l.words.items ≤ MOST_DATA;
   so_far : ascii l.items ≡ l.words.items ++ ascii (drop l.at l.items);
 }
 
