@@ -1,5 +1,5 @@
 -- The grid of the lines of a record.
-use Rattle.std.proofs.Common.{true≢false, ◌≡◌, ◌∙◌, ℕ, zero, suc, Bool, true, false, List, [], ◌∷◌, ◌++◌, Option, Some, None, Result, Ok, Err, refl, sym, ap, subst, length, map, get_or, arith}
+use Rattle.std.proofs.Common.{◌≡◌, ◌∙◌, ℕ, zero, suc, Bool, true, false, List, [], ◌∷◌, ◌++◌, Option, Some, None, Result, Ok, Err, refl, sym, ap, subst, length, map, get_or, arith}
 use Rattle.std.specs.Prelude.{◌==◌, ◌<◌, IsNone, if◌then◌else◌}
 use Rattle.std.specs.List.{list_all}
 use Rattle.std.proofs.lemmas.Bool.{eqb-true}
@@ -7,7 +7,7 @@ use Rattle.std.proofs.lemmas.List.{length-map}
 use Rattle.std.proofs.lemmas.List.FromFn.{fill_by_all}
 use Rattle.dm_symbol.specs.declared.GridFault.{GridFault}
 use Rattle.dm_symbol.specs.declared.GridFault.TheVariants as rows_fault
-use Rattle.dm_symbol.specs.Sizes.{size_table, SizeRow, row_with_side}
+use Rattle.dm_symbol.specs.Sizes.{SizeRow, row_with_side}
 use Rattle.dm_symbol.specs.Grid.{GridView, square_of_rows}
 use Rattle.dm_tool.specs.declared.rows.Rows.{Rows}
 use Rattle.dm_tool.specs.declared.record.RecordFault.{RecordFault}
@@ -78,16 +78,11 @@ is_grid t lines rest rows g h d l f e size drawn =
     let these = drawn ∙ ap (square_of_rows t.first) (e ∙ h.rows_are) ∙ ap (λ n. square_of_rows n (map number_of all)) side ∙ square_rows all does in
     same_grid (row_with_side (length all)) all g (ap row_with_side (sym side) ∙ size) these ∙ sym (comes_to t lines rest true h does)
 
-pub none_by : (why : GridFault) (n : ℕ) (rows : List ℕ) → length rows ≡ n
+none_by : (why : GridFault) (n : ℕ) (rows : List ℕ) → length rows ≡ n
     → ((let r : Result GridView GridFault = Err why in r) ≡ Err rows_fault.NotSquare → length rows ≡ n → ⊥)
     → ((let r : Result GridView GridFault = Err why in r) ≡ Err rows_fault.NoSuchSize → IsNone (row_with_side n)) → IsNone (row_with_side n)
 none_by rows_fault.NotSquare n rows e f g = absurd (f refl e)
 none_by rows_fault.NoSuchSize n rows e f g = g refl
-
--- a symbol can have the side 10
-pub ten_is_a_side : IsNone (row_with_side 10) → ⊥
-unfolding size_table
-ten_is_a_side none = true≢false none
 
 no_size : (size : Option SizeRow) (lines : List (List ℕ)) → IsNone size → Err (fault.NoSuchSize (length lines)) ≡ sized size lines
 no_size None lines h = refl

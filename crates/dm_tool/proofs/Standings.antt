@@ -15,6 +15,7 @@ use Rattle.dm_tool.specs.RecordFeeds.{RecordAnswer, ClosesRecord, IsAnsweredReco
 use Rattle.dm_tool.specs.LineFacts.{LineFacts, AreLineFacts}
 use Rattle.dm_tool.specs.LineFeeds.{LineAnswer, AreAnswered, ClosesLine, LeavesLineOpen}
 use Rattle.dm_tool.specs.MessageLines.{IsLine}
+use Rattle.dm_tool.specs.OpenLines.{EndsLine}
 use Rattle.dm_tool.specs.Answers.{Answer, AnswersRecords, IsRecordAnswer, IsWriteAnswer}
 use Rattle.dm_tool.specs.Runs.{AreAllAnswers, AreAnswersTo, AreAnswersToRecords, AreClosedAnswers, AreClosedLines, AreMatched, IsAnswerToLine, IsAnswerToRecord, IsDone, IsOut, HasEnded, tally_of, written}
 use Rattle.dm_tool.specs.declared.task.Tally.{Tally}
@@ -137,6 +138,19 @@ closing piece (b ∷ before) after taken e n =
     let more : taken ≡ suc (length before + 1) = omega (arith, n) in
     ap (λ k. take k piece) more ∙ ap (take (suc (length before + 1))) e
     ∙ ap (λ l. b ∷ l) (closing (before ++ 10 ∷ after) before after (length before + 1) refl refl)
+
+-- a line that is held, and what it means
+pub line_ends : (old mid new : LineFacts) (piece : List ℕ) (taken : ℕ) (message : LineAnswer) → EndsLine old piece taken mid
+    → ((line : List ℕ) → AreLineFacts line mid → IsLine line message) → AreLineFacts [] new → ClosesLine old piece taken message new
+line_ends old mid new piece taken message held means none = record {
+  before = held.before;
+  after = held.after;
+  piece_is = held.piece_is;
+  no_lf = held.no_lf;
+  taken_is = held.taken_is;
+  answered = λ line known. means (line ++ held.before) (held.grown line known);
+  empty = none;
+}
 
 pub line_closed : (profile : Profile) (old new : LineFacts) (piece : List ℕ) (taken : ℕ) (message : LineAnswer) (answer : Answer) → ClosesLine old piece taken message new
     → IsWriteAnswer profile message answer → Goes (Lines profile old) (take taken piece) (answer ∷ []) (Lines profile new)

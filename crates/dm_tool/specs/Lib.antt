@@ -8,7 +8,6 @@ pub mod MessageLines
 pub mod LineFacts
 pub mod OpenLines
 pub mod Texts
-pub mod Places
 pub mod LineFeeds
 pub mod Records
 pub mod RecordFacts

@@ -1,8 +1,12 @@
 -- What the bytes of a spelling come to, one after another.
-use Rattle.std.specs.Prelude.{◌≡◌, ◌≢◌, ◌≤◌, ℕ, List, [], ◌∷◌, ◌++◌}
+use Rattle.std.specs.Prelude.{◌≡◌, ◌≢◌, ◌≤◌, ◌+◌, ℕ, List, [], ◌∷◌, ◌++◌, length, Result, Ok, Err}
+use Rattle.std.specs.Borrow.{Bor}
 use Rattle.dm_symbol.specs.declared.Item.{Item}
 use Rattle.dm_tool.specs.Spellings.{IsSpelling}
-use Rattle.dm_tool.specs.LineFacts.{CanBecomeSpelling, LineFacts, Faulty, Good}
+use Rattle.dm_tool.specs.Texts.{HasNoLf, lf}
+use Rattle.dm_tool.specs.LineFacts.{AreLineFacts, CanBecomeSpelling, LineFacts, Faulty, Good}
+use Rattle.dm_tool.specs.LineFeeds.{LineAnswer}
+use Rattle.dm_tool.specs.declared.message_line.LineFault.{LineFault}
 use Rattle.dm_tool.specs.declared.spelling.Pending.{Pending}
 use Rattle.dm_tool.specs.declared.spelling.Pending.TheVariants as begun
 use Rattle.dm_tool.specs.declared.spelling.Next.{Next}
@@ -35,3 +39,17 @@ IsNext bytes next.Fault = (more : List ℕ) → BeginsNoSpelling (bytes ++ more)
 abbrev pub facts_of : State → LineFacts
 facts_of (state.Faulty column) = Faulty column
 facts_of (state.Good good) = Good good.front good.items (pending_bytes good.pending)
+
+-- What a line means, where the message is one that is pointed to.
+abbrev pub pointed_to : Result (Bor (List Item)) LineFault → LineAnswer
+pointed_to (Ok message) = Ok message.now
+pointed_to (Err fault) = Err fault
+
+-- The first LF of the piece ends the line, which is still held: the piece is taken up to and with it.
+pub record EndsLine (old : LineFacts) (piece : List ℕ) (taken : ℕ) (new : LineFacts) : Type 0 where
+  pub before : List ℕ
+  pub after : List ℕ
+  pub piece_is : piece ≡ before ++ lf ∷ after
+  pub no_lf : HasNoLf before
+  pub taken_is : taken ≡ length before + 1
+  pub grown : (line : List ℕ) → AreLineFacts line old → AreLineFacts (line ++ before) new

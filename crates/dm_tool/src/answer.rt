@@ -1,6 +1,8 @@
 //! What is written for a record or a line.
 ghost use Rattle.std.specs.Prelude.{◌≡◌, ◌<◌, ◌≤◌, ◌+◌, ◌∷◌, ◌++◌, [], length};
 ghost use Rattle.dm_tool.specs.Answers.{AnswersRecords, IsCheckAnswer, IsNormalAnswer, IsReadAnswer, IsRecordAnswer, IsWriteAnswer, blank_refusal_answer, check_text, grid_answer, limit_for, line_answer, refusal_answer};
+ghost use Rattle.dm_symbol.specs.Places.{outcome};
+ghost use Rattle.dm_tool.specs.OpenLines.{pointed_to};
 ghost use Rattle.dm_tool.specs.Spellings.{text_of};
 ghost use Rattle.dm_tool.specs.Refusals.{line_refusal, normal_refusal, read_refusal, record_refusal, too_long_refusal};
 
@@ -14,8 +16,8 @@ use crate::refusal::{
 use crate::task::Task;
 use arrayvec::ArrayVec;
 use dm_symbol::{
-    Grid, MOST_BLOCKS, Message, NormalFault, Profile, ReadFault, Reading, TooLong, normal_as, read,
-    usual_limit, write_as,
+    Grid, MOST_BLOCKS, Message, NormalFault, Profile, ReadFault, Reading, TooLong, light_grid,
+    normal_to, read_to, usual_limit, write_to,
 };
 use std::marker::Model;
 
@@ -149,57 +151,106 @@ impl Answer {
     }
 }
 
-// An answer has room for the largest grid. So there is one place for all of them, which each of these functions is given.
+/// Places for what records and message lines come to, one after another.
+#[derive(Drop)]
+pub(crate) struct Places {
+    /// The grid of a record.
+    pub(crate) grid: Grid,
+    /// What it says.
+    reading: Reading,
+    /// The normal grid of what it says, or of a message line.
+    pub(crate) normal: Grid,
+}
 
-/// What is written for a record where grids are read, checked or normalised.
-pub(crate) fn answer_record(task: Task, found: &Result<Grid, RecordFault>, answer: &mut Answer)
+impl Places {
+    /// Places in which nothing stands yet that was asked for.
+    pub(crate) fn new() -> Places {
+        Places {
+            grid: light_grid(),
+            reading: Reading::new(),
+            normal: light_grid(),
+        }
+    }
+}
+
+// An answer has room for the largest grid, and so have the places. So there is one of each for all records and lines, which each of these
+// functions is given; what stood in them before doesn't matter.
+
+/// What is written for a record where grids are read, checked or normalised. Its grid, if it is one, is in its place.
+pub(crate) fn answer_record(
+    task: Task,
+    found: Result<(), RecordFault>,
+    places: &mut Places,
+    answer: &mut Answer,
+)
     requires { AnswersRecords task }
-    ensures { IsRecordAnswer task found.now answer.new }
+    ensures { IsRecordAnswer task (outcome found places.old.grid) answer.new }
 {
     match task {
-        Task::Read(border) => answer_read(border, found, answer),
-        Task::Check(border) => answer_check(border, found, answer),
-        Task::Normal(border, profile) => answer_normal(border, profile, found, answer),
+        Task::Read(border) => answer_read(border, found, places, answer),
+        Task::Check(border) => answer_check(border, found, places, answer),
+        Task::Normal(border, profile) => answer_normal(border, profile, found, places, answer),
         Task::Write(_) | Task::Table => unreachable!(),
     }
 }
 
-/// What is written for a message line under a profile.
-pub(crate) fn answer_line(profile: Profile, line: &Result<Message, LineFault>, answer: &mut Answer)
-    ensures { IsWriteAnswer profile line.now answer.new }
+/// What is written for a message line under a profile, whose normal grid is made in a place that is handed in.
+pub(crate) fn answer_line(
+    profile: Profile,
+    line: Result<&Message, LineFault>,
+    grid: &mut Grid,
+    answer: &mut Answer,
+)
+    ensures { IsWriteAnswer profile (pointed_to line.entry) answer.new }
 {
     match line {
-        Ok(message) => match write_as(profile, message) {
-            Ok(grid) => answer.be_grid(&grid),
+        Ok(message) => match write_to(profile, message, grid) {
+            Ok(()) => answer.be_grid(grid),
             Err(TooLong) => answer.refuse_too_long(),
         },
-        Err(fault) => answer.refuse_line(*fault),
+        Err(fault) => answer.refuse_line(fault),
     }
 }
 
 /// The message of a record's grid.
-fn answer_read(border: Option<u16>, found: &Result<Grid, RecordFault>, answer: &mut Answer)
-    ensures { IsReadAnswer border found.now answer.new }
+fn answer_read(
+    border: Option<u16>,
+    found: Result<(), RecordFault>,
+    places: &mut Places,
+    answer: &mut Answer,
+)
+    ensures { IsReadAnswer border (outcome found places.old.grid) answer.new }
 {
     match found {
-        Ok(grid) => match read(grid, limit_for(border, grid)) {
-            Ok(reading) => answer.be_message(&reading.message),
-            Err(fault) => answer.refuse_reading(fault),
-        },
-        Err(fault) => answer.refuse_record(*fault),
+        Ok(()) => {
+            let limit = limit_for(border, &places.grid);
+            match read_to(&places.grid, limit, &mut places.reading) {
+                Ok(()) => answer.be_message(&places.reading.message),
+                Err(fault) => answer.refuse_reading(fault),
+            }
+        }
+        Err(fault) => answer.refuse_record(fault),
     }
 }
 
 /// How damaged a record's grid is.
-fn answer_check(border: Option<u16>, found: &Result<Grid, RecordFault>, answer: &mut Answer)
-    ensures { IsCheckAnswer border found.now answer.new }
+fn answer_check(
+    border: Option<u16>,
+    found: Result<(), RecordFault>,
+    places: &mut Places,
+    answer: &mut Answer,
+)
+    ensures { IsCheckAnswer border (outcome found places.old.grid) answer.new }
 {
     match found {
-        Ok(grid) => match read(grid, limit_for(border, grid)) {
-            Ok(reading) => answer.be_counts(grid.size().side(), &reading),
-            Err(fault) => answer.refuse_reading(fault),
-        },
-        Err(fault) => answer.refuse_record(*fault),
+        Ok(()) => {
+            let limit = limit_for(border, &places.grid);
+            match read_to(&places.grid, limit, &mut places.reading) {
+                Ok(()) => answer.be_counts(places.grid.size().side(), &places.reading),
+                Err(fault) => answer.refuse_reading(fault),
+            }
+        }
+        Err(fault) => answer.refuse_record(fault),
     }
 }
 
@@ -207,17 +258,27 @@ fn answer_check(border: Option<u16>, found: &Result<Grid, RecordFault>, answer: 
 fn answer_normal(
     border: Option<u16>,
     profile: Profile,
-    found: &Result<Grid, RecordFault>,
+    found: Result<(), RecordFault>,
+    places: &mut Places,
     answer: &mut Answer,
 )
-    ensures { IsNormalAnswer border profile found.now answer.new }
+    ensures { IsNormalAnswer border profile (outcome found places.old.grid) answer.new }
 {
     match found {
-        Ok(grid) => match normal_as(profile, grid, limit_for(border, grid)) {
-            Ok(normal) => answer.be_grid(&normal),
-            Err(fault) => answer.refuse_normal(fault),
-        },
-        Err(fault) => answer.refuse_record_for_grid(*fault),
+        Ok(()) => {
+            let limit = limit_for(border, &places.grid);
+            match normal_to(
+                profile,
+                &places.grid,
+                limit,
+                &mut places.reading,
+                &mut places.normal,
+            ) {
+                Ok(()) => answer.be_grid(&places.normal),
+                Err(fault) => answer.refuse_normal(fault),
+            }
+        }
+        Err(fault) => answer.refuse_record_for_grid(fault),
     }
 }
 

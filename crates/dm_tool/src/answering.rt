@@ -3,9 +3,9 @@ ghost use Rattle.std.specs.Prelude.{◌≡◌, ◌∷◌, ◌<◌, ◌≤◌, []
 ghost use Rattle.std.specs.Bool.{OnTrue, OnFalse};
 ghost use Rattle.dm_tool.specs.Standings.{Ends, Goes, Stands, StandsAnywhere};
 
-use crate::answer::{Answer, answer_line, answer_record};
-use crate::grid_feed::{Fed, GridFeed};
-use crate::line_feed::{LineFed, LineFeed};
+use crate::answer::{Answer, Places, answer_line, answer_record};
+use crate::grid_feed::GridFeed;
+use crate::line_feed::LineFeed;
 use crate::task::Task;
 use dm_symbol::Profile;
 
@@ -37,7 +37,12 @@ impl Answering {
     /// Takes bytes up to and with the first one that closes a record or a line: how many, with the answer to what they close in
     /// `answer`. None where the piece closes nothing, and all of it is taken. An answer has room for the largest grid, so there is
     /// one place for all of them.
-    pub(crate) fn feed(&mut self, piece: &[u8], answer: &mut Answer) -> Option<usize>
+    pub(crate) fn feed(
+        &mut self,
+        piece: &[u8],
+        places: &mut Places,
+        answer: &mut Answer,
+    ) -> Option<usize>
         requires { StandsAnywhere self.old }
         ensures open { IfNone result (Goes self.old piece.now [] self.new) }
         ensures some { IfSome result (λ taken. 0 < taken) }
@@ -46,49 +51,44 @@ impl Answering {
     {
         match self {
             Answering::Records(task, feed) => {
-                let Fed { taken, closed } = feed.feed(piece);
-                match closed {
-                    None => None,
-                    Some(record) => {
-                        answer_record(*task, &record, answer);
-                        Some(taken)
-                    }
-                }
+                let Some((taken, found)) = feed.feed_to(piece, &mut places.grid) else {
+                    return None;
+                };
+                answer_record(*task, found, places, answer);
+                Some(taken)
             }
             Answering::Lines(profile, feed) => {
-                let LineFed { taken, closed } = feed.feed(piece);
-                match closed {
-                    None => None,
-                    Some(line) => {
-                        answer_line(*profile, &line, answer);
-                        Some(taken)
-                    }
-                }
+                let Some(taken) = feed.take_line(piece) else {
+                    return None;
+                };
+                answer_line(*profile, feed.meaning(), &mut places.normal, answer);
+                feed.begin_line();
+                Some(taken)
             }
         }
     }
 
     /// Whether the end of the text closes a record or a line; the answer to it is then in `answer`.
-    pub(crate) fn finish(&mut self, answer: &mut Answer) -> bool
+    pub(crate) fn finish(&mut self, places: &mut Places, answer: &mut Answer) -> bool
         requires { StandsAnywhere self.old }
         ensures none { OnFalse result (Ends self.old []) }
         ensures last { OnTrue result (Ends self.old (answer.new ∷ [])) }
     {
         match self {
-            Answering::Records(task, feed) => match feed.finish() {
-                None => false,
-                Some(record) => {
-                    answer_record(*task, &record, answer);
-                    true
+            Answering::Records(task, feed) => {
+                let Some(found) = feed.finish_to(&mut places.grid) else {
+                    return false;
+                };
+                answer_record(*task, found, places, answer);
+                true
+            }
+            Answering::Lines(profile, feed) => {
+                if feed.is_empty() {
+                    return false;
                 }
-            },
-            Answering::Lines(profile, feed) => match feed.finish() {
-                None => false,
-                Some(line) => {
-                    answer_line(*profile, &line, answer);
-                    true
-                }
-            },
+                answer_line(*profile, feed.meaning(), &mut places.normal, answer);
+                true
+            }
         }
     }
 }

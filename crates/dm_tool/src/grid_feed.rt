@@ -4,10 +4,10 @@ ghost use Rattle.dm_tool.specs.Texts.{last_line};
 ghost use Rattle.dm_tool.specs.Records.{AreLfs, record_of};
 ghost use Rattle.dm_tool.specs.RecordFacts.{AreRecordFacts, facts_of_record};
 ghost use Rattle.dm_tool.specs.RecordFeeds.{ClosesRecord, IsLastRecord, LeavesRecordOpen};
-ghost use Rattle.dm_tool.specs.Places.{outcome};
+ghost use Rattle.dm_symbol.specs.Places.{outcome};
 
 use crate::record::{OpenRecord, RecordFault};
-use dm_symbol::Grid;
+use dm_symbol::{Grid, light_grid};
 use std::marker::Model;
 
 /// Cuts a text that comes in pieces into records, the longest runs of lines that are not empty. It holds
@@ -116,18 +116,10 @@ impl GridFeed {
             → result ≡ record_of (lines ++ last_line rest) }
         ensures empty { AreRecordFacts [] self.new }
     {
-        let mut grid = blank_grid();
+        let mut grid = light_grid();
         match self.record.close_to(&mut grid) {
             Ok(()) => Ok(grid),
             Err(fault) => Err(fault),
         }
-    }
-}
-
-/// A grid of the smallest size, for a place.
-pub(crate) fn blank_grid() -> Grid {
-    match Grid::of_rows(10, &[0; 10]) {
-        Ok(grid) => grid,
-        Err(_) => unreachable!(),
     }
 }

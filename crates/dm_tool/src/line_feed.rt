@@ -1,8 +1,9 @@
 //! Message lines from pieces of a text.
-ghost use Rattle.std.specs.Prelude.{◌≡◌, ◌∷◌, [], ℕ, List, IfNone, IfSome, IsSome, ◌↔◌, ◌≢◌};
+ghost use Rattle.std.specs.Prelude.{◌≡◌, ◌∷◌, [], ℕ, List, IfNone, IfSome, IsSome, IsTrue, ◌↔◌, ◌≢◌, length};
 ghost use Rattle.dm_tool.specs.MessageLines.{IsLine};
 ghost use Rattle.dm_tool.specs.LineFacts.{AreLineFacts};
 ghost use Rattle.dm_tool.specs.LineFeeds.{ClosesLine, LeavesLineOpen};
+ghost use Rattle.dm_tool.specs.OpenLines.{EndsLine, pointed_to};
 
 use crate::message_line::LineFault;
 use crate::open_line::OpenLine;
@@ -89,5 +90,40 @@ impl LineFeed {
         ensures empty { AreLineFacts [] self.new }
     {
         std::mem::replace(&mut self.line, OpenLine::new()).close()
+    }
+
+    // A line is closed without a copy of its message where these follow on one another.
+
+    /// Takes bytes up to and with the first LF, and holds the line that it ends: how many, where there is one. None where all of the
+    /// piece is taken.
+    pub(crate) fn take_line(&mut self, piece: &[u8]) -> Option<usize>
+        ensures open { IfNone result (LeavesLineOpen self.old piece.now (length piece.now) self.new) }
+        ensures ends { IfSome result (λ taken. EndsLine self.old piece.now taken self.new) }
+    {
+        let Some(end) = self.line.take_to_lf(piece) else {
+            return None;
+        };
+        Some(end + 1)
+    }
+
+    /// Whether the line that is held has no byte.
+    pub(crate) fn is_empty(&self) -> bool
+        ensures { (line : List ℕ) → AreLineFacts line self.now → (IsTrue result ↔ (line ≡ [])) }
+    {
+        self.line.is_empty()
+    }
+
+    /// What the line that is held means: its message, or its fault.
+    pub(crate) fn meaning(&self) -> Result<&Message, LineFault>
+        ensures { (line : List ℕ) → AreLineFacts line self.now → IsLine line (pointed_to result) }
+    {
+        self.line.meaning()
+    }
+
+    /// The next line begins.
+    pub(crate) fn begin_line(&mut self)
+        ensures { AreLineFacts [] self.new }
+    {
+        self.line.clear();
     }
 }

@@ -4,7 +4,7 @@ ghost use Rattle.std.specs.List.{AllByRecursion};
 ghost use Rattle.dm_tool.specs.MessageLines.{IsLine};
 ghost use Rattle.dm_tool.specs.Texts.{HasNoLf, IsFirstLf};
 ghost use Rattle.dm_tool.specs.LineFacts.{AreLineFacts, kept};
-ghost use Rattle.dm_tool.specs.OpenLines.{IsPlain};
+ghost use Rattle.dm_tool.specs.OpenLines.{IsPlain, pointed_to};
 ghost use Rattle.dm_symbol.specs.declared.Item.{Item as AnItem};
 
 use crate::message_line::LineFault;
@@ -51,11 +51,7 @@ impl OpenLine {
         ensures { AreLineFacts [] result }
     {
         OpenLine {
-            state: State::Good(GoodLine {
-                front: 0,
-                items: Some(Message::new()),
-                pending: Pending::Nothing,
-            }),
+            state: State::Good(GoodLine::new()),
         }
     }
 
@@ -135,7 +131,17 @@ impl OpenLine {
         }
     }
 
-    /// The line ends.
+    /// What the line means where it ends here: its message, or its fault.
+    pub(crate) fn meaning(&self) -> Result<&Message, LineFault>
+        ensures { (line : List ℕ) → AreLineFacts line self.now → IsLine line (pointed_to result) }
+    {
+        match &self.state {
+            State::Faulty(column) => Err(LineFault::BadEscape(*column)),
+            State::Good(good) => good.meaning(),
+        }
+    }
+
+    /// The same, with the message by value.
     pub(crate) fn close(self) -> Result<Message, LineFault>
         ensures { (line : List ℕ) → AreLineFacts line self → IsLine line result }
     {
@@ -144,11 +150,32 @@ impl OpenLine {
             State::Good(good) => good.close(),
         }
     }
+
+    /// Becomes the empty line.
+    pub(crate) fn clear(&mut self)
+        ensures { AreLineFacts [] self.new }
+    {
+        match &mut self.state {
+            State::Good(good) => good.clear(),
+            State::Faulty(_) => self.state = State::Good(GoodLine::new()),
+        }
+    }
 }
 
 impl GoodLine {
     ghost use Rattle.dm_tool.specs.LineFacts.{IsGoodLine};
     ghost use Rattle.dm_tool.specs.OpenLines.{pending_bytes};
+
+    /// The empty line.
+    fn new() -> Self
+        ensures { IsGoodLine [] result.front result.items (pending_bytes result.pending) }
+    {
+        GoodLine {
+            front: 0,
+            items: Some(Message::new()),
+            pending: Pending::Nothing,
+        }
+    }
 
     /// Takes bytes at the front that stand for themselves, where no other spelling is begun, and says how many.
     fn take_plain(&mut self, bytes: &[u8]) -> usize
@@ -168,7 +195,20 @@ impl GoodLine {
         count
     }
 
-    /// The line ends.
+    /// What the line means where it ends here: its message, or its fault.
+    fn meaning(&self) -> Result<&Message, LineFault>
+        ensures { (line : List ℕ) → IsGoodLine line self.now.front self.now.items (pending_bytes self.now.pending) → IsLine line (pointed_to result) }
+    {
+        if self.pending.count() > 0 {
+            return Err(LineFault::BadEscape(self.front.saturating_add(1)));
+        }
+        match &self.items {
+            Some(message) => Ok(message),
+            None => Err(LineFault::TooLong),
+        }
+    }
+
+    /// The same, with the message by value.
     fn close(self) -> Result<Message, LineFault>
         ensures { (line : List ℕ) → IsGoodLine line self.front self.items (pending_bytes self.pending) → IsLine line result }
     {
@@ -176,6 +216,18 @@ impl GoodLine {
             return Err(LineFault::BadEscape(self.front.saturating_add(1)));
         }
         self.items.ok_or(LineFault::TooLong)
+    }
+
+    /// Becomes the empty line.
+    fn clear(&mut self)
+        ensures { IsGoodLine [] self.new.front self.new.items (pending_bytes self.new.pending) }
+    {
+        self.front = 0;
+        self.pending = Pending::Nothing;
+        match &mut self.items {
+            Some(message) => message.clear(),
+            None => self.items = Some(Message::new()),
+        }
     }
 }
 

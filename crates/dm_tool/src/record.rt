@@ -5,7 +5,7 @@ ghost use Rattle.dm_tool.specs.Records.{IsClosedRecord, is_foreign, record_of};
 ghost use Rattle.dm_tool.specs.RecordFacts.{AreRecordFacts, facts_of_record};
 ghost use Rattle.dm_tool.specs.Texts.{last_line};
 ghost use Rattle.dm_tool.specs.OpenRecords.{AreCells, EndsAt};
-ghost use Rattle.dm_tool.specs.Places.{outcome};
+ghost use Rattle.dm_symbol.specs.Places.{outcome};
 
 use crate::front::Front;
 use crate::rows::Rows;

@@ -3,7 +3,7 @@ ghost use Rattle.std.specs.Prelude.{◌≡◌, ◌≢◌, ◌∷◌, ◌++◌, �
 ghost use Rattle.dm_tool.specs.Records.{record_of};
 ghost use Rattle.dm_tool.specs.OpenRecords.{AreCells, Continues, HoldsLines, is_ended, line_count};
 ghost use Rattle.dm_tool.specs.Texts.{last_line};
-ghost use Rattle.dm_tool.specs.Places.{outcome};
+ghost use Rattle.dm_symbol.specs.Places.{outcome};
 
 use crate::front::Front;
 use crate::record::RecordFault;

@@ -6,7 +6,7 @@ ghost use Rattle.dm_tool.specs.Devices.{AppendsFront, Counts, HasRisen, IsFlushe
 ghost use Rattle.dm_tool.specs.Runs.{IsAnswered, IsBroken, IsDoneSoFar, IsFlushedAtEnd, IsTooMuch, most_asked, tally_of, written};
 ghost use Rattle.dm_tool.specs.Standings.{Ends, Goes, IsBegun, StandsAnywhere};
 
-use crate::answer::Answer;
+use crate::answer::{Answer, Places};
 use crate::answering::Answering;
 use crate::device::Failed;
 use crate::gathering::{Gathered, gather, put_gathered};
@@ -63,12 +63,13 @@ pub fn run<I: Source, O: Sink>(
     let mut tally = NO_ANSWER;
     let mut left = most;
     let mut place = [0u8; PIECE];
+    let mut places = Places::new();
     let mut answer = Answer::none();
     let mut gathered = Gathered::new();
     'pieces: loop {
         let count = match next_piece(source, &mut place, left) {
             Ok(0) => {
-                return match end(&mut answering, sink, &mut tally, &mut answer) {
+                return match end(&mut answering, sink, &mut tally, &mut places, &mut answer) {
                     Ok(()) => Ok(tally),
                     Err(Failed) => Err(RunFault::Write),
                 };
@@ -86,6 +87,7 @@ pub fn run<I: Source, O: Sink>(
             sink,
             &mut tally,
             piece,
+            &mut places,
             &mut answer,
             &mut gathered,
         ) {
@@ -169,6 +171,7 @@ fn answer_piece<O: Sink>(
     sink: &mut O,
     tally: &mut Tally,
     piece: &[u8],
+    places: &mut Places,
     answer: &mut Answer,
     gathered: &mut Gathered,
 ) -> Result<(), Failed>
@@ -185,7 +188,7 @@ fn answer_piece<O: Sink>(
     gathered.clear();
     let mut rest = piece;
     loop {
-        match answering.feed(rest, answer) {
+        match answering.feed(rest, places, answer) {
             None => return put_gathered(sink, gathered),
             Some(taken) => {
                 if let Err(Failed) = gather_answer(sink, tally, answer, gathered) {
@@ -226,6 +229,7 @@ fn end<O: Sink>(
     answering: &mut Answering,
     sink: &mut O,
     tally: &mut Tally,
+    places: &mut Places,
     answer: &mut Answer,
 ) -> Result<(), Failed>
     requires stands { StandsAnywhere answering.old }
@@ -242,7 +246,7 @@ fn end<O: Sink>(
         × ((answers : List AnAnswer) → tally.old ≡ tally_of answers → tally.new ≡ tally_of (answers ++ last))))) }
     ensures count { Counts (O.failed sink.old) (O.failed sink.new) result }
 {
-    match put_last(answering, sink, tally, answer) {
+    match put_last(answering, sink, tally, places, answer) {
         Ok(()) => sink.flush(),
         Err(Failed) => Err(Failed),
     }
@@ -253,6 +257,7 @@ fn put_last<O: Sink>(
     answering: &mut Answering,
     sink: &mut O,
     tally: &mut Tally,
+    places: &mut Places,
     answer: &mut Answer,
 ) -> Result<(), Failed>
     requires stands { StandsAnywhere answering.old }
@@ -265,7 +270,7 @@ fn put_last<O: Sink>(
     ensures unflushed { O.flushed sink.old sink.new [] }
     ensures count { Counts (O.failed sink.old) (O.failed sink.new) result }
 {
-    if answering.finish(answer) {
+    if answering.finish(places, answer) {
         put_answer(sink, tally, answer)
     } else {
         Ok(())
