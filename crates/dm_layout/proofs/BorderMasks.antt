@@ -240,7 +240,7 @@ one_ruled last a left both least fits old =
     }
 
 -- answers that are equal by test are equal
-beq-true : (a b : Bool) → beq a b ≡ true → a ≡ b
+pub beq-true : (a b : Bool) → beq a b ≡ true → a ≡ b
 beq-true true true e = refl
 beq-true true false e = sym e
 beq-true false true e = e

@@ -212,7 +212,7 @@ laid_by words size rows grid h es eg g border mapped bits fixed =
 -- ---- a row of the symbol, by the size's numbers
 
 -- the regions cover the mapping square
-regions_cover : (size : SizeRow) → IsRow size → size.mapping / size.region_side * size.region_side ≡ size.mapping
+pub regions_cover : (size : SizeRow) → IsRow size → size.mapping / size.region_side * size.region_side ≡ size.mapping
 regions_cover size row =
     let facts = row_facts size row in
     let p : 0 < size.region_side = omega (arith, facts.least) in

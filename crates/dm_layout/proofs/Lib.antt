@@ -29,6 +29,11 @@ pub mod InnerRows
 pub mod Painting
 pub mod OuterRows
 pub mod PaintedThree
+pub mod WidenedRows
+pub mod SlotRows
+pub mod LiftedWords
+pub mod TestedSlots
+pub mod SlotOrder
 pub mod DrawnRows
 pub mod BorderMasks
 pub mod BorderLemmas

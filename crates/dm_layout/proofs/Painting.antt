@@ -103,7 +103,7 @@ word_put rows news words n w x cells ss rest s e f g put so_far r c =
     ∙ so_far r c
 
 -- rows of zeros are light
-light_at : (n r c : ℕ) → is_dark_in (get_or (replicate n 0) r 0) c ≡ false
+pub light_at : (n r c : ℕ) → is_dark_in (get_or (replicate n 0) r 0) c ≡ false
 light_at zero r c = ap (λ (i : ℕ). nat_eq i 1) (bit_at-zero c)
 light_at (suc n) zero c = ap (λ (i : ℕ). nat_eq i 1) (bit_at-zero c)
 light_at (suc n) (suc r) c = light_at n r c

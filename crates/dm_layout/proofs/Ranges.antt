@@ -23,6 +23,12 @@ all_at f from (suc len) (suc x) h l =
     let e : from + 1 + x ≡ from + suc x = omega arith in
     subst (λ (j : ℕ). f j ≡ true) e (all_at f (from + 1) len x (and_parts _ _ h).1 (omega arith))
 
+-- and so where the run begins at 0
+pub all_below : (f : ℕ → Bool) (len x : ℕ) → list_all f (range_with_len 0 len) ≡ true → x < len → f x ≡ true
+all_below f len x h l =
+    let z : 0 + x ≡ x = omega arith in
+    subst (λ (j : ℕ). f j ≡ true) z (all_at f 0 len x h l)
+
 -- numbers that fail the test may be left out at the front
 pub filter_skip : (p : ℕ → Bool) (a m n : ℕ) → ((j : ℕ) → j < m → p (a + j) ≡ false) → filter p (range_with_len a (m + n)) ≡ filter p (range_with_len (a + m) n)
 filter_skip p a zero n h =

@@ -9,6 +9,8 @@ pub mod Sweep
 pub mod Walking
 pub mod Order
 pub mod Reading
+pub mod Widened
+pub mod Slots
 pub mod Holds
 pub mod BorderMasks
 pub mod Equality

@@ -1,6 +1,5 @@
 -- Codewords in the mapping square, whose rows are numbers: the cell of column c is the bit of weight 2^c.
 use Rattle.std.specs.Prelude.{ℕ, suc, ◌+◌, ◌-◌, ◌*◌, ◌/◌, ◌%◌, ◌^◌, Bool, false, ◌&&◌, ◌||◌, nat_eq, List, [], ◌∷◌, get_or}
-use Rattle.std.specs.Int.{bit_at}
 use Rattle.dm_layout.specs.Grid.{is_dark_in}
 use Rattle.dm_layout.specs.declared.shape.Cell.{Cell}
 
@@ -21,12 +20,3 @@ turned_bits x = 4 * (x % 2) + 2 * (x / 2 % 2) + x / 4
 abbrev pub marks_three : ℕ → ℕ → ℕ → Bool
 marks_three x left c =
     (nat_eq c left && nat_eq (x / 4 % 2) 1) || (nat_eq c (left + 1) && nat_eq (x / 2 % 2) 1) || (nat_eq c (left + 2) && nat_eq (x % 2) 1)
-
--- the number that begins with a and goes on with the bits of these cells
-abbrev pub bits_in : List ℕ → ℕ → List Cell → ℕ
-bits_in rows a [] = a
-bits_in rows a (x ∷ rest) = bits_in rows (2 * a + bit_at (get_or rows x.row 0) x.column) rest
-
--- the number of the bits of these cells
-abbrev pub word_in : List ℕ → List Cell → ℕ
-word_in rows cells = bits_in rows 0 cells

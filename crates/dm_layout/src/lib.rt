@@ -15,11 +15,14 @@ pub mod laws;
 mod mapping;
 mod module;
 mod order;
+mod order_rows;
 mod packed;
 mod placing;
 mod shape;
 mod size;
+mod slots;
 mod sweep;
+mod widened;
 mod words;
 
 pub use blocks::{block, put_block};

@@ -5,7 +5,7 @@ ghost use Rattle.std.specs.Int.{bit_at};
 ghost use Rattle.dm_layout.specs.Border.{mapped_cell, symbol_line, is_border, border_is_dark, is_fixed, is_fixed_dark};
 ghost use Rattle.dm_layout.specs.Grid.{IsGrid, cell_at, is_dark_in};
 ghost use Rattle.dm_layout.specs.Placement.{IsPlace, cells_of};
-ghost use Rattle.dm_layout.specs.Reading.{look_in, marks_in, marks_three, turned_bits, word_in};
+ghost use Rattle.dm_layout.specs.Reading.{look_in, marks_in, marks_three, turned_bits};
 ghost use Rattle.dm_layout.specs.Holds.{bit_of};
 ghost use Rattle.dm_layout.specs.declared.shape.Cell.{Cell};
 ghost use Rattle.dm_layout.specs.Walking.{AnchorInside, CellsInside, largest_mapping};
@@ -17,36 +17,6 @@ use crate::shape::{Cell, LARGEST_MAPPING, Shape};
 use crate::size::Size;
 use crate::words::Words;
 
-/// The row of the mapping square that lies in a row of the symbol between the borders of `across` regions.
-fn inner_row(row: u128, region_side: u16, across: u16) -> u128
-    requires least { 8 ≤ region_side }
-    requires fits { across * region_side ≤ largest_mapping }
-    ensures { (column : ℕ) → column < across * region_side → is_dark_in result column ≡ is_dark_in row (symbol_line region_side column) }
-{
-    let mut inner = 0;
-    for region in 0..across {
-        let part = (row >> (region * (region_side + 2) + 1)) % (1 << region_side);
-        inner |= part << (region * region_side);
-    }
-    inner
-}
-
-/// The rows of the mapping square of a grid.
-pub(crate) fn mapping_rows(grid: &Grid) -> [u128; LARGEST_MAPPING]
-    ensures { (row column : ℕ) → row < grid.now.size.mapping → column < grid.now.size.mapping → is_dark_in (get_or result row 0) column ≡ mapped_cell grid.now row column }
-{
-    let size = grid.size();
-    let region_side = size.region_side();
-    let mapping = size.mapping();
-    let across = mapping / region_side;
-    let mut rows = [0; LARGEST_MAPPING];
-    for line in 0..mapping {
-        let outer = grid.row(line + 2 * (line / region_side) + 1);
-        rows[line as usize] = inner_row(outer, region_side, across);
-    }
-    rows
-}
-
 /// Three bits in the opposite order, by their number.
 static TURNED: [u8; 8] = [0, 4, 2, 6, 1, 5, 3, 7];
 
@@ -57,72 +27,6 @@ fn turned(bits: u8) -> u8
     ensures { result ≡ turned_bits bits }
 {
     TURNED[bits as usize]
-}
-
-/// Three cells of a row from a column on, the left one as the highest bit.
-fn three(row: u128, column: u16) -> u8
-    requires { column < largest_mapping }
-    ensures value { result ≡ 4 * bit_at row column + 2 * bit_at row (column + 1) + bit_at row (column + 2) }
-    ensures small { result < 8 }
-{
-    turned(((row >> column) % 8) as u8)
-}
-
-/// The codeword of a standard shape that wraps round no edge.
-fn inner_word(rows: &[u128; LARGEST_MAPPING], row: u16, column: u16) -> u8
-    requires row_low { 2 ≤ row }
-    requires row { row < largest_mapping }
-    requires column_low { 2 ≤ column }
-    requires column { column < largest_mapping }
-    ensures { (n : ℕ) → result ≡ word_in rows.now (cells_of n (Shape.Standard row column)) }
-{
-    let left = column - 2;
-    let row = row as usize;
-    64 * (three(rows[row - 2], left) / 2) + 8 * three(rows[row - 1], left) + three(rows[row], left)
-}
-
-/// The codeword in these cells.
-fn word_of_cells(rows: &[u128; LARGEST_MAPPING], cells: &[Cell; 8]) -> u8
-    requires { CellsInside largest_mapping cells.now }
-    ensures { result ≡ word_in rows.now cells.now }
-{
-    let mut word: u16 = 0;
-    for cell in cells {
-        word = 2 * word + ((rows[cell.row as usize] >> cell.column) % 2) as u16;
-    }
-    word as u8
-}
-
-/// The codeword of a shape that wraps round an edge or lies on a corner. Few do, so this stays out of the loop over all.
-#[inline(never)]
-fn edge_word(rows: &[u128; LARGEST_MAPPING], mapping: u16, shape: Shape) -> u8
-    requires low { 8 ≤ mapping }
-    requires small { mapping ≤ largest_mapping }
-    requires anchor { AnchorInside mapping shape }
-    ensures { result ≡ word_in rows.now (cells_of mapping shape) }
-{
-    word_of_cells(rows, &shape.cells(mapping))
-}
-
-/// The codeword of a shape.
-pub(crate) fn word_at(rows: &[u128; LARGEST_MAPPING], mapping: u16, shape: Shape) -> u8
-    requires low { 8 ≤ mapping }
-    requires small { mapping ≤ largest_mapping }
-    requires anchor { AnchorInside mapping shape }
-    ensures { result ≡ word_in rows.now (cells_of mapping shape) }
-{
-    match shape {
-        Shape::Standard(row, column) => {
-            if row >= 2 && column >= 2 {
-                inner_word(rows, row, column)
-            } else {
-                edge_word(rows, mapping, shape)
-            }
-        }
-        Shape::Corner1 | Shape::Corner2 | Shape::Corner3 | Shape::Corner4 => edge_word(
-            rows, mapping, shape,
-        ),
-    }
 }
 
 /// Makes these cells dark where the bits of a codeword are 1.

@@ -23,7 +23,8 @@ fn faults_of_grids_of_one_colour(rt: HostRuntime) {
 fn the_grid_without_codewords(rt: HostRuntime) {
     let size = Size::of_side(12).expect(&rt, "side 12");
     assert_eq!(rt; size.side(), 12);
-    let grid = bordered(size);
+    let mut grid = plain(12, true).expect(&rt, "a dark grid");
+    draw_borders(&mut grid, size);
     assert_eq!(rt; border_faults(&grid), 0);
     assert_eq!(rt; grid.size().side(), 12);
     let rows = [

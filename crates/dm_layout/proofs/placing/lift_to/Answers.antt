@@ -1,77 +1,79 @@
-use Rattle.std.proofs.Common.{◌≡◌, ◌∙◌, ℕ, List, sym, ap, arith, length, subst, take, map, ◌+◌, ◌<◌, ◌++◌}
-use Rattle.std.proofs.lemmas.List.{length-set}
-use Rattle.dm_layout.specs.declared.shape.Shape.{Shape}
-use Rattle.dm_layout.specs.Sizes.{SizeRow, codeword_count}
-use Rattle.dm_layout.specs.Order.{AnchorsInside}
+use Rattle.std.proofs.Common.{◌≡◌, true, ℕ, ◌/◌, ◌%◌, ◌+◌, ◌<◌, ◌≤◌, List, [], map, take, length, get_or, ap, sym, subst, arith, ◌∙◌}
+use Rattle.std.specs.List.{list_all}
+use Rattle.std.proofs.lemmas.List.{length-map, take_all}
+use Rattle.dm_layout.specs.Sizes.{SizeRow, IsRow, codeword_count}
+use Rattle.dm_layout.specs.Border.{mapped_cell}
 use Rattle.dm_layout.specs.Placement.{shapes, cells_of}
+use Rattle.dm_layout.specs.Slots.{order_of, reversed_bits, slot_of}
+use Rattle.dm_layout.specs.Widened.{IsWidened}
 use Rattle.dm_layout.specs.Words.{WordsView}
-use Rattle.dm_layout.specs.Reading.{word_in}
-use Rattle.dm_layout.proofs.PlacementRows.{bounds_at_row, count_at_row}
-use Rattle.dm_layout.proofs.Reading.{one_list}
-use Rattle.dm_layout.proofs.InnerRows.{read_more, all_read, all_words, held_by_rows}
+use Rattle.dm_layout.proofs.LiftedWords.{slot_words, fits_test}
+use Rattle.dm_layout.proofs.PlacementRows.{bounds_at_row}
+use Rattle.dm_layout.proofs.SlotOrder.{order_at_row, slot_here, slot_count, read_more}
+use Rattle.dm_layout.proofs.Reading.{one_list, held, gathered_all, word_of}
 use Rattle.dm_layout.proofs.placing.lift_to.Goals as goal
 
--- the codeword of a shape
-abbrev word_by : List ℕ → ℕ → Shape → ℕ
-word_by rows n sh = word_in rows (cells_of n sh)
+small : (s : SizeRow) (m : ℕ) → IsRow s → m ≡ s.mapping → m ≤ 96
+small s m row e = let b = bounds_at_row s row in let h = b.high in omega (arith, h, e)
 
-pub word_at-requires-clause-small : goal.word_at-requires-clause-small
-word_at-requires-clause-small c =
-    let b = bounds_at_row c.size-size.result c.mapping-mapping.ensures.row in
-    let h = b.high in
-    omega (arith, h, c.mapping-mapping.ensures.value)
+-- the codeword of a slot
+abbrev word_by : List (List ℕ) → ℕ → ℕ
+word_by slots x = reversed_bits (get_or (get_or slots (x / 16) []) (x % 16) 0)
 
-pub loop-shape-init : goal.loop-shape-init
-loop-shape-init c =
-    let n : ℕ = c.args.grid.now.size.mapping in
-    let g = c.size-size.ensures.grid in
-    let m : c.size-size.result.mapping ≡ n = ap (λ (s : SizeRow). s.mapping) c.size-size.ensures.value in
-    let e = c.into_iter-shape-iterator.ensures.into_iter_gives in
-    let all : c.into_iter-shape-iterator.result ≡ shapes n = e ∙ c.new-shape-items.ensures.value ∙ ap shapes m in
-    let size : c.begin.new.self.size ≡ c.args.grid.now.size = c.begin.ensures.size ∙ c.size-size.ensures.value in
-    record {
-      words = c.begin.ensures.words;
-      size = size;
-      inside = subst (λ (i : ℕ). AnchorsInside i c.into_iter-shape-iterator.result) m (subst (λ (ss : List Shape). AnchorsInside c.size-size.result.mapping ss) (sym e) c.new-shape-items.ensures.inside);
-      left =
-          let k = ap length all ∙ count_at_row c.args.grid.now.size g.row ∙ ap codeword_count (sym size) ∙ sym c.begin.ensures.words.count in
-          omega (arith, k);
-      so_far = ap (map (word_by c.mapping_rows-rows.result n)) all;
-    }
+pub slots-slots-requires-clause-small : goal.slots-slots-requires-clause-small
+slots-slots-requires-clause-small c = small c.size-size.result c.mapping-mapping.result c.mapping-mapping.ensures.row c.mapping-mapping.ensures.value
+
+pub codeword-requires : goal.codeword-requires
+codeword-requires c = slot_here c.size-size.result c.mapping-mapping.result c.loop-i.i c.order-slot-items.result.now c.mapping-mapping.ensures.row c.mapping-mapping.ensures.value c.order-slot-items.ensures c.loop-i-test.true
 
 pub put-requires : goal.put-requires
-put-requires c = let k = ap length c.in-Some.ensures.steps in omega (arith, c.loop-shape.invariant.left, k)
+put-requires c =
+    let k = slot_count c.size-size.result c.mapping-mapping.result c.order-slot-items.result.now c.mapping-mapping.ensures.row c.mapping-mapping.ensures.value c.order-slot-items.ensures in
+    let e = ap codeword_count (c.loop-i.invariant.size ∙ sym c.size-size.ensures.value) in
+    omega (arith, c.loop-i.invariant.words.count, k, e, c.loop-i-test.true)
 
-pub loop-shape-preserved : goal.loop-shape-preserved
-loop-shape-preserved c =
-    let n : ℕ = c.args.grid.now.size.mapping in
-    let i = c.loop-shape.invariant in
-    let m : c.mapping-mapping.result ≡ n = c.mapping-mapping.ensures.value ∙ ap (λ (s : SizeRow). s.mapping) c.size-size.ensures.value in
-    let e = c.in-Some.ensures.steps in
-    let k = ap length e in
-    let list = ap (λ (w : WordsView). w.list) c.put.ensures.value in
-    let room : c.loop-shape.word < length c.loop-shape.words.list = omega (arith, i.left, k) in
-    let count = ap length list ∙ length-set c.loop-shape.words.list c.loop-shape.word _ in
+pub loop-i-preserved : goal.loop-i-preserved
+loop-i-preserved c =
+    let f = word_by c.slots-slots.result in
+    let k = ap length c.order-slot-items.ensures in
+    let n = slot_count c.size-size.result c.mapping-mapping.result c.order-slot-items.result.now c.mapping-mapping.ensures.row c.mapping-mapping.ensures.value c.order-slot-items.ensures in
+    let e = ap codeword_count (c.loop-i.invariant.size ∙ sym c.size-size.ensures.value) in
+    let room : c.loop-i.i < length c.loop-i.words.list = omega (arith, c.loop-i.invariant.words.count, n, e, c.loop-i-test.true) in
     record {
       words = c.put.ensures.words;
-      size = ap (λ (w : WordsView). w.size) c.put.ensures.value ∙ i.size;
-      inside = (subst (λ (ss : List Shape). AnchorsInside n ss) e i.inside).1;
-      left = omega (arith, i.left, k, count);
+      size = ap (λ (w : WordsView). w.size) c.put.ensures.value ∙ c.loop-i.invariant.size;
       so_far =
-          ap (λ (ws : List ℕ). take (c.loop-shape.word + 1) ws ++ map (word_by c.mapping_rows-rows.result n) c.next.new.self) list
-          ∙ read_more (word_by c.mapping_rows-rows.result n) c.loop-shape.words.list c.loop-shape.word c.word_at.result c.loop-shape.shape-iterator c.next.new.self (shapes n) c.in-Some.shape room
-          (c.word_at.ensures ∙ ap (λ (j : ℕ). word_by c.mapping_rows-rows.result j c.in-Some.shape) m) e i.so_far;
+          ap (λ (w : WordsView). take (c.loop-i.i + 1) w.list) c.put.ensures.value
+          ∙ read_more f c.loop-i.words.list (order_of c.mapping-mapping.result) c.loop-i.i c.codeword.result room (omega (arith, k, c.loop-i-test.true))
+          (c.codeword.ensures ∙ ap (λ (xs : List ℕ). f (get_or xs c.loop-i.i 0)) c.order-slot-items.ensures) c.loop-i.invariant.so_far;
     }
 
 pub returns-clause-holds : goal.returns-clause-holds
 returns-clause-holds c =
     let n : ℕ = c.args.grid.now.size.mapping in
-    let rows : List ℕ = c.mapping_rows-rows.result in
-    let i = c.loop-shape.invariant in
-    let none = c.in-None.ensures.steps.0 in
-    let k = ap length none in
-    held_by_rows c.args.grid.now c.loop-shape.words rows c.size-size.ensures.grid i.words i.size c.mapping_rows-rows.ensures
-    (all_read (word_by rows n) c.loop-shape.words.list c.loop-shape.word c.loop-shape.shape-iterator (shapes n) (omega (arith, i.left, k)) none i.so_far ∙ all_words rows n)
+    let m : ℕ = c.mapping-mapping.result in
+    let row = c.mapping-mapping.ensures.row in
+    let f = word_by c.slots-slots.result in
+    let em : m ≡ n = c.mapping-mapping.ensures.value ∙ ap (λ (s : SizeRow). s.mapping) c.size-size.ensures.value in
+    let order = order_at_row c.size-size.result row in
+    let es : c.size-size.result.mapping ≡ n = ap (λ (s : SizeRow). s.mapping) c.size-size.ensures.value in
+    let count = slot_count c.size-size.result m c.order-slot-items.result.now row c.mapping-mapping.ensures.value c.order-slot-items.ensures in
+    let ec = ap codeword_count (c.loop-i.invariant.size ∙ sym c.size-size.ensures.value) in
+    let k = ap length c.order-slot-items.ensures in
+    let l = length-map (order_of m) f in
+    let wide : IsWidened m (mapped_cell c.args.grid.now) c.widened.result = subst (λ (i : ℕ). IsWidened i (mapped_cell c.args.grid.now) c.widened.result) (sym em) c.widened.ensures in
+    let words =
+    slot_words m (mapped_cell c.args.grid.now) c.widened.result (omega (arith, c.mapping-mapping.ensures.least, c.mapping-mapping.ensures.value))
+    (small c.size-size.result m row c.mapping-mapping.ensures.value) (omega (arith, c.mapping-mapping.ensures.even, c.mapping-mapping.ensures.value)) wide
+    c.slots-slots.result (shapes m) c.slots-slots.ensures (subst (λ (i : ℕ). list_all (fits_test i) (shapes i) ≡ true) (sym c.mapping-mapping.ensures.value) order.fits) in
+    held c.args.grid.now c.loop-i.words c.size-size.ensures.grid c.loop-i.invariant.words c.loop-i.invariant.size
+    (sym (take_all c.loop-i.i c.loop-i.words.list (omega (arith, c.loop-i.invariant.words.count, count, ec, c.loop-i-test.false)))
+    ∙ c.loop-i.invariant.so_far
+    ∙ take_all c.loop-i.i (map f (order_of m)) (omega (arith, l, k, c.loop-i-test.false))
+    ∙ ap (map f) (ap order_of c.mapping-mapping.ensures.value ∙ order.slots ∙ ap (λ (i : ℕ). map slot_of (shapes i)) (sym c.mapping-mapping.ensures.value))
+    ∙ words
+    ∙ ap (λ (i : ℕ). map (λ sh. word_of (mapped_cell c.args.grid.now) (cells_of i sh)) (shapes i)) em
+    ∙ sym (gathered_all (mapped_cell c.args.grid.now) n))
 
 pub returns-clause-no_other_words : goal.returns-clause-no_other_words
-returns-clause-no_other_words c = λ other h. one_list c.args.grid.now other c.loop-shape.words h (returns-clause-holds c)
+returns-clause-no_other_words c = λ other h. one_list c.args.grid.now other c.loop-i.words h (returns-clause-holds c)

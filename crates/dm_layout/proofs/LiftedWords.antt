@@ -1,0 +1,168 @@
+-- That the codewords of widened rows, read slot by slot, are those of the grid.
+use Rattle.std.proofs.Common.{◌≡◌, ℕ, ◌+◌, ◌-◌, ◌*◌, ◌/◌, ◌%◌, ◌^◌, ◌<◌, ◌≤◌, Bool, true, false, ◌&&◌, nat_eq, nat_lt, List, [], ◌∷◌, map, get_or, refl, sym, ◌∙◌, ap, arith}
+use Rattle.std.specs.List.{list_all}
+use Rattle.std.proofs.lemmas.Bool.{and_parts, ltb-true, ltb-false, eqb-true}
+use Rattle.dm_layout.specs.declared.shape.Cell.{Cell}
+use Rattle.dm_layout.specs.declared.shape.Shape.{Shape}
+use Rattle.dm_layout.specs.declared.shape.Shape.TheVariants.{Standard, Corner1, Corner2, Corner3, Corner4}
+use Rattle.dm_layout.specs.Grid.{is_dark_in}
+use Rattle.dm_layout.specs.Placement.{At, wrapped_cell, standard, cells_of}
+use Rattle.dm_layout.specs.Reading.{look_in}
+use Rattle.dm_layout.specs.Slots.{bits_in, reversed_bits, first_column, slot_of, AreSlots, HasSlots}
+use Rattle.dm_layout.specs.Walking.{CellsInside}
+use Rattle.dm_layout.specs.Widened.{IsWidened}
+use Rattle.dm_layout.proofs.Bits.{digit, digit-has, number_of, sum_of_digits}
+use Rattle.dm_layout.proofs.Reading.{word_of}
+
+-- ---- which shapes there are
+
+-- every one of these cells lies in the square
+abbrev pub inside_test : ℕ → List Cell → Bool
+inside_test n [] = true
+inside_test n (x ∷ rest) = (nat_lt x.row n && nat_lt x.column n) && inside_test n rest
+
+-- the anchor of a standard shape lies in the square, in a column of its row's anchors; a corner belongs to the side
+abbrev pub kind_test : ℕ → Shape → Bool
+kind_test n (Standard r c) = (nat_lt r n && nat_lt c n) && nat_eq ((5 * r + c) % 8) 4
+kind_test n Corner1 = nat_eq (n % 8) 4
+kind_test n Corner2 = nat_eq (n % 8) 6
+kind_test n Corner3 = false
+kind_test n Corner4 = false
+
+-- the two together
+abbrev pub fits_test : ℕ → Shape → Bool
+fits_test n s = kind_test n s && inside_test n (cells_of n s)
+
+all_inside : (n : ℕ) (xs : List Cell) → inside_test n xs ≡ true → CellsInside n xs
+all_inside n [] h = tt
+all_inside n (x ∷ xs) h =
+    let both = and_parts (nat_lt x.row n && nat_lt x.column n) (inside_test n xs) h in
+    let here = and_parts (nat_lt x.row n) (nat_lt x.column n) both.0 in
+    (ltb-true x.row n here.0, ltb-true x.column n here.1, all_inside n xs both.1)
+
+-- ---- a cell of a standard shape in widened rows
+
+module _ (n : ℕ) (look : ℕ → ℕ → Bool) (rows : List ℕ) (least : 8 ≤ n) (most : n ≤ 96) (even : n % 2 ≡ 0) (wide : IsWidened n look rows) where
+  -- the cell by the three tests of its wrapping
+  abbrev cell_by : ℕ → ℕ → ℕ → ℕ → Bool → Bool → Bool → Cell
+  cell_by r c up left t u v =
+      elim t [
+        | true ↦ elim u [
+          | true ↦ At (r + n + 4 - (up + (n + 4) % 8)) (c + 4 + n - (left + (n + 4) % 8))
+          | false ↦ At (r + n - up) (c + 4 - (left + (n + 4) % 8))
+        ]
+        | false ↦ elim v [ true ↦ At (r + 4 - (up + (n + 4) % 8)) (c + n - left) | false ↦ At (r - up) (c - left) ]
+      ]
+
+  -- two places that are the same
+  same_look : (f : ℕ → ℕ → Bool) (a b x y : ℕ) → a ≡ x → b ≡ y → f a b ≡ f x y
+  same_look f a b x y p q = ap (λ (i : ℕ). f i b) p ∙ ap (f x) q
+
+  by_tests : (r c up left : ℕ) (t u v : Bool) → r < n → c < n → (5 * r + c) % 8 ≡ 4 → up ≤ 2 → left ≤ 2 → nat_lt r up ≡ t → nat_lt (c + 4) (left + (n + 4) % 8) ≡ u → nat_lt c left ≡ v →
+      (cell_by r c up left t u v).row < n → (cell_by r c up left t u v).column < n →
+      look_in rows (r + 2 - up) (c + 4 - left) ≡ look (cell_by r c up left t u v).row (cell_by r c up left t u v).column
+  by_tests r c up left false u false lr lc anchor lu ll e f g ir ic =
+      let a = ltb-false r up e in
+      let b = ltb-false c left g in
+      same_look (look_in rows) _ _ (r - up + 2) (c - left + 4) (omega arith) (omega arith) ∙ wide.inside (r - up) (c - left) ir ic
+  by_tests r c up left false u true lr lc anchor lu ll e f g ir ic =
+      let a = ltb-false r up e in
+      let b = ltb-true c left g in
+      let low : 4 ≤ r = omega (arith, anchor, b, ll) in
+      let s : (n + 4) % 8 ≤ 6 = omega (arith, even) in
+      wide.left (r + 2 - up) (c + 4 - left) (omega (arith, a)) (omega (arith, lr)) (omega (arith, b)) (omega (arith, low, lu, s)) (omega (arith, ir, a))
+      ∙ same_look look _ _ _ _ (omega (arith, a)) (omega (arith, b))
+  by_tests r c up left true false v lr lc anchor lu ll e f g ir ic =
+      let a = ltb-true r up e in
+      let b = ltb-false (c + 4) (left + (n + 4) % 8) f in
+      wide.above (r + 2 - up) (c + 4 - left) (omega (arith, a, lu)) (omega (arith, lc, most)) (omega (arith, b)) (omega (arith, ic, b))
+      ∙ same_look look _ _ _ _ (omega (arith, a, lu)) (omega (arith, b))
+  by_tests r c up left true true v lr lc anchor lu ll e f g ir ic =
+      let a = ltb-true r up e in
+      let b = ltb-true (c + 4) (left + (n + 4) % 8) f in
+      let s : (n + 4) % 8 ≤ 6 = omega (arith, even) in
+      wide.above_left (r + 2 - up) (c + 4 - left) (omega (arith, a, lu)) (omega (arith, b, ll)) (omega (arith, s, ll)) (omega (arith, ir, a, lu, s))
+      ∙ same_look look _ _ _ _ (omega (arith, a, lu, s, least)) (omega (arith, b, ll, s, least))
+
+  -- a cell of a standard shape
+  wide_at : (r c up left : ℕ) → r < n → c < n → (5 * r + c) % 8 ≡ 4 → up ≤ 2 → left ≤ 2 → (wrapped_cell n r c up left).row < n → (wrapped_cell n r c up left).column < n →
+      look_in rows (r + 2 - up) (c + 4 - left) ≡ look (wrapped_cell n r c up left).row (wrapped_cell n r c up left).column
+  wide_at r c up left lr lc anchor lu ll ir ic =
+      by_tests r c up left (nat_lt r up) (nat_lt (c + 4) (left + (n + 4) % 8)) (nat_lt c left) lr lc anchor lu ll refl refl refl ir ic
+
+  -- ---- a codeword
+
+  -- a digit of a byte, by its colour
+  digit_of : (y t : ℕ) (b : Bool) → is_dark_in y t ≡ b → y / 2 ^ t % 2 ≡ digit b
+  digit_of y t b e = sym (digit-has y (2 ^ t)) ∙ ap digit e
+
+  -- eight digits in the opposite order
+  eight_reversed : (y : ℕ) (b1 b2 b3 b4 b5 b6 b7 b8 : Bool) → is_dark_in y 0 ≡ b1 → is_dark_in y 1 ≡ b2 → is_dark_in y 2 ≡ b3 → is_dark_in y 3 ≡ b4 → is_dark_in y 4 ≡ b5 → is_dark_in y 5 ≡ b6 → is_dark_in y 6 ≡ b7 → is_dark_in y 7 ≡ b8 →
+      reversed_bits y ≡ number_of 0 (b1 ∷ b2 ∷ b3 ∷ b4 ∷ b5 ∷ b6 ∷ b7 ∷ b8 ∷ [])
+  eight_reversed y b1 b2 b3 b4 b5 b6 b7 b8 e1 e2 e3 e4 e5 e6 e7 e8 =
+      summed (y % 2) (y / 2 % 2) (y / 4 % 2) (y / 8 % 2) (y / 16 % 2) (y / 32 % 2) (y / 64 % 2) (y / 128 % 2) _ _ _ _ _ _ _ _
+      (let z : y / 1 ≡ y = omega arith in ap (λ (i : ℕ). i % 2) (sym z) ∙ digit_of y 0 b1 e1) (digit_of y 1 b2 e2) (digit_of y 2 b3 e3) (digit_of y 3 b4 e4) (digit_of y 4 b5 e5) (digit_of y 5 b6 e6) (digit_of y 6 b7 e7) (digit_of y 7 b8 e8)
+      ∙ sym (sum_of_digits b1 b2 b3 b4 b5 b6 b7 b8)
+    where
+      summed : (x1 x2 x3 x4 x5 x6 x7 x8 d1 d2 d3 d4 d5 d6 d7 d8 : ℕ) → x1 ≡ d1 → x2 ≡ d2 → x3 ≡ d3 → x4 ≡ d4 → x5 ≡ d5 → x6 ≡ d6 → x7 ≡ d7 → x8 ≡ d8 →
+          128 * x1 + 64 * x2 + 32 * x3 + 16 * x4 + 8 * x5 + 4 * x6 + 2 * x7 + x8 ≡ 128 * d1 + 64 * d2 + 32 * d3 + 16 * d4 + 8 * d5 + 4 * d6 + 2 * d7 + d8
+      summed x1 x2 x3 x4 x5 x6 x7 x8 d1 d2 d3 d4 d5 d6 d7 d8 p1 p2 p3 p4 p5 p6 p7 p8 = omega arith
+
+  -- the codeword of a standard shape, from its byte
+  standard_word : (r c : ℕ) (bytes : List ℕ) → r < n → c < n → (5 * r + c) % 8 ≡ 4 → CellsInside n (standard n r c) → AreSlots rows r bytes →
+      reversed_bits (get_or bytes (c / 8) 0) ≡ word_of look (standard n r c)
+  standard_word r c bytes lr lc anchor inside slots =
+      let k : ℕ = c / 8 in
+      let lk : k < 16 = omega (arith, lc, most) in
+      let base : first_column r + 8 * k ≡ c + 2 = omega (arith, anchor) in
+      eight_reversed (get_or bytes k 0) _ _ _ _ _ _ _ _
+      (slots.first k 0 lk (omega arith) ∙ same_look (look_in rows) _ _ (r + 2 - 2) (c + 4 - 2) (omega arith) (omega (arith, base)) ∙ wide_at r c 2 2 lr lc anchor (omega arith) (omega arith) inside.0 inside.1)
+      (slots.first k 1 lk (omega arith) ∙ same_look (look_in rows) _ _ (r + 2 - 2) (c + 4 - 1) (omega arith) (omega (arith, base)) ∙ wide_at r c 2 1 lr lc anchor (omega arith) (omega arith) inside.2.0 inside.2.1)
+      (slots.second k 0 lk (omega arith) ∙ same_look (look_in rows) _ _ (r + 2 - 1) (c + 4 - 2) (omega arith) (omega (arith, base)) ∙ wide_at r c 1 2 lr lc anchor (omega arith) (omega arith) inside.2.2.0 inside.2.2.1)
+      (slots.second k 1 lk (omega arith) ∙ same_look (look_in rows) _ _ (r + 2 - 1) (c + 4 - 1) (omega arith) (omega (arith, base)) ∙ wide_at r c 1 1 lr lc anchor (omega arith) (omega arith) inside.2.2.2.0 inside.2.2.2.1)
+      (slots.second k 2 lk (omega arith) ∙ same_look (look_in rows) _ _ (r + 2 - 1) (c + 4 - 0) (omega arith) (omega (arith, base)) ∙ wide_at r c 1 0 lr lc anchor (omega arith) (omega arith) inside.2.2.2.2.0 inside.2.2.2.2.1)
+      (slots.third k 0 lk (omega arith) ∙ same_look (look_in rows) _ _ (r + 2 - 0) (c + 4 - 2) (omega arith) (omega (arith, base)) ∙ wide_at r c 0 2 lr lc anchor (omega arith) (omega arith) inside.2.2.2.2.2.0 inside.2.2.2.2.2.1)
+      (slots.third k 1 lk (omega arith) ∙ same_look (look_in rows) _ _ (r + 2 - 0) (c + 4 - 1) (omega arith) (omega (arith, base)) ∙ wide_at r c 0 1 lr lc anchor (omega arith) (omega arith) inside.2.2.2.2.2.2.0 inside.2.2.2.2.2.2.1)
+      (slots.third k 2 lk (omega arith) ∙ same_look (look_in rows) _ _ (r + 2 - 0) (c + 4 - 0) (omega arith) (omega (arith, base)) ∙ wide_at r c 0 0 lr lc anchor (omega arith) (omega arith) inside.2.2.2.2.2.2.2.0 inside.2.2.2.2.2.2.2.1)
+
+  -- cells that wrap nowhere
+  plain_bits : (a : ℕ) (xs : List Cell) → CellsInside n xs → bits_in rows a xs ≡ number_of a (map (λ x. look x.row x.column) xs)
+  plain_bits a [] h = refl
+  plain_bits a (x ∷ xs) h =
+      ap (λ (d : ℕ). bits_in rows (2 * a + d) xs) (sym (digit-has (get_or rows (x.row + 2) 0) (2 ^ (x.column + 4))) ∙ ap digit (wide.inside x.row x.column h.0 h.1))
+      ∙ plain_bits (2 * a + digit (look x.row x.column)) xs h.2
+
+  -- the codeword in a slot
+  abbrev in_slot : List (List ℕ) → ℕ → ℕ
+  in_slot slots x = reversed_bits (get_or (get_or slots (x / 16) []) (x % 16) 0)
+
+  -- the codeword of a shape stands in its slot
+  slot_word : (slots : List (List ℕ)) (s : Shape) → HasSlots n rows slots → fits_test n s ≡ true → in_slot slots (slot_of s) ≡ word_of look (cells_of n s)
+  slot_word slots (Standard r c) h fits =
+      let both = and_parts (kind_test n (Standard r c)) (inside_test n (standard n r c)) fits in
+      let kind = and_parts (nat_lt r n && nat_lt c n) (nat_eq ((5 * r + c) % 8) 4) both.0 in
+      let here = and_parts (nat_lt r n) (nat_lt c n) kind.0 in
+      let lr = ltb-true r n here.0 in
+      let lc = ltb-true c n here.1 in
+      let row : (16 * r + c / 8) / 16 ≡ r = omega (arith, lc, most) in
+      let byte : (16 * r + c / 8) % 16 ≡ c / 8 = omega (arith, lc, most) in
+      ap (λ (i : ℕ). reversed_bits (get_or (get_or slots i []) ((16 * r + c / 8) % 16) 0)) row
+      ∙ ap (λ (i : ℕ). reversed_bits (get_or (get_or slots r []) i 0)) byte
+      ∙ standard_word r c (get_or slots r []) lr lc (eqb-true ((5 * r + c) % 8) 4 kind.1) (all_inside n (standard n r c) both.1) (h.anchors r lr)
+  slot_word slots Corner1 h fits =
+      let both = and_parts (kind_test n Corner1) (inside_test n (cells_of n Corner1)) fits in
+      h.corner1 (eqb-true (n % 8) 4 both.0) ∙ plain_bits 0 (cells_of n Corner1) (all_inside n (cells_of n Corner1) both.1)
+  slot_word slots Corner2 h fits =
+      let both = and_parts (kind_test n Corner2) (inside_test n (cells_of n Corner2)) fits in
+      h.corner2 (eqb-true (n % 8) 6 both.0) ∙ plain_bits 0 (cells_of n Corner2) (all_inside n (cells_of n Corner2) both.1)
+  slot_word slots Corner3 h fits = cc
+  slot_word slots Corner4 h fits = cc
+
+  -- so are all
+  pub slot_words : (slots : List (List ℕ)) (ss : List Shape) → HasSlots n rows slots → list_all (fits_test n) ss ≡ true →
+      map (λ x. reversed_bits (get_or (get_or slots (x / 16) []) (x % 16) 0)) (map slot_of ss) ≡ map (λ sh. word_of look (cells_of n sh)) ss
+  slot_words slots [] h fits = refl
+  slot_words slots (s ∷ ss) h fits =
+      let both = and_parts (fits_test n s) (list_all (fits_test n) ss) fits in
+      ap (λ (w : ℕ). w ∷ map (λ x. reversed_bits (get_or (get_or slots (x / 16) []) (x % 16) 0)) (map slot_of ss)) (slot_word slots s h both.0)
+      ∙ ap (λ (ws : List ℕ). word_of look (cells_of n s) ∷ ws) (slot_words slots ss h both.1)

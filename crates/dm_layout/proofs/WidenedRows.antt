@@ -1,0 +1,265 @@
+-- Rows of the mapping square that are widened.
+use Rattle.std.proofs.Common.{◌≡◌, ◌≢◌, ◌⊎◌, inl, inr, ℕ, ◌+◌, ◌-◌, ◌*◌, ◌/◌, ◌%◌, ◌^◌, ◌<◌, ◌≤◌, Bool, true, false, ◌&&◌, ◌||◌, nat_eq, nat_le, nat_lt, List, length, get_or, set, refl, sym, ◌∙◌, ap, arith, subst, get_or-set_other, get_or-set_same}
+use Rattle.std.specs.Int.RustNames.{bit_or}
+use Rattle.std.proofs.Math.Bool.{or-false}
+use Rattle.std.proofs.Math.Pow.{pow_pos}
+use Rattle.std.proofs.lemmas.Bool.{eqb-true, eqb-false, lt-ltb, le-ltb, le-leb, cases_lt}
+use Rattle.std.proofs.lemmas.Nat.{div-add-mod', div-mul-add, pow-add}
+use Rattle.std.proofs.lemmas.Nat.Bits.{bit_at_cat_low, bit_at_cat_high, bit_at_above}
+use Rattle.dm_layout.specs.Border.{symbol_line}
+use Rattle.dm_layout.specs.Grid.{is_dark_in}
+use Rattle.dm_layout.specs.Reading.{look_in}
+use Rattle.dm_layout.specs.Widened.{IsMoved, IsWidened}
+use Rattle.dm_layout.proofs.InnerRows.{moved_bit}
+use Rattle.dm_layout.proofs.OuterRows.{or_dark}
+
+-- ---- rows that are laid over others
+
+-- a row that is laid over another one
+pub put_over : (rows : List ℕ) (q x r c : ℕ) → q < length rows → look_in (set rows q (bit_or (get_or rows q 0) x)) r c ≡ (look_in rows r c || (nat_eq r q && is_dark_in x c))
+put_over rows q x r c l = by_row (nat_eq r q) refl
+  where
+    y : ℕ
+    y = bit_or (get_or rows q 0) x
+
+    by_row : (t : Bool) → nat_eq r q ≡ t → look_in (set rows q y) r c ≡ (look_in rows r c || (t && is_dark_in x c))
+    by_row true e =
+        let er = eqb-true r q e in
+        ap (λ (i : ℕ). look_in (set rows q y) i c) er ∙ ap (λ (i : ℕ). is_dark_in i c) (get_or-set_same rows q y 0 l) ∙ or_dark (get_or rows q 0) x c
+        ∙ ap (λ (i : ℕ). look_in rows i c || is_dark_in x c) (sym er)
+    by_row false e = ap (λ (i : ℕ). is_dark_in i c) (get_or-set_other rows q r y 0 (eqb-false r q e)) ∙ sym (or-false (look_in rows r c))
+
+-- ---- bits of rows that are moved
+
+-- a bit of a row that is moved to the left
+pub bit_up : (x s c : ℕ) → is_dark_in (x * 2 ^ s) (s + c) ≡ is_dark_in x c
+bit_up x s c =
+    let z : x * 2 ^ s ≡ x * 2 ^ s + 0 = omega arith in
+    let b : s + c - s ≡ c = omega arith in
+    ap (λ (i : ℕ). is_dark_in i (s + c)) z ∙ ap (λ (i : ℕ). nat_eq i 1) (bit_at_cat_high x s 0 (s + c) (pow_pos s) (omega arith)) ∙ ap (is_dark_in x) b
+
+-- to its right there is nothing
+pub none_up : (x s c : ℕ) → c < s → is_dark_in (x * 2 ^ s) c ≡ false
+none_up x s c l =
+    let z : x * 2 ^ s ≡ x * 2 ^ s + 0 = omega arith in
+    let o : 0 / 2 ^ c % 2 ≡ 0 = zero_bit (2 ^ c) (pow_pos c) in
+    ap (λ (i : ℕ). is_dark_in i c) z ∙ ap (λ (i : ℕ). nat_eq i 1) (bit_at_cat_low x s 0 c l ∙ o)
+  where
+    zero_bit : (p : ℕ) → 0 < p → 0 / p % 2 ≡ 0
+    zero_bit p h = omega arith
+
+-- a number of so many bits has those of the whole number
+pub low_bit : (x n c : ℕ) → c < n → is_dark_in (x % 2 ^ n) c ≡ is_dark_in x c
+low_bit x n c l =
+    ap (λ (i : ℕ). nat_eq i 1) (sym (bit_at_cat_low (x / 2 ^ n) n (x % 2 ^ n) c l)) ∙ ap (λ (i : ℕ). is_dark_in i c) (div-add-mod' x (2 ^ n))
+
+-- a row that is moved to the left and then to the right by 4
+pub moved_both : (x s c : ℕ) → c < 124 → s ≤ c + 4 → is_dark_in (x * 2 ^ s % 2 ^ 128 / 16) c ≡ is_dark_in x (c + 4 - s)
+moved_both x s c l h =
+    let e : 4 + c ≡ s + (c + 4 - s) = omega arith in
+    ap (λ (i : ℕ). nat_eq i 1) (moved_bit (x * 2 ^ s % 2 ^ 128) 4 c)
+    ∙ low_bit (x * 2 ^ s) 128 (4 + c) (omega arith)
+    ∙ ap (is_dark_in (x * 2 ^ s)) e
+    ∙ bit_up x s (c + 4 - s)
+
+-- ---- the rows of the square
+
+-- what holds of a row that is put among others, and of the others
+pub look_set : (P : Bool → Type 0) (rows : List ℕ) (q y r c : ℕ) → q < length rows → (r ≡ q → P (is_dark_in y c)) → (r ≢ q → P (look_in rows r c)) → P (look_in (set rows q y) r c)
+look_set P rows q y r c l here other = by_row (nat_eq r q) refl
+  where
+    by_row : (t : Bool) → nat_eq r q ≡ t → P (look_in (set rows q y) r c)
+    by_row true e =
+        let er = eqb-true r q e in
+        subst P (sym (ap (λ (i : ℕ). look_in (set rows q y) i c) er ∙ ap (λ (i : ℕ). is_dark_in i c) (get_or-set_same rows q y 0 l))) (here er)
+    by_row false e =
+        let ne = eqb-false r q e in
+        subst P (sym (ap (λ (i : ℕ). is_dark_in i c) (get_or-set_other rows q r y 0 ne))) (other ne)
+
+-- the line of the symbol by the region
+pub line_here : (row region d until : ℕ) → until ≡ (region + 1) * d → region * d ≤ row → row < until → row + 2 * region + 1 ≡ symbol_line d row
+line_here row region d until e lo hi =
+    let j : ℕ = row - region * d in
+    let s : (region + 1) * d ≡ region * d + d = omega arith in
+    let lj : j < d = omega arith in
+    let is : row ≡ region * d + j = omega arith in
+    let q : row / d ≡ region = ap (λ (i : ℕ). i / d) is ∙ div-mul-add region d j lj in
+    omega (arith, q)
+
+-- the region of a row: it begins above the row and ends below it
+pub record IsRegion (row region d until : ℕ) : Type 0 where
+  pub ends : until ≡ (region + 1) * d
+  pub begun : region * d ≤ row
+  pub within : row < until
+
+-- the next region, if the row is the first one below
+pub next_region : (row region d until r u : ℕ) → 8 ≤ d → until ≡ (region + 1) * d → row ≡ until → r ≡ region + 1 → u ≡ until + d → IsRegion row r d u
+next_region row region d until r u least e f er eu =
+    let a = ap (λ (i : ℕ). (i + 1) * d) er in
+    let b = ap (λ (i : ℕ). i * d) er in
+    record { ends = omega (arith, a, e, eu); begun = omega (arith, b, e, f); within = omega (arith, e, f, eu, least) }
+
+-- or the same
+pub same_region : (row region d until r u : ℕ) → until ≡ (region + 1) * d → region * d ≤ row → row ≤ until → row ≢ until → r ≡ region → u ≡ until → IsRegion row r d u
+same_region row region d until r u e lo hi ne er eu =
+    let a = ap (λ (i : ℕ). (i + 1) * d) er in
+    let b = ap (λ (i : ℕ). i * d) er in
+    record { ends = omega (arith, a, e, eu); begun = omega (arith, b, lo); within = omega (arith, hi, ne, eu) }
+
+-- one more row of the square
+pub moved_more : (n row x : ℕ) (look : ℕ → ℕ → Bool) (rows : List ℕ) → n ≤ 96 → row + 2 < length rows → x < 2 ^ n → ((c : ℕ) → c < n → is_dark_in x c ≡ look row c) →
+    ((r c : ℕ) → r < row → c < n → look_in rows (r + 2) (c + 4) ≡ look r c) → ((r c : ℕ) → c < 4 → look_in rows r c ≡ false) → ((r c : ℕ) → n + 4 ≤ c → look_in rows r c ≡ false) →
+    ((r c : ℕ) → r < row + 1 → c < n → look_in (set rows (row + 2) (x * 16 % 2 ^ 128)) (r + 2) (c + 4) ≡ look r c)
+    × ((r c : ℕ) → c < 4 → look_in (set rows (row + 2) (x * 16 % 2 ^ 128)) r c ≡ false)
+    × ((r c : ℕ) → n + 4 ≤ c → look_in (set rows (row + 2) (x * 16 % 2 ^ 128)) r c ≡ false)
+moved_more n row x look rows most l narrow cells inside left right = (
+  λ r c lr lc.
+      look_set (λ b. b ≡ look r c) rows (row + 2) y (r + 2) (c + 4) l
+      (λ e.
+      let er : row ≡ r = omega arith in
+      let four : c + 4 ≡ 4 + c = omega arith in
+      ap (is_dark_in y) four ∙ low_bit (x * 16) 128 (4 + c) (omega arith) ∙ bit_up x 4 c ∙ cells c lc ∙ ap (λ (i : ℕ). look i c) er)
+      (λ ne. inside r c (omega arith) lc),
+  λ r c lc.
+      look_set (λ b. b ≡ false) rows (row + 2) y r c l (λ e. low_bit (x * 16) 128 c (omega arith) ∙ none_up x 4 c lc) (λ ne. left r c lc),
+  λ r c lc.
+      look_set (λ b. b ≡ false) rows (row + 2) y r c l (λ e. ap (λ (i : ℕ). nat_eq i 1) (bit_at_above y (n + 4) c small lc)) (λ ne. right r c lc),
+)
+  where
+    y : ℕ
+    y = x * 16 % 2 ^ 128
+
+    small : x * 16 % 2 ^ 128 < 2 ^ (n + 4)
+    small =
+        let p : 2 ^ (n + 4) ≡ 2 ^ n * 2 ^ 4 = pow-add 2 n 4 in
+        let m : x * 16 % 2 ^ 128 ≤ x * 16 = by_mod (x * 16) (2 ^ 128) (pow_pos 128) in
+        omega (arith, p, m, narrow)
+      where
+        by_mod : (a b : ℕ) → 0 < b → a % b ≤ a
+        by_mod a b h = omega arith
+
+-- ---- the columns left of the square
+
+-- what is wrapped to the left of the rows above `until`
+abbrev pub wrapped_left : List ℕ → ℕ → ℕ → ℕ → ℕ → ℕ → Bool
+wrapped_left rows n shift until r c = look_in rows r c || ((nat_le 2 r && nat_lt r until) && look_in rows (r + 4 - shift) (n + c))
+
+-- far to the right nothing is added
+nothing_far : (rows : List ℕ) (n shift until r c : ℕ) → ((r c : ℕ) → n + 4 ≤ c → look_in rows r c ≡ false) → 4 ≤ c → wrapped_left rows n shift until r c ≡ look_in rows r c
+nothing_far rows n shift until r c width l =
+    ap (λ (b : Bool). look_in rows r c || ((nat_le 2 r && nat_lt r until) && b)) (width (r + 4 - shift) (n + c) (omega arith)) ∙ nothing (look_in rows r c) (nat_le 2 r && nat_lt r until)
+  where
+    nothing : (a b : Bool) → (a || (b && false)) ≡ a
+    nothing true b = refl
+    nothing false true = refl
+    nothing false false = refl
+
+-- one more row
+pub wrap_more : (olds rows : List ℕ) (n shift row : ℕ) → 8 ≤ n → shift ≤ 6 → row + 2 < length rows → ((r c : ℕ) → n + 4 ≤ c → look_in olds r c ≡ false) →
+    ((r c : ℕ) → look_in rows r c ≡ wrapped_left olds n shift (row + 2) r c) →
+    (r c : ℕ) → look_in (set rows (row + 2) (bit_or (get_or rows (row + 2) 0) (get_or rows (row + 6 - shift) 0 / 2 ^ n))) r c ≡ wrapped_left olds n shift (row + 1 + 2) r c
+wrap_more olds rows n shift row least small inside width so_far r c =
+    put_over rows (row + 2) (get_or rows (row + 6 - shift) 0 / 2 ^ n) r c inside
+    ∙ ap (λ (b : Bool). b || (nat_eq r (row + 2) && is_dark_in (get_or rows (row + 6 - shift) 0 / 2 ^ n) c)) (so_far r c)
+    ∙ ap (λ (b : Bool). wrapped_left olds n shift (row + 2) r c || (nat_eq r (row + 2) && b)) from
+    ∙ by_row (nat_eq r (row + 2)) refl
+  where
+    from : is_dark_in (get_or rows (row + 6 - shift) 0 / 2 ^ n) c ≡ look_in olds (row + 6 - shift) (n + c)
+    from =
+        ap (λ (i : ℕ). nat_eq i 1) (moved_bit (get_or rows (row + 6 - shift) 0) n c) ∙ so_far (row + 6 - shift) (n + c) ∙ nothing_far olds n shift (row + 2) (row + 6 - shift) (n + c) width (omega arith)
+
+    here : (a b : Bool) → ((a || (true && false) && b) || (true && b)) ≡ (a || ((true && true) && b))
+    here true b = refl
+    here false b = refl
+
+    by_row : (t : Bool) → nat_eq r (row + 2) ≡ t → (wrapped_left olds n shift (row + 2) r c || (t && look_in olds (row + 6 - shift) (n + c))) ≡ wrapped_left olds n shift (row + 1 + 2) r c
+    by_row true e =
+        let er = eqb-true r (row + 2) e in
+        let two = le-leb 2 r (omega (arith, er)) in
+        let no = le-ltb r (row + 2) (omega (arith, er)) in
+        let yes = lt-ltb r (row + 1 + 2) (omega (arith, er)) in
+        let same : row + 6 - shift ≡ r + 4 - shift = omega (arith, er) in
+        let b : Bool = look_in olds (r + 4 - shift) (n + c) in
+        ap (λ (i : ℕ). wrapped_left olds n shift (row + 2) r c || (true && look_in olds i (n + c))) same
+        ∙ ap (λ (t : Bool). (look_in olds r c || ((t && nat_lt r (row + 2)) && b)) || (true && b)) two
+        ∙ ap (λ (t : Bool). (look_in olds r c || ((true && t) && b)) || (true && b)) no
+        ∙ here (look_in olds r c) b
+        ∙ ap (λ (t : Bool). look_in olds r c || ((true && t) && b)) (sym yes)
+        ∙ ap (λ (t : Bool). look_in olds r c || ((t && nat_lt r (row + 1 + 2)) && b)) (sym two)
+    by_row false e =
+        or-false (wrapped_left olds n shift (row + 2) r c) ∙ ap (λ (t : Bool). look_in olds r c || ((nat_le 2 r && t) && look_in olds (r + 4 - shift) (n + c))) (same (cases_lt r (row + 2)))
+      where
+        same : (r < row + 2) ⊎ (row + 2 ≤ r) → nat_lt r (row + 2) ≡ nat_lt r (row + 1 + 2)
+        same (inl l) = lt-ltb r (row + 2) l ∙ sym (lt-ltb r (row + 1 + 2) (omega arith))
+        same (inr l) = le-ltb r (row + 2) l ∙ sym (le-ltb r (row + 1 + 2) (let ne : r ≢ row + 2 = eqb-false r (row + 2) e in omega arith))
+
+-- ---- the rows above the square
+
+-- a row of those above
+pub row_above : (rows : List ℕ) (n shift r c : ℕ) → 8 ≤ n → 2 < length rows → r < 2 → c < 124 → shift ≤ c + 4 →
+    look_in (set (set rows 0 (get_or rows n 0 * 2 ^ shift % 2 ^ 128 / 16)) 1 (get_or (set rows 0 (get_or rows n 0 * 2 ^ shift % 2 ^ 128 / 16)) (n + 1) 0 * 2 ^ shift % 2 ^ 128 / 16)) r c ≡ look_in rows (r + n) (c + 4 - shift)
+row_above rows n shift r c least long l lc h = by_row (nat_eq r 0) refl
+  where
+    x : ℕ
+    x = get_or rows n 0 * 2 ^ shift % 2 ^ 128 / 16
+
+    y : ℕ
+    y = get_or (set rows 0 x) (n + 1) 0 * 2 ^ shift % 2 ^ 128 / 16
+
+    length_set : length (set rows 0 x) ≡ length rows
+    length_set = simp Rattle.std.proofs.lemmas.List.length-set
+
+    by_row : (t : Bool) → nat_eq r 0 ≡ t → look_in (set (set rows 0 x) 1 y) r c ≡ look_in rows (r + n) (c + 4 - shift)
+    by_row true e =
+        let er = eqb-true r 0 e in
+        let ne : 0 ≢ 1 = omega arith in
+        let s : n ≡ r + n = omega (arith, er) in
+        ap (λ (i : ℕ). look_in (set (set rows 0 x) 1 y) i c) er
+        ∙ ap (λ (i : ℕ). is_dark_in i c) (get_or-set_other (set rows 0 x) 1 0 y 0 ne ∙ get_or-set_same rows 0 x 0 (omega arith))
+        ∙ moved_both (get_or rows n 0) shift c lc h
+        ∙ ap (λ (i : ℕ). look_in rows i (c + 4 - shift)) s
+    by_row false e =
+        let nz : r ≢ 0 = eqb-false r 0 e in
+        let er : r ≡ 1 = omega arith in
+        let ne : n + 1 ≢ 0 = omega arith in
+        let s : n + 1 ≡ r + n = omega (arith, er) in
+        ap (λ (i : ℕ). look_in (set (set rows 0 x) 1 y) i c) er
+        ∙ ap (λ (i : ℕ). is_dark_in i c) (get_or-set_same (set rows 0 x) 1 y 0 (omega (arith, length_set)))
+        ∙ moved_both (get_or (set rows 0 x) (n + 1) 0) shift c lc h
+        ∙ ap (λ (i : ℕ). is_dark_in i (c + 4 - shift)) (get_or-set_other rows 0 (n + 1) x 0 ne)
+        ∙ ap (λ (i : ℕ). look_in rows i (c + 4 - shift)) s
+
+-- ---- all together
+
+-- the square with columns to its left and rows above
+pub is_widened : (n : ℕ) (look : ℕ → ℕ → Bool) (olds mids news : List ℕ) → 8 ≤ n → n ≤ 96 → IsMoved n look olds →
+    ((r c : ℕ) → look_in mids r c ≡ wrapped_left olds n ((n + 4) % 8) (n + 2) r c) →
+    ((r c : ℕ) → r < 2 → c < 124 → (n + 4) % 8 ≤ c + 4 → look_in news r c ≡ look_in mids (r + n) (c + 4 - (n + 4) % 8)) →
+    ((r c : ℕ) → 2 ≤ r → look_in news r c ≡ look_in mids r c) → IsWidened n look news
+is_widened n look olds mids news least most moved wrapped above others = record {
+  inside = λ r c lr lc. others (r + 2) (c + 4) (omega arith) ∙ mid_inside r c lr lc;
+  left = λ r c lo hi lc ls li. others r c lo ∙ mid_left r c lo hi lc ls li;
+  above = λ r c lr lc ls li.
+      let e : c + 4 - (n + 4) % 8 ≡ c - (n + 4) % 8 + 4 = omega arith in
+      let f : r + n ≡ r + n - 2 + 2 = omega arith in
+      above r c lr lc (omega arith) ∙ ap (look_in mids (r + n)) e ∙ ap (λ (i : ℕ). look_in mids i (c - (n + 4) % 8 + 4)) f ∙ mid_inside (r + n - 2) (c - (n + 4) % 8) (omega arith) li;
+  above_left = λ r c lr lc ls li.
+      let e : n + (c + 4 - (n + 4) % 8) - 4 ≡ n + c - (n + 4) % 8 = omega arith in
+      let m : (n + 4) % 8 < 8 = omega arith in
+      above r c lr (omega arith) ls ∙ mid_left (r + n) (c + 4 - (n + 4) % 8) (omega arith) (omega arith) (omega arith) (omega arith) li ∙ ap (look (r + n + 2 - (n + 4) % 8)) e;
+}
+  where
+    mid_inside : (r c : ℕ) → r < n → c < n → look_in mids (r + 2) (c + 4) ≡ look r c
+    mid_inside r c lr lc = wrapped (r + 2) (c + 4) ∙ nothing_far olds n ((n + 4) % 8) (n + 2) (r + 2) (c + 4) moved.right (omega arith) ∙ moved.inside r c lr lc
+
+    mid_left : (r c : ℕ) → 2 ≤ r → r < n + 2 → c < 4 → (n + 4) % 8 ≤ r + 2 → r + 2 - (n + 4) % 8 < n → look_in mids r c ≡ look (r + 2 - (n + 4) % 8) (n + c - 4)
+    mid_left r c lo hi lc ls li =
+        let e : r + 4 - (n + 4) % 8 ≡ r + 2 - (n + 4) % 8 + 2 = omega arith in
+        let f : n + c ≡ n + c - 4 + 4 = omega arith in
+        wrapped r c
+        ∙ ap (λ (b : Bool). b || ((nat_le 2 r && nat_lt r (n + 2)) && look_in olds (r + 4 - (n + 4) % 8) (n + c))) (moved.left r c lc)
+        ∙ ap (λ (b : Bool). (b && nat_lt r (n + 2)) && look_in olds (r + 4 - (n + 4) % 8) (n + c)) (le-leb 2 r lo)
+        ∙ ap (λ (b : Bool). b && look_in olds (r + 4 - (n + 4) % 8) (n + c)) (lt-ltb r (n + 2) hi)
+        ∙ ap (λ (i : ℕ). look_in olds i (n + c)) e
+        ∙ ap (look_in olds (r + 2 - (n + 4) % 8 + 2)) f
+        ∙ moved.inside (r + 2 - (n + 4) % 8) (n + c - 4) li (omega arith)

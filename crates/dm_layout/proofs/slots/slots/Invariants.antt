@@ -1,0 +1,10 @@
+use Rattle.std.proofs.Common.{◌≡◌, ℕ, ◌<◌, get_or, length, []}
+use Rattle.dm_layout.specs.Slots.{AreSlots}
+use Rattle.dm_layout.proofs.slots.slots.Given as goal
+
+abbrev pub invariant-loop-row : goal.invariant-loop-row
+invariant-loop-row l = record {
+  count : length l.slots ≡ 97;
+  last : length (get_or l.slots 96 []) ≡ 16;
+  anchors : (r : ℕ) → r < l.row → AreSlots l.rows r (get_or l.slots r []);
+}

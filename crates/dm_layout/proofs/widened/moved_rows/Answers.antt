@@ -1,0 +1,86 @@
+use Rattle.std.proofs.Common.{◌≡◌, ℕ, ◌+◌, ◌*◌, ◌/◌, ◌<◌, ◌≤◌, ◌^◌, refl, sym, ap, subst, arith, ◌∙◌}
+use Rattle.std.proofs.lemmas.List.{length-set}
+use Rattle.std.proofs.Math.Nat.{div-mul-le_self}
+use Rattle.dm_layout.specs.Sizes.{SizeRow, IsRow}
+use Rattle.dm_layout.specs.Border.{mapped_cell}
+use Rattle.dm_layout.specs.Grid.{cell_at, is_dark_in}
+use Rattle.dm_layout.proofs.InnerRows.{one_line}
+use Rattle.dm_layout.proofs.Painting.{light_at}
+use Rattle.dm_layout.proofs.PlacementRows.{bounds_at_row}
+use Rattle.dm_layout.proofs.DrawnRows.{regions_cover}
+use Rattle.dm_layout.proofs.WidenedRows.{IsRegion, next_region, same_region, line_here, moved_more}
+use Rattle.dm_layout.proofs.widened.moved_rows.Goals as goal
+use Rattle.dm_layout.proofs.widened.moved_rows.Goals.{then-row-until, else-row-until}
+
+small : (s : SizeRow) (m : ℕ) → IsRow s → m ≡ s.mapping → m ≤ 96
+small s m row e = let b = bounds_at_row s row in let h = b.high in omega (arith, h, e)
+
+-- the regions cover the mapping square
+narrow_in : (s : SizeRow) (m d n x : ℕ) → IsRow s → m ≡ s.mapping → d ≡ s.region_side → m ≡ n → x < 2 ^ (m / d * d) → x < 2 ^ n
+narrow_in s m d n x row em ed e l =
+    let w : m / d * d ≡ n = ap (λ (i : ℕ). i / d * d) em ∙ ap (λ (i : ℕ). s.mapping / i * i) ed ∙ regions_cover s row ∙ sym em ∙ e in
+    subst (λ (i : ℕ). x < 2 ^ i) w l
+
+pub loop-row-init : goal.loop-row-init
+loop-row-init c = record {
+  count = refl;
+  region_end = omega arith;
+  begun = omega arith;
+  upto = omega arith;
+  inside = λ r q l. absurd (omega (arith, l));
+  left = λ r q l. light_at 102 r q;
+  right = λ r q l. light_at 102 r q;
+}
+
+pub inner_row-requires-clause-fits : goal.inner_row-requires-clause-fits
+inner_row-requires-clause-fits c =
+    let h = small c.size-size.result c.mapping-mapping.result c.mapping-mapping.ensures.row c.mapping-mapping.ensures.value in
+    let d = div-mul-le_self c.mapping-mapping.result c.region_side-region_side.result in
+    omega (arith, h, d)
+
+pub bounds-rows-row : goal.bounds-rows-row
+bounds-rows-row c =
+    let h = small c.size-size.result c.mapping-mapping.result c.mapping-mapping.ensures.row c.mapping-mapping.ensures.value in
+    omega (arith, h, c.loop-row-test.true)
+
+pub loop-row-preserved : goal.loop-row-preserved
+loop-row-preserved c =
+    let d : ℕ = c.region_side-region_side.result in
+    let n : ℕ = c.args.grid.now.size.mapping in
+    let row : ℕ = c.loop-row.row in
+    let i = c.loop-row.invariant in
+    let h = small c.size-size.result c.mapping-mapping.result c.mapping-mapping.ensures.row c.mapping-mapping.ensures.value in
+    let em : c.mapping-mapping.result ≡ n = c.mapping-mapping.ensures.value ∙ ap (λ (s : SizeRow). s.mapping) c.size-size.ensures.value in
+    let ed : d ≡ c.args.grid.now.size.region_side = c.region_side-region_side.ensures.value ∙ ap (λ (s : SizeRow). s.region_side) c.size-size.ensures.value in
+    let least : 8 ≤ d = omega (arith, c.region_side-region_side.ensures.least, c.region_side-region_side.ensures.value) in
+    let at : IsRegion row c.if-row-until.region d c.if-row-until.until =
+    elim c.if-row-until.branch [
+      | then-row-until w ↦ next_region row c.loop-row.region d c.loop-row.until _ _ least i.region_end w.if-row-until.true w.region-is w.until-is
+      | else-row-until w ↦ same_region row c.loop-row.region d c.loop-row.until _ _ i.region_end i.begun i.upto w.if-row-until.false w.region-is w.until-is
+    ] in
+    let line = line_here row c.if-row-until.region d c.if-row-until.until at.ends at.begun at.within in
+    let outside = subst (λ (x : ℕ). (column : ℕ) → column < c.args.grid.now.size.side → is_dark_in c.row-outer.result column ≡ cell_at c.args.grid.now x column) line c.row-outer.ensures in
+    let cells =
+    one_line c.args.grid.now c.size-size.result c.mapping-mapping.result d row c.row-outer.result c.inner_row.result c.size-size.ensures.grid c.size-size.ensures.value c.mapping-mapping.ensures.value
+    c.region_side-region_side.ensures.value c.loop-row-test.true outside c.inner_row.ensures.cells in
+    let narrow : c.inner_row.result < 2 ^ n = narrow_in c.size-size.result c.mapping-mapping.result d n c.inner_row.result c.mapping-mapping.ensures.row c.mapping-mapping.ensures.value c.region_side-region_side.ensures.value em c.inner_row.ensures.width in
+    let more =
+    moved_more n row c.inner_row.result (mapped_cell c.args.grid.now) c.loop-row.rows (omega (arith, h, em)) (omega (arith, i.count, h, c.loop-row-test.true)) narrow cells i.inside i.left i.right in
+    record {
+      count = length-set c.loop-row.rows (row + 2) _ ∙ i.count;
+      region_end = at.ends;
+      begun = omega (arith, at.begun);
+      upto = omega (arith, at.within);
+      inside = more.0;
+      left = more.1;
+      right = more.2;
+    }
+
+pub returns : goal.returns
+returns c =
+    let em : c.mapping-mapping.result ≡ c.args.grid.now.size.mapping = c.mapping-mapping.ensures.value ∙ ap (λ (s : SizeRow). s.mapping) c.size-size.ensures.value in
+    record {
+      inside = λ r q lr lq. c.loop-row.invariant.inside r q (omega (arith, em, lr, c.loop-row-test.false)) lq;
+      left = c.loop-row.invariant.left;
+      right = c.loop-row.invariant.right;
+    }

@@ -1,0 +1,9 @@
+use Rattle.std.proofs.Common.{◌≡◌, ℕ, ◌+◌, ◌-◌, ◌&&◌, ◌||◌, nat_le, nat_lt, length}
+use Rattle.dm_layout.specs.Reading.{look_in}
+use Rattle.dm_layout.proofs.widened.wrap_columns.Given as goal
+
+abbrev pub invariant-loop-row : goal.invariant-loop-row
+invariant-loop-row l = record {
+  count : length l.rows ≡ 102;
+  so_far : (r c : ℕ) → look_in l.rows r c ≡ (look_in l.fn.rows r c || ((nat_le 2 r && nat_lt r (l.row + 2)) && look_in l.fn.rows (r + 4 - l.shift) (l.mapping + c)));
+}

@@ -1,0 +1,77 @@
+-- The codewords of the anchors of a row as the bytes of one number, with their bits in the opposite order, and where each codeword stands.
+-- The anchors of row r have columns that leave (3r + 4) mod 8 when divided by 8.
+use Rattle.std.specs.Prelude.{◌≡◌, ℕ, ◌+◌, ◌-◌, ◌*◌, ◌/◌, ◌%◌, ◌<◌, Bool, ◌&&◌, ◌||◌, nat_eq, nat_le, nat_lt, List, [], ◌∷◌, get_or, if◌then◌else◌}
+use Rattle.std.specs.Int.{bit_at}
+use Rattle.dm_layout.specs.Grid.{is_dark_in}
+use Rattle.dm_layout.specs.Reading.{look_in}
+use Rattle.dm_layout.specs.Placement.{cells_of}
+use Rattle.dm_layout.specs.declared.shape.Cell.{Cell}
+use Rattle.dm_layout.specs.declared.shape.Shape.{Shape}
+use Rattle.dm_layout.specs.declared.shape.Shape.TheVariants.{Standard, Corner1, Corner2, Corner3, Corner4}
+use Rattle.dm_layout.specs.declared.order_rows.TheConstants.{ORDER_8, ORDER_10, ORDER_12, ORDER_14, ORDER_16, ORDER_18, ORDER_20, ORDER_22, ORDER_24, ORDER_28, ORDER_32, ORDER_36, ORDER_40, ORDER_44, ORDER_48, ORDER_56, ORDER_64, ORDER_72, ORDER_80, ORDER_88, ORDER_96}
+
+-- the number that begins with a and goes on with the bits of these cells, in widened rows
+abbrev pub bits_in : List ℕ → ℕ → List Cell → ℕ
+bits_in rows a [] = a
+bits_in rows a (x ∷ rest) = bits_in rows (2 * a + bit_at (get_or rows (x.row + 2) 0) (x.column + 4)) rest
+
+-- the number of the bits of these cells
+abbrev pub word_in : List ℕ → List Cell → ℕ
+word_in rows cells = bits_in rows 0 cells
+
+-- a byte with its bits in the opposite order
+abbrev pub reversed_bits : ℕ → ℕ
+reversed_bits x = 128 * (x % 2) + 64 * (x / 2 % 2) + 32 * (x / 4 % 2) + 16 * (x / 8 % 2) + 8 * (x / 16 % 2) + 4 * (x / 32 % 2) + 2 * (x / 64 % 2) + x / 128 % 2
+
+-- a bit of the codewords of a row: the lowest two of a byte are of the first of three rows, the next three of the second, the highest three of the third
+abbrev pub is_joined : ℕ → ℕ → ℕ → ℕ → Bool
+is_joined a b d c =
+    ((is_dark_in a c && nat_lt (c % 8) 2) || (nat_le 2 c && (is_dark_in b (c - 2) && nat_lt ((c - 2) % 8) 3))) || (nat_le 5 c && (is_dark_in d (c - 5) && nat_lt ((c - 5) % 8) 3))
+
+-- the column of widened rows at which the codewords of a row begin
+abbrev pub first_column : ℕ → ℕ
+first_column r = (4 + 3 * r) % 8 + 2
+
+-- the codewords whose anchors lie in row r, from widened rows
+pub record AreSlots (rows : List ℕ) (r : ℕ) (bytes : List ℕ) : Type 0 where
+  pub first : (k t : ℕ) → k < 16 → t < 2 → is_dark_in (get_or bytes k 0) t ≡ look_in rows r (first_column r + (8 * k + t))
+  pub second : (k t : ℕ) → k < 16 → t < 3 → is_dark_in (get_or bytes k 0) (2 + t) ≡ look_in rows (r + 1) (first_column r + (8 * k + t))
+  pub third : (k t : ℕ) → k < 16 → t < 3 → is_dark_in (get_or bytes k 0) (5 + t) ≡ look_in rows (r + 2) (first_column r + (8 * k + t))
+
+-- for each row of the mapping square of side n its codewords, and behind all of them that of a corner
+pub record HasSlots (n : ℕ) (rows : List ℕ) (slots : List (List ℕ)) : Type 0 where
+  pub anchors : (r : ℕ) → r < n → AreSlots rows r (get_or slots r [])
+  pub corner1 : n % 8 ≡ 4 → reversed_bits (get_or (get_or slots 96 []) 0 0) ≡ word_in rows (cells_of n Corner1)
+  pub corner2 : n % 8 ≡ 6 → reversed_bits (get_or (get_or slots 96 []) 0 0) ≡ word_in rows (cells_of n Corner2)
+
+-- the slot of a shape's codeword: 16 for each row, and an eighth of the anchor's column; the last one for a corner
+abbrev pub slot_of : Shape → ℕ
+slot_of (Standard r c) = 16 * r + c / 8
+slot_of Corner1 = 1536
+slot_of Corner2 = 1536
+slot_of Corner3 = 1536
+slot_of Corner4 = 1536
+
+-- the slots of the codewords in order, by the side of the mapping square
+abbrev pub order_of : ℕ → List ℕ
+order_of n =
+    if nat_eq n 8 then ORDER_8 else (
+    if nat_eq n 10 then ORDER_10 else (
+    if nat_eq n 12 then ORDER_12 else (
+    if nat_eq n 14 then ORDER_14 else (
+    if nat_eq n 16 then ORDER_16 else (
+    if nat_eq n 18 then ORDER_18 else (
+    if nat_eq n 20 then ORDER_20 else (
+    if nat_eq n 22 then ORDER_22 else (
+    if nat_eq n 24 then ORDER_24 else (
+    if nat_eq n 28 then ORDER_28 else (
+    if nat_eq n 32 then ORDER_32 else (
+    if nat_eq n 36 then ORDER_36 else (
+    if nat_eq n 40 then ORDER_40 else (
+    if nat_eq n 44 then ORDER_44 else (
+    if nat_eq n 48 then ORDER_48 else (
+    if nat_eq n 56 then ORDER_56 else (
+    if nat_eq n 64 then ORDER_64 else (
+    if nat_eq n 72 then ORDER_72 else (
+    if nat_eq n 80 then ORDER_80 else (
+    if nat_eq n 88 then ORDER_88 else (ORDER_96))))))))))))))))))))

@@ -1,0 +1,140 @@
+//! The codewords of a symbol by the rows of their anchors.
+//!
+//! The anchors of a row stand every eighth column, so that the codewords of a row are the bytes of one number.
+
+ghost use Rattle.std.specs.Prelude.{◌≡◌, ℕ, ◌+◌, ◌*◌, ◌/◌, ◌%◌, ◌<◌, ◌≤◌, ◌&&◌, ◌||◌, nat_le, nat_lt, get_or, List, []};
+ghost use Rattle.dm_layout.specs.Grid.{is_dark_in};
+ghost use Rattle.dm_layout.specs.Placement.{cells_of};
+ghost use Rattle.dm_layout.specs.Slots.{is_joined, reversed_bits, word_in, order_of, HasSlots};
+ghost use Rattle.dm_layout.specs.Walking.{CellsInside, largest_mapping};
+ghost use Rattle.dm_layout.specs.declared.shape.Shape.TheVariants.{Corner1, Corner2};
+
+use crate::order_rows::*;
+use crate::shape::{Cell, LARGEST_MAPPING, Shape};
+use crate::widened::WIDENED;
+
+/// The lowest two bits of each byte.
+const TWO: u128 = 0x0303_0303_0303_0303_0303_0303_0303_0303;
+
+/// The lowest three bits of each byte.
+const THREE: u128 = 0x0707_0707_0707_0707_0707_0707_0707_0707;
+
+/// For each row of the mapping square the codewords of its anchors, and behind them all that of a corner; each has its bits in the opposite order.
+pub(crate) type Slots = [[u8; 16]; LARGEST_MAPPING + 1];
+
+/// Each byte with its bits in the opposite order.
+static REVERSED: [u8; 256] = [
+    0, 128, 64, 192, 32, 160, 96, 224, 16, 144, 80, 208, 48, 176, 112, 240, 8, 136, 72, 200, 40,
+    168, 104, 232, 24, 152, 88, 216, 56, 184, 120, 248, 4, 132, 68, 196, 36, 164, 100, 228, 20,
+    148, 84, 212, 52, 180, 116, 244, 12, 140, 76, 204, 44, 172, 108, 236, 28, 156, 92, 220, 60,
+    188, 124, 252, 2, 130, 66, 194, 34, 162, 98, 226, 18, 146, 82, 210, 50, 178, 114, 242, 10, 138,
+    74, 202, 42, 170, 106, 234, 26, 154, 90, 218, 58, 186, 122, 250, 6, 134, 70, 198, 38, 166, 102,
+    230, 22, 150, 86, 214, 54, 182, 118, 246, 14, 142, 78, 206, 46, 174, 110, 238, 30, 158, 94,
+    222, 62, 190, 126, 254, 1, 129, 65, 193, 33, 161, 97, 225, 17, 145, 81, 209, 49, 177, 113, 241,
+    9, 137, 73, 201, 41, 169, 105, 233, 25, 153, 89, 217, 57, 185, 121, 249, 5, 133, 69, 197, 37,
+    165, 101, 229, 21, 149, 85, 213, 53, 181, 117, 245, 13, 141, 77, 205, 45, 173, 109, 237, 29,
+    157, 93, 221, 61, 189, 125, 253, 3, 131, 67, 195, 35, 163, 99, 227, 19, 147, 83, 211, 51, 179,
+    115, 243, 11, 139, 75, 203, 43, 171, 107, 235, 27, 155, 91, 219, 59, 187, 123, 251, 7, 135, 71,
+    199, 39, 167, 103, 231, 23, 151, 87, 215, 55, 183, 119, 247, 15, 143, 79, 207, 47, 175, 111,
+    239, 31, 159, 95, 223, 63, 191, 127, 255,
+];
+
+/// A byte with its bits in the opposite order.
+fn reversed(byte: u8) -> u8
+    ensures { result ≡ reversed_bits byte }
+{
+    REVERSED[byte as usize]
+}
+
+/// The codewords of the anchors in a row, from its three rows.
+fn joined(first: u128, second: u128, third: u128) -> u128
+    ensures { (c : ℕ) → c < 128 → is_dark_in result c ≡ is_joined first second third c }
+{
+    (first & TWO) | (second & THREE) << 2 | (third & THREE) << 5
+}
+
+/// The codeword in these cells.
+fn word_of_cells(rows: &[u128; WIDENED], cells: &[Cell; 8]) -> u8
+    requires { CellsInside largest_mapping cells.now }
+    ensures { result ≡ word_in rows.now cells.now }
+{
+    let mut word: u16 = 0;
+    for cell in cells {
+        word = 2 * word + ((rows[cell.row as usize + 2] >> (cell.column + 4)) % 2) as u16;
+    }
+    word as u8
+}
+
+/// The codeword of the corner, where there is one.
+fn corner_word(rows: &[u128; WIDENED], mapping: u16) -> u8
+    requires low { 8 ≤ mapping }
+    requires small { mapping ≤ largest_mapping }
+    ensures first { mapping % 8 ≡ 4 → result ≡ word_in rows.now (cells_of mapping Corner1) }
+    ensures second { mapping % 8 ≡ 6 → result ≡ word_in rows.now (cells_of mapping Corner2) }
+{
+    if mapping % 8 == 4 {
+        word_of_cells(rows, &Shape::Corner1.cells(mapping))
+    } else if mapping % 8 == 6 {
+        word_of_cells(rows, &Shape::Corner2.cells(mapping))
+    } else {
+        0
+    }
+}
+
+/// The codewords in widened rows.
+pub(crate) fn slots(rows: &[u128; WIDENED], mapping: u16) -> Slots
+    requires low { 8 ≤ mapping }
+    requires small { mapping ≤ largest_mapping }
+    ensures { HasSlots mapping rows.now result }
+{
+    let mut slots = [[0; 16]; LARGEST_MAPPING + 1];
+    for row in 0..mapping as usize {
+        let first = (4 + 3 * row) % 8 + 2;
+        slots[row] = joined(
+            rows[row] >> first,
+            rows[row + 1] >> first,
+            rows[row + 2] >> first,
+        )
+        .to_le_bytes();
+    }
+    slots[LARGEST_MAPPING][0] = reversed(corner_word(rows, mapping));
+    slots
+}
+
+/// The codeword of a slot.
+pub(crate) fn codeword(slots: &Slots, slot: u16) -> u8
+    requires { slot < 16 * (largest_mapping + 1) }
+    ensures { result ≡ reversed_bits (get_or (get_or slots.now (slot / 16) []) (slot % 16) 0) }
+{
+    let slot = slot as usize;
+    reversed(slots[slot / 16][slot % 16])
+}
+
+/// The slots of the codewords in order.
+pub(crate) fn order(mapping: u16) -> &'static [u16]
+    ensures { result.now ≡ order_of mapping }
+{
+    match mapping {
+        8 => &ORDER_8,
+        10 => &ORDER_10,
+        12 => &ORDER_12,
+        14 => &ORDER_14,
+        16 => &ORDER_16,
+        18 => &ORDER_18,
+        20 => &ORDER_20,
+        22 => &ORDER_22,
+        24 => &ORDER_24,
+        28 => &ORDER_28,
+        32 => &ORDER_32,
+        36 => &ORDER_36,
+        40 => &ORDER_40,
+        44 => &ORDER_44,
+        48 => &ORDER_48,
+        56 => &ORDER_56,
+        64 => &ORDER_64,
+        72 => &ORDER_72,
+        80 => &ORDER_80,
+        88 => &ORDER_88,
+        _ => &ORDER_96,
+    }
+}

@@ -1,0 +1,91 @@
+//! The mapping square as rows of bits, widened so that no standard shape wraps.
+//!
+//! Row r of the mapping square is row r + 2, and its column c is the bit of weight 2^(c + 4). In the two rows above and in the four
+//! bits to the right of it, which are the columns left of the square, stand the modules to which shapes at its upper and its left edge wrap.
+
+ghost use Rattle.std.specs.Prelude.{◌≡◌, ℕ, ◌+◌, ◌-◌, ◌*◌, ◌%◌, ◌^◌, ◌<◌, ◌≤◌, ◌&&◌, ◌||◌, nat_le, nat_lt, false};
+ghost use Rattle.dm_layout.specs.Border.{mapped_cell, symbol_line};
+ghost use Rattle.dm_layout.specs.Grid.{is_dark_in};
+ghost use Rattle.dm_layout.specs.Reading.{look_in};
+ghost use Rattle.dm_layout.specs.Walking.{largest_mapping};
+ghost use Rattle.dm_layout.specs.Widened.{IsMoved, IsWidened};
+
+use crate::grid::Grid;
+use crate::shape::LARGEST_MAPPING;
+
+/// How many rows there is room for: below the square four more stay 0, since wrapping looks there.
+pub(crate) const WIDENED: usize = LARGEST_MAPPING + 6;
+
+/// The row of the mapping square that lies in a row of the symbol between the borders of `across` regions.
+fn inner_row(row: u128, region_side: u16, across: u16) -> u128
+    requires least { 8 ≤ region_side }
+    requires fits { across * region_side ≤ largest_mapping }
+    ensures cells { (column : ℕ) → column < across * region_side → is_dark_in result column ≡ is_dark_in row (symbol_line region_side column) }
+    ensures width { result < 2 ^ (across * region_side) }
+{
+    let mut inner = 0;
+    for region in 0..across {
+        let part = (row >> (region * (region_side + 2) + 1)) % (1 << region_side);
+        inner |= part << (region * region_side);
+    }
+    inner
+}
+
+/// The rows of the mapping square of a grid, with nothing around it.
+fn moved_rows(grid: &Grid) -> [u128; WIDENED]
+    ensures { IsMoved grid.now.size.mapping (mapped_cell grid.now) result }
+{
+    let size = grid.size();
+    let region_side = size.region_side();
+    let mapping = size.mapping();
+    let across = mapping / region_side;
+    let mut rows = [0; WIDENED];
+    let mut region = 0;
+    let mut until = region_side;
+    for row in 0..mapping {
+        if row == until {
+            region += 1;
+            until += region_side;
+        }
+        let outer = grid.row(row + 2 * region + 1);
+        rows[row as usize + 2] = inner_row(outer, region_side, across) << 4;
+    }
+    rows
+}
+
+/// Puts left of each row the last four columns of the row that lies 4 - shift rows below.
+fn wrap_columns(rows: &mut [u128; WIDENED], mapping: u16, shift: u16)
+    requires least { 8 ≤ mapping }
+    requires most { mapping ≤ largest_mapping }
+    requires shift { shift ≤ 6 }
+    requires width { (r c : ℕ) → mapping + 4 ≤ c → look_in rows.old r c ≡ false }
+    ensures { (r c : ℕ) → look_in rows.new r c ≡ (look_in rows.old r c || ((nat_le 2 r && nat_lt r (mapping + 2)) && look_in rows.old (r + 4 - shift) (mapping + c))) }
+{
+    for row in 0..mapping {
+        rows[row as usize + 2] |= rows[(row + 6 - shift) as usize] >> mapping;
+    }
+}
+
+/// Puts above the square its last two rows, 4 - shift columns further to the left.
+fn wrap_rows(rows: &mut [u128; WIDENED], mapping: u16, shift: u16)
+    requires least { 8 ≤ mapping }
+    requires most { mapping ≤ largest_mapping }
+    requires shift { shift ≤ 6 }
+    ensures above { (r c : ℕ) → r < 2 → c < 124 → shift ≤ c + 4 → look_in rows.new r c ≡ look_in rows.old (r + mapping) (c + 4 - shift) }
+    ensures others { (r c : ℕ) → 2 ≤ r → look_in rows.new r c ≡ look_in rows.old r c }
+{
+    rows[0] = (rows[mapping as usize] << shift) >> 4;
+    rows[1] = (rows[mapping as usize + 1] << shift) >> 4;
+}
+
+/// The widened rows of a grid.
+pub(crate) fn widened(grid: &Grid) -> [u128; WIDENED]
+    ensures { IsWidened grid.now.size.mapping (mapped_cell grid.now) result }
+{
+    let mapping = grid.size().mapping();
+    let shift = (mapping + 4) % 8;
+    let mut rows = moved_rows(grid);
+    wrap_columns(&mut rows, mapping, shift);
+    wrap_rows(&mut rows, mapping, shift);
+    rows
+}
