@@ -23,7 +23,7 @@ use Rattle.clap.specs.declared.parser.matches.ValueSource.TheVariants.{CommandLi
 use Rattle.clap.proofs.WalkLemmas.{both}
 use Rattle.clap.proofs.ValueTestLemmas.{accepts-Accepts}
 use Rattle.dm_tool.specs.CommandLine.{IsBorderLimit, border_rule, shorter_rule}
-use Rattle.dm_tool.specs.CommandReads.{IsReadable}
+use Rattle.dm_tool.specs.inner.CommandReads.{IsReadable}
 use Rattle.dm_tool.proofs.CommandWalks.{first_none, later_none, settle_keeps, walk_keeps}
 
 -- a parser that refuses nothing takes the text

@@ -8,7 +8,7 @@ use Rattle.std.specs.Str.Parse.{signed_digits_value}
 use Rattle.std.proofs.lemmas.Int.{ints}
 use Rattle.clap.specs.Walk.{Row, Text, first_of}
 use Rattle.dm_tool.specs.CommandLine.{GivesLimit, GivesProfile, IsTaskOf}
-use Rattle.dm_tool.specs.CommandReads.{HasNoTask, IsReadable}
+use Rattle.dm_tool.specs.inner.CommandReads.{HasNoTask, IsReadable}
 use Rattle.dm_symbol.specs.declared.Profile.{Profile}
 use Rattle.dm_symbol.specs.declared.Profile.TheVariants.{Ascii, Shorter}
 use Rattle.dm_tool.specs.declared.task.Task.{Task}

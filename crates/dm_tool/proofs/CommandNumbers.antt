@@ -11,7 +11,7 @@ use Rattle.clap.specs.Lexer.{without_minus}
 use Rattle.clap.specs.Matches.{ReadsOne}
 use Rattle.clap.specs.Walk.{Row, Text, first_of, one_of, row_text}
 use Rattle.dm_tool.specs.CommandLine.{GivesLimit, IsBorderLimit}
-use Rattle.dm_tool.specs.CommandReads.{IsReadable}
+use Rattle.dm_tool.specs.inner.CommandReads.{IsReadable}
 
 -- the text without a first minus, by the test that the parser makes
 without_minus-cond : (t : Text) → without_minus t ≡ cond (starts_with_minus t) (drop 1 t) t

@@ -10,7 +10,7 @@ use Rattle.clap.specs.Faults.{check_fault, defaults_fault, entered_fault, fault_
 use Rattle.clap.specs.Facts.{explicit_source}
 use Rattle.clap.specs.Takes.{is_given}
 use Rattle.dm_tool.specs.CommandLine.{IsTaskOf, dm_app}
-use Rattle.dm_tool.specs.CommandReads.{IsReadable}
+use Rattle.dm_tool.specs.inner.CommandReads.{IsReadable}
 use Rattle.dm_tool.specs.declared.task.Task.{Task}
 use Rattle.dm_tool.specs.declared.task.Task.TheVariants.{Read, Check, Normal, Write, Table}
 use Rattle.dm_tool.proofs.CommandWalks.{first_none, later_none}

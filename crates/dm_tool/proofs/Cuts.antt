@@ -1,20 +1,20 @@
 -- A text that is cut between records, or between message lines, is answered part by part.
-use Rattle.std.proofs.Common.{◌≡◌, ◌≢◌, ◌≤◌, ◌<◌, ◌+◌, ◌∙◌, ◌⊎◌, inl, inr, ℕ, zero, suc, max, cond, List, [], ◌∷◌, ◌++◌, refl, sym, ap, ap₂, subst, append_assoc, append-nil, map, flat_map, arith, Bool}
-use Rattle.std.specs.List.{AllByRecursion, concat, count_by}
+use Rattle.std.proofs.Common.{◌≡◌, ◌≢◌, ◌<◌, ◌+◌, ◌∙◌, ◌⊎◌, inl, inr, ℕ, zero, suc, max, List, [], ◌∷◌, ◌++◌, refl, sym, ap, ap₂, subst, append_assoc, append-nil, map, flat_map, arith}
+use Rattle.std.specs.List.{AllByRecursion, concat}
 use Rattle.std.proofs.lemmas.List.Sums.{sum_by-append}
 use Rattle.dm_tool.specs.declared.task.Task.{Task}
 use Rattle.dm_tool.specs.declared.task.Task.TheVariants.{Read, Check, Normal, Write, Table}
 use Rattle.dm_tool.specs.declared.task.Tally.{Tally}
 use Rattle.dm_tool.specs.Texts.{lf, HasNoLf, IsSplit, ended, last_line}
 use Rattle.dm_tool.specs.Records.{no_line}
-use Rattle.dm_tool.specs.Answers.{Answer, AnswersRecords}
+use Rattle.dm_tool.specs.Answers.{Answer}
 use Rattle.dm_tool.specs.Runs.{AreAllAnswers, AreAnswersTo, AreAnswersToRecords, AreMatched, IsAnswerToLine, IsAnswerToRecord, IsOut, tally_of, written}
 use Rattle.dm_tool.specs.Cuts.{AreCutBetween, AreOuts, EndsBetween, EndsWith, PartOut, added, largest, sum_of}
 use Rattle.dm_tool.proofs.Texts.{split_unique}
 use Rattle.dm_tool.proofs.EachSplit.{text_is_split}
 use Rattle.dm_tool.proofs.RecordCuts.{split_lines}
 use Rattle.dm_tool.proofs.RecordTexts.{EndsBlank, records_append}
-use Rattle.dm_tool.proofs.Standings.{matched_append, out_by}
+use Rattle.dm_tool.proofs.AnsweredSoFar.{matched_append, out_by}
 use Rattle.dm_tool.proofs.Outcomes.{written_append}
 
 -- ---- the lines of a text that ends between

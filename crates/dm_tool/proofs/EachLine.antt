@@ -10,7 +10,7 @@ use Rattle.dm_tool.specs.declared.message_line.LineFault.TheVariants.{BadEscape,
 use Rattle.dm_tool.specs.Spellings.{IsHexDigit, figure, upper, lower, IsSpelling, plain, backslash, fnc1, byte, IsJoining}
 use Rattle.dm_tool.specs.MessageLines.{IsLine, column_after, most_items}
 use Rattle.dm_tool.specs.LineFeeds.{LineAnswer}
-use Rattle.dm_tool.specs.OpenLines.{BeginsNoSpelling}
+use Rattle.dm_tool.specs.inner.OpenLines.{BeginsNoSpelling}
 use Rattle.dm_tool.proofs.Joinings.{front_longest, spelling_some}
 use Rattle.dm_tool.proofs.OpenLineSteps.{none_begun}
 use Rattle.dm_tool.proofs.SpellingBytes.{backslash_none, digit_none, first_digit_none, foreign_none, hexadecimal_none, second_digit_none, stray_none}

@@ -6,8 +6,8 @@ use Rattle.dm_tool.specs.declared.task.Task.TheVariants.{Read, Check, Normal, Wr
 use Rattle.dm_tool.specs.declared.task.Tally.{Tally}
 use Rattle.dm_tool.specs.Texts.{HasNoLf, last_line}
 use Rattle.dm_tool.specs.Answers.{Answer, AnswersRecords, table_text}
-use Rattle.dm_tool.specs.Runs.{AreAllAnswers, AreAnswersTo, AreClosedAnswers, AreClosedLines, AreMatched, IsAnswerToLine, IsAnswerToRecord, IsDone, IsOut, tally_of, written}
-use Rattle.dm_tool.proofs.Standings.{answers_of_grids, closed_of_grids, done_by, out_by}
+use Rattle.dm_tool.specs.Runs.{AreAllAnswers, AreAnswersTo, AreClosedAnswers, AreClosedLines, AreMatched, IsAnswerToLine, IsAnswerToRecord, IsOutSoFar, IsOut, tally_of, written}
+use Rattle.dm_tool.proofs.AnsweredSoFar.{answers_of_grids, closed_of_grids, done_by, out_by}
 use Rattle.dm_tool.proofs.RecordTexts.{all_front}
 use Rattle.dm_tool.proofs.EachSplit.{last_blank_is_there, records_are_there, text_is_split}
 use Rattle.dm_tool.proofs.EachAnswer.{line_is_answered, record_is_answered}
@@ -95,9 +95,9 @@ out_is_there task text empty =
     ]
 
 -- something is done by a text
-pub done_is_there : (task : Task) (text : List ℕ) → (task ≡ Table → text ≡ []) → (done : List ℕ) × IsDone task text done
+pub done_is_there : (task : Task) (text : List ℕ) → (task ≡ Table → text ≡ []) → (done : List ℕ) × IsOutSoFar task text done
 done_is_there task text empty =
     elim (table_or_reads task) [
-      | inl e ↦ (table_text, subst (λ t. IsDone t text table_text) (sym e) (empty e, refl))
+      | inl e ↦ (table_text, subst (λ t. IsOutSoFar t text table_text) (sym e) (empty e, refl))
       | inr reads ↦ let a = closed_answers task reads text in (written a.0, done_by task text a.0 reads a.1)
     ]

@@ -10,7 +10,7 @@ use Rattle.dm_tool.specs.declared.answering.Answering.{Answering}
 use Rattle.dm_tool.specs.Answers.{Answer, table_text}
 use Rattle.dm_tool.specs.Devices.{IsFlushedOnce}
 use Rattle.dm_tool.specs.Runs.{HasEnded, IsFlushedAtEnd, IsOut, tally_of, written}
-use Rattle.dm_tool.specs.Standings.{Ends, Stands}
+use Rattle.dm_tool.specs.inner.AnsweredSoFar.{EndsAnswered, IsAnsweredSoFar}
 use Rattle.dm_tool.proofs.KnownBytes.{appends_then}
 use Rattle.dm_tool.proofs.Outcomes.{all_answered, written_append}
 
@@ -57,8 +57,8 @@ table_flushed task most Gave Took Ended Unflushed Once (Err why) table gave (inr
 -- the flush at the end of a text failed, or none was reached
 pub text_flushed : (task : Task) (most : ℕ) (Gave : List ℕ → Type 0) (Ended : Type 0) (state : Answering) (text : List ℕ) (answers : List Answer) (s t : Tally)
     (First Then All : List ℕ → Type 0) (a b c : Option (List ℕ)) → ((x y : List ℕ) → First x → Then y → All (x ++ y)) → First [] → Appends a b (written answers)
-    → Gave text → Ended → length text ≤ most → Stands task state text answers → s ≡ tally_of answers
-    → Then [] ⊎ (IsFlushedOnce Then b c × ((last : List Answer) × Ends state last × Appends b c (written last)
+    → Gave text → Ended → length text ≤ most → IsAnsweredSoFar task state text answers → s ≡ tally_of answers
+    → Then [] ⊎ (IsFlushedOnce Then b c × ((last : List Answer) × EndsAnswered state last × Appends b c (written last)
     × ((before : List Answer) → s ≡ tally_of before → t ≡ tally_of (before ++ last))))
     → IsFlushedAtEnd task most Gave Ended (Appends a c) (All []) (IsFlushedOnce All a c)
 text_flushed task most Gave Ended state text answers s t First Then All a b c joined none grew gave ended within stands counted (inl never) = inl (joined [] [] none never)

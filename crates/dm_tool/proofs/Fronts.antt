@@ -1,5 +1,5 @@
 -- Cells that are looked at together.
-use Rattle.std.proofs.Common.{◌≡◌, ◌∙◌, ◌+◌, ◌-◌, ◌*◌, ◌%◌, ◌^◌, ◌<◌, ◌≤◌, ℕ, suc, Bool, true, false, not, List, [], ◌∷◌, ◌++◌, refl, sym, ap, subst, length, map, get_or, take, drop, bit_and, bit_or, ◌≢◌, arith, w8, Fits}
+use Rattle.std.proofs.Common.{◌≡◌, ◌∙◌, ◌+◌, ◌-◌, ◌*◌, ◌%◌, ◌^◌, ◌<◌, ◌≤◌, ℕ, suc, Bool, true, false, not, List, [], ◌∷◌, refl, sym, ap, subst, length, map, get_or, take, drop, bit_and, bit_or, ◌≢◌, arith, w8, Fits}
 use Rattle.std.specs.Prelude.{◌==◌, ◌||◌}
 use Rattle.std.specs.List.{list_all, list_any, prefix_len, range_with_len}
 use Rattle.std.specs.Simd.Lanes.{mask_l, chunk, Each1}
@@ -14,7 +14,7 @@ use Rattle.std.proofs.lemmas.Simd.{length-chunk, get_or-chunk, Each1-from_get_or
 use Rattle.dm_tool.specs.Texts.{HasNoLf}
 use Rattle.dm_tool.specs.Records.{is_foreign}
 use Rattle.dm_tool.specs.declared.front.Front.{Front}
-use Rattle.dm_tool.specs.OpenRecords.{IsFrontOf, digit_of, is_dark, number_of}
+use Rattle.dm_tool.specs.inner.OpenRecords.{IsFrontOf, digit_of, is_dark, number_of}
 use Rattle.dm_tool.proofs.RecordSteps.{or_cases}
 use Rattle.dm_tool.proofs.KeptRows.{number_more, number_small}
 

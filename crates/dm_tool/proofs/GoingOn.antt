@@ -10,13 +10,13 @@ use Rattle.dm_tool.specs.RecordFacts.{RecordFacts, facts_of_record}
 use Rattle.dm_tool.specs.RecordFeeds.{AreRecordsOfText}
 use Rattle.dm_tool.specs.Answers.{Answer, IsRecordAnswer}
 use Rattle.dm_tool.specs.Runs.{AreAnswersTo, AreClosedAnswers, AreClosedLines, AreMatched, IsAnswerToLine, IsAnswerToRecord}
-use Rattle.dm_tool.specs.Standings.{Stands}
+use Rattle.dm_tool.specs.inner.AnsweredSoFar.{IsAnsweredSoFar}
 use Rattle.dm_tool.proofs.EachAnswer.{line_is_answered, record_is_answered}
 use Rattle.dm_tool.proofs.EachSplit.{last_blank_is_there, records_are_there, text_is_split}
 use Rattle.dm_tool.proofs.EachText.{matched_there}
 use Rattle.dm_tool.proofs.RecordCuts.{split_lines}
 use Rattle.dm_tool.proofs.RecordTexts.{all_back, all_front, full_of, records_after}
-use Rattle.dm_tool.proofs.Standings.{matched_append, matched_lines, stands_closed}
+use Rattle.dm_tool.proofs.AnsweredSoFar.{matched_append, matched_lines, so_far_closed}
 
 -- a text, its records, and what stands open after them
 record HasRecords (text : List ℕ) : Type 0 where
@@ -61,7 +61,7 @@ matched_grids task (x ∷ records) [] h = absurd h
 matched_grids task (x ∷ records) (y ∷ answers) h = (h.0, matched_grids task records answers h.1)
 
 -- whatever comes after a text closes something, or nothing
-pub goes_on : (task : Task) (state : Answering) (text piece : List ℕ) (answers : List Answer) → Stands task state text answers
+pub goes_on : (task : Task) (state : Answering) (text piece : List ℕ) (answers : List Answer) → IsAnsweredSoFar task state text answers
     → (more : List Answer) × AreClosedAnswers task (text ++ piece) (answers ++ more)
 goes_on task (Records asked facts) text piece answers s =
     let t = s.3 in
@@ -69,7 +69,7 @@ goes_on task (Records asked facts) text piece answers s =
     let matched = matched_there (IsAnswerToRecord task) (record_is_answered task s.1) later.records in
     let all = records_after text piece s.2 (map record_of later.records) facts later.new t later.are in (
       matched.0,
-      stands_closed task (Records asked later.new) (text ++ piece) (answers ++ matched.0) (
+      so_far_closed task (Records asked later.new) (text ++ piece) (answers ++ matched.0) (
         s.0,
         s.1,
         s.2 ++ map record_of later.records,

@@ -3,7 +3,7 @@ use Rattle.std.proofs.Common.{◌≡◌, ◌∙◌, ◌+◌, ◌*◌, ◌≤◌,
 use Rattle.dm_symbol.specs.declared.Item.{Item}
 use Rattle.dm_symbol.specs.declared.Item.TheVariants.{Byte}
 use Rattle.dm_tool.specs.Spellings.{IsHexDigit, figure, upper, lower, IsSpelling, plain, backslash, fnc1, byte, IsJoining}
-use Rattle.dm_tool.specs.OpenLines.{BeginsNoSpelling}
+use Rattle.dm_tool.specs.inner.OpenLines.{BeginsNoSpelling}
 
 -- a digit has one value
 pub hex_unique : (d u v : ℕ) → IsHexDigit d u → IsHexDigit d v → u ≡ v

@@ -17,7 +17,7 @@ use Rattle.dm_tool.specs.declared.rows.Rows.{Rows}
 use Rattle.dm_tool.specs.Texts.{last_line}
 use Rattle.dm_tool.specs.Records.{is_foreign, has_foreign, is_large, rows_of}
 use Rattle.dm_tool.specs.RecordFacts.{Cells, contents_of, differ, first_length, last_length}
-use Rattle.dm_tool.specs.OpenRecords.{HoldsLines, Continues, cells_in, digit_of, is_dark, is_ended, line_count, number_of, rows_in, rows_seen}
+use Rattle.dm_tool.specs.inner.OpenRecords.{HoldsLines, cells_in, digit_of, is_dark, is_ended, line_count, number_of, rows_in, rows_seen}
 use Rattle.dm_tool.proofs.RecordSteps.{by_tests, same_cells, count_new, last_new, first_new, or_cases, or_false, any_last, long, zero_lines}
 
 -- ---- a line as a number
@@ -343,16 +343,3 @@ begun t e held why = (held.0, subst (HoldsLines t held.0) (begins t held.0 held.
 pub lengthened : (t : Rows) (e : Bool) → Held t e → e ≡ false → line_count t ≢ 0 → (lines : List (List ℕ)) × (x : ℕ) × (rest : List ℕ) × HoldsLines t lines (x ∷ rest)
 lengthened t e held never some =
     let r = continues t held.0 held.1 e held.2 held.3 never some in (held.0, r.0, r.1, subst (HoldsLines t held.0) r.2 held.2)
-
-pub begun_goes_on : (t s : Rows) (e v : Bool) (lines : List (List ℕ)) (rest more : List ℕ) → HoldsLines t lines rest → e ≡ is_ended lines rest
-    → (e ≡ true) ⊎ (line_count t ≡ 0) → ((lines : List (List ℕ)) → HoldsLines t lines [] → Continues v s lines more) → Continues v s lines (rest ++ more)
-begun_goes_on t s e v lines rest more h is why f =
-    let none = begins t lines rest e h is why in
-    subst (λ l. Continues v s lines (l ++ more)) (sym none) (f lines (subst (HoldsLines t lines) none h))
-
-pub lengthened_goes_on : (t s : Rows) (e v : Bool) (lines : List (List ℕ)) (rest more : List ℕ) → HoldsLines t lines rest → e ≡ is_ended lines rest → e ≡ false
-    → line_count t ≢ 0 → ((lines : List (List ℕ)) (x : ℕ) (r : List ℕ) → HoldsLines t lines (x ∷ r) → Continues v s lines ((x ∷ r) ++ more))
-    → Continues v s lines (rest ++ more)
-lengthened_goes_on t s e v lines rest more h is never some f =
-    let r = continues t lines rest e h is never some in
-    subst (λ l. Continues v s lines (l ++ more)) (sym r.2) (f lines r.0 r.1 (subst (HoldsLines t lines) r.2 h))

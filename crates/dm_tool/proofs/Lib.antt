@@ -21,7 +21,7 @@ pub mod RecordGrids
 pub mod RecordCuts
 pub mod RecordTexts
 pub mod LineTexts
-pub mod Standings
+pub mod AnsweredSoFar
 pub mod Pieces
 pub mod AnswerTexts
 pub mod TableLines

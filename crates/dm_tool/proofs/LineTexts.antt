@@ -1,6 +1,8 @@
 -- A text of message lines that goes on.
 use Rattle.std.proofs.Common.{◌≡◌, ◌∙◌, ℕ, List, [], ◌∷◌, ◌++◌, refl, sym, ap, subst, append_assoc, append-nil, drop}
 use Rattle.std.specs.List.{concat}
+use Rattle.dm_tool.specs.MessageLines.{IsLine}
+use Rattle.dm_tool.specs.inner.OpenLines.{EndsLine}
 use Rattle.dm_tool.specs.Texts.{ended, IsSplit}
 use Rattle.dm_tool.specs.LineFacts.{LineFacts, AreLineFacts}
 use Rattle.dm_tool.specs.LineFeeds.{LineAnswer, AreAnswered, AreLinesFed, AreOfText, ClosesLine, LeavesLineOpen, closes, leaves_open, no_piece}
@@ -50,3 +52,16 @@ line_is_closed text answers old new piece taken answer t now all =
     let rest = subst (λ l. AreLinesFed new (l ∷ []) [] new) (sym all) (nothing_more new) in
     subst (λ l. AreOfText (text ++ l) (answers ++ answer ∷ []) new) (append-nil piece)
     (lines_go_on text answers (answer ∷ []) old new (piece ∷ []) t (closes old new new piece taken answer [] [] now rest))
+
+-- a line that is held, and what it means
+pub line_ends : (old mid new : LineFacts) (piece : List ℕ) (taken : ℕ) (message : LineAnswer) → EndsLine old piece taken mid
+    → ((line : List ℕ) → AreLineFacts line mid → IsLine line message) → AreLineFacts [] new → ClosesLine old piece taken message new
+line_ends old mid new piece taken message held means none = record {
+  before = held.before;
+  after = held.after;
+  piece_is = held.piece_is;
+  no_lf = held.no_lf;
+  taken_is = held.taken_is;
+  answered = λ line known. means (line ++ held.before) (held.grown line known);
+  empty = none;
+}

@@ -7,7 +7,7 @@ use Rattle.dm_tool.specs.declared.task.Tally.{Tally}
 use Rattle.dm_tool.specs.Texts.{last_line}
 use Rattle.dm_tool.specs.Records.{record_of}
 use Rattle.dm_tool.specs.Answers.{Answer, IsWriteAnswer}
-use Rattle.dm_tool.specs.Runs.{AreAllAnswers, AreAnswersTo, AreAnswersToRecords, AreClosedAnswers, AreClosedLines, AreMatched, IsAnswerToLine, IsAnswerToRecord, IsDone, IsOut, tally_of, written}
+use Rattle.dm_tool.specs.Runs.{AreAllAnswers, AreAnswersTo, AreAnswersToRecords, AreClosedAnswers, AreClosedLines, AreMatched, IsAnswerToLine, IsAnswerToRecord, IsOutSoFar, IsOut, tally_of, written}
 use Rattle.dm_tool.proofs.Texts.{split_unique}
 use Rattle.dm_tool.proofs.RecordCuts.{last_blank_unique, records_unique}
 use Rattle.dm_tool.proofs.OpenLineSteps.{line_unique}
@@ -72,7 +72,7 @@ one_out (Write profile) text a b s t p q = let same = all_answers_are_one (Write
 one_out Table text a b s t p q = (p.1 ∙ sym q.1, p.2 ∙ sym q.2)
 
 -- what is done by a text is one thing
-pub one_done : (task : Task) (text a b : List ℕ) → IsDone task text a → IsDone task text b → a ≡ b
+pub one_done : (task : Task) (text a b : List ℕ) → IsOutSoFar task text a → IsOutSoFar task text b → a ≡ b
 one_done (Read border) text a b p q = p.2 ∙ ap written (closed_answers_are_one (Read border) text p.0 q.0 p.1 q.1) ∙ sym q.2
 one_done (Check border) text a b p q = p.2 ∙ ap written (closed_answers_are_one (Check border) text p.0 q.0 p.1 q.1) ∙ sym q.2
 one_done (Normal border profile) text a b p q = p.2 ∙ ap written (closed_answers_are_one (Normal border profile) text p.0 q.0 p.1 q.1) ∙ sym q.2

@@ -1,7 +1,7 @@
 -- The facts of an open line, as the line grows and as it ends.
 use Rattle.std.proofs.Common.{◌≡◌, ◌∙◌, ◌+◌, ◌≤◌, ◌<◌, min, ℕ, Bool, true, false, List, [], ◌∷◌, ◌++◌, Option, Some, None, Result, Ok, Err, refl, sym, ap, subst, append_assoc, append-nil, length, length-append, map, suc, take, arith, inl, inr}
-use Rattle.std.specs.Prelude.{nat_le, if◌then◌else◌, ok_or, ◌↔◌}
-use Rattle.std.proofs.lemmas.Bool.{cases_lt, le-leb, leb-true, leb-false}
+use Rattle.std.specs.Prelude.{nat_le, if◌then◌else◌, ◌↔◌}
+use Rattle.std.proofs.lemmas.Bool.{cases_lt, le-leb, leb-true}
 use Rattle.dm_symbol.specs.declared.Item.{Item}
 use Rattle.dm_symbol.specs.declared.Item.TheVariants.{Byte}
 use Rattle.dm_tool.specs.declared.message_line.LineFault.{LineFault}
@@ -12,7 +12,7 @@ use Rattle.dm_tool.specs.LineFacts.{CanBecomeSpelling, LineFacts, IsFaultyLine, 
 use Rattle.std.specs.List.{AllByRecursion}
 use Rattle.std.proofs.lemmas.List.{length-map, length-take-le}
 use Rattle.dm_tool.specs.Texts.{HasNoLf}
-use Rattle.dm_tool.specs.OpenLines.{BeginsNoSpelling, IsPlain}
+use Rattle.dm_tool.specs.inner.OpenLines.{BeginsNoSpelling, IsPlain}
 use Rattle.dm_tool.proofs.Joinings.{front_longest, joining_append, joining_one, joining_unique, spelling_some}
 
 -- a line that stands before what makes it longer by one byte
@@ -236,18 +236,6 @@ pending_end line pending n known good some = record {
   column_is = column_is n (length good.front) good.count_is;
 }
 
--- what is kept of items that are whole
-answer_kept : (items : List Item) (line : List ℕ) → IsJoining line items → (t : Bool) → nat_le (length items) most_items ≡ t
-    → IsLine line (ok_or (if t then Some items else None) TooLong)
-answer_kept items line j true e = (j, leb-true (length items) most_items e)
-answer_kept items line j false e = (items, j, leb-false (length items) most_items e)
-
--- the end of a line of whole spellings
-pub whole_end : (line : List ℕ) (n : ℕ) (known : Option (List Item)) → IsGoodLine line n known [] → IsLine line (ok_or known TooLong)
-whole_end line n known good =
-    let joining : IsJoining line good.items = subst (λ l. IsJoining l good.items) (sym (good.longest.whole ∙ append-nil good.front)) good.joining in
-    rw good.known_is (answer_kept good.items line joining (nat_le (length good.items) most_items) refl)
-
 fault_column : (line : List ℕ) (a b : ℕ) → IsBadEscape line a → IsBadEscape line b → a ≡ b
 fault_column line a b p q =
     let one = q.longest.longest p.front p.rest p.longest.whole p.longest.joined in
@@ -273,12 +261,6 @@ line_only line a p b = (λ e. subst (IsLine line) e p, λ q. line_unique line a 
 -- a line with a fault has a byte
 pub faulty_some : (line : List ℕ) (column : ℕ) → IsFaultyLine line column → line ≡ [] → ⊥
 faulty_some line column faulty e = faulty.broken [] ([], ap (λ l. l ++ []) e)
-
--- a line has no byte where none is counted and none is pending
-pub good_empty : (line pending : List ℕ) (n : ℕ) (known : Option (List Item)) → IsGoodLine line n known pending → n ≡ 0 → length pending ≡ 0 → line ≡ []
-good_empty line pending n known good zero_n zero_p =
-    let parts : length line ≡ length good.front + length pending = ap length good.longest.whole ∙ length-append good.front pending in
-    no_more line (let c = good.count_is in omega arith)
 
 pub good_empty_counts : (line pending : List ℕ) (n : ℕ) (known : Option (List Item)) → IsGoodLine line n known pending → line ≡ [] → (n ≡ 0) × (length pending ≡ 0)
 good_empty_counts line pending n known good e =

@@ -1,10 +1,9 @@
 -- Texts in which a record stands open, as they grow.
-use Rattle.std.proofs.Common.{◌≡◌, ◌≢◌, ◌∙◌, ℕ, true, false, not, List, [], ◌∷◌, ◌++◌, refl, sym, ap, subst, append_assoc, append-nil}
-use Rattle.std.specs.Prelude.{◌&&◌}
+use Rattle.std.proofs.Common.{◌≡◌, ◌≢◌, ◌∙◌, ℕ, true, false, List, [], ◌∷◌, ◌++◌, refl, sym, ap, subst, append_assoc, append-nil}
 use Rattle.std.proofs.lemmas.Grind.{flat_map-append}
 use Rattle.dm_tool.specs.Texts.{lf, HasNoLf, ended}
-use Rattle.dm_tool.specs.Records.{AreLfs, AreFullLines, IsOpenRecord, IsClosedRecord}
-use Rattle.dm_tool.specs.RecordFacts.{RecordFacts, AreRecordFacts, contents_of, facts_of_record, is_nothing}
+use Rattle.dm_tool.specs.Records.{AreLfs, AreFullLines, IsOpenRecord}
+use Rattle.dm_tool.specs.RecordFacts.{RecordFacts, AreRecordFacts, contents_of, facts_of_record}
 use Rattle.dm_tool.proofs.Texts.{no_lf_append}
 use Rattle.dm_tool.proofs.RecordSteps.{character_facts, character_is, end_is, end_step, no_lines, nothing_lines}
 
@@ -59,11 +58,6 @@ full_more : (lines : List (List ℕ)) (line : List ℕ) → AreFullLines lines �
 full_more [] line h n k = ((n, k), tt)
 full_more (l ∷ lines) line h n k = (h.0, full_more lines line h.1 n k)
 
-not_ended : (lines : List (List ℕ)) (rest : List ℕ) → (is_nothing rest && not (is_nothing lines)) ≡ true → (rest ≡ []) × (lines ≢ [])
-not_ended lines (x ∷ r) e = cc
-not_ended [] [] e = cc
-not_ended (l ∷ lines) [] e = (refl, λ h. cc)
-
 -- lines that stand with nothing before an LF
 by_rest : (text : List ℕ) (f g : RecordFacts) (lines : List (List ℕ)) (x : ℕ) (r : List ℕ) (theirs : List (List ℕ)) (rest : List ℕ)
     → IsOpenRecord text theirs rest → f ≡ facts_of_record theirs rest → f ≡ facts_of_record lines (x ∷ r)
@@ -108,20 +102,3 @@ grown_blank text f known none =
       open_record = record { blank = old.blank ++ lf ∷ []; are_lfs = lfs_more old.blank old.are_lfs; whole = ap (λ l. l ++ lf ∷ []) is ∙ sym (append-nil (old.blank ++ lf ∷ [])); full = tt; rest_no_lf = tt };
       facts_are = known.facts_are ∙ ap (λ l. facts_of_record l known.rest) both.0 ∙ ap (λ l. facts_of_record [] l) both.1;
     }
-
--- an LF more, after an LF
-pub closed_by : (text : List ℕ) (f : RecordFacts) → AreRecordFacts text f → f.ended ≡ true
-    → (lines : List (List ℕ)) × IsClosedRecord (text ++ lf ∷ []) lines × (f ≡ facts_of_record lines [])
-closed_by text f known e =
-    let old = known.open_record in
-    let both = not_ended known.lines known.rest (ap (λ k. k.ended) (sym known.facts_are) ∙ e) in (
-      known.lines,
-      record {
-        blank = old.blank;
-        are_lfs = old.are_lfs;
-        whole = more_of text old.blank (ended known.lines) known.rest lf old.whole ∙ ap (λ l. old.blank ++ (ended known.lines ++ (l ++ lf ∷ []))) both.0;
-        full = old.full;
-        some = both.1;
-      },
-      known.facts_are ∙ ap (λ l. facts_of_record known.lines l) both.0,
-    )

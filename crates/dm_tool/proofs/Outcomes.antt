@@ -8,9 +8,9 @@ use Rattle.dm_tool.specs.declared.task.RunFault.{RunFault}
 use Rattle.dm_tool.specs.declared.task.RunFault.TheVariants as fault
 use Rattle.dm_tool.specs.declared.answering.Answering.{Answering}
 use Rattle.dm_tool.specs.Answers.{Answer, table_text}
-use Rattle.dm_tool.specs.Runs.{HasEnded, IsAnswered, IsBroken, IsDone, IsDoneSoFar, IsOut, IsTooMuch, tally_of, written}
-use Rattle.dm_tool.specs.Standings.{Ends, Stands}
-use Rattle.dm_tool.proofs.Standings.{ends_out, not_table, stands_done, stands_ended}
+use Rattle.dm_tool.specs.Runs.{HasEnded, IsAnswered, HasWrittenFront, IsOutSoFar, HasWrittenOutSoFar, IsOut, IsTooMuch, tally_of, written}
+use Rattle.dm_tool.specs.inner.AnsweredSoFar.{EndsAnswered, IsAnsweredSoFar}
+use Rattle.dm_tool.proofs.AnsweredSoFar.{ends_out, not_table, so_far_written, so_far_ended}
 
 -- answers after others
 pub written_append : (answers more : List Answer) → written (answers ++ more) ≡ written answers ++ written more
@@ -32,23 +32,23 @@ table_answered task most Gave Took Ended (Err why) table gave none took = tt
 
 -- the table, begun
 pub table_broken : (task : Task) (most : ℕ) (Gave TookFront : List ℕ → Type 0) (Ended : Type 0) (result : Result Tally RunFault) → task ≡ Table → Gave []
-    → OnErr result (TookFront table_text) → IsErrOf result fault.Write → IsBroken task most Gave Ended TookFront
+    → OnErr result (TookFront table_text) → IsErrOf result fault.Write → HasWrittenFront task most Gave Ended TookFront
 table_broken task most Gave TookFront Ended (Ok tally) table gave took is = cc
 table_broken task most Gave TookFront Ended (Err why) table gave took is = record {
   text = [];
   gave = gave;
   within = omega arith;
-  began = inl (table_text, subst (λ t. IsDone t [] table_text) (sym table) (refl, refl), took);
+  began = inl (table_text, subst (λ t. IsOutSoFar t [] table_text) (sym table) (refl, refl), took);
 }
 
 -- the end came, and all was written
 pub all_answered : (task : Task) (most : ℕ) (Gave Took : List ℕ → Type 0) (Ended : Type 0) (state : Answering) (text : List ℕ) (answers last : List Answer)
-    (tally : Tally) → Gave text → Ended → length text ≤ most → Stands task state text answers → Ends state last → tally ≡ tally_of (answers ++ last)
+    (tally : Tally) → Gave text → Ended → length text ≤ most → IsAnsweredSoFar task state text answers → EndsAnswered state last → tally ≡ tally_of (answers ++ last)
     → Took (written (answers ++ last)) → IsAnswered task most Gave Ended Took tally
 all_answered task most Gave Took Ended state text answers last tally gave ended within s ends counted took = record {
   text = text;
   gave = gave;
-  ended = stands_ended task state text answers Ended s ended;
+  ended = so_far_ended task state text answers Ended s ended;
   within = within;
   out = written (answers ++ last);
   is_out = subst (λ t. IsOut task text (written (answers ++ last)) t) (sym counted) (ends_out task state text answers last s ends);
@@ -57,20 +57,20 @@ all_answered task most Gave Took Ended state text answers last tally gave ended 
 
 -- a read failed
 pub done_so_far : (task : Task) (most : ℕ) (Gave Took : List ℕ → Type 0) (state : Answering) (text : List ℕ) (answers : List Answer)
-    → Gave text → length text ≤ most → Stands task state text answers → Took (written answers) → IsDoneSoFar task most Gave Took
+    → Gave text → length text ≤ most → IsAnsweredSoFar task state text answers → Took (written answers) → HasWrittenOutSoFar task most Gave Took
 done_so_far task most Gave Took state text answers gave within s took = record {
   reads = not_table task state text answers s;
   text = text;
   gave = gave;
   within = within;
   done = written answers;
-  is_done = stands_done task state text answers s;
+  is_done = so_far_written task state text answers s;
   took = took;
 }
 
 -- one byte too much came
 pub too_much : (task : Task) (most : ℕ) (Gave Took : List ℕ → Type 0) (state : Answering) (text : List ℕ) (byte : ℕ) (answers : List Answer)
-    → Gave (text ++ byte ∷ []) → length text ≡ most → Stands task state text answers → Took (written answers) → IsTooMuch task most Gave Took
+    → Gave (text ++ byte ∷ []) → length text ≡ most → IsAnsweredSoFar task state text answers → Took (written answers) → IsTooMuch task most Gave Took
 too_much task most Gave Took state text byte answers gave full s took = record {
   reads = not_table task state text answers s;
   text = text;
@@ -78,13 +78,13 @@ too_much task most Gave Took state text byte answers gave full s took = record {
   gave = gave;
   full = full;
   done = written answers;
-  is_done = stands_done task state text answers s;
+  is_done = so_far_written task state text answers s;
   took = took;
 }
 
 -- a write failed before the end came
 pub broken_before : (task : Task) (most : ℕ) (Gave TookFront : List ℕ → Type 0) (Ended : Type 0) (text : List ℕ) (answers : List Answer)
-    → Gave text → length text ≤ most → IsDone task text (written answers) → TookFront (written answers) → IsBroken task most Gave Ended TookFront
+    → Gave text → length text ≤ most → IsOutSoFar task text (written answers) → TookFront (written answers) → HasWrittenFront task most Gave Ended TookFront
 broken_before task most Gave TookFront Ended text answers gave within done took = record {
   text = text;
   gave = gave;
@@ -94,14 +94,14 @@ broken_before task most Gave TookFront Ended text answers gave within done took 
 
 -- a write or the flush failed when the end had come
 pub broken_after : (task : Task) (most : ℕ) (Gave TookFront : List ℕ → Type 0) (Ended : Type 0) (state : Answering) (text : List ℕ) (answers last : List Answer)
-    → Gave text → Ended → length text ≤ most → Stands task state text answers → Ends state last → TookFront (written (answers ++ last))
-    → IsBroken task most Gave Ended TookFront
+    → Gave text → Ended → length text ≤ most → IsAnsweredSoFar task state text answers → EndsAnswered state last → TookFront (written (answers ++ last))
+    → HasWrittenFront task most Gave Ended TookFront
 broken_after task most Gave TookFront Ended state text answers last gave ended within s ends took = record {
   text = text;
   gave = gave;
   within = within;
   began = inr (
-    stands_ended task state text answers Ended s ended,
+    so_far_ended task state text answers Ended s ended,
     (written (answers ++ last), tally_of (answers ++ last), ends_out task state text answers last s ends, took),
   );
 }

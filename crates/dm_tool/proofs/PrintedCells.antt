@@ -1,6 +1,5 @@
 -- The characters of cells that are written together.
-use Rattle.std.proofs.Common.{◌≡◌, ◌∙◌, ◌+◌, ◌-◌, ◌*◌, ◌/◌, ◌%◌, ◌^◌, ◌<◌, ◌≤◌, min, ℕ, zero, suc, Bool, true, false, not, cond, eqb, List, ◌++◌, refl, sym, ap, subst, length, length-append, map, get_or, take, bit_and, nat_eq, append_assoc, arith, inl, inr}
-use Rattle.std.specs.Int.{bit_at}
+use Rattle.std.proofs.Common.{◌≡◌, ◌∙◌, ◌+◌, ◌-◌, ◌*◌, ◌/◌, ◌%◌, ◌^◌, ◌<◌, ◌≤◌, min, ℕ, zero, suc, Bool, true, false, not, cond, eqb, List, ◌++◌, refl, sym, ap, length, length-append, map, get_or, take, bit_and, nat_eq, append_assoc, arith, inl, inr}
 use Rattle.std.specs.List.{list_all, range_with_len, take-map}
 use Rattle.std.specs.Simd.Lanes.{top}
 use Rattle.std.proofs.Math.Nat.{div-div-eq-div-mul}
@@ -12,7 +11,7 @@ use Rattle.std.proofs.lemmas.Nat.{pow-add, pow_pos}
 use Rattle.std.proofs.lemmas.Nat.Bits.{and_pow, bit_at_and}
 use Rattle.dm_symbol.specs.Grid.{is_dark_in}
 use Rattle.dm_tool.specs.Answers.{character_of}
-use Rattle.dm_tool.specs.OpenRecords.{cells_in}
+use Rattle.dm_tool.specs.inner.OpenRecords.{cells_in}
 use Rattle.dm_tool.proofs.Fronts.{holds_at}
 
 -- ---- sixteen cells

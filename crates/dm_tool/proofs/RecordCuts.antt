@@ -159,12 +159,6 @@ later_blank x a (inl e) = let n : x ∷ a ≡ [] = e in cc
 later_blank x a (inr ([], e)) = let n : a ≡ [] = cc in inl n
 later_blank x a (inr (y ∷ f, e)) = let n : a ≡ f ++ [] ∷ [] = cc in inr (f, n)
 
-only_blank : (x : List ℕ) (a : List (List ℕ)) → ((x ∷ a) ≡ []) ⊎ ((f : List (List ℕ)) × (x ∷ a ≡ f ++ [] ∷ [])) → a ≡ [] → x ≡ []
-only_blank x a (inl e) n = let h : x ∷ a ≡ [] = e in cc
-only_blank x a (inr ([], e)) n = cc
-only_blank x a (inr (y ∷ [], e)) n = cc
-only_blank x a (inr (y ∷ z ∷ f, e)) n = cc
-
 front_full : (c d : List (List ℕ)) → AllByRecursion (λ l. l ≢ []) (c ++ d) → AllByRecursion (λ l. l ≢ []) c
 front_full [] d h = tt
 front_full (x ∷ c) d h = (h.0, front_full c d h.1)

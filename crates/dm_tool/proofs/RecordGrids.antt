@@ -15,7 +15,7 @@ use Rattle.dm_tool.specs.declared.record.RecordFault.TheVariants as fault
 use Rattle.dm_tool.specs.Texts.{last_line}
 use Rattle.dm_tool.specs.Records.{is_square, record_of, rows_of, sized}
 use Rattle.dm_tool.specs.RecordFacts.{differ}
-use Rattle.dm_tool.specs.OpenRecords.{HoldsLines, cells_in, line_count, number_of}
+use Rattle.dm_tool.specs.inner.OpenRecords.{HoldsLines, cells_in, line_count, number_of}
 use Rattle.dm_tool.proofs.KeptRows.{cells_are, counted}
 use Rattle.dm_tool.proofs.RecordAnswers.{and_parts, square_by_facts, square_tells}
 

@@ -9,7 +9,7 @@ use Rattle.dm_tool.specs.declared.record.Contents.TheVariants as kept
 use Rattle.dm_tool.specs.Texts.{lf, HasNoLf, last_line}
 use Rattle.dm_tool.specs.Records.{has_foreign, is_foreign, is_large}
 use Rattle.dm_tool.specs.RecordFacts.{RecordContents, Foreign, Large, Cells, RecordFacts, AreRecordFacts, contents_of, facts_of_record}
-use Rattle.dm_tool.specs.OpenRecords.{AreContents, HoldsLines, IsRecordState, contents_seen, is_ended, line_count, rows_seen}
+use Rattle.dm_tool.specs.inner.OpenRecords.{AreContents, HoldsLines, IsRecordState, contents_seen, is_ended, line_count, rows_seen}
 use Rattle.std.proofs.lemmas.Bool.{eqb-true, eq-eqb}
 use Rattle.dm_tool.proofs.RecordSteps.{any_last, contents_passed, character_is, character_step, contents_end, no_lines, or_cases, same_facts}
 use Rattle.dm_tool.proofs.KeptRows.{seen_is}

@@ -9,7 +9,7 @@ use Rattle.dm_symbol.specs.Sizes.{largest_side}
 use Rattle.dm_tool.specs.Texts.{last_line}
 use Rattle.dm_tool.specs.Records.{is_foreign, has_foreign, is_large, rows_of}
 use Rattle.dm_tool.specs.RecordFacts.{RecordContents, Foreign, Large, Cells, RecordFacts, cells_of_lines, contents_of, differ, facts_of_record, first_length, last_length, is_nothing}
-use Rattle.dm_tool.specs.OpenRecords.{is_dark}
+use Rattle.dm_tool.specs.inner.OpenRecords.{is_dark}
 
 -- ---- what one more character does to facts
 

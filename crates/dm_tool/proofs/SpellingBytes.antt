@@ -4,7 +4,7 @@ use Rattle.dm_symbol.specs.declared.Item.{Item}
 use Rattle.dm_symbol.specs.declared.Item.TheVariants.{Byte}
 use Rattle.dm_tool.specs.Spellings.{IsHexDigit, figure, IsSpelling, plain, backslash, fnc1, byte}
 use Rattle.dm_tool.specs.LineFacts.{CanBecomeSpelling}
-use Rattle.dm_tool.specs.OpenLines.{BeginsNoSpelling}
+use Rattle.dm_tool.specs.inner.OpenLines.{BeginsNoSpelling}
 use Rattle.dm_tool.proofs.Joinings.{heads, tails}
 
 -- the bytes begin with a spelling of one of the four kinds
@@ -22,10 +22,6 @@ begins bytes piece more item e (byte s t u v hs ht p i) = with_byte s t u v more
 
 none_if : (bytes : List ℕ) → (Begins bytes → ⊥) → BeginsNoSpelling bytes
 none_if bytes never piece more item e h = never (begins bytes piece more item e h)
-
--- a byte alone has none after it
-lone : (a b : ℕ) (y : List ℕ) → a ∷ [] ≡ b ∷ y → y ≡ []
-lone a b y e = cc
 
 -- a backslash alone
 backslash_alone : Begins (92 ∷ []) → ⊥

@@ -1,9 +1,8 @@
 -- Texts that are cut between records, or between message lines, and answered part by part.
-use Rattle.std.specs.Prelude.{◌≡◌, ◌⊎◌, ◌+◌, ℕ, max, List, [], ◌∷◌, ◌++◌, Ok, Result}
+use Rattle.std.specs.Prelude.{◌≡◌, ◌⊎◌, ◌+◌, ℕ, max, List, [], ◌∷◌, ◌++◌, Ok}
 use Rattle.dm_tool.specs.declared.task.Task.{Task}
 use Rattle.dm_tool.specs.declared.task.Task.TheVariants.{Write}
 use Rattle.dm_tool.specs.declared.task.Tally.{Tally}
-use Rattle.dm_tool.specs.declared.task.RunFault.{RunFault}
 use Rattle.dm_tool.specs.Texts.{lf}
 use Rattle.dm_tool.specs.Runs.{AreMatched, IsOut, tally_of}
 use Rattle.dm_tool.specs.Endings.{IsEndingOf}

@@ -75,9 +75,9 @@ IsOut task text out tally = (answers : List Answer) × AreAllAnswers task text a
 
 -- What is written for a text that may go on: the answers to the records or lines that are closed within it, joined. For the table, whose
 -- text counts as empty, it is the table.
-abbrev pub IsDone : Task → List ℕ → List ℕ → Type 0
-IsDone Table text done = (text ≡ []) × (done ≡ table_text)
-IsDone task text done = (answers : List Answer) × AreClosedAnswers task text answers × (done ≡ written answers)
+abbrev pub IsOutSoFar : Task → List ℕ → List ℕ → Type 0
+IsOutSoFar Table text done = (text ≡ []) × (done ≡ table_text)
+IsOutSoFar task text done = (answers : List Answer) × AreClosedAnswers task text answers × (done ≡ written answers)
 
 -- ---- how it ends
 
@@ -100,13 +100,13 @@ pub record IsAnswered (task : Task) (most : ℕ) (Gave : List ℕ → Type 0) (E
   pub took : Took out
 
 -- The task reads. The source gave a text of at most `most` bytes, and exactly what is done by then was taken.
-pub record IsDoneSoFar (task : Task) (most : ℕ) (Gave Took : List ℕ → Type 0) : Type 0 where
+pub record HasWrittenOutSoFar (task : Task) (most : ℕ) (Gave Took : List ℕ → Type 0) : Type 0 where
   pub reads : task ≢ Table
   pub text : List ℕ
   pub gave : Gave text
   pub within : length text ≤ most
   pub done : List ℕ
-  pub is_done : IsDone task text done
+  pub is_done : IsOutSoFar task text done
   pub took : Took done
 
 -- The task reads. The source gave `most` bytes and one more, and exactly what is done by the first `most` was taken.
@@ -117,24 +117,24 @@ pub record IsTooMuch (task : Task) (most : ℕ) (Gave Took : List ℕ → Type 0
   pub gave : Gave (text ++ byte ∷ [])
   pub full : length text ≡ most
   pub done : List ℕ
-  pub is_done : IsDone task text done
+  pub is_done : IsOutSoFar task text done
   pub took : Took done
 
 -- A beginning was taken of what is done by a text.
-abbrev pub IsBegunDone : Task → List ℕ → (List ℕ → Type 0) → Type 0
-IsBegunDone task text TookFront = (done : List ℕ) × IsDone task text done × TookFront done
+abbrev pub HasBegunOutSoFar : Task → List ℕ → (List ℕ → Type 0) → Type 0
+HasBegunOutSoFar task text TookFront = (done : List ℕ) × IsOutSoFar task text done × TookFront done
 
 -- A beginning was taken of what is written for a text as a whole.
-abbrev pub IsBegunOut : Task → List ℕ → (List ℕ → Type 0) → Type 0
-IsBegunOut task text TookFront = (out : List ℕ) × (tally : Tally) × IsOut task text out tally × TookFront out
+abbrev pub HasBegunOut : Task → List ℕ → (List ℕ → Type 0) → Type 0
+HasBegunOut task text TookFront = (out : List ℕ) × (tally : Tally) × IsOut task text out tally × TookFront out
 
 -- The source gave a text of at most `most` bytes, and a beginning was taken of what is done by then, or, if the source had ended, of what
 -- is written for the text as a whole. Which of the sink's calls failed isn't told.
-pub record IsBroken (task : Task) (most : ℕ) (Gave : List ℕ → Type 0) (Ended : Type 0) (TookFront : List ℕ → Type 0) : Type 0 where
+pub record HasWrittenFront (task : Task) (most : ℕ) (Gave : List ℕ → Type 0) (Ended : Type 0) (TookFront : List ℕ → Type 0) : Type 0 where
   pub text : List ℕ
   pub gave : Gave text
   pub within : length text ≤ most
-  pub began : IsBegunDone task text TookFront ⊎ (HasEnded task Ended × IsBegunOut task text TookFront)
+  pub began : HasBegunOutSoFar task text TookFront ⊎ (HasEnded task Ended × HasBegunOut task text TookFront)
 
 -- Up to which byte, counted from the first, may be asked where so many were given: up to `most`, and where all of these have come one more.
 abbrev pub most_asked : ℕ → ℕ → ℕ

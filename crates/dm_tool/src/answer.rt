@@ -2,7 +2,7 @@
 ghost use Rattle.std.specs.Prelude.{◌≡◌, ◌<◌, ◌≤◌, ◌+◌, ◌∷◌, ◌++◌, [], length};
 ghost use Rattle.dm_tool.specs.Answers.{AnswersRecords, IsCheckAnswer, IsNormalAnswer, IsReadAnswer, IsRecordAnswer, IsWriteAnswer, blank_refusal_answer, check_text, grid_answer, limit_for, line_answer, refusal_answer};
 ghost use Rattle.dm_symbol.specs.Places.{outcome};
-ghost use Rattle.dm_tool.specs.OpenLines.{pointed_to};
+ghost use Rattle.dm_tool.specs.inner.OpenLines.{pointed_to};
 ghost use Rattle.dm_tool.specs.Spellings.{text_of};
 ghost use Rattle.dm_tool.specs.Refusals.{line_refusal, normal_refusal, read_refusal, record_refusal, too_long_refusal};
 

@@ -1,7 +1,7 @@
 //! Records and message lines, answered as their text comes.
 ghost use Rattle.std.specs.Prelude.{◌≡◌, ◌∷◌, ◌<◌, ◌≤◌, [], length, take, IfNone, IfSome};
 ghost use Rattle.std.specs.Bool.{OnTrue, OnFalse};
-ghost use Rattle.dm_tool.specs.Standings.{Ends, Goes, Stands, StandsAnywhere};
+ghost use Rattle.dm_tool.specs.inner.AnsweredSoFar.{EndsAnswered, Advances, IsAnsweredSoFar, HasTakenText};
 
 use crate::answer::{Answer, Places, answer_line, answer_record};
 use crate::grid_feed::GridFeed;
@@ -21,7 +21,7 @@ pub(crate) enum Answering {
 impl Answering {
     /// Nothing has come yet. None where the task has no input.
     pub(crate) fn new(task: Task) -> Option<Self>
-        ensures some { IfSome result (λ answering. Stands task answering [] []) }
+        ensures some { IfSome result (λ answering. IsAnsweredSoFar task answering [] []) }
         ensures none { IfNone result (task ≡ Task.Table) }
     {
         match task {
@@ -43,11 +43,11 @@ impl Answering {
         places: &mut Places,
         answer: &mut Answer,
     ) -> Option<usize>
-        requires { StandsAnywhere self.old }
-        ensures open { IfNone result (Goes self.old piece.now [] self.new) }
+        requires { HasTakenText self.old }
+        ensures open { IfNone result (Advances self.old piece.now [] self.new) }
         ensures some { IfSome result (λ taken. 0 < taken) }
         ensures within { IfSome result (λ taken. taken ≤ length piece.now) }
-        ensures closed { IfSome result (λ taken. Goes self.old (take taken piece.now) (answer.new ∷ []) self.new) }
+        ensures closed { IfSome result (λ taken. Advances self.old (take taken piece.now) (answer.new ∷ []) self.new) }
     {
         match self {
             Answering::Records(task, feed) => {
@@ -70,9 +70,9 @@ impl Answering {
 
     /// Whether the end of the text closes a record or a line; the answer to it is then in `answer`.
     pub(crate) fn finish(&mut self, places: &mut Places, answer: &mut Answer) -> bool
-        requires { StandsAnywhere self.old }
-        ensures none { OnFalse result (Ends self.old []) }
-        ensures last { OnTrue result (Ends self.old (answer.new ∷ [])) }
+        requires { HasTakenText self.old }
+        ensures none { OnFalse result (EndsAnswered self.old []) }
+        ensures last { OnTrue result (EndsAnswered self.old (answer.new ∷ [])) }
     {
         match self {
             Answering::Records(task, feed) => {

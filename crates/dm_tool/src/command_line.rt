@@ -8,7 +8,7 @@ ghost use Rattle.clap.specs.Values.{kind_of};
 ghost use Rattle.clap.specs.Simple.{app_of, shape_of, subcommand_of, subcommand_rows_of, new_shape, with_subcommand};
 ghost use Rattle.clap.specs.declared.builder.command.Command.TheViews.{out-Command};
 ghost use Rattle.dm_tool.specs.CommandLine.{GivesLimit, GivesProfile, IsTaskOf, NamesTask, border_rule, dm_app, shorter_rule, texts_of, top_app, with_border as bordered, with_both as both, with_shorter as shortened};
-ghost use Rattle.dm_tool.specs.CommandReads.{HasNoTask, IsReadable};
+ghost use Rattle.dm_tool.specs.inner.CommandReads.{HasNoTask, IsReadable};
 
 use crate::task::{CallFault, Task};
 use clap::error::ErrorKind;

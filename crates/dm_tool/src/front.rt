@@ -4,7 +4,7 @@ ghost use Rattle.std.specs.Simd.Lanes.{mask_l};
 ghost use Rattle.std.specs.List.{prefix_len};
 ghost use Rattle.std.specs.Int.Bits.{bit_or};
 ghost use Rattle.dm_tool.specs.Records.{is_foreign};
-ghost use Rattle.dm_tool.specs.OpenRecords.{AreCells, IsFrontOf, is_dark};
+ghost use Rattle.dm_tool.specs.inner.OpenRecords.{AreCells, IsFrontOf, is_dark};
 
 use std::simd::prelude::*;
 

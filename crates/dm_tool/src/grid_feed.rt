@@ -1,8 +1,7 @@
 //! Grids from pieces of a text.
-ghost use Rattle.std.specs.Prelude.{◌≡◌, ◌≢◌, ◌∷◌, ◌++◌, [], ℕ, List, IfNone, IfSome, length};
-ghost use Rattle.dm_tool.specs.Texts.{last_line};
-ghost use Rattle.dm_tool.specs.Records.{AreLfs, record_of};
-ghost use Rattle.dm_tool.specs.RecordFacts.{AreRecordFacts, facts_of_record};
+ghost use Rattle.std.specs.Prelude.{◌≡◌, [], ℕ, List, IfNone, IfSome, length};
+ghost use Rattle.dm_tool.specs.Records.{AreLfs};
+ghost use Rattle.dm_tool.specs.RecordFacts.{AreRecordFacts};
 ghost use Rattle.dm_tool.specs.RecordFeeds.{ClosesRecord, IsLastRecord, LeavesRecordOpen};
 ghost use Rattle.dm_symbol.specs.Places.{outcome};
 
@@ -58,15 +57,16 @@ impl GridFeed {
         ensures closed { IfSome result.closed (λ answer. ClosesRecord self.old piece.now result.taken answer self.new) }
         ensures some_text { (text : List ℕ) × AreRecordFacts text self.old }
     {
-        let Some(end) = self.record.take(piece) else {
+        let mut grid = light_grid();
+        let Some((taken, found)) = self.feed_to(piece, &mut grid) else {
             return Fed {
                 taken: piece.len(),
                 closed: None,
             };
         };
         Fed {
-            taken: end + 1,
-            closed: Some(self.close()),
+            taken,
+            closed: Some(with_grid(found, grid)),
         }
     }
 
@@ -77,10 +77,11 @@ impl GridFeed {
         ensures empty { AreRecordFacts [] self.new }
         ensures some_text { (text : List ℕ) × AreRecordFacts text self.old }
     {
-        if self.record.is_empty() {
+        let mut grid = light_grid();
+        let Some(found) = self.finish_to(&mut grid) else {
             return None;
-        }
-        Some(self.close())
+        };
+        Some(with_grid(found, grid))
     }
 
     /// Takes bytes as [`GridFeed::feed`] does, with the grid in a place that is handed in: how many, where they close a record, and its
@@ -92,6 +93,7 @@ impl GridFeed {
     ) -> Option<(usize, Result<(), RecordFault>)>
         ensures open { IfNone result (LeavesRecordOpen self.old piece.now (length piece.now) self.new) }
         ensures closed { IfSome result (λ fed. ClosesRecord self.old piece.now fed.0 (outcome fed.1 grid.new) self.new) }
+        ensures some_text { (text : List ℕ) × AreRecordFacts text self.old }
     {
         let Some(end) = self.record.take(piece) else {
             return None;
@@ -103,23 +105,22 @@ impl GridFeed {
     pub(crate) fn finish_to(&mut self, grid: &mut Grid) -> Option<Result<(), RecordFault>>
         ensures none { IfNone result ((text : List ℕ) → AreRecordFacts text self.old → AreLfs text) }
         ensures last { IfSome result (λ found. (text : List ℕ) → AreRecordFacts text self.old → IsLastRecord text (outcome found grid.new)) }
+        ensures empty { AreRecordFacts [] self.new }
+        ensures some_text { (text : List ℕ) × AreRecordFacts text self.old }
     {
         if self.record.is_empty() {
             return None;
         }
         Some(self.record.close_to(grid))
     }
+}
 
-    /// The record ends, and none stands open.
-    fn close(&mut self) -> Result<Grid, RecordFault>
-        ensures answer { (lines : List (List ℕ)) (rest : List ℕ) → self.old ≡ facts_of_record lines rest
-            → result ≡ record_of (lines ++ last_line rest) }
-        ensures empty { AreRecordFacts [] self.new }
-    {
-        let mut grid = light_grid();
-        match self.record.close_to(&mut grid) {
-            Ok(()) => Ok(grid),
-            Err(fault) => Err(fault),
-        }
+/// What a record comes to, with the grid from its place.
+fn with_grid(found: Result<(), RecordFault>, grid: Grid) -> Result<Grid, RecordFault>
+    ensures { result ≡ outcome found grid }
+{
+    match found {
+        Ok(()) => Ok(grid),
+        Err(fault) => Err(fault),
     }
 }

@@ -14,7 +14,7 @@ ghost use Rattle.dm_tool.specs.RecordFeeds.{AreRecordsFed, AreRecordsOfText, Rec
 ghost use Rattle.dm_tool.specs.declared.task.Task.{Task};
 ghost use Rattle.dm_tool.specs.declared.task.Task.TheVariants.{Table};
 ghost use Rattle.dm_tool.specs.declared.task.Tally.{Tally};
-ghost use Rattle.dm_tool.specs.Runs.{IsDone, IsOut};
+ghost use Rattle.dm_tool.specs.Runs.{IsOutSoFar, IsOut};
 ghost use Rattle.dm_tool.specs.LineFeeds.{AreLinesFed, AreOfText, LineAnswer};
 
 pub mod cuts;
@@ -51,14 +51,14 @@ pub fn record_cuts_change_nothing()
 /// written for a text that may go on.
 pub fn one_text_is_written()
     ensures out { (task : Task) (text a b : List ℕ) (s t : Tally) → IsOut task text a s → IsOut task text b t → (a ≡ b) × (s ≡ t) }
-    ensures done { (task : Task) (text a b : List ℕ) → IsDone task text a → IsDone task text b → a ≡ b }
+    ensures done { (task : Task) (text a b : List ℕ) → IsOutSoFar task text a → IsOutSoFar task text b → a ≡ b }
 {}
 
 /// Something is written for each text as a whole, and there is a tally of it; so it is for each text that may
 /// go on. With what [`one_text_is_written`] says, it is exactly one thing. For the table the text counts as empty.
 pub fn each_text_is_written()
     ensures out { (task : Task) (text : List ℕ) → (task ≡ Table → text ≡ []) → (out : List ℕ) × (tally : Tally) × IsOut task text out tally }
-    ensures done { (task : Task) (text : List ℕ) → (task ≡ Table → text ≡ []) → (done : List ℕ) × IsDone task text done }
+    ensures done { (task : Task) (text : List ℕ) → (task ≡ Table → text ≡ []) → (done : List ℕ) × IsOutSoFar task text done }
 {}
 
 /// Each line means something: a message, or a fault; and only one thing.

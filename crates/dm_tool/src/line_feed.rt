@@ -3,7 +3,7 @@ ghost use Rattle.std.specs.Prelude.{◌≡◌, ◌∷◌, [], ℕ, List, IfNone,
 ghost use Rattle.dm_tool.specs.MessageLines.{IsLine};
 ghost use Rattle.dm_tool.specs.LineFacts.{AreLineFacts};
 ghost use Rattle.dm_tool.specs.LineFeeds.{ClosesLine, LeavesLineOpen};
-ghost use Rattle.dm_tool.specs.OpenLines.{EndsLine, pointed_to};
+ghost use Rattle.dm_tool.specs.inner.OpenLines.{EndsLine, pointed_to};
 
 use crate::message_line::LineFault;
 use crate::open_line::OpenLine;
@@ -57,14 +57,14 @@ impl LineFeed {
         ensures closed { IfSome result.closed (λ line. ClosesLine self.old piece.now result.taken line self.new) }
         ensures some_line { (line : List ℕ) × AreLineFacts line self.old }
     {
-        let Some(end) = self.line.take_to_lf(piece) else {
+        let Some(taken) = self.take_line(piece) else {
             return LineFed {
                 taken: piece.len(),
                 closed: None,
             };
         };
         LineFed {
-            taken: end + 1,
+            taken,
             closed: Some(self.close()),
         }
     }
@@ -99,6 +99,7 @@ impl LineFeed {
     pub(crate) fn take_line(&mut self, piece: &[u8]) -> Option<usize>
         ensures open { IfNone result (LeavesLineOpen self.old piece.now (length piece.now) self.new) }
         ensures ends { IfSome result (λ taken. EndsLine self.old piece.now taken self.new) }
+        ensures some_line { (line : List ℕ) × AreLineFacts line self.old }
     {
         let Some(end) = self.line.take_to_lf(piece) else {
             return None;

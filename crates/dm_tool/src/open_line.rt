@@ -4,7 +4,7 @@ ghost use Rattle.std.specs.List.{AllByRecursion};
 ghost use Rattle.dm_tool.specs.MessageLines.{IsLine};
 ghost use Rattle.dm_tool.specs.Texts.{HasNoLf, IsFirstLf};
 ghost use Rattle.dm_tool.specs.LineFacts.{AreLineFacts, kept};
-ghost use Rattle.dm_tool.specs.OpenLines.{IsPlain, pointed_to};
+ghost use Rattle.dm_tool.specs.inner.OpenLines.{IsPlain, pointed_to};
 ghost use Rattle.dm_symbol.specs.declared.Item.{Item as AnItem};
 
 use crate::message_line::LineFault;
@@ -38,7 +38,7 @@ pub(crate) struct OpenLine {
 
 impl Model for OpenLine {
     ghost use Rattle.dm_tool.specs.LineFacts.{LineFacts};
-    ghost use Rattle.dm_tool.specs.OpenLines.{facts_of};
+    ghost use Rattle.dm_tool.specs.inner.OpenLines.{facts_of};
 
     ghost Value = { LineFacts };
 
@@ -164,7 +164,7 @@ impl OpenLine {
 
 impl GoodLine {
     ghost use Rattle.dm_tool.specs.LineFacts.{IsGoodLine};
-    ghost use Rattle.dm_tool.specs.OpenLines.{pending_bytes};
+    ghost use Rattle.dm_tool.specs.inner.OpenLines.{pending_bytes};
 
     /// The empty line.
     fn new() -> Self

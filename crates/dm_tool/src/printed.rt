@@ -2,7 +2,7 @@
 ghost use Rattle.std.specs.Prelude.{◌≡◌, ◌≤◌, ◌<◌, ◌++◌, ◌∷◌, [], ◌+◌, ◌*◌, get_or, length, map};
 ghost use Rattle.std.specs.Fmt.{decimal};
 ghost use Rattle.dm_tool.specs.Answers.{character_of, grid_text, spaced};
-ghost use Rattle.dm_tool.specs.OpenRecords.{cells_in};
+ghost use Rattle.dm_tool.specs.inner.OpenRecords.{cells_in};
 
 use arrayvec::ArrayVec;
 use dm_symbol::{Grid, LARGEST_SIDE};

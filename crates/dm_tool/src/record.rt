@@ -4,7 +4,7 @@ ghost use Rattle.std.specs.Bool.{OnTrue, OnFalse};
 ghost use Rattle.dm_tool.specs.Records.{IsClosedRecord, is_foreign, record_of};
 ghost use Rattle.dm_tool.specs.RecordFacts.{AreRecordFacts, facts_of_record};
 ghost use Rattle.dm_tool.specs.Texts.{last_line};
-ghost use Rattle.dm_tool.specs.OpenRecords.{AreCells, EndsAt};
+ghost use Rattle.dm_tool.specs.inner.OpenRecords.{AreCells, EndsAt};
 ghost use Rattle.dm_symbol.specs.Places.{outcome};
 
 use crate::front::Front;
@@ -44,7 +44,7 @@ pub(crate) struct OpenRecord {
 
 impl Model for OpenRecord {
     ghost use Rattle.dm_tool.specs.RecordFacts.{RecordFacts};
-    ghost use Rattle.dm_tool.specs.OpenRecords.{IsRecordState, contents_seen};
+    ghost use Rattle.dm_tool.specs.inner.OpenRecords.{IsRecordState, contents_seen};
 
     ghost Value = { RecordFacts };
 

@@ -1,7 +1,7 @@
 //! The lines of a record, as rows of cells.
 ghost use Rattle.std.specs.Prelude.{◌≡◌, ◌≢◌, ◌∷◌, ◌++◌, ◌↔◌, [], ℕ, Bool, true, false, List, IsTrue};
 ghost use Rattle.dm_tool.specs.Records.{record_of};
-ghost use Rattle.dm_tool.specs.OpenRecords.{AreCells, Continues, HoldsLines, is_ended, line_count};
+ghost use Rattle.dm_tool.specs.inner.OpenRecords.{AreCells, Continues, HoldsLines, is_ended, line_count};
 ghost use Rattle.dm_tool.specs.Texts.{last_line};
 ghost use Rattle.dm_symbol.specs.Places.{outcome};
 

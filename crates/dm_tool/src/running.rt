@@ -3,8 +3,8 @@ ghost use Rattle.std.specs.Prelude.{◌≡◌, ◌≤◌, ◌<◌, ◌+◌, ◌-
 ghost use Rattle.std.specs.Io.KnownBytes.{Appends};
 ghost use Rattle.dm_tool.specs.Answers.{Answer as AnAnswer, table_text};
 ghost use Rattle.dm_tool.specs.Devices.{AppendsFront, Counts, HasRisen, IsFlushedOnce, IsPassedOn};
-ghost use Rattle.dm_tool.specs.Runs.{IsAnswered, IsBroken, IsDoneSoFar, IsFlushedAtEnd, IsTooMuch, most_asked, tally_of, written};
-ghost use Rattle.dm_tool.specs.Standings.{Ends, Goes, IsBegun, StandsAnywhere};
+ghost use Rattle.dm_tool.specs.Runs.{IsAnswered, HasWrittenFront, HasWrittenOutSoFar, IsFlushedAtEnd, IsTooMuch, most_asked, tally_of, written};
+ghost use Rattle.dm_tool.specs.inner.AnsweredSoFar.{EndsAnswered, Advances, HasBegunAnswers, HasTakenText};
 
 use crate::answer::{Answer, Places};
 use crate::answering::Answering;
@@ -37,7 +37,7 @@ pub fn run<I: Source, O: Sink>(
         (Appends (O.contents sink.old) (O.contents sink.new)) tally) }
     ensures flushed { OnOk result (O.is_pending sink.new ≡ false) }
     ensures well { OnOk result ((I.failed source.new ≡ I.failed source.old) × (O.failed sink.new ≡ O.failed sink.old)) }
-    ensures read { IsErrOf result RunFault.Read → IsDoneSoFar task most (I.gave source.old source.new)
+    ensures read { IsErrOf result RunFault.Read → HasWrittenOutSoFar task most (I.gave source.old source.new)
         (Appends (O.contents sink.old) (O.contents sink.new)) }
     ensures read_failed { IsErrOf result RunFault.Read → HasRisen (I.failed source.old) (I.failed source.new)
         × (O.failed sink.new ≡ O.failed sink.old) }
@@ -45,7 +45,7 @@ pub fn run<I: Source, O: Sink>(
         (Appends (O.contents sink.old) (O.contents sink.new)) }
     ensures too_much_well { IsErrOf result RunFault.TooMuchInput → (I.failed source.new ≡ I.failed source.old)
         × (O.failed sink.new ≡ O.failed sink.old) }
-    ensures write { IsErrOf result RunFault.Write → IsBroken task most (I.gave source.old source.new) (I.ended source.new)
+    ensures write { IsErrOf result RunFault.Write → HasWrittenFront task most (I.gave source.old source.new) (I.ended source.new)
         (AppendsFront (O.contents sink.old) (O.contents sink.new)) }
     ensures write_failed { IsErrOf result RunFault.Write → HasRisen (O.failed sink.old) (O.failed sink.new)
         × (I.failed source.new ≡ I.failed source.old) }
@@ -175,13 +175,13 @@ fn answer_piece<O: Sink>(
     answer: &mut Answer,
     gathered: &mut Gathered,
 ) -> Result<(), Failed>
-    requires stands { StandsAnywhere answering.old }
+    requires stands { HasTakenText answering.old }
     requires room { tally.old.answered + tally.old.refused + length piece.now < 2 ^ 64 }
-    ensures ok { OnOk result ((more : List AnAnswer) × Goes answering.old piece.now more answering.new
+    ensures ok { OnOk result ((more : List AnAnswer) × Advances answering.old piece.now more answering.new
         × Appends (O.contents sink.old) (O.contents sink.new) (written more)
         × ((answers : List AnAnswer) → tally.old ≡ tally_of answers → tally.new ≡ tally_of (answers ++ more))) }
     ensures sum { OnOk result (tally.new.answered + tally.new.refused ≤ tally.old.answered + tally.old.refused + length piece.now) }
-    ensures err { OnErr result (IsBegun answering.old piece.now (AppendsFront (O.contents sink.old) (O.contents sink.new))) }
+    ensures err { OnErr result (HasBegunAnswers answering.old piece.now (AppendsFront (O.contents sink.old) (O.contents sink.new))) }
     ensures unflushed { O.flushed sink.old sink.new [] }
     ensures count { Counts (O.failed sink.old) (O.failed sink.new) result }
 {
@@ -232,17 +232,17 @@ fn end<O: Sink>(
     places: &mut Places,
     answer: &mut Answer,
 ) -> Result<(), Failed>
-    requires stands { StandsAnywhere answering.old }
+    requires stands { HasTakenText answering.old }
     requires room { tally.old.answered + tally.old.refused + 1 < 2 ^ 64 }
-    ensures ok { OnOk result ((last : List AnAnswer) × Ends answering.old last
+    ensures ok { OnOk result ((last : List AnAnswer) × EndsAnswered answering.old last
         × Appends (O.contents sink.old) (O.contents sink.new) (written last)
         × ((answers : List AnAnswer) → tally.old ≡ tally_of answers → tally.new ≡ tally_of (answers ++ last))) }
     ensures flushed { OnOk result (O.is_pending sink.new ≡ false) }
-    ensures err { OnErr result ((last : List AnAnswer) × Ends answering.old last
+    ensures err { OnErr result ((last : List AnAnswer) × EndsAnswered answering.old last
         × AppendsFront (O.contents sink.old) (O.contents sink.new) (written last)) }
     ensures held { OnOk result (IsFlushedOnce (O.flushed sink.old sink.new) (O.contents sink.old) (O.contents sink.new)) }
     ensures late { OnErr result (O.flushed sink.old sink.new [] ⊎ (IsFlushedOnce (O.flushed sink.old sink.new) (O.contents sink.old) (O.contents sink.new)
-        × ((last : List AnAnswer) × Ends answering.old last × Appends (O.contents sink.old) (O.contents sink.new) (written last)
+        × ((last : List AnAnswer) × EndsAnswered answering.old last × Appends (O.contents sink.old) (O.contents sink.new) (written last)
         × ((answers : List AnAnswer) → tally.old ≡ tally_of answers → tally.new ≡ tally_of (answers ++ last))))) }
     ensures count { Counts (O.failed sink.old) (O.failed sink.new) result }
 {
@@ -260,12 +260,12 @@ fn put_last<O: Sink>(
     places: &mut Places,
     answer: &mut Answer,
 ) -> Result<(), Failed>
-    requires stands { StandsAnywhere answering.old }
+    requires stands { HasTakenText answering.old }
     requires room { tally.old.answered + tally.old.refused + 1 < 2 ^ 64 }
-    ensures ok { OnOk result ((last : List AnAnswer) × Ends answering.old last
+    ensures ok { OnOk result ((last : List AnAnswer) × EndsAnswered answering.old last
         × Appends (O.contents sink.old) (O.contents sink.new) (written last)
         × ((answers : List AnAnswer) → tally.old ≡ tally_of answers → tally.new ≡ tally_of (answers ++ last))) }
-    ensures err { OnErr result ((last : List AnAnswer) × Ends answering.old last
+    ensures err { OnErr result ((last : List AnAnswer) × EndsAnswered answering.old last
         × AppendsFront (O.contents sink.old) (O.contents sink.new) (written last)) }
     ensures unflushed { O.flushed sink.old sink.new [] }
     ensures count { Counts (O.failed sink.old) (O.failed sink.new) result }

@@ -1,7 +1,7 @@
 //! The spellings of items, byte by byte.
 ghost use Rattle.std.specs.Prelude.{◌≡◌, ◌∷◌, ◌++◌, [], ℕ, IfNone, IfSome, length};
 ghost use Rattle.dm_tool.specs.Spellings.{IsHexDigit};
-ghost use Rattle.dm_tool.specs.OpenLines.{IsNext, pending_bytes};
+ghost use Rattle.dm_tool.specs.inner.OpenLines.{IsNext, pending_bytes};
 
 use dm_symbol::Item;
 

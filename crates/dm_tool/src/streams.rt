@@ -2,7 +2,7 @@
 ghost use Rattle.std.specs.Prelude.{◌≡◌, ◌^◌, [], ℕ, false, List, IfOk, OnOk, IsErrOf, length};
 ghost use Rattle.std.specs.Io.KnownBytes.{Appends};
 ghost use Rattle.dm_tool.specs.Devices.{AppendsFront, HasRisen, IsFlushedOnce};
-ghost use Rattle.dm_tool.specs.Runs.{IsAnswered, IsBroken, IsDoneSoFar, IsFlushedAtEnd, IsTooMuch, most_asked};
+ghost use Rattle.dm_tool.specs.Runs.{IsAnswered, HasWrittenFront, HasWrittenOutSoFar, IsFlushedAtEnd, IsTooMuch, most_asked};
 
 use crate::running::run;
 use crate::sink::Sink;
@@ -22,7 +22,7 @@ pub fn run_streams<I: Source, O: Sink>(
         (Appends (O.contents sink.old) (O.contents sink.new)) tally) }
     ensures flushed { OnOk result (O.is_pending sink.new ≡ false) }
     ensures well { OnOk result ((I.failed source.new ≡ I.failed source.old) × (O.failed sink.new ≡ O.failed sink.old)) }
-    ensures read { IsErrOf result RunFault.Read → IsDoneSoFar task (2 ^ 30) (I.gave source.old source.new)
+    ensures read { IsErrOf result RunFault.Read → HasWrittenOutSoFar task (2 ^ 30) (I.gave source.old source.new)
         (Appends (O.contents sink.old) (O.contents sink.new)) }
     ensures read_failed { IsErrOf result RunFault.Read → HasRisen (I.failed source.old) (I.failed source.new)
         × (O.failed sink.new ≡ O.failed sink.old) }
@@ -30,7 +30,7 @@ pub fn run_streams<I: Source, O: Sink>(
         (Appends (O.contents sink.old) (O.contents sink.new)) }
     ensures too_much_well { IsErrOf result RunFault.TooMuchInput → (I.failed source.new ≡ I.failed source.old)
         × (O.failed sink.new ≡ O.failed sink.old) }
-    ensures write { IsErrOf result RunFault.Write → IsBroken task (2 ^ 30) (I.gave source.old source.new) (I.ended source.new)
+    ensures write { IsErrOf result RunFault.Write → HasWrittenFront task (2 ^ 30) (I.gave source.old source.new) (I.ended source.new)
         (AppendsFront (O.contents sink.old) (O.contents sink.new)) }
     ensures write_failed { IsErrOf result RunFault.Write → HasRisen (O.failed sink.old) (O.failed sink.new)
         × (I.failed source.new ≡ I.failed source.old) }

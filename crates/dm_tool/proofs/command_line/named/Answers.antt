@@ -4,7 +4,7 @@ use Rattle.clap.specs.Matches.{found_of}
 use Rattle.clap.specs.Simple.{subcommand_rows_of}
 use Rattle.clap.specs.Walk.{Row, Text, rows_of}
 use Rattle.dm_tool.specs.CommandLine.{IsTaskOf}
-use Rattle.dm_tool.specs.CommandReads.{IsReadable}
+use Rattle.dm_tool.specs.inner.CommandReads.{IsReadable}
 use Rattle.dm_tool.proofs.CommandTasks.{unwrapped}
 use Rattle.dm_tool.proofs.command_line.named.Goals as goal
 

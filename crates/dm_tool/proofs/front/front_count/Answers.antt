@@ -1,4 +1,4 @@
-use Rattle.std.proofs.Common.{◌≡◌, ◌∙◌, ◌%◌, ◌^◌, ℕ, List, Bool, true, false, not, cond, map, replicate, length, refl, sym, ap, w8, eqb, eqb-true, bit_or, arith}
+use Rattle.std.proofs.Common.{◌≡◌, ◌∙◌, ℕ, List, Bool, true, false, not, cond, map, replicate, length, refl, sym, ap, w8, eqb, eqb-true, bit_or, arith}
 use Rattle.std.specs.List.{prefix_len}
 use Rattle.std.specs.Simd.Lanes.{mask_l}
 use Rattle.std.proofs.lemmas.Simd.{bitmask_splat, first_set_mask_l, length-zip2, zip2_splat, map-map}

@@ -1,4 +1,3 @@
-use Rattle.std.proofs.Common.{refl}
 use Rattle.dm_tool.proofs.KnownBytes.{passed_and_kept}
 use Rattle.dm_tool.proofs.gathering.gather.Goals as goal
 

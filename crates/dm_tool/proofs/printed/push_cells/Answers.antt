@@ -1,7 +1,6 @@
-use Rattle.std.proofs.Common.{◌≡◌, ◌∙◌, ◌+◌, ◌/◌, ◌^◌, ◌≤◌, ◌++◌, bit_and, ℕ, List, ap, length, length-append, map, min, sym, take, arith}
-use Rattle.std.proofs.lemmas.List.{length-take-le}
+use Rattle.std.proofs.Common.{◌∙◌, ◌/◌, ◌^◌, ◌≤◌, ◌++◌, bit_and, ℕ, List, ap, length, length-append, map, take, arith}
 use Rattle.dm_tool.specs.Answers.{character_of}
-use Rattle.dm_tool.specs.OpenRecords.{cells_in}
+use Rattle.dm_tool.specs.inner.OpenRecords.{cells_in}
 use Rattle.dm_tool.proofs.PrintedCells.{cells_long, few_long, more_cells}
 use Rattle.dm_tool.proofs.printed.push_cells.Goals as goal
 

@@ -1,6 +1,6 @@
 use Rattle.std.proofs.Common.{◌≡◌, ◌≤◌, ◌-◌, ◌++◌, map}
 use Rattle.dm_tool.specs.Answers.{character_of}
-use Rattle.dm_tool.specs.OpenRecords.{cells_in}
+use Rattle.dm_tool.specs.inner.OpenRecords.{cells_in}
 use Rattle.dm_tool.proofs.printed.push_cells.Given as goal
 
 abbrev pub invariant-loop-column : goal.invariant-loop-column

@@ -1,6 +1,6 @@
 use Rattle.std.proofs.Common.{◌≡◌, ◌∙◌, ◌++◌, ◌∷◌, [], Bool, List, ℕ, ap, get_or, length, length-append, map, arith}
 use Rattle.dm_tool.specs.Answers.{character_of}
-use Rattle.dm_tool.specs.OpenRecords.{cells_in}
+use Rattle.dm_tool.specs.inner.OpenRecords.{cells_in}
 use Rattle.dm_tool.proofs.PrintedCells.{cells_long, row_is}
 use Rattle.dm_tool.proofs.printed.push_row.Goals as goal
 

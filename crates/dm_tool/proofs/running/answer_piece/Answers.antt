@@ -2,12 +2,12 @@ use Rattle.std.proofs.Common.{◌≡◌, ◌∙◌, ◌∷◌, ◌++◌, [], Lis
 use Rattle.dm_tool.specs.Answers.{Answer}
 use Rattle.dm_tool.specs.Devices.{Counts, HasRisen, IsPassedOn}
 use Rattle.dm_tool.specs.Runs.{AreClosedAnswers, tally_of, written}
-use Rattle.dm_tool.specs.Standings.{Goes}
+use Rattle.dm_tool.specs.inner.AnsweredSoFar.{Advances}
 use Rattle.dm_tool.proofs.GoingOn.{goes_on}
 use Rattle.dm_tool.proofs.KnownBytes.{passed_and_begun, passed_none, passed_then}
 use Rattle.dm_tool.proofs.Outcomes.{written_append}
 use Rattle.dm_tool.proofs.Pieces.{cut_again, cut_here, rest_length}
-use Rattle.dm_tool.proofs.Standings.{gathered_put, goes_anywhere, goes_nowhere, goes_then, on_err, on_ok, stands_closed, written_one}
+use Rattle.dm_tool.proofs.AnsweredSoFar.{gathered_put, advances_from_text, advances_nowhere, advances_then, on_err, on_ok, so_far_closed, written_one}
 use Rattle.dm_tool.proofs.running.answer_piece.Goals as goal
 
 pub loop-sink-init : goal.loop-sink-init
@@ -19,7 +19,7 @@ loop-sink-init g c = record {
     [],
     [],
     refl,
-    goes_nowhere c.args.answering.now,
+    advances_nowhere c.args.answering.now,
     subst (IsPassedOn (g.O.Sink.contents c.args.sink.now) [] [] (g.O.Sink.contents c.args.sink.now)) (sym c.clear.ensures) (passed_none (g.O.Sink.contents c.args.sink.now) []),
     λ answers counted. counted ∙ ap tally_of (sym (append-nil answers)),
   );
@@ -28,17 +28,17 @@ loop-sink-init g c = record {
 pub feed-requires : goal.feed-requires
 feed-requires g c =
     let s = c.loop-sink.invariant.so_far in
-    goes_anywhere c.args.answering.now c.loop-sink.answering s.0 s.1 c.requires.stands s.3
+    advances_from_text c.args.answering.now c.loop-sink.answering s.0 s.1 c.requires.stands s.3
 
 pub returns-in-None-clause-ok : goal.returns-in-None-clause-ok
 returns-in-None-clause-ok g c =
     let s = c.loop-sink.invariant.so_far in
-    let all = goes_then c.args.answering.now c.loop-sink.answering c.feed.new.self s.0 c.loop-sink.rest.now s.1 [] s.3 c.in-None.ensures.«open» in
-    let whole = subst (λ l. Goes c.args.answering.now l (s.1 ++ []) c.feed.new.self) (sym s.2) all in
-    gathered_put (λ more. Goes c.args.answering.now c.args.piece.now more c.feed.new.self)
+    let all = advances_then c.args.answering.now c.loop-sink.answering c.feed.new.self s.0 c.loop-sink.rest.now s.1 [] s.3 c.in-None.ensures.«open» in
+    let whole = subst (λ l. Advances c.args.answering.now l (s.1 ++ []) c.feed.new.self) (sym s.2) all in
+    gathered_put (λ more. Advances c.args.answering.now c.args.piece.now more c.feed.new.self)
     (λ more. (answers : List Answer) → c.args.tally.now ≡ tally_of answers → c.loop-sink.tally ≡ tally_of (answers ++ more)) c.put_gathered.result
     (g.O.Sink.contents c.args.sink.now) (g.O.Sink.contents c.loop-sink.sink) (g.O.Sink.contents c.put_gathered.new.sink) s.1 c.loop-sink.gathered.items
-    (subst (λ m. Goes c.args.answering.now c.args.piece.now m c.feed.new.self) (append-nil s.1) whole) s.5 s.4 c.put_gathered.ensures.ok
+    (subst (λ m. Advances c.args.answering.now c.args.piece.now m c.feed.new.self) (append-nil s.1) whole) s.5 s.4 c.put_gathered.ensures.ok
 
 pub returns-in-None-clause-sum : goal.returns-in-None-clause-sum
 returns-in-None-clause-sum g c = on_ok c.put_gathered.result _ (omega (arith, c.loop-sink.invariant.sum))
@@ -46,11 +46,11 @@ returns-in-None-clause-sum g c = on_ok c.put_gathered.result _ (omega (arith, c.
 pub returns-in-None-clause-err : goal.returns-in-None-clause-err
 returns-in-None-clause-err g c = on_err c.put_gathered.result _ _ c.put_gathered.ensures.err (λ begun task text given stands.
     let s = c.loop-sink.invariant.so_far in
-    let all = goes_then c.args.answering.now c.loop-sink.answering c.feed.new.self s.0 c.loop-sink.rest.now s.1 [] s.3 c.in-None.ensures.«open» in
-    let whole = subst (λ l. Goes c.args.answering.now l (s.1 ++ []) c.feed.new.self) (sym s.2) all in
-    let goes = subst (λ m. Goes c.args.answering.now c.args.piece.now m c.feed.new.self) (append-nil s.1) whole in (
+    let all = advances_then c.args.answering.now c.loop-sink.answering c.feed.new.self s.0 c.loop-sink.rest.now s.1 [] s.3 c.in-None.ensures.«open» in
+    let whole = subst (λ l. Advances c.args.answering.now l (s.1 ++ []) c.feed.new.self) (sym s.2) all in
+    let goes = subst (λ m. Advances c.args.answering.now c.args.piece.now m c.feed.new.self) (append-nil s.1) whole in (
       s.1,
-      stands_closed task c.feed.new.self (text ++ c.args.piece.now) (given ++ s.1) (goes task text given stands),
+      so_far_closed task c.feed.new.self (text ++ c.args.piece.now) (given ++ s.1) (goes task text given stands),
       passed_and_begun (g.O.Sink.contents c.args.sink.now) (g.O.Sink.contents c.loop-sink.sink) (g.O.Sink.contents c.put_gathered.new.sink) (written s.1)
           c.loop-sink.gathered.items [] (written s.1) s.4 begun (sym (append-nil (written s.1))),
     ))
@@ -71,7 +71,7 @@ returns-in-Err-clause-err g c task text given stands =
     let rest = c.loop-sink.rest.now in
     let front = s.0 ++ take c.in-Some.taken rest in
     let answers = s.1 ++ c.feed.new.answer ∷ [] in
-    let here = goes_then c.args.answering.now c.loop-sink.answering c.feed.new.self s.0 (take c.in-Some.taken rest) s.1 (c.feed.new.answer ∷ []) s.3 c.in-Some.ensures.closed in
+    let here = advances_then c.args.answering.now c.loop-sink.answering c.feed.new.self s.0 (take c.in-Some.taken rest) s.1 (c.feed.new.answer ∷ []) s.3 c.in-Some.ensures.closed in
     let later = goes_on task c.feed.new.self (text ++ front) (drop c.in-Some.taken rest) (given ++ answers) (here task text given stands) in
     let whole = append_assoc text front (drop c.in-Some.taken rest) ∙ ap (λ l. text ++ l) (sym (cut_here c.args.piece.now s.0 rest c.in-Some.taken s.2)) in
     let all = subst (λ l. AreClosedAnswers task l ((given ++ answers) ++ later.0)) whole later.1 in
@@ -103,7 +103,7 @@ loop-sink-preserved g c =
         s.0 ++ take c.in-Some.taken rest,
         s.1 ++ c.feed.new.answer ∷ [],
         cut_again c.args.piece.now s.0 rest c.in-Some.taken s.2,
-        goes_then c.args.answering.now c.loop-sink.answering c.feed.new.self s.0 (take c.in-Some.taken rest) s.1 (c.feed.new.answer ∷ []) s.3 c.in-Some.ensures.closed,
+        advances_then c.args.answering.now c.loop-sink.answering c.feed.new.self s.0 (take c.in-Some.taken rest) s.1 (c.feed.new.answer ∷ []) s.3 c.in-Some.ensures.closed,
         subst (λ bytes. IsPassedOn (g.O.Sink.contents c.args.sink.now) [] bytes (g.O.Sink.contents c.gather_answer.new.sink) c.gather_answer.new.gathered.items)
             (sym (written_append s.1 (c.feed.new.answer ∷ []) ∙ ap (λ l. written s.1 ++ l) (written_one c.feed.new.answer)))
             (passed_then (g.O.Sink.contents c.args.sink.now) (g.O.Sink.contents c.loop-sink.sink) (g.O.Sink.contents c.gather_answer.new.sink) [] c.loop-sink.gathered.items

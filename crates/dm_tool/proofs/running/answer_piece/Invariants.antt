@@ -2,7 +2,7 @@ use Rattle.std.proofs.Common.{◌≡◌, ◌≤◌, ◌+◌, ◌++◌, [], List,
 use Rattle.dm_tool.specs.Answers.{Answer}
 use Rattle.dm_tool.specs.Devices.{IsPassedOn}
 use Rattle.dm_tool.specs.Runs.{tally_of, written}
-use Rattle.dm_tool.specs.Standings.{Goes}
+use Rattle.dm_tool.specs.inner.AnsweredSoFar.{Advances}
 use Rattle.dm_tool.proofs.running.answer_piece.Given as goal
 
 abbrev pub invariant-loop-sink : goal.invariant-loop-sink
@@ -10,7 +10,7 @@ invariant-loop-sink g l = record {
   wrote_well : g.O.Sink.failed l.sink ≡ g.O.Sink.failed l.initial.sink;
   unflushed : g.O.Sink.flushed l.fn.sink l.sink [];
   sum : l.tally.answered + l.tally.refused + length l.rest ≤ l.fn.tally.answered + l.fn.tally.refused + length l.fn.piece;
-  so_far : (front : List ℕ) × (more : List Answer) × (l.fn.piece ≡ front ++ l.rest) × Goes l.fn.answering front more l.answering
+  so_far : (front : List ℕ) × (more : List Answer) × (l.fn.piece ≡ front ++ l.rest) × Advances l.fn.answering front more l.answering
       × IsPassedOn (g.O.Sink.contents l.fn.sink) [] (written more) (g.O.Sink.contents l.sink) l.gathered.items
       × ((answers : List Answer) → l.fn.tally ≡ tally_of answers → l.tally ≡ tally_of (answers ++ more));
 }

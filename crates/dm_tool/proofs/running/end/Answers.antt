@@ -2,7 +2,7 @@ use Rattle.std.proofs.Common.{inl}
 use Rattle.dm_tool.specs.Runs.{written}
 use Rattle.dm_tool.proofs.Flushes.{flushed_badly, flushed_well}
 use Rattle.dm_tool.proofs.KnownBytes.{appends_kept}
-use Rattle.dm_tool.proofs.Standings.{all_flushed, not_flushed}
+use Rattle.dm_tool.proofs.AnsweredSoFar.{all_flushed, not_flushed}
 use Rattle.dm_tool.proofs.running.end.Goals as goal
 
 pub returns-in-Ok-clause-ok : goal.returns-in-Ok-clause-ok

@@ -1,4 +1,4 @@
-use Rattle.std.proofs.Common.{◌+◌, ◌≤◌, [], arith, length, max, rules}
+use Rattle.std.proofs.Common.{◌≤◌, [], arith, length, max, rules}
 use Rattle.dm_tool.proofs.running.next_piece.Goals as goal
 
 pub returns-clause-asked : goal.returns-clause-asked

@@ -1,8 +1,8 @@
 use Rattle.std.proofs.Common.{◌∙◌, [], append-nil, sym, ap}
 use Rattle.dm_tool.specs.Runs.{tally_of}
-use Rattle.dm_tool.specs.Standings.{Ends}
+use Rattle.dm_tool.specs.inner.AnsweredSoFar.{EndsAnswered}
 use Rattle.dm_tool.proofs.KnownBytes.{appends_none}
-use Rattle.dm_tool.proofs.Standings.{one_begun, one_more}
+use Rattle.dm_tool.proofs.AnsweredSoFar.{one_begun, one_more}
 use Rattle.dm_tool.proofs.running.put_last.Goals as goal
 
 pub returns-else-finish-clause-ok : goal.returns-else-finish-clause-ok
@@ -14,11 +14,11 @@ returns-else-finish-clause-ok g c = (
 )
 
 pub returns-then-finish-clause-ok : goal.returns-then-finish-clause-ok
-returns-then-finish-clause-ok g c = one_more (λ last. Ends c.args.answering.now last) c.put_answer.result c.finish.new.answer (g.O.Sink.contents c.args.sink.now) (g.O.Sink.contents c.put_answer.new.sink)
+returns-then-finish-clause-ok g c = one_more (λ last. EndsAnswered c.args.answering.now last) c.put_answer.result c.finish.new.answer (g.O.Sink.contents c.args.sink.now) (g.O.Sink.contents c.put_answer.new.sink)
     c.args.tally.now c.put_answer.new.tally (rw c.if-finish.true at c.finish.ensures.last) c.put_answer.ensures.ok c.put_answer.ensures.tally
 
 pub returns-then-finish-clause-err : goal.returns-then-finish-clause-err
-returns-then-finish-clause-err g c = one_begun (λ last. Ends c.args.answering.now last) c.put_answer.result c.finish.new.answer (g.O.Sink.contents c.args.sink.now) (g.O.Sink.contents c.put_answer.new.sink)
+returns-then-finish-clause-err g c = one_begun (λ last. EndsAnswered c.args.answering.now last) c.put_answer.result c.finish.new.answer (g.O.Sink.contents c.args.sink.now) (g.O.Sink.contents c.put_answer.new.sink)
     (rw c.if-finish.true at c.finish.ensures.last) c.put_answer.ensures.err
 
 pub returns-else-finish-clause-unflushed : goal.returns-else-finish-clause-unflushed

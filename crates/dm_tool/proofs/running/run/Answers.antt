@@ -6,7 +6,7 @@ use Rattle.dm_tool.proofs.Asks.{asked_in_all, next_is_within}
 use Rattle.dm_tool.proofs.Flushes.{flushed_later, table_flushed, text_flushed}
 use Rattle.dm_tool.proofs.KnownBytes.{appends_none, appends_then, front_then}
 use Rattle.dm_tool.proofs.Outcomes.{all_answered, broken_after, broken_before, done_so_far, table_answered, table_broken, too_much, written_append}
-use Rattle.dm_tool.proofs.Standings.{done_by, not_table}
+use Rattle.dm_tool.proofs.AnsweredSoFar.{done_by, not_table}
 use Rattle.dm_tool.proofs.running.run.Goals as goal
 
 -- bytes that are all of what may come, and fewer

@@ -2,7 +2,7 @@ use Rattle.std.proofs.Common.{◌≡◌, ◌+◌, ◌≤◌, [], List, ℕ, leng
 use Rattle.std.specs.Io.KnownBytes.{Appends}
 use Rattle.dm_tool.specs.Answers.{Answer}
 use Rattle.dm_tool.specs.Runs.{tally_of, written}
-use Rattle.dm_tool.specs.Standings.{Stands}
+use Rattle.dm_tool.specs.inner.AnsweredSoFar.{IsAnsweredSoFar}
 use Rattle.dm_tool.proofs.running.run.Given as goal
 
 abbrev pub invariant-pieces : goal.invariant-pieces
@@ -13,7 +13,7 @@ invariant-pieces g l = record {
   asked : g.I.Source.asked l.initial.source l.source l.most;
   room : l.tally.answered + l.tally.refused + l.left ≤ l.most;
   so_far : (text : List ℕ) × (answers : List Answer) × g.I.Source.gave l.initial.source l.source text × (length text + l.left ≡ l.most)
-      × Stands l.fn.task l.answering text answers × Appends (g.O.Sink.contents l.initial.sink) (g.O.Sink.contents l.sink) (written answers)
+      × IsAnsweredSoFar l.fn.task l.answering text answers × Appends (g.O.Sink.contents l.initial.sink) (g.O.Sink.contents l.sink) (written answers)
       × (l.tally ≡ tally_of answers);
 }
 

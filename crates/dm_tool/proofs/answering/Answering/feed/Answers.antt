@@ -1,7 +1,8 @@
 use Rattle.std.proofs.Common.{length}
 use Rattle.dm_symbol.specs.Places.{outcome}
-use Rattle.dm_tool.specs.OpenLines.{pointed_to}
-use Rattle.dm_tool.proofs.Standings.{line_closed, line_ends, line_open, record_closed, record_open}
+use Rattle.dm_tool.specs.inner.OpenLines.{pointed_to}
+use Rattle.dm_tool.proofs.LineTexts.{line_ends}
+use Rattle.dm_tool.proofs.AnsweredSoFar.{line_closed, line_open, record_closed, record_open}
 use Rattle.dm_tool.proofs.answering.Answering.feed.Goals as goal
 
 pub returns-in_default-clause-open : goal.returns-in_default-clause-open

@@ -1,7 +1,7 @@
 use Rattle.std.proofs.Common.{sym, true≢false, ◌∙◌}
 use Rattle.dm_symbol.specs.Places.{outcome}
-use Rattle.dm_tool.specs.OpenLines.{pointed_to}
-use Rattle.dm_tool.proofs.Standings.{last_line_ends, last_record_ends, lines_end, records_end}
+use Rattle.dm_tool.specs.inner.OpenLines.{pointed_to}
+use Rattle.dm_tool.proofs.AnsweredSoFar.{last_line_ends, last_record_ends, lines_end, records_end}
 use Rattle.dm_tool.proofs.answering.Answering.finish.Goals as goal
 
 pub returns-in_default-clause-none : goal.returns-in_default-clause-none

@@ -1,6 +1,6 @@
 use Rattle.std.proofs.Common.{[], refl}
 use Rattle.dm_tool.proofs.RecordCuts.{open_text}
-use Rattle.dm_tool.proofs.Standings.{one_of_grids}
+use Rattle.dm_tool.proofs.AnsweredSoFar.{one_of_grids}
 use Rattle.dm_tool.proofs.answering.Answering.new.Goals as goal
 
 pub returns-in-Read : goal.returns-in-Read

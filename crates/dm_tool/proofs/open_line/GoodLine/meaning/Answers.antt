@@ -1,5 +1,5 @@
 use Rattle.std.proofs.Common.{◌<◌, length}
-use Rattle.dm_tool.specs.OpenLines.{pending_bytes}
+use Rattle.dm_tool.specs.inner.OpenLines.{pending_bytes}
 use Rattle.dm_tool.proofs.OpenLineSteps.{pending_end}
 use Rattle.dm_tool.proofs.open_line.GoodLine.meaning.Goals as goal
 

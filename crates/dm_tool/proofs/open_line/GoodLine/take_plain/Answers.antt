@@ -1,5 +1,5 @@
-use Rattle.std.proofs.Common.{◌≡◌, ◌∙◌, sym, length, arith}
-use Rattle.dm_tool.specs.OpenLines.{pending_bytes}
+use Rattle.std.proofs.Common.{◌≡◌, length, arith}
+use Rattle.dm_tool.specs.inner.OpenLines.{pending_bytes}
 use Rattle.dm_tool.proofs.OpenLineSteps.{good_front, plain_no_lf}
 use Rattle.dm_tool.proofs.open_line.GoodLine.take_plain.Goals as goal
 

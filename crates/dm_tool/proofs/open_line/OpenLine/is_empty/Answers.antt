@@ -1,5 +1,5 @@
 use Rattle.std.proofs.lemmas.Bool.{eqb-true}
-use Rattle.dm_tool.specs.OpenLines.{pending_bytes}
+use Rattle.dm_tool.specs.inner.OpenLines.{pending_bytes}
 use Rattle.dm_tool.proofs.OpenLineSteps.{faulty_some, good_empty_counts}
 use Rattle.dm_tool.proofs.open_line.OpenLine.is_empty.Goals as goal
 

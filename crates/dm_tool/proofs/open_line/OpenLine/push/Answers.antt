@@ -1,4 +1,4 @@
-use Rattle.dm_tool.specs.OpenLines.{pending_bytes}
+use Rattle.dm_tool.specs.inner.OpenLines.{pending_bytes}
 use Rattle.dm_tool.proofs.OpenLineSteps.{faulty_more, good_begun, good_fault, good_whole}
 use Rattle.dm_tool.proofs.open_line.OpenLine.push.Goals as goal
 

@@ -1,4 +1,4 @@
-use Rattle.std.proofs.Common.{◌≡◌, ◌∙◌, ◌+◌, ◌<◌, ◌≤◌, ◌∷◌, ◌++◌, [], List, ℕ, length, take, get_or, subst, arith}
+use Rattle.std.proofs.Common.{◌∙◌, ◌+◌, ◌<◌, ◌∷◌, ◌++◌, [], List, ℕ, length, take, get_or, subst, arith}
 use Rattle.dm_tool.specs.Texts.{HasNoLf}
 use Rattle.dm_tool.specs.LineFacts.{AreLineFacts}
 use Rattle.dm_tool.proofs.Texts.{no_lf_append}

@@ -1,7 +1,6 @@
-use Rattle.std.proofs.Common.{◌∙◌, sym, ap, subst}
+use Rattle.std.proofs.Common.{◌∙◌, sym, ap}
 use Rattle.dm_tool.specs.RecordFacts.{RecordFacts}
-use Rattle.dm_tool.specs.declared.rows.Rows.{Rows}
-use Rattle.dm_tool.specs.OpenRecords.{HoldsLines, contents_seen}
+use Rattle.dm_tool.specs.inner.OpenRecords.{contents_seen}
 use Rattle.dm_tool.proofs.RecordAnswers.{answer_is, answer_of}
 use Rattle.dm_tool.proofs.KeptRows.{seen_is}
 use Rattle.dm_tool.proofs.record.OpenRecord.grid_to.Goals as goal

@@ -1,4 +1,4 @@
-use Rattle.std.proofs.Common.{◌∙◌, ◌∷◌, [], sym, ap, arith}
+use Rattle.std.proofs.Common.{◌∙◌, ◌∷◌, [], sym, arith}
 use Rattle.dm_tool.specs.declared.record.Contents.TheVariants as kept
 use Rattle.dm_tool.proofs.RecordStates.{foreign_more, grown_by, with_characters}
 use Rattle.dm_tool.proofs.record.OpenRecord.push_character.Goals as goal

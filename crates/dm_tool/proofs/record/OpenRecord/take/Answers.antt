@@ -1,4 +1,4 @@
-use Rattle.std.proofs.Common.{◌≡◌, ◌∙◌, ◌+◌, ◌<◌, ◌≤◌, ◌++◌, List, ℕ, length, take, get_or, subst, arith}
+use Rattle.std.proofs.Common.{◌∙◌, ◌+◌, ◌<◌, ◌++◌, List, ℕ, length, take, subst, arith}
 use Rattle.dm_tool.specs.Records.{IsClosedRecord}
 use Rattle.dm_tool.specs.RecordFacts.{AreRecordFacts}
 use Rattle.dm_tool.proofs.Pieces.{go_on, go_on_by_one, rest_length}

@@ -1,7 +1,7 @@
-use Rattle.std.proofs.Common.{◌∙◌, ◌<◌, ap, sym, subst, ℕ, ◌∷◌, ◌++◌, [], length, refl, arith}
+use Rattle.std.proofs.Common.{◌∙◌, ◌<◌, ap, sym, subst, ℕ, ◌∷◌, ◌++◌, [], refl, arith}
 use Rattle.std.proofs.lemmas.Bool.{eqb-true, eqb-false}
 use Rattle.dm_symbol.specs.Sizes.{largest_side}
-use Rattle.dm_tool.specs.OpenRecords.{line_count}
+use Rattle.dm_tool.specs.inner.OpenRecords.{line_count}
 use Rattle.dm_tool.proofs.KeptRows.{begin_done, begin_full}
 use Rattle.dm_tool.proofs.rows.Rows.begin_line.Goals as goal
 use Rattle.dm_tool.proofs.rows.Rows.begin_line.Goals.{then-is_empty, else-is_empty}

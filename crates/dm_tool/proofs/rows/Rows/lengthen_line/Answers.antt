@@ -1,4 +1,4 @@
-use Rattle.std.proofs.Common.{◌≡◌, ◌+◌, ◌≤◌, ℕ, length, sym, ◌∙◌, ◌∷◌, ap, refl, arith}
+use Rattle.std.proofs.Common.{◌+◌, ◌≤◌, ℕ, length, sym, ◌∙◌, ◌∷◌, ap, refl, arith}
 use Rattle.dm_symbol.specs.Sizes.{largest_side}
 use Rattle.dm_tool.proofs.RecordSteps.{last_new}
 use Rattle.dm_tool.proofs.KeptRows.{lengthen_done, lengthen_full, shifted, with_bits, with_line, written}

@@ -1,5 +1,5 @@
 -- What stands between the bytes of a text that is answered as it comes, at its next byte and at its end.
-use Rattle.std.proofs.Common.{◌≡◌, ◌≢◌, ◌∙◌, ◌≤◌, ◌+◌, ◌↔◌, ◌⊎◌, inl, inr, ℕ, zero, suc, List, [], ◌∷◌, ◌++◌, refl, sym, ap, subst, append-nil, append_assoc, map, length, length-take-le, drop, take, arith, Option, Some, IsSome, Result, Ok, Err, OnOk, OnErr}
+use Rattle.std.proofs.Common.{◌≡◌, ◌≢◌, ◌∙◌, ◌≤◌, ◌+◌, ◌⊎◌, inl, inr, ℕ, zero, suc, List, [], ◌∷◌, ◌++◌, refl, sym, ap, subst, append-nil, append_assoc, map, length, length-take-le, drop, take, arith, Option, Result, Ok, Err, OnOk, OnErr}
 use Rattle.std.specs.Io.KnownBytes.{Appends, Keeps}
 use Rattle.dm_tool.specs.Devices.{AppendsFront, IsPassedOn}
 use Rattle.dm_tool.proofs.KnownBytes.{appends_kept, passed_and_put}
@@ -15,11 +15,10 @@ use Rattle.dm_tool.specs.RecordFeeds.{RecordAnswer, ClosesRecord, IsAnsweredReco
 use Rattle.dm_tool.specs.LineFacts.{LineFacts, AreLineFacts}
 use Rattle.dm_tool.specs.LineFeeds.{LineAnswer, AreAnswered, ClosesLine, LeavesLineOpen}
 use Rattle.dm_tool.specs.MessageLines.{IsLine}
-use Rattle.dm_tool.specs.OpenLines.{EndsLine}
 use Rattle.dm_tool.specs.Answers.{Answer, AnswersRecords, IsRecordAnswer, IsWriteAnswer}
-use Rattle.dm_tool.specs.Runs.{AreAllAnswers, AreAnswersTo, AreAnswersToRecords, AreClosedAnswers, AreClosedLines, AreMatched, IsAnswerToLine, IsAnswerToRecord, IsDone, IsOut, HasEnded, tally_of, written}
+use Rattle.dm_tool.specs.Runs.{AreAllAnswers, AreAnswersTo, AreAnswersToRecords, AreClosedAnswers, AreClosedLines, AreMatched, IsAnswerToLine, IsAnswerToRecord, IsOutSoFar, IsOut, HasEnded, tally_of, written}
 use Rattle.dm_tool.specs.declared.task.Tally.{Tally}
-use Rattle.dm_tool.specs.Standings.{Ends, Goes, Stands, StandsAnywhere}
+use Rattle.dm_tool.specs.inner.AnsweredSoFar.{EndsAnswered, Advances, IsAnsweredSoFar, HasTakenText}
 use Rattle.dm_tool.proofs.RecordTexts.{all_closed, last_closed, record_is_closed, records_stay_open}
 use Rattle.dm_tool.proofs.LineTexts.{line_is_closed, lines_stay_open}
 
@@ -70,18 +69,18 @@ closed_of_grids Table lines closed g h = absurd g
 -- ---- more of the text
 
 -- one piece after another
-pub goes_then : (a b c : Answering) (x y : List ℕ) (m n : List Answer) → Goes a x m b → Goes b y n c → Goes a (x ++ y) (m ++ n) c
-goes_then a b c x y m n p q task text answers s =
-    subst (λ l. Stands task c l (answers ++ (m ++ n))) (append_assoc text x y)
-    (subst (Stands task c ((text ++ x) ++ y)) (append_assoc answers m n) (q task (text ++ x) (answers ++ m) (p task text answers s)))
+pub advances_then : (a b c : Answering) (x y : List ℕ) (m n : List Answer) → Advances a x m b → Advances b y n c → Advances a (x ++ y) (m ++ n) c
+advances_then a b c x y m n p q task text answers s =
+    subst (λ l. IsAnsweredSoFar task c l (answers ++ (m ++ n))) (append_assoc text x y)
+    (subst (IsAnsweredSoFar task c ((text ++ x) ++ y)) (append_assoc answers m n) (q task (text ++ x) (answers ++ m) (p task text answers s)))
 
 -- no piece
-pub goes_nowhere : (a : Answering) → Goes a [] [] a
-goes_nowhere a task text answers s = subst (λ l. Stands task a l (answers ++ [])) (sym (append-nil text)) (subst (Stands task a text) (sym (append-nil answers)) s)
+pub advances_nowhere : (a : Answering) → Advances a [] [] a
+advances_nowhere a task text answers s = subst (λ l. IsAnsweredSoFar task a l (answers ++ [])) (sym (append-nil text)) (subst (IsAnsweredSoFar task a text) (sym (append-nil answers)) s)
 
 -- where some text has come, more of it has
-pub goes_anywhere : (a b : Answering) (x : List ℕ) (m : List Answer) → StandsAnywhere a → Goes a x m b → StandsAnywhere b
-goes_anywhere a b x m s p = (s.0, s.1 ++ x, s.2 ++ m, p s.0 s.1 s.2 s.3)
+pub advances_from_text : (a b : Answering) (x : List ℕ) (m : List Answer) → HasTakenText a → Advances a x m b → HasTakenText b
+advances_from_text a b x m s p = (s.0, s.1 ++ x, s.2 ++ m, p s.0 s.1 s.2 s.3)
 
 -- the front of a piece that was taken is taken as a whole
 none_after : (taken : ℕ) (piece : List ℕ) → drop taken (take taken piece) ≡ []
@@ -98,7 +97,7 @@ taken_within : (taken : ℕ) (piece : List ℕ) → taken ≤ length piece → t
 taken_within taken piece h = subst (λ n. taken ≤ n) (sym (length-take-le taken piece h)) (omega arith)
 
 pub record_open : (task : Task) (old new : RecordFacts) (piece : List ℕ) (taken : ℕ) → LeavesRecordOpen old piece taken new
-    → Goes (Records task old) piece [] (Records task new)
+    → Advances (Records task old) piece [] (Records task new)
 record_open asked old new piece taken now task text answers s = (
   s.0,
   s.1,
@@ -108,7 +107,7 @@ record_open asked old new piece taken now task text answers s = (
 )
 
 pub record_closed : (asked : Task) (old new : RecordFacts) (piece : List ℕ) (taken : ℕ) (grid : RecordAnswer) (answer : Answer) → ClosesRecord old piece taken grid new
-    → IsRecordAnswer asked grid answer → Goes (Records asked old) (take taken piece) (answer ∷ []) (Records asked new)
+    → IsRecordAnswer asked grid answer → Advances (Records asked old) (take taken piece) (answer ∷ []) (Records asked new)
 record_closed asked old new piece taken grid answer now is task text answers s =
     let front : ClosesRecord old (take taken piece) taken grid new = record {
       some = now.some;
@@ -123,7 +122,7 @@ record_closed asked old new piece taken grid answer now is task text answers s =
       matched_append (IsRecordAnswer task) s.2 (grid ∷ []) answers (answer ∷ []) s.4 (subst (λ t. IsRecordAnswer t grid answer) s.0 is, tt),
     )
 
-pub line_open : (profile : Profile) (old new : LineFacts) (piece : List ℕ) (taken : ℕ) → LeavesLineOpen old piece taken new → Goes (Lines profile old) piece [] (Lines profile new)
+pub line_open : (profile : Profile) (old new : LineFacts) (piece : List ℕ) (taken : ℕ) → LeavesLineOpen old piece taken new → Advances (Lines profile old) piece [] (Lines profile new)
 line_open profile old new piece taken now task text answers s = (
   s.0,
   s.1 ++ [],
@@ -139,21 +138,8 @@ closing piece (b ∷ before) after taken e n =
     ap (λ k. take k piece) more ∙ ap (take (suc (length before + 1))) e
     ∙ ap (λ l. b ∷ l) (closing (before ++ 10 ∷ after) before after (length before + 1) refl refl)
 
--- a line that is held, and what it means
-pub line_ends : (old mid new : LineFacts) (piece : List ℕ) (taken : ℕ) (message : LineAnswer) → EndsLine old piece taken mid
-    → ((line : List ℕ) → AreLineFacts line mid → IsLine line message) → AreLineFacts [] new → ClosesLine old piece taken message new
-line_ends old mid new piece taken message held means none = record {
-  before = held.before;
-  after = held.after;
-  piece_is = held.piece_is;
-  no_lf = held.no_lf;
-  taken_is = held.taken_is;
-  answered = λ line known. means (line ++ held.before) (held.grown line known);
-  empty = none;
-}
-
 pub line_closed : (profile : Profile) (old new : LineFacts) (piece : List ℕ) (taken : ℕ) (message : LineAnswer) (answer : Answer) → ClosesLine old piece taken message new
-    → IsWriteAnswer profile message answer → Goes (Lines profile old) (take taken piece) (answer ∷ []) (Lines profile new)
+    → IsWriteAnswer profile message answer → Advances (Lines profile old) (take taken piece) (answer ∷ []) (Lines profile new)
 line_closed profile old new piece taken message answer now is task text answers s =
     let front : ClosesLine old (take taken piece) taken message new = record {
       before = now.before;
@@ -172,7 +158,7 @@ line_closed profile old new piece taken message answer now is task text answers 
 
 -- ---- the end
 
-pub records_end : (asked : Task) (facts : RecordFacts) → ((u : List ℕ) → AreRecordFacts u facts → AreLfs u) → Ends (Records asked facts) []
+pub records_end : (asked : Task) (facts : RecordFacts) → ((u : List ℕ) → AreRecordFacts u facts → AreLfs u) → EndsAnswered (Records asked facts) []
 records_end asked facts none task text answers s =
     let t = s.3 in
     record {
@@ -185,7 +171,7 @@ records_end asked facts none task text answers s =
     }
 
 pub last_record_ends : (asked : Task) (facts : RecordFacts) (grid : RecordAnswer) (answer : Answer) → ((u : List ℕ) → AreRecordFacts u facts → IsLastRecord u grid)
-    → IsRecordAnswer asked grid answer → Ends (Records asked facts) (answer ∷ [])
+    → IsRecordAnswer asked grid answer → EndsAnswered (Records asked facts) (answer ∷ [])
 last_record_ends asked facts grid answer last is task text answers s =
     let t = s.3 in
     let these = t.after ++ last_line t.rest in
@@ -203,7 +189,7 @@ last_record_ends asked facts grid answer last is task text answers s =
       );
     }
 
-pub lines_end : (profile : Profile) (facts : LineFacts) → ((line : List ℕ) → AreLineFacts line facts → line ≡ []) → Ends (Lines profile facts) []
+pub lines_end : (profile : Profile) (facts : LineFacts) → ((line : List ℕ) → AreLineFacts line facts → line ≡ []) → EndsAnswered (Lines profile facts) []
 lines_end profile facts none task text answers s =
     let t = s.2 in
     let rest = none t.rest t.left in
@@ -222,7 +208,7 @@ last_line_is [] n = absurd (n refl)
 last_line_is (b ∷ rest) n = refl
 
 pub last_line_ends : (profile : Profile) (facts : LineFacts) (message : LineAnswer) (answer : Answer) → ((line : List ℕ) → AreLineFacts line facts → (line ≢ []) × IsLine line message)
-    → IsWriteAnswer profile message answer → Ends (Lines profile facts) (answer ∷ [])
+    → IsWriteAnswer profile message answer → EndsAnswered (Lines profile facts) (answer ∷ [])
 last_line_ends profile facts message answer last is task text answers s =
     let t = s.2 in
     let here = last t.rest t.left in
@@ -238,8 +224,8 @@ last_line_ends profile facts message answer last is task text answers s =
 -- ---- what is written
 
 -- the answers so far are those to what is closed
-pub stands_closed : (task : Task) (state : Answering) (text : List ℕ) (answers : List Answer) → Stands task state text answers → AreClosedAnswers task text answers
-stands_closed task (Records asked facts) text answers s =
+pub so_far_closed : (task : Task) (state : Answering) (text : List ℕ) (answers : List Answer) → IsAnsweredSoFar task state text answers → AreClosedAnswers task text answers
+so_far_closed task (Records asked facts) text answers s =
     let t = s.3 in
     record {
       lines = t.lines;
@@ -250,7 +236,7 @@ stands_closed task (Records asked facts) text answers s =
       answered = answers_of_grids task t.before answers s.1
           (t.records, t.are_records, matched_records task t.records answers (subst (λ r. AreMatched (IsRecordAnswer task) r answers) t.answered s.4));
     }
-stands_closed task (Lines profile facts) text answers s =
+so_far_closed task (Lines profile facts) text answers s =
     let t = s.2 in
     record {
       lines = t.lines;
@@ -262,11 +248,11 @@ stands_closed task (Lines profile facts) text answers s =
     }
 
 -- a task with an input isn't the table
-pub not_table : (task : Task) (state : Answering) (text : List ℕ) (answers : List Answer) → Stands task state text answers → task ≢ Table
+pub not_table : (task : Task) (state : Answering) (text : List ℕ) (answers : List Answer) → IsAnsweredSoFar task state text answers → task ≢ Table
 not_table task (Records asked facts) text answers s e = subst AnswersRecords e s.1
 not_table task (Lines profile facts) text answers s e = let n : Write profile ≡ Table = sym s.0 ∙ e in cc
 
-pub done_by : (task : Task) (text : List ℕ) (answers : List Answer) → task ≢ Table → AreClosedAnswers task text answers → IsDone task text (written answers)
+pub done_by : (task : Task) (text : List ℕ) (answers : List Answer) → task ≢ Table → AreClosedAnswers task text answers → IsOutSoFar task text (written answers)
 done_by (Read border) text answers n h = (answers, h, refl)
 done_by (Check border) text answers n h = (answers, h, refl)
 done_by (Normal border profile) text answers n h = (answers, h, refl)
@@ -281,33 +267,24 @@ out_by (Write profile) text answers n h = (answers, h, refl, refl)
 out_by Table text answers n h = absurd (n refl)
 
 -- the answers so far, joined, are what is done
-pub stands_done : (task : Task) (state : Answering) (text : List ℕ) (answers : List Answer) → Stands task state text answers → IsDone task text (written answers)
-stands_done task state text answers s = done_by task text answers (not_table task state text answers s) (stands_closed task state text answers s)
+pub so_far_written : (task : Task) (state : Answering) (text : List ℕ) (answers : List Answer) → IsAnsweredSoFar task state text answers → IsOutSoFar task text (written answers)
+so_far_written task state text answers s = done_by task text answers (not_table task state text answers s) (so_far_closed task state text answers s)
 
 -- with the last answer they are all that is written
-pub ends_out : (task : Task) (state : Answering) (text : List ℕ) (answers last : List Answer) → Stands task state text answers → Ends state last
+pub ends_out : (task : Task) (state : Answering) (text : List ℕ) (answers last : List Answer) → IsAnsweredSoFar task state text answers → EndsAnswered state last
     → IsOut task text (written (answers ++ last)) (tally_of (answers ++ last))
 ends_out task state text answers last s h = out_by task text (answers ++ last) (not_table task state text answers s) (h task text answers s)
 
 -- the source of a task with an input has ended
-pub stands_ended : (task : Task) (state : Answering) (text : List ℕ) (answers : List Answer) (Ended : Type 0) → Stands task state text answers → Ended
+pub so_far_ended : (task : Task) (state : Answering) (text : List ℕ) (answers : List Answer) (Ended : Type 0) → IsAnsweredSoFar task state text answers → Ended
     → HasEnded task Ended
-stands_ended (Read border) state text answers Ended s h = h
-stands_ended (Check border) state text answers Ended s h = h
-stands_ended (Normal border profile) state text answers Ended s h = h
-stands_ended (Write profile) state text answers Ended s h = h
-stands_ended Table state text answers Ended s h = tt
+so_far_ended (Read border) state text answers Ended s h = h
+so_far_ended (Check border) state text answers Ended s h = h
+so_far_ended (Normal border profile) state text answers Ended s h = h
+so_far_ended (Write profile) state text answers Ended s h = h
+so_far_ended Table state text answers Ended s h = tt
 
 -- ---- what the feeds tell
-
--- a line that isn't some is none
-pub none_left : (line : List ℕ) → ((line ≢ []) → ⊥) → line ≡ []
-none_left [] h = refl
-none_left (b ∷ line) h = absurd (h (λ e. cc))
-
--- a line that is closed at the end is some
-pub some_left : {X : Type 0} (x : X) (line : List ℕ) → IsSome (Some x) ↔ (line ≢ []) → line ≢ []
-some_left x line h = h.0 refl
 
 -- reading, checking and normalising are tasks of grids
 pub one_of_grids : (task : Task) → ((border : Option ℕ) × (task ≡ Read border)) ⊎ (((border : Option ℕ) × (task ≡ Check border)) ⊎ ((border : Option ℕ) × (profile : Profile) × (task ≡ Normal border profile))) → AnswersRecords task
@@ -322,17 +299,17 @@ pub written_one : (answer : Answer) → written (answer ∷ []) ≡ answer.text
 written_one answer = append-nil answer.text
 
 -- one answer is written and counted
-pub one_more : {X E : Type 0} (Goes : List Answer → Type 0) (result : Result X E) (answer : Answer) (a b : Option (List ℕ)) (s t : Tally) → Goes (answer ∷ [])
+pub one_more : {X E : Type 0} (Advances : List Answer → Type 0) (result : Result X E) (answer : Answer) (a b : Option (List ℕ)) (s t : Tally) → Advances (answer ∷ [])
     → OnOk result (Appends a b answer.text) → OnOk result ((answers : List Answer) → s ≡ tally_of answers → t ≡ tally_of (answers ++ answer ∷ []))
-    → OnOk result ((more : List Answer) × Goes more × Appends a b (written more) × ((answers : List Answer) → s ≡ tally_of answers → t ≡ tally_of (answers ++ more)))
-one_more Goes (Ok x) answer a b s t goes took counted = (answer ∷ [], goes, subst (Appends a b) (sym (written_one answer)) took, counted)
-one_more Goes (Err e) answer a b s t goes took counted = tt
+    → OnOk result ((more : List Answer) × Advances more × Appends a b (written more) × ((answers : List Answer) → s ≡ tally_of answers → t ≡ tally_of (answers ++ more)))
+one_more Advances (Ok x) answer a b s t goes took counted = (answer ∷ [], goes, subst (Appends a b) (sym (written_one answer)) took, counted)
+one_more Advances (Err e) answer a b s t goes took counted = tt
 
 -- a beginning of one answer is written
-pub one_begun : {X E : Type 0} (Goes : List Answer → Type 0) (result : Result X E) (answer : Answer) (a b : Option (List ℕ)) → Goes (answer ∷ [])
-    → OnErr result (AppendsFront a b answer.text) → OnErr result ((more : List Answer) × Goes more × AppendsFront a b (written more))
-one_begun Goes (Ok x) answer a b goes took = tt
-one_begun Goes (Err e) answer a b goes took = (answer ∷ [], goes, subst (AppendsFront a b) (sym (written_one answer)) took)
+pub one_begun : {X E : Type 0} (Advances : List Answer → Type 0) (result : Result X E) (answer : Answer) (a b : Option (List ℕ)) → Advances (answer ∷ [])
+    → OnErr result (AppendsFront a b answer.text) → OnErr result ((more : List Answer) × Advances more × AppendsFront a b (written more))
+one_begun Advances (Ok x) answer a b goes took = tt
+one_begun Advances (Err e) answer a b goes took = (answer ∷ [], goes, subst (AppendsFront a b) (sym (written_one answer)) took)
 
 -- what holds in any case holds where it is Ok
 pub on_ok : {X E : Type 0} (result : Result X E) (P : Type 0) → P → OnOk result P
@@ -345,22 +322,22 @@ on_err (Ok x) P Q p f = tt
 on_err (Err e) P Q p f = f p
 
 -- answers that were gathered are written in the end
-pub gathered_put : {X E : Type 0} (Goes Counted : List Answer → Type 0) (result : Result X E) (a b c : Option (List ℕ)) (more : List Answer) (left : List ℕ) → Goes more
+pub gathered_put : {X E : Type 0} (Advances Counted : List Answer → Type 0) (result : Result X E) (a b c : Option (List ℕ)) (more : List Answer) (left : List ℕ) → Advances more
     → Counted more → IsPassedOn a [] (written more) b left → OnOk result (Appends b c left)
-    → OnOk result ((more : List Answer) × Goes more × Appends a c (written more) × Counted more)
-gathered_put Goes Counted (Ok x) a b c more left goes counted passed took = (more, goes, passed_and_put a b c (written more) left passed took, counted)
-gathered_put Goes Counted (Err e) a b c more left goes counted passed took = tt
+    → OnOk result ((more : List Answer) × Advances more × Appends a c (written more) × Counted more)
+gathered_put Advances Counted (Ok x) a b c more left goes counted passed took = (more, goes, passed_and_put a b c (written more) left passed took, counted)
+gathered_put Advances Counted (Err e) a b c more left goes counted passed took = tt
 
 -- a flush after the last answer changes no byte
-pub all_flushed : {X E : Type 0} {Goes : List Answer → Type 0} {Counted : List Answer → Type 0} (result : Result X E) (a b c : Option (List ℕ))
-    → (last : List Answer) × Goes last × Appends a b (written last) × Counted last → Keeps b c
-    → OnOk result ((last : List Answer) × Goes last × Appends a c (written last) × Counted last)
+pub all_flushed : {X E : Type 0} {Advances : List Answer → Type 0} {Counted : List Answer → Type 0} (result : Result X E) (a b c : Option (List ℕ))
+    → (last : List Answer) × Advances last × Appends a b (written last) × Counted last → Keeps b c
+    → OnOk result ((last : List Answer) × Advances last × Appends a c (written last) × Counted last)
 all_flushed (Ok x) a b c all same = (all.0, all.1, appends_kept a b c (written all.0) all.2 same, all.3)
 all_flushed (Err e) a b c all same = tt
 
 -- where it fails, all is written
-pub not_flushed : {X E : Type 0} {Goes : List Answer → Type 0} {Counted : List Answer → Type 0} (result : Result X E) (a b c : Option (List ℕ))
-    → (last : List Answer) × Goes last × Appends a b (written last) × Counted last → Keeps b c
-    → OnErr result ((last : List Answer) × Goes last × AppendsFront a c (written last))
+pub not_flushed : {X E : Type 0} {Advances : List Answer → Type 0} {Counted : List Answer → Type 0} (result : Result X E) (a b c : Option (List ℕ))
+    → (last : List Answer) × Advances last × Appends a b (written last) × Counted last → Keeps b c
+    → OnErr result ((last : List Answer) × Advances last × AppendsFront a c (written last))
 not_flushed (Ok x) a b c all same = tt
 not_flushed (Err e) a b c all same = (all.0, all.1, (written all.0, [], sym (append-nil (written all.0)), appends_kept a b c (written all.0) all.2 same))

@@ -10,25 +10,25 @@ use Rattle.dm_tool.specs.Answers.{Answer, AnswersRecords, IsRecordAnswer, IsWrit
 use Rattle.dm_tool.specs.Runs.{AreAllAnswers, AreClosedAnswers, AreMatched, written}
 
 -- After a text, these are the answers to what is closed within it, and this is what stands open.
-abbrev pub Stands : Task → Answering → List ℕ → List Answer → Type 0
-Stands task (Records asked facts) text answers =
+abbrev pub IsAnsweredSoFar : Task → Answering → List ℕ → List Answer → Type 0
+IsAnsweredSoFar task (Records asked facts) text answers =
     (asked ≡ task) × AnswersRecords task × (records : List RecordAnswer) × AreRecordsOfText text records facts × AreMatched (IsRecordAnswer task) records answers
-Stands task (Lines profile facts) text answers =
+IsAnsweredSoFar task (Lines profile facts) text answers =
     (task ≡ Write profile) × (lines : List LineAnswer) × AreOfText text lines facts × AreMatched (IsWriteAnswer profile) lines answers
 
 -- Some text has come.
-abbrev pub StandsAnywhere : Answering → Type 0
-StandsAnywhere state = (task : Task) × (text : List ℕ) × (answers : List Answer) × Stands task state text answers
+abbrev pub HasTakenText : Answering → Type 0
+HasTakenText state = (task : Task) × (text : List ℕ) × (answers : List Answer) × IsAnsweredSoFar task state text answers
 
 -- More of the text closes what has these answers.
-abbrev pub Goes : Answering → List ℕ → List Answer → Answering → Type 0
-Goes old piece more new = (task : Task) (text : List ℕ) (answers : List Answer) → Stands task old text answers → Stands task new (text ++ piece) (answers ++ more)
+abbrev pub Advances : Answering → List ℕ → List Answer → Answering → Type 0
+Advances old piece more new = (task : Task) (text : List ℕ) (answers : List Answer) → IsAnsweredSoFar task old text answers → IsAnsweredSoFar task new (text ++ piece) (answers ++ more)
 
 -- The end of the text closes what has these answers.
-abbrev pub Ends : Answering → List Answer → Type 0
-Ends old last = (task : Task) (text : List ℕ) (answers : List Answer) → Stands task old text answers → AreAllAnswers task text (answers ++ last)
+abbrev pub EndsAnswered : Answering → List Answer → Type 0
+EndsAnswered old last = (task : Task) (text : List ℕ) (answers : List Answer) → IsAnsweredSoFar task old text answers → AreAllAnswers task text (answers ++ last)
 
 -- Whatever has come, a beginning was taken of the answers to what is closed where more of the text comes.
-abbrev pub IsBegun : Answering → List ℕ → (List ℕ → Type 0) → Type 0
-IsBegun old piece TookFront = (task : Task) (text : List ℕ) (answers : List Answer) → Stands task old text answers
+abbrev pub HasBegunAnswers : Answering → List ℕ → (List ℕ → Type 0) → Type 0
+HasBegunAnswers old piece TookFront = (task : Task) (text : List ℕ) (answers : List Answer) → IsAnsweredSoFar task old text answers
     → (more : List Answer) × AreClosedAnswers task (text ++ piece) (answers ++ more) × TookFront (written more)
