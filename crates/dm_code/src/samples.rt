@@ -1,6 +1,6 @@
 //! Blocks of which tests are made.
 
-ghost use Rattle.std.specs.Prelude.{◌+◌, ◌≤◌};
+ghost use Rattle.std.specs.Prelude.{◌+◌, ◌<◌, ◌≤◌};
 
 use super::encode;
 
@@ -58,4 +58,15 @@ pub(crate) fn pseudorandom(first: u8, step: u8) -> [u8; 255] {
         codeword = codeword.wrapping_mul(5).wrapping_add(step);
     }
     list
+}
+
+/// The word with this many of its codewords wrong: at every `step`th place, from the place `first` on.
+pub(crate) fn with_errors(word: [u8; 255], first: usize, step: usize, count: usize) -> [u8; 255]
+    requires { 0 < step }
+{
+    let mut damaged = word;
+    for place in damaged.iter_mut().skip(first).step_by(step).take(count) {
+        *place ^= 255;
+    }
+    damaged
 }

@@ -3,7 +3,7 @@
 ghost use Rattle.std.specs.Prelude.{◌<◌, ◌≤◌, length};
 
 use super::*;
-use crate::samples::{BLOCKS, WORD, codeword};
+use crate::samples::{BLOCKS, WORD, codeword, with_errors};
 use crate::{Elimination, Quick};
 use gf301::generator;
 
@@ -62,13 +62,9 @@ fn blocks_are_corrected_to_their_limit(rt: HostRuntime) {
         let word = codeword(count, k);
         let limit = k / 2;
         for (first, step) in [(0, 1), (count + k - limit, 1), (0, 2)] {
-            let mut damaged = word;
-            for place in damaged.iter_mut().skip(first).step_by(step).take(limit) {
-                *place ^= 255;
-            }
-            let (damaged, word) = (&damaged[..count + k], &word[..count + k]);
+            let damaged = with_errors(word, first, step, limit);
             assert!(rt;
-                is_corrected(damaged, word, k, limit),
+                is_corrected(&damaged[..count + k], &word[..count + k], k, limit),
                 "{k} checks, from place {first}, step {step}"
             );
         }

@@ -4,7 +4,7 @@ ghost use Rattle.std.specs.Prelude.{◌*◌, ◌≤◌, length};
 
 use super::*;
 use crate::errors::{coefficient_at, trimmed};
-use crate::samples::{BLOCKS, WORD, codeword};
+use crate::samples::{BLOCKS, WORD, codeword, with_errors};
 use crate::{Elimination, Quick, correct, syndromes};
 
 /// Whether two lists are equal as polynomials of a degree below 35.
@@ -44,6 +44,24 @@ fn is_counted(s: &[u8], t: usize) -> bool
     same && most && meter.products >= least && some && many
 }
 
+/// Whether both solvers answer this pair, by counts within their bounds.
+fn have_key(s: &[u8], t: usize, locator: &[u8], evaluator: &[u8]) -> bool
+    requires few { length s.now ≤ 68 }
+    requires half { 2 * t ≤ length s.now }
+{
+    has_key(&Elimination, s, t, locator, evaluator)
+        && has_key(&Quick, s, t, locator, evaluator)
+        && is_counted(s, t)
+}
+
+/// Whether both solvers find no pair, by counts within their bounds.
+fn have_no_key(s: &[u8], t: usize) -> bool
+    requires few { length s.now ≤ 68 }
+    requires half { 2 * t ≤ length s.now }
+{
+    Elimination.solve(s, t).is_none() && Quick.solve(s, t).is_none() && is_counted(s, t)
+}
+
 /// Whether both solvers answer the same for the syndromes of a word, by counts within their bounds.
 fn are_alike(word: &[u8], k: usize) -> bool
     requires { k ≤ 68 }
@@ -70,15 +88,7 @@ fn least_pairs_and_lists_without_a_pair(rt: HostRuntime) {
     ];
     for (s, t, locator, evaluator) in pairs {
         assert!(rt; s.len() <= 68 && 2 * t <= s.len());
-        assert!(rt;
-            has_key(&Elimination, s, t, locator, evaluator),
-            "{s:?} within {t}"
-        );
-        assert!(rt;
-            has_key(&Quick, s, t, locator, evaluator),
-            "{s:?} within {t}"
-        );
-        assert!(rt; is_counted(s, t), "{s:?} within {t}");
+        assert!(rt; have_key(s, t, locator, evaluator), "{s:?} within {t}");
     }
     let none: [(&[u8], usize); 4] = [
         (&[0, 0, 0, 1], 2),
@@ -88,9 +98,7 @@ fn least_pairs_and_lists_without_a_pair(rt: HostRuntime) {
     ];
     for (s, t) in none {
         assert!(rt; s.len() <= 68 && 2 * t <= s.len());
-        assert!(rt; Elimination.solve(s, t).is_none(), "{s:?} within {t}");
-        assert!(rt; Quick.solve(s, t).is_none(), "{s:?} within {t}");
-        assert!(rt; is_counted(s, t), "{s:?} within {t}");
+        assert!(rt; have_no_key(s, t), "{s:?} within {t}");
     }
 }
 
@@ -113,10 +121,7 @@ fn both_solvers_answer_alike(rt: HostRuntime) {
         let limit = k / 2;
         for (first, step) in [(0, 1), (count + k - limit, 1), (0, 2)] {
             for changed in [1, limit, limit + 1] {
-                let mut damaged = word;
-                for place in damaged.iter_mut().skip(first).step_by(step).take(changed) {
-                    *place ^= 255;
-                }
+                let damaged = with_errors(word, first, step, changed);
                 assert!(rt;
                     are_alike(&damaged[..count + k], k),
                     "{k} checks, {changed} from place {first}, step {step}"
