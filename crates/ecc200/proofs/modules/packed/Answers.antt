@@ -1,4 +1,4 @@
-use Rattle.std.proofs.Common.{◌≡◌, ◌+◌, ◌-◌, ◌*◌, ◌<◌, ◌^◌, ℕ, length, get_or, sym, ap, subst, arith, false, Fits, Fits-le}
+use Rattle.std.proofs.Common.{◌≡◌, ◌+◌, ◌-◌, ◌*◌, ◌<◌, ◌^◌, ℕ, length, get_or, sym, subst, arith, false, Fits, Fits-le}
 use Rattle.std.specs.Int.{w128}
 use mir.Val.{bool_byte as from_bool}
 use Rattle.dm_symbol.specs.Grid.{is_dark_in}

@@ -1,4 +1,4 @@
-use Rattle.std.proofs.Common.{◌≡◌, ◌<◌, ◌∙◌, ◌*◌, ◌+◌, ◌≤◌, [], Bool, false, length, get_or, ap, arith}
+use Rattle.std.proofs.Common.{◌≡◌, ◌<◌, ◌∙◌, ◌*◌, ◌+◌, ◌≤◌, [], length, get_or, ap, arith}
 use Rattle.std.proofs.lemmas.List.{length-set}
 use Rattle.std.proofs.lemmas.List.Elements.{All-get_or}
 use Rattle.std.proofs.Math.Nat.{mul-le-mul_right}

@@ -1,11 +1,9 @@
-use Rattle.std.proofs.Common.{◌≡◌, ◌≤◌, ◌*◌, ◌∙◌, List, length, replicate, Some, refl, sym, ap, subst, arith, rules}
+use Rattle.std.proofs.Common.{◌≡◌, ◌∙◌, length, replicate, Some, refl, sym, ap, subst, arith, rules}
 use Rattle.std.specs.Prelude.{IsNone}
 use Rattle.std.proofs.lemmas.List.{length-replicate}
 use Rattle.dm_layout.specs.Sizes.{row_with_side}
 use Rattle.dm_layout.proofs.TableRows.{found_row}
-use Rattle.ecc200.specs.declared.places.PlaceOut.{PlaceOut}
-use Rattle.ecc200.specs.Faults.{no_such_side}
-use Rattle.ecc200.specs.Places.{modules, no_size, no_places, nothing}
+use Rattle.ecc200.specs.Places.{modules, no_size, nothing}
 use Rattle.ecc200.proofs.Bits.{modules_are}
 use Rattle.ecc200.proofs.Sides.{modules_fit}
 use Rattle.ecc200.proofs.places.ecc200_places.Goals.{in-Some, in-None}

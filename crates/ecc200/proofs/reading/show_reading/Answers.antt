@@ -1,4 +1,4 @@
-use Rattle.std.proofs.Common.{◌≡◌, ◌∙◌, ap, refl, length}
+use Rattle.std.proofs.Common.{◌≡◌, ap, refl, length}
 use Rattle.std.proofs.lemmas.List.{length-map}
 use Rattle.ecc200.specs.Arrays.{filled}
 use Rattle.ecc200.specs.Items.{number_of, numbers_of}

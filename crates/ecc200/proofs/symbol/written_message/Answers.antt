@@ -1,4 +1,4 @@
-use Rattle.std.proofs.Common.{Ok, Err, refl, ap}
+use Rattle.std.proofs.Common.{Err, refl, ap}
 use Rattle.std.proofs.lemmas.Bool.{false≢true}
 use Rattle.ecc200.specs.Symbols.{WrittenAnswer}
 use Rattle.ecc200.proofs.Messages.{message_there, too_many}
