@@ -51,5 +51,23 @@ near_self k w f e c = record {
 }
 
 -- A list whose places were all written is what was written.
-pub refilled : (a b : List ℕ) → length b ≡ length a → take (length a) (b ++ drop (length b) a) ≡ b
+refilled : (a b : List ℕ) → length b ≡ length a → take (length a) (b ++ drop (length b) a) ≡ b
 refilled a b h = grind (arith, common_steps)
+
+-- What is known once f was written over a, a copy of the word w: f is as long, it is what stands there, and s are its syndromes.
+pub record IsRewritten (k : ℕ) (w a f s : List ℕ) : Type 0 where
+  pub long : length f ≡ length w
+  pub word : take (length a) (f ++ drop (length f) a) ≡ f
+  pub syndromes : s ≡ syndromes_of f k
+
+-- So it is where f is as long as the copy, and where its syndromes t were written over those of w, b: s is what then stands there.
+pub rewritten : (k : ℕ) (w a word f b syndromes t s : List ℕ) → a ≡ w → word ≡ a → length f ≡ length word
+    → b ≡ syndromes_of w k → syndromes ≡ b → t ≡ syndromes_of f (length syndromes) → s ≡ take (length b) (t ++ drop (length t) b) → IsRewritten k w a f s
+rewritten k w a word f b syndromes t s ae we fl be se te e =
+    let bk : length b ≡ k = ap length be ∙ syndromes_length w k in
+    let tk : t ≡ syndromes_of f k = te ∙ ap (syndromes_of f) (ap length se ∙ bk) in
+    record {
+      long = fl ∙ ap length (we ∙ ae);
+      word = refilled a f (fl ∙ ap length we);
+      syndromes = e ∙ refilled b t (ap length tk ∙ syndromes_length f k ∙ sym bk) ∙ tk;
+    }

@@ -6,7 +6,7 @@ use Rattle.dm_code.proofs.Bytes.{bytes_places}
 use Rattle.dm_code.proofs.Distance.{near_one}
 use Rattle.dm_code.proofs.SyndromeLaws.{syndromes_length}
 use Rattle.dm_code.proofs.Nearness.{near_pair}
-use Rattle.dm_code.proofs.CleanWords.{codeword_from_syndromes, zero_syndromes, distance_self, near_self, refilled}
+use Rattle.dm_code.proofs.CleanWords.{codeword_from_syndromes, zero_syndromes, distance_self, near_self, IsRewritten, rewritten}
 use Rattle.dm_code.proofs.correction.correct.Goals as goal
 use Rattle.dm_code.proofs.correction.correct.Goals.{else-are_zero-2-via-then-are_zero-2+else-from-k, else-are_zero-2-via-else-are_zero-2}
 
@@ -66,20 +66,14 @@ returns-then-from-k-clause-near g c =
     let k = c.args.k in
     let a = c.copy_of-fixed.result.items in
     let f = c.correct_errors.new.word in
-    let we : c.deref_mut.result.now ≡ w = c.deref_mut.ensures.value ∙ c.copy_of-fixed.ensures in
-    let fl : length f ≡ length w = c.correct_errors.ensures.long ∙ ap length we in
-    let fe : take (length a) (f ++ drop (length f) a) ≡ f = refilled a f (fl ∙ sym (ap length c.copy_of-fixed.ensures)) in
-    let b = c.syndromes-syndromes.result.items in
-    let t = c.correct_errors.new.syndromes in
-    let bk : length b ≡ k = ap length c.syndromes-syndromes.ensures.values ∙ syndromes_length w k in
-    let sk : length c.deref_mut-2.result.now ≡ k = ap length c.deref_mut-2.ensures.value ∙ bk in
-    let tk : t ≡ syndromes_of f k = c.correct_errors.ensures.kept ∙ ap (syndromes_of f) sk in
-    let te : take (length b) (t ++ drop (length t) b) ≡ t = refilled b t (ap length tk ∙ syndromes_length f k ∙ sym bk) in
-    let se : c.deref-4.result.now ≡ syndromes_of f k = c.deref-4.ensures.0 ∙ te ∙ tk in
-    let d : distance w f ≤ k / 2 = omega (arith, c.differences-changed.ensures, ap (distance w) (c.deref-3.ensures.0 ∙ fe), c.from.ensures, c.if-from-k.true) in
-    subst (IsNear k w) (sym fe) (record {
-      codeword = codeword_from_syndromes k f c.deref-4.result.now c.requires.most (omega (arith, c.requires.data)) (omega (arith, c.requires.long)) c.correct_errors.ensures.bytes se (c.are_zero-2.ensures.0 c.if-are_zero-2.true);
-      long = fl;
+    let now : IsRewritten k w a f c.deref-4.result.now =
+    rewritten k w a c.deref_mut.result.now f c.syndromes-syndromes.result.items c.deref_mut-2.result.now c.correct_errors.new.syndromes c.deref-4.result.now
+    c.copy_of-fixed.ensures c.deref_mut.ensures.value c.correct_errors.ensures.long
+    c.syndromes-syndromes.ensures.values c.deref_mut-2.ensures.value c.correct_errors.ensures.kept c.deref-4.ensures.0 in
+    let d : distance w f ≤ k / 2 = omega (arith, c.differences-changed.ensures, ap (distance w) (c.deref-3.ensures.0 ∙ now.word), c.from.ensures, c.if-from-k.true) in
+    subst (IsNear k w) (sym now.word) (record {
+      codeword = codeword_from_syndromes k f c.deref-4.result.now c.requires.most (omega (arith, now.long, c.requires.data)) (omega (arith, now.long, c.requires.long)) c.correct_errors.ensures.bytes now.syndromes (c.are_zero-2.ensures.0 c.if-are_zero-2.true);
+      long = now.long;
       close = d;
     })
 
@@ -98,22 +92,18 @@ returns-else-are_zero-2-clause-near g c v h =
     let k = c.args.k in
     let a = c.copy_of-fixed.result.items in
     let f = c.correct_errors.new.word in
+    let now : IsRewritten k w a f c.deref-4.result.now =
+    rewritten k w a c.deref_mut.result.now f c.syndromes-syndromes.result.items c.deref_mut-2.result.now c.correct_errors.new.syndromes c.deref-4.result.now
+    c.copy_of-fixed.ensures c.deref_mut.ensures.value c.correct_errors.ensures.long
+    c.syndromes-syndromes.ensures.values c.deref_mut-2.ensures.value c.correct_errors.ensures.kept c.deref-4.ensures.0 in
     let we : c.deref_mut.result.now ≡ w = c.deref_mut.ensures.value ∙ c.copy_of-fixed.ensures in
-    let fl : length f ≡ length w = c.correct_errors.ensures.long ∙ ap length we in
-    let fe : take (length a) (f ++ drop (length f) a) ≡ f = refilled a f (fl ∙ sym (ap length c.copy_of-fixed.ensures)) in
-    let b = c.syndromes-syndromes.result.items in
-    let t = c.correct_errors.new.syndromes in
-    let bk : length b ≡ k = ap length c.syndromes-syndromes.ensures.values ∙ syndromes_length w k in
-    let sk : length c.deref_mut-2.result.now ≡ k = ap length c.deref_mut-2.ensures.value ∙ bk in
-    let tk : t ≡ syndromes_of f k = c.correct_errors.ensures.kept ∙ ap (syndromes_of f) sk in
-    let te : take (length b) (t ++ drop (length t) b) ≡ t = refilled b t (ap length tk ∙ syndromes_length f k ∙ sym bk) in
-    let se : c.deref-4.result.now ≡ syndromes_of f k = c.deref-4.ensures.0 ∙ te ∙ tk in
+    let sk : length c.deref_mut-2.result.now ≡ k = ap length (c.deref_mut-2.ensures.value ∙ c.syndromes-syndromes.ensures.values) ∙ syndromes_length w k in
     let same : f ≡ v = c.correct_errors.ensures.near v (subst (λ m. IsNear m c.deref_mut.result.now v) (sym sk) (subst (λ u. IsNear k u v) (sym we) h)) in
     elim c.else-are_zero-2.branch [
       | else-are_zero-2-via-then-are_zero-2+else-from-k b ↦
-          absurd (omega (arith, c.differences-changed.ensures, ap (distance w) (c.deref-3.ensures.0 ∙ fe ∙ same), b.from.ensures, b.if-from-k.false, h.close))
+          absurd (omega (arith, c.differences-changed.ensures, ap (distance w) (c.deref-3.ensures.0 ∙ now.word ∙ same), b.from.ensures, b.if-from-k.false, h.close))
       | else-are_zero-2-via-else-are_zero-2 b ↦
-          let yes : IsTrue c.are_zero-2.result = c.are_zero-2.ensures.1 (zero_syndromes k f c.deref-4.result.now se (subst (IsCodeword k) (sym same) h.codeword)) in
+          let yes : IsTrue c.are_zero-2.result = c.are_zero-2.ensures.1 (zero_syndromes k f c.deref-4.result.now now.syndromes (subst (IsCodeword k) (sym same) h.codeword)) in
           let not : c.are_zero-2.result ≡ false = b.if-are_zero-2.false in
           absurd (cc (yes, not))
     ]
