@@ -1,4 +1,4 @@
-//! How long words are, and how many of their codewords are check codewords and are corrected, at the most.
+//! The bounds of a block: its longest word, and the most errors that are corrected in it.
 
 use gf301::MOST_CHECKS;
 

@@ -8,7 +8,7 @@ use super::field::Gf;
 use super::polynomial::{Poly, times};
 use super::tap_rows::TAP_ROWS;
 
-/// The most check codewords of a block: that of the square symbols of sides 48 and 96.
+/// The most check codewords of a block, which the square symbols of sides 48 and 96 have.
 pub const MOST_CHECKS: usize = 68;
 
 /// The generator polynomial for k check codewords, k of 1 to [`MOST_CHECKS`]: (x - 2^1) (x - 2^2) .. (x - 2^k), with k + 1
