@@ -8,11 +8,12 @@ use Rattle.dm_layout.specs.declared.shape.Shape.TheVariants.{Standard, Corner1, 
 use Rattle.dm_layout.specs.Grid.{is_dark_in}
 use Rattle.dm_layout.specs.Placement.{At, wrapped_cell, standard, cells_of}
 use Rattle.dm_layout.specs.Reading.{look_in}
-use Rattle.dm_layout.specs.Slots.{bits_in, reversed_bits, first_column, slot_of, AreSlots, HasSlots}
+use Rattle.dm_layout.specs.Slots.{bits_in, reversed_bits, first_column, slot_of, row_byte, slot_byte, AreSlots, HasSlots}
 use Rattle.dm_layout.specs.Walking.{CellsInside}
 use Rattle.dm_layout.specs.Widened.{IsWidened}
 use Rattle.dm_layout.proofs.Bits.{digit, digit-has, number_of, sum_of_digits}
 use Rattle.dm_layout.proofs.Reading.{word_of}
+use Rattle.dm_layout.proofs.SlotRows.{byte_here}
 
 -- ---- which shapes there are
 
@@ -109,13 +110,13 @@ module _ (n : ℕ) (look : ℕ → ℕ → Bool) (rows : List ℕ) (least : 8 �
       summed x1 x2 x3 x4 x5 x6 x7 x8 d1 d2 d3 d4 d5 d6 d7 d8 p1 p2 p3 p4 p5 p6 p7 p8 = omega arith
 
   -- the codeword of a standard shape, from its byte
-  standard_word : (r c : ℕ) (bytes : List ℕ) → r < n → c < n → (5 * r + c) % 8 ≡ 4 → CellsInside n (standard n r c) → AreSlots rows r bytes →
-      reversed_bits (get_or bytes (c / 8) 0) ≡ word_of look (standard n r c)
-  standard_word r c bytes lr lc anchor inside slots =
+  standard_word : (r c low high : ℕ) → r < n → c < n → (5 * r + c) % 8 ≡ 4 → CellsInside n (standard n r c) → AreSlots rows r low high →
+      reversed_bits (row_byte low high (c / 8)) ≡ word_of look (standard n r c)
+  standard_word r c low high lr lc anchor inside slots =
       let k : ℕ = c / 8 in
       let lk : k < 16 = omega (arith, lc, most) in
       let base : first_column r + 8 * k ≡ c + 2 = omega (arith, anchor) in
-      eight_reversed (get_or bytes k 0) _ _ _ _ _ _ _ _
+      eight_reversed (row_byte low high k) _ _ _ _ _ _ _ _
       (slots.first k 0 lk (omega arith) ∙ same_look (look_in rows) _ _ (r + 2 - 2) (c + 4 - 2) (omega arith) (omega (arith, base)) ∙ wide_at r c 2 2 lr lc anchor (omega arith) (omega arith) inside.0 inside.1)
       (slots.first k 1 lk (omega arith) ∙ same_look (look_in rows) _ _ (r + 2 - 2) (c + 4 - 1) (omega arith) (omega (arith, base)) ∙ wide_at r c 2 1 lr lc anchor (omega arith) (omega arith) inside.2.0 inside.2.1)
       (slots.second k 0 lk (omega arith) ∙ same_look (look_in rows) _ _ (r + 2 - 1) (c + 4 - 2) (omega arith) (omega (arith, base)) ∙ wide_at r c 1 2 lr lc anchor (omega arith) (omega arith) inside.2.2.0 inside.2.2.1)
@@ -133,22 +134,19 @@ module _ (n : ℕ) (look : ℕ → ℕ → Bool) (rows : List ℕ) (least : 8 �
       ∙ plain_bits (2 * a + digit (look x.row x.column)) xs h.2
 
   -- the codeword in a slot
-  abbrev in_slot : List (List ℕ) → ℕ → ℕ
-  in_slot slots x = reversed_bits (get_or (get_or slots (x / 16) []) (x % 16) 0)
+  abbrev in_slot : List ℕ → ℕ → ℕ
+  in_slot slots x = reversed_bits (slot_byte slots x)
 
   -- the codeword of a shape stands in its slot
-  slot_word : (slots : List (List ℕ)) (s : Shape) → HasSlots n rows slots → fits_test n s ≡ true → in_slot slots (slot_of s) ≡ word_of look (cells_of n s)
+  slot_word : (slots : List ℕ) (s : Shape) → HasSlots n rows slots → fits_test n s ≡ true → in_slot slots (slot_of s) ≡ word_of look (cells_of n s)
   slot_word slots (Standard r c) h fits =
       let both = and_parts (kind_test n (Standard r c)) (inside_test n (standard n r c)) fits in
       let kind = and_parts (nat_lt r n && nat_lt c n) (nat_eq ((5 * r + c) % 8) 4) both.0 in
       let here = and_parts (nat_lt r n) (nat_lt c n) kind.0 in
       let lr = ltb-true r n here.0 in
       let lc = ltb-true c n here.1 in
-      let row : (16 * r + c / 8) / 16 ≡ r = omega (arith, lc, most) in
-      let byte : (16 * r + c / 8) % 16 ≡ c / 8 = omega (arith, lc, most) in
-      ap (λ (i : ℕ). reversed_bits (get_or (get_or slots i []) ((16 * r + c / 8) % 16) 0)) row
-      ∙ ap (λ (i : ℕ). reversed_bits (get_or (get_or slots r []) i 0)) byte
-      ∙ standard_word r c (get_or slots r []) lr lc (eqb-true ((5 * r + c) % 8) 4 kind.1) (all_inside n (standard n r c) both.1) (h.anchors r lr)
+      ap reversed_bits (byte_here slots r (c / 8) (omega (arith, lc, most)))
+      ∙ standard_word r c (get_or slots (2 * r) 0) (get_or slots (2 * r + 1) 0) lr lc (eqb-true ((5 * r + c) % 8) 4 kind.1) (all_inside n (standard n r c) both.1) (h.anchors r lr)
   slot_word slots Corner1 h fits =
       let both = and_parts (kind_test n Corner1) (inside_test n (cells_of n Corner1)) fits in
       h.corner1 (eqb-true (n % 8) 4 both.0) ∙ plain_bits 0 (cells_of n Corner1) (all_inside n (cells_of n Corner1) both.1)
@@ -159,10 +157,10 @@ module _ (n : ℕ) (look : ℕ → ℕ → Bool) (rows : List ℕ) (least : 8 �
   slot_word slots Corner4 h fits = cc
 
   -- so are all
-  pub slot_words : (slots : List (List ℕ)) (ss : List Shape) → HasSlots n rows slots → list_all (fits_test n) ss ≡ true →
-      map (λ x. reversed_bits (get_or (get_or slots (x / 16) []) (x % 16) 0)) (map slot_of ss) ≡ map (λ sh. word_of look (cells_of n sh)) ss
+  pub slot_words : (slots : List ℕ) (ss : List Shape) → HasSlots n rows slots → list_all (fits_test n) ss ≡ true →
+      map (λ x. reversed_bits (slot_byte slots x)) (map slot_of ss) ≡ map (λ sh. word_of look (cells_of n sh)) ss
   slot_words slots [] h fits = refl
   slot_words slots (s ∷ ss) h fits =
       let both = and_parts (fits_test n s) (list_all (fits_test n) ss) fits in
-      ap (λ (w : ℕ). w ∷ map (λ x. reversed_bits (get_or (get_or slots (x / 16) []) (x % 16) 0)) (map slot_of ss)) (slot_word slots s h both.0)
+      ap (λ (w : ℕ). w ∷ map (λ x. reversed_bits (slot_byte slots x)) (map slot_of ss)) (slot_word slots s h both.0)
       ∙ ap (λ (ws : List ℕ). word_of look (cells_of n s) ∷ ws) (slot_words slots ss h both.1)

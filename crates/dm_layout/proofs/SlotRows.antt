@@ -4,7 +4,7 @@ use lib.Bits.{bit_and}
 use Rattle.std.proofs.Math.Bool.{or-false}
 use Rattle.std.specs.Bool.{beq}
 use Rattle.std.specs.Prelude.{min}
-use Rattle.std.specs.Int.{bit_at, w128, to_le_bytes, byte_at, bytes_low_first}
+use Rattle.std.specs.Int.{bit_at}
 use Rattle.std.specs.Int.RustNames.{bit_or}
 use Rattle.std.specs.List.{list_all, range_with_len}
 use Rattle.std.proofs.lemmas.Bool.{eqb-true, and_parts, lt-ltb, le-ltb, le-leb, lt-leb, cases_lt}
@@ -16,8 +16,9 @@ use Rattle.dm_layout.specs.declared.slots.TheConstants.{REVERSED}
 use Rattle.dm_layout.proofs.BorderMasks.{beq-true}
 use Rattle.dm_layout.proofs.Ranges.{all_below}
 use Rattle.dm_layout.proofs.OuterRows.{or_dark}
-use Rattle.std.proofs.lemmas.Nat.{pow-add}
-use Rattle.dm_layout.specs.Slots.{AreSlots, first_column}
+use Rattle.dm_layout.specs.Slots.{AreSlots, first_column, row_byte, slot_byte}
+use Rattle.std.proofs.lemmas.Bool.{ltb-true, ltb-false}
+use Rattle.std.proofs.lemmas.List.{length-set}
 use Rattle.dm_layout.proofs.InnerRows.{moved_bit}
 use Rattle.dm_layout.proofs.WidenedRows.{bit_up, none_up, low_bit}
 
@@ -115,31 +116,42 @@ joined_bit a b d c l =
 
 -- ---- the bytes of a row
 
--- a byte by its number
-byte_of : (i k n j : ℕ) → j < k → get_or (bytes_low_first i k n) j 0 ≡ byte_at (i + j) n
-byte_of i zero n j l = absurd (omega arith)
-byte_of i (suc k) n zero l = let z : i ≡ i + 0 = omega arith in ap (λ (m : ℕ). byte_at m n) z
-byte_of i (suc k) n (suc j) l = let z : suc i + j ≡ i + suc j = omega arith in byte_of (suc i) k n j (omega arith) ∙ ap (λ (m : ℕ). byte_at m n) z
+-- a bit of a byte of two numbers that are the halves of one
+pub byte_bit : (x low high k t : ℕ) → low ≡ x % 2 ^ 64 → high ≡ x / 2 ^ 64 → k < 16 → t < 8 → is_dark_in (row_byte low high k) t ≡ is_dark_in x (8 * k + t)
+byte_bit x low high k t el eh l h = by_half (nat_lt k 8) refl
+  where
+    by_half : (b : Bool) → nat_lt k 8 ≡ b → is_dark_in (elim b as (λ _. ℕ) [ true ↦ low / 2 ^ (8 * k) % 256 | false ↦ high / 2 ^ (8 * (k - 8)) % 256 ]) t ≡ is_dark_in x (8 * k + t)
+    by_half true e =
+        let m = ltb-true k 8 e in
+        low_bit (low / 2 ^ (8 * k)) 8 t h
+        ∙ ap (λ (i : ℕ). nat_eq i 1) (moved_bit low (8 * k) t)
+        ∙ ap (λ (i : ℕ). is_dark_in i (8 * k + t)) el
+        ∙ low_bit x 64 (8 * k + t) (omega (arith, m))
+    by_half false e =
+        let m = ltb-false k 8 e in
+        let z : 64 + (8 * (k - 8) + t) ≡ 8 * k + t = omega (arith, m) in
+        low_bit (high / 2 ^ (8 * (k - 8))) 8 t h
+        ∙ ap (λ (i : ℕ). nat_eq i 1) (moved_bit high (8 * (k - 8)) t)
+        ∙ ap (λ (i : ℕ). is_dark_in i (8 * (k - 8) + t)) eh
+        ∙ ap (λ (i : ℕ). nat_eq i 1) (moved_bit x 64 (8 * (k - 8) + t))
+        ∙ ap (is_dark_in x) z
 
-byte_weight : (k : ℕ) → 256 ^ k ≡ 2 ^ (8 * k)
-byte_weight zero = refl
-byte_weight (suc k) =
-    let a : suc k ≡ k + 1 = omega arith in
-    let b : 8 * k + 8 ≡ 8 * suc k = omega arith in
-    ap (λ (i : ℕ). 256 ^ i) a ∙ pow-add 256 k 1 ∙ ap (λ (p : ℕ). p * 256) (byte_weight k) ∙ sym (pow-add 2 (8 * k) 8) ∙ ap (λ (i : ℕ). 2 ^ i) b
-
-byte_whole : (k x : ℕ) → byte_at k x ≡ x / 2 ^ (8 * k) % 2 ^ 8
-byte_whole zero x = let z : x ≡ x / 1 = omega arith in ap (λ (i : ℕ). i % 256) z
-byte_whole (suc k) x = ap (λ (p : ℕ). x / p % 256) (byte_weight (suc k))
-
--- a bit of a byte
-pub byte_bit : (x k t : ℕ) → k < 16 → t < 8 → is_dark_in (get_or (to_le_bytes w128 x) k 0) t ≡ is_dark_in x (8 * k + t)
-byte_bit x k t l h =
-    let z : 0 + k ≡ k = omega arith in
-    ap (λ (i : ℕ). is_dark_in i t) (byte_of 0 16 x k l ∙ ap (λ (m : ℕ). byte_at m x) z)
-    ∙ ap (λ (i : ℕ). is_dark_in i t) (byte_whole k x)
-    ∙ low_bit (x / 2 ^ (8 * k)) 8 t h
-    ∙ ap (λ (i : ℕ). nat_eq i 1) (moved_bit x (8 * k) t)
+-- the byte of a slot is one of its row
+pub byte_here : (slots : List ℕ) (r k : ℕ) → k < 16 → slot_byte slots (16 * r + k) ≡ row_byte (get_or slots (2 * r) 0) (get_or slots (2 * r + 1) 0) k
+byte_here slots r k l = by_half (nat_lt k 8) refl
+  where
+    by_half : (b : Bool) → nat_lt k 8 ≡ b →
+        slot_byte slots (16 * r + k) ≡ elim b as (λ _. ℕ) [ true ↦ get_or slots (2 * r) 0 / 2 ^ (8 * k) % 256 | false ↦ get_or slots (2 * r + 1) 0 / 2 ^ (8 * (k - 8)) % 256 ]
+    by_half true e =
+        let m = ltb-true k 8 e in
+        let q : (16 * r + k) / 8 ≡ 2 * r = omega (arith, m) in
+        let p : (16 * r + k) % 8 ≡ k = omega (arith, m) in
+        ap (λ (i : ℕ). get_or slots i 0 / 2 ^ (8 * ((16 * r + k) % 8)) % 256) q ∙ ap (λ (i : ℕ). get_or slots (2 * r) 0 / 2 ^ (8 * i) % 256) p
+    by_half false e =
+        let m = ltb-false k 8 e in
+        let q : (16 * r + k) / 8 ≡ 2 * r + 1 = omega (arith, m, l) in
+        let p : (16 * r + k) % 8 ≡ k - 8 = omega (arith, m, l) in
+        ap (λ (i : ℕ). get_or slots i 0 / 2 ^ (8 * ((16 * r + k) % 8)) % 256) q ∙ ap (λ (i : ℕ). get_or slots (2 * r + 1) 0 / 2 ^ (8 * i) % 256) p
 
 -- a part that does not reach the bit
 other_row : (x : Bool) (c s : ℕ) → (s ≤ c → 3 ≤ (c - s) % 8) → (nat_le s c && (x && nat_lt ((c - s) % 8) 3)) ≡ false
@@ -182,27 +194,27 @@ masked_off x c l = ap (λ (t : Bool). x && t) (le-ltb (c % 8) 2 l) ∙ nothing x
     nothing false = refl
 
 -- the bytes of three rows in one are the codewords of a row
-pub are_slots : (rows : List ℕ) (r x : ℕ) →
+pub are_slots : (rows : List ℕ) (r x low high : ℕ) → low ≡ x % 2 ^ 64 → high ≡ x / 2 ^ 64 →
     ((c : ℕ) → c < 128 → is_dark_in x c ≡ is_joined (get_or rows r 0 / 2 ^ first_column r) (get_or rows (r + 1) 0 / 2 ^ first_column r) (get_or rows (r + 2) 0 / 2 ^ first_column r) c) →
-    AreSlots rows r (to_le_bytes w128 x)
-are_slots rows r x bits = record {
+    AreSlots rows r low high
+are_slots rows r x low high el eh bits = record {
   first = λ k t lk lt.
       let c : ℕ = 8 * k + t in
       let m : c % 8 < 2 = omega arith in
-      byte_bit x k t lk (omega arith) ∙ bits c (omega arith)
+      byte_bit x low high k t el eh lk (omega arith) ∙ bits c (omega arith)
       ∙ ap (λ (b : Bool). ((is_dark_in (row r) c && b) || (nat_le 2 c && (is_dark_in (row (r + 1)) (c - 2) && nat_lt ((c - 2) % 8) 3))) || (nat_le 5 c && (is_dark_in (row (r + 2)) (c - 5) && nat_lt ((c - 5) % 8) 3))) (lt-ltb (c % 8) 2 m)
       ∙ only_first (is_dark_in (row r) c) _ _ (other_row (is_dark_in (row (r + 1)) (c - 2)) c 2 (λ h. omega arith)) (other_row (is_dark_in (row (r + 2)) (c - 5)) c 5 (λ h. omega arith))
       ∙ there r c;
   second = λ k t lk lt.
       let c : ℕ = 8 * k + (2 + t) in
       let e : c - 2 ≡ 8 * k + t = omega arith in
-      byte_bit x k (2 + t) lk (omega arith) ∙ bits c (omega arith)
+      byte_bit x low high k (2 + t) el eh lk (omega arith) ∙ bits c (omega arith)
       ∙ only_second (is_dark_in (row (r + 1)) (c - 2)) _ _ _ (masked_off (is_dark_in (row r) c) c (omega arith)) (this_row (is_dark_in (row (r + 1)) (c - 2)) c 2 (omega arith) (omega arith)) (other_row (is_dark_in (row (r + 2)) (c - 5)) c 5 (λ h. omega arith))
       ∙ ap (is_dark_in (row (r + 1))) e ∙ there (r + 1) (8 * k + t);
   third = λ k t lk lt.
       let c : ℕ = 8 * k + (5 + t) in
       let e : c - 5 ≡ 8 * k + t = omega arith in
-      byte_bit x k (5 + t) lk (omega arith) ∙ bits c (omega arith)
+      byte_bit x low high k (5 + t) el eh lk (omega arith) ∙ bits c (omega arith)
       ∙ only_third (is_dark_in (row (r + 2)) (c - 5)) _ _ _ (masked_off (is_dark_in (row r) c) c (omega arith)) (other_row (is_dark_in (row (r + 1)) (c - 2)) c 2 (λ h. omega arith)) (this_row (is_dark_in (row (r + 2)) (c - 5)) c 5 (omega arith) (omega arith))
       ∙ ap (is_dark_in (row (r + 2))) e ∙ there (r + 2) (8 * k + t);
 }
@@ -214,26 +226,47 @@ are_slots rows r x bits = record {
     there q c = ap (λ (d : ℕ). nat_eq d 1) (moved_bit (get_or rows q 0) (first_column r) c)
 
 -- one more row
-pub slots_more : (rows : List ℕ) (slots : List (List ℕ)) (row : ℕ) (bytes : List ℕ) → row < length slots → ((r : ℕ) → r < row → AreSlots rows r (get_or slots r [])) → AreSlots rows row bytes →
-    (r : ℕ) → r < row + 1 → AreSlots rows r (get_or (set slots row bytes) r [])
-slots_more rows slots row bytes l old new =
-    below_more (λ r. AreSlots rows r (get_or (set slots row bytes) r [])) row
-    (λ r h. let ne : r ≢ row = omega arith in subst (AreSlots rows r) (sym (get_or-set_other slots row r bytes [] ne)) (old r h))
-    (subst (AreSlots rows row) (sym (get_or-set_same slots row bytes [] l)) new)
+pub slots_more : (rows slots : List ℕ) (row x : ℕ) → 2 * row + 1 < length slots → ((r : ℕ) → r < row → AreSlots rows r (get_or slots (2 * r) 0) (get_or slots (2 * r + 1) 0)) →
+    ((low high : ℕ) → low ≡ x % 2 ^ 64 → high ≡ x / 2 ^ 64 → AreSlots rows row low high) →
+    (r : ℕ) → r < row + 1 → AreSlots rows r (get_or (set (set slots (2 * row) (x % 2 ^ 64)) (2 * row + 1) (x / 2 ^ 64)) (2 * r) 0) (get_or (set (set slots (2 * row) (x % 2 ^ 64)) (2 * row + 1) (x / 2 ^ 64)) (2 * r + 1) 0)
+slots_more rows slots row x l old new = below_more (λ r. AreSlots rows r (get_or after (2 * r) 0) (get_or after (2 * r + 1) 0)) row before here
+  where
+    middle : List ℕ
+    middle = set slots (2 * row) (x % 2 ^ 64)
 
--- the last row, of the corner, is not changed
-pub last_kept : (slots : List (List ℕ)) (row : ℕ) (bytes : List ℕ) → row < 96 → length (get_or slots 96 []) ≡ 16 → length (get_or (set slots row bytes) 96 []) ≡ 16
-last_kept slots row bytes l e = let ne : 96 ≢ row = omega arith in ap length (get_or-set_other slots row 96 bytes [] ne) ∙ e
+    after : List ℕ
+    after = set middle (2 * row + 1) (x / 2 ^ 64)
 
--- nor are the other rows by the corner's codeword
-pub rows_kept : (rows : List ℕ) (slots : List (List ℕ)) (r : ℕ) (bytes : List ℕ) → r < 96 → AreSlots rows r (get_or slots r []) → AreSlots rows r (get_or (set slots 96 bytes) r [])
-rows_kept rows slots r bytes l h = let ne : r ≢ 96 = omega arith in subst (AreSlots rows r) (sym (get_or-set_other slots 96 r bytes [] ne)) h
+    kept : (i : ℕ) → i < 2 * row → get_or after i 0 ≡ get_or slots i 0
+    kept i h =
+        let a : i ≢ 2 * row + 1 = omega arith in
+        let b : i ≢ 2 * row = omega arith in
+        get_or-set_other middle (2 * row + 1) i (x / 2 ^ 64) 0 a ∙ get_or-set_other slots (2 * row) i (x % 2 ^ 64) 0 b
+
+    before : (r : ℕ) → r < row → AreSlots rows r (get_or after (2 * r) 0) (get_or after (2 * r + 1) 0)
+    before r h =
+        subst (λ (a : ℕ). AreSlots rows r a (get_or after (2 * r + 1) 0)) (sym (kept (2 * r) (omega arith)))
+        (subst (λ (b : ℕ). AreSlots rows r (get_or slots (2 * r) 0) b) (sym (kept (2 * r + 1) (omega arith))) (old r h))
+
+    here : AreSlots rows row (get_or after (2 * row) 0) (get_or after (2 * row + 1) 0)
+    here =
+        let a : 2 * row ≢ 2 * row + 1 = omega arith in
+        let n = length-set slots (2 * row) (x % 2 ^ 64) in
+        new _ _ (get_or-set_other middle (2 * row + 1) (2 * row) (x / 2 ^ 64) 0 a ∙ get_or-set_same slots (2 * row) (x % 2 ^ 64) 0 (omega arith))
+        (get_or-set_same middle (2 * row + 1) (x / 2 ^ 64) 0 (omega (arith, n, l)))
+
+-- the rows are not changed by the corner's codeword
+pub rows_kept : (rows slots : List ℕ) (r x : ℕ) → r < 96 → AreSlots rows r (get_or slots (2 * r) 0) (get_or slots (2 * r + 1) 0) → AreSlots rows r (get_or (set slots 192 x) (2 * r) 0) (get_or (set slots 192 x) (2 * r + 1) 0)
+rows_kept rows slots r x l h =
+    let a : 2 * r ≢ 192 = omega arith in
+    let b : 2 * r + 1 ≢ 192 = omega arith in
+    subst (λ (y : ℕ). AreSlots rows r y (get_or (set slots 192 x) (2 * r + 1) 0)) (sym (get_or-set_other slots 192 (2 * r) x 0 a))
+    (subst (λ (y : ℕ). AreSlots rows r (get_or slots (2 * r) 0) y) (sym (get_or-set_other slots 192 (2 * r + 1) x 0 b)) h)
 
 -- the corner's codeword
-pub corner_kept : (slots : List (List ℕ)) (x y : ℕ) → length slots ≡ 97 → length (get_or slots 96 []) ≡ 16 → y < 256 → x ≡ reversed_bits y →
-    reversed_bits (get_or (get_or (set slots 96 (set (get_or slots 96 []) 0 x)) 96 []) 0 0) ≡ y
-corner_kept slots x y count long small e =
-    ap (λ (bytes : List ℕ). reversed_bits (get_or bytes 0 0)) (get_or-set_same slots 96 (set (get_or slots 96 []) 0 x) [] (omega arith))
-    ∙ ap reversed_bits (get_or-set_same (get_or slots 96 []) 0 x 0 (omega arith))
-    ∙ ap reversed_bits e
+pub corner_kept : (slots : List ℕ) (x y : ℕ) → length slots ≡ 194 → x < 256 → y < 256 → x ≡ reversed_bits y → reversed_bits (slot_byte (set slots 192 x) 1536) ≡ y
+corner_kept slots x y count fits small e =
+    let z : x / 1 % 256 ≡ x = omega arith in
+    ap (λ (i : ℕ). reversed_bits (i / 1 % 256)) (get_or-set_same slots 192 x 0 (omega arith))
+    ∙ ap reversed_bits (z ∙ e)
     ∙ reversed_twice y small

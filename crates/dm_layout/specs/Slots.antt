@@ -1,6 +1,6 @@
 -- The codewords of the anchors of a row as the bytes of one number, with their bits in the opposite order, and where each codeword stands.
 -- The anchors of row r have columns that leave (3r + 4) mod 8 when divided by 8.
-use Rattle.std.specs.Prelude.{◌≡◌, ℕ, ◌+◌, ◌-◌, ◌*◌, ◌/◌, ◌%◌, ◌<◌, Bool, ◌&&◌, ◌||◌, nat_eq, nat_le, nat_lt, List, [], ◌∷◌, get_or, if◌then◌else◌}
+use Rattle.std.specs.Prelude.{◌≡◌, ℕ, ◌+◌, ◌-◌, ◌*◌, ◌/◌, ◌%◌, ◌^◌, ◌<◌, Bool, true, false, ◌&&◌, ◌||◌, nat_eq, nat_le, nat_lt, List, [], ◌∷◌, get_or, if◌then◌else◌}
 use Rattle.std.specs.Int.{bit_at}
 use Rattle.dm_layout.specs.Grid.{is_dark_in}
 use Rattle.dm_layout.specs.Reading.{look_in}
@@ -32,17 +32,25 @@ is_joined a b d c =
 abbrev pub first_column : ℕ → ℕ
 first_column r = (4 + 3 * r) % 8 + 2
 
--- the codewords whose anchors lie in row r, from widened rows
-pub record AreSlots (rows : List ℕ) (r : ℕ) (bytes : List ℕ) : Type 0 where
-  pub first : (k t : ℕ) → k < 16 → t < 2 → is_dark_in (get_or bytes k 0) t ≡ look_in rows r (first_column r + (8 * k + t))
-  pub second : (k t : ℕ) → k < 16 → t < 3 → is_dark_in (get_or bytes k 0) (2 + t) ≡ look_in rows (r + 1) (first_column r + (8 * k + t))
-  pub third : (k t : ℕ) → k < 16 → t < 3 → is_dark_in (get_or bytes k 0) (5 + t) ≡ look_in rows (r + 2) (first_column r + (8 * k + t))
+-- a byte of a row's two numbers, each of eight bytes
+abbrev pub row_byte : ℕ → ℕ → ℕ → ℕ
+row_byte low high k = elim (nat_lt k 8) [ true ↦ low / 2 ^ (8 * k) % 256 | false ↦ high / 2 ^ (8 * (k - 8)) % 256 ]
+
+-- the byte in a slot
+abbrev pub slot_byte : List ℕ → ℕ → ℕ
+slot_byte slots x = get_or slots (x / 8) 0 / 2 ^ (8 * (x % 8)) % 256
+
+-- these two numbers are the codewords whose anchors lie in row r, from widened rows
+pub record AreSlots (rows : List ℕ) (r low high : ℕ) : Type 0 where
+  pub first : (k t : ℕ) → k < 16 → t < 2 → is_dark_in (row_byte low high k) t ≡ look_in rows r (first_column r + (8 * k + t))
+  pub second : (k t : ℕ) → k < 16 → t < 3 → is_dark_in (row_byte low high k) (2 + t) ≡ look_in rows (r + 1) (first_column r + (8 * k + t))
+  pub third : (k t : ℕ) → k < 16 → t < 3 → is_dark_in (row_byte low high k) (5 + t) ≡ look_in rows (r + 2) (first_column r + (8 * k + t))
 
 -- for each row of the mapping square of side n its codewords, and behind all of them that of a corner
-pub record HasSlots (n : ℕ) (rows : List ℕ) (slots : List (List ℕ)) : Type 0 where
-  pub anchors : (r : ℕ) → r < n → AreSlots rows r (get_or slots r [])
-  pub corner1 : n % 8 ≡ 4 → reversed_bits (get_or (get_or slots 96 []) 0 0) ≡ word_in rows (cells_of n Corner1)
-  pub corner2 : n % 8 ≡ 6 → reversed_bits (get_or (get_or slots 96 []) 0 0) ≡ word_in rows (cells_of n Corner2)
+pub record HasSlots (n : ℕ) (rows slots : List ℕ) : Type 0 where
+  pub anchors : (r : ℕ) → r < n → AreSlots rows r (get_or slots (2 * r) 0) (get_or slots (2 * r + 1) 0)
+  pub corner1 : n % 8 ≡ 4 → reversed_bits (slot_byte slots 1536) ≡ word_in rows (cells_of n Corner1)
+  pub corner2 : n % 8 ≡ 6 → reversed_bits (slot_byte slots 1536) ≡ word_in rows (cells_of n Corner2)
 
 -- the slot of a shape's codeword: 16 for each row, and an eighth of the anchor's column; the last one for a corner
 abbrev pub slot_of : Shape → ℕ

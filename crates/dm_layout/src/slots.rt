@@ -5,7 +5,7 @@
 ghost use Rattle.std.specs.Prelude.{◌≡◌, ℕ, ◌+◌, ◌*◌, ◌/◌, ◌%◌, ◌<◌, ◌≤◌, ◌&&◌, ◌||◌, nat_le, nat_lt, get_or, List, []};
 ghost use Rattle.dm_layout.specs.Grid.{is_dark_in};
 ghost use Rattle.dm_layout.specs.Placement.{cells_of};
-ghost use Rattle.dm_layout.specs.Slots.{is_joined, reversed_bits, word_in, order_of, HasSlots};
+ghost use Rattle.dm_layout.specs.Slots.{is_joined, reversed_bits, word_in, order_of, slot_byte, HasSlots};
 ghost use Rattle.dm_layout.specs.Walking.{CellsInside, largest_mapping};
 ghost use Rattle.dm_layout.specs.declared.shape.Shape.TheVariants.{Corner1, Corner2};
 
@@ -19,8 +19,12 @@ const TWO: u128 = 0x0303_0303_0303_0303_0303_0303_0303_0303;
 /// The lowest three bits of each byte.
 const THREE: u128 = 0x0707_0707_0707_0707_0707_0707_0707_0707;
 
-/// For each row of the mapping square the codewords of its anchors, and behind them all that of a corner; each has its bits in the opposite order.
-pub(crate) type Slots = [[u8; 16]; LARGEST_MAPPING + 1];
+/// For each row of the mapping square the codewords of its anchors, in two numbers of eight, and behind them all that of a corner; each
+/// has its bits in the opposite order.
+pub(crate) type Slots = [u64; SLOTS];
+
+/// How many such numbers there are.
+pub(crate) const SLOTS: usize = 2 * (LARGEST_MAPPING + 1);
 
 /// Each byte with its bits in the opposite order.
 static REVERSED: [u8; 256] = [
@@ -81,33 +85,31 @@ fn corner_word(rows: &[u128; WIDENED], mapping: u16) -> u8
     }
 }
 
-/// The codewords in widened rows.
-pub(crate) fn slots(rows: &[u128; WIDENED], mapping: u16) -> Slots
+/// Puts the codewords in widened rows into their slots.
+pub(crate) fn fill_slots(slots: &mut Slots, rows: &[u128; WIDENED], mapping: u16)
     requires low { 8 ≤ mapping }
     requires small { mapping ≤ largest_mapping }
-    ensures { HasSlots mapping rows.now result }
+    ensures { HasSlots mapping rows.now slots.new }
 {
-    let mut slots = [[0; 16]; LARGEST_MAPPING + 1];
     for row in 0..mapping as usize {
         let first = (4 + 3 * row) % 8 + 2;
-        slots[row] = joined(
+        let codewords = joined(
             rows[row] >> first,
             rows[row + 1] >> first,
             rows[row + 2] >> first,
-        )
-        .to_le_bytes();
+        );
+        slots[2 * row] = (codewords % (1 << 64)) as u64;
+        slots[2 * row + 1] = (codewords >> 64) as u64;
     }
-    slots[LARGEST_MAPPING][0] = reversed(corner_word(rows, mapping));
-    slots
+    slots[2 * LARGEST_MAPPING] = u64::from(reversed(corner_word(rows, mapping)));
 }
 
 /// The codeword of a slot.
 pub(crate) fn codeword(slots: &Slots, slot: u16) -> u8
     requires { slot < 16 * (largest_mapping + 1) }
-    ensures { result ≡ reversed_bits (get_or (get_or slots.now (slot / 16) []) (slot % 16) 0) }
+    ensures { result ≡ reversed_bits (slot_byte slots.now slot) }
 {
-    let slot = slot as usize;
-    reversed(slots[slot / 16][slot % 16])
+    reversed(((slots[(slot / 8) as usize] >> (8 * (slot % 8))) % 256) as u8)
 }
 
 /// The slots of the codewords in order.

@@ -31,15 +31,15 @@ fn inner_row(row: u128, region_side: u16, across: u16) -> u128
     inner
 }
 
-/// The rows of the mapping square of a grid, with nothing around it.
-fn moved_rows(grid: &Grid) -> [u128; WIDENED]
-    ensures { IsMoved grid.now.size.mapping (mapped_cell grid.now) result }
+/// Makes rows without a dark cell those of the mapping square of a grid, with nothing around it.
+fn move_rows(grid: &Grid, rows: &mut [u128; WIDENED])
+    requires { (r c : ℕ) → look_in rows.old r c ≡ false }
+    ensures { IsMoved grid.now.size.mapping (mapped_cell grid.now) rows.new }
 {
     let size = grid.size();
     let region_side = size.region_side();
     let mapping = size.mapping();
     let across = mapping / region_side;
-    let mut rows = [0; WIDENED];
     let mut region = 0;
     let mut until = region_side;
     for row in 0..mapping {
@@ -50,7 +50,6 @@ fn moved_rows(grid: &Grid) -> [u128; WIDENED]
         let outer = grid.row(row + 2 * region + 1);
         rows[row as usize + 2] = inner_row(outer, region_side, across) << 4;
     }
-    rows
 }
 
 /// Puts left of each row the last four columns of the row that lies 4 - shift rows below.
@@ -78,14 +77,14 @@ fn wrap_rows(rows: &mut [u128; WIDENED], mapping: u16, shift: u16)
     rows[1] = (rows[mapping as usize + 1] << shift) >> 4;
 }
 
-/// The widened rows of a grid.
-pub(crate) fn widened(grid: &Grid) -> [u128; WIDENED]
-    ensures { IsWidened grid.now.size.mapping (mapped_cell grid.now) result }
+/// Makes rows without a dark cell the widened rows of a grid.
+pub(crate) fn widen(grid: &Grid, rows: &mut [u128; WIDENED])
+    requires { (r c : ℕ) → look_in rows.old r c ≡ false }
+    ensures { IsWidened grid.now.size.mapping (mapped_cell grid.now) rows.new }
 {
     let mapping = grid.size().mapping();
     let shift = (mapping + 4) % 8;
-    let mut rows = moved_rows(grid);
-    wrap_columns(&mut rows, mapping, shift);
-    wrap_rows(&mut rows, mapping, shift);
-    rows
+    move_rows(grid, rows);
+    wrap_columns(rows, mapping, shift);
+    wrap_rows(rows, mapping, shift);
 }

@@ -1,5 +1,5 @@
-use Rattle.std.proofs.Common.{◌≡◌, map, take, get_or, [], ◌/◌, ◌%◌}
-use Rattle.dm_layout.specs.Slots.{order_of, reversed_bits}
+use Rattle.std.proofs.Common.{◌≡◌, map, take}
+use Rattle.dm_layout.specs.Slots.{order_of, reversed_bits, slot_byte}
 use Rattle.dm_layout.specs.Words.{IsWords}
 use Rattle.dm_layout.proofs.placing.lift_to.Given as goal
 
@@ -7,5 +7,5 @@ abbrev pub invariant-loop-i : goal.invariant-loop-i
 invariant-loop-i l = record {
   words : IsWords l.words;
   size : l.words.size ≡ l.grid.size;
-  so_far : take l.i l.words.list ≡ take l.i (map (λ x. reversed_bits (get_or (get_or l.slots (x / 16) []) (x % 16) 0)) (order_of l.mapping));
+  so_far : take l.i l.words.list ≡ take l.i (map (λ x. reversed_bits (slot_byte l.slots x)) (order_of l.mapping));
 }

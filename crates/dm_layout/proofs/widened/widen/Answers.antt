@@ -4,7 +4,7 @@ use Rattle.dm_layout.specs.Widened.{IsMoved, IsWidened}
 use Rattle.dm_layout.specs.Border.{mapped_cell}
 use Rattle.dm_layout.proofs.PlacementRows.{bounds_at_row}
 use Rattle.dm_layout.proofs.WidenedRows.{is_widened}
-use Rattle.dm_layout.proofs.widened.widened.Goals as goal
+use Rattle.dm_layout.proofs.widened.widen.Goals as goal
 
 small : (s : SizeRow) (m : ℕ) → IsRow s → m ≡ s.mapping → m ≤ 96
 small s m row e = let b = bounds_at_row s row in let h = b.high in omega (arith, h, e)
@@ -24,7 +24,7 @@ pub returns : goal.returns
 returns c =
     let e : c.mapping-mapping.result ≡ c.args.grid.now.size.mapping = c.mapping-mapping.ensures.value ∙ ap (λ (s : SizeRow). s.mapping) c.size.ensures.value in
     subst (λ (n : ℕ). IsWidened n (mapped_cell c.args.grid.now) c.wrap_rows.new.rows) e
-    (is_widened c.mapping-mapping.result (mapped_cell c.args.grid.now) c.moved_rows-rows.result c.wrap_columns.new.rows c.wrap_rows.new.rows (omega (arith, c.mapping-mapping.ensures.least, c.mapping-mapping.ensures.value))
+    (is_widened c.mapping-mapping.result (mapped_cell c.args.grid.now) c.move_rows.new.rows c.wrap_columns.new.rows c.wrap_rows.new.rows (omega (arith, c.mapping-mapping.ensures.least, c.mapping-mapping.ensures.value))
     (small c.size.result c.mapping-mapping.result c.mapping-mapping.ensures.row c.mapping-mapping.ensures.value)
-    (subst (λ (n : ℕ). IsMoved n (mapped_cell c.args.grid.now) c.moved_rows-rows.result) (sym e) c.moved_rows-rows.ensures)
+    (subst (λ (n : ℕ). IsMoved n (mapped_cell c.args.grid.now) c.move_rows.new.rows) (sym e) c.move_rows.ensures)
     c.wrap_columns.ensures c.wrap_rows.ensures.above c.wrap_rows.ensures.others)

@@ -1,16 +1,15 @@
-use Rattle.std.proofs.Common.{◌≡◌, ℕ, ◌+◌, ◌*◌, ◌/◌, ◌<◌, ◌≤◌, ◌^◌, refl, sym, ap, subst, arith, ◌∙◌}
+use Rattle.std.proofs.Common.{◌≡◌, ℕ, ◌+◌, ◌*◌, ◌/◌, ◌<◌, ◌≤◌, ◌^◌, sym, ap, subst, arith, ◌∙◌}
 use Rattle.std.proofs.lemmas.List.{length-set}
 use Rattle.std.proofs.Math.Nat.{div-mul-le_self}
 use Rattle.dm_layout.specs.Sizes.{SizeRow, IsRow}
 use Rattle.dm_layout.specs.Border.{mapped_cell}
 use Rattle.dm_layout.specs.Grid.{cell_at, is_dark_in}
 use Rattle.dm_layout.proofs.InnerRows.{one_line}
-use Rattle.dm_layout.proofs.Painting.{light_at}
 use Rattle.dm_layout.proofs.PlacementRows.{bounds_at_row}
 use Rattle.dm_layout.proofs.DrawnRows.{regions_cover}
 use Rattle.dm_layout.proofs.WidenedRows.{IsRegion, next_region, same_region, line_here, moved_more}
-use Rattle.dm_layout.proofs.widened.moved_rows.Goals as goal
-use Rattle.dm_layout.proofs.widened.moved_rows.Goals.{then-row-until, else-row-until}
+use Rattle.dm_layout.proofs.widened.move_rows.Goals as goal
+use Rattle.dm_layout.proofs.widened.move_rows.Goals.{then-row-until, else-row-until}
 
 small : (s : SizeRow) (m : ℕ) → IsRow s → m ≡ s.mapping → m ≤ 96
 small s m row e = let b = bounds_at_row s row in let h = b.high in omega (arith, h, e)
@@ -23,13 +22,13 @@ narrow_in s m d n x row em ed e l =
 
 pub loop-row-init : goal.loop-row-init
 loop-row-init c = record {
-  count = refl;
+  count = c.told-rows;
   region_end = omega arith;
   begun = omega arith;
   upto = omega arith;
   inside = λ r q l. absurd (omega (arith, l));
-  left = λ r q l. light_at 102 r q;
-  right = λ r q l. light_at 102 r q;
+  left = λ r q l. c.requires r q;
+  right = λ r q l. c.requires r q;
 }
 
 pub inner_row-requires-clause-fits : goal.inner_row-requires-clause-fits
