@@ -1,7 +1,8 @@
 -- Distances of words.
-use Rattle.std.proofs.Common.{◌≡◌, ℕ, zero, suc, ◌+◌, ◌-◌, ◌<◌, ◌≤◌, eqb, List, get_or, refl, sym, inl, inr, arith}
+use Rattle.std.proofs.Common.{◌≡◌, ℕ, zero, suc, ◌+◌, ◌-◌, ◌<◌, ◌≤◌, eqb, List, get_or, length, refl, sym, inl, inr, arith}
 use Rattle.std.proofs.lemmas.Bool.{cases_Bool, cases_eq, cases_lt, eq-eqb, ne_eqb, cond-true, cond-false}
-use Rattle.dm_code.specs.Codeword.{differs, differing}
+use Rattle.std.proofs.lemmas.List.{ext_get_or}
+use Rattle.dm_code.specs.Codeword.{differs, differing, distance}
 
 -- Equal numbers count nothing.
 pub differs_same : (a b : ℕ) → a ≡ b → differs a b ≡ 0
@@ -58,3 +59,21 @@ pub differing_turned : (w c : List ℕ) (n : ℕ) → differing w c n ≡ differ
 unfolding differing
 differing_turned w c zero = refl
 differing_turned w c (suc n) = omega (arith, differing_turned w c n, differs_turned (get_or w n 0) (get_or c n 0))
+
+-- Two numbers that count nothing are equal.
+same_number : (a b : ℕ) → differs a b ≡ 0 → a ≡ b
+same_number a b none = elim (cases_eq a b) [ inl e ↦ e | inr n ↦ absurd (omega (arith, none, differs_other a b n)) ]
+
+-- Words that differ at none of the first n places agree there.
+agrees : (w c : List ℕ) (n i : ℕ) → differing w c n ≡ 0 → i < n → get_or w i 0 ≡ get_or c i 0
+unfolding differing
+agrees w c zero i none h = absurd (omega arith)
+agrees w c (suc n) i none h =
+    elim (cases_eq i n) [
+      | inl e ↦ rw e (same_number (get_or w n 0) (get_or c n 0) (omega (arith, none)))
+      | inr o ↦ agrees w c n i (omega (arith, none)) (omega (arith, h, o))
+    ]
+
+-- Words of one length that differ nowhere are equal.
+pub differing_nowhere : (w c : List ℕ) → length c ≡ length w → distance w c ≡ 0 → c ≡ w
+differing_nowhere w c long none = ext_get_or 0 c w long (λ i h. sym (agrees w c (length w) i none (omega (arith, h, long))))

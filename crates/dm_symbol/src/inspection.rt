@@ -1,14 +1,14 @@
 //! Inspection: the codewords of a grid, and as they are corrected, whether it can be read or not.
 
-ghost use Rattle.std.specs.Prelude.{◌≡◌, ◌≢◌, ◌<◌, ℕ, None, get_or, length};
+ghost use Rattle.std.specs.Prelude.{◌≡◌, ◌<◌, ℕ, None, get_or, length};
 ghost use Rattle.dm_layout.specs.Grid.{GridView};
 ghost use Rattle.dm_layout.specs.Sizes.{block_check};
 ghost use Rattle.dm_symbol.specs.Blocks.{AreWordsOf, block_at};
 ghost use Rattle.dm_symbol.specs.Inspection.{IsInspection, IsMended};
 
+use crate::correction::mend_block;
 use arrayvec::ArrayVec;
-use dm_code::{Quick, correct};
-use dm_layout::{Grid, MOST_BLOCKS, Words, block, border_faults, lift, put_block};
+use dm_layout::{Grid, MOST_BLOCKS, Words, border_faults, lift};
 
 /// The codewords of a grid, and as far as they can be corrected.
 #[derive(Clone, Debug, Drop, PartialEq, Eq)]
@@ -52,20 +52,4 @@ fn mend(words: &mut Words) -> ArrayVec<Option<u8>, MOST_BLOCKS>
         counts.push(mend_block(words, usize::from(b)));
     }
     counts
-}
-
-/// The same for one block.
-fn mend_block(words: &mut Words, b: usize) -> Option<u8>
-    requires { b < words.old.size.blocks }
-    ensures size { words.new.size ≡ words.old.size }
-    ensures words { AreWordsOf words.old.size words.new.list }
-    ensures mended { IsMended (block_check words.old.size) (block_at words.old.size words.old.list b) (block_at words.old.size words.new.list b) result }
-    ensures others { (a : ℕ) → a < words.old.size.blocks → a ≢ b → block_at words.old.size words.new.list a ≡ block_at words.old.size words.old.list a }
-{
-    let checks = usize::from(words.size().block_check());
-    let Ok(fixed) = correct(&Quick, &block(words, b), checks) else {
-        return None;
-    };
-    put_block(words, b, &fixed.word);
-    Some(fixed.changed)
 }

@@ -6,6 +6,7 @@
 //! these definitions, which the functions of [`laws`] prove. No call takes memory.
 #![tactic(auto)]
 
+mod correction;
 mod inspection;
 pub mod laws;
 mod limit;

@@ -7,9 +7,9 @@ ghost use Rattle.dm_symbol.specs.Blocks.{AreWordsOf, BlocksAreNear, distances};
 ghost use Rattle.dm_words.specs.Places.{outcome};
 ghost use Rattle.dm_symbol.specs.Reading.{Reads, ReadAnswer, IsReadAs, IsFirstBeyond, reading_of};
 
+use crate::correction::mend_block;
 use arrayvec::ArrayVec;
-use dm_code::{BeyondLimit, Quick, correct};
-use dm_layout::{Grid, MOST_BLOCKS, Words, block, border_faults, lift, put_block};
+use dm_layout::{Grid, MOST_BLOCKS, Words, border_faults, lift};
 use dm_words::{Message, WordFault, message_to};
 
 /// What a grid says, and how much of it was wrong.
@@ -97,16 +97,12 @@ fn correct_blocks(words: &mut Words, counts: &mut ArrayVec<u8, MOST_BLOCKS>) -> 
     ensures counts { OnOk result (counts.new.items ≡ distances words.old.size words.old.list words.new.list) }
     ensures beyond { IfErr result (λ b. IsFirstBeyond words.old.size words.old.list b) }
 {
-    let size = words.size();
-    let checks = usize::from(size.block_check());
     counts.clear();
-    for b in 0..size.blocks() as u8 {
-        let fixed = match correct(&Quick, &block(words, usize::from(b)), checks) {
-            Ok(fixed) => fixed,
-            Err(BeyondLimit) => return Err(b),
-        };
-        put_block(words, usize::from(b), &fixed.word);
-        counts.push(fixed.changed);
+    for b in 0..words.size().blocks() as u8 {
+        match mend_block(words, usize::from(b)) {
+            Some(changed) => counts.push(changed),
+            None => return Err(b),
+        }
     }
     Ok(())
 }

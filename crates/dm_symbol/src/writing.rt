@@ -52,19 +52,39 @@ pub fn write_to(profile: Profile, message: &Message, grid: &mut Grid) -> Result<
 }
 
 /// The codewords of a symbol of this size with these data codewords: the check codewords make each block a codeword. The list is left
-/// with 0 at the place of each check codeword.
+/// with something at the place of each check codeword.
 fn completed(list: &mut ArrayVec<u8, MOST_CODEWORDS>, size: Size) -> Words
     requires { length list.old.items ≡ size.data_count }
     ensures size { result.size ≡ size }
     ensures data_words { data_part size result.list ≡ list.old.items }
     ensures checked { BlocksAreCodewords size result.list }
 {
+    if size.blocks() == 1 {
+        return completed_block(list, size);
+    }
     add_room(list, size);
     let mut words = Words::new(size, list);
     for b in 0..size.blocks() as usize {
         complete_block(&mut words, b);
     }
     words
+}
+
+/// The same for a symbol of one block: nothing is dealt, and the check codewords are added to the list.
+fn completed_block(list: &mut ArrayVec<u8, MOST_CODEWORDS>, size: Size) -> Words
+    requires one { size.blocks ≡ 1 }
+    requires data_words { length list.old.items ≡ size.data_count }
+    ensures size { result.size ≡ size }
+    ensures data_words { data_part size result.list ≡ list.old.items }
+    ensures checked { BlocksAreCodewords size result.list }
+{
+    // That they fit is known from the size's methods.
+    let _side = size.side();
+    let checks = encode(list, usize::from(size.block_check()));
+    for check in checks.as_slice() {
+        list.push(*check);
+    }
+    Words::new(size, list)
 }
 
 /// Adds 0 at the place of each check codeword to the data codewords.
