@@ -3,6 +3,7 @@
 ghost use Rattle.std.specs.Prelude.{◌≡◌, ◌<◌, ◌↔◌, ℕ, List, [], OnOk, IfErr};
 ghost use Rattle.dm_words.specs.declared.item.Item.{Item};
 ghost use Rattle.dm_layout.specs.Border.{border_fault_count};
+ghost use Rattle.dm_layout.specs.Holds.{Holds};
 ghost use Rattle.dm_symbol.specs.Blocks.{AreWordsOf, BlocksAreNear, distances};
 ghost use Rattle.dm_words.specs.Places.{outcome};
 ghost use Rattle.dm_symbol.specs.Reading.{Reads, ReadAnswer, IsReadAs, IsFirstBeyond, reading_of};
@@ -75,7 +76,7 @@ pub fn read_to(grid: &Grid, border_limit: u16, reading: &mut Reading) -> Result<
         return Err(ReadFault::Border(border_faults));
     }
     reading.border_faults = border_faults;
-    let mut words = lift(grid);
+    let mut words = lifted(grid);
     match correct_blocks(&mut words, &mut reading.corrected) {
         Ok(()) => {}
         Err(b) => return Err(ReadFault::Block(b)),
@@ -86,9 +87,18 @@ pub fn read_to(grid: &Grid, border_limit: u16, reading: &mut Reading) -> Result<
     }
 }
 
+/// The codewords that the grid holds.
+// The rows from which they are taken stand in a frame of their own, which is gone when blocks are corrected.
+#[inline(never)]
+fn lifted(grid: &Grid) -> Words
+    ensures { Holds grid.now result }
+{
+    lift(grid)
+}
+
 /// Puts the codeword near each block in its place, and leaves in `counts` the number of codewords that this changes in each; or gives
 /// the first block that no codeword is near.
-// The words of a block stand in a frame of their own, beside that in which the message is read.
+// The codewords of a block stand in a frame of their own, which is gone when the message is read.
 #[inline(never)]
 fn correct_blocks(words: &mut Words, counts: &mut ArrayVec<u8, MOST_BLOCKS>) -> Result<(), u8>
     ensures size { words.new.size ≡ words.old.size }

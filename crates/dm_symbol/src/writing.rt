@@ -3,6 +3,7 @@
 ghost use Rattle.std.specs.Prelude.{◌≡◌, ◌≢◌, ◌++◌, ◌<◌, ℕ, length, take, drop, replicate};
 ghost use Rattle.dm_code.specs.Codeword.{IsCodeword};
 ghost use Rattle.dm_layout.specs.Sizes.{codeword_count, block_check};
+ghost use Rattle.dm_layout.specs.Holds.{IsLaid};
 ghost use Rattle.dm_symbol.specs.Blocks.{AreWordsOf, BlocksAreCodewords, block_at, data_part};
 ghost use Rattle.dm_words.specs.Places.{outcome};
 ghost use Rattle.dm_symbol.specs.NormalGrid.{IsWritten};
@@ -47,8 +48,17 @@ pub fn write_to(profile: Profile, message: &Message, grid: &mut Grid) -> Result<
         return Err(TooLong);
     };
     add_pads(&mut list, size);
-    *grid = lay(&completed(&mut list, size));
+    lay_in(&completed(&mut list, size), grid);
     Ok(())
+}
+
+/// Makes it the grid in which these codewords are laid.
+// The rows that are laid stand in a frame of their own, beside that in which the codewords are made.
+#[inline(never)]
+fn lay_in(words: &Words, grid: &mut Grid)
+    ensures { IsLaid words.now grid.new }
+{
+    *grid = lay(words);
 }
 
 /// The codewords of a symbol of this size with these data codewords: the check codewords make each block a codeword. The list is left
