@@ -7,6 +7,8 @@ ghost use Rattle.dm_layout.specs.Grid.{square_of_rows};
 use dm_layout::Grid;
 
 /// A grid of the smallest size with all cells light: a place for [`write_to`](crate::write_to()) and [`normal_to`](crate::normal_to()).
+// The grid's copies stand in a frame of their own, which no caller's frame has to hold.
+#[inline(never)]
 pub fn light_grid() -> Grid
     ensures size { row_with_side 10 ≡ Some result.size }
     ensures cells { result.rows ≡ square_of_rows 10 (replicate 10 0) }

@@ -53,7 +53,7 @@ pub fn write_to(profile: Profile, message: &Message, grid: &mut Grid) -> Result<
 }
 
 /// Makes it the grid in which these codewords are laid.
-// The rows that are laid stand in a frame of their own, beside that in which the codewords are made.
+// The rows that are laid stand in a frame of their own, which no caller's frame has to hold.
 #[inline(never)]
 fn lay_in(words: &Words, grid: &mut Grid)
     ensures { IsLaid words.now grid.new }
@@ -63,6 +63,8 @@ fn lay_in(words: &Words, grid: &mut Grid)
 
 /// The codewords of a symbol of this size with these data codewords: the check codewords make each block a codeword. The list is left
 /// with something at the place of each check codeword.
+// The codewords of a block stand in a frame of their own, which is gone when the grid is made.
+#[inline(never)]
 fn completed(list: &mut ArrayVec<u8, MOST_CODEWORDS>, size: Size) -> Words
     requires { length list.old.items ≡ size.data_count }
     ensures size { result.size ≡ size }

@@ -6,8 +6,8 @@ use Rattle.std.proofs.lemmas.List.{get_or-drop}
 use Rattle.dm_words.specs.declared.c40.pair.PairsEnd.{PairsEnd}
 use Rattle.dm_words.specs.declared.c40.pair.PairsEnd.TheVariants as stop
 use Rattle.dm_words.specs.Runs.{IsPair}
-use Rattle.dm_words.specs.Scan.Walk.{Step, Takes, Stops}
-use Rattle.dm_words.specs.Scan.Fronts.{values_of, pair_by, pair_front}
+use Rattle.dm_words.specs.inner.Scan.Walk.{Step, Takes, Stops}
+use Rattle.dm_words.specs.inner.Scan.Fronts.{values_of, pair_by, pair_front}
 use Rattle.dm_words.proofs.Walks.{IsSound, IsComplete}
 
 -- Each word is 0 to 255.

@@ -3,10 +3,10 @@ use Rattle.std.proofs.Common.{◌≡◌, ℕ, suc, ◌+◌, ◌*◌, ◌<◌, �
 use Rattle.std.proofs.lemmas.List.{append-nil, length-drop, length-append, drop-drop}
 use Rattle.dm_words.specs.declared.item.Item.{Item}
 use Rattle.dm_words.specs.declared.fault.WordFault.{WordFault}
-use Rattle.dm_words.specs.Scan.Walk.{Takes, Stops, walk, flat}
-use Rattle.dm_words.specs.Scan.Fronts.{part_front, read_to, read_on}
+use Rattle.dm_words.specs.inner.Scan.Walk.{Takes, Stops, walk, flat}
+use Rattle.dm_words.specs.inner.Scan.Fronts.{part_front, read_to, read_on}
 use Rattle.dm_words.specs.Spells.{IsPart}
-use Rattle.dm_words.specs.Scan.Answers.{Took}
+use Rattle.dm_words.specs.inner.Scan.Answers.{IsPartTakenOrEnd}
 use Rattle.dm_words.proofs.Walks.{walk-fuel}
 use Rattle.dm_words.proofs.Pairs.{IsBytes}
 use Rattle.dm_words.proofs.Parts.{part_sound, part_room}
@@ -31,7 +31,7 @@ read_on-stops so_far place words why e = rw e (ap (λ (i : List Item). read_to i
 
 -- One turn of the loop.
 pub goes_on : (words : List ℕ) (at n : ℕ) (old new : List Item) (total : Result (List Item) WordFault) → IsBytes words → at ≤ length words → length old ≤ 2 * at
-    → Took (Ok (Some n)) old new (part_front (at + 1) (drop at words)) → read_on old (at + 1) (drop at words) ≡ total
+    → IsPartTakenOrEnd (Ok (Some n)) old new (part_front (at + 1) (drop at words)) → read_on old (at + 1) (drop at words) ≡ total
     → (at + n ≤ length words) × (length new ≤ 2 * (at + n)) × (0 < n) × (read_on new (at + n + 1) (drop (at + n) words) ≡ total)
 goes_on words at n old new total fit in_range room took so_far =
     let items = took.0 in

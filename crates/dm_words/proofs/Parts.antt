@@ -11,8 +11,8 @@ use Rattle.dm_words.specs.Codewords.{codeword_of}
 use Rattle.dm_words.specs.Ascii.{IsAsciiUnit, character, digits, fnc1, raised}
 use Rattle.dm_words.specs.Spells.{IsPart, ascii, run, segment, IsEnd, nothing, pad}
 use Rattle.dm_words.specs.Refused.{IsFault, reserved, left_out, faulty_run, faulty_segment, unfinished, upper_shift}
-use Rattle.dm_words.specs.Scan.Walk.{Step, Takes, Stops}
-use Rattle.dm_words.specs.Scan.Fronts.{raised_unit_by, run_front, segment_front, plain, part_by, part_front}
+use Rattle.dm_words.specs.inner.Scan.Walk.{Step, Takes, Stops}
+use Rattle.dm_words.specs.inner.Scan.Fronts.{raised_unit_by, run_front, segment_front, plain, part_by, part_front}
 use Rattle.dm_words.proofs.Walks.{IsSound, IsComplete}
 use Rattle.dm_words.proofs.Pairs.{IsBytes, IsBytes-drop}
 use Rattle.dm_words.proofs.Runs.{RunTakes, RunJudged, run_judged, RunFound, run_complete, run_room}

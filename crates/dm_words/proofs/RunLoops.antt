@@ -7,8 +7,8 @@ use Rattle.dm_words.specs.declared.c40.pair.PairsEnd.TheVariants as stop
 use Rattle.dm_words.specs.declared.c40.value.Rest.{Rest}
 use Rattle.dm_words.specs.declared.c40.value.Rest.TheVariants as left
 use Rattle.dm_words.specs.declared.item.Item.{Item}
-use Rattle.dm_words.specs.Scan.Walk.{Takes, Stops, Walked, and_before, flat}
-use Rattle.dm_words.specs.Scan.Fronts.{pair_front, spelling_front, pairs_from, items_from, pairs_in, items_in, run_front, run_fault, run_unless, end_length}
+use Rattle.dm_words.specs.inner.Scan.Walk.{Takes, Stops, Walked, and_before, flat}
+use Rattle.dm_words.specs.inner.Scan.Fronts.{pair_front, spelling_front, pairs_from, items_from, pairs_in, items_in, run_front, run_fault, run_unless, end_length}
 use Rattle.dm_words.proofs.Walks.{walk_all-takes, walk_all-stops}
 use Rattle.dm_words.proofs.Values.{ItemRight, Anything, item_sound}
 use Rattle.dm_words.proofs.Pairs.{IsBytes, IsBytes-drop, PairRight, pair_sound}

@@ -15,8 +15,8 @@ use Rattle.dm_words.specs.Joined.{Piece, spelled, gathered, whats, AreJoined}
 use Rattle.dm_words.specs.declared.fault.WordFault.TheVariants as fault
 use Rattle.dm_words.specs.Values.{IsSpelling, IsFiller, AreValues}
 use Rattle.dm_words.specs.Runs.{IsPair, IsRunEnd, unlatch, symbol_end, last_word, IsRun, EndsRun, BeginsBadPair, StopsPairs, pair_place, IsRunFault, value, upper_shift, triplet, unfinished, IsFaultyRun}
-use Rattle.dm_words.specs.Scan.Walk.{Step, Takes, Stops, Walked, flat}
-use Rattle.dm_words.specs.Scan.Fronts.{pair_front, spelling_front, run_fault, end_length, run_unless, pairs_in, items_in, run_front}
+use Rattle.dm_words.specs.inner.Scan.Walk.{Step, Takes, Stops, Walked, flat}
+use Rattle.dm_words.specs.inner.Scan.Fronts.{pair_front, spelling_front, run_fault, end_length, run_unless, pairs_in, items_in, run_front}
 use Rattle.dm_words.proofs.Walks.{Walks, walks, walk-joined}
 use Rattle.dm_words.proofs.Values.{ItemRight, Anything, AreSmall, IsRestOf, item_sound, rest_sound, item_complete, rest_complete}
 use Rattle.dm_words.proofs.Pairs.{IsBytes, PairRight, IsStop, over, one_left, unlatched, bad, pair_sound, stop_sound, pair_complete, stop_complete}

@@ -7,8 +7,8 @@ use Rattle.dm_words.specs.declared.item.Item.TheVariants.{Byte}
 use Rattle.dm_words.specs.declared.fault.WordFault.{WordFault}
 use Rattle.dm_words.specs.declared.fault.WordFault.TheVariants as fault
 use Rattle.dm_words.specs.Base256.{byte_items, long_count, IsLengthField, short, long, missing, past_short, no_second, wrong_second, past_long}
-use Rattle.dm_words.specs.Scan.Walk.{Step, Takes, Stops}
-use Rattle.dm_words.specs.Scan.Fronts.{plain_at, plain, segment_front}
+use Rattle.dm_words.specs.inner.Scan.Walk.{Step, Takes, Stops}
+use Rattle.dm_words.specs.inner.Scan.Fronts.{plain_at, plain, segment_front}
 use Rattle.dm_words.proofs.Segments.{segment_again, bad_again}
 
 -- The bytes of two lists, as items.

@@ -18,8 +18,8 @@ use Rattle.dm_words.specs.declared.c40.value.Rest.TheVariants as left
 use Rattle.dm_words.specs.CodeSets.{basic_of, shifted_of}
 use Rattle.dm_words.specs.Values.{IsShifted, IsUpperShift, IsCharacter, plain, by_shift, IsSpelling, character, fnc1, raised, IsFiller, nothing, lone_shift, IsWaiting, BeginsWithoutMeaning, at_once, after_upper_shift, BeginsWrongUpperShift, IsRest, complete, waiting, meaningless, wrong_upper_shift}
 use Rattle.dm_words.specs.Laws.{AreRunValues, BeginsNoSpelling}
-use Rattle.dm_words.specs.Scan.Walk.{Step, Takes, Stops}
-use Rattle.dm_words.specs.Scan.Fronts.{raised_shifted, raised_by, raised_front, shifted_by, spelling_by, spelling_front}
+use Rattle.dm_words.specs.inner.Scan.Walk.{Step, Takes, Stops}
+use Rattle.dm_words.specs.inner.Scan.Fronts.{raised_shifted, raised_by, raised_front, shifted_by, spelling_by, spelling_front}
 use Rattle.dm_words.proofs.Walks.{IsSound, IsComplete}
 
 -- A spelling is right wherever it stands.

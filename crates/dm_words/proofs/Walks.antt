@@ -2,7 +2,7 @@
 use Rattle.std.proofs.Common.{◌≡◌, ℕ, zero, suc, ◌+◌, ◌<◌, ◌≤◌, List, [], ◌∷◌, ◌++◌, length, take, drop, refl, sym, ap, subst, ◌∙◌, append_assoc, arith, add-zero, length-append}
 use Rattle.std.proofs.lemmas.List.{drop_at, take-append-drop, length-take, length-drop}
 use Rattle.dm_words.specs.Joined.{Piece, spelled, whats, AreJoined}
-use Rattle.dm_words.specs.Scan.Walk.{Step, Takes, Stops, Walked, and_before, by_step, walk, walk_all}
+use Rattle.dm_words.specs.inner.Scan.Walk.{Step, Takes, Stops, Walked, and_before, by_step, walk, walk_all}
 
 module _ {A S : Type 0} where
   -- The pieces that a walk took, and where it stopped.

@@ -7,8 +7,8 @@ use Rattle.dm_words.specs.Base256.{AreBytes}
 use Rattle.dm_words.specs.Laws.{HasOneAnswer}
 use Rattle.dm_words.specs.Spells.{IsPart, Spells}
 use Rattle.dm_words.specs.Refused.{IsFault, Refused}
-use Rattle.dm_words.specs.Scan.Walk.{Stops, Walked, walk, flat}
-use Rattle.dm_words.specs.Scan.Fronts.{part_front, read_to, read_on, reading}
+use Rattle.dm_words.specs.inner.Scan.Walk.{Stops, Walked, walk, flat}
+use Rattle.dm_words.specs.inner.Scan.Fronts.{part_front, read_to, read_on, reading}
 use Rattle.dm_words.proofs.Walks.{Walks, walks, walk-joined}
 use Rattle.dm_words.proofs.Pairs.{IsBytes}
 use Rattle.dm_words.proofs.Runs.{flat-whats}

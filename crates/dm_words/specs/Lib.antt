@@ -13,4 +13,4 @@ pub mod Spells
 pub mod Refused
 pub mod Places
 pub mod Laws
-pub mod Scan
+pub mod inner

@@ -3,7 +3,7 @@
 ghost use Rattle.std.specs.Prelude.{◌≡◌, ◌+◌, ◌≤◌, ◌<◌, length};
 ghost use Rattle.dm_words.specs.Ascii.{ascii, is_digit as is_digit_byte};
 ghost use Rattle.dm_words.specs.NormalForm.{has_fnc1};
-ghost use Rattle.dm_words.specs.Scan.Answers.{BeginsAscii, IsSingle};
+ghost use Rattle.dm_words.specs.inner.Scan.Answers.{BeginsAscii, IsSingle};
 
 use crate::item::Item;
 use crate::limits::{MOST_DATA, MOST_ITEMS};

@@ -4,8 +4,8 @@ ghost use Rattle.std.specs.Prelude.{◌≡◌, ℕ, ◌+◌, ◌≤◌, ◌<◌,
 ghost use Rattle.dm_words.specs.Messages.{byte_of};
 ghost use Rattle.dm_words.specs.Base256.{byte_items, random_at, randomised, written};
 ghost use Rattle.dm_words.specs.NormalForm.{length_numbers, one_segment};
-ghost use Rattle.dm_words.specs.Scan.Fronts.{plain_at, plain, segment_front};
-ghost use Rattle.dm_words.specs.Scan.Answers.{TookSome};
+ghost use Rattle.dm_words.specs.inner.Scan.Fronts.{plain_at, plain, segment_front};
+ghost use Rattle.dm_words.specs.inner.Scan.Answers.{IsPartTaken};
 
 use crate::fault::WordFault;
 use crate::item::{Item, byte};
@@ -53,7 +53,7 @@ pub fn segment_part(words: &[u8], at: usize, message: &mut Message) -> Result<us
     requires in_range { at < length words.now }
     requires short { length words.now ≤ MOST_DATA }
     requires room { length message.old ≤ 2 * at }
-    ensures { TookSome result message.old message.new (segment_front (at + 1) (plain (at + 2) (drop (at + 1) words.now))) }
+    ensures { IsPartTaken result message.old message.new (segment_front (at + 1) (plain (at + 2) (drop (at + 1) words.now))) }
 {
     let fault = WordFault::Length(at as u16 + 1);
     let left = words.len() - at - 1;

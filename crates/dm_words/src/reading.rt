@@ -7,8 +7,8 @@ ghost use Rattle.dm_words.specs.Messages.{IsMessage};
 ghost use Rattle.dm_words.specs.Spells.{Spells};
 ghost use Rattle.dm_words.specs.Refused.{Refused};
 ghost use Rattle.dm_words.specs.Places.{outcome};
-ghost use Rattle.dm_words.specs.Scan.Fronts.{reading, part_front, raised_unit};
-ghost use Rattle.dm_words.specs.Scan.Answers.{Took, TookSome};
+ghost use Rattle.dm_words.specs.inner.Scan.Fronts.{reading, part_front, raised_unit};
+ghost use Rattle.dm_words.specs.inner.Scan.Answers.{IsPartTakenOrEnd, IsPartTaken};
 
 use crate::base256::segment_part;
 use crate::c40::run::run_part;
@@ -23,7 +23,7 @@ fn next_part(words: &[u8], at: usize, message: &mut Message) -> Result<Option<us
     requires in_range { at ≤ length words.now }
     requires short { length words.now ≤ MOST_DATA }
     requires room { length message.old ≤ 2 * at }
-    ensures { Took result message.old message.new (part_front (at + 1) (drop at words.now)) }
+    ensures { IsPartTakenOrEnd result message.old message.new (part_front (at + 1) (drop at words.now)) }
 {
     let place = at as u16 + 1;
     let Some(first) = words.get(at) else {
@@ -57,7 +57,7 @@ fn raised_part(words: &[u8], at: usize, message: &mut Message) -> Result<usize, 
     requires in_range { at < length words.now }
     requires short { length words.now ≤ MOST_DATA }
     requires room { length message.old ≤ 2 * at }
-    ensures { TookSome result message.old message.new (raised_unit (at + 1) (drop (at + 1) words.now)) }
+    ensures { IsPartTaken result message.old message.new (raised_unit (at + 1) (drop (at + 1) words.now)) }
 {
     let place = at as u16 + 1;
     let Some(second) = words.get(at + 1) else {

@@ -157,7 +157,7 @@ static REFUSED: [(&[u8], WordFault); 46] = [
 ];
 
 #[test]
-fn refuses(rt: HostRuntime) {
+fn refuses_what_spells_no_message(rt: HostRuntime) {
     for (words, fault) in REFUSED {
         assert!(rt; is_refused(words, fault));
     }

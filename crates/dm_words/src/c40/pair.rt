@@ -1,9 +1,9 @@
 //! The pairs of a run: two codewords for three values.
 
 ghost use Rattle.std.specs.Prelude.{◌≡◌, ◌≤◌, ◌*◌, length, drop, All};
-ghost use Rattle.dm_words.specs.Scan.Walk.{flat};
-ghost use Rattle.dm_words.specs.Scan.Fronts.{pair_front, pairs_in};
-ghost use Rattle.dm_words.specs.Scan.Answers.{GivesPair, IsSmall};
+ghost use Rattle.dm_words.specs.inner.Scan.Walk.{flat};
+ghost use Rattle.dm_words.specs.inner.Scan.Fronts.{pair_front, pairs_in};
+ghost use Rattle.dm_words.specs.inner.Scan.Answers.{GivesPair, IsSmall};
 
 use crate::limits::{MOST_DATA, MOST_VALUES};
 use arrayvec::ArrayVec;

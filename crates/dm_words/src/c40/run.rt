@@ -2,8 +2,8 @@
 
 ghost use Rattle.std.specs.Prelude.{◌≡◌, ◌+◌, ◌*◌, ◌/◌, ◌^◌, ◌≤◌, ◌<◌, length, drop};
 ghost use Rattle.dm_words.specs.Runs.{pair_place as pair_place_of};
-ghost use Rattle.dm_words.specs.Scan.Fronts.{run_fault, run_front};
-ghost use Rattle.dm_words.specs.Scan.Answers.{TookSome};
+ghost use Rattle.dm_words.specs.inner.Scan.Fronts.{run_fault, run_front};
+ghost use Rattle.dm_words.specs.inner.Scan.Answers.{IsPartTaken};
 
 use crate::c40::pair::{PairsEnd, pairs_of};
 use crate::c40::set::CodeSet;
@@ -50,7 +50,7 @@ pub fn run_part(
     requires in_range { at < length words.now }
     requires short { length words.now ≤ MOST_DATA }
     requires room { length message.old ≤ 2 * at }
-    ensures { TookSome result message.old message.new (run_front set (at + 1) (drop (at + 1) words.now)) }
+    ensures { IsPartTaken result message.old message.new (run_front set (at + 1) (drop (at + 1) words.now)) }
 {
     let pairs = pairs_of(&words[at + 1..]);
     let spelled = read_values(set, pairs.values.as_slice(), message);

@@ -1,8 +1,8 @@
 //! The values of a run, and the items that they spell.
 
 ghost use Rattle.std.specs.Prelude.{◌≡◌, ◌+◌, ◌≤◌, ◌++◌, length, drop, All};
-ghost use Rattle.dm_words.specs.Scan.Fronts.{spelling_front, raised_front, items_in};
-ghost use Rattle.dm_words.specs.Scan.Answers.{GivesItem, IsSmall};
+ghost use Rattle.dm_words.specs.inner.Scan.Fronts.{spelling_front, raised_front, items_in};
+ghost use Rattle.dm_words.specs.inner.Scan.Answers.{GivesItem, IsSmall};
 
 use crate::c40::set::{Basic, CodeSet, Shifted, basic_meaning, shifted_meaning};
 use crate::item::Item;

@@ -1,6 +1,6 @@
 use Rattle.std.proofs.Common.{refl, sym, arith, Some, None}
 use Rattle.std.proofs.lemmas.Result.{err_from_is_err_and}
-use Rattle.dm_words.specs.Scan.Fronts.{reading}
+use Rattle.dm_words.specs.inner.Scan.Fronts.{reading}
 use Rattle.dm_words.proofs.PartLoops.{goes_on, stops_on}
 use Rattle.dm_words.proofs.reading.read_all.Goals as goal
 

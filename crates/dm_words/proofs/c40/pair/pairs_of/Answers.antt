@@ -1,7 +1,7 @@
 use Rattle.std.proofs.Common.{◌≡◌, ◌++◌, ◌∷◌, [], refl, arith}
 use Rattle.std.proofs.lemmas.List.Elements.{All-push}
-use Rattle.dm_words.specs.Scan.Answers.{IsSmall}
-use Rattle.dm_words.specs.Scan.Fronts.{pairs_in}
+use Rattle.dm_words.specs.inner.Scan.Answers.{IsSmall}
+use Rattle.dm_words.specs.inner.Scan.Fronts.{pairs_in}
 use Rattle.dm_words.proofs.RunLoops.{pairs_turn, pairs_stop}
 use Rattle.dm_words.proofs.c40.pair.pairs_of.Goals as goal
 

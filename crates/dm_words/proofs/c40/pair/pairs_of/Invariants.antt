@@ -1,6 +1,6 @@
 use Rattle.std.proofs.Common.{◌≡◌, ◌-◌, ◌*◌, ◌≤◌, length, All}
-use Rattle.dm_words.specs.Scan.Answers.{IsSmall}
-use Rattle.dm_words.specs.Scan.Fronts.{pairs_in}
+use Rattle.dm_words.specs.inner.Scan.Answers.{IsSmall}
+use Rattle.dm_words.specs.inner.Scan.Fronts.{pairs_in}
 use Rattle.dm_words.proofs.RunLoops.{PairsGoOn}
 use Rattle.dm_words.proofs.c40.pair.pairs_of.Given as goal
 

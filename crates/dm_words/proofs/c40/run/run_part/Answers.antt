@@ -1,7 +1,7 @@
 use Rattle.std.proofs.Common.{◌≡◌, ◌+◌, ◌-◌, length, take, drop, refl, sym, ◌∙◌, arith, add-zero, Some, None}
 use Rattle.std.proofs.lemmas.List.{take_all, length-drop}
-use Rattle.dm_words.specs.Scan.Fronts.{items_in}
-use Rattle.dm_words.specs.Scan.Fronts.{run_fault}
+use Rattle.dm_words.specs.inner.Scan.Fronts.{items_in}
+use Rattle.dm_words.specs.inner.Scan.Fronts.{run_fault}
 use Rattle.dm_words.proofs.RunLoops.{run_is, closing_none}
 use Rattle.dm_words.proofs.c40.run.run_part.Goals as goal
 

@@ -12,18 +12,18 @@ use Rattle.dm_words.specs.declared.c40.value.Spelling.TheVariants as item
 use Rattle.dm_words.specs.declared.c40.value.Rest.{Rest}
 use Rattle.dm_words.specs.Ascii.{single, ascii}
 use Rattle.dm_words.specs.NormalForm.{has_fnc1}
-use Rattle.dm_words.specs.Scan.Walk.{Step, Takes, Stops}
+use Rattle.dm_words.specs.inner.Scan.Walk.{Step, Takes, Stops}
 
 -- The part of so many words was taken and its items stand behind the old ones; or there was the end; or a fault.
-abbrev pub Took : Result (Option ℕ) WordFault → List Item → List Item → Step (List Item) (Option WordFault) → Type 0
-Took (Ok None) old new step = (step ≡ Stops None) × (new ≡ old)
-Took (Ok (Some n)) old new step = (items : List Item) × (step ≡ Takes n items) × (new ≡ old ++ items)
-Took (Err f) old new step = step ≡ Stops (Some f)
+abbrev pub IsPartTakenOrEnd : Result (Option ℕ) WordFault → List Item → List Item → Step (List Item) (Option WordFault) → Type 0
+IsPartTakenOrEnd (Ok None) old new step = (step ≡ Stops None) × (new ≡ old)
+IsPartTakenOrEnd (Ok (Some n)) old new step = (items : List Item) × (step ≡ Takes n items) × (new ≡ old ++ items)
+IsPartTakenOrEnd (Err f) old new step = step ≡ Stops (Some f)
 
 -- The same where the end cannot come.
-abbrev pub TookSome : Result ℕ WordFault → List Item → List Item → Step (List Item) (Option WordFault) → Type 0
-TookSome (Ok n) old new step = (items : List Item) × (step ≡ Takes n items) × (new ≡ old ++ items)
-TookSome (Err f) old new step = step ≡ Stops (Some f)
+abbrev pub IsPartTaken : Result ℕ WordFault → List Item → List Item → Step (List Item) (Option WordFault) → Type 0
+IsPartTaken (Ok n) old new step = (items : List Item) × (step ≡ Takes n items) × (new ≡ old ++ items)
+IsPartTaken (Err f) old new step = step ≡ Stops (Some f)
 
 -- A value of a run.
 abbrev pub IsSmall : ℕ → Type 0

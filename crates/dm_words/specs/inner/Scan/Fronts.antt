@@ -19,7 +19,7 @@ use Rattle.dm_words.specs.Codewords.{codeword_of}
 use Rattle.dm_words.specs.CodeSets.{basic_of, shifted_of}
 use Rattle.dm_words.specs.Runs.{pair_place}
 use Rattle.dm_words.specs.Base256.{random_at, byte_items, long_count}
-use Rattle.dm_words.specs.Scan.Walk.{Step, Takes, Stops, Walked, walk, walk_all, flat}
+use Rattle.dm_words.specs.inner.Scan.Walk.{Step, Takes, Stops, Walked, walk, walk_all, flat}
 
 -- ---- the values of a run, each below 40
 
