@@ -9,7 +9,7 @@ use lib.Count.{ones}
 use Rattle.std.specs.List.{range_with_len, list_all}
 use Rattle.std.proofs.Math.Nat.{mod-lt, mul-div_cancel, div-lt_iff_lt-mul, pow-succ', mod-add-mod}
 use Rattle.std.proofs.Math.Pow.{pow_mono}
-use Rattle.std.proofs.lemmas.Bool.{eqb-true, eqb-false, ne_eqb, and_parts}
+use Rattle.std.proofs.lemmas.Bool.{eqb-true, ne_eqb, and_parts, cases_lt, le-ltb, lt-ltb}
 use Rattle.std.proofs.lemmas.List.Sums.{sum_by_push}
 use Rattle.std.proofs.lemmas.Nat.{ones_cat, ones-le, pow_pos, div-add-mod', mod-mul-add}
 use Rattle.std.proofs.lemmas.Nat.Bits.{bit_at_and, bit_at_xor, bit_at-lt, bit_at_cat_low}
@@ -17,9 +17,7 @@ use Rattle.dm_layout.specs.Sizes.{SizeRow, IsRow, regions_across}
 use Rattle.dm_layout.specs.Grid.{GridView, cell_at, is_dark_in}
 use Rattle.dm_layout.specs.Border.{is_on_edge, edge_is_dark, is_fault, is_border, border_is_dark}
 use Rattle.dm_layout.specs.BorderMasks.{AreBorders, is_wrong}
-use Rattle.dm_layout.proofs.InnerRows.{not_less}
-use Rattle.dm_layout.proofs.DrawnRows.{less_is}
-use Rattle.dm_layout.proofs.OuterRows.{cases_at}
+use Rattle.dm_layout.proofs.Ranges.{same_tests}
 use Rattle.dm_layout.proofs.PackedRows.{darkened, darkened_cell, darkened_narrow}
 use Rattle.dm_layout.proofs.Ranges.{range-append, all_at}
 use Rattle.dm_layout.proofs.TableRows.{row_facts}
@@ -120,11 +118,11 @@ faults_of_bits grid r row same =
 
 -- a column stands before some squares, in the next one, or behind it
 stands : (c a s : ℕ) → (c < a * s) ⊎ ((x : ℕ) × (x < s) × (c ≡ a * s + x)) ⊎ (a * s + s ≤ c)
-stands c a s = by_start (cases_at c (a * s))
+stands c a s = by_start (cases_lt c (a * s))
   where
     by_start : (c < a * s) ⊎ (a * s ≤ c) → (c < a * s) ⊎ ((x : ℕ) × (x < s) × (c ≡ a * s + x)) ⊎ (a * s + s ≤ c)
     by_start (inl l) = inl l
-    by_start (inr m) = by_end (cases_at c (a * s + s))
+    by_start (inr m) = by_end (cases_lt c (a * s + s))
       where
         by_end : (c < a * s + s) ⊎ (a * s + s ≤ c) → (c < a * s) ⊎ ((x : ℕ) × (x < s) × (c ≡ a * s + x)) ⊎ (a * s + s ≤ c)
         by_end (inl l) = inr (inl (c - a * s, omega arith, omega arith))
@@ -136,14 +134,6 @@ pub record AreRuled (last a left both : ℕ) : Type 0 where
   pub both_columns : (c : ℕ) → is_dark_in both c ≡ nat_lt c (a * (last + 1)) && (nat_eq (c % (last + 1)) 0 || nat_eq (c % (last + 1)) last)
   pub left_width : left < 2 ^ (a * (last + 1))
   pub both_width : both < 2 ^ (a * (last + 1))
-
--- two tests that follow from one another answer alike
-same_test : (a b x y : ℕ) → (a ≡ b → x ≡ y) → (x ≡ y → a ≡ b) → nat_eq a b ≡ nat_eq x y
-same_test a b x y f g = by_test (nat_eq x y) refl
-  where
-    by_test : (t : Bool) → nat_eq x y ≡ t → nat_eq a b ≡ t
-    by_test true h = eq-eqb a b (g (eqb-true x y h))
-    by_test false h = ne_eqb a b (λ z. eqb-false x y h (f z))
 
 -- the first column of a square, before it
 left_before : (p q : Bool) → p ≡ false → cond p true (true && q) ≡ true && q
@@ -193,27 +183,27 @@ module _ (last a c : ℕ) where
 
   left_at : (c < k) ⊎ ((x : ℕ) × (x < s) × (c ≡ k + x)) ⊎ (k + s ≤ c) → cond (nat_eq c k) true (nat_lt c k && nat_eq (c % s) 0) ≡ nat_lt c ((a + 1) * s) && nat_eq (c % s) 0
   left_at (inl l) =
-      rw (less_is c k l, less_is c ((a + 1) * s) (omega (arith, next, l))) (left_before (nat_eq c k) (nat_eq (c % s) 0) (ne_eqb c k (λ z. omega (arith, z, l))))
+      rw (lt-ltb c k l, lt-ltb c ((a + 1) * s) (omega (arith, next, l))) (left_before (nat_eq c k) (nat_eq (c % s) 0) (ne_eqb c k (λ z. omega (arith, z, l))))
   left_at (inr (inr l)) =
-      rw (not_less c k (omega (arith, l)), not_less c ((a + 1) * s) (omega (arith, next, l))) (left_behind (nat_eq c k) (nat_eq (c % s) 0) (ne_eqb c k (λ z. omega (arith, z, l))))
+      rw (le-ltb c k (omega (arith, l)), le-ltb c ((a + 1) * s) (omega (arith, next, l))) (left_behind (nat_eq c k) (nat_eq (c % s) 0) (ne_eqb c k (λ z. omega (arith, z, l))))
   left_at (inr (inl (x, small, is))) =
       let r : c % s ≡ x = ap (λ (i : ℕ). i % s) is ∙ mod-mul-add a s x small in
-      rw (not_less c k (omega (arith, is)), less_is c ((a + 1) * s) (omega (arith, next, is, small)))
-      (left_here (nat_eq c k) (nat_eq (c % s) 0) (same_test c k (c % s) 0 (λ z. omega (arith, is, r, z)) (λ z. omega (arith, is, r, z))))
+      rw (le-ltb c k (omega (arith, is)), lt-ltb c ((a + 1) * s) (omega (arith, next, is, small)))
+      (left_here (nat_eq c k) (nat_eq (c % s) 0) (same_tests c k (c % s) 0 (λ z. omega (arith, is, r, z)) (λ z. omega (arith, is, r, z))))
 
   both_at : (c < k) ⊎ ((x : ℕ) × (x < s) × (c ≡ k + x)) ⊎ (k + s ≤ c) →
       cond (nat_eq c (k + last)) true (cond (nat_eq c k) true (nat_lt c k && (nat_eq (c % s) 0 || nat_eq (c % s) last))) ≡ nat_lt c ((a + 1) * s) && (nat_eq (c % s) 0 || nat_eq (c % s) last)
   both_at (inl l) =
-      rw (less_is c k l, less_is c ((a + 1) * s) (omega (arith, next, l)))
+      rw (lt-ltb c k l, lt-ltb c ((a + 1) * s) (omega (arith, next, l)))
       (both_before (nat_eq c k) (nat_eq c (k + last)) (nat_eq (c % s) 0 || nat_eq (c % s) last) (ne_eqb c k (λ z. omega (arith, z, l))) (ne_eqb c (k + last) (λ z. omega (arith, z, l))))
   both_at (inr (inr l)) =
-      rw (not_less c k (omega (arith, l)), not_less c ((a + 1) * s) (omega (arith, next, l)))
+      rw (le-ltb c k (omega (arith, l)), le-ltb c ((a + 1) * s) (omega (arith, next, l)))
       (both_behind (nat_eq c k) (nat_eq c (k + last)) (nat_eq (c % s) 0 || nat_eq (c % s) last) (ne_eqb c k (λ z. omega (arith, z, l))) (ne_eqb c (k + last) (λ z. omega (arith, z, l))))
   both_at (inr (inl (x, small, is))) =
       let r : c % s ≡ x = ap (λ (i : ℕ). i % s) is ∙ mod-mul-add a s x small in
-      rw (not_less c k (omega (arith, is)), less_is c ((a + 1) * s) (omega (arith, next, is, small)))
-      (both_here (nat_eq c k) (nat_eq c (k + last)) (nat_eq (c % s) 0) (nat_eq (c % s) last) (same_test c k (c % s) 0 (λ z. omega (arith, is, r, z)) (λ z. omega (arith, is, r, z)))
-      (same_test c (k + last) (c % s) last (λ z. omega (arith, is, r, z)) (λ z. omega (arith, is, r, z))))
+      rw (le-ltb c k (omega (arith, is)), lt-ltb c ((a + 1) * s) (omega (arith, next, is, small)))
+      (both_here (nat_eq c k) (nat_eq c (k + last)) (nat_eq (c % s) 0) (nat_eq (c % s) last) (same_tests c k (c % s) 0 (λ z. omega (arith, is, r, z)) (λ z. omega (arith, is, r, z)))
+      (same_tests c (k + last) (c % s) last (λ z. omega (arith, is, r, z)) (λ z. omega (arith, is, r, z))))
 
 -- one more square
 pub one_ruled : (last a left both : ℕ) → 1 ≤ last → (a + 1) * (last + 1) < 128 → AreRuled last a left both →
@@ -274,9 +264,9 @@ are_borders size side last a left both even all row es el ea ruled ev ew av aw =
       row = row;
       last_row = el;
       left_columns = λ c l.
-          ruled.left_columns c ∙ ap (λ (b : Bool). b && nat_eq (c % (last + 1)) 0) (less_is c (a * (last + 1)) (omega (arith, w, l))) ∙ ap (λ (i : ℕ). nat_eq (c % i) 0) s;
+          ruled.left_columns c ∙ ap (λ (b : Bool). b && nat_eq (c % (last + 1)) 0) (lt-ltb c (a * (last + 1)) (omega (arith, w, l))) ∙ ap (λ (i : ℕ). nat_eq (c % i) 0) s;
       both_columns = λ c l.
-          ruled.both_columns c ∙ ap (λ (b : Bool). b && (nat_eq (c % (last + 1)) 0 || nat_eq (c % (last + 1)) last)) (less_is c (a * (last + 1)) (omega (arith, w, l)))
+          ruled.both_columns c ∙ ap (λ (b : Bool). b && (nat_eq (c % (last + 1)) 0 || nat_eq (c % (last + 1)) last)) (lt-ltb c (a * (last + 1)) (omega (arith, w, l)))
           ∙ ap (λ (i : ℕ). nat_eq (c % i) 0 || nat_eq (c % i) last) s ∙ ap (λ (i : ℕ). nat_eq (c % (size.region_side + 2)) 0 || nat_eq (c % (size.region_side + 2)) i) el;
       even_columns = λ c l. ev c (omega (arith, es, l)) ∙ (patterns_at c (omega (arith, l, fits))).0;
       all_columns = λ c l. av c (omega (arith, es, l)) ∙ (patterns_at c (omega (arith, l, fits))).1;

@@ -2,7 +2,7 @@
 use Rattle.std.proofs.Common.{◌≡◌, ◌≢◌, ◌⊎◌, inl, inr, ℕ, ◌+◌, ◌*◌, ◌/◌, ◌%◌, ◌<◌, ◌≤◌, Bool, true, false, ◌&&◌, ◌||◌, nat_eq, nat_lt, List, refl, sym, ◌∙◌, ap, arith, subst, eq-eqb}
 use Rattle.std.proofs.Math.Bool.{or-false, false-or}
 use Rattle.std.proofs.Math.Nat.{mul-div_cancel}
-use Rattle.std.proofs.lemmas.Bool.{eqb-true, ne_eqb, ltb-false}
+use Rattle.std.proofs.lemmas.Bool.{eqb-true, ne_eqb, cases_lt, le-ltb, lt-ltb}
 use Rattle.std.proofs.lemmas.Bool.Decides.{eqb_tells}
 use Rattle.dm_layout.specs.declared.shape.Cell.{Cell}
 use Rattle.dm_layout.specs.Sizes.{SizeRow, IsRow, regions_across}
@@ -13,10 +13,8 @@ use Rattle.dm_layout.specs.Placement.{IsPlace, EachCellOnce}
 use Rattle.dm_layout.specs.Reading.{look_in}
 use Rattle.dm_layout.specs.Words.{WordsView, IsWords}
 use Rattle.dm_layout.proofs.GridLemmas.{cell_of_square}
-use Rattle.dm_layout.proofs.InnerRows.{not_less}
 use Rattle.dm_layout.proofs.Laid.{begun_empty, on_border, in_mapping}
 use Rattle.dm_layout.proofs.NoFaults.{no_faults}
-use Rattle.dm_layout.proofs.OuterRows.{cases_at}
 use Rattle.dm_layout.proofs.PlaceOrder.{none_fixed}
 use Rattle.dm_layout.proofs.PlacementRows.{once_at_row}
 use Rattle.dm_layout.proofs.SymbolLines.{symbol_line-one, symbol_line-mod, mapping_line-symbol_line, lies_inside, no_border}
@@ -29,13 +27,6 @@ pub record IsDrawn (size : SizeRow) (rows : List ℕ) (line : ℕ) (grid : GridV
   pub border : (u v : ℕ) → u < size.side → v < size.side → is_border size u v ≡ true → cell_at grid u v ≡ border_is_dark size u v
   pub mapped : (r c : ℕ) → r < size.mapping → c < size.mapping →
       cell_at grid (symbol_line size.region_side r) (symbol_line size.region_side c) ≡ (is_fixed_dark size.mapping r c || (nat_lt r line && look_in rows r c))
-
-pub less_is : (a b : ℕ) → a < b → nat_lt a b ≡ true
-less_is a b l = by_test (nat_lt a b) refl
-  where
-    by_test : (t : Bool) → nat_lt a b ≡ t → nat_lt a b ≡ true
-    by_test true e = e
-    by_test false e = let h = ltb-false a b e in absurd (omega (arith, h, l))
 
 -- before the first
 pub drawn_first : (size : SizeRow) (rows : List ℕ) (grid : GridView) → IsRow size → grid ≡ empty_grid size → IsDrawn size rows 0 grid
@@ -54,7 +45,7 @@ drawn_first size rows grid row e =
           ∙ ap (λ (i : ℕ). is_fixed_dark n i (mapping_line d (symbol_line d c))) (mapping_line-symbol_line d r least)
           ∙ ap (is_fixed_dark n r) (mapping_line-symbol_line d c least)
           ∙ sym (or-false (is_fixed_dark n r c))
-          ∙ ap (λ (t : Bool). is_fixed_dark n r c || (t && look_in rows r c)) (sym (not_less r 0 (omega arith)));
+          ∙ ap (λ (t : Bool). is_fixed_dark n r c || (t && look_in rows r c)) (sym (le-ltb r 0 (omega arith)));
     }
 
 -- a cell of a border in a row that is no border's lies in a column that is
@@ -133,8 +124,8 @@ drawn_more size rows line x cells grid next row old l ex es g put in_row on_edge
             ((is_fixed_dark size.mapping r c || (nat_lt r line && look_in rows r c)) || (nat_eq (symbol_line size.region_side r) x && look_in rows line c)) ≡ (is_fixed_dark size.mapping r c || (nat_lt r (line + 1) && look_in rows r c))
         by_row (inl e) =
             let same : symbol_line size.region_side r ≡ x = ap (symbol_line size.region_side) e.1 ∙ sym ex in
-            let no : nat_lt r line ≡ false = not_less r line (omega (arith, e.1)) in
-            let yes : nat_lt r (line + 1) ≡ true = less_is r (line + 1) (omega (arith, e.1)) in
+            let no : nat_lt r line ≡ false = le-ltb r line (omega (arith, e.1)) in
+            let yes : nat_lt r (line + 1) ≡ true = lt-ltb r (line + 1) (omega (arith, e.1)) in
             ap (λ (t : Bool). (is_fixed_dark size.mapping r c || (t && look_in rows r c)) || (nat_eq (symbol_line size.region_side r) x && look_in rows line c)) no
             ∙ ap (λ (t : Bool). (is_fixed_dark size.mapping r c || (false && look_in rows r c)) || (t && look_in rows line c)) (eq-eqb (symbol_line size.region_side r) x same)
             ∙ ap (λ (i : ℕ). (is_fixed_dark size.mapping r c || (false && look_in rows r c)) || (true && look_in rows i c)) (sym e.1)
@@ -144,11 +135,11 @@ drawn_more size rows line x cells grid next row old l ex es g put in_row on_edge
             let other : nat_eq (symbol_line size.region_side r) x ≡ false = ne_eqb (symbol_line size.region_side r) x (λ z. e.1 (symbol_line-one size.region_side r line least (z ∙ ex))) in
             ap (λ (t : Bool). (is_fixed_dark size.mapping r c || (nat_lt r line && look_in rows r c)) || (t && look_in rows line c)) other
             ∙ or-false (is_fixed_dark size.mapping r c || (nat_lt r line && look_in rows r c))
-            ∙ ap (λ (t : Bool). is_fixed_dark size.mapping r c || (t && look_in rows r c)) (same_test (cases_at r line))
+            ∙ ap (λ (t : Bool). is_fixed_dark size.mapping r c || (t && look_in rows r c)) (same_test (cases_lt r line))
           where
             same_test : (r < line) ⊎ (line ≤ r) → nat_lt r line ≡ nat_lt r (line + 1)
-            same_test (inl k) = less_is r line k ∙ sym (less_is r (line + 1) (omega (arith, k)))
-            same_test (inr k) = not_less r line k ∙ sym (not_less r (line + 1) (let ne = e.1 in omega (arith, k, ne)))
+            same_test (inl k) = lt-ltb r line k ∙ sym (lt-ltb r (line + 1) (omega (arith, k)))
+            same_test (inr k) = le-ltb r line k ∙ sym (le-ltb r (line + 1) (let ne = e.1 in omega (arith, k, ne)))
 
 -- after the last
 pub drawn_all : (size : SizeRow) (rows : List ℕ) (line : ℕ) (grid : GridView) → IsDrawn size rows line grid → size.mapping ≤ line → (r c : ℕ) → r < size.mapping → c < size.mapping →
@@ -156,7 +147,7 @@ pub drawn_all : (size : SizeRow) (rows : List ℕ) (line : ℕ) (grid : GridView
 drawn_all size rows line grid h far r c lr lc =
     ap (λ (t : SizeRow). cell_at grid (symbol_line t.region_side r) (symbol_line t.region_side c)) h.same_size
     ∙ h.mapped r c lr lc
-    ∙ ap (λ (t : Bool). is_fixed_dark size.mapping r c || (t && look_in rows r c)) (less_is r line (omega (arith, far, lr)))
+    ∙ ap (λ (t : Bool). is_fixed_dark size.mapping r c || (t && look_in rows r c)) (lt-ltb r line (omega (arith, far, lr)))
 
 -- ---- the grid of painted rows
 

@@ -1,12 +1,10 @@
 -- The grid without codewords: correct borders, fixed square, all else light.
 use Rattle.std.proofs.Common.{◌≡◌, ◌≢◌, ◌⊎◌, inl, inr, ℕ, ◌+◌, ◌-◌, ◌*◌, ◌%◌, ◌<◌, ◌≤◌, Bool, true, false, ◌&&◌, ◌||◌, cond, nat_eq, nat_lt, refl, sym, ◌∙◌, ap, subst, arith}
-use Rattle.std.proofs.lemmas.Bool.{eqb-true, eqb-false}
+use Rattle.std.proofs.lemmas.Bool.{eqb-true, cases_lt, le-ltb, lt-ltb}
 use Rattle.std.proofs.Math.Bool.{or-false}
 use Rattle.std.proofs.Math.Nat.{mul-le-mul_right}
 use Rattle.std.proofs.lemmas.Bool.Decides.{eqb_tells}
-use Rattle.dm_layout.proofs.InnerRows.{not_less}
-use Rattle.dm_layout.proofs.DrawnRows.{less_is}
-use Rattle.dm_layout.proofs.OuterRows.{cases_at}
+use Rattle.dm_layout.proofs.Ranges.{same_tests}
 use Rattle.dm_layout.specs.Sizes.{SizeRow, IsRow, regions_across}
 use Rattle.dm_layout.specs.Grid.{GridView, IsGrid, cell_at, with_cell}
 use Rattle.dm_layout.specs.Border.{is_border, border_is_dark, symbol_line, mapping_line, is_fixed_dark, empty_colour, empty_grid}
@@ -16,13 +14,13 @@ use Rattle.dm_layout.proofs.BorderLemmas.{mapped_line, IsFromMapping, IsImage, i
 
 -- one more row of borders is drawn
 pub drawn_above_more : (r row : ℕ) (border dark cell : Bool) → (r ≡ row → cell ≡ border && dark) → (nat_lt r row && border && dark) || (nat_eq r row && cell) ≡ nat_lt r (row + 1) && border && dark
-drawn_above_more r row border dark cell h = by_row (cases_at r row) (eqb_tells r row)
+drawn_above_more r row border dark cell h = by_row (cases_lt r row) (eqb_tells r row)
   where
     by_row : (r < row) ⊎ (row ≤ r) → ((nat_eq r row ≡ true) × (r ≡ row)) ⊎ ((nat_eq r row ≡ false) × (r ≢ row)) → (nat_lt r row && border && dark) || (nat_eq r row && cell) ≡ nat_lt r (row + 1) && border && dark
     by_row (inl l) (inl e) = let z = e.1 in absurd (omega (arith, l, z))
-    by_row (inl l) (inr e) = rw (less_is r row l, e.0, less_is r (row + 1) (omega (arith, l))) (or-false (border && dark))
-    by_row (inr l) (inl e) = let z = e.1 in rw (not_less r row l, e.0, less_is r (row + 1) (omega (arith, z))) (h z)
-    by_row (inr l) (inr e) = let z = e.1 in rw (not_less r row l, e.0, not_less r (row + 1) (omega (arith, l, z))) refl
+    by_row (inl l) (inr e) = rw (lt-ltb r row l, e.0, lt-ltb r (row + 1) (omega (arith, l))) (or-false (border && dark))
+    by_row (inr l) (inl e) = let z = e.1 in rw (le-ltb r row l, e.0, lt-ltb r (row + 1) (omega (arith, z))) (h z)
+    by_row (inr l) (inr e) = let z = e.1 in rw (le-ltb r row l, e.0, le-ltb r (row + 1) (omega (arith, l, z))) refl
 
 -- a region is no larger than the mapping square, and with its border no larger than the symbol
 pub sides_of : (s : SizeRow) → IsRow s → (s.region_side ≤ s.mapping) × (s.region_side + 2 ≤ s.side)
@@ -55,14 +53,6 @@ line_before_last s h = let facts = row_facts s h in line_from_end s 1 h (omega (
 -- the two dark cells of the fixed square, in the mapping square
 dark_pair : (n a b : ℕ) → n % 4 ≡ 2 → a < n → b < n → is_fixed_dark n a b ≡ (nat_eq a (n - 2) && nat_eq b (n - 2)) || (nat_eq a (n - 1) && nat_eq b (n - 1))
 dark_pair n a b two la lb = grind arith
-
--- two tests that follow from one another answer alike
-same_tests : (a b c e : ℕ) → (a ≡ b → c ≡ e) → (c ≡ e → a ≡ b) → nat_eq a b ≡ nat_eq c e
-same_tests a b c e f g = by_first (nat_eq a b) refl
-  where
-    by_first : (t : Bool) → nat_eq a b ≡ t → t ≡ nat_eq c e
-    by_first true h = let k = f (eqb-true a b h) in grind arith
-    by_first false h = let k : c ≢ e = λ q. eqb-false a b h (g q) in grind arith
 
 -- a line of the symbol is where a line of the mapping square lies
 line_is : (s : SizeRow) (x k m : ℕ) → IsRow s → IsFromMapping s x → k < s.mapping → symbol_line s.region_side k ≡ m → nat_eq x m ≡ nat_eq (mapping_line s.region_side x) k

@@ -104,10 +104,6 @@ cut_more inner row d a n least l fits narrow so_far =
 
 -- ---- codewords
 
--- a cell that wraps round no edge
-pub not_less : (a b : ℕ) → b ≤ a → nat_lt a b ≡ false
-not_less a b l = le-ltb a b l
-
 -- its place is counted from the anchor alone
 unwrapped : (n r c up left : ℕ) → up ≤ r → left ≤ c → wrapped_cell n r c up left ≡ At (r - up) (c - left)
 unwrapped n r c up left lu ll =
@@ -117,8 +113,8 @@ unwrapped n r c up left lu ll =
         | false ↦ At (r + n - up) (c + 4 - (left + (n + 4) % 8))
       ]
       | false ↦ elim (nat_lt c left) as (λ _. Cell) [ true ↦ At (r + 4 - (up + (n + 4) % 8)) (c + n - left) | false ↦ At (r - up) (c - left) ]
-    ]) (not_less r up lu)
-    ∙ ap (λ (t : Bool). elim t as (λ _. Cell) [ true ↦ At (r + 4 - (up + (n + 4) % 8)) (c + n - left) | false ↦ At (r - up) (c - left) ]) (not_less c left ll)
+    ]) (le-ltb r up lu)
+    ∙ ap (λ (t : Bool). elim t as (λ _. Cell) [ true ↦ At (r + 4 - (up + (n + 4) % 8)) (c + n - left) | false ↦ At (r - up) (c - left) ]) (le-ltb c left ll)
 
 -- lists of eight equal cells are equal
 same_eight : (a b c d e f g h s t u v w x y z : Cell) → a ≡ s → b ≡ t → c ≡ u → d ≡ v → e ≡ w → f ≡ x → g ≡ y → h ≡ z →

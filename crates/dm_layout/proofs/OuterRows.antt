@@ -1,5 +1,5 @@
 -- Rows of the mapping square in the rows of the symbol.
-use Rattle.std.proofs.Common.{◌≡◌, ◌⊎◌, inl, inr, ℕ, zero, suc, ◌+◌, ◌-◌, ◌*◌, ◌/◌, ◌%◌, ◌^◌, ◌<◌, ◌≤◌, Bool, true, false, ◌&&◌, ◌||◌, nat_eq, nat_lt, List, length, get_or, set, refl, sym, ◌∙◌, ap, arith, subst, get_or-set_other, get_or-set_same}
+use Rattle.std.proofs.Common.{◌≡◌, ◌⊎◌, inl, inr, ℕ, zero, suc, ◌+◌, ◌-◌, ◌*◌, ◌/◌, ◌%◌, ◌^◌, ◌<◌, ◌≤◌, Bool, true, false, ◌&&◌, ◌||◌, nat_eq, List, length, get_or, set, refl, sym, ◌∙◌, ap, arith, subst, get_or-set_other, get_or-set_same}
 use Rattle.std.specs.Prelude.{max}
 use Rattle.std.specs.Int.{bit_at}
 use Rattle.std.specs.Int.RustNames.{bit_or}
@@ -7,7 +7,7 @@ use Rattle.std.specs.Int.Bits.{or_shifted_r}
 use Rattle.std.proofs.Math.Bool.{or-false}
 use Rattle.std.proofs.Math.Nat.{mod-eq_of_lt, mul-le-mul_right, mul-le-mul}
 use Rattle.std.proofs.Math.Pow.{pow_pos, pow_mono}
-use Rattle.std.proofs.lemmas.Bool.{eqb-true, eqb-false, ltb-true, ltb-false}
+use Rattle.std.proofs.lemmas.Bool.{eqb-true, eqb-false, cases_lt}
 use Rattle.std.proofs.lemmas.Nat.{pow-add, mul-add-lt, div-mul-add, mod-mul-add, pow_below, or_lt}
 use Rattle.std.proofs.lemmas.Nat.Bits.{bit_at_cat_low, bit_at_cat_high, bit_at-lt, bit_at_or, bit_at_above}
 use Rattle.dm_layout.specs.Sizes.{SizeRow}
@@ -77,13 +77,6 @@ pub record IsOut (inner d a outer : ℕ) : Type 0 where
   pub mapped : (c : ℕ) → c < a * d → is_dark_in outer (symbol_line d c) ≡ is_dark_in inner c
   pub border : (j : ℕ) → ((j % (d + 2) ≡ 0) ⊎ (j % (d + 2) ≡ d + 1)) → is_dark_in outer j ≡ false
 
-pub cases_at : (a b : ℕ) → (a < b) ⊎ (b ≤ a)
-cases_at a b = by_test (nat_lt a b) refl
-  where
-    by_test : (t : Bool) → nat_lt a b ≡ t → (a < b) ⊎ (b ≤ a)
-    by_test true e = inl (ltb-true a b e)
-    by_test false e = inr (ltb-false a b e)
-
 module _ (inner d a outer : ℕ) (least : 8 ≤ d) (small : d < 128) (old : IsOut inner d a outer) where
   abbrev p : ℕ
   p = piece_of inner d a
@@ -95,7 +88,7 @@ module _ (inner d a outer : ℕ) (least : 8 ≤ d) (small : d < 128) (old : IsOu
   narrow_k = let m : 2 ^ (a * (d + 2)) ≤ 2 ^ (a * (d + 2) + 1) = pow_mono (omega arith) in let n = old.narrow in omega (arith, n, m)
 
   whole_mapped : (c : ℕ) → c < (a + 1) * d → is_dark_in (p * 2 ^ k + outer) (symbol_line d c) ≡ is_dark_in inner c
-  whole_mapped c l = by_part (cases_at c (a * d))
+  whole_mapped c l = by_part (cases_lt c (a * d))
     where
       by_part : (c < a * d) ⊎ (a * d ≤ c) → is_dark_in (p * 2 ^ k + outer) (symbol_line d c) ≡ is_dark_in inner c
       by_part (inl m) =
@@ -124,7 +117,7 @@ module _ (inner d a outer : ℕ) (least : 8 ≤ d) (small : d < 128) (old : IsOu
           ∙ ap (is_dark_in inner) (sym is)
 
   whole_border : (j : ℕ) → ((j % (d + 2) ≡ 0) ⊎ (j % (d + 2) ≡ d + 1)) → is_dark_in (p * 2 ^ k + outer) j ≡ false
-  whole_border j e = by_part (cases_at j (a * (d + 2) + 1)) (cases_at (j - (a * (d + 2) + 1)) d)
+  whole_border j e = by_part (cases_lt j (a * (d + 2) + 1)) (cases_lt (j - (a * (d + 2) + 1)) d)
     where
       by_part : (j < a * (d + 2) + 1) ⊎ (a * (d + 2) + 1 ≤ j) → (j - (a * (d + 2) + 1) < d) ⊎ (d ≤ j - (a * (d + 2) + 1)) → is_dark_in (p * 2 ^ k + outer) j ≡ false
       by_part (inl l) x = ap (λ (i : ℕ). nat_eq i 1) (bit_at_cat_low p k outer j l) ∙ old.border j e

@@ -3,7 +3,7 @@ use Rattle.std.proofs.Common.{◌≡◌, ◌⊎◌, inl, inr, ℕ, zero, suc, �
 use Rattle.std.specs.Int.RustNames.{bit_or}
 use Rattle.std.proofs.Math.Bool.{or-false}
 use Rattle.std.proofs.Math.Nat.{mod-eq_of_lt, mul-le-mul_right}
-use Rattle.std.proofs.lemmas.Bool.{eqb-true, eqb-false, ne_eqb}
+use Rattle.std.proofs.lemmas.Bool.{eqb-true, eqb-false, ne_eqb, cases_lt}
 use Rattle.std.proofs.lemmas.Nat.{pow-add, pow_below}
 use Rattle.std.proofs.Math.Pow.{pow_pos}
 use Rattle.std.proofs.lemmas.Nat.Bits.{bit_at_cat_low, bit_at_cat_high, bit_at-zero, bit_at_above}
@@ -12,7 +12,7 @@ use Rattle.dm_layout.specs.Placement.{standard}
 use Rattle.dm_layout.specs.Reading.{look_in, marks_in, marks_three, turned_bits}
 use Rattle.dm_layout.specs.declared.shape.Cell.{Cell}
 use Rattle.dm_layout.proofs.InnerRows.{inner_cells}
-use Rattle.dm_layout.proofs.OuterRows.{or_dark, cases_at}
+use Rattle.dm_layout.proofs.OuterRows.{or_dark}
 
 -- the table of turned bits
 pub turned_in_table : (x : ℕ) → x < 8 → get_or (0 ∷ 4 ∷ 2 ∷ 6 ∷ 1 ∷ 5 ∷ 3 ∷ 7 ∷ []) x 0 ≡ turned_bits x
@@ -62,7 +62,7 @@ moved_three x left c small low =
     let t : ℕ = turned_bits x in
     let lt : t < 8 = omega arith in
     let whole : t * 2 ^ left < 2 ^ 128 = fits t left lt low in
-    ap (λ (i : ℕ). is_dark_in i c) (mod-eq_of_lt whole ∙ plus_none (t * 2 ^ left)) ∙ by_column (cases_at c left)
+    ap (λ (i : ℕ). is_dark_in i c) (mod-eq_of_lt whole ∙ plus_none (t * 2 ^ left)) ∙ by_column (cases_lt c left)
   where
     plus_none : (i : ℕ) → i ≡ i + 0
     plus_none i = omega arith

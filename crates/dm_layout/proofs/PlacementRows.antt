@@ -1,5 +1,5 @@
 -- What the computed tests say of each size of the table.
-use Rattle.std.proofs.Common.{◌≡◌, ◌*◌, ◌≤◌, ◌&&◌, true, nat_eq, nat_le, List, [], ◌∷◌, refl, length, Bool}
+use Rattle.std.proofs.Common.{◌≡◌, ℕ, arith, ◌*◌, ◌≤◌, ◌&&◌, true, nat_eq, nat_le, List, [], ◌∷◌, refl, length, Bool}
 use Rattle.std.specs.List.{AllByRecursion, All, list_all}
 use Rattle.std.proofs.lemmas.Bool.{and_parts, leb-true}
 use Rattle.std.proofs.lemmas.List.Elements.{All-from_recursion, recursion_from_All, All-weaker}
@@ -86,3 +86,7 @@ bounds_at_row s row =
     let b = and_parts _ (nat_le (codeword_count s) 2000) t in
     let a = and_parts (nat_le 8 s.mapping) (nat_le s.mapping largest_mapping) b.0 in
     record { low = leb-true _ _ a.0; high = leb-true _ _ a.1; words = leb-true _ _ b.1 }
+
+-- the mapping side of a row, by a number that is the same
+pub side_at_row : (s : SizeRow) (m : ℕ) → IsRow s → m ≡ s.mapping → m ≤ 96
+side_at_row s m row e = let b = bounds_at_row s row in let h = b.high in omega (arith, h, e)

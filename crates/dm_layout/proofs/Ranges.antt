@@ -1,8 +1,8 @@
 -- Runs of numbers, and what a test keeps of them.
-use Rattle.std.proofs.Common.{◌≡◌, ℕ, zero, suc, ◌+◌, ◌<◌, Bool, true, false, cond, ◌∷◌, ◌++◌, sym, ◌∙◌, ap, subst, arith, add-zero}
+use Rattle.std.proofs.Common.{◌≡◌, ℕ, zero, suc, ◌+◌, ◌<◌, Bool, true, false, cond, nat_eq, eq-eqb, ◌∷◌, ◌++◌, sym, ◌∙◌, refl, ap, subst, arith, add-zero}
 use Rattle.std.specs.Prelude.{filter}
 use Rattle.std.specs.List.{range_with_len, list_all}
-use Rattle.std.proofs.lemmas.Bool.{and_parts}
+use Rattle.std.proofs.lemmas.Bool.{and_parts, eqb-true, eqb-false, ne_eqb}
 
 -- a run is its front and the rest
 pub range-append : (a m n : ℕ) → range_with_len a (m + n) ≡ range_with_len a m ++ range_with_len (a + m) n
@@ -48,3 +48,11 @@ filter_skip p a (suc m) n h =
 -- a number that passes is kept
 pub filter_keep : (p : ℕ → Bool) (a n : ℕ) → p a ≡ true → filter p (range_with_len a (suc n)) ≡ a ∷ filter p (range_with_len (a + 1) n)
 filter_keep p a n h = ap (λ b. cond b (a ∷ filter p (range_with_len (a + 1) n)) (filter p (range_with_len (a + 1) n))) h
+
+-- two tests that follow from one another answer alike
+pub same_tests : (a b x y : ℕ) → (a ≡ b → x ≡ y) → (x ≡ y → a ≡ b) → nat_eq a b ≡ nat_eq x y
+same_tests a b x y f g = by_test (nat_eq x y) refl
+  where
+    by_test : (t : Bool) → nat_eq x y ≡ t → nat_eq a b ≡ t
+    by_test true h = eq-eqb a b (g (eqb-true x y h))
+    by_test false h = ne_eqb a b (λ z. eqb-false x y h (f z))

@@ -1,7 +1,7 @@
-use Rattle.std.proofs.Common.{◌≡◌, true, ℕ, ◌+◌, ◌<◌, ◌≤◌, List, map, take, length, get_or, ap, sym, subst, arith, ◌∙◌}
+use Rattle.std.proofs.Common.{◌≡◌, true, ℕ, ◌+◌, ◌<◌, List, map, take, length, get_or, ap, sym, subst, arith, ◌∙◌}
 use Rattle.std.specs.List.{list_all}
 use Rattle.std.proofs.lemmas.List.{length-map, take_all}
-use Rattle.dm_layout.specs.Sizes.{SizeRow, IsRow, codeword_count}
+use Rattle.dm_layout.specs.Sizes.{SizeRow, codeword_count}
 use Rattle.dm_layout.specs.Border.{mapped_cell}
 use Rattle.dm_layout.specs.Placement.{shapes, cells_of}
 use Rattle.dm_layout.specs.Slots.{order_of, reversed_bits, slot_byte, slot_of}
@@ -9,13 +9,10 @@ use Rattle.dm_layout.specs.Widened.{IsWidened}
 use Rattle.dm_layout.specs.Words.{WordsView}
 use Rattle.dm_layout.proofs.LiftedWords.{slot_words, fits_test}
 use Rattle.dm_layout.proofs.Painting.{light_at}
-use Rattle.dm_layout.proofs.PlacementRows.{bounds_at_row}
+use Rattle.dm_layout.proofs.PlacementRows.{side_at_row}
 use Rattle.dm_layout.proofs.SlotOrder.{order_at_row, slot_here, slot_count, read_more}
 use Rattle.dm_layout.proofs.Reading.{one_list, held, gathered_all, word_of}
 use Rattle.dm_layout.proofs.placing.lift_to.Goals as goal
-
-small : (s : SizeRow) (m : ℕ) → IsRow s → m ≡ s.mapping → m ≤ 96
-small s m row e = let b = bounds_at_row s row in let h = b.high in omega (arith, h, e)
 
 -- the codeword of a slot
 abbrev word_by : List ℕ → ℕ → ℕ
@@ -25,7 +22,7 @@ pub widen-requires : goal.widen-requires
 widen-requires c = λ r q. light_at 102 r q
 
 pub fill_slots-requires-clause-small : goal.fill_slots-requires-clause-small
-fill_slots-requires-clause-small c = small c.size-size.result c.mapping-mapping.result c.mapping-mapping.ensures.row c.mapping-mapping.ensures.value
+fill_slots-requires-clause-small c = side_at_row c.size-size.result c.mapping-mapping.result c.mapping-mapping.ensures.row c.mapping-mapping.ensures.value
 
 pub codeword-requires : goal.codeword-requires
 codeword-requires c = slot_here c.size-size.result c.mapping-mapping.result c.loop-i.i c.order-slot-items.result.now c.mapping-mapping.ensures.row c.mapping-mapping.ensures.value c.order-slot-items.ensures c.loop-i-test.true
@@ -68,7 +65,7 @@ returns-clause-holds c =
     let wide : IsWidened m (mapped_cell c.args.grid.now) c.widen.new.rows = subst (λ (i : ℕ). IsWidened i (mapped_cell c.args.grid.now) c.widen.new.rows) (sym em) c.widen.ensures in
     let words =
     slot_words m (mapped_cell c.args.grid.now) c.widen.new.rows (omega (arith, c.mapping-mapping.ensures.least, c.mapping-mapping.ensures.value))
-    (small c.size-size.result m row c.mapping-mapping.ensures.value) (omega (arith, c.mapping-mapping.ensures.even, c.mapping-mapping.ensures.value)) wide
+    (side_at_row c.size-size.result m row c.mapping-mapping.ensures.value) (omega (arith, c.mapping-mapping.ensures.even, c.mapping-mapping.ensures.value)) wide
     c.fill_slots.new.slots (shapes m) c.fill_slots.ensures (subst (λ (i : ℕ). list_all (fits_test i) (shapes i) ≡ true) (sym c.mapping-mapping.ensures.value) order.fits) in
     held c.args.grid.now c.loop-i.words c.size-size.ensures.grid c.loop-i.invariant.words c.loop-i.invariant.size
     (sym (take_all c.loop-i.i c.loop-i.words.list (omega (arith, c.loop-i.invariant.words.count, count, ec, c.loop-i-test.false)))

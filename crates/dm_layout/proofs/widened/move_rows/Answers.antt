@@ -5,14 +5,11 @@ use Rattle.dm_layout.specs.Sizes.{SizeRow, IsRow}
 use Rattle.dm_layout.specs.Border.{mapped_cell}
 use Rattle.dm_layout.specs.Grid.{cell_at, is_dark_in}
 use Rattle.dm_layout.proofs.InnerRows.{one_line}
-use Rattle.dm_layout.proofs.PlacementRows.{bounds_at_row}
+use Rattle.dm_layout.proofs.PlacementRows.{side_at_row}
 use Rattle.dm_layout.proofs.DrawnRows.{regions_cover}
 use Rattle.dm_layout.proofs.WidenedRows.{IsRegion, next_region, same_region, line_here, moved_more}
 use Rattle.dm_layout.proofs.widened.move_rows.Goals as goal
 use Rattle.dm_layout.proofs.widened.move_rows.Goals.{then-row-until, else-row-until}
-
-small : (s : SizeRow) (m : ℕ) → IsRow s → m ≡ s.mapping → m ≤ 96
-small s m row e = let b = bounds_at_row s row in let h = b.high in omega (arith, h, e)
 
 -- the regions cover the mapping square
 narrow_in : (s : SizeRow) (m d n x : ℕ) → IsRow s → m ≡ s.mapping → d ≡ s.region_side → m ≡ n → x < 2 ^ (m / d * d) → x < 2 ^ n
@@ -33,13 +30,13 @@ loop-row-init c = record {
 
 pub inner_row-requires-clause-fits : goal.inner_row-requires-clause-fits
 inner_row-requires-clause-fits c =
-    let h = small c.size-size.result c.mapping-mapping.result c.mapping-mapping.ensures.row c.mapping-mapping.ensures.value in
+    let h = side_at_row c.size-size.result c.mapping-mapping.result c.mapping-mapping.ensures.row c.mapping-mapping.ensures.value in
     let d = div-mul-le_self c.mapping-mapping.result c.region_side-region_side.result in
     omega (arith, h, d)
 
 pub bounds-rows-row : goal.bounds-rows-row
 bounds-rows-row c =
-    let h = small c.size-size.result c.mapping-mapping.result c.mapping-mapping.ensures.row c.mapping-mapping.ensures.value in
+    let h = side_at_row c.size-size.result c.mapping-mapping.result c.mapping-mapping.ensures.row c.mapping-mapping.ensures.value in
     omega (arith, h, c.loop-row-test.true)
 
 pub loop-row-preserved : goal.loop-row-preserved
@@ -48,7 +45,7 @@ loop-row-preserved c =
     let n : ℕ = c.args.grid.now.size.mapping in
     let row : ℕ = c.loop-row.row in
     let i = c.loop-row.invariant in
-    let h = small c.size-size.result c.mapping-mapping.result c.mapping-mapping.ensures.row c.mapping-mapping.ensures.value in
+    let h = side_at_row c.size-size.result c.mapping-mapping.result c.mapping-mapping.ensures.row c.mapping-mapping.ensures.value in
     let em : c.mapping-mapping.result ≡ n = c.mapping-mapping.ensures.value ∙ ap (λ (s : SizeRow). s.mapping) c.size-size.ensures.value in
     let ed : d ≡ c.args.grid.now.size.region_side = c.region_side-region_side.ensures.value ∙ ap (λ (s : SizeRow). s.region_side) c.size-size.ensures.value in
     let least : 8 ≤ d = omega (arith, c.region_side-region_side.ensures.least, c.region_side-region_side.ensures.value) in
