@@ -141,8 +141,14 @@ pub(crate) fn draw_rows(grid: &mut Grid, size: Size, rows: &[u128; LARGEST_MAPPI
     let mapping = size.mapping();
     let across = mapping / region_side;
     draw_borders(grid, size);
+    let mut region = 0;
+    let mut until = region_side;
     for line in 0..mapping {
+        if line == until {
+            region += 1;
+            until += region_side;
+        }
         let cells = outer_row(rows[line as usize], region_side, across);
-        grid.darken(line + 2 * (line / region_side) + 1, cells);
+        grid.darken(line + 2 * region + 1, cells);
     }
 }
