@@ -1,5 +1,5 @@
-pub mod Codewords
-pub mod Distance
+mod Codewords
+mod Distance
 mod Register
 mod SyndromeLaws
 mod SyndromeLanes
@@ -21,8 +21,8 @@ mod OddTerms
 mod Corrections
 mod CleanWords
 mod Choices
-pub mod NearOrNone
-pub mod Checks
+mod NearOrNone
+mod Checks
 mod Parts
 mod Division
 pub mod Exported

@@ -1,43 +1,44 @@
-pub mod TableRows
-pub mod Pointwise
-pub mod FirstItem
-pub mod KeptWords
-pub mod Moves
-pub mod CellTables
-pub mod OnePlace
-pub mod SameShapes
-pub mod SweepEnds
-pub mod TestedPlacement
-pub mod TestedSweep
-pub mod TestedWalk
-pub mod PlacementRows
-pub mod TestedOrder
-pub mod OrderRows
-pub mod OrderSteps
-pub mod BlockLemmas
-pub mod GridLemmas
-pub mod PackedRows
-pub mod Ranges
-pub mod SymbolLines
-pub mod PlaceOrder
-pub mod Writing
-pub mod Laid
-pub mod Bits
-pub mod NoFaults
-pub mod Reading
-pub mod InnerRows
-pub mod Painting
-pub mod OuterRows
-pub mod PaintedThree
-pub mod WidenedRows
-pub mod SlotRows
-pub mod LiftedWords
-pub mod TestedSlots
-pub mod SlotOrder
-pub mod DrawnRows
-pub mod BorderMasks
-pub mod BorderLemmas
-pub mod EmptyGrid
-pub mod EqualityLaws
-pub mod HeldWords
-pub mod DealtWords
+mod TableRows
+mod Pointwise
+mod FirstItem
+mod KeptWords
+mod Moves
+mod CellTables
+mod OnePlace
+mod SameShapes
+mod SweepEnds
+mod TestedPlacement
+mod TestedSweep
+mod TestedWalk
+mod PlacementRows
+mod TestedOrder
+mod OrderRows
+mod OrderSteps
+mod BlockLemmas
+mod GridLemmas
+mod PackedRows
+mod Ranges
+mod SymbolLines
+mod PlaceOrder
+mod Writing
+mod Laid
+mod Bits
+mod NoFaults
+mod Reading
+mod InnerRows
+mod Painting
+mod OuterRows
+mod PaintedThree
+mod WidenedRows
+mod SlotRows
+mod LiftedWords
+mod TestedSlots
+mod SlotOrder
+mod DrawnRows
+mod BorderMasks
+mod BorderLemmas
+mod EmptyGrid
+mod EqualityLaws
+mod HeldWords
+mod DealtWords
+pub mod Exported

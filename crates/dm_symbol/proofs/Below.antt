@@ -16,19 +16,9 @@ use Rattle.dm_words.specs.Spells.{Spells}
 use Rattle.dm_words.specs.Laws.{HasOneAnswer}
 use Rattle.dm_words.specs.Messages.{IsMessage}
 use Rattle.dm_symbol.specs.Blocks.{symbol, AreWordsOf, AreHeld, block_at}
-use Rattle.dm_code.proofs.Distance.{codewords_one}
-use Rattle.dm_code.proofs.Codewords.{codeword_bytes}
-use Rattle.dm_code.proofs.NearOrNone as near
-use Rattle.dm_code.proofs.Checks as checks
-use Rattle.dm_layout.proofs.HeldWords as held
-use Rattle.dm_layout.proofs.DealtWords as dealt
-use Rattle.dm_layout.proofs.BlockLemmas.{word_of_block, length_of_block}
-use Rattle.dm_layout.proofs.Reading.{one_list}
-use Rattle.dm_layout.proofs.Laid.{one_laid}
-use Rattle.dm_layout.proofs.PlacementRows.{once_at_row, count_at_row}
-use Rattle.dm_words.proofs.ItemBytes.{spelled_is_message as spelled_is_message_of}
-use Rattle.dm_words.proofs.LawLemmas.{one_answer as one_answer_of}
-use Rattle.dm_words.proofs.NormalForms as forms
+use Rattle.dm_code.proofs.Exported.{codewords_one, codeword_bytes, near_or_none as near_or_none_of, checks_are_there as checks_are_there_of}
+use Rattle.dm_layout.proofs.Exported.{every_grid_holds as every_grid_holds_of, laid_somewhere as laid_somewhere_of, blocks_make_words as blocks_make_words_of, word_of_block, length_of_block, one_list, one_laid, once_at_row, count_at_row}
+use Rattle.dm_words.proofs.Exported.{spelled_is_message as spelled_is_message_of, one_answer as one_answer_of, normal_form_codewords as normal_form_codewords_of, normal_form_count as normal_form_count_of, normal_form_spells as normal_form_spells_of}
 
 -- Two codewords of k checks and one length that differ in at most k places are equal.
 pub codewords_apart : (k : ℕ) (c d : List ℕ) → IsCodeword k c → IsCodeword k d → length c ≡ length d → length c ≤ 255 → distance c d ≤ k → c ≡ d
@@ -40,12 +30,12 @@ codewords_are_bytes = codeword_bytes
 
 -- Some codeword is near a block, or none is.
 pub near_or_none : (k : ℕ) (block : List ℕ) → k < length block → length block ≤ 255 → ((c : List ℕ) × IsNear k block c) ⊎ ((c : List ℕ) → IsNear k block c → ⊥)
-near_or_none = near.near_or_none
+near_or_none = near_or_none_of
 
 -- Data codewords are completed to a codeword.
 pub checks_are_there : (k : ℕ) (front : List ℕ) → All (λ a. a < 256) front → k < 255 → length front + k ≤ 255
     → (c : List ℕ) × (length c ≡ k) × IsCodeword k (front ++ c)
-checks_are_there = checks.checks_are_there
+checks_are_there = checks_are_there_of
 
 -- Place i of block b is place i * B + b of the symbol.
 pub block_places : (size : SizeRow) (words : List ℕ) → AreWordsOf size words → (b i : ℕ) → b < size.blocks → i < block_length size
@@ -65,13 +55,13 @@ pub record HasBlocks (size : SizeRow) (blocks : ℕ → List ℕ) : Type 0 where
 -- Blocks make the codewords of a symbol.
 pub blocks_make_words : (size : SizeRow) (blocks : ℕ → List ℕ) → IsRow size → AreBlocks size blocks → HasBlocks size blocks
 blocks_make_words size blocks row are =
-    let made = dealt.blocks_make_words size blocks row are in
+    let made = blocks_make_words_of size blocks row are in
     record { list = made.0.list; of_size = subst (λ s. AreWordsOf s made.0.list) made.2 made.1; are = made.3 }
 
 -- A grid holds some codewords.
 pub every_grid_holds : (grid : GridView) → IsGrid grid → (words : List ℕ) × AreHeld grid words
 every_grid_holds grid h =
-    let made = held.every_grid_holds grid h in
+    let made = every_grid_holds_of grid h in
     (made.0.list, subst (λ x. Holds grid x) (ap (λ s. symbol s made.0.list) made.1.same_size) made.1)
 
 -- A grid holds one list of codewords.
@@ -80,7 +70,7 @@ held_words_are_one grid u v hu hv = ap (λ w. w.list) (one_list grid (symbol gri
 
 -- Codewords are laid in some grid.
 pub laid_somewhere : (words : WordsView) → IsWords words → (grid : GridView) × IsLaid words grid
-laid_somewhere = held.laid_somewhere
+laid_somewhere = laid_somewhere_of
 
 -- Codewords are laid in one grid.
 pub laid_grid_is_one : (g h : GridView) (words : WordsView) → IsLaid words g → IsLaid words h → g ≡ h
@@ -101,12 +91,12 @@ one_answer words h = one_answer_of words h
 -- The normal form of a message, with pads, spells the message.
 pub normal_form_spells : (p : Profile) (m : List Item) (count : ℕ) → IsMessage m → length (normal_form p m) ≤ count → count ≤ most_data
     → Spells (padded (normal_form p m) count) m
-normal_form_spells = forms.normal_form_spells
+normal_form_spells = normal_form_spells_of
 
 -- With pads it is so many codewords.
 pub normal_form_words_are : (p : Profile) (m : List Item) (count : ℕ) → IsMessage m → length (normal_form p m) ≤ count
     → (length (padded (normal_form p m) count) ≡ count) × All (λ w. w < 256) (padded (normal_form p m) count)
-normal_form_words_are p m count h fits = (forms.normal_form_count p m count fits, forms.normal_form_codewords p m count h)
+normal_form_words_are p m count h fits = (normal_form_count_of p m count fits, normal_form_codewords_of p m count h)
 
 -- What is spelled is a message.
 pub spelled_is_message : (words : List ℕ) (m : List Item) → Spells words m → IsMessage m

@@ -1,15 +1,16 @@
-pub mod SizeFacts
-pub mod Below
-pub mod Distances
-pub mod SymbolBlocks
-pub mod NormalGrids
-pub mod Readings
-pub mod NormalReadings
-pub mod Completion
-pub mod Counts
-pub mod TurnedCells
-pub mod WriteSteps
-pub mod ReadSteps
-pub mod Choosing
-pub mod CompletedWords
-pub mod EachGrid
+mod SizeFacts
+mod Below
+mod Distances
+mod SymbolBlocks
+mod NormalGrids
+mod Readings
+mod NormalReadings
+mod Completion
+mod Counts
+mod TurnedCells
+mod WriteSteps
+mod ReadSteps
+mod Choosing
+mod CompletedWords
+mod EachGrid
+pub mod Exported

@@ -11,7 +11,7 @@ ghost use Rattle.dm_symbol.specs.NormalGrid.{IsWritten};
 use crate::place::light_grid;
 use arrayvec::ArrayVec;
 use dm_code::encode;
-use dm_layout::{Grid, MOST_CODEWORDS, Size, Words, block, lay, put_block};
+use dm_layout::{Grid, MOST_CODEWORDS, Size, Words, block, lay_to, put_block};
 use dm_words::{Message, Profile, TooLong, add_pads, normal_words_to};
 
 /// The normal grid of a message under [`Profile::Ascii`]: what [`write_as`] answers for that profile.
@@ -58,7 +58,7 @@ pub fn write_to(profile: Profile, message: &Message, grid: &mut Grid) -> Result<
 fn lay_in(words: &Words, grid: &mut Grid)
     ensures { IsLaid words.now grid.new }
 {
-    *grid = lay(words);
+    lay_to(words, grid);
 }
 
 /// The codewords of a symbol of this size with these data codewords: the check codewords make each block a codeword. The list is left

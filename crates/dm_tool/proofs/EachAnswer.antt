@@ -11,9 +11,7 @@ use Rattle.dm_symbol.specs.Messages.{IsMessage}
 use Rattle.dm_symbol.specs.NormalForm.{normal_form}
 use Rattle.dm_symbol.specs.Sizes.{SizeRow, row_for_words, row_with_side}
 use Rattle.dm_symbol.specs.Grid.{GridView, IsGrid}
-use Rattle.dm_symbol.proofs.SizeFacts.{has_that_side}
-use Rattle.dm_symbol.proofs.CompletedWords.{normal_grid_is_there}
-use Rattle.dm_symbol.proofs.EachGrid.{answer_is_given, fits_or_not, normal_answer_is_given}
+use Rattle.dm_symbol.proofs.Exported.{has_that_side, normal_grid_is_there, answer_is_given, fits_or_not, normal_answer_is_given}
 use Rattle.dm_tool.specs.declared.record.RecordFault.TheVariants as fault
 use Rattle.dm_tool.specs.declared.task.Task.{Task}
 use Rattle.dm_tool.specs.declared.task.Task.TheVariants.{Read, Check, Normal, Write, Table}

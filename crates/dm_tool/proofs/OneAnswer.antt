@@ -4,9 +4,7 @@ use Rattle.dm_symbol.specs.declared.Item.{Item}
 use Rattle.dm_symbol.specs.declared.Profile.{Profile}
 use Rattle.dm_symbol.specs.Grid.{GridView}
 use Rattle.dm_symbol.specs.NormalGrid.{IsNormalGrid, HasNormalGrid}
-use Rattle.dm_symbol.proofs.Readings.{one_given}
-use Rattle.dm_symbol.proofs.NormalReadings.{one_normal_answer}
-use Rattle.dm_symbol.proofs.NormalGrids.{normal_grid_is_one}
+use Rattle.dm_symbol.proofs.Exported.{one_given, one_normal_answer, normal_grid_is_one}
 use Rattle.dm_tool.specs.declared.task.Task.{Task}
 use Rattle.dm_tool.specs.declared.task.Task.TheVariants.{Read, Check, Normal, Write, Table}
 use Rattle.dm_tool.specs.RecordFeeds.{RecordAnswer}

@@ -1,15 +1,16 @@
-pub mod Walks
-pub mod Values
-pub mod Pairs
-pub mod Runs
-pub mod Segments
-pub mod Parts
-pub mod WholeReading
-pub mod PartLoops
-pub mod RunLoops
-pub mod SegmentLoops
-pub mod AsciiWords
-pub mod PadWords
-pub mod NormalForms
-pub mod ItemBytes
-pub mod LawLemmas
+mod Walks
+mod Values
+mod Pairs
+mod Runs
+mod Segments
+mod Parts
+mod WholeReading
+mod PartLoops
+mod RunLoops
+mod SegmentLoops
+mod AsciiWords
+mod PadWords
+mod NormalForms
+mod ItemBytes
+mod LawLemmas
+pub mod Exported

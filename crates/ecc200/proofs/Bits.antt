@@ -11,10 +11,7 @@ use Rattle.dm_layout.specs.declared.shape.Cell.{Cell}
 use Rattle.dm_layout.specs.Sizes.{SizeRow, IsRow}
 use Rattle.dm_layout.specs.Border.{is_border, border_is_dark, is_fixed, fixed_is_dark, symbol_line}
 use Rattle.dm_layout.specs.Placement.{At, IsPlace, places_in_order}
-use Rattle.dm_layout.proofs.PlaceOrder.{ArePlaces, all_are_places, one_bit, none_fixed, place_at, length-places_in_order}
-use Rattle.dm_layout.proofs.PlacementRows.{once_at_row}
-use Rattle.dm_layout.proofs.SymbolLines.{symbol_line-one, lies_inside, no_border}
-use Rattle.dm_layout.proofs.TableRows.{row_facts}
+use Rattle.dm_layout.proofs.Exported.{ArePlaces, all_are_places, one_bit, none_fixed, place_at, length-places_in_order, once_at_row, symbol_line-one, lies_inside, no_border, row_facts}
 use Rattle.ecc200.specs.declared.places.PlaceOut.{PlaceOut}
 use Rattle.ecc200.specs.Places.{AreModulesOf, nothing, bit_place, border_place, fixed_place}
 use Rattle.ecc200.specs.Places as places

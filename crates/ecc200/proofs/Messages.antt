@@ -12,8 +12,8 @@ use Rattle.dm_symbol.specs.Sizes.{SizeRow, row_for_words}
 use Rattle.dm_symbol.specs.Messages.{IsItem, IsMessage}
 use Rattle.dm_symbol.specs.NormalForm.{normal_form}
 use Rattle.dm_symbol.specs.NormalGrid.{HasNormalGrid}
-use Rattle.dm_symbol.proofs.SizeFacts.{holds_that_many, size_facts}
-use Rattle.dm_words.proofs.NormalForms.{normal_form_items}
+use Rattle.dm_symbol.proofs.Exported.{holds_that_many, size_facts}
+use Rattle.dm_words.proofs.Exported.{normal_form_items}
 use Rattle.ecc200.specs.Items.{number_of, numbers_of}
 
 -- A number up to 256 is an item's.

@@ -8,8 +8,7 @@ use mir.Val.{bool_byte as from_bool}
 use Rattle.std.proofs.lemmas.List.{get_or-map}
 use Rattle.std.proofs.Math.Nat.{mul-le-mul_right}
 use Rattle.dm_symbol.specs.Grid.{is_dark_in, square_of, square_of_rows}
-use Rattle.dm_layout.proofs.GridLemmas.{same_squares}
-use Rattle.dm_layout.proofs.PackedRows.{front_square}
+use Rattle.dm_layout.proofs.Exported.{same_squares, front_square}
 use Rattle.ecc200.specs.Modules.{is_dark}
 
 -- The next power of 2.

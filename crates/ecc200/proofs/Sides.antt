@@ -4,7 +4,7 @@ use Rattle.std.specs.Prelude.{IsNone}
 use Rattle.std.proofs.Math.Nat.{mul-le-mul}
 use Rattle.dm_symbol.specs.Sizes.{SizeRow, row_with_side, largest_side}
 use Rattle.dm_symbol.specs.Words.{WordsView, IsWords}
-use Rattle.dm_layout.proofs.TableRows.{found_row, row_facts, side_fits}
+use Rattle.dm_layout.proofs.Exported.{found_row, row_facts, side_fits}
 
 none_above_in : (side : ℕ) (o : Option SizeRow) → row_with_side side ≡ o → largest_side < side → IsNone o
 none_above_in side None e above = search rules

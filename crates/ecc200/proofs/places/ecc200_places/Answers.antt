@@ -2,7 +2,7 @@ use Rattle.std.proofs.Common.{◌≡◌, ◌∙◌, length, replicate, Some, ref
 use Rattle.std.specs.Prelude.{IsNone}
 use Rattle.std.proofs.lemmas.List.{length-replicate}
 use Rattle.dm_layout.specs.Sizes.{row_with_side}
-use Rattle.dm_layout.proofs.TableRows.{found_row}
+use Rattle.dm_layout.proofs.Exported.{found_row}
 use Rattle.ecc200.specs.Places.{modules, no_size, nothing}
 use Rattle.ecc200.proofs.Bits.{modules_are}
 use Rattle.ecc200.proofs.Sides.{modules_fit}

@@ -2,8 +2,7 @@ use Rattle.std.proofs.Common.{◌≡◌, ◌<◌, ◌∙◌, ◌∷◌, List, re
 use Rattle.dm_layout.specs.declared.cells.Place.{Place}
 use Rattle.dm_layout.specs.Sizes.{SizeRow, IsRow}
 use Rattle.dm_layout.specs.Placement.{At, places_in_order}
-use Rattle.dm_layout.proofs.PlaceOrder.{ArePlaces, all_are_places}
-use Rattle.dm_layout.proofs.PlacementRows.{once_at_row}
+use Rattle.dm_layout.proofs.Exported.{ArePlaces, all_are_places, once_at_row}
 use Rattle.ecc200.specs.inner.PlaceSteps.{with_bits}
 use Rattle.ecc200.proofs.places.put_bits.Goals as goal
 

@@ -1,6 +1,6 @@
 use Rattle.std.proofs.Common.{◌≡◌, length}
 use Rattle.dm_layout.specs.Placement.{places_in_order}
-use Rattle.dm_layout.proofs.PlaceOrder.{ArePlaces}
+use Rattle.dm_layout.proofs.Exported.{ArePlaces}
 use Rattle.ecc200.specs.inner.PlaceSteps.{with_bits}
 use Rattle.ecc200.proofs.places.put_bits.Given as goal
 

@@ -1,0 +1,7 @@
+-- What the crates above cite of the proofs of this one: facts of its definitions.
+pub use Rattle.dm_symbol.proofs.CompletedWords.{normal_grid_is_there}
+pub use Rattle.dm_symbol.proofs.EachGrid.{answer_is_given, fits_or_not, normal_answer_is_given}
+pub use Rattle.dm_symbol.proofs.NormalGrids.{normal_grid_is_one}
+pub use Rattle.dm_symbol.proofs.NormalReadings.{one_normal_answer}
+pub use Rattle.dm_symbol.proofs.Readings.{one_given}
+pub use Rattle.dm_symbol.proofs.SizeFacts.{has_that_side, holds_that_many, size_facts}

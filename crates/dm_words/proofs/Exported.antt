@@ -1,0 +1,4 @@
+-- What the crates above cite of the proofs of this one: facts of its definitions.
+pub use Rattle.dm_words.proofs.ItemBytes.{spelled_is_message}
+pub use Rattle.dm_words.proofs.LawLemmas.{one_answer}
+pub use Rattle.dm_words.proofs.NormalForms.{normal_form_codewords, normal_form_count, normal_form_items, normal_form_spells}
