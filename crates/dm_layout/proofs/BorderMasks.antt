@@ -16,7 +16,7 @@ use Rattle.std.proofs.lemmas.Nat.Bits.{bit_at_and, bit_at_xor, bit_at-lt, bit_at
 use Rattle.dm_layout.specs.Sizes.{SizeRow, IsRow, regions_across}
 use Rattle.dm_layout.specs.Grid.{GridView, cell_at, is_dark_in}
 use Rattle.dm_layout.specs.Border.{is_on_edge, edge_is_dark, is_fault, is_border, border_is_dark}
-use Rattle.dm_layout.specs.BorderMasks.{AreBorders, is_wrong}
+use Rattle.dm_layout.specs.inner.BorderMasks.{AreBorders, is_wrong}
 use Rattle.dm_layout.proofs.Ranges.{same_tests}
 use Rattle.dm_layout.proofs.PackedRows.{darkened, darkened_cell, darkened_narrow}
 use Rattle.dm_layout.proofs.Ranges.{range-append, all_at}

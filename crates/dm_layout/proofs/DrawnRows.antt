@@ -10,7 +10,7 @@ use Rattle.dm_layout.specs.Border.{symbol_line, mapping_line, mapped_cell, is_bo
 use Rattle.dm_layout.specs.Grid.{GridView, IsGrid, is_dark_in, cell_at}
 use Rattle.dm_layout.specs.Holds.{bit_of, IsLaid}
 use Rattle.dm_layout.specs.Placement.{IsPlace, EachCellOnce}
-use Rattle.dm_layout.specs.Reading.{look_in}
+use Rattle.dm_layout.specs.inner.Reading.{look_in}
 use Rattle.dm_layout.specs.Words.{WordsView, IsWords}
 use Rattle.dm_layout.proofs.GridLemmas.{cell_of_square}
 use Rattle.dm_layout.proofs.Laid.{begun_empty, on_border, in_mapping}

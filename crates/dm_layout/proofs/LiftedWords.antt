@@ -7,10 +7,10 @@ use Rattle.dm_layout.specs.declared.shape.Shape.{Shape}
 use Rattle.dm_layout.specs.declared.shape.Shape.TheVariants.{Standard, Corner1, Corner2, Corner3, Corner4}
 use Rattle.dm_layout.specs.Grid.{is_dark_in}
 use Rattle.dm_layout.specs.Placement.{At, wrapped_cell, standard, cells_of}
-use Rattle.dm_layout.specs.Reading.{look_in}
-use Rattle.dm_layout.specs.Slots.{bits_in, reversed_bits, first_column, slot_of, row_byte, slot_byte, AreSlots, HasSlots}
-use Rattle.dm_layout.specs.Walking.{CellsInside}
-use Rattle.dm_layout.specs.Widened.{IsWidened}
+use Rattle.dm_layout.specs.inner.Reading.{look_in}
+use Rattle.dm_layout.specs.inner.Slots.{bits_in, reversed_bits, first_column, slot_of, row_byte, slot_byte, AreSlots, HasSlots}
+use Rattle.dm_layout.specs.inner.Walking.{CellsInside}
+use Rattle.dm_layout.specs.inner.Widened.{IsWidened}
 use Rattle.dm_layout.proofs.Bits.{digit, digit-has, number_of, sum_of_digits}
 use Rattle.dm_layout.proofs.Reading.{word_of}
 use Rattle.dm_layout.proofs.SlotRows.{byte_here}

@@ -9,7 +9,7 @@ use Rattle.std.specs.Prelude.{nat_lt, nat_le, ◌||◌}
 use Rattle.dm_layout.specs.declared.shape.Cell.{Cell}
 use Rattle.dm_layout.specs.declared.shape.Shape.{Shape}
 use Rattle.dm_layout.specs.Placement.{cells_of}
-use Rattle.dm_layout.specs.Walking.{candidates, candidates_at, candidate_at, moved_at, is_over_at, inside_at, to, placed, is_over_of, candidate_of, moved_of, is_left_out, fill}
+use Rattle.dm_layout.specs.inner.Walking.{candidates, candidates_at, candidate_at, moved_at, is_over_at, inside_at, to, placed, is_over_of, candidate_of, moved_of, is_left_out, fill}
 
 at_more : (m n : ℕ) (l : Leg) (u v : ℕ) → is_over_at n l u v ≡ false → candidates_at (suc m) n l u v ≡ option_to_list (candidate_at n l u v) ++ candidates m n (moved_at n l u v)
 unfolding candidates_at candidates

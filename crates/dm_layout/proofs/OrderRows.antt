@@ -6,8 +6,8 @@ use Rattle.dm_layout.specs.declared.shape.Shape.{Shape}
 use Rattle.dm_layout.specs.declared.shape.Shape.TheVariants.{Standard, Corner1, Corner2, Corner3, Corner4}
 use Rattle.dm_layout.specs.Sizes.{SizeRow, IsRow}
 use Rattle.dm_layout.specs.Placement.{shapes}
-use Rattle.dm_layout.specs.Walking.{AnchorInside}
-use Rattle.dm_layout.specs.Order.{shapes_walked, AnchorsInside}
+use Rattle.dm_layout.specs.inner.Walking.{AnchorInside}
+use Rattle.dm_layout.specs.inner.Order.{shapes_walked, AnchorsInside}
 use Rattle.dm_layout.proofs.PlacementRows.{at_row}
 use Rattle.dm_layout.proofs.SameShapes.{same_shapes, shapes_equal}
 use Rattle.dm_layout.proofs.TestedOrder as ordered

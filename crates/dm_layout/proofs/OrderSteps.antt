@@ -2,7 +2,7 @@
 use Rattle.std.proofs.Common.{◌≡◌, ℕ, zero, suc, ◌-◌, [], ◌∷◌, refl, ap, arith, ◌∙◌, sym}
 use Rattle.dm_layout.specs.declared.shape.Shape.{Shape}
 use Rattle.dm_layout.specs.declared.order.Spot.{Spot}
-use Rattle.dm_layout.specs.Order.{shapes_on, shape_here, spot_after}
+use Rattle.dm_layout.specs.inner.Order.{shapes_on, shape_here, spot_after}
 
 -- no shapes are left
 pub on_none : (k n : ℕ) (s : Spot) → k ≡ 0 → shapes_on k n s ≡ []

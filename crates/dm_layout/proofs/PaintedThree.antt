@@ -9,7 +9,7 @@ use Rattle.std.proofs.Math.Pow.{pow_pos}
 use Rattle.std.proofs.lemmas.Nat.Bits.{bit_at_cat_low, bit_at_cat_high, bit_at-zero, bit_at_above}
 use Rattle.dm_layout.specs.Grid.{is_dark_in}
 use Rattle.dm_layout.specs.Placement.{standard}
-use Rattle.dm_layout.specs.Reading.{look_in, marks_in, marks_three, turned_bits}
+use Rattle.dm_layout.specs.inner.Reading.{look_in, marks_in, marks_three, turned_bits}
 use Rattle.dm_layout.specs.declared.shape.Cell.{Cell}
 use Rattle.dm_layout.proofs.InnerRows.{inner_cells}
 use Rattle.dm_layout.proofs.OuterRows.{or_dark}

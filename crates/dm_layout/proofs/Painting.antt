@@ -12,7 +12,7 @@ use Rattle.dm_layout.specs.Border.{is_fixed}
 use Rattle.dm_layout.specs.Grid.{is_dark_in}
 use Rattle.dm_layout.specs.Holds.{bit_of}
 use Rattle.dm_layout.specs.Placement.{At, IsPlace, EachCellOnce, cells_of, bits_from, places_from, places_in_order, shapes}
-use Rattle.dm_layout.specs.Reading.{look_in, marks_in}
+use Rattle.dm_layout.specs.inner.Reading.{look_in, marks_in}
 use Rattle.dm_layout.proofs.PackedRows.{darkened_cell}
 use Rattle.dm_layout.proofs.PlaceOrder.{ArePlaces, all_are_places, one_bit, none_fixed, place_at, lies_in, length-places_in_order}
 

@@ -9,7 +9,7 @@ use Rattle.dm_layout.specs.Placement.{shapes, EachCellOnce}
 use Rattle.dm_layout.specs.Sweep.{sweep, Sweeps}
 use Rattle.std.specs.Prelude.{pos}
 use Rattle.dm_layout.specs.Sweep.Part.{Corner}
-use Rattle.dm_layout.specs.Walking.{walk_of, shapes_left, largest_mapping}
+use Rattle.dm_layout.specs.inner.Walking.{walk_of, shapes_left, largest_mapping}
 use Rattle.dm_layout.proofs.CellTables.{placement_test}
 use Rattle.dm_layout.proofs.OnePlace.{each_cell_once}
 use Rattle.dm_layout.proofs.SameShapes.{same_shapes, shapes_equal}

@@ -7,7 +7,7 @@ use Rattle.std.proofs.lemmas.Bool.{and_parts, ltb-true}
 use Rattle.std.proofs.lemmas.List.{length-map, take_more, take_more_set, get_or-map}
 use Rattle.dm_layout.specs.Sizes.{SizeRow, IsRow, codeword_count}
 use Rattle.dm_layout.specs.Placement.{shapes}
-use Rattle.dm_layout.specs.Slots.{order_of, slot_of}
+use Rattle.dm_layout.specs.inner.Slots.{order_of, slot_of}
 use Rattle.dm_layout.proofs.LiftedWords.{fits_test}
 use Rattle.dm_layout.proofs.PlacementRows.{at_row, count_at_row}
 use Rattle.dm_layout.proofs.TestedSlots as slotted

@@ -10,13 +10,13 @@ use Rattle.std.specs.List.{list_all, range_with_len}
 use Rattle.std.proofs.lemmas.Bool.{eqb-true, and_parts, lt-ltb, le-ltb, le-leb, lt-leb, cases_lt}
 use Rattle.std.proofs.lemmas.Nat.Bits.{bit_at_and, bit_at-lt}
 use Rattle.dm_layout.specs.Grid.{is_dark_in}
-use Rattle.dm_layout.specs.Reading.{look_in}
-use Rattle.dm_layout.specs.Slots.{is_joined, reversed_bits}
+use Rattle.dm_layout.specs.inner.Reading.{look_in}
+use Rattle.dm_layout.specs.inner.Slots.{is_joined, reversed_bits}
 use Rattle.dm_layout.specs.declared.slots.TheConstants.{REVERSED}
 use Rattle.dm_layout.proofs.BorderMasks.{beq-true}
 use Rattle.dm_layout.proofs.Ranges.{all_below}
 use Rattle.dm_layout.proofs.OuterRows.{or_dark}
-use Rattle.dm_layout.specs.Slots.{AreSlots, first_column, row_byte, slot_byte}
+use Rattle.dm_layout.specs.inner.Slots.{AreSlots, first_column, row_byte, slot_byte}
 use Rattle.std.proofs.lemmas.Bool.{ltb-true, ltb-false}
 use Rattle.std.proofs.lemmas.List.{length-set}
 use Rattle.dm_layout.proofs.InnerRows.{moved_bit}

@@ -7,7 +7,7 @@ use Rattle.dm_layout.specs.declared.shape.Shape.{Shape}
 use Rattle.dm_layout.specs.declared.shape.Shape.TheVariants.{Standard, Corner1, Corner2, Corner3, Corner4}
 use Rattle.dm_layout.specs.Placement.{shapes}
 use Rattle.dm_layout.specs.Sizes.{size_table}
-use Rattle.dm_layout.specs.Order.{shapes_on, shapes_walked}
+use Rattle.dm_layout.specs.inner.Order.{shapes_on, shapes_walked}
 use Rattle.dm_layout.proofs.SameShapes.{same_shapes}
 
 -- the anchor lies in the square

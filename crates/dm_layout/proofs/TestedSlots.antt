@@ -5,7 +5,7 @@ use Rattle.std.specs.List.{AllByRecursion, list_all}
 use Rattle.std.specs.Cmp.Lexicographic.{pointwise}
 use Rattle.dm_layout.specs.Placement.{shapes}
 use Rattle.dm_layout.specs.Sizes.{size_table}
-use Rattle.dm_layout.specs.Slots.{order_of, slot_of}
+use Rattle.dm_layout.specs.inner.Slots.{order_of, slot_of}
 use Rattle.dm_layout.proofs.LiftedWords.{fits_test}
 
 -- the slots are those of the shapes and lie in the rows, and the shapes fit

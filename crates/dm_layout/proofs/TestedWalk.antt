@@ -4,7 +4,7 @@ use Rattle.std.proofs.Common.{◌≡◌, true, refl, length}
 use Rattle.std.specs.List.{AllByRecursion}
 use Rattle.dm_layout.specs.Placement.{shapes}
 use Rattle.dm_layout.specs.Sizes.{size_table, codeword_count}
-use Rattle.dm_layout.specs.Walking.{walk_of, shapes_left, candidates, candidates_at, placed}
+use Rattle.dm_layout.specs.inner.Walking.{walk_of, shapes_left, candidates, candidates_at, placed}
 use Rattle.dm_layout.proofs.SameShapes.{same_shapes}
 
 at-56 : same_shapes (shapes_left (walk_of 56)) (shapes 56) ≡ true

@@ -8,8 +8,8 @@ use Rattle.std.proofs.lemmas.Nat.{div-add-mod', div-mul-add, pow-add}
 use Rattle.std.proofs.lemmas.Nat.Bits.{bit_at_cat_low, bit_at_cat_high, bit_at_above}
 use Rattle.dm_layout.specs.Border.{symbol_line}
 use Rattle.dm_layout.specs.Grid.{is_dark_in}
-use Rattle.dm_layout.specs.Reading.{look_in}
-use Rattle.dm_layout.specs.Widened.{IsMoved, IsWidened}
+use Rattle.dm_layout.specs.inner.Reading.{look_in}
+use Rattle.dm_layout.specs.inner.Widened.{IsMoved, IsWidened}
 use Rattle.dm_layout.proofs.InnerRows.{moved_bit}
 use Rattle.dm_layout.proofs.OuterRows.{or_dark}
 

@@ -6,11 +6,6 @@ pub mod Modules
 pub mod Blocks
 pub mod Placement
 pub mod Sweep
-pub mod Walking
-pub mod Order
-pub mod Reading
-pub mod Widened
-pub mod Slots
 pub mod Holds
-pub mod BorderMasks
 pub mod Equality
+pub mod inner

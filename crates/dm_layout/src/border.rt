@@ -4,7 +4,7 @@ ghost use Rattle.std.specs.Prelude.{◌≡◌, ℕ, ◌+◌, ◌%◌, ◌^◌, �
 ghost use Rattle.std.specs.List.{range_with_len};
 ghost use Rattle.dm_layout.specs.Grid.{IsGrid, is_dark_in};
 ghost use Rattle.dm_layout.specs.Border.{is_on_edge, edge_is_dark, border_fault_count, empty_grid};
-ghost use Rattle.dm_layout.specs.BorderMasks.{is_wrong};
+ghost use Rattle.dm_layout.specs.inner.BorderMasks.{is_wrong};
 
 use crate::grid::Grid;
 use crate::packed::front;
@@ -49,7 +49,7 @@ struct Borders {
 
 impl Model for Borders {
     ghost use Rattle.dm_layout.specs.Sizes.{SizeRow};
-    ghost use Rattle.dm_layout.specs.BorderMasks.{AreBorders};
+    ghost use Rattle.dm_layout.specs.inner.BorderMasks.{AreBorders};
 
     ghost Value = { SizeRow };
 

@@ -3,7 +3,7 @@
 ghost use Rattle.std.specs.Prelude.{◌≡◌, List};
 ghost use Rattle.std.specs.Iterator.{YieldsFirst, item_count};
 ghost use Rattle.dm_layout.specs.Placement.{places_in_order};
-ghost use Rattle.dm_layout.specs.Walking.{places_left, CellsAreSafe};
+ghost use Rattle.dm_layout.specs.inner.Walking.{places_left, CellsAreSafe};
 ghost use Rattle.dm_layout.specs.declared.cells.Place.{Place};
 
 use crate::shape::Cell;

@@ -5,10 +5,10 @@ ghost use Rattle.std.specs.Int.{bit_at};
 ghost use Rattle.dm_layout.specs.Border.{mapped_cell, symbol_line, is_border, border_is_dark, is_fixed, is_fixed_dark};
 ghost use Rattle.dm_layout.specs.Grid.{IsGrid, cell_at, is_dark_in};
 ghost use Rattle.dm_layout.specs.Placement.{IsPlace, cells_of};
-ghost use Rattle.dm_layout.specs.Reading.{look_in, marks_in, marks_three, turned_bits};
+ghost use Rattle.dm_layout.specs.inner.Reading.{look_in, marks_in, marks_three, turned_bits};
 ghost use Rattle.dm_layout.specs.Holds.{bit_of};
 ghost use Rattle.dm_layout.specs.declared.shape.Cell.{Cell};
-ghost use Rattle.dm_layout.specs.Walking.{AnchorInside, CellsInside, largest_mapping};
+ghost use Rattle.dm_layout.specs.inner.Walking.{AnchorInside, CellsInside, largest_mapping};
 
 use crate::border::draw_borders;
 use crate::grid::Grid;

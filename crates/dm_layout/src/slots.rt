@@ -5,8 +5,8 @@
 ghost use Rattle.std.specs.Prelude.{◌≡◌, ℕ, ◌+◌, ◌*◌, ◌/◌, ◌%◌, ◌<◌, ◌≤◌, ◌&&◌, ◌||◌, nat_le, nat_lt, get_or, List, []};
 ghost use Rattle.dm_layout.specs.Grid.{is_dark_in};
 ghost use Rattle.dm_layout.specs.Placement.{cells_of};
-ghost use Rattle.dm_layout.specs.Slots.{is_joined, reversed_bits, word_in, order_of, slot_byte, HasSlots};
-ghost use Rattle.dm_layout.specs.Walking.{CellsInside, largest_mapping};
+ghost use Rattle.dm_layout.specs.inner.Slots.{is_joined, reversed_bits, word_in, order_of, slot_byte, HasSlots};
+ghost use Rattle.dm_layout.specs.inner.Walking.{CellsInside, largest_mapping};
 ghost use Rattle.dm_layout.specs.declared.shape.Shape.TheVariants.{Corner1, Corner2};
 
 use crate::order_rows::*;

@@ -3,7 +3,7 @@
 ghost use Rattle.std.specs.Prelude.{◌≡◌, ◌+◌, ◌-◌, ◌<◌, ◌≤◌, ◌++◌, false, IfSome};
 ghost use Rattle.std.specs.Option.{option_to_list};
 ghost use Rattle.std.specs.Iterator.{YieldsFirst};
-ghost use Rattle.dm_layout.specs.Walking.{AnchorInside, CellsInside, CursorIsSafe, TakesShape, WalkIsSafe, candidate_of, corner_at, fill, inside_at, is_left_out, is_over_of, largest_mapping, moved_of, shapes_left, walk_of};
+ghost use Rattle.dm_layout.specs.inner.Walking.{AnchorInside, CellsInside, CursorIsSafe, TakesShape, WalkIsSafe, candidate_of, corner_at, fill, inside_at, is_left_out, is_over_of, largest_mapping, moved_of, shapes_left, walk_of};
 
 use crate::shape::{Cell, LARGEST_MAPPING, Shape};
 

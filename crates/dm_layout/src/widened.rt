@@ -6,9 +6,9 @@
 ghost use Rattle.std.specs.Prelude.{◌≡◌, ℕ, ◌+◌, ◌-◌, ◌*◌, ◌%◌, ◌^◌, ◌<◌, ◌≤◌, ◌&&◌, ◌||◌, nat_le, nat_lt, false};
 ghost use Rattle.dm_layout.specs.Border.{mapped_cell, symbol_line};
 ghost use Rattle.dm_layout.specs.Grid.{is_dark_in};
-ghost use Rattle.dm_layout.specs.Reading.{look_in};
-ghost use Rattle.dm_layout.specs.Walking.{largest_mapping};
-ghost use Rattle.dm_layout.specs.Widened.{IsMoved, IsWidened};
+ghost use Rattle.dm_layout.specs.inner.Reading.{look_in};
+ghost use Rattle.dm_layout.specs.inner.Walking.{largest_mapping};
+ghost use Rattle.dm_layout.specs.inner.Widened.{IsMoved, IsWidened};
 
 use crate::grid::Grid;
 use crate::shape::LARGEST_MAPPING;

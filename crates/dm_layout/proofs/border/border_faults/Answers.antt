@@ -3,7 +3,7 @@ use Rattle.std.specs.Prelude.{count_by}
 use Rattle.std.specs.List.{range_with_len}
 use Rattle.dm_layout.specs.Sizes.{SizeRow}
 use Rattle.dm_layout.specs.Border.{is_fault}
-use Rattle.dm_layout.specs.BorderMasks.{is_wrong}
+use Rattle.dm_layout.specs.inner.BorderMasks.{is_wrong}
 use Rattle.dm_layout.proofs.BorderLemmas.{faults_above_more}
 use Rattle.dm_layout.proofs.BorderMasks.{faults_of_bits, row_below}
 use Rattle.dm_layout.proofs.TableRows.{row_facts}

@@ -1,7 +1,7 @@
 use Rattle.std.proofs.Common.{◌≡◌, ℕ, List, get_or, ap, ◌∙◌, sym, subst, arith, length}
 use Rattle.dm_layout.specs.declared.shape.Shape.{Shape}
 use Rattle.dm_layout.specs.Sizes.{SizeRow}
-use Rattle.dm_layout.specs.Order.{AnchorsInside}
+use Rattle.dm_layout.specs.inner.Order.{AnchorsInside}
 use Rattle.dm_layout.specs.Placement.{shapes, cells_of}
 use Rattle.dm_layout.proofs.PlacementRows.{bounds_at_row, count_at_row, once_at_row}
 use Rattle.dm_layout.proofs.Painting.{none_put, word_put, all_put, marks_bit, marks_no_fixed}

@@ -1,6 +1,6 @@
 use Rattle.std.proofs.Common.{ℕ, ◌*◌, ◌%◌, ◌^◌, List, get_or, set, ap, ◌∙◌, arith}
 use Rattle.std.specs.Int.RustNames.{bit_or}
-use Rattle.dm_layout.specs.Reading.{look_in}
+use Rattle.dm_layout.specs.inner.Reading.{look_in}
 use Rattle.dm_layout.proofs.PaintedThree.{three_put}
 use Rattle.dm_layout.proofs.mapping.put_three.Goals as goal
 

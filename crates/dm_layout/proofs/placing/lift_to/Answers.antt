@@ -4,8 +4,8 @@ use Rattle.std.proofs.lemmas.List.{length-map, take_all}
 use Rattle.dm_layout.specs.Sizes.{SizeRow, codeword_count}
 use Rattle.dm_layout.specs.Border.{mapped_cell}
 use Rattle.dm_layout.specs.Placement.{shapes, cells_of}
-use Rattle.dm_layout.specs.Slots.{order_of, reversed_bits, slot_byte, slot_of}
-use Rattle.dm_layout.specs.Widened.{IsWidened}
+use Rattle.dm_layout.specs.inner.Slots.{order_of, reversed_bits, slot_byte, slot_of}
+use Rattle.dm_layout.specs.inner.Widened.{IsWidened}
 use Rattle.dm_layout.specs.Words.{WordsView}
 use Rattle.dm_layout.proofs.LiftedWords.{slot_words, fits_test}
 use Rattle.dm_layout.proofs.Painting.{light_at}

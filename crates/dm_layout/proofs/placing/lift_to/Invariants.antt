@@ -1,5 +1,5 @@
 use Rattle.std.proofs.Common.{◌≡◌, map, take}
-use Rattle.dm_layout.specs.Slots.{order_of, reversed_bits, slot_byte}
+use Rattle.dm_layout.specs.inner.Slots.{order_of, reversed_bits, slot_byte}
 use Rattle.dm_layout.specs.Words.{IsWords}
 use Rattle.dm_layout.proofs.placing.lift_to.Given as goal
 

@@ -1,5 +1,5 @@
 use Rattle.std.proofs.Common.{◌≡◌, ℕ, ◌+◌, ◌*◌, ◌<◌, get_or, length}
-use Rattle.dm_layout.specs.Slots.{AreSlots}
+use Rattle.dm_layout.specs.inner.Slots.{AreSlots}
 use Rattle.dm_layout.proofs.slots.fill_slots.Given as goal
 
 abbrev pub invariant-loop-row : goal.invariant-loop-row

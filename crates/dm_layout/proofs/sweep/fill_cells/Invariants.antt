@@ -1,5 +1,5 @@
 use Rattle.std.proofs.Common.{◌≡◌, drop}
-use Rattle.dm_layout.specs.Walking.{fill, CellsInside, largest_mapping}
+use Rattle.dm_layout.specs.inner.Walking.{fill, CellsInside, largest_mapping}
 use Rattle.dm_layout.proofs.sweep.fill_cells.Given as goal
 
 abbrev pub invariant-loop-cell : goal.invariant-loop-cell

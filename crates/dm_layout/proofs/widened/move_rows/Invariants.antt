@@ -1,6 +1,6 @@
 use Rattle.std.proofs.Common.{◌≡◌, ℕ, ◌+◌, ◌*◌, ◌<◌, ◌≤◌, length, false}
 use Rattle.dm_layout.specs.Border.{mapped_cell}
-use Rattle.dm_layout.specs.Reading.{look_in}
+use Rattle.dm_layout.specs.inner.Reading.{look_in}
 use Rattle.dm_layout.proofs.widened.move_rows.Given as goal
 
 abbrev pub invariant-loop-row : goal.invariant-loop-row

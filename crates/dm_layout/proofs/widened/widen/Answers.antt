@@ -1,6 +1,6 @@
 use Rattle.std.proofs.Common.{◌≡◌, ℕ, subst, sym, arith, ◌∙◌, ap}
 use Rattle.dm_layout.specs.Sizes.{SizeRow}
-use Rattle.dm_layout.specs.Widened.{IsMoved, IsWidened}
+use Rattle.dm_layout.specs.inner.Widened.{IsMoved, IsWidened}
 use Rattle.dm_layout.specs.Border.{mapped_cell}
 use Rattle.dm_layout.proofs.PlacementRows.{side_at_row}
 use Rattle.dm_layout.proofs.WidenedRows.{is_widened}

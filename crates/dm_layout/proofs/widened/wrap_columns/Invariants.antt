@@ -1,5 +1,5 @@
 use Rattle.std.proofs.Common.{◌≡◌, ℕ, ◌+◌, ◌-◌, ◌&&◌, ◌||◌, nat_le, nat_lt, length}
-use Rattle.dm_layout.specs.Reading.{look_in}
+use Rattle.dm_layout.specs.inner.Reading.{look_in}
 use Rattle.dm_layout.proofs.widened.wrap_columns.Given as goal
 
 abbrev pub invariant-loop-row : goal.invariant-loop-row

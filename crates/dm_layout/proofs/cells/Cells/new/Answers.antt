@@ -4,7 +4,7 @@ use Rattle.dm_layout.specs.Sizes.{SizeRow, IsRow, codeword_count}
 use Rattle.dm_layout.specs.declared.shape.Cell.{Cell}
 use Rattle.dm_layout.specs.declared.sweep.Walk.{Walk}
 use Rattle.dm_layout.specs.Placement.{places_from, places_in_order}
-use Rattle.dm_layout.specs.Walking.{CellsAreSafe, walk_of, shapes_left, largest_mapping}
+use Rattle.dm_layout.specs.inner.Walking.{CellsAreSafe, walk_of, shapes_left, largest_mapping}
 use Rattle.dm_layout.proofs.PlacementRows.{bounds_at_row, count_at_row, walk_at_row}
 use Rattle.dm_layout.proofs.cells.Cells.new.Goals as goal
 

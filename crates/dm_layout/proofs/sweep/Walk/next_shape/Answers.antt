@@ -1,5 +1,5 @@
 use Rattle.std.proofs.Common.{◌≡◌, [], sym, ◌∙◌}
-use Rattle.dm_layout.specs.Walking.{shapes_left}
+use Rattle.dm_layout.specs.inner.Walking.{shapes_left}
 use Rattle.dm_layout.proofs.Moves.{nothing_at_zero, nothing_at_end}
 use Rattle.dm_layout.proofs.sweep.Walk.next_shape.Goals as goal
 

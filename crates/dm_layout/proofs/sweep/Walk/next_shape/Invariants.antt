@@ -1,5 +1,5 @@
 use Rattle.std.proofs.Common.{◌≡◌}
-use Rattle.dm_layout.specs.Walking.{shapes_left, WalkIsSafe}
+use Rattle.dm_layout.specs.inner.Walking.{shapes_left, WalkIsSafe}
 use Rattle.dm_layout.proofs.sweep.Walk.next_shape.Given as goal
 
 abbrev pub invariant-loop-self : goal.invariant-loop-self

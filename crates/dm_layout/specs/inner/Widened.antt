@@ -1,7 +1,7 @@
 -- Rows of the mapping square of side n as numbers, widened so that no standard shape wraps: row r of the square is row r + 2, and its column c
 -- is the bit of weight 2^(c + 4). The cell of the square at a row and a column is `look row column`.
 use Rattle.std.specs.Prelude.{◌≡◌, ℕ, ◌+◌, ◌-◌, ◌%◌, ◌<◌, ◌≤◌, Bool, false, List}
-use Rattle.dm_layout.specs.Reading.{look_in}
+use Rattle.dm_layout.specs.inner.Reading.{look_in}
 
 -- the square is there, with nothing to its left and to its right
 pub record IsMoved (n : ℕ) (look : ℕ → ℕ → Bool) (rows : List ℕ) : Type 0 where

@@ -1,0 +1,6 @@
+pub mod Walking
+pub mod Order
+pub mod Reading
+pub mod Widened
+pub mod Slots
+pub mod BorderMasks
