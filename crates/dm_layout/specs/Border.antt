@@ -7,11 +7,12 @@ use Rattle.dm_layout.specs.Grid.{GridView, cell_at, square_by}
 
 -- ---- one region with its border: a square of side d + 2 around a region of side d
 
--- the cell lies in the left or right column or in the top or bottom row of the square
+-- A cell of this square belongs to the border if it lies in the left or right column or in the top or bottom row.
 abbrev pub is_on_edge : ℕ → ℕ → ℕ → Bool
 is_on_edge d row column = nat_eq column 0 || nat_eq row (d + 1) || nat_eq row 0 || nat_eq column (d + 1)
 
--- the colour of such a cell: the left column and the bottom row are dark; another cell of the top row is dark where its column is even; another cell of the right column is dark where its row is odd
+-- A border cell of the left column or the bottom row is dark; another one of the top row is dark if its column is
+-- even, and another one of the right column if its row is odd.
 abbrev pub edge_is_dark : ℕ → ℕ → ℕ → Bool
 edge_is_dark d row column =
     if nat_eq column 0 || nat_eq row (d + 1) then true
@@ -19,44 +20,46 @@ edge_is_dark d row column =
 
 -- ---- the whole symbol, whose regions with their borders lie side by side
 
--- the symbol cell belongs to a border
+-- A cell of the symbol belongs to a border, that is, to the finder pattern or an alignment pattern, if it lies on the
+-- edge of its region's square.
 abbrev pub is_border : SizeRow → ℕ → ℕ → Bool
 is_border size row column = is_on_edge size.region_side (row % (size.region_side + 2)) (column % (size.region_side + 2))
 
--- the colour of a border cell of the symbol
+-- A border cell of the symbol is dark if it is dark at its place in its region's square.
 abbrev pub border_is_dark : SizeRow → ℕ → ℕ → Bool
 border_is_dark size row column = edge_is_dark size.region_side (row % (size.region_side + 2)) (column % (size.region_side + 2))
 
--- where a row or column of the mapping square lies in a symbol whose regions have the side d
+-- A row of the mapping square lies in this row of a symbol whose data regions have the side d; a column likewise.
 abbrev pub symbol_line : ℕ → ℕ → ℕ
 symbol_line d line = line + 2 * (line / d) + 1
 
--- the colour of the symbol cell to which a mapping cell is moved
+-- A cell of the mapping square has the colour of the symbol cell at which it lies.
 abbrev pub mapped_cell : GridView → ℕ → ℕ → Bool
 mapped_cell grid row column = cell_at grid (symbol_line grid.size.region_side row) (symbol_line grid.size.region_side column)
 
 -- ---- border faults
 
--- the cell belongs to a border and has the other colour
+-- A border fault is a border cell that has the wrong colour.
 abbrev pub is_fault : GridView → ℕ → ℕ → Bool
 is_fault grid row column = is_border grid.size row column && not (beq (cell_at grid row column) (border_is_dark grid.size row column))
 
--- how many border cells have the other colour
+-- The border faults of a grid are counted over all its cells.
 abbrev pub border_fault_count : GridView → ℕ
 border_fault_count grid =
     sum_by (λ row. count_by (is_fault grid row) (range_with_len 0 grid.size.side)) (range_with_len 0 grid.size.side)
 
 -- ---- the fixed square
 
--- the cell of the mapping square belongs to the fixed square: the lower right 2x2 where the mapping side n leaves 2 when divided by 4
+-- The fixed square is the lower right 2 by 2 cells of a mapping square whose side n leaves 2 when divided by 4; a
+-- mapping square of another side has none.
 abbrev pub is_fixed : ℕ → ℕ → ℕ → Bool
 is_fixed n row column = nat_eq (n % 4) 2 && nat_le n (row + 2) && nat_le n (column + 2)
 
--- the colour of a cell of the fixed square: (n-2, n-2) and (n-1, n-1) are dark, the other two light
+-- Of the cells of the fixed square (n-2, n-2) and (n-1, n-1) are dark, the other two light.
 abbrev pub fixed_is_dark : ℕ → ℕ → Bool
 fixed_is_dark row column = nat_eq row column
 
--- the cells of the fixed square, if the size has one, have their colours
+-- A grid has the fixed square if, where its size has one, each cell of it has its colour.
 abbrev pub HasFixedSquare : GridView → Type 0
 HasFixedSquare grid =
     (row column : ℕ) → row < grid.size.mapping → column < grid.size.mapping → is_fixed grid.size.mapping row column ≡ true →
@@ -64,20 +67,22 @@ HasFixedSquare grid =
 
 -- ---- the grid without codewords
 
--- the row or column of the mapping square that lies at a row or column of the symbol which is no border's
+-- A row of the symbol that is no border's is this row of the mapping
+-- square, where the data regions have the side d; a column likewise.
 abbrev pub mapping_line : ℕ → ℕ → ℕ
 mapping_line d line = line - 2 * (line / (d + 2)) - 1
 
--- the mapping cell is a dark cell of the fixed square
+-- A cell of the mapping square is a dark cell of the fixed square.
 abbrev pub is_fixed_dark : ℕ → ℕ → ℕ → Bool
 is_fixed_dark n row column = is_fixed n row column && fixed_is_dark row column
 
--- the colour of a symbol cell in the grid with correct borders and fixed square and nothing else dark
+-- In the empty grid a border cell has its colour, and of the other cells
+-- only the dark ones of the fixed square are dark.
 abbrev pub empty_colour : SizeRow → ℕ → ℕ → Bool
 empty_colour size row column =
     if is_border size row column then border_is_dark size row column
     else is_fixed_dark size.mapping (mapping_line size.region_side row) (mapping_line size.region_side column)
 
--- the grid with correct borders and fixed square and nothing else dark
+-- The empty grid of a size has correct borders, the fixed square if the size has one, and no other dark cell.
 abbrev pub empty_grid : SizeRow → GridView
 empty_grid size = record { size = size; rows = square_by size.side (empty_colour size) }

@@ -7,15 +7,15 @@ use Rattle.std.specs.Cmp.Lexicographic.{pointwise, lists_equiv}
 use Rattle.dm_layout.specs.Grid.{GridView}
 use Rattle.dm_layout.specs.Words.{WordsView}
 
--- the sides agree, and all cells
+-- Two grids are equal if their sides and all their cells agree.
 abbrev pub equal_grids : GridView → GridView → Bool
 equal_grids = eq_of_both (on (λ g. g.size.side) nat_eq) (on (λ g. g.rows) (pointwise (pointwise beq)))
 
--- the sides agree, and all codewords
+-- The codewords of two symbols are equal if the sides of the symbols and all codewords agree.
 abbrev pub equal_words : WordsView → WordsView → Bool
 equal_words = eq_of_both (on (λ w. w.size.side) nat_eq) (on (λ w. w.list) (pointwise nat_eq))
 
--- both are equivalences
+-- Equality of grids and equality of codewords are equivalences.
 pub grids_equiv : IsEquivalence equal_grids
 grids_equiv = and_equiv (on_equiv (λ (g : GridView). g.size.side) nat_eq_equiv) (on_equiv (λ (g : GridView). g.rows) (lists_equiv (lists_equiv bool_eq_equiv)))
 

@@ -3,54 +3,58 @@ use Rattle.std.specs.Prelude.{◌≡◌, ℕ, ◌+◌, ◌*◌, ◌/◌, ◌%◌
 use Rattle.std.specs.List.{range_with_len}
 use Rattle.dm_layout.specs.Sizes.{SizeRow, IsRow, largest_side}
 
--- a size, and the rows of cells from the top, each from the left; true is dark
+-- A grid has a size and the rows of its cells, from the top, each from the left; true is dark.
 pub record GridView : Type 0 where
   pub size : SizeRow
   pub rows : List (List Bool)
 
--- the size stands in the table, and there are as many rows as its side, each of as many cells
+-- A grid is well formed if its size stands in the table and it has as
+-- many rows as the size's side, each of as many cells.
 pub record IsGrid (grid : GridView) : Type 0 where
   pub row : IsRow grid.size
   pub height : length grid.rows ≡ grid.size.side
   pub width : All (λ line. length line ≡ grid.size.side) grid.rows
 
--- the cell at a row and a column
+-- A cell of a grid is given by its row and its column, both counted from 0 at the top left.
 abbrev pub cell_at : GridView → ℕ → ℕ → Bool
 cell_at grid row column = get_or (get_or grid.rows row []) column false
 
--- the grid with one cell in another colour
+-- This grid has the given colour at one cell and is the same at all others.
 abbrev pub with_cell : GridView → ℕ → ℕ → Bool → GridView
 with_cell grid row column dark = record { size = grid.size; rows = set grid.rows row (set (get_or grid.rows row []) column dark) }
 
--- the rows of a square in which `colour row column` is the cell at a row and a column
+-- These are the rows of a square in which the cell at a row and a column has the colour `colour row column`.
 abbrev pub square_by : ℕ → (ℕ → ℕ → Bool) → List (List Bool)
 square_by side colour = map (λ row. map (colour row) (range_with_len 0 side)) (range_with_len 0 side)
 
--- the rows of a square whose cells are given row by row from the top
+-- These are the rows of a square whose cells are listed row by row from the top.
 abbrev pub square_of : ℕ → List Bool → List (List Bool)
 square_of side cells = square_by side (λ row column. get_or cells (row * side + column) false)
 
--- all cells of the grid are light
+-- A grid is light if all its cells are light.
 abbrev pub IsLight : GridView → Type 0
 IsLight grid = (row column : ℕ) → row < grid.size.side → column < grid.size.side → cell_at grid row column ≡ false
 
 -- ---- rows as numbers
 
--- the cell of a column, counted from 0 at the left, in a row that is a number: it is the bit of weight 2^column, 1 for dark
+-- In a row that is written as a number, the cell of a column, counted
+-- from 0 at the left, is the bit of weight 2^column; 1 is dark.
 abbrev pub is_dark_in : ℕ → ℕ → Bool
 is_dark_in row column = nat_eq (row / 2 ^ column % 2) 1
 
--- the rows of a square that are given as numbers from the top; only the first `side` bits of each count
+-- These are the rows of a square that are written as numbers, from the
+-- top; only the lowest `side` bits of each count.
 abbrev pub square_of_rows : ℕ → List ℕ → List (List Bool)
 square_of_rows side rows = square_by side (λ row. is_dark_in (get_or rows row 0))
 
 -- ---- how a grid is kept: its rows as numbers, at the front of as many as the largest side
 
--- the grid of a size that is kept in these numbers
+-- The grid of a size that is kept in a list of numbers has the first of them as its rows.
 abbrev pub kept_grid : SizeRow → List ℕ → GridView
 kept_grid size rows = record { size = size; rows = square_of_rows size.side rows }
 
--- the size stands in the table, there are as many numbers as the largest side, and none of those that count has a bit from the side on
+-- A grid of the size is kept in these numbers if the size stands in the table, there are as many numbers as the
+-- largest side, and no row of the grid has a bit past its side.
 pub record IsKept (size : SizeRow) (rows : List ℕ) : Type 0 where
   pub row : IsRow size
   pub fits : size.side ≤ largest_side

@@ -6,19 +6,20 @@ use Rattle.dm_layout.specs.Words.{WordsView, IsWords}
 use Rattle.dm_layout.specs.Border.{mapped_cell, border_fault_count, HasFixedSquare}
 use Rattle.dm_layout.specs.Placement.{IsPlace}
 
--- whether a bit of a codeword is 1: bit 1 is the highest, 8 the lowest
+-- Bit 1 of a codeword is its highest bit and bit 8 its lowest; true is 1.
 abbrev pub bit_of : List ℕ → ℕ → ℕ → Bool
 bit_of words word bit = nat_eq (get_or words word 0 / 2 ^ (8 - bit) % 2) 1
 
--- the grid holds the codewords: both are of one size, and for every bit of every codeword the symbol cell to which the border rule
--- moves its place is dark exactly where the bit is 1. The codewords are exactly the size's, each of 0 to 255, and the grid is of the size's side.
+-- A grid holds codewords if both are of one size and, for every bit of every codeword, the cell at which the bit's
+-- place lies in the symbol is dark exactly where the bit is 1. There are exactly as many codewords as the size has,
+-- each of 0 to 255, and the grid has the size's side.
 pub record Holds (grid : GridView) (words : WordsView) : Type 0 where
   pub square : IsGrid grid
   pub codewords : IsWords words
   pub same_size : words.size ≡ grid.size
   pub bits : (word bit : ℕ) (cell : Cell) → IsPlace grid.size.mapping word bit cell → mapped_cell grid cell.row cell.column ≡ bit_of words.list word bit
 
--- the grid in which the codewords are laid: it holds them, has no border fault, and has the fixed square
+-- Codewords are laid in a grid if the grid holds them, has no border fault and has the fixed square.
 pub record IsLaid (words : WordsView) (grid : GridView) : Type 0 where
   pub holds : Holds grid words
   pub border : border_fault_count grid ≡ 0
@@ -26,18 +27,18 @@ pub record IsLaid (words : WordsView) (grid : GridView) : Type 0 where
 
 -- ---- laws
 
--- each grid holds some codewords
+-- Each grid holds some codewords.
 abbrev pub EachGridHolds : Type 0
 EachGridHolds = (grid : GridView) → IsGrid grid → (words : WordsView) × Holds grid words
 
--- and no others
+-- No grid holds two different lists of codewords.
 abbrev pub HeldWordsAreOne : Type 0
 HeldWordsAreOne = (grid : GridView) (v w : WordsView) → Holds grid v → Holds grid w → v ≡ w
 
--- codewords are laid in some grid
+-- All codewords of a size can be laid in some grid.
 abbrev pub WordsAreLaid : Type 0
 WordsAreLaid = (words : WordsView) → IsWords words → (grid : GridView) × IsLaid words grid
 
--- and in no other
+-- No codewords are laid in two different grids.
 abbrev pub LaidGridIsOne : Type 0
 LaidGridIsOne = (words : WordsView) (g h : GridView) → IsLaid words g → IsLaid words h → g ≡ h

@@ -3,6 +3,6 @@ use Rattle.std.specs.Prelude.{ℕ, Bool, if◌then◌else◌, Option, Some, None
 use Rattle.dm_layout.specs.Sizes.{SizeRow}
 use Rattle.dm_layout.specs.Border.{is_border, border_is_dark}
 
--- the colour that a module of a border is to have; none for a module of no border
+-- A module of a border has a prescribed colour; any other module has none.
 abbrev pub border_colour : SizeRow → ℕ → ℕ → Option Bool
 border_colour size row column = if is_border size row column then Some (border_is_dark size row column) else None

@@ -1,26 +1,26 @@
 -- The square sizes of ECC 200, as one table: ISO/IEC 16022, symbol sizes and capacities.
 use Rattle.std.specs.Prelude.{◌≡◌, ℕ, ◌+◌, ◌/◌, ◌≤◌, List, [], ◌∷◌, nat_eq, nat_le, Option, Some, find, All, Any}
 
--- a row of the table
+-- A size is a row of the table.
 pub record SizeRow : Type 0 where
-  -- the cells of a side of the whole symbol, borders among them
+  -- The cells along a side of the whole symbol, with its borders.
   pub side : ℕ
-  -- how many regions the symbol has; they lie in a square
+  -- The number of data regions, which lie in a square.
   pub regions : ℕ
-  -- the cells of a side of one region, without its border
+  -- The cells along a side of one data region, without its border.
   pub region_side : ℕ
-  -- the cells of a side of the mapping square: the regions put together without their borders
+  -- The cells along a side of the mapping square, which is the data regions put together without their borders.
   pub mapping : ℕ
-  -- the data codewords of the symbol
+  -- The number of data codewords of the symbol.
   pub data_count : ℕ
-  -- the check codewords of the symbol
+  -- The number of check codewords of the symbol.
   pub check_count : ℕ
-  -- the Reed-Solomon blocks into which the codewords are dealt
+  -- The number of Reed-Solomon blocks into which the codewords are dealt.
   pub blocks : ℕ
-  -- how many wrong codewords can be corrected in a block
+  -- The number of wrong codewords that can be corrected in a block.
   pub limit : ℕ
 
--- the row with these eight numbers, in the order of the columns above
+-- A row of the table is written as eight numbers, in the order of the columns above.
 abbrev pub row_of : ℕ → ℕ → ℕ → ℕ → ℕ → ℕ → ℕ → ℕ → SizeRow
 row_of side regions region_side mapping data_count check_count blocks limit =
     record {
@@ -34,7 +34,7 @@ row_of side regions region_side mapping data_count check_count blocks limit =
       limit = limit;
     }
 
--- the sizes, by rising side
+-- The table has the square sizes by rising side.
 unfoldable pub size_table : List SizeRow
 size_table =
     row_of 10 1 8 8 3 5 1 2
@@ -60,57 +60,58 @@ size_table =
     ∷ row_of 104 16 24 96 816 336 6 28
     ∷ []
 
--- the largest side of the table
+-- The largest symbol of the table has this side.
 abbrev pub largest_side : ℕ
 largest_side = 104
 
--- the most data codewords of a symbol of the table
+-- No symbol of the table has more data codewords than this.
 abbrev pub most_data : ℕ
 most_data = 816
 
--- the most codewords of a symbol of the table, data and check together
+-- No symbol of the table has more codewords than this, data and check codewords together.
 abbrev pub most_codewords : ℕ
 most_codewords = 1152
 
--- the most blocks of a symbol of the table
+-- No symbol of the table has more blocks than this.
 abbrev pub most_blocks : ℕ
 most_blocks = 6
 
--- the row of a side, if the table has one
+-- The size with a given side is the row of the table that has it, if there is one.
 abbrev pub row_with_side : ℕ → Option SizeRow
 row_with_side side = find (λ row. nat_eq row.side side) size_table
 
--- the row of the smallest size with at least `count` data codewords, if there is one; the table rises
+-- The size for `count` data codewords is the first row of the table with at least as many, if there is one; since the
+-- table rises, it is the smallest.
 abbrev pub row_for_words : ℕ → Option SizeRow
 row_for_words count = find (λ row. nat_le count row.data_count) size_table
 
--- the row stands in the table
+-- The row stands in the table.
 abbrev pub IsRow : SizeRow → Type 0
 IsRow row = row_with_side row.side ≡ Some row
 
--- how many regions stand side by side
+-- This many data regions stand side by side.
 abbrev pub regions_across : SizeRow → ℕ
 regions_across row = row.mapping / row.region_side
 
--- how many codewords a symbol of this size has, data and check together
+-- A symbol of this size has this many codewords, data and check codewords together.
 abbrev pub codeword_count : SizeRow → ℕ
 codeword_count row = row.data_count + row.check_count
 
--- how many data codewords a block has
+-- Each block of this size has this many data codewords.
 abbrev pub block_data : SizeRow → ℕ
 block_data row = row.data_count / row.blocks
 
--- how many check codewords a block has
+-- Each block of this size has this many check codewords.
 abbrev pub block_check : SizeRow → ℕ
 block_check row = row.check_count / row.blocks
 
--- how many codewords a block has
+-- Each block of this size has this many codewords.
 abbrev pub block_length : SizeRow → ℕ
 block_length row = codeword_count row / row.blocks
 
 -- ---- laws
 
--- the number is the greatest of a column: some row of the table has it, and none has more
+-- The number is the greatest of a column: some row of the table has it, and none has more.
 pub record IsGreatest (column : SizeRow → ℕ) (number : ℕ) : Type 0 where
   pub met : Any (λ row. column row ≡ number) size_table
   pub most : All (λ row. column row ≤ number) size_table

@@ -10,7 +10,7 @@ use Rattle.dm_layout.specs.Placement.{cells_of}
 
 -- ---- the turns. Row and column are whole numbers, since a turn leaves the square on all sides.
 
--- the corner with which a turn begins at row r, column c, if it begins with one
+-- A turn that begins at row r, column c begins with this corner, if with any.
 abbrev pub corner_at : ℕ → ℕ → ℕ → List Shape
 corner_at n r c =
     elim (nat_eq r n && nat_eq c 0) [
@@ -24,28 +24,29 @@ corner_at n r c =
       ]
     ]
 
--- the corner of a turn that begins left of the square is none
+-- A turn that begins above the square or left of it begins with no corner.
 abbrev pub corner_of_turn : ℕ → ℤ → ℤ → List Shape
 corner_of_turn n (pos r) (pos c) = corner_at n r c
 corner_of_turn n (pos r) (negsuc c) = []
 corner_of_turn n (negsuc r) c = []
 
--- the standard shape whose anchor the sweep comes by, if that cell lies inside the square
+-- At a cell inside the square the sweep comes by the standard shape that has its anchor there, and elsewhere by none.
 abbrev pub inside_at : ℕ → ℤ → ℤ → List Shape
 inside_at n (pos r) (pos c) = elim (nat_lt r n && nat_lt c n) [ true ↦ Standard r c ∷ [] | false ↦ [] ]
 inside_at n (pos r) (negsuc c) = []
 inside_at n (negsuc r) c = []
 
--- the three parts of a turn
+-- A turn has three parts.
 pub data Part : Type 0 where
   Corner : Part
   Upwards : Part
   Downwards : Part
 
--- the shapes that the turns come by, in at most so many moves, whether their cells are filled or not.
--- A turn is its corner; then upwards the cells (r, c), (r-2, c+2), (r-4, c+4), .. until the row is below 0 or the column is n or more,
--- and from there one row down and three columns right; then downwards likewise by two rows down and two columns left until the row
--- is n or more or the column is below 0, and from there three rows down and one column right. Turns go on while row or column is below n.
+-- These are the shapes that the turns come by in at most so many moves, whether their cells are filled or not. A turn
+-- is its corner; then upwards the cells (r, c), (r-2, c+2), (r-4, c+4), .. until the row is below 0 or the column is
+-- n or more, and from there one row down and three columns right; then downwards likewise by two rows down and two
+-- columns left until the row is n or more or the column is below 0, and from there three rows down and one column
+-- right. Turns go on while the row or the column is below n.
 unfoldable pub comes_by : ℕ → ℕ → Part → ℤ → ℤ → List Shape
 comes_by zero n part r c = []
 comes_by (suc k) n Corner r c =
@@ -65,20 +66,20 @@ comes_by (suc k) n Downwards r c =
 
 -- ---- the table of filled cells: for each row the list of its filled columns
 
--- nothing is filled
+-- Before the sweep no cell is filled.
 abbrev pub nothing_filled : ℕ → List (List ℕ)
 nothing_filled n = replicate n []
 
--- whether a cell is filled
+-- A cell is filled if the list of its row has its column.
 abbrev pub is_filled : List (List ℕ) → ℕ → ℕ → Bool
 is_filled table r c = list_any (nat_eq c) (get_or table r [])
 
--- the table with these cells filled too
+-- This is the table with these cells filled too.
 abbrev pub fill : List (List ℕ) → List Cell → List (List ℕ)
 fill table [] = table
 fill table (x ∷ rest) = fill (set table x.row (x.column ∷ get_or table x.row [])) rest
 
--- a standard shape is left out where its anchor is filled; a corner never is
+-- A standard shape is left out where its anchor is filled; a corner is never left out.
 abbrev pub is_left_out : List (List ℕ) → Shape → Bool
 is_left_out table (Standard r c) = is_filled table r c
 is_left_out table Corner1 = false
@@ -86,21 +87,21 @@ is_left_out table Corner2 = false
 is_left_out table Corner3 = false
 is_left_out table Corner4 = false
 
--- of these shapes, in turn, those that are placed, each of which fills its cells
+-- Of the shapes that it comes by, in turn, the sweep places those that aren't left out, and each fills its cells.
 unfoldable pub placed : ℕ → List (List ℕ) → List Shape → List Shape
 placed n table [] = []
 placed n table (s ∷ rest) =
     elim (is_left_out table s) [ true ↦ placed n table rest | false ↦ s ∷ placed n (fill table (cells_of n s)) rest ]
 
--- what the sweep places in at most so many moves, from row 4, column 0 with nothing filled
+-- The sweep begins at row 4, column 0 with nothing filled, and places these shapes in at most so many moves.
 unfoldable pub sweep_within : ℕ → ℕ → List Shape
 sweep_within moves n = placed n (nothing_filled n) (comes_by moves n Corner (pos 4) (pos 0))
 
--- what the sweep places: it ends within n * n moves, so further moves place nothing
+-- The sweep places these shapes; it ends within n * n moves, so further moves place nothing.
 abbrev pub sweep : ℕ → List Shape
 sweep n = sweep_within (n * n) n
 
--- the sweep places the shapes of this list, and ends: further moves place nothing more
+-- The sweep places the shapes of this list, and ends: further moves place nothing more.
 pub record Sweeps (n : ℕ) (placed_shapes : List Shape) : Type 0 where
   pub places : sweep n ≡ placed_shapes
   pub ends : (more : ℕ) → sweep_within (n * n + more) n ≡ sweep n
