@@ -13,15 +13,15 @@ use Rattle.dm_layout.specs.Blocks.{block_of}
 use Rattle.dm_layout.proofs.TableRows.{row_facts}
 use Rattle.dm_layout.proofs.Ranges.{filter_skip, filter_keep}
 
--- whether a place belongs to block b of B
+-- A place belongs to block b of B if it leaves b when divided by B.
 abbrev pub is_of_block : ℕ → ℕ → ℕ → Bool
 is_of_block B b j = nat_eq (j % B) b
 
--- the place k * B + r belongs to block r alone
+-- The place k * B + r belongs to block r and to no other.
 of_block : (B b k r j : ℕ) → k * B + r ≡ j → r < B → is_of_block B b j ≡ nat_eq r b
 of_block B b k r j e l = ap (λ (i : ℕ). nat_eq (i % B) b) (sym e) ∙ ap (λ (i : ℕ). nat_eq i b) (mod-mul-add k B r l)
 
--- the places of block b among B * n places from k * B on
+-- Of n * B places from k * B on, those of block b are i * B + b for the n numbers i from k on.
 places_from : (B b k n : ℕ) → b < B → filter (is_of_block B b) (range_with_len (k * B) (n * B)) ≡ map (λ i. i * B + b) (range_with_len k n)
 places_from B b k zero lb =
     let e : zero * B ≡ 0 = omega arith in
@@ -46,7 +46,7 @@ places_from B b k (suc n) lb =
     nat_eq_other : (r s : ℕ) → r ≢ s → nat_eq r s ≡ false
     nat_eq_other r s h = grind arith
 
--- block b of B * n codewords: its k-th codeword stands at the place k * B + b
+-- In block b of n * B codewords, codeword k is the one at place k * B + b.
 pub block_by_steps : (B b n : ℕ) (words : List ℕ) → b < B → length words ≡ n * B → block_of B b words ≡ map (λ k. get_or words (k * B + b) 0) (range_with_len 0 n)
 block_by_steps B b n words lb count =
     let z : 0 * B ≡ 0 = omega arith in
@@ -61,11 +61,11 @@ block_by_steps B b n words lb count =
 
 -- ---- the blocks of a symbol's codewords
 
--- the number of steps of a walk through a block is the block's length
+-- A walk through a block takes as many steps as the block has codewords.
 pub steps_of_block : (w : WordsView) (B : ℕ) (list : List ℕ) → IsWords w → B ≡ w.size.blocks → list ≡ w.list → length list / B ≡ block_length w.size
 steps_of_block w B list words eb el = ap (λ m. length list / m) eb ∙ ap (λ m. m / w.size.blocks) (ap length el ∙ words.count)
 
--- the walk gives the block
+-- A walk through a block gives the codewords of the block.
 pub walk_of_block : (w : WordsView) (B b : ℕ) (list : List ℕ) → IsWords w → b < w.size.blocks → B ≡ w.size.blocks → list ≡ w.list →
     map (λ k. get_or list (k * B + b) 0) (range_with_len 0 (length list / B)) ≡ block_of w.size.blocks b w.list
 walk_of_block w B b list words lb eb el =
@@ -77,21 +77,21 @@ walk_of_block w B b list words lb eb el =
     even : length w.list ≡ block_length w.size * w.size.blocks
     even = let facts = row_facts w.size words.row in omega (arith, facts.dealt, words.count)
 
--- how long a block is
+-- A block is as long as the blocks of its size are.
 pub length_of_block : (w : WordsView) (b : ℕ) → IsWords w → b < w.size.blocks → length (block_of w.size.blocks b w.list) ≡ block_length w.size
 length_of_block w b words lb =
     ap length (sym (walk_of_block w w.size.blocks b w.list words lb refl refl))
     ∙ length-map-range_with_len (λ k. get_or w.list (k * w.size.blocks + b) 0) 0 (length w.list / w.size.blocks)
     ∙ steps_of_block w w.size.blocks w.list words refl refl
 
--- the codewords of a block by their places
+-- Codeword k of block b is the one at place k * B + b of the symbol.
 pub word_of_block : (w : WordsView) (b k : ℕ) → IsWords w → b < w.size.blocks → k < block_length w.size → get_or (block_of w.size.blocks b w.list) k 0 ≡ get_or w.list (k * w.size.blocks + b) 0
 word_of_block w b k words lb lk =
     let inside : k < length w.list / w.size.blocks = omega (arith, steps_of_block w w.size.blocks w.list words refl refl) in
     ap (λ xs. get_or xs k 0) (sym (walk_of_block w w.size.blocks b w.list words lb refl refl))
     ∙ get_or-map-range_with_len (λ j. get_or w.list (j * w.size.blocks + b) 0) 0 (length w.list / w.size.blocks) k k 0 inside (omega arith)
 
--- the k-th place of block b lies in the list
+-- Place k of block b lies within the symbol's codewords.
 pub place_inside : (w : WordsView) (b k : ℕ) → IsWords w → b < w.size.blocks → k < block_length w.size → k * w.size.blocks + b < length w.list
 place_inside w b k words lb lk =
     let facts = row_facts w.size words.row in
@@ -100,7 +100,7 @@ place_inside w b k words lb lk =
 
 -- ---- a block is put
 
--- the same codewords at the places of a block that has length list
+-- A block is a given list if the codewords of that list stand at the block's places.
 pub put_gives : (w v : WordsView) (b : ℕ) (list : List ℕ) → IsWords v → v.size ≡ w.size → b < w.size.blocks → length list ≡ block_length w.size →
     ((k : ℕ) → k < length list → get_or v.list (k * w.size.blocks + b) 0 ≡ get_or list k 0) → block_of w.size.blocks b v.list ≡ list
 put_gives w v b list words same lb count put =
@@ -114,7 +114,7 @@ put_gives w v b list words same lb count put =
     let lk : k < block_length v.size = omega (arith, long) in
     word_of_block v b k words lv lk ∙ ap (λ n. get_or v.list (k * n + b) 0) eb ∙ put k (omega (arith, long, el, count)))
 
--- a block at whose places nothing changed is as before
+-- A block is as before if nothing changed at its places.
 pub others_stay : (w v : WordsView) (b a : ℕ) → IsWords w → IsWords v → v.size ≡ w.size → a < w.size.blocks → a ≢ b →
     ((j : ℕ) → j % w.size.blocks ≢ b → get_or v.list j 0 ≡ get_or w.list j 0) → block_of w.size.blocks a v.list ≡ block_of w.size.blocks a w.list
 others_stay w v b a before words same la other keep =
@@ -123,7 +123,7 @@ others_stay w v b a before words same la other keep =
     let lk : k < block_length w.size = omega (arith, length_of_block w a before la) in
     keep (k * w.size.blocks + a) (λ e. other (sym (mod-mul-add k w.size.blocks a la) ∙ e)) ∙ sym (word_of_block w a k before la lk))
 
--- the place of the next codeword lies in the list
+-- The place of the next codeword of a block lies within the symbol's codewords.
 pub next_inside : (w v : WordsView) (B b k : ℕ) (list : List ℕ) → IsWords v → v.size ≡ w.size → B ≡ w.size.blocks → b < w.size.blocks → length list ≡ block_length w.size →
     k < length list → k * B + b < length v.list
 next_inside w v B b k list words same eb lb count lk =
@@ -132,7 +132,7 @@ next_inside w v B b k list words same eb lb count lk =
     let inside = place_inside v b k words (omega (arith, eb, en, lb)) (omega (arith, long)) in
     subst (λ (n : ℕ). k * n + b < length v.list) (sym en) inside
 
--- one more codeword is put: those before it stay
+-- Once one more codeword of a block is put, it and those before it stand at their places.
 pub put_one : (B b i : ℕ) (ws list : List ℕ) → b < B → i * B + b < length ws → ((k : ℕ) → k < i → get_or ws (k * B + b) 0 ≡ get_or list k 0) →
     (k : ℕ) → k < i + 1 → get_or (set ws (i * B + b) (get_or list i 0)) (k * B + b) 0 ≡ get_or list k 0
 put_one B b i ws list lb inside put =
@@ -143,7 +143,7 @@ put_one B b i ws list lb inside put =
     get_or-set_other ws (i * B + b) (k * B + b) (get_or list i 0) 0 ne ∙ put k l)
     (get_or-set_same ws (i * B + b) (get_or list i 0) 0 inside)
 
--- and the places of other blocks stay
+-- A codeword that is put into a block leaves the places of other blocks as they were.
 pub stay_one : (B b i x : ℕ) (ws old : List ℕ) → b < B → ((j : ℕ) → j % B ≢ b → get_or ws j 0 ≡ get_or old j 0) →
     (j : ℕ) → j % B ≢ b → get_or (set ws (i * B + b) x) j 0 ≡ get_or old j 0
 stay_one B b i x ws old lb keep j h =
@@ -152,7 +152,7 @@ stay_one B b i x ws old lb keep j h =
 
 -- ---- what the blocks tell
 
--- a place, by its block and its step
+-- Place j is the place of step j div B in block j mod B.
 pub place_parts : (B n j : ℕ) → 0 < B → j < n * B → (j / B < n) × (j % B < B) × (j / B * B + j % B ≡ j)
 place_parts B n j lb l =
     let parts = div-add-mod j B in
@@ -160,7 +160,7 @@ place_parts B n j lb l =
     let below : j / B * B < n * B = omega (arith, swap) in
     (lt_of_mul-lt-mul_right B below, omega arith, swap)
 
--- a codeword, by its block and its step
+-- The codeword at place j is codeword j div B of block j mod B.
 word_by_block : (w : WordsView) (j : ℕ) → IsWords w → j < length w.list →
     get_or w.list j 0 ≡ get_or (block_of w.size.blocks (j % w.size.blocks) w.list) (j / w.size.blocks) 0
 word_by_block w j words l =
@@ -168,7 +168,7 @@ word_by_block w j words l =
     let parts = place_parts w.size.blocks (block_length w.size) j (omega (arith, facts.blocks)) (omega (arith, facts.dealt, words.count)) in
     ap (λ i. get_or w.list i 0) (sym parts.2) ∙ sym (word_of_block w (j % w.size.blocks) (j / w.size.blocks) words parts.1 parts.0)
 
--- the same blocks, the same codewords
+-- Codewords of one size that agree in all blocks are the same.
 pub same_by_blocks : (v w : WordsView) → IsWords v → IsWords w → v.size ≡ w.size →
     ((b : ℕ) → b < v.size.blocks → block_of v.size.blocks b v.list ≡ block_of v.size.blocks b w.list) → v.list ≡ w.list
 same_by_blocks v w x y e blocks =
@@ -182,7 +182,7 @@ same_by_blocks v w x y e blocks =
     ∙ ap (λ B. get_or (block_of B (j % B) w.list) (j / B) 0) (sym eb)
     ∙ sym (word_by_block w j y (omega (arith, long))))
 
--- the data codewords of a block come first, and are those that the data codewords have at its places
+-- A block begins with those of the symbol's data codewords that are dealt to it.
 pub data_of_block : (w : WordsView) (b : ℕ) → IsWords w → b < w.size.blocks → take (block_data w.size) (block_of w.size.blocks b w.list) ≡ block_of w.size.blocks b (data_of w)
 data_of_block w b words lb =
     let s = w.size in
@@ -205,7 +205,7 @@ data_of_block w b words lb =
     ∙ sym (get_or-map-range_with_len (λ i. get_or (data_of w) (i * s.blocks + b) 0) 0 m k k 0 lk (omega arith))
     ∙ ap (λ xs. get_or xs k 0) (sym steps))
 
--- the same data codewords in each block, the same data codewords
+-- Codewords of one size whose blocks all begin with the same data codewords have the same data codewords.
 pub same_data_by_blocks : (v w : WordsView) → IsWords v → IsWords w → v.size ≡ w.size →
     ((b : ℕ) → b < v.size.blocks → take (block_data v.size) (block_of v.size.blocks b v.list) ≡ take (block_data v.size) (block_of v.size.blocks b w.list)) → data_of v ≡ data_of w
 same_data_by_blocks v w x y e blocks =

@@ -14,7 +14,7 @@ use Rattle.dm_layout.proofs.Ranges.{range-append}
 
 -- ---- all rows
 
--- the faults of the rows above one
+-- The number of border faults in the rows above this one.
 abbrev pub faults_above : GridView → ℕ → ℕ
 faults_above grid row = sum_by (λ r. count_by (is_fault grid r) (range_with_len 0 grid.size.side)) (range_with_len 0 row)
 
@@ -26,18 +26,21 @@ faults_above_more grid row =
 
 -- ---- rows and columns of the symbol and of the mapping square
 
--- the line of the symbol lies inside a region
+-- A line of the symbol, which is a row or a column, lies inside a region
+-- if it is neither the first nor the last line of its region's square.
 abbrev pub is_inner_line : ℕ → ℕ → Bool
 is_inner_line d line = not (nat_eq (line % (d + 2)) 0 || nat_eq (line % (d + 2)) (d + 1))
 
--- where a line of the mapping square lies in the symbol, by its region and its place there
+-- A line of the mapping square that has a place in a region lies in that
+-- region's square, one line further than this place.
 pub symbol_line_parts : (d region place : ℕ) → place < d → symbol_line d (region * d + place) ≡ region * (d + 2) + (place + 1)
 symbol_line_parts d region place l =
     let e : (region * d + place) / d ≡ region = div-mul-add region d place l in
     let f : region * d + place + 2 * region + 1 ≡ region * (d + 2) + (place + 1) = omega arith in
     ap (λ q. region * d + place + 2 * q + 1) e ∙ f
 
--- and the way back
+-- A line of the symbol inside a region holds the line of the mapping
+-- square that has its place, less 1, in that region.
 pub mapping_line_parts : (d region place : ℕ) → place < d → mapping_line d (region * (d + 2) + (place + 1)) ≡ region * d + place
 mapping_line_parts d region place l =
     let e : (region * (d + 2) + (place + 1)) / (d + 2) ≡ region = div-mul-add region (d + 2) (place + 1) (omega arith) in
@@ -50,11 +53,11 @@ inner_parts d region place l = ap (λ r. not (nat_eq r 0 || nat_eq r (d + 1))) (
     inside : (r : ℕ) → r ≢ 0 → r ≢ d + 1 → not (nat_eq r 0 || nat_eq r (d + 1)) ≡ true
     inside r n0 nd = grind arith
 
--- a region below the count
+-- A line within the first p regions lies in a region whose number is below p.
 region_below : (d p region place : ℕ) → region * d + place < p * d → region < p
 region_below d p region place l = let k : region * d < p * d = omega arith in lt_of_mul-lt-mul_right d k
 
--- a line of the mapping square lies in the symbol, inside a region, and comes back from there
+-- A line of the mapping square lies in the symbol, inside a region, and is found again from there.
 pub record IsMapped (s : SizeRow) (line : ℕ) : Type 0 where
   pub below : symbol_line s.region_side line < s.side
   pub inner : is_inner_line s.region_side (symbol_line s.region_side line) ≡ true
@@ -77,7 +80,7 @@ mapped_line s line h l =
       back = ap (mapping_line d) there ∙ mapping_line_parts d q a small ∙ parts;
     }
 
--- a line inside a region comes from a line of the mapping square
+-- A line of the symbol that lies inside a region holds a line of the mapping square.
 pub record IsFromMapping (s : SizeRow) (line : ℕ) : Type 0 where
   pub below : mapping_line s.region_side line < s.mapping
   pub back : symbol_line s.region_side (mapping_line s.region_side line) ≡ line
@@ -102,7 +105,7 @@ inner_line s line h l inner =
     not_ends : (d r : ℕ) → not (nat_eq r 0 || nat_eq r (d + 1)) ≡ true → (r ≢ 0) × (r ≢ d + 1)
     not_ends d r h = (grind arith, grind arith)
 
--- a symbol cell belongs to no border exactly where its row and its column lie inside a region
+-- A cell of the symbol belongs to no border exactly where its row and its column both lie inside a region.
 pub border_by_lines : (s : SizeRow) (row column : ℕ) → is_border s row column ≡ not (is_inner_line s.region_side row && is_inner_line s.region_side column)
 border_by_lines s row column =
     shuffled (nat_eq (column % (s.region_side + 2)) 0) (nat_eq (row % (s.region_side + 2)) (s.region_side + 1)) (nat_eq (row % (s.region_side + 2)) 0) (nat_eq (column % (s.region_side + 2)) (s.region_side + 1))
@@ -125,7 +128,7 @@ border_by_lines s row column =
     shuffled false false false true = refl
     shuffled false false false false = refl
 
--- the image of a mapping cell is no border cell
+-- The symbol cell at which a cell of the mapping square lies is no border cell.
 pub image_is_no_border : (s : SizeRow) (row column : ℕ) → IsRow s → row < s.mapping → column < s.mapping →
     is_border s (symbol_line s.region_side row) (symbol_line s.region_side column) ≡ false
 image_is_no_border s row column h lr lc =
@@ -133,7 +136,7 @@ image_is_no_border s row column h lr lc =
     ∙ ap (λ b. not (b && is_inner_line s.region_side (symbol_line s.region_side column))) (mapped_line s row h lr).inner
     ∙ ap (λ b. not (true && b)) (mapped_line s column h lc).inner
 
--- a symbol cell of no border is the image of a mapping cell
+-- A cell of the symbol is where a cell of the mapping square lies.
 pub record IsImage (s : SizeRow) (r c : ℕ) : Type 0 where
   pub row : IsFromMapping s r
   pub column : IsFromMapping s c

@@ -24,20 +24,20 @@ use Rattle.dm_layout.proofs.TableRows.{row_facts}
 
 -- ---- how many cells of a row are dark
 
--- one more column is counted
+-- One more column adds 1 to the count if its test passes.
 count_more : (f : ℕ → Bool) (n : ℕ) → count_by f (range_with_len 0 (n + 1)) ≡ count_by f (range_with_len 0 n) + cond (f n) 1 0
 count_more f n =
     let z : 0 + n ≡ n = omega arith in
     ap (count_by f) (range-append 0 n 1 ∙ ap (λ k. range_with_len 0 n ++ k ∷ []) z) ∙ sum_by_push (λ c. cond (f c) 1 0) (range_with_len 0 n) n
 
--- a digit has as many ones as it is
+-- A binary digit has as many ones as its value says.
 ones_of_digit : (b : ℕ) → b < 2 → count_ones b ≡ cond (nat_eq (b % 2) 1) 1 0
 unfolding ones
 ones_of_digit zero l = refl
 ones_of_digit (suc zero) l = refl
 ones_of_digit (suc (suc b)) l = absurd (omega arith)
 
--- the ones of a row of n cells are its dark cells
+-- A row of n cells, written as a number, has as many ones as dark cells.
 pub counted_ones : (n x : ℕ) (f : ℕ → Bool) → x < 2 ^ n → ((c : ℕ) → c < n → is_dark_in x c ≡ f c) → count_ones x ≡ count_by f (range_with_len 0 n)
 counted_ones zero x f l same = let e = ones-le 0 x l in omega (arith, e)
 counted_ones (suc n) x f l same =
@@ -57,7 +57,7 @@ counted_ones (suc n) x f l same =
     half : (n x : ℕ) → x < 2 ^ suc n → x / 2 ^ n < 2
     half n x l = (div-lt_iff_lt-mul (pow_pos n)).1 (subst (λ (i : ℕ). x < i) (pow-succ' 2 n) l)
 
--- the dark cells of a row are counted alike where two tests agree
+-- Tests that agree at all columns of a row count the same number of columns.
 pub same_count : (n : ℕ) (f g : ℕ → Bool) → ((c : ℕ) → c < n → f c ≡ g c) → count_by f (range_with_len 0 n) ≡ count_by g (range_with_len 0 n)
 same_count zero f g same = refl
 same_count (suc n) f g same =
@@ -71,7 +71,7 @@ same_count (suc n) f g same =
 
 -- ---- the cells that differ from their colour, among some
 
--- digits: the third is 1 and the first two differ
+-- Of three binary digits, the sum of two masked by the third is 1 exactly where the third is 1 and the two differ.
 differ : (x y m : ℕ) → x < 2 → y < 2 → m < 2 → nat_eq (min ((x + y) % 2) m) 1 ≡ nat_eq m 1 && not (beq (nat_eq x 1) (nat_eq y 1))
 differ zero zero zero a b c = refl
 differ zero zero (suc zero) a b c = refl
@@ -85,18 +85,18 @@ differ (suc (suc x)) y m a b c = absurd (omega arith)
 differ x (suc (suc y)) m a b c = absurd (omega arith)
 differ x y (suc (suc m)) a b c = absurd (omega arith)
 
--- a cell of the mask in which two rows differ
+-- The masked difference of two rows is 1 exactly at the columns of the mask where the rows differ.
 wrong_cell : (row dark mask c : ℕ) → is_dark_in (bit_and (bit_xor row dark) mask) c ≡ is_dark_in mask c && not (beq (is_dark_in row c) (is_dark_in dark c))
 wrong_cell row dark mask c =
     ap (λ (i : ℕ). nat_eq i 1) (bit_at_and (bit_xor row dark) mask c ∙ ap (λ (i : ℕ). min i (bit_at mask c)) (bit_at_xor row dark c))
     ∙ differ (bit_at row c) (bit_at dark c) (bit_at mask c) (bit_at-lt row c) (bit_at-lt dark c) (bit_at-lt mask c)
 
--- a cell of no border is not wrong, whatever the row of colours has there
+-- Whether a border cell is wrong depends on the row of colours at border cells alone.
 masked : (border there dark : Bool) → border && not (beq there (border && dark)) ≡ border && not (beq there dark)
 masked true there dark = refl
 masked false there dark = refl
 
--- so the ones that are counted are the wrong border cells
+-- The ones of the masked difference between a row and its colours count the wrong border cells of the row.
 pub wrong_cells : (d inner n row dark mask : ℕ) → bit_and (bit_xor row dark) mask < 2 ^ n → ((c : ℕ) → c < n → is_dark_in mask c ≡ is_on_edge d inner (c % (d + 2))) →
     ((c : ℕ) → c < n → is_dark_in dark c ≡ is_on_edge d inner (c % (d + 2)) && edge_is_dark d inner (c % (d + 2))) →
     count_ones (bit_and (bit_xor row dark) mask) ≡ count_by (is_wrong d inner row) (range_with_len 0 n)
@@ -107,7 +107,7 @@ wrong_cells d inner n row dark mask narrow cells colours =
     ∙ ap (λ (b : Bool). is_on_edge d inner (c % (d + 2)) && not (beq (is_dark_in row c) b)) (colours c l)
     ∙ masked (is_on_edge d inner (c % (d + 2))) (is_dark_in row c) (edge_is_dark d inner (c % (d + 2))))
 
--- those of a row of a grid are its faults
+-- The wrong border cells of a grid's row are the border faults of that row.
 pub faults_of_bits : (grid : GridView) (r row : ℕ) → ((c : ℕ) → c < grid.size.side → is_dark_in row c ≡ cell_at grid r c) →
     count_by (is_wrong grid.size.region_side (r % (grid.size.region_side + 2)) row) (range_with_len 0 grid.size.side) ≡ count_by (is_fault grid r) (range_with_len 0 grid.size.side)
 faults_of_bits grid r row same =
@@ -116,7 +116,7 @@ faults_of_bits grid r row same =
 
 -- ---- the columns of borders, square by square
 
--- a column stands before some squares, in the next one, or behind it
+-- A column lies within the first a squares, in the next square, or behind that square.
 stands : (c a s : ℕ) → (c < a * s) ⊎ ((x : ℕ) × (x < s) × (c ≡ a * s + x)) ⊎ (a * s + s ≤ c)
 stands c a s = by_start (cases_lt c (a * s))
   where
@@ -128,33 +128,34 @@ stands c a s = by_start (cases_lt c (a * s))
         by_end (inl l) = inr (inl (c - a * s, omega arith, omega arith))
         by_end (inr k) = inr (inr k)
 
--- the left columns, and the left and right ones, of the first squares, whose last line is `last`
+-- In the first a squares, each of the lines 0 to `last`, the one row is
+-- dark in the left columns and the other in the left and right columns.
 pub record AreRuled (last a left both : ℕ) : Type 0 where
   pub left_columns : (c : ℕ) → is_dark_in left c ≡ nat_lt c (a * (last + 1)) && nat_eq (c % (last + 1)) 0
   pub both_columns : (c : ℕ) → is_dark_in both c ≡ nat_lt c (a * (last + 1)) && (nat_eq (c % (last + 1)) 0 || nat_eq (c % (last + 1)) last)
   pub left_width : left < 2 ^ (a * (last + 1))
   pub both_width : both < 2 ^ (a * (last + 1))
 
--- the first column of a square, before it
+-- Darkening the left column of a square leaves the columns before the square as they were.
 left_before : (p q : Bool) → p ≡ false → cond p true (true && q) ≡ true && q
 left_before p q e = ap (λ (b : Bool). cond b true (true && q)) e
 
--- in it
+-- In a square whose left column is darkened only that column is dark.
 left_here : (p q : Bool) → p ≡ q → cond p true (false && q) ≡ true && q
 left_here true true e = refl
 left_here false false e = refl
 left_here true false e = cc
 left_here false true e = cc
 
--- and behind it
+-- Darkening the left column of a square leaves the columns behind the square light.
 left_behind : (p q : Bool) → p ≡ false → cond p true (false && q) ≡ false && q
 left_behind p q e = ap (λ (b : Bool). cond b true (false && q)) e
 
--- the first and the last column of a square, before it
+-- Darkening the left and right columns of a square leaves the columns before the square as they were.
 both_before : (p r q : Bool) → p ≡ false → r ≡ false → cond r true (cond p true (true && q)) ≡ true && q
 both_before p r q e f = ap (λ (b : Bool). cond b true (cond p true (true && q))) f ∙ ap (λ (b : Bool). cond b true (true && q)) e
 
--- in it
+-- In a square whose left and right columns are darkened only these two are dark.
 both_here : (p r q v : Bool) → p ≡ q → r ≡ v → cond r true (cond p true (false && (q || v))) ≡ true && (q || v)
 both_here true true true true e f = refl
 both_here true false true false e f = refl
@@ -167,7 +168,7 @@ both_here true false true true e f = cc
 both_here false true false false e f = cc
 both_here false false false true e f = cc
 
--- and behind it
+-- Darkening the left and right columns of a square leaves the columns behind the square light.
 both_behind : (p r q : Bool) → p ≡ false → r ≡ false → cond r true (cond p true (false && q)) ≡ false && q
 both_behind p r q e f = ap (λ (b : Bool). cond b true (cond p true (false && q))) f ∙ ap (λ (b : Bool). cond b true (false && q)) e
 
@@ -205,7 +206,7 @@ module _ (last a c : ℕ) where
       (both_here (nat_eq c k) (nat_eq c (k + last)) (nat_eq (c % s) 0) (nat_eq (c % s) last) (same_tests c k (c % s) 0 (λ z. omega (arith, is, r, z)) (λ z. omega (arith, is, r, z)))
       (same_tests c (k + last) (c % s) last (λ z. omega (arith, is, r, z)) (λ z. omega (arith, is, r, z))))
 
--- one more square
+-- Darkening the left and right columns of one more square gives those of the first a + 1 squares.
 pub one_ruled : (last a left both : ℕ) → 1 ≤ last → (a + 1) * (last + 1) < 128 → AreRuled last a left both →
     AreRuled last (a + 1) (darkened left (a * (last + 1))) (darkened (darkened both (a * (last + 1))) (a * (last + 1) + last))
 one_ruled last a left both least fits old =
@@ -229,18 +230,18 @@ one_ruled last a left both least fits old =
       both_width = darkened_narrow (darkened both k) (k + last) n ll nl (darkened_narrow both k n lk nk (omega (arith, m, bw)));
     }
 
--- answers that are equal by test are equal
+-- Truth values that compare equal are equal.
 pub beq-true : (a b : Bool) → beq a b ≡ true → a ≡ b
 beq-true true true e = refl
 beq-true true false e = sym e
 beq-true false true e = e
 beq-true false false e = refl
 
--- rows in which even columns, or all, are dark
+-- A test of 128 columns, computed by the checker: in one row the even columns are dark, in the other all.
 patterns : list_all (λ c. beq (is_dark_in 113427455640312821154458202477256070485 c) (nat_eq (c % 2) 0) && is_dark_in 340282366920938463463374607431768211455 c) (range_with_len 0 128) ≡ true
 patterns = refl
 
--- what the test says of a column
+-- Of these two rows, one is dark at a column exactly where the column is even, and the other is dark at every column.
 patterns_at : (c : ℕ) → c < 128 → (is_dark_in 113427455640312821154458202477256070485 c ≡ nat_eq (c % 2) 0) × (is_dark_in 340282366920938463463374607431768211455 c ≡ true)
 patterns_at c l =
     let z : 0 + c ≡ c = omega arith in
@@ -248,7 +249,7 @@ patterns_at c l =
     (all_at (λ c. beq (is_dark_in 113427455640312821154458202477256070485 c) (nat_eq (c % 2) 0) && is_dark_in 340282366920938463463374607431768211455 c) 0 128 c patterns l)) in
     (beq-true _ _ both.0, both.1)
 
--- after the last square these are the borders of a size
+-- Once the columns of all squares are drawn, the four rows are those of the borders of the size.
 pub are_borders : (size : SizeRow) (side last a left both even all : ℕ) → IsRow size → side ≡ size.side → last ≡ size.region_side + 1 → a ≡ side / (last + 1) → AreRuled last a left both →
     ((c : ℕ) → c < side → is_dark_in even c ≡ is_dark_in 113427455640312821154458202477256070485 c) → even < 2 ^ side →
     ((c : ℕ) → c < side → is_dark_in all c ≡ is_dark_in 340282366920938463463374607431768211455 c) → all < 2 ^ side → AreBorders size last left both even all
@@ -278,28 +279,28 @@ are_borders size side last a left both even all row es el ea ruled ev ew av aw =
 
 -- ---- the rows of a square
 
--- one of four tests passes
+-- If the second of four tests passes, one of the four does.
 any_second : (p r s : Bool) → p || true || r || s ≡ true
 any_second true r s = refl
 any_second false r s = refl
 
--- one of four tests passes
+-- If the third of four tests passes, one of the four does.
 any_third : (p q s : Bool) → p || q || true || s ≡ true
 any_third true q s = refl
 any_third false true s = refl
 any_third false false s = refl
 
--- the last row of a square is dark
+-- All cells of the last row of a square are dark border cells.
 dark_bottom : (p r s e o : Bool) → true ≡ (p || true || r || s) && cond (p || true) true (cond r e o)
 dark_bottom true r s e o = refl
 dark_bottom false r s e o = refl
 
--- the first row of a square is dark at even columns, of which the first is one
+-- In the first row of a square a cell is dark exactly where its column is even, the left column being even.
 dark_top : (p s e o : Bool) → (p ≡ true → e ≡ true) → e ≡ (p || false || true || s) && cond (p || false) true (cond true e o)
 dark_top true s e o h = h refl
 dark_top false s e o h = refl
 
--- a column is even where its place in its square is
+-- In squares of even side a column is even exactly where its place in its square is even.
 mod_twice : (c s : ℕ) → s % 2 ≡ 0 → 0 < s → c % s % 2 ≡ c % 2
 mod_twice c s even p =
     let h : ℕ = s / 2 in
@@ -318,7 +319,7 @@ module _ (size : SizeRow) (last left both even all : ℕ) (b : AreBorders size l
   abbrev d : ℕ
   d = size.region_side
 
-  -- the border cells of a first or last row are all
+  -- All cells of the first and the last row of a square are border cells.
   pub cells_all : (inner ≡ 0) ⊎ (inner ≡ last) → (c : ℕ) → c < size.side → is_dark_in all c ≡ is_on_edge size.region_side inner (c % (size.region_side + 2))
   cells_all (inl e) c l =
       b.all_columns c l ∙ sym (ap (λ (t : Bool). nat_eq (c % (d + 2)) 0 || nat_eq inner (d + 1) || t || nat_eq (c % (d + 2)) (d + 1)) (eq-eqb inner 0 e) ∙ any_third (nat_eq (c % (d + 2)) 0) (nat_eq inner (d + 1)) (nat_eq (c % (d + 2)) (d + 1)))
@@ -326,7 +327,7 @@ module _ (size : SizeRow) (last left both even all : ℕ) (b : AreBorders size l
       b.all_columns c l
       ∙ sym (ap (λ (t : Bool). nat_eq (c % (d + 2)) 0 || t || nat_eq inner 0 || nat_eq (c % (d + 2)) (d + 1)) (eq-eqb inner (d + 1) (e ∙ b.last_row)) ∙ any_second (nat_eq (c % (d + 2)) 0) (nat_eq inner 0) (nat_eq (c % (d + 2)) (d + 1)))
 
-  -- the colours of a last row
+  -- The row in which all columns are dark has the border colours of a square's last row.
   pub dark_in_last : inner ≡ last → (c : ℕ) → c < size.side → is_dark_in all c ≡ is_on_edge size.region_side inner (c % (size.region_side + 2)) && edge_is_dark size.region_side inner (c % (size.region_side + 2))
   dark_in_last e c l =
       let p : Bool = nat_eq (c % (d + 2)) 0 in
@@ -335,7 +336,7 @@ module _ (size : SizeRow) (last left both even all : ℕ) (b : AreBorders size l
       ∙ dark_bottom p (nat_eq inner 0) s (nat_eq (c % (d + 2) % 2) 0) (nat_eq (inner % 2) 1)
       ∙ ap (λ (t : Bool). (p || t || nat_eq inner 0 || s) && cond (p || t) true (cond (nat_eq inner 0) (nat_eq (c % (d + 2) % 2) 0) (nat_eq (inner % 2) 1))) (sym (eq-eqb inner (d + 1) (e ∙ b.last_row)))
 
-  -- of a first row
+  -- The row in which the even columns are dark has the border colours of a square's first row.
   pub dark_in_first : inner ≢ last → inner ≡ 0 → (c : ℕ) → c < size.side → is_dark_in even c ≡ is_on_edge size.region_side inner (c % (size.region_side + 2)) && edge_is_dark size.region_side inner (c % (size.region_side + 2))
   dark_in_first nl e c l =
       let p : Bool = nat_eq (c % (d + 2)) 0 in
@@ -348,6 +349,6 @@ module _ (size : SizeRow) (last left both even all : ℕ) (b : AreBorders size l
       ∙ ap (λ (t : Bool). (p || t || true || s) && cond (p || t) true (cond true (nat_eq (c % (d + 2) % 2) 0) (nat_eq (inner % 2) 1))) (sym (ne_eqb inner (d + 1) (λ z. nl (z ∙ sym b.last_row))))
       ∙ ap (λ (t : Bool). (p || nat_eq inner (d + 1) || t || s) && cond (p || nat_eq inner (d + 1)) true (cond t (nat_eq (c % (d + 2) % 2) 0) (nat_eq (inner % 2) 1))) (sym (eq-eqb inner 0 e))
 
--- the place of the row below
+-- The place of the next row in its square follows from the place of the row before it.
 pub row_below : (s row inner : ℕ) → inner ≡ row % s → (inner + 1) % s ≡ (row + 1) % s
 row_below s row inner e = ap (λ (i : ℕ). (i + 1) % s) e ∙ mod-add-mod row s 1

@@ -11,21 +11,21 @@ use Rattle.dm_layout.specs.Blocks.{AreBlocks, block_of}
 use Rattle.dm_layout.proofs.BlockLemmas.{length_of_block, place_inside, place_parts, word_of_block}
 use Rattle.dm_layout.proofs.TableRows.{row_facts}
 
--- the codeword at a place of the symbol, by its block
+-- The codeword for a place of the symbol, taken from its block.
 codeword_at : SizeRow → (ℕ → List ℕ) → ℕ → ℕ
 codeword_at size blocks j = get_or (blocks (j % size.blocks)) (j / size.blocks) 0
 
--- the codewords whose blocks are these
+-- The codewords of a size that are made of these blocks.
 dealt : SizeRow → (ℕ → List ℕ) → WordsView
 dealt size blocks = record { size = size; list = map (codeword_at size blocks) (range_with_len 0 (codeword_count size)) }
 
--- the codeword at a place
+-- Place j of the codewords made of blocks has codeword j div B of block j mod B.
 dealt_at : (size : SizeRow) (blocks : ℕ → List ℕ) (j : ℕ) → j < codeword_count size
     → get_or (map (codeword_at size blocks) (range_with_len 0 (codeword_count size))) j 0 ≡ get_or (blocks (j % size.blocks)) (j / size.blocks) 0
 unfolding codeword_at
 dealt_at size blocks j l = get_or-map-range_with_len (codeword_at size blocks) 0 (codeword_count size) j j 0 l (omega arith)
 
--- they are the codewords of a symbol
+-- Codewords made of the blocks of a size are well-formed codewords of that size.
 dealt_words : (size : SizeRow) (blocks : ℕ → List ℕ) → IsRow size → AreBlocks size blocks → IsWords (dealt size blocks)
 unfolding dealt
 dealt_words size blocks row are =
@@ -43,7 +43,7 @@ dealt_words size blocks row are =
           (All-get_or (λ word. word < 256) (blocks (j % size.blocks)) (j / size.blocks) 0 (omega (arith, parts.0, block.0)) block.1));
     }
 
--- and these are their blocks
+-- Codewords made of blocks have these blocks.
 dealt_block : (size : SizeRow) (blocks : ℕ → List ℕ) → IsRow size → AreBlocks size blocks → (b : ℕ) → b < size.blocks
     → block_of size.blocks b (map (codeword_at size blocks) (range_with_len 0 (codeword_count size))) ≡ blocks b
 unfolding dealt
@@ -57,7 +57,7 @@ dealt_block size blocks row are b lb =
     word_of_block (dealt size blocks) b k words lb lk ∙ dealt_at size blocks j inside
     ∙ ap (λ r. get_or (blocks r) (j / size.blocks) 0) (mod-mul-add k size.blocks b lb) ∙ ap (λ q. get_or (blocks b) q 0) (div-mul-add k size.blocks b lb))
 
--- blocks make codewords
+-- Lists that can be the blocks of a size are the blocks of some codewords of that size.
 pub blocks_make_words : (size : SizeRow) (blocks : ℕ → List ℕ) → IsRow size → AreBlocks size blocks
     → (w : WordsView) × IsWords w × (w.size ≡ size) × ((b : ℕ) → b < size.blocks → block_of size.blocks b w.list ≡ blocks b)
 unfolding dealt

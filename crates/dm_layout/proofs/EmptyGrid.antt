@@ -12,7 +12,8 @@ use Rattle.dm_layout.proofs.TableRows.{row_facts}
 use Rattle.dm_layout.proofs.GridLemmas.{cell_after, grid_with_cell, grid_of_square, cell_of_square, same_grids}
 use Rattle.dm_layout.proofs.BorderLemmas.{mapped_line, IsFromMapping, IsImage, image_of_mapping, image_is_no_border, symbol_line_parts}
 
--- one more row of borders is drawn
+-- When the borders of a row are drawn after those of the rows above it,
+-- the borders of all rows above the next are drawn.
 pub drawn_above_more : (r row : ℕ) (border dark cell : Bool) → (r ≡ row → cell ≡ border && dark) → (nat_lt r row && border && dark) || (nat_eq r row && cell) ≡ nat_lt r (row + 1) && border && dark
 drawn_above_more r row border dark cell h = by_row (cases_lt r row) (eqb_tells r row)
   where
@@ -22,7 +23,7 @@ drawn_above_more r row border dark cell h = by_row (cases_lt r row) (eqb_tells r
     by_row (inr l) (inl e) = let z = e.1 in rw (le-ltb r row l, e.0, lt-ltb r (row + 1) (omega (arith, z))) (h z)
     by_row (inr l) (inr e) = let z = e.1 in rw (le-ltb r row l, e.0, le-ltb r (row + 1) (omega (arith, l, z))) refl
 
--- a region is no larger than the mapping square, and with its border no larger than the symbol
+-- A data region is no larger than the mapping square, and with its border no larger than the symbol.
 pub sides_of : (s : SizeRow) → IsRow s → (s.region_side ≤ s.mapping) × (s.region_side + 2 ≤ s.side)
 sides_of s h =
     let facts = row_facts s h in
@@ -30,7 +31,8 @@ sides_of s h =
     let n : 1 * (s.region_side + 2) ≤ regions_across s * (s.region_side + 2) = mul-le-mul_right (s.region_side + 2) facts.across in
     (omega (arith, m, facts.mapping), omega (arith, n, facts.side))
 
--- a line of the last region, counted from the end of the mapping square
+-- A line of the last data region lies one line further from the end of
+-- the symbol than from the end of the mapping square.
 line_from_end : (s : SizeRow) (k : ℕ) → IsRow s → k < s.region_side → symbol_line s.region_side (s.mapping - (k + 1)) ≡ s.side - (k + 2)
 line_from_end s k h l =
     let facts = row_facts s h in
@@ -43,25 +45,25 @@ line_from_end s k h l =
     let f : q * (d + 2) + (d - (k + 1) + 1) ≡ s.side - (k + 2) = omega (arith, n, l) in
     ap (symbol_line d) (sym e) ∙ symbol_line_parts d q (d - (k + 1)) (omega (arith, l)) ∙ f
 
--- where the last two lines of the mapping square lie
+-- The last line of the mapping square lies in the last line but one of the symbol.
 pub last_line : (s : SizeRow) → IsRow s → symbol_line s.region_side (s.mapping - 1) ≡ s.side - 2
 last_line s h = let facts = row_facts s h in line_from_end s 0 h (omega (arith, facts.least))
 
 pub line_before_last : (s : SizeRow) → IsRow s → symbol_line s.region_side (s.mapping - 2) ≡ s.side - 3
 line_before_last s h = let facts = row_facts s h in line_from_end s 1 h (omega (arith, facts.least))
 
--- the two dark cells of the fixed square, in the mapping square
+-- The dark cells of the fixed square are (n-2, n-2) and (n-1, n-1).
 dark_pair : (n a b : ℕ) → n % 4 ≡ 2 → a < n → b < n → is_fixed_dark n a b ≡ (nat_eq a (n - 2) && nat_eq b (n - 2)) || (nat_eq a (n - 1) && nat_eq b (n - 1))
 dark_pair n a b two la lb = grind arith
 
--- a line of the symbol is where a line of the mapping square lies
+-- A line of the symbol is where line k of the mapping square lies exactly if the line that it holds is k.
 line_is : (s : SizeRow) (x k m : ℕ) → IsRow s → IsFromMapping s x → k < s.mapping → symbol_line s.region_side k ≡ m → nat_eq x m ≡ nat_eq (mapping_line s.region_side x) k
 line_is s x k m h from l e =
     same_tests x m (mapping_line s.region_side x) k
     (λ q. ap (mapping_line s.region_side) (q ∙ sym e) ∙ (mapped_line s k h l).back)
     (λ q. sym from.back ∙ ap (symbol_line s.region_side) q ∙ e)
 
--- the dark cells of the fixed square, in the symbol
+-- In a symbol of side s the dark cells of the fixed square are (s-3, s-3) and (s-2, s-2).
 pub fixed_in_symbol : (s : SizeRow) (r c : ℕ) → IsRow s → IsImage s r c → s.mapping % 4 ≡ 2 →
     is_fixed_dark s.mapping (mapping_line s.region_side r) (mapping_line s.region_side c) ≡ (nat_eq r (s.side - 3) && nat_eq c (s.side - 3)) || (nat_eq r (s.side - 2) && nat_eq c (s.side - 2))
 fixed_in_symbol s r c h image two =
@@ -79,7 +81,7 @@ fixed_in_symbol s r c h image two =
     four : {a a' b b' e e' f f' : Bool} → a ≡ a' → b ≡ b' → e ≡ e' → f ≡ f' → (a' && b') || (e' && f') ≡ (a && b) || (e && f)
     four p q u v = cc
 
--- the cells of the fixed square belong to no border
+-- The dark cells of the fixed square belong to no border.
 pub fixed_is_no_border : (s : SizeRow) → IsRow s → (is_border s (s.side - 3) (s.side - 3) ≡ false) × (is_border s (s.side - 2) (s.side - 2) ≡ false)
 fixed_is_no_border s h =
     let facts = row_facts s h in
@@ -92,11 +94,11 @@ fixed_is_no_border s h =
 
 -- ---- the grid is complete
 
--- the cells are those of the borders, and all else is light
+-- The border cells of the grid have their colours, and all other cells are light.
 abbrev pub IsBordered : SizeRow → GridView → Type 0
 IsBordered s g = (r c : ℕ) → r < s.side → c < s.side → cell_at g r c ≡ is_border s r c && border_is_dark s r c
 
--- without a fixed square
+-- Where the size has no fixed square, a grid with correct borders and all else light is the empty grid.
 pub empty_without : (g : GridView) → IsGrid g → IsBordered g.size g → g.size.mapping % 4 ≢ 2 → g ≡ empty_grid g.size
 empty_without g grid cells other =
     same_grids g (empty_grid g.size) grid (grid_of_square g.size (empty_colour g.size) grid.row) refl
@@ -111,7 +113,8 @@ empty_without g grid cells other =
     none : (a b : ℕ) → is_fixed_dark g.size.mapping a b ≡ false
     none a b = let n = g.size.mapping in grind arith
 
--- with the fixed square
+-- Where the size has a fixed square, a grid with correct borders and all else light becomes the empty grid when the
+-- two dark cells of the square are drawn.
 pub empty_with : (g : GridView) → IsGrid g → IsBordered g.size g → g.size.mapping % 4 ≡ 2 →
     with_cell (with_cell g (g.size.side - 3) (g.size.side - 3) true) (g.size.side - 2) (g.size.side - 2) true ≡ empty_grid g.size
 empty_with g grid cells two =
@@ -160,11 +163,11 @@ empty_with g grid cells two =
         by_both true false p q = refl
         by_both false t p q = refl
 
--- before the first row nothing is drawn
+-- Before the first row no border is drawn.
 pub none_above : (r : ℕ) (border dark : Bool) → false ≡ nat_lt r 0 && border && dark
 none_above r border dark = let e : nat_lt r 0 ≡ false = grind arith in ap (λ b. b && border && dark) (sym e)
 
--- after the last row all borders are drawn
+-- After the last row all borders are drawn.
 pub all_above : (s : SizeRow) (g : GridView) (row : ℕ) → s.side ≤ row → ((r c : ℕ) → r < s.side → c < s.side → cell_at g r c ≡ nat_lt r row && is_border s r c && border_is_dark s r c) → IsBordered s g
 all_above s g row far cells r c lr lc =
     let below : r < row = omega arith in

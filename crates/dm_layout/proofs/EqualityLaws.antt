@@ -12,44 +12,44 @@ use Rattle.dm_layout.proofs.GridLemmas.{same_parts}
 use Rattle.dm_layout.proofs.Pointwise.{same_by_pointwise}
 use Rattle.dm_layout.proofs.PackedRows.{same_packed}
 
--- rows of one side are one row
+-- Sizes of the table with the same side are the same.
 pub same_row : (s t : SizeRow) → IsRow s → IsRow t → s.side ≡ t.side → s ≡ t
 same_row s t h k e =
     let g : Some s ≡ Some t = sym h ∙ ap row_with_side e ∙ k in
     cc
 
--- truth values that the test finds the same are the same
+-- Truth values that compare equal are the same.
 same_bools : (x y : Bool) → beq x y ≡ true → x ≡ y
 same_bools true true h = refl
 same_bools true false h = cc
 same_bools false true h = cc
 same_bools false false h = refl
 
--- `==` tells equal grids
+-- Grids that compare equal are the same.
 pub told_grids : (g h : GridView) → IsGrid g → IsGrid h → equal_grids g h ≡ true → g ≡ h
 told_grids g h a b e =
     let both = and_parts (nat_eq g.size.side h.size.side) (pointwise (pointwise beq) g.rows h.rows) e in
     same_parts g.size h.size g.rows h.rows (same_row g.size h.size a.row b.row (eqb-true _ _ both.0))
     (same_by_pointwise (pointwise beq) (same_by_pointwise beq same_bools) g.rows h.rows both.1)
 
--- equal values answer true
+-- Equal values compare equal by every equivalence.
 pub equal_itself : {A : Type 0} (E : A → A → Bool) → IsEquivalence E → (x y : A) → x ≡ y → E x y ≡ true
 equal_itself E e x y p = ap (E x) (sym p) ∙ e.refl x
 
--- an answer that is right tells whether the grids are the same
+-- The answer of `==` is true exactly where the two grids are the same.
 pub answer_tells : (g h : GridView) (b : Bool) → IsGrid g → IsGrid h → b ≡ equal_grids g h → IsTrue b ↔ (g ≡ h)
 answer_tells g h true x y v = ((λ _. told_grids g h x y (sym v)), λ _. refl)
 answer_tells g h false x y v = ((λ t. cc), λ e. let k : equal_grids g h ≡ true = equal_itself equal_grids grids_equiv g h e in let f : false ≡ true = v ∙ k in cc)
 
 -- ---- grids whose rows are kept as numbers
 
--- these numbers are the rows of the grid, with no bit from the side on
+-- These numbers are the rows of the grid, and none of them has a bit past the side.
 pub record AreRowsOf (grid : GridView) (xs : List ℕ) : Type 0 where
   pub height : length xs ≡ grid.size.side
   pub width : All (λ x. x < 2 ^ grid.size.side) xs
   pub rows : grid.rows ≡ square_of_rows grid.size.side xs
 
--- comparing the numbers compares the grids
+-- Comparing the rows of two grids as numbers compares the grids.
 pub rows_answer : (g h : GridView) (xs ys : List ℕ) (b : Bool) → IsGrid g → IsGrid h → g.size.side ≡ h.size.side → AreRowsOf g xs → AreRowsOf h ys → b ≡ pointwise nat_eq xs ys → b ≡ equal_grids g h
 rows_answer g h xs ys true x y e p q v =
     let same = same_text xs ys v in

@@ -12,7 +12,7 @@ use Rattle.dm_layout.specs.Grid.{GridView, IsGrid, cell_at, with_cell, square_by
 
 -- ---- two grids
 
--- the square that is drawn by a colour is a grid
+-- A square that is drawn by colours is a well-formed grid.
 pub grid_of_square : (size : SizeRow) (colour : ℕ → ℕ → Bool) → IsRow size → IsGrid (record { size = size; rows = square_by size.side colour })
 grid_of_square size colour row =
     record {
@@ -23,20 +23,20 @@ grid_of_square size colour row =
           (λ k d l. length-map-range_with_len (colour (get_or (range_with_len 0 size.side) k d)) 0 size.side);
     }
 
--- its cells have that colour
+-- The cells of a square that is drawn by colours have these colours.
 pub cell_of_square : (size : SizeRow) (colour : ℕ → ℕ → Bool) (r c : ℕ) → r < size.side → c < size.side → cell_at (record { size = size; rows = square_by size.side colour }) r c ≡ colour r c
 cell_of_square size colour r c lr lc =
     ap (λ (line : List Bool). get_or line c false) (get_or-map-range_with_len (λ (q : ℕ). map (colour q) (range_with_len 0 size.side)) 0 size.side r r [] lr (omega arith))
     ∙ get_or-map-range_with_len (colour r) 0 size.side c c false lc (omega arith)
 
--- two colours that agree in the square draw the same
+-- Colours that agree in all cells of a square draw the same square.
 pub same_squares : (n : ℕ) (f g : ℕ → ℕ → Bool) → ((r c : ℕ) → r < n → c < n → f r c ≡ g r c) → square_by n f ≡ square_by n g
 same_squares n f g agree = mapped (λ (r : ℕ). map (f r) (range_with_len 0 n)) (λ (r : ℕ). map (g r) (range_with_len 0 n)) [] (λ r lr. mapped (f r) (g r) false (λ c lc. agree r c lr lc))
   where
     mapped : {X : Type 0} (f g : ℕ → X) (d : X) → ((k : ℕ) → k < n → f k ≡ g k) → map f (range_with_len 0 n) ≡ map g (range_with_len 0 n)
     mapped f g d same = fill_by_all g (map f (range_with_len 0 n)) n d (length-map-range_with_len f 0 n) (λ k l. get_or-map-range_with_len f 0 n k k d l (omega arith) ∙ same k l)
 
--- rows of the same shape with the same cells are the same
+-- Squares of the same side with the same cells are the same.
 pub same_rows : (n : ℕ) (xs ys : List (List Bool)) → length xs ≡ n → length ys ≡ n → All (λ line. length line ≡ n) xs → All (λ line. length line ≡ n) ys →
     ((r c : ℕ) → r < n → c < n → get_or (get_or xs r []) c false ≡ get_or (get_or ys r []) c false) → xs ≡ ys
 same_rows n xs ys hx hy wx wy cells =
@@ -66,14 +66,14 @@ same_rows n xs ys hx hy wx wy cells =
         default (get_or xs r []) c e lc ∙ cells r c rn cn ∙ sym (default (get_or ys r []) c e ly2))
         ∙ sym (outer ys r d ly)
 
--- a grid is its size and its rows
+-- The grid that has this size and these rows.
 abbrev pub grid_from : SizeRow → List (List Bool) → GridView
 grid_from size rows = record { size = size; rows = rows }
 
 pub same_parts : (s t : SizeRow) (xs ys : List (List Bool)) → s ≡ t → xs ≡ ys → grid_from s xs ≡ grid_from t ys
 same_parts s t xs ys p q = cc
 
--- grids of the same size with the same cells are the same
+-- Grids of the same size with the same cells are the same.
 pub same_grids : (g h : GridView) → IsGrid g → IsGrid h → g.size ≡ h.size → ((r c : ℕ) → r < g.size.side → c < g.size.side → cell_at g r c ≡ cell_at h r c) → g ≡ h
 same_grids g h a b e cells =
     let height : length h.rows ≡ g.size.side = b.height ∙ ap (λ (s : SizeRow). s.side) (sym e) in
@@ -82,7 +82,7 @@ same_grids g h a b e cells =
 
 -- ---- one cell in another colour
 
--- the cell itself
+-- A cell that is given a colour has it.
 pub cell_written : (g : GridView) (r c : ℕ) (b : Bool) → IsGrid g → r < g.size.side → c < g.size.side → cell_at (with_cell g r c b) r c ≡ b
 cell_written g r c b grid lr lc =
     let inside : r < length g.rows = omega (arith, grid.height) in
@@ -91,17 +91,17 @@ cell_written g r c b grid lr lc =
     ap (λ (line : List Bool). get_or line c false) (get_or-set_same g.rows r (set (get_or g.rows r []) c b) [] inside)
     ∙ get_or-set_same (get_or g.rows r []) c b false within
 
--- a cell of another row
+-- Giving a cell a colour changes no cell of another row.
 pub cell_of_other_row : (g : GridView) (r c q e : ℕ) (b : Bool) → q ≢ r → cell_at (with_cell g r c b) q e ≡ cell_at g q e
 cell_of_other_row g r c q e b ne = ap (λ (line : List Bool). get_or line e false) (get_or-set_other g.rows r q (set (get_or g.rows r []) c b) [] ne)
 
--- a cell of another column of the same row
+-- Giving a cell a colour changes no cell of another column in its row.
 pub cell_of_other_column : (g : GridView) (r c e : ℕ) (b : Bool) → r < length g.rows → e ≢ c → cell_at (with_cell g r c b) r e ≡ cell_at g r e
 cell_of_other_column g r c e b inside ne =
     ap (λ (line : List Bool). get_or line e false) (get_or-set_same g.rows r (set (get_or g.rows r []) c b) [] inside)
     ∙ get_or-set_other (get_or g.rows r []) c e b false ne
 
--- every cell after the write
+-- After a cell is given a colour it has that colour, and every other cell is as before.
 pub cell_after : (g : GridView) (r c : ℕ) (b : Bool) (q e : ℕ) → IsGrid g → r < g.size.side → c < g.size.side →
     cell_at (with_cell g r c b) q e ≡ cond (nat_eq q r && nat_eq e c) b (cell_at g q e)
 cell_after g r c b q e grid lr lc = by_row (nat_eq q r) refl
@@ -114,7 +114,7 @@ cell_after g r c b q e grid lr lc = by_row (nat_eq q r) refl
     by_row true h = subst (λ x. cell_at (with_cell g r c b) x e ≡ cond (nat_eq e c) b (cell_at g x e)) (sym (eqb-true q r h)) (by_column (nat_eq e c) refl)
     by_row false h = cell_of_other_row g r c q e b (eqb-false q r h)
 
--- it stays a grid
+-- A grid stays well formed when one of its cells is given a colour.
 pub grid_with_cell : (g : GridView) (r c : ℕ) (b : Bool) → IsGrid g → r < g.size.side → IsGrid (with_cell g r c b)
 grid_with_cell g r c b grid lr =
     let inside : r < length g.rows = omega (arith, grid.height) in

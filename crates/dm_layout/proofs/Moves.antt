@@ -59,7 +59,7 @@ pub placed-free : (n : ℕ) (t : List ℕ) (s : Shape) (rest : List Shape) → i
 unfolding placed
 placed-free n t s rest e = rw (e, placed) refl
 
--- what is left before a move, by the shape that the move comes by
+-- A move that comes by no shape leaves what is still to be placed as it is.
 pub after_none : (m n : ℕ) (t : List ℕ) (c : Cursor) → 0 < m → is_over_of n c ≡ false → candidate_of n c ≡ None → placed n t (candidates m n c) ≡ placed n t (candidates (m - 1) n (moved_of n c))
 after_none m n t c h e f =
     ap (placed n t) (candidates-more m n c h e ∙ ap (λ (o : Option Shape). option_to_list o ++ candidates (m - 1) n (moved_of n c)) f)

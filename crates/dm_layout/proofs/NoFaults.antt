@@ -9,7 +9,7 @@ use Rattle.dm_layout.specs.Grid.{GridView, cell_at}
 use Rattle.dm_layout.specs.Border.{is_border, border_is_dark, is_fault, border_fault_count}
 use Rattle.dm_layout.proofs.Ranges.{all_at}
 
--- the border cells of a grid have their colours
+-- The border cells of the grid have their colours.
 abbrev pub IsBordered : GridView → Type 0
 IsBordered grid =
     (row column : ℕ) → row < grid.size.side → column < grid.size.side → is_border grid.size row column ≡ true → cell_at grid row column ≡ border_is_dark grid.size row column

@@ -1,4 +1,4 @@
--- Each cell holds one bit, from the test of the two tables.
+-- Each cell holds one bit: this follows from the test of the two tables.
 use Rattle.std.proofs.Common.{◌≡◌, ℕ, zero, suc, ◌+◌, ◌-◌, ◌*◌, ◌/◌, ◌%◌, ◌<◌, Bool, true, false, ◌&&◌, nat_eq, nat_lt, nat_le, List, [], ◌∷◌, refl, length, get_or, sym, ◌∙◌, ap, subst, ◌≤◌, arith, take, flat_map, add-zero, zero-add, length-append}
 use Rattle.std.proofs.Math.ListN.{length-take}
 use Rattle.std.specs.Bool.{MatchBool}
@@ -69,7 +69,7 @@ same_cell x r c e f = ap (λ (j : ℕ). At j x.column) e ∙ ap (λ (j : ℕ). A
 from_pos : (m : ℕ) → 0 < m → m ≡ suc (m - 1)
 from_pos m h = omega arith
 
--- the facts about the tables of one n
+-- Facts about two tables of the mapping square of side n that pass their test.
 module _ (n : ℕ) (p q : List ℕ) (ok : tables_agree n (all_cells n) p q ≡ true) where
   agrees : (i : ℕ) → i < length (all_cells n) → Agrees n p q i (get_or (all_cells n) i (At 0 0))
   unfolding tables_agree
@@ -79,7 +79,7 @@ module _ (n : ℕ) (p q : List ℕ) (ok : tables_agree n (all_cells n) p q ≡ t
   unfolding tables_agree
   at_cell x l = subst (λ (j : ℕ). one_cell n (length (all_cells n)) p q j ≡ true) (zero-add x) (all_at (one_cell n (length (all_cells n)) p q) 0 (n * n) x (and_parts _ _ ok).1 l)
 
-  -- the tables undo each other at the cell of a place
+  -- The tables undo each other at the cell of each place.
   at_place : (w b : ℕ) (cell : Cell) → IsPlace n w b cell → Agrees n p q (8 * w + (b - 1)) cell
   unfolding place
   at_place w b cell h =
@@ -88,7 +88,7 @@ module _ (n : ℕ) (p q : List ℕ) (ok : tables_agree n (all_cells n) p q ≡ t
       let l : 8 * w + (b - 1) < length (all_cells n) = omega (arith, length-all_cells n) in
       subst (λ (x : Cell). Agrees n p q (8 * w + (b - 1)) x) (s ∙ h.there) (agrees (8 * w + (b - 1)) l)
 
-  -- the entry of a place's cell is one more than the place
+  -- The entry of a place's cell is one more than the place.
   back_of : (r c w b : ℕ) → IsPlace n w b (At r c) → entry p r c ≡ suc (8 * w + (b - 1))
   back_of r c w b h = (at_place w b (At r c) h).back
 
@@ -143,7 +143,7 @@ module _ (n : ℕ) (p q : List ℕ) (ok : tables_agree n (all_cells n) p q ≡ t
       let u = rw (div-mul-add r n c lc, mod-mul-add r n c lc) at t in
       by_test r c lr lc (is_fixed n r c) u
 
-  -- each place lies in the square
+  -- Each place lies in the square.
   inside_square : (w b : ℕ) (cell : Cell) → IsPlace n w b cell → (cell.row < n) × (cell.column < n)
   inside_square w b cell h = let a = at_place w b cell h in (a.row_in, a.column_in)
 

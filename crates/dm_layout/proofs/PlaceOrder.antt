@@ -1,4 +1,4 @@
--- The list of all places, by word and then by bit.
+-- The list of all places, by codeword and then by bit.
 use Rattle.std.proofs.Common.{◌≡◌, ℕ, zero, suc, ◌+◌, ◌-◌, ◌*◌, ◌/◌, ◌%◌, ◌<◌, ◌≤◌, List, [], ◌∷◌, ◌++◌, length, get_or, refl, sym, ◌∙◌, ap, arith, subst, length-append, add-zero, Bool, true, false}
 use Rattle.std.proofs.lemmas.List.{get_or-append-add, get_or_append_left}
 use Rattle.dm_layout.specs.declared.shape.Cell.{Cell}
@@ -13,7 +13,7 @@ use Rattle.std.specs.Bool.{MatchBool}
 use Rattle.std.proofs.lemmas.Bool.{MatchBool-at_true, MatchBool-at_false}
 use Rattle.dm_layout.proofs.OnePlace.{eight}
 
--- a place by its word, its bit and its cell
+-- A place is given by its codeword, its bit and its cell.
 abbrev pub lies_in : ℕ → ℕ → Cell → Place
 lies_in w b x = record { word = w; bit = b; row = x.row; column = x.column }
 
@@ -63,7 +63,7 @@ pub length-places_in_order : (n : ℕ) → length (places_in_order n) ≡ 8 * le
 unfolding places_in_order
 length-places_in_order n = length-places_from n 0 (shapes n)
 
--- the place of a bit of a word stands in the list where its number says
+-- Bit number b of codeword w has its place at number 8 * w + (b - 1) of the list of all places.
 pub place_at : (n w bit : ℕ) (d : Place) → w < length (shapes n) → 1 ≤ bit → bit ≤ 8 → get_or (places_in_order n) (8 * w + (bit - 1)) d ≡ lies_in w bit (place n w bit)
 unfolding places_in_order place
 place_at n w bit d l lo hi =
@@ -75,7 +75,7 @@ place_at n w bit d l lo hi =
 
 -- ---- each item of the list is a place
 
--- each of these is the place of its bit
+-- Each item of the list is the place of its bit.
 abbrev pub ArePlaces : ℕ → List Place → Type 0
 ArePlaces n [] = Unit {0}
 ArePlaces n (p ∷ rest) = IsPlace n p.word p.bit (At p.row p.column) × ArePlaces n rest
@@ -110,13 +110,13 @@ one_bit n r c w b v e law p q =
         let y = one.3 v e q in
         (y.0 ∙ sym x.0, y.1 ∙ sym x.1)
 
--- no bit lies in the fixed square
+-- No bit lies in the fixed square.
 pub none_fixed : (n : ℕ) (r c w b : ℕ) → EachCellOnce n → is_fixed n r c ≡ true → IsPlace n w b (At r c) → ⊥
 none_fixed n r c w b law f p =
     let inside = law.inside w b (At r c) p in
     MatchBool-at_true (NoPlace n (At r c)) (OnePlace n (At r c)) f (law.once r c inside.0 inside.1) w b p
 
--- any other cell holds one
+-- Each cell outside the fixed square holds exactly one bit.
 pub some_bit : (n : ℕ) (r c : ℕ) → EachCellOnce n → r < n → c < n → is_fixed n r c ≡ false → OnePlace n (At r c)
 some_bit n r c law lr lc f = MatchBool-at_false (NoPlace n (At r c)) (OnePlace n (At r c)) f (law.once r c lr lc)
 

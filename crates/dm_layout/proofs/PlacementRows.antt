@@ -19,7 +19,7 @@ use Rattle.dm_layout.proofs.TestedPlacement as placement
 use Rattle.dm_layout.proofs.TestedSweep as swept
 use Rattle.dm_layout.proofs.TestedWalk as walked
 
--- what holds of each row of the table holds of a row that stands in it
+-- What holds of each row of the table holds of a size that stands in it.
 pub at_row : (P : SizeRow → Type 0) (s : SizeRow) → AllByRecursion P size_table → IsRow s → P s
 at_row P s h row = at_found P (λ r. nat_eq r.side s.side) size_table s h row
 
@@ -66,7 +66,7 @@ walk_at_row s row =
     shapes_equal (shapes_left (walk_of s.mapping)) (shapes s.mapping)
     (at_row (λ size. same_shapes (shapes_left (walk_of size.mapping)) (shapes size.mapping) ≡ true) s walked.tested row)
 
--- the mapping side lies between these bounds, and the table leaves room for the counts
+-- The mapping side lies between 8 and the largest one, and the symbol has at most 2000 codewords.
 abbrev bounds_test : SizeRow → Bool
 bounds_test s = nat_le 8 s.mapping && nat_le s.mapping largest_mapping && nat_le (codeword_count s) 2000
 
@@ -87,6 +87,6 @@ bounds_at_row s row =
     let a = and_parts (nat_le 8 s.mapping) (nat_le s.mapping largest_mapping) b.0 in
     record { low = leb-true _ _ a.0; high = leb-true _ _ a.1; words = leb-true _ _ b.1 }
 
--- the mapping side of a row, by a number that is the same
+-- The mapping side of a size is at most 96.
 pub side_at_row : (s : SizeRow) (m : ℕ) → IsRow s → m ≡ s.mapping → m ≤ 96
 side_at_row s m row e = let b = bounds_at_row s row in let h = b.high in omega (arith, h, e)

@@ -1,10 +1,10 @@
--- Runs of numbers, and what a test keeps of them.
+-- Ranges of numbers, and what a test keeps of them.
 use Rattle.std.proofs.Common.{◌≡◌, ℕ, zero, suc, ◌+◌, ◌<◌, Bool, true, false, cond, nat_eq, eq-eqb, ◌∷◌, ◌++◌, sym, ◌∙◌, refl, ap, subst, arith, add-zero}
 use Rattle.std.specs.Prelude.{filter}
 use Rattle.std.specs.List.{range_with_len, list_all}
 use Rattle.std.proofs.lemmas.Bool.{and_parts, eqb-true, eqb-false, ne_eqb}
 
--- a run is its front and the rest
+-- A range is its first m numbers followed by the rest.
 pub range-append : (a m n : ℕ) → range_with_len a (m + n) ≡ range_with_len a m ++ range_with_len (a + m) n
 range-append a zero n =
     let e : zero + n ≡ n = omega arith in
@@ -15,7 +15,7 @@ range-append a (suc m) n =
     let f : a + 1 + m ≡ a + suc m = omega arith in
     ap (range_with_len a) e ∙ ap (λ xs. a ∷ xs) (range-append (a + 1) m n ∙ ap (λ k. range_with_len (a + 1) m ++ range_with_len k n) f)
 
--- a test that all numbers of a run pass is passed by each
+-- A test that all numbers of a range pass is passed by each of them.
 pub all_at : (f : ℕ → Bool) (from len x : ℕ) → list_all f (range_with_len from len) ≡ true → x < len → f (from + x) ≡ true
 all_at f from zero x h l = absurd (omega arith)
 all_at f from (suc len) zero h l = rw add-zero (and_parts _ _ h).0
@@ -23,13 +23,13 @@ all_at f from (suc len) (suc x) h l =
     let e : from + 1 + x ≡ from + suc x = omega arith in
     subst (λ (j : ℕ). f j ≡ true) e (all_at f (from + 1) len x (and_parts _ _ h).1 (omega arith))
 
--- and so where the run begins at 0
+-- A test that all numbers below a bound pass is passed by each of them.
 pub all_below : (f : ℕ → Bool) (len x : ℕ) → list_all f (range_with_len 0 len) ≡ true → x < len → f x ≡ true
 all_below f len x h l =
     let z : 0 + x ≡ x = omega arith in
     subst (λ (j : ℕ). f j ≡ true) z (all_at f 0 len x h l)
 
--- numbers that fail the test may be left out at the front
+-- Numbers at the front of a range that fail the test are filtered out.
 pub filter_skip : (p : ℕ → Bool) (a m n : ℕ) → ((j : ℕ) → j < m → p (a + j) ≡ false) → filter p (range_with_len a (m + n)) ≡ filter p (range_with_len (a + m) n)
 filter_skip p a zero n h =
     let e : zero + n ≡ n = omega arith in
@@ -45,11 +45,11 @@ filter_skip p a (suc m) n h =
     ∙ filter_skip p (a + 1) m n (λ j l. let q : a + 1 + j ≡ a + suc j = omega arith in ap p q ∙ h (suc j) (omega arith))
     ∙ ap (λ k. filter p (range_with_len k n)) f
 
--- a number that passes is kept
+-- A number at the front of a range that passes the test is kept.
 pub filter_keep : (p : ℕ → Bool) (a n : ℕ) → p a ≡ true → filter p (range_with_len a (suc n)) ≡ a ∷ filter p (range_with_len (a + 1) n)
 filter_keep p a n h = ap (λ b. cond b (a ∷ filter p (range_with_len (a + 1) n)) (filter p (range_with_len (a + 1) n))) h
 
--- two tests that follow from one another answer alike
+-- Two equations that follow from one another have the same test.
 pub same_tests : (a b x y : ℕ) → (a ≡ b → x ≡ y) → (x ≡ y → a ≡ b) → nat_eq a b ≡ nat_eq x y
 same_tests a b x y f g = by_test (nat_eq x y) refl
   where

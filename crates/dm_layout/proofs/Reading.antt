@@ -17,7 +17,8 @@ use Rattle.dm_layout.proofs.Bits.{digit, number_of, bits_of_byte, same_byte}
 use Rattle.dm_layout.proofs.OnePlace.{eight}
 use Rattle.dm_layout.proofs.PlacementRows.{count_at_row}
 
--- the words that are read at places that come by word and by bit; the number a has the bits of the current word so far
+-- The codewords that are read at places which come by codeword and by
+-- bit; the number a has the bits of the current codeword so far.
 abbrev pub gathered : (ℕ → ℕ → Bool) → ℕ → List Place → List ℕ
 gathered look a [] = []
 gathered look a (p ∷ rest) =
@@ -28,7 +29,7 @@ gathered look a (p ∷ rest) =
 
 -- ---- whole words
 
--- the word that is read at these cells
+-- The codeword that is read at these cells.
 abbrev pub word_of : (ℕ → ℕ → Bool) → List Cell → ℕ
 word_of look xs = number_of 0 (map (λ x. look x.row x.column) xs)
 
@@ -66,7 +67,7 @@ bit_in look n sh bit lo hi =
     by_shape Corner3 = bits_of_byte _ _ _ _ _ _ _ _ bit lo hi
     by_shape Corner4 = bits_of_byte _ _ _ _ _ _ _ _ bit lo hi
 
--- the gathered words have the bits that are seen at their places
+-- The gathered codewords have the bits that are seen at their places.
 pub gathered-bit : (look : ℕ → ℕ → Bool) (n w bit : ℕ) (cell : Cell) → IsPlace n w bit cell → bit_of (gathered look 0 (places_in_order n)) w bit ≡ look cell.row cell.column
 unfolding place
 gathered-bit look n w bit cell p =
@@ -79,7 +80,7 @@ gathered-bit look n w bit cell p =
 
 -- ---- what a grid holds
 
--- the words that are gathered from a grid are those that it holds
+-- A grid holds the codewords that are gathered from it.
 pub held : (grid : GridView) (words : WordsView) → IsGrid grid → IsWords words → words.size ≡ grid.size → words.list ≡ gathered (mapped_cell grid) 0 (places_in_order grid.size.mapping) → Holds grid words
 held grid words g h e f = record {
   square = g;
@@ -88,7 +89,7 @@ held grid words g h e f = record {
   bits = λ w bit cell p. sym (ap (λ (ws : List ℕ). bit_of ws w bit) f ∙ gathered-bit (mapped_cell grid) grid.size.mapping w bit cell p);
 }
 
--- a grid holds no other list
+-- A grid holds only one list of codewords.
 pub one_list : (grid : GridView) (a b : WordsView) → Holds grid a → Holds grid b → a ≡ b
 one_list grid a b ha hb = joined a.size b.size a.list b.list (ha.same_size ∙ sym hb.same_size) (same_number_lists a.list b.list same_length (λ i l. same_word i l))
   where

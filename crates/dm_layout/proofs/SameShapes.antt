@@ -5,7 +5,7 @@ use Rattle.dm_layout.specs.declared.shape.Shape.{Shape}
 use Rattle.dm_layout.specs.declared.shape.Shape.TheVariants.{Standard, Corner1, Corner2, Corner3, Corner4}
 use Rattle.dm_layout.proofs.Pointwise.{same_by_pointwise}
 
--- the numbers of a shape: row and column of its anchor, or the number of the corner, less 1
+-- The numbers of a shape are the row and the column of its anchor, or the number of its corner less 1.
 abbrev pub numbers_of : Shape → List ℕ
 numbers_of (Standard r c) = r ∷ c ∷ []
 numbers_of Corner1 = 0 ∷ []
@@ -13,7 +13,7 @@ numbers_of Corner2 = 1 ∷ []
 numbers_of Corner3 = 2 ∷ []
 numbers_of Corner4 = 3 ∷ []
 
--- the shape of these numbers
+-- The shape that these numbers stand for.
 abbrev shape_of : List ℕ → Shape
 shape_of [] = Corner1
 shape_of (zero ∷ []) = Corner1
@@ -22,7 +22,7 @@ shape_of (suc (suc zero) ∷ []) = Corner3
 shape_of (suc (suc (suc k)) ∷ []) = Corner4
 shape_of (r ∷ c ∷ rest) = Standard r c
 
--- a shape is told by its numbers
+-- A shape is found again from its numbers.
 shape_again : (x : Shape) → shape_of (numbers_of x) ≡ x
 shape_again (Standard r c) = refl
 shape_again Corner1 = refl
@@ -30,17 +30,17 @@ shape_again Corner2 = refl
 shape_again Corner3 = refl
 shape_again Corner4 = refl
 
--- whether two shapes are the same
+-- Two shapes pass this test if their numbers agree.
 abbrev pub same_shape : Shape → Shape → Bool
 same_shape x y = pointwise nat_eq (numbers_of x) (numbers_of y)
 
 shape_equal : (x y : Shape) → same_shape x y ≡ true → x ≡ y
 shape_equal x y h = sym (shape_again x) ∙ ap shape_of (same_text (numbers_of x) (numbers_of y) (sym h)) ∙ shape_again y
 
--- whether two lists of shapes are the same
+-- Two lists of shapes pass this test if they agree shape by shape.
 abbrev pub same_shapes : List Shape → List Shape → Bool
 same_shapes = pointwise same_shape
 
--- lists that pass the test are equal
+-- Lists of shapes that pass the test are equal.
 pub shapes_equal : (xs ys : List Shape) → same_shapes xs ys ≡ true → xs ≡ ys
 shapes_equal = same_by_pointwise same_shape shape_equal

@@ -5,7 +5,7 @@ use Rattle.dm_layout.specs.declared.shape.Shape.{Shape}
 use Rattle.dm_layout.specs.Sweep.{Part, comes_by, placed, sweep, sweep_within, inside_at, corner_of_turn, nothing_filled}
 use Rattle.dm_layout.specs.Sweep.Part.{Corner, Upwards, Downwards}
 
--- whether the turns end within so many moves
+-- The turns end within so many moves.
 unfoldable pub is_done : ℕ → ℕ → Part → ℤ → ℤ → Bool
 is_done zero n part r c = false
 is_done (suc k) n Corner r c = elim (int_lt r (pos n) || int_lt c (pos n)) [ true ↦ is_done k n Upwards r c | false ↦ true ]
@@ -20,13 +20,13 @@ is_done (suc k) n Downwards r c =
       | false ↦ is_done k n Downwards (r +ℤ pos 2) (c -ℤ pos 2)
     ]
 
--- a choice between two lists, each of which stays the same, stays the same
+-- A choice between two lists stays the same if the list that is chosen does.
 same_choice : (t : Bool) (a b c d : List Shape) (p q : Bool) → elim t as (λ _. Bool) [ true ↦ p | false ↦ q ] ≡ true → (p ≡ true → a ≡ c) → (q ≡ true → b ≡ d) →
     elim t as (λ _. List Shape) [ true ↦ a | false ↦ b ] ≡ elim t as (λ _. List Shape) [ true ↦ c | false ↦ d ]
 same_choice true a b c d p q h f g = f h
 same_choice false a b c d p q h f g = g h
 
--- the tests by which the halves of a turn end
+-- The two halves of a turn end by these tests.
 abbrev up_ends : ℕ → ℤ → ℤ → Bool
 up_ends n r c = int_lt (r -ℤ pos 2) (pos 0) || int_le (pos n) (c +ℤ pos 2)
 

@@ -7,7 +7,7 @@ use Rattle.dm_layout.specs.Sizes.{SizeRow, IsRow, regions_across}
 use Rattle.dm_layout.specs.Border.{is_on_edge, is_border, symbol_line, mapping_line}
 use Rattle.dm_layout.proofs.TableRows.{row_facts}
 
--- a line's region, and its place in the region's square
+-- A line of the mapping square lies in the square of its region, one line further than in the region itself.
 pub symbol_line-form : (d r : ℕ) → 8 ≤ d → symbol_line d r ≡ r / d * (d + 2) + (r % d + 1)
 symbol_line-form d r h = let p : 0 < d = omega arith in omega arith
 
@@ -23,11 +23,11 @@ symbol_line-div d r h =
     let l : r % d + 1 < d + 2 = omega arith in
     ap (λ (x : ℕ). x / (d + 2)) (symbol_line-form d r h) ∙ div-mul-add (r / d) (d + 2) (r % d + 1) l
 
--- the way back
+-- A line of the mapping square is found again from the line of the symbol in which it lies.
 pub mapping_line-symbol_line : (d r : ℕ) → 8 ≤ d → mapping_line d (symbol_line d r) ≡ r
 mapping_line-symbol_line d r h = let e = symbol_line-div d r h in omega (arith, e)
 
--- two lines of the mapping square lie in two lines of the symbol
+-- Two different lines of the mapping square lie in different lines of the symbol.
 pub symbol_line-one : (d r s : ℕ) → 8 ≤ d → symbol_line d r ≡ symbol_line d s → r ≡ s
 symbol_line-one d r s h e = sym (mapping_line-symbol_line d r h) ∙ ap (mapping_line d) e ∙ mapping_line-symbol_line d s h
 
@@ -35,18 +35,18 @@ lt_cases : (a k : ℕ) (b : Bool) → nat_lt a k ≡ b → (k ≤ a → ⊥) →
 lt_cases a k true e f = ltb-true a k e
 lt_cases a k false e f = absurd (f (ltb-false a k e))
 
--- a quotient is below k where the number is below k times the divisor
+-- A quotient is below k where the number is below k times the divisor.
 below_by : (a k d m : ℕ) → a * d + m < k * d → a < k
 below_by a k d m l = lt_cases a k (nat_lt a k) refl (λ g. let h : k * d ≤ a * d = mul-le-mul_right d g in omega (arith, h))
 
--- below k regions of side d, the region of a line is one of the k
+-- A line within k regions of side d lies in one of these regions.
 pub region_below : (d r k : ℕ) → 8 ≤ d → r < k * d → r / d < k
 region_below d r k h l =
     let p : 0 < d = omega arith in
     let w : r / d * d + r % d < k * d = omega arith in
     below_by (r / d) k d (r % d) w
 
--- the symbol has a line for each line of the mapping square
+-- Each line of the mapping square lies within the symbol.
 pub lies_inside : (size : SizeRow) (r : ℕ) → IsRow size → r < size.mapping → symbol_line size.region_side r < size.side
 lies_inside size r row l =
     let facts = row_facts size row in
@@ -58,7 +58,7 @@ lies_inside size r row l =
     let m : (r / d + 1) * (d + 2) ≤ k * (d + 2) = mul-le-mul_right (d + 2) (omega arith) in
     omega (arith, f, m, facts.side)
 
--- a line of the symbol which is no border's is that of a line of the mapping square
+-- A line of the symbol holds a line of the mapping square.
 pub record ComesFrom (size : SizeRow) (line : ℕ) : Type 0 where
   pub inside : mapping_line size.region_side line < size.mapping
   pub there : symbol_line size.region_side (mapping_line size.region_side line) ≡ line
@@ -86,7 +86,7 @@ comes_from size line row l first last =
       there = omega (arith, r_is, r_div);
     }
 
--- inside a region's square, a cell between its first and its last lines lies on no edge
+-- A cell between the first and the last lines of a region's square doesn't lie on its edge.
 on_no_edge : (d i j a b : ℕ) → i < d → j < d → a ≡ i + 1 → b ≡ j + 1 → is_on_edge d a b ≡ false
 on_no_edge d i j a b li lj e f =
     let p : nat_eq b 0 ≡ false = ne_eqb b 0 (λ h. omega arith) in
@@ -95,7 +95,7 @@ on_no_edge d i j a b li lj e f =
     let s : nat_eq b (d + 1) ≡ false = ne_eqb b (d + 1) (λ h. omega arith) in
     rw (p, q, r, s) refl
 
--- a cell of the mapping square lies on no border
+-- A cell of the mapping square lies on no border of the symbol.
 pub no_border : (size : SizeRow) (r c : ℕ) → 8 ≤ size.region_side → is_border size (symbol_line size.region_side r) (symbol_line size.region_side c) ≡ false
 no_border size r c h =
     let d : ℕ = size.region_side in
@@ -104,7 +104,7 @@ no_border size r c h =
     let lc : c % d < d = omega arith in
     on_no_edge d (r % d) (c % d) (symbol_line d r % (d + 2)) (symbol_line d c % (d + 2)) lr lc (symbol_line-mod d r h) (symbol_line-mod d c h)
 
--- a cell on no border is that of a row and a column of the mapping square
+-- A cell of the symbol that lies on no border is in a row and a column that hold lines of the mapping square.
 pub off_border : (size : SizeRow) (line column : ℕ) → IsRow size → line < size.side → column < size.side → is_border size line column ≡ false → ComesFrom size line × ComesFrom size column
 off_border size line column row l k h =
     let d : ℕ = size.region_side in

@@ -8,7 +8,7 @@ use Rattle.std.proofs.lemmas.List.Folds.{Any-from_list_any}
 use Rattle.std.proofs.lemmas.List.Sums.{AllPass-from_list_all}
 use Rattle.dm_layout.specs.Sizes.{SizeRow, size_table, IsRow, row_with_side, row_for_words, regions_across, block_data, block_check, block_length, codeword_count, largest_side, most_codewords, IsGreatest}
 
--- what holds of each element holds of the one that is found
+-- What holds of the first item, and of what is found among the others, holds of what is found among all.
 found_case : {X : Type 0} (P : X → Type 0) (y x : X) (o : Option X) (b : Bool) → P y → (o ≡ Some x → P x) → cond b (Some y) o ≡ Some x → P x
 found_case P y x o true h k e =
     let g : y ≡ x = cc in
@@ -19,7 +19,7 @@ pub at_found : {X : Type 0} (P : X → Type 0) (p : X → Bool) (xs : List X) (x
 at_found P p [] x h e = cc
 at_found P p (y ∷ ys) x h e = found_case P y x (find p ys) (p y) h.0 (at_found P p ys x h.1) e
 
--- the row that is found for a side has that side and stands in the table
+-- The size that is found for a side has that side and stands in the table.
 pub found_row : (side : ℕ) (s : SizeRow) → row_with_side side ≡ Some s → (s.side ≡ side) × IsRow s
 found_row side s h =
     let e : s.side ≡ side = found_passes side size_table s h in
@@ -45,7 +45,7 @@ row_test s =
     && nat_eq (s.blocks * block_length s) (codeword_count s) && nat_eq (s.blocks * block_data s) s.data_count
     && nat_le (block_length s) 255 && nat_eq (block_data s + block_check s) (block_length s)
 
--- how the numbers of a row hang together
+-- The numbers of a size are related in these ways.
 pub record RowFacts (s : SizeRow) : Type 0 where
   pub across : 1 ≤ regions_across s
   pub least : 8 ≤ s.region_side
@@ -97,13 +97,13 @@ row_facts s h =
       parts = eqb-true _ _ l.1;
     }
 
--- a side that the table has is at most the largest
+-- A side that the table has is at most the largest side.
 pub side_fits : (side : ℕ) (s : SizeRow) → row_with_side side ≡ Some s → side ≤ largest_side
 side_fits side s h = let row = found_row side s h in omega (arith, row.0, (row_facts s row.1).fits)
 
 -- ---- the smallest size that is large enough
 
--- the sides rise
+-- The sides of these rows rise.
 abbrev pub Rises : List SizeRow → Type 0
 Rises [] = Unit {0}
 Rises (r ∷ rows) = AllByRecursion (λ (s : SizeRow). r.side ≤ s.side) rows × Rises rows
@@ -124,7 +124,7 @@ rises_test (r ∷ rows) h =
         let b = and_parts (nat_le r.side s.side) (list_all (λ (q : SizeRow). nat_le r.side q.side) rest) h in
         (leb-true _ _ b.0, bounded r rest b.1)
 
--- the row that is found first is the smallest that holds as much
+-- The first row with enough data codewords is the smallest with enough of them.
 found_first : (count : ℕ) (rows : List SizeRow) (size : SizeRow) → Rises rows → find (λ row. nat_le count row.data_count) rows ≡ Some size →
     AllByRecursion (λ (row : SizeRow). count ≤ row.data_count → size.side ≤ row.side) rows
 found_first count [] size h e = tt
@@ -149,7 +149,7 @@ table_rises : rises size_table ≡ true
 unfolding size_table
 table_rises = refl
 
--- what `row_for_words` gives is the smallest
+-- The size that `row_for_words` gives is the smallest with enough data codewords.
 pub smallest_for_words : (count : ℕ) (o : Option SizeRow) → o ≡ row_for_words count → IfSome o (λ size. All (λ row. count ≤ row.data_count → size.side ≤ row.side) size_table)
 smallest_for_words count None e = tt
 smallest_for_words count (Some size) e =
@@ -158,7 +158,7 @@ smallest_for_words count (Some size) e =
 
 -- ---- the greatest numbers of the columns
 
--- a number that some row has, and no row passes, is the greatest of the column
+-- A number that some row has in a column, and that none exceeds, is the greatest of the column.
 pub greatest : (column : SizeRow → ℕ) (number : ℕ) → list_any (λ row. nat_eq (column row) number) size_table ≡ true → list_all (λ row. nat_le (column row) number) size_table ≡ true → IsGreatest column number
 greatest column number some none =
     let met = Any-from_list_any (λ row. nat_eq (column row) number) size_table some in

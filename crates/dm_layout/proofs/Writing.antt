@@ -14,7 +14,7 @@ use Rattle.dm_layout.proofs.TableRows.{row_facts}
 
 -- ---- one write
 
--- any other cell stays as it was
+-- Giving a cell a colour leaves any other cell as it was.
 pub cell_elsewhere : (g : GridView) (r c u v : ℕ) (b : Bool) → IsGrid g → r < g.size.side → ((u ≡ r) → (v ≡ c) → ⊥) → cell_at (with_cell g r c b) u v ≡ cell_at g u v
 cell_elsewhere g r c u v b h lr ne = by_row (eqb_tells u r)
   where
@@ -24,18 +24,18 @@ cell_elsewhere g r c u v b h lr ne = by_row (eqb_tells u r)
 
 -- ---- all writes
 
--- the grid after the bits of the words are put at these places, one after the other
+-- The grid after the bits of the codewords are put at these places, one after the other.
 abbrev pub written : SizeRow → List ℕ → List Place → GridView → GridView
 written s words [] grid = grid
 written s words (p ∷ rest) grid =
     written s words rest (with_cell grid (symbol_line s.region_side p.row) (symbol_line s.region_side p.column) (bit_of words p.word p.bit))
 
--- what stays the same in all writes
+-- The grid is well formed and has this size, whatever bits are put.
 pub record IsBegun (s : SizeRow) (grid : GridView) : Type 0 where
   pub square : IsGrid grid
   pub same_size : grid.size ≡ s
 
--- one write at a place
+-- A grid in which a bit is put at a place stays well formed and keeps its size.
 pub begun_more : (s : SizeRow) (p : Place) (b : Bool) (grid : GridView) → IsRow s → EachCellOnce s.mapping → IsPlace s.mapping p.word p.bit (At p.row p.column) → IsBegun s grid →
     IsBegun s (with_cell grid (symbol_line s.region_side p.row) (symbol_line s.region_side p.column) b)
 begun_more s p b grid row law place h =
@@ -48,7 +48,7 @@ begun_all s words [] grid row law are h = h
 begun_all s words (p ∷ rest) grid row law are h =
     begun_all s words rest (with_cell grid _ _ (bit_of words p.word p.bit)) row law are.1 (begun_more s p (bit_of words p.word p.bit) grid row law are.0 h)
 
--- a symbol cell to which no mapping cell of these places is moved stays as it was
+-- None of these places lies in this cell of the symbol.
 abbrev pub Avoids : SizeRow → ℕ → ℕ → List Place → Type 0
 Avoids s u v [] = Unit {0}
 Avoids s u v (p ∷ rest) = (u ≡ symbol_line s.region_side p.row → v ≡ symbol_line s.region_side p.column → ⊥) × Avoids s u v rest
@@ -66,7 +66,7 @@ written-avoided s words (p ∷ rest) grid u v row law are h a =
     written-avoided s words rest (with_cell grid _ _ b) u v row law are.1 (begun_more s p b grid row law are.0 h) a.1
     ∙ cell_elsewhere grid _ _ u v b h.square l a.0
 
--- the cell of a place has its bit once it is right, since a cell holds one bit
+-- A cell that has its bit keeps it when further bits are put, since a cell holds one bit.
 pub stays_right : (s : SizeRow) (words : List ℕ) (ps : List Place) (grid : GridView) (w b r c : ℕ) → IsRow s → EachCellOnce s.mapping → ArePlaces s.mapping ps → IsBegun s grid → IsPlace s.mapping w b (At r c) →
     cell_at grid (symbol_line s.region_side r) (symbol_line s.region_side c) ≡ bit_of words w b →
     cell_at (written s words ps grid) (symbol_line s.region_side r) (symbol_line s.region_side c) ≡ bit_of words w b
@@ -98,7 +98,7 @@ stays_right s words (p ∷ rest) grid w b r c row law are h place e =
         let facts = row_facts s row in
         cell_elsewhere grid _ _ _ _ _ h.square lr (λ f g. y.1 (symbol_line-one s.region_side c p.column facts.least g)) ∙ e
 
--- and it becomes right when its place comes
+-- The cell of a place has its bit once the bit of this place is put.
 pub becomes_right : (s : SizeRow) (words : List ℕ) (ps : List Place) (grid : GridView) (i : ℕ) (d : Place) → IsRow s → EachCellOnce s.mapping → ArePlaces s.mapping ps → IsBegun s grid → i < length ps →
     cell_at (written s words ps grid) (symbol_line s.region_side (get_or ps i d).row) (symbol_line s.region_side (get_or ps i d).column) ≡ bit_of words (get_or ps i d).word (get_or ps i d).bit
 becomes_right s words [] grid i d row law are h l = absurd (omega arith)

@@ -3,7 +3,7 @@ use Rattle.std.proofs.Math.Nat.{mul-le-mul_right, div-mul-le_self}
 use Rattle.dm_layout.proofs.BorderMasks.{one_ruled, are_borders}
 use Rattle.dm_layout.proofs.border.Borders.new.Goals as goal
 
--- the squares that are counted lie inside the side
+-- The squares that are counted along a side lie within it.
 inside : (side s a : ℕ) → a < side / s → (a + 1) * s ≤ side
 inside side s a l =
     let m : (a + 1) * s ≤ side / s * s = mul-le-mul_right s (omega arith) in

@@ -11,7 +11,7 @@ use Rattle.dm_layout.proofs.cells.Cells.new.Goals as goal
 square : (n : ℕ) → n ≤ largest_mapping → n * n ≤ largest_mapping * largest_mapping
 square n h = mul-le-mul h h
 
--- the walk of a size is safe before its first move
+-- The walk of a size is safe before its first move.
 safe_at_first : (s : SizeRow) (cells : List Cell) → IsRow s → CellsAreSafe cells 0 8 (walk_of s.mapping)
 safe_at_first s cells row =
     let b = bounds_at_row s row in

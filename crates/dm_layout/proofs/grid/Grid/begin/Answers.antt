@@ -3,7 +3,7 @@ use Rattle.dm_layout.specs.Sizes.{SizeRow, IsRow}
 use Rattle.dm_layout.proofs.PackedRows.{kept_light, grid_of_kept}
 use Rattle.dm_layout.proofs.grid.Grid.begin.Goals as goal
 
--- the size is the one that was given
+-- A size that is the given one stands in the table and has the given side.
 row_here : (s t : SizeRow) (side : ℕ) → s ≡ t → IsRow t → side ≡ t.side → IsRow s × (s.side ≡ side)
 row_here s t side e row f = (subst (λ (u : SizeRow). IsRow u) (sym e) row, omega (arith, ap (λ (u : SizeRow). u.side) e, f))
 

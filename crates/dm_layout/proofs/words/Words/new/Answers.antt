@@ -23,7 +23,7 @@ invariant_of-result c = record {
   bytes = c.loop-i.invariant.bytes;
 }
 
--- all of the list is kept
+-- A list is kept whole once all its codewords are kept.
 all_kept : (kept list : List ℕ) (n i : ℕ) → i ≡ n → take i kept ≡ take i list → take n list ≡ list → take n kept ≡ list
 all_kept kept list n i e h f = ap (λ (j : ℕ). take j kept) (sym e) ∙ h ∙ ap (λ (j : ℕ). take j list) e ∙ f
 
