@@ -11,8 +11,8 @@ use crate::packed::front;
 use crate::size::Size;
 use std::marker::Model;
 
-/// How many border cells do not have their colour. The left column and the bottom row of each region's
-/// border are dark; its top row and its right column alternate, and are dark at the left and at the bottom.
+/// How many border cells have the wrong colour. The left column and the bottom row of each region's border are dark;
+/// its top row and its right column alternate, and are dark at the left and at the bottom.
 pub fn border_faults(grid: &Grid) -> u16
     ensures { result ≡ border_fault_count grid.now }
 {
@@ -110,7 +110,7 @@ impl Borders {
         }
     }
 
-    /// How many border cells of a row do not have their colour.
+    /// How many border cells of a row have the wrong colour.
     fn row_faults(&self, row: u128, inner: u16) -> u16
         ensures count { result ≡ count_by (is_wrong self.now.region_side inner row) (range_with_len 0 self.now.side) }
         ensures most { result ≤ self.now.side }
@@ -119,7 +119,7 @@ impl Borders {
         wrong.count_ones() as u16
     }
 
-    /// The place of the row below.
+    /// The place in its square of the row below.
     fn below(&self, inner: u16) -> u16
         requires { inner < self.now.region_side + 2 }
         ensures { result ≡ (inner + 1) % (self.now.region_side + 2) }
@@ -128,7 +128,7 @@ impl Borders {
     }
 }
 
-/// Makes it the grid of a size with correct borders and fixed square and all other cells light.
+/// Turns this into the grid of a size with correct borders and fixed square and all other cells light.
 pub(crate) fn draw_borders(grid: &mut Grid, size: Size)
     ensures value { grid.new ≡ empty_grid size }
     ensures grid { IsGrid grid.new }

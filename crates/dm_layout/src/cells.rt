@@ -31,7 +31,7 @@ pub struct Cells {
     walk: Walk,
     /// The cells of the current codeword.
     current: [Cell; 8],
-    /// How many codewords the walk has given, the current one among them.
+    /// How many codewords the walk has given, with the current one.
     taken: u16,
     /// How many bits of the current codeword have been given.
     bit: u8,

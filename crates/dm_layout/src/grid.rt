@@ -11,18 +11,18 @@ use std::marker::Model;
 /// Why cells make no grid.
 #[derive(Clone, Copy, Debug, PartialEq, Eq)]
 pub enum GridFault {
-    /// There are not as many cells as the side times itself.
+    /// The number of cells is not the side times itself.
     NotSquare,
     /// No size has this side.
     NoSuchSize,
 }
 
-/// The cells of a symbol, without a quiet zone: a square whose side is that of a [`Size`]. A cell is
-/// dark or light, and any colour may stand anywhere, in the borders too. What is read from a grid counts
-/// on it being upright: the solid column at the left, the solid row at the bottom.
+/// The cells of a symbol, without a quiet zone: a square whose side is that of a [`Size`]. A cell is dark or light,
+/// and any colour may stand anywhere, in the borders too. Whoever reads a grid takes it to be upright: the solid
+/// column is at the left, the solid row at the bottom.
 ///
-/// Each row is kept as one number: the cell of column `c`, which counts from 0 at the left, is the bit of
-/// weight 2^c, 1 for dark. The bits from the side on are 0, and the rows from the side on mean nothing.
+/// Each row is kept as one number: the cell of column `c`, counted from 0 at the left, is the bit of weight 2^c, 1
+/// for dark. The bits from the side on are 0, and the rows from the side on mean nothing.
 #[derive(Clone, Debug, Drop)]
 pub struct Grid {
     size: Size,
@@ -40,9 +40,9 @@ impl Model for Grid {
 }
 
 impl Grid {
-    /// The grid of `side` rows of `side` cells; `cells` has them row by row from the top, true for dark.
-    /// `NotSquare` comes where the number of cells is not the side times itself, and then `NoSuchSize`
-    /// where no size has this side.
+    /// The grid of `side` rows of `side` cells; `cells` has them row by row from the
+    /// top, true for dark. The error is `NotSquare` if the number of cells is not
+    /// the side times itself, and otherwise `NoSuchSize` if no size has this side.
     pub fn new(side: u16, cells: &[bool]) -> Result<Grid, GridFault>
         ensures not_square { (result ≡ Err GridFault.NotSquare) ↔ (length cells.now ≢ side * side) }
         ensures no_such_size { (result ≡ Err GridFault.NoSuchSize) ↔ ((length cells.now ≡ side * side) × IsNone (row_with_side side)) }
@@ -63,10 +63,10 @@ impl Grid {
         Ok(Grid { size, rows })
     }
 
-    /// The grid of `side` rows of `side` cells; `rows` has a number for each row from the top, in which the
-    /// cell of column `c`, counted from 0 at the left, is the bit of weight 2^c, 1 for dark. The bits from the
-    /// side on may be anything. `NotSquare` comes where there are not as many rows as the side, and then
-    /// `NoSuchSize` where no size has this side.
+    /// The grid of `side` rows of `side` cells; `rows` has a number for each row from the top,
+    /// in which the cell of column `c`, counted from 0 at the left, is the bit of weight 2^c,
+    /// 1 for dark. The bits from the side on may be anything. The error is `NotSquare` if the
+    /// number of rows is not the side, and otherwise `NoSuchSize` if no size has this side.
     pub fn of_rows(side: u16, rows: &[u128]) -> Result<Grid, GridFault>
         ensures not_square { (result ≡ Err GridFault.NotSquare) ↔ (length rows.now ≢ side) }
         ensures no_such_size { (result ≡ Err GridFault.NoSuchSize) ↔ ((length rows.now ≡ side) × IsNone (row_with_side side)) }
@@ -92,7 +92,7 @@ impl Grid {
         ensures grid { IsGrid result }
         ensures light { IsLight result }
     {
-        // That the side is at most the largest is known from the size's methods.
+        // The contract of this call bounds the side by the largest.
         let _side = size.side();
         Grid {
             size,
@@ -100,7 +100,7 @@ impl Grid {
         }
     }
 
-    /// Makes it a grid of this size with all cells light.
+    /// Turns this into the grid of a size with all cells light.
     pub(crate) fn begin(&mut self, size: Size)
         ensures size { self.new.size ≡ size }
         ensures grid { IsGrid self.new }
@@ -130,8 +130,8 @@ impl Grid {
         is_dark(self.rows[row as usize], column)
     }
 
-    /// A row, counted from 0 at the top and below the side, as a number: the cell of column `c`, counted from 0 at the left, is the bit
-    /// of weight 2^c, 1 for dark.
+    /// A row, counted from 0 at the top and below the side, as a number: the cell of column `c`, counted from 0 at
+    /// the left, is the bit of weight 2^c, 1 for dark.
     pub fn row(&self, row: u16) -> u128
         requires { row < self.now.size.side }
         ensures { (column : ℕ) → column < self.now.size.side → is_dark_in result column ≡ cell_at self.now row column }
@@ -139,7 +139,7 @@ impl Grid {
         self.rows[row as usize]
     }
 
-    /// Makes the cells of a row dark that are dark in `cells`.
+    /// Darkens the cells of a row that are dark in `cells`.
     pub(crate) fn darken(&mut self, row: u16, cells: u128)
         requires row { row < self.old.size.side }
         requires cells { cells < 2 ^ self.old.size.side }
@@ -179,7 +179,7 @@ impl PartialEq for Grid {
 
     ghost laws = { grids_per };
 
-    /// Whether the sides agree, and all cells.
+    /// Whether the sides and all cells agree.
     fn eq(&self, other: &Grid) -> bool
         ensures value { result ≡ equal_grids self.now other.now }
         ensures same { IsTrue result ↔ (self.now ≡ other.now) }

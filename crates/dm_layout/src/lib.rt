@@ -1,10 +1,11 @@
 //! Sizes, borders and placement of the square Data Matrix symbols (ISO/IEC 16022, ECC 200).
 //!
-//! A [`Grid`] is a square of dark and light cells of a [`Size`]; [`Words`] are the codewords of a symbol. [`lay()`] gives the one
-//! grid with right borders and the fixed square that holds codewords, [`lift()`] the codewords that a grid holds, whatever stands
-//! in its borders and its fixed square, [`border_faults()`] how many border cells have the wrong colour, and [`block()`] and
-//! [`put_block()`] are about the Reed-Solomon blocks. What the contracts say is defined in `specs/`; [`laws`] has what holds of the
-//! definitions. No call takes memory.
+//! A [`Grid`] is a square of dark and light cells of a [`Size`]; [`Words`] are the codewords of a
+//! symbol. [`lay()`] gives the one grid with correct borders and the fixed square that holds these
+//! codewords, and [`lift()`] the codewords that a grid holds, whatever stands in its borders and
+//! its fixed square. [`border_faults()`] counts the border cells that have the wrong colour, and
+//! [`block()`] and [`put_block()`] read and write one Reed-Solomon block. What the contracts say is
+//! defined in `specs/`; [`laws`] states what holds of these definitions. No call allocates memory.
 #![tactic(auto)]
 
 mod blocks;

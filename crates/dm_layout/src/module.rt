@@ -6,8 +6,9 @@ ghost use Rattle.dm_layout.specs.Modules.{border_colour as border_colour_by};
 
 use crate::size::Size;
 
-/// The colour that a module of a border is to have, true for dark; None for a module of no border. The left column and the bottom
-/// row of each region's border are dark; its top row and its right column alternate, and are dark at the left and at the bottom.
+/// The prescribed colour of a module in a border, true for dark; None for a module in
+/// no border. The left column and the bottom row of each region's border are dark; its
+/// top row and its right column alternate, and are dark at the left and at the bottom.
 pub fn border_colour(size: Size, row: u16, column: u16) -> Option<bool>
     ensures { result ≡ border_colour_by size row column }
 {
@@ -31,7 +32,7 @@ pub fn symbol_line(size: Size, line: u16) -> u16
     ensures value { result ≡ symbol_line_by size.region_side line }
     ensures inside { result < size.side }
 {
-    // That no line lies above the largest is known from the size's methods.
+    // The contract of this call bounds the line, so that the sum fits.
     let _mapping = size.mapping();
     line + 2 * (line / size.region_side()) + 1
 }

@@ -1,5 +1,5 @@
-//! A row of cells as one number: the cell of column `c`, which counts from 0 at the left, is the bit of weight 2^c, 1 for
-//! dark. So the left cell is the lowest bit. That columns are these bits is known here alone.
+//! A row of cells as one number: the cell of column `c`, counted from 0 at the left, is the bit of weight 2^c, 1 for
+//! dark. So the leftmost cell is the lowest bit.
 
 ghost use Rattle.std.specs.Prelude.{◌≡◌, ℕ, ◌^◌, ◌<◌, ◌≤◌, false, if◌then◌else◌, nat_eq, get_or, length};
 ghost use Rattle.dm_layout.specs.Sizes.{largest_side};

@@ -10,7 +10,7 @@ use crate::shape::{Cell, LARGEST_MAPPING, Shape};
 /// A part of a turn of the sweep.
 #[derive(Clone, Copy)]
 pub enum Leg {
-    /// The turn begins, with a corner or with none.
+    /// The turn begins, with or without a corner.
     Turn,
     /// Two rows up and two columns right at each move.
     Up,
@@ -82,7 +82,7 @@ impl Cursor {
         }
     }
 
-    /// Where the next move ends; `moves` are left with it.
+    /// Where the next move ends. Before it, at most `moves` moves are left.
     fn moved(self, n: u16, moves: u16) -> Cursor
         requires small { n ≤ largest_mapping }
         requires one_more { 0 < moves }
@@ -153,8 +153,8 @@ fn fill_cells(filled: &mut [u128; LARGEST_MAPPING], cells: &[Cell; 8])
     }
 }
 
-/// The sweep of one mapping square: where it is, how many moves are left to it at the most, and the table
-/// of filled cells, a number for each row with a bit for each column.
+/// The sweep of one mapping square: where it is, how many moves it has left at most, and the table of filled cells, a
+/// number for each row with a bit for each column.
 #[derive(Drop)]
 pub struct Walk {
     mapping: u16,
@@ -221,8 +221,8 @@ impl Walk {
         None
     }
 
-    /// The cells of the next shape that is placed. The iterator over places calls this once a codeword, so
-    /// it stays out of that iterator's `next`.
+    /// The cells of the next shape that is placed. The iterator over places calls this once for each codeword, so it
+    /// isn't inlined into the iterator's `next`.
     #[inline(never)]
     pub(crate) fn next_cells(&mut self) -> Option<[Cell; 8]>
         requires safe { WalkIsSafe self.old }

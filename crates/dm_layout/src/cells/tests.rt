@@ -29,7 +29,7 @@ static ANCHORS_OF_8: [(u16, u16); 8] = [
     (6, 6),
 ];
 
-/// Those of side 12: corner 1 comes before the anchors of sum 12.
+/// The cells of the lowest bits in the mapping square of side 12, where corner 1 comes before the anchors of sum 12.
 static ANCHORS_OF_12: [(u16, u16); 18] = [
     (4, 0),
     (2, 2),
@@ -51,7 +51,8 @@ static ANCHORS_OF_12: [(u16, u16); 18] = [
     (10, 10),
 ];
 
-/// Those of side 14: corner 2 comes before the anchors of sum 12, and (12, 0) and (0, 12) are absent.
+/// The cells of the lowest bits in the mapping square of side 14, where corner 2 comes before the anchors of sum 12,
+/// and (12, 0) and (0, 12) are absent.
 static ANCHORS_OF_14: [(u16, u16); 24] = [
     (4, 0),
     (2, 2),
