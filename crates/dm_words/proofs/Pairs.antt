@@ -55,7 +55,7 @@ judged_number v w more false false small ne ea eb =
     let pos : 0 < 256 * v + w = grind (arith, nat_tests) in
     let le : 256 * v + w ≤ 64000 = ltb-false _ _ eb in
     let d = digits_small (256 * v + w) pos le in
-    let is : IsPair (v ∷ w ∷ []) (values_of (256 * v + w)) = record { high = v; low = w; is_byte = small; a = _; b = _; c = _; a_small = d.0; b_small = d.1; c_small = d.2; number = digits_join (256 * v + w) pos; words_are = refl; values_are = refl } in
+    let is : IsPair (v ∷ w ∷ []) (values_of (256 * v + w)) = record { high = v; low = w; is_byte = small; first = _; second = _; third = _; first_small = d.0; second_small = d.1; third_small = d.2; number = digits_join (256 * v + w) pos; words_are = refl; values_are = refl } in
     (is, omega arith, omega arith)
 
 -- By the first of two words.
@@ -99,12 +99,12 @@ not_unlatch v w n e le = let ne : v ≢ 254 = omega arith in grind (arith, nat_t
 pub pair_complete : IsComplete pair_front PairRight
 pair_complete place words after values p =
     let n = 256 * p.high + p.low in
-    let le : n ≤ 64000 = omega (arith, p.number, p.a_small, p.b_small, p.c_small) in
+    let le : n ≤ 64000 = omega (arith, p.number, p.first_small, p.second_small, p.third_small) in
     let pos : 0 < n = omega (arith, p.number) in
     let x : eqb p.high 254 ≡ false = not_unlatch p.high p.low n refl le in
     let y : eqb (256 * p.high + p.low) 0 ≡ false = grind (arith, nat_tests) in
     let z : ltb 64000 (256 * p.high + p.low) ≡ false = grind (arith, nat_tests) in
-    let d = values_again (256 * p.high + p.low) p.a p.b p.c p.a_small p.b_small p.c_small p.number in
+    let d = values_again (256 * p.high + p.low) p.first p.second p.third p.first_small p.second_small p.third_small p.number in
     rw (p.words_are, p.values_are) ((rw (x, y, z, d.0, d.1, d.2) refl), omega arith)
 
 -- Where none stands, none is found.

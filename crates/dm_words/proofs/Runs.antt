@@ -14,7 +14,8 @@ use Rattle.dm_words.specs.Codewords.{codeword_of}
 use Rattle.dm_words.specs.Joined.{Piece, spelled, gathered, whats, AreJoined}
 use Rattle.dm_words.specs.declared.fault.WordFault.TheVariants as fault
 use Rattle.dm_words.specs.Values.{IsSpelling, IsFiller, AreValues}
-use Rattle.dm_words.specs.Runs.{IsPair, IsRunEnd, unlatch, symbol_end, last_word, IsRun, EndsRun, BeginsBadPair, StopsPairs, pair_place, IsRunFault, value, upper_shift, triplet, unfinished, IsFaultyRun}
+use Rattle.dm_words.specs.Runs.{IsPair, IsRunEnd, unlatch, symbol_end, last_word, IsRun}
+use Rattle.dm_words.specs.RunFaults.{EndsRun, BeginsBadPair, StopsPairs, OpenRun, pair_place, IsRunFault, value, upper_shift, triplet, unfinished, IsFaultyRun}
 use Rattle.dm_words.specs.inner.Scan.Walk.{Step, Takes, Stops, Walked, flat}
 use Rattle.dm_words.specs.inner.Scan.Fronts.{pair_front, spelling_front, run_fault, end_length, run_unless, pairs_in, items_in, run_front}
 use Rattle.dm_words.proofs.Walks.{Walks, walks, walk-joined}
@@ -72,8 +73,13 @@ no_bad_pair words t (one_left w ne e is) b = record { end = []; after = w ∷ []
 no_bad_pair words t (unlatched more e is) b = record { end = 254 ∷ []; after = more; ended = unlatch refl; whole = e }
 no_bad_pair words t (bad v w more ne h e is) b = absurd (b is)
 
+-- A run as far as its pairs go, from its five parts.
+abbrev open_run : ℕ → ℕ → List ℕ → ℕ → List ℕ → OpenRun
+open_run place pair_words others spelled_values rest =
+    record { place = place; pair_words = pair_words; others = others; spelled_values = spelled_values; rest = rest }
+
 -- The fault that is found is the one that is there.
-fault_is : (set : CodeSet) (place n values : ℕ) (t : PairsEnd) (k : Rest) (rest words : List ℕ) (f : WordFault) → IsRestOf set rest k → IsStop words t → run_fault place n t values k ≡ Some f → IsRunFault set place values rest n words f
+fault_is : (set : CodeSet) (place n values : ℕ) (t : PairsEnd) (k : Rest) (rest words : List ℕ) (f : WordFault) → IsRestOf set rest k → IsStop words t → run_fault place n t values k ≡ Some f → IsRunFault set (open_run place n words values rest) f
 fault_is set place n values t (left.Meaningless i) rest words f r s e = value i r (stops_pairs words t s) cc
 fault_is set place n values t left.WrongUpperShift rest words f r s e = upper_shift r (stops_pairs words t s) cc
 fault_is set place n values stop.BadPair left.Waiting rest words f r s e = triplet (inr r) (bad_pair words _ s refl) cc
@@ -97,7 +103,7 @@ run_values-append (v ∷ a) b ha hb = (ha.0, run_values-append a b ha.1 hb)
 pairs_run_values : (ps : List (Piece (List ℕ))) → AllByRecursion (λ p. IsPair p.words p.what) ps → AreSmall (gathered ps)
 pairs_run_values [] h = tt
 pairs_run_values (p ∷ ps) h =
-    let one : AreSmall p.what = rw h.0.values_are (h.0.a_small, (h.0.b_small, (h.0.c_small, tt))) in
+    let one : AreSmall p.what = rw h.0.values_are (h.0.first_small, (h.0.second_small, (h.0.third_small, tt))) in
     run_values-append p.what (gathered ps) one (pairs_run_values ps h.1)
 
 -- So many words of a run, and what stands behind them.
@@ -259,7 +265,7 @@ fault_unfinished place n values stop.SymbolEnd ne = refl
 fault_unfinished place n values stop.BadPair ne = absurd (ne refl)
 
 -- The fault that is there tells how the pairs stop and what the rest is.
-fault_found : (set : CodeSet) (place values : ℕ) (rest : List ℕ) (n : ℕ) (words : List ℕ) (f : WordFault) → IsRunFault set place values rest n words f → FaultFound set place values rest n words f
+fault_found : (set : CodeSet) (place values : ℕ) (rest : List ℕ) (n : ℕ) (words : List ℕ) (f : WordFault) → IsRunFault set (open_run place n words values rest) f → FaultFound set place values rest n words f
 fault_found set place values rest n words f (value index b st is) = let t = stop_of words st in record { end = t.0; kind = left.Meaningless index; stops = t.1; left_so = b; found = ap Some (sym is) }
 fault_found set place values rest n words f (upper_shift b st is) = let t = stop_of words st in record { end = t.0; kind = left.WrongUpperShift; stops = t.1; left_so = b; found = ap Some (sym is) }
 fault_found set place values rest n words f (triplet (inl r) b is) = record { end = stop.BadPair; kind = left.Complete; stops = bad b.high b.low b.more b.no_unlatch b.is_bad b.whole refl; left_so = r; found = ap Some (sym is) }

@@ -44,7 +44,7 @@ pub record IsAscii (m : List Item) (words : List ℕ) : Type 0 where
 
 -- The codeword of two digit bytes.
 abbrev pub digit_pair : ℕ → ℕ → ℕ
-digit_pair b c = 130 + (10 * (b - 48) + (c - 48))
+digit_pair tens ones = 130 + (10 * (tens - 48) + (ones - 48))
 
 -- The codewords of a byte of 0 to 255 alone.
 abbrev pub single : ℕ → List ℕ
@@ -56,4 +56,4 @@ ascii [] = []
 ascii (Fnc1 ∷ m) = 232 ∷ ascii m
 ascii (Byte b ∷ []) = single b
 ascii (Byte b ∷ Fnc1 ∷ m) = single b ++ ascii (Fnc1 ∷ m)
-ascii (Byte b ∷ Byte c ∷ m) = if is_digit b && is_digit c then digit_pair b c ∷ ascii m else single b ++ ascii (Byte c ∷ m)
+ascii (Byte b ∷ Byte next ∷ m) = if is_digit b && is_digit next then digit_pair b next ∷ ascii m else single b ++ ascii (Byte next ∷ m)

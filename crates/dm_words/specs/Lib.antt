@@ -7,6 +7,7 @@ pub mod Ascii
 pub mod Pads
 pub mod Values
 pub mod Runs
+pub mod RunFaults
 pub mod Base256
 pub mod NormalForm
 pub mod Spells

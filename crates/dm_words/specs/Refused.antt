@@ -8,7 +8,7 @@ use Rattle.dm_words.specs.declared.codeword.Codeword.TheVariants as codeword
 use Rattle.dm_words.specs.declared.c40.set.CodeSet.{CodeSet}
 use Rattle.dm_words.specs.Codewords.{codeword_of}
 use Rattle.dm_words.specs.Joined.{Piece, spelled, AreJoined}
-use Rattle.dm_words.specs.Runs.{IsFaultyRun}
+use Rattle.dm_words.specs.RunFaults.{IsFaultyRun}
 use Rattle.dm_words.specs.Base256.{IsFaultySegment}
 use Rattle.dm_words.specs.Spells.{IsPart}
 

@@ -69,10 +69,10 @@ pub fn pairs_of(words: &[u8]) -> Pairs
     let mut at = 0;
     loop {
         match pair_at(words, at) {
-            Pair::Values(a, b, c) => {
-                values.push(a);
-                values.push(b);
-                values.push(c);
+            Pair::Values(first, second, third) => {
+                values.push(first);
+                values.push(second);
+                values.push(third);
                 at += 2;
             }
             Pair::Stops(end) => {

@@ -1,7 +1,7 @@
 //! Runs: a latch, pairs and an end.
 
 ghost use Rattle.std.specs.Prelude.{◌≡◌, ◌+◌, ◌*◌, ◌/◌, ◌^◌, ◌≤◌, ◌<◌, length, drop};
-ghost use Rattle.dm_words.specs.Runs.{pair_place as pair_place_of};
+ghost use Rattle.dm_words.specs.RunFaults.{pair_place as pair_place_of};
 ghost use Rattle.dm_words.specs.inner.Scan.Fronts.{run_fault, run_front};
 ghost use Rattle.dm_words.specs.inner.Scan.Answers.{IsPartTaken};
 

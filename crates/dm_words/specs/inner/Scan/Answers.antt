@@ -31,7 +31,7 @@ IsSmall v = v < 40
 
 -- The pair is the one at the front.
 abbrev pub GivesPair : Pair → Step (List ℕ) PairsEnd → Type 0
-GivesPair (pair.Values a b c) step = (step ≡ Takes 2 (a ∷ b ∷ c ∷ [])) × (a < 40) × (b < 40) × (c < 40)
+GivesPair (pair.Values first second third) step = (step ≡ Takes 2 (first ∷ second ∷ third ∷ [])) × (first < 40) × (second < 40) × (third < 40)
 GivesPair (pair.Stops end) step = step ≡ Stops end
 
 -- The spelling is the one at the front.

@@ -17,7 +17,7 @@ use Rattle.dm_words.specs.declared.c40.value.Rest.{Rest}
 use Rattle.dm_words.specs.declared.c40.value.Rest.TheVariants as rest
 use Rattle.dm_words.specs.Codewords.{codeword_of}
 use Rattle.dm_words.specs.CodeSets.{basic_of, shifted_of}
-use Rattle.dm_words.specs.Runs.{pair_place}
+use Rattle.dm_words.specs.RunFaults.{pair_place}
 use Rattle.dm_words.specs.Base256.{random_at, byte_items, long_count}
 use Rattle.dm_words.specs.inner.Scan.Walk.{Step, Takes, Stops, Walked, walk, walk_all, flat}
 

@@ -5,14 +5,14 @@ use Rattle.dm_words.specs.inner.Scan.Fronts.{pairs_in}
 use Rattle.dm_words.proofs.RunLoops.{pairs_turn, pairs_stop}
 use Rattle.dm_words.proofs.c40.pair.pairs_of.Goals as goal
 
-pub loop-a-preserved : goal.loop-a-preserved
-loop-a-preserved c =
-    let v = c.loop-a.invariant in
+pub loop-first-preserved : goal.loop-first-preserved
+loop-first-preserved c =
+    let v = c.loop-first.invariant in
     let g = c.in-Values.ensures in
-    let xs = c.loop-a.values.items in
-    let is : c.push-in-Values-2.new.self.items ≡ ((xs ++ c.in-Values.a ∷ []) ++ c.in-Values.b ∷ []) ++ c.in-Values.c ∷ [] =
+    let xs = c.loop-first.values.items in
+    let is : c.push-in-Values-2.new.self.items ≡ ((xs ++ c.in-Values.first ∷ []) ++ c.in-Values.second ∷ []) ++ c.in-Values.third ∷ [] =
     rw (c.push-in-Values-2.ensures.items, c.push-in-Values.ensures.items, c.push.ensures.items) refl in
-    let t = pairs_turn c.args.words.now c.loop-a.at c.in-Values.a c.in-Values.b c.in-Values.c xs c.push-in-Values-2.new.self.items (pairs_in c.args.words.now) (λ i. omega (arith, c.type_inv.words i)) v.in_range g.0 is v.so_far in
+    let t = pairs_turn c.args.words.now c.loop-first.at c.in-Values.first c.in-Values.second c.in-Values.third xs c.push-in-Values-2.new.self.items (pairs_in c.args.words.now) (λ i. omega (arith, c.type_inv.words i)) v.in_range g.0 is v.so_far in
     record {
       in_range = t.1;
       room = omega (arith, v.room, c.push-in-Values-2.ensures.len, c.push-in-Values.ensures.len, c.push.ensures.len);
@@ -21,10 +21,10 @@ loop-a-preserved c =
     }
 
 pub returns-in-Stops-clause-values : goal.returns-in-Stops-clause-values
-returns-in-Stops-clause-values c = (pairs_stop c.args.words.now c.loop-a.at c.loop-a.values.items c.in-Stops.end (pairs_in c.args.words.now) c.in-Stops.ensures c.loop-a.invariant.so_far).values
+returns-in-Stops-clause-values c = (pairs_stop c.args.words.now c.loop-first.at c.loop-first.values.items c.in-Stops.end (pairs_in c.args.words.now) c.in-Stops.ensures c.loop-first.invariant.so_far).values
 
 pub returns-in-Stops-clause-count : goal.returns-in-Stops-clause-count
-returns-in-Stops-clause-count c = (pairs_stop c.args.words.now c.loop-a.at c.loop-a.values.items c.in-Stops.end (pairs_in c.args.words.now) c.in-Stops.ensures c.loop-a.invariant.so_far).place_is
+returns-in-Stops-clause-count c = (pairs_stop c.args.words.now c.loop-first.at c.loop-first.values.items c.in-Stops.end (pairs_in c.args.words.now) c.in-Stops.ensures c.loop-first.invariant.so_far).place_is
 
 pub returns-in-Stops-clause-end : goal.returns-in-Stops-clause-end
-returns-in-Stops-clause-end c = (pairs_stop c.args.words.now c.loop-a.at c.loop-a.values.items c.in-Stops.end (pairs_in c.args.words.now) c.in-Stops.ensures c.loop-a.invariant.so_far).why_is
+returns-in-Stops-clause-end c = (pairs_stop c.args.words.now c.loop-first.at c.loop-first.values.items c.in-Stops.end (pairs_in c.args.words.now) c.in-Stops.ensures c.loop-first.invariant.so_far).why_is

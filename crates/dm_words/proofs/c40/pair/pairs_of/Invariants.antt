@@ -4,13 +4,13 @@ use Rattle.dm_words.specs.inner.Scan.Fronts.{pairs_in}
 use Rattle.dm_words.proofs.RunLoops.{PairsGoOn}
 use Rattle.dm_words.proofs.c40.pair.pairs_of.Given as goal
 
-abbrev pub invariant-loop-a : goal.invariant-loop-a
-invariant-loop-a l = record {
+abbrev pub invariant-loop-first : goal.invariant-loop-first
+invariant-loop-first l = record {
   in_range : l.at ≤ length l.words;
   room : 2 * length l.values.items ≡ 3 * l.at;
   small : All IsSmall l.values.items;
   so_far : PairsGoOn l.words (pairs_in l.words) l.values.items l.at;
 }
 
-abbrev pub decreases-loop-a : goal.decreases-loop-a
-decreases-loop-a l = length l.words - l.at
+abbrev pub decreases-loop-first : goal.decreases-loop-first
+decreases-loop-first l = length l.words - l.at

@@ -1,0 +1,86 @@
+-- What is wrong with a run of C40, Text or X12, and at which place.
+use Rattle.std.specs.Prelude.{◌≡◌, ◌≢◌, ℕ, ◌+◌, ◌*◌, ◌/◌, ◌<◌, List, ◌∷◌, ◌++◌, length, ◌⊎◌, Some}
+use Rattle.std.specs.List.{AllByRecursion}
+use Rattle.dm_words.specs.declared.item.Item.{Item}
+use Rattle.dm_words.specs.declared.fault.WordFault.{WordFault}
+use Rattle.dm_words.specs.declared.fault.WordFault.TheVariants as fault
+use Rattle.dm_words.specs.declared.codeword.Codeword.TheVariants as codeword
+use Rattle.dm_words.specs.declared.c40.set.CodeSet.{CodeSet}
+use Rattle.dm_words.specs.Codewords.{codeword_of}
+use Rattle.dm_words.specs.Joined.{Piece, spelled, gathered}
+use Rattle.dm_words.specs.Values.{IsSpelling, IsFiller, IsWaiting, BeginsWithoutMeaning, BeginsWrongUpperShift}
+use Rattle.dm_words.specs.Runs.{IsPair, IsRunEnd}
+
+-- The codewords, up to the end of the symbol, begin with the end of the run.
+pub record EndsRun (words : List ℕ) : Type 0 where
+  pub end : List ℕ
+  pub after : List ℕ
+  pub ended : IsRunEnd end after
+  pub whole : words ≡ end ++ after
+
+-- The codewords begin with a bad pair: its number is 0 or more than 64000. No pair begins with the unlatch.
+pub record BeginsBadPair (words : List ℕ) : Type 0 where
+  pub high : ℕ
+  pub low : ℕ
+  pub more : List ℕ
+  pub no_unlatch : high ≢ 254
+  pub is_bad : (256 * high + low ≡ 0) ⊎ (64000 < 256 * high + low)
+  pub whole : words ≡ high ∷ low ∷ more
+
+-- No further pair follows: the codewords begin with the end of the run or with a bad pair.
+abbrev pub StopsPairs : List ℕ → Type 0
+StopsPairs words = EndsRun words ⊎ BeginsBadPair words
+
+-- A run as far as its pairs go: where its latch stands, its codewords, and the values of its pairs.
+pub record OpenRun : Type 0 where
+  -- the place of the latch
+  pub place : ℕ
+  -- how many codewords the pairs have
+  pub pair_words : ℕ
+  -- the codewords behind the pairs, up to the end of the symbol
+  pub others : List ℕ
+  -- how many values the whole spellings have
+  pub spelled_values : ℕ
+  -- the values behind the whole spellings
+  pub rest : List ℕ
+
+-- The place of the pair that holds the value of an index, which counts all values of the run from 0. The latch stands at `place`.
+abbrev pub pair_place : ℕ → ℕ → ℕ
+pair_place place index = place + 1 + 2 * (index / 3)
+
+-- The place of the pair that holds the value of an index, which counts the values behind the whole spellings from 0.
+abbrev pub rest_place : OpenRun → ℕ → ℕ
+rest_place run index = pair_place run.place (run.spelled_values + index)
+
+-- What is wrong with a run. The first value that is wrong decides; where none is, a bad pair; where there is none, an Upper Shift that waits.
+pub data IsRunFault (set : CodeSet) (run : OpenRun) (why : WordFault) : Type 0 where
+  -- a value without meaning after a shift
+  value : (index : ℕ) → BeginsWithoutMeaning set run.rest index → StopsPairs run.others
+      → why ≡ fault.Value (rest_place run index) → IsRunFault set run why
+  -- an Upper Shift before FNC1 or another Upper Shift; the fault names the pair of its second value, 30
+  upper_shift : BeginsWrongUpperShift set run.rest → StopsPairs run.others
+      → why ≡ fault.UpperShift (rest_place run 1) → IsRunFault set run why
+  -- a bad pair
+  triplet : IsFiller set run.rest ⊎ IsWaiting set run.rest → BeginsBadPair run.others
+      → why ≡ fault.Triplet (run.place + 1 + run.pair_words) → IsRunFault set run why
+  -- an Upper Shift that waits where the run ends; the fault names the pair of its second value, 30
+  unfinished : IsWaiting set run.rest → EndsRun run.others
+      → why ≡ fault.Unfinished (rest_place run 1) → IsRunFault set run why
+
+-- A faulty run: a latch, its pairs up to the end of the run or up to the first bad pair, and what is wrong with them. The values of the pairs,
+-- joined, are whole spellings and a rest.
+pub record IsFaultyRun (set : CodeSet) (place : ℕ) (words : List ℕ) (why : WordFault) : Type 0 where
+  pub latch : ℕ
+  pub is_latch : codeword_of latch ≡ Some (codeword.Latch set)
+  pub pairs : List (Piece (List ℕ))
+  pub each : AllByRecursion (λ p. IsPair p.words p.what) pairs
+  pub others : List ℕ
+  pub whole : words ≡ latch ∷ (spelled pairs ++ others)
+  pub spellings : List (Piece Item)
+  pub each_spelling : AllByRecursion (λ p. IsSpelling set p.words p.what) spellings
+  pub rest : List ℕ
+  pub values : gathered pairs ≡ spelled spellings ++ rest
+  pub is_fault :
+      IsRunFault set
+      (record { place = place; pair_words = length (spelled pairs); others = others; spelled_values = length (spelled spellings); rest = rest })
+      why
