@@ -15,7 +15,7 @@ use Rattle.dm_words.specs.NormalForm.{normal_form}
 use Rattle.dm_words.specs.Pads.{padded}
 use Rattle.dm_words.specs.Messages.{IsMessage}
 use Rattle.dm_symbol.specs.Blocks.{symbol, AreWordsOf, BlocksAreCodewords, block_at, data_part}
-use Rattle.dm_symbol.specs.NormalGrid.{IsNormalGrid, HasNormalGrid}
+use Rattle.dm_symbol.specs.NormalGrid.{IsNormalGrid, FitsSomeSize}
 use Rattle.dm_symbol.proofs.SizeFacts.{size_facts, holds_that_many}
 use Rattle.dm_symbol.proofs.Completion.{data_stays}
 use Rattle.dm_symbol.proofs.WriteSteps.{laid_is_normal}
@@ -98,7 +98,7 @@ checks_for size data_words row long bytes =
     }
 
 -- A message that some size holds has a normal grid.
-pub normal_grid_is_there : (p : Profile) (m : List Item) → IsMessage m → HasNormalGrid p m → (grid : GridView) × IsNormalGrid p m grid
+pub normal_grid_is_there : (p : Profile) (m : List Item) → IsMessage m → FitsSomeSize p m → (grid : GridView) × IsNormalGrid p m grid
 normal_grid_is_there p m h fits = of_size (row_for_words (length (normal_form p m))) refl fits
   where
     of_size : (o : Option SizeRow) → row_for_words (length (normal_form p m)) ≡ o → IsSome o → (grid : GridView) × IsNormalGrid p m grid

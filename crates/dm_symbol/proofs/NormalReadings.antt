@@ -12,7 +12,7 @@ use Rattle.dm_symbol.specs.declared.reading.ReadFault.{ReadFault}
 use Rattle.dm_symbol.specs.declared.normalising.NormalFault.{NormalFault}
 use Rattle.dm_symbol.specs.declared.normalising.NormalFault.TheVariants.{Read, TooLong}
 use Rattle.dm_symbol.specs.Blocks.{block_at, distances}
-use Rattle.dm_symbol.specs.NormalGrid.{IsNormalGrid, HasNormalGrid}
+use Rattle.dm_symbol.specs.NormalGrid.{IsNormalGrid, FitsSomeSize}
 use Rattle.dm_symbol.specs.Reading.{IsCorrected, Reads, ReadAnswer, reading_of}
 use Rattle.dm_symbol.specs.Normal.{HasNormal, HasNoNormal, NormalAnswer, IsNormalised}
 use Rattle.dm_symbol.proofs.Distances.{differing_same}
@@ -72,8 +72,8 @@ pub normal_grids_tell : (p : Profile) (m n : List Item) (g h : GridView) → IsM
 normal_grids_tell p m n g h hm hn ng nh =
     (λ e. normal_message_is_one p m n h hm hn (subst (λ x. IsNormalGrid p m x) e ng) nh, λ e. normal_grid_is_one p n g h (subst (λ x. IsNormalGrid p x g) e ng) nh)
 
--- A message with a normal grid isn't too long for one.
-pub normal_grid_fits : (p : Profile) (m : List Item) (g : GridView) → IsNormalGrid p m g → HasNormalGrid p m
+-- A message with a normal grid fits some size.
+pub normal_grid_fits : (p : Profile) (m : List Item) (g : GridView) → IsNormalGrid p m g → FitsSomeSize p m
 normal_grid_fits p m g n = subst IsSome (sym n.smallest) refl
 
 -- The normal grid of what is read is one.
@@ -86,7 +86,7 @@ one_normal p grid n o k l hn ho =
 not_too_long : (p : Profile) (grid n : GridView) (k l : ℕ) → HasNormal p grid k n → HasNoNormal p grid l → ⊥
 not_too_long p grid n k l h none =
     let same = one_message grid k l h.message none.message h.read none.read in
-    none.too_long (subst (HasNormalGrid p) same (normal_grid_fits p h.message n h.normal_grid))
+    none.too_long (subst (FitsSomeSize p) same (normal_grid_fits p h.message n h.normal_grid))
 
 -- A grid that is read has no fault of reading.
 no_fault : (grid : GridView) (limit : ℕ) (m : List Item) (why : ReadFault) → Reads grid limit m → ReadAnswer grid limit (Err why) → ⊥
@@ -130,7 +130,7 @@ answer_moves p g h k l m answer rg rh (NormalAnswer.normal n a e) =
     NormalAnswer.normal n (record { message = m; read = rh; normal_grid = subst (λ x. IsNormalGrid p x n) same a.normal_grid }) e
 answer_moves p g h k l m answer rg rh (NormalAnswer.too_long a e) =
     let same = one_message g k k a.message m a.read rg in
-    NormalAnswer.too_long (record { message = m; read = rh; too_long = subst (λ x. HasNormalGrid p x → ⊥) same a.too_long }) e
+    NormalAnswer.too_long (record { message = m; read = rh; too_long = subst (λ x. FitsSomeSize p x → ⊥) same a.too_long }) e
 answer_moves p g h k l m answer rg rh (NormalAnswer.fault why a e) = absurd (no_fault g k m why rg a)
 
 -- So the last of two profiles decides.

@@ -10,7 +10,7 @@ use Rattle.dm_layout.specs.Holds.{IsLaid}
 use Rattle.dm_words.specs.NormalForm.{normal_form}
 use Rattle.dm_words.specs.Pads.{padded}
 use Rattle.dm_symbol.specs.Blocks.{symbol, BlocksAreCodewords, data_part}
-use Rattle.dm_symbol.specs.NormalGrid.{IsNormalGrid, HasNormalGrid, IsWritten}
+use Rattle.dm_symbol.specs.NormalGrid.{IsNormalGrid, FitsSomeSize, IsWritten}
 use Rattle.std.proofs.lemmas.Bool.{false≢true}
 use Rattle.dm_symbol.proofs.SizeFacts.{size_facts, holds_that_many}
 use Rattle.dm_symbol.proofs.NormalGrids.{normal_grid_is_one}
@@ -37,8 +37,8 @@ none_for_more count (Some s) e long is =
     omega (arith, long, here.1, (size_facts s here.0).few_data)
 none_for_more count None e long is = absurd (false≢true is)
 
--- A message whose normal form is longer than the largest size holds has no normal grid's size.
-pub too_long_fits_none : (p : Profile) (m : List Item) → most_data < length (normal_form p m) → HasNormalGrid p m → ⊥
+-- A message whose normal form is longer than the largest size holds fits no size.
+pub too_long_fits_none : (p : Profile) (m : List Item) → most_data < length (normal_form p m) → FitsSomeSize p m → ⊥
 too_long_fits_none p m long fits = none_for_more (length (normal_form p m)) (row_for_words (length (normal_form p m))) refl long fits
 
 -- The normal grid is what is to be answered.
@@ -51,7 +51,7 @@ is_written p m grid n = record {
 }
 
 -- A message that no size holds is refused.
-pub none_is_written : (p : Profile) (m : List Item) (answer : Result GridView TooLong) → IsErr answer → (HasNormalGrid p m → ⊥) → IsWritten p m answer
+pub none_is_written : (p : Profile) (m : List Item) (answer : Result GridView TooLong) → IsErr answer → (FitsSomeSize p m → ⊥) → IsWritten p m answer
 none_is_written p m (Ok grid) is none = absurd (false≢true is)
 none_is_written p m (Err e) is none = record {
   normal = tt;

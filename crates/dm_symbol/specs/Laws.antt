@@ -9,7 +9,7 @@ use Rattle.dm_words.specs.Messages.{IsMessage}
 use Rattle.dm_symbol.specs.declared.reading.Reading.{Reading}
 use Rattle.dm_symbol.specs.declared.reading.ReadFault.{ReadFault}
 use Rattle.dm_symbol.specs.declared.normalising.NormalFault.{NormalFault}
-use Rattle.dm_symbol.specs.NormalGrid.{IsNormalGrid, HasNormalGrid}
+use Rattle.dm_symbol.specs.NormalGrid.{IsNormalGrid, FitsSomeSize}
 use Rattle.dm_symbol.specs.Reading.{Reads, ReadAnswer, reading_of}
 use Rattle.dm_symbol.specs.Normal.{HasNormal, NormalAnswer}
 
@@ -39,9 +39,9 @@ abbrev pub ANormalAnswerIsGiven : Type 0
 ANormalAnswerIsGiven = (profile : Profile) (grid : GridView) (limit : ℕ) → IsGrid grid
     → (answer : Result GridView NormalFault) × NormalAnswer profile grid limit answer
 
--- A message whose normal form some size holds has a normal grid.
+-- A message that fits some size has a normal grid.
 abbrev pub ANormalGridIsThere : Type 0
-ANormalGridIsThere = (profile : Profile) (m : List Item) → IsMessage m → HasNormalGrid profile m → (grid : GridView) × IsNormalGrid profile m grid
+ANormalGridIsThere = (profile : Profile) (m : List Item) → IsMessage m → FitsSomeSize profile m → (grid : GridView) × IsNormalGrid profile m grid
 
 -- The normal grid of a message is read as it for every limit, with nothing corrected in any block and no border fault, and has no
 -- other answer.

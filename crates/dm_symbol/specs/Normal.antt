@@ -6,7 +6,7 @@ use Rattle.dm_layout.specs.Grid.{GridView}
 use Rattle.dm_symbol.specs.declared.reading.ReadFault.{ReadFault}
 use Rattle.dm_symbol.specs.declared.normalising.NormalFault.{NormalFault}
 use Rattle.dm_symbol.specs.declared.normalising.NormalFault.TheVariants.{Read, TooLong}
-use Rattle.dm_symbol.specs.NormalGrid.{IsNormalGrid, HasNormalGrid}
+use Rattle.dm_symbol.specs.NormalGrid.{IsNormalGrid, FitsSomeSize}
 use Rattle.dm_symbol.specs.Reading.{Reads, ReadAnswer}
 
 -- the grid is read as a message, and this is the normal grid of that message
@@ -19,7 +19,7 @@ pub record HasNormal (profile : Profile) (grid : GridView) (limit : ℕ) (normal
 pub record HasNoNormal (profile : Profile) (grid : GridView) (limit : ℕ) : Type 0 where
   pub message : List Item
   pub read : Reads grid limit message
-  pub too_long : HasNormalGrid profile message → ⊥
+  pub too_long : FitsSomeSize profile message → ⊥
 
 -- the answer for a grid: the normal grid of the message as which it is read; that this message has none; or the fault of reading
 pub data NormalAnswer (profile : Profile) (grid : GridView) (limit : ℕ) (answer : Result GridView NormalFault) : Type 0 where

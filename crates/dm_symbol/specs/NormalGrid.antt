@@ -10,9 +10,9 @@ use Rattle.dm_words.specs.NormalForm.{normal_form}
 use Rattle.dm_words.specs.Pads.{padded}
 use Rattle.dm_symbol.specs.Blocks.{symbol, BlocksAreCodewords, data_part}
 
--- the message has a normal grid: some size has at least as many data codewords as its normal form has codewords
-abbrev pub HasNormalGrid : Profile → List Item → Type 0
-HasNormalGrid profile m = IsSome (row_for_words (length (normal_form profile m)))
+-- the message fits some size: one that has at least as many data codewords as its normal form has codewords
+abbrev pub FitsSomeSize : Profile → List Item → Type 0
+FitsSomeSize profile m = IsSome (row_for_words (length (normal_form profile m)))
 
 -- the grid is the normal grid of the message
 pub record IsNormalGrid (profile : Profile) (m : List Item) (grid : GridView) : Type 0 where
@@ -30,5 +30,5 @@ pub record IsNormalGrid (profile : Profile) (m : List Item) (grid : GridView) : 
 pub record IsWritten (profile : Profile) (m : List Item) (answer : Result GridView TooLong) : Type 0 where
   pub normal : IfOk answer (λ grid. IsNormalGrid profile m grid)
   pub one : IfOk answer (λ grid. (other : GridView) → IsNormalGrid profile m other → other ≡ grid)
-  pub fits : IsOk answer ↔ HasNormalGrid profile m
+  pub fits : IsOk answer ↔ FitsSomeSize profile m
   pub none : OnErr answer ((grid : GridView) → IsNormalGrid profile m grid → ⊥)

@@ -10,7 +10,7 @@ use Rattle.dm_symbol.specs.Sizes.{SizeRow, size_table}
 use Rattle.dm_symbol.specs.Grid.{GridView}
 use Rattle.dm_symbol.specs.Reading.{ReadAnswer}
 use Rattle.dm_symbol.specs.Normal.{NormalAnswer}
-use Rattle.dm_symbol.specs.NormalGrid.{IsNormalGrid, HasNormalGrid}
+use Rattle.dm_symbol.specs.NormalGrid.{IsNormalGrid, FitsSomeSize}
 use Rattle.dm_tool.specs.declared.task.Task.{Task}
 use Rattle.dm_tool.specs.declared.task.Task.TheVariants.{Read, Check, Normal, Write, Table}
 use Rattle.dm_tool.specs.Texts.{lf, ended}
@@ -119,7 +119,7 @@ IsRecordAnswer Table record_answer answer = ⊥
 -- What is written for a message: its normal grid under a profile, or that it has none.
 pub data IsMessageAnswer (profile : Profile) (message : List Item) (answer : Answer) : Type 0 where
   normal_grid : (grid : GridView) → IsNormalGrid profile message grid → answer ≡ grid_answer grid → IsMessageAnswer profile message answer
-  too_long : (HasNormalGrid profile message → ⊥) → answer ≡ blank_refusal_answer too_long_refusal → IsMessageAnswer profile message answer
+  too_long : (FitsSomeSize profile message → ⊥) → answer ≡ blank_refusal_answer too_long_refusal → IsMessageAnswer profile message answer
 
 -- What is written for a message line under a profile.
 abbrev pub IsWriteAnswer : Profile → LineAnswer → Answer → Type 0

@@ -11,7 +11,7 @@ use Rattle.dm_symbol.specs.declared.Profile.{Profile}
 use Rattle.dm_symbol.specs.Sizes.{SizeRow, row_for_words}
 use Rattle.dm_symbol.specs.Messages.{IsItem, IsMessage}
 use Rattle.dm_symbol.specs.NormalForm.{normal_form}
-use Rattle.dm_symbol.specs.NormalGrid.{HasNormalGrid}
+use Rattle.dm_symbol.specs.NormalGrid.{FitsSomeSize}
 use Rattle.dm_symbol.proofs.Exported.{holds_that_many, size_facts}
 use Rattle.dm_words.proofs.Exported.{normal_form_items}
 use Rattle.ecc200.specs.Items.{number_of, numbers_of}
@@ -44,8 +44,8 @@ none_found count (Some size) e many h =
     omega (arith, row.1, (size_facts size row.0).few_data, many)
 none_found count None e many h = false≢true h
 
--- A message of more than 1,632 items has no normal grid.
-pub too_many : (profile : Profile) (m : List Item) (numbers : List ℕ) → numbers_of m ≡ numbers → 1632 < length numbers → HasNormalGrid profile m → ⊥
+-- A message of more than 1,632 items fits no size.
+pub too_many : (profile : Profile) (m : List Item) (numbers : List ℕ) → numbers_of m ≡ numbers → 1632 < length numbers → FitsSomeSize profile m → ⊥
 too_many profile m numbers e many h =
     let count : length m ≡ length numbers = sym (length-map m number_of) ∙ ap length e in
     none_found (length (normal_form profile m)) (row_for_words (length (normal_form profile m))) refl (omega (arith, normal_form_items profile m, count, many)) h

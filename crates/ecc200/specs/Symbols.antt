@@ -6,7 +6,7 @@ use Rattle.dm_symbol.specs.declared.Profile.TheVariants.{Ascii, Shorter}
 use Rattle.dm_symbol.specs.declared.NormalFault.{NormalFault}
 use Rattle.dm_symbol.specs.Grid.{GridView}
 use Rattle.dm_symbol.specs.Messages.{IsMessage}
-use Rattle.dm_symbol.specs.NormalGrid.{IsNormalGrid, HasNormalGrid}
+use Rattle.dm_symbol.specs.NormalGrid.{IsNormalGrid, FitsSomeSize}
 use Rattle.dm_symbol.specs.Normal.{NormalAnswer}
 use Rattle.ecc200.specs.declared.fault.Fault.{Fault}
 use Rattle.ecc200.specs.declared.symbol.SymbolOut.{SymbolOut}
@@ -36,7 +36,7 @@ profile_of number = if nat_eq number 0 then Some Ascii else (if nat_eq number 1 
 -- more; that the message has no normal grid; or its normal grid.
 pub data WrittenAnswer (profile : Profile) (numbers : List ℕ) (answer : Result GridView Fault) : Type 0 where
   no_message : (place : ℕ) → IsFirstForeign numbers place → answer ≡ Err (foreign (get_or numbers place 0) (min place 65535)) → WrittenAnswer profile numbers answer
-  no_grid : (m : List Item) → IsMessage m → numbers_of m ≡ numbers → (HasNormalGrid profile m → ⊥) → answer ≡ Err too_long → WrittenAnswer profile numbers answer
+  no_grid : (m : List Item) → IsMessage m → numbers_of m ≡ numbers → (FitsSomeSize profile m → ⊥) → answer ≡ Err too_long → WrittenAnswer profile numbers answer
   normal : (m : List Item) (grid : GridView) → IsMessage m → numbers_of m ≡ numbers → IsNormalGrid profile m grid → answer ≡ Ok grid → WrittenAnswer profile numbers answer
 
 -- The answer to modules under a profile: why they make no grid; why their grid has no normal grid; or its normal grid.
