@@ -9,6 +9,9 @@ use std::marker::Model;
 /// The largest side of a symbol, in cells.
 pub const LARGEST_SIDE: usize = 104;
 
+/// The most data codewords of a symbol.
+pub const MOST_DATA: usize = 816;
+
 /// The most codewords of a symbol, data and check together.
 pub const MOST_CODEWORDS: usize = 1152;
 

@@ -6,9 +6,9 @@ ghost use Rattle.dm_words.specs.NormalForm.{has_fnc1};
 ghost use Rattle.dm_words.specs.inner.Scan.Answers.{BeginsAscii, IsSingle};
 
 use crate::item::Item;
-use crate::limits::{MOST_DATA, MOST_ITEMS};
+use crate::limits::MOST_ITEMS;
 use arrayvec::ArrayVec;
-use dm_layout::MOST_CODEWORDS;
+use dm_layout::{MOST_CODEWORDS, MOST_DATA};
 
 const UPPER_SHIFT: u8 = 235;
 

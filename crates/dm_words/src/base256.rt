@@ -9,10 +9,10 @@ ghost use Rattle.dm_words.specs.inner.Scan.Answers.{IsPartTaken};
 
 use crate::fault::WordFault;
 use crate::item::{Item, byte};
-use crate::limits::{MOST_DATA, MOST_ITEMS};
+use crate::limits::MOST_ITEMS;
 use crate::message::Message;
 use arrayvec::ArrayVec;
-use dm_layout::MOST_CODEWORDS;
+use dm_layout::{MOST_CODEWORDS, MOST_DATA};
 
 const LATCH: u8 = 231;
 

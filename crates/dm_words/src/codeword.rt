@@ -4,8 +4,8 @@ ghost use Rattle.std.specs.Prelude.{◌≡◌, ◌≤◌, length};
 ghost use Rattle.dm_words.specs.Codewords.{codeword_of};
 
 use crate::c40::set::CodeSet;
-use crate::limits::MOST_DATA;
 use arrayvec::ArrayVec;
+use dm_layout::MOST_DATA;
 
 /// What a codeword means where ASCII encodation is in force.
 #[derive(Clone, Copy, Debug, PartialEq, Eq)]

@@ -18,7 +18,8 @@ ghost use Rattle.dm_words.specs.Values.{IsRest};
 ghost use Rattle.dm_words.specs.Spells.{Spells};
 ghost use Rattle.dm_words.specs.Laws.{HasOneAnswer, AreCodewords, AreRunValues, BeginsNoSpelling};
 
-use crate::limits::{MOST_DATA, MOST_ITEMS};
+use crate::limits::MOST_ITEMS;
+use dm_layout::MOST_DATA;
 
 /// A list of codewords, however long, spells exactly one message and is refused with no fault, or is refused with exactly one
 /// fault and spells none.

@@ -22,9 +22,10 @@ mod reading;
 #[cfg(test)]
 mod tests;
 
+pub use dm_layout::MOST_DATA;
 pub use fault::{TooLong, WordFault};
 pub use item::Item;
-pub use limits::{MOST_DATA, MOST_ITEMS};
+pub use limits::MOST_ITEMS;
 pub use message::Message;
 pub use normal_form::{
     ascii_words, ascii_words_to, normal_words, normal_words_to, shorter_words, shorter_words_to,

@@ -1,7 +1,6 @@
-//! How much a symbol holds. A larger table of sizes changes the first line.
+//! How much the data codewords of a symbol hold.
 
-/// The most data codewords of a symbol.
-pub const MOST_DATA: usize = 816;
+use dm_layout::MOST_DATA;
 
 /// The most items of a message: two for each data codeword.
 pub const MOST_ITEMS: usize = 2 * MOST_DATA;

@@ -8,11 +8,10 @@ use crate::ascii::{AsciiForm, ascii_form, write_ascii};
 use crate::base256::{segment_length, write_segment};
 use crate::codeword::data_words;
 use crate::fault::TooLong;
-use crate::limits::MOST_DATA;
 use crate::message::Message;
 use crate::profile::Profile;
 use arrayvec::ArrayVec;
-use dm_layout::MOST_CODEWORDS;
+use dm_layout::{MOST_CODEWORDS, MOST_DATA};
 
 /// The ASCII codewords of a message: from the left, two digits in one codeword wherever two stand at the front. `TooLong` is
 /// answered exactly where they are more than `MOST_DATA`. No pad is among them. ISO/IEC 16022, ASCII encodation.

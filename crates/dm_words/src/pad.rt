@@ -4,9 +4,8 @@ ghost use Rattle.std.specs.Prelude.{◌≡◌, ◌≤◌, length};
 ghost use Rattle.dm_words.specs.Pads.{padded as padded_words, pad_at};
 
 use crate::codeword::data_words;
-use crate::limits::MOST_DATA;
 use arrayvec::ArrayVec;
-use dm_layout::{MOST_CODEWORDS, Size};
+use dm_layout::{MOST_CODEWORDS, MOST_DATA, Size};
 
 const FIRST_PAD: u8 = 129;
 

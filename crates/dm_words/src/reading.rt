@@ -15,8 +15,8 @@ use crate::c40::run::run_part;
 use crate::codeword::{Codeword, meaning};
 use crate::fault::WordFault;
 use crate::item::Item;
-use crate::limits::MOST_DATA;
 use crate::message::Message;
+use dm_layout::MOST_DATA;
 
 /// Takes the part at an index: adds its items to the message, and gives the number of its codewords; `None` at the end.
 fn next_part(words: &[u8], at: usize, message: &mut Message) -> Result<Option<usize>, WordFault>

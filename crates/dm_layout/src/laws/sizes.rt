@@ -4,7 +4,7 @@
 ghost use Rattle.std.specs.Prelude.{◌≡◌};
 ghost use Rattle.dm_layout.specs.Sizes.{IsGreatest, codeword_count, largest_side, most_data, most_codewords, most_blocks};
 
-use crate::size::{LARGEST_SIDE, MOST_BLOCKS, MOST_CODEWORDS};
+use crate::size::{LARGEST_SIDE, MOST_BLOCKS, MOST_CODEWORDS, MOST_DATA};
 
 /// The largest side and the most data codewords, codewords and blocks are those of the table: some size has as many,
 /// and none has more.
@@ -18,6 +18,7 @@ pub fn limits_are_those_of_the_table()
 /// The crate's constants are these limits.
 pub fn constants_are_the_limits()
     ensures side { LARGEST_SIDE ≡ largest_side }
+    ensures data { MOST_DATA ≡ most_data }
     ensures codewords { MOST_CODEWORDS ≡ most_codewords }
     ensures blocks { MOST_BLOCKS ≡ most_blocks }
 {}

@@ -5,8 +5,9 @@ ghost use Rattle.dm_words.specs.inner.Scan.Walk.{flat};
 ghost use Rattle.dm_words.specs.inner.Scan.Fronts.{pair_front, pairs_in};
 ghost use Rattle.dm_words.specs.inner.Scan.Answers.{GivesPair, IsSmall};
 
-use crate::limits::{MOST_DATA, MOST_VALUES};
+use crate::limits::MOST_VALUES;
 use arrayvec::ArrayVec;
+use dm_layout::MOST_DATA;
 
 const UNLATCH: u8 = 254;
 

@@ -9,8 +9,9 @@ use crate::c40::pair::{PairsEnd, pairs_of};
 use crate::c40::set::CodeSet;
 use crate::c40::value::{Rest, Spelled, read_values};
 use crate::fault::WordFault;
-use crate::limits::{MOST_DATA, MOST_VALUES};
+use crate::limits::MOST_VALUES;
 use crate::message::Message;
+use dm_layout::MOST_DATA;
 
 /// The place of the pair that holds the value of an index, in a run whose latch stands at a place.
 fn pair_place(place: u16, index: u16) -> u16

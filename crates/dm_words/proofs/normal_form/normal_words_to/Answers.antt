@@ -1,6 +1,6 @@
 use Rattle.std.proofs.Common.{◌≡◌, ◌∙◌, ◌≤◌, ap, sym, subst, refl, length, map, cond, arith}
 use Rattle.std.proofs.lemmas.Bool.{false≢true}
-use Rattle.dm_words.specs.declared.limits.TheConstants.{MOST_DATA}
+use Rattle.dm_layout.specs.declared.size.TheConstants.{MOST_DATA}
 use Rattle.dm_words.specs.Messages.{byte_of}
 use Rattle.dm_words.specs.Ascii.{ascii}
 use Rattle.dm_words.specs.NormalForm.{has_fnc1, normal_form, one_segment}
