@@ -102,7 +102,7 @@ normal_of_read : (p : Profile) (grid : GridView) (limit : ℕ) (m : List Item) �
 normal_of_read p grid limit m r =
     elim (fits_or_not (row_for_words (length (normal_form p m)))) [
       | inl fits ↦
-          let normal = normal_grid_is_there p m (spelled_is_message (data_part grid.size r.c) m r.spelled) fits in
+          let normal = normal_grid_is_there p m (spelled_is_message (data_part grid.size r.codewords) m r.spelled) fits in
           let h : HasNormal p grid limit normal.0 = record { message = m; read = r; normal_grid = normal.1 } in
           (Ok normal.0, NormalAnswer.normal normal.0 h refl)
       | inr none ↦ (Err TooLong, NormalAnswer.too_long (record { message = m; read = r; too_long = none }) refl)
@@ -122,7 +122,7 @@ normal_by_answer p grid limit answer (ReadAnswer.block u b few h first e) = norm
 normal_by_answer p grid limit answer (ReadAnswer.words u c why few h refused e) =
     normal_of_fault p grid limit answer (fault.Words why) e (ReadAnswer.words u c why few h refused e)
 normal_by_answer p grid limit answer (ReadAnswer.message u c m few h spelled e) =
-    normal_of_read p grid limit m (record { border = few; words = u; c = c; corrected = h; spelled = spelled })
+    normal_of_read p grid limit m (record { border = few; words = u; codewords = c; corrected = h; spelled = spelled })
 
 -- Each grid has an answer of `normal`.
 pub normal_answer_is_given : (p : Profile) (grid : GridView) (limit : ℕ) → IsGrid grid → (answer : Result GridView NormalFault) × NormalAnswer p grid limit answer

@@ -40,7 +40,7 @@ pub normal_reads : (p : Profile) (m : List Item) (grid : GridView) (limit : ℕ)
 normal_reads p m grid limit h n = record {
   border = omega (arith, n.laid.border);
   words = n.words;
-  c = n.words;
+  codewords = n.words;
   corrected = normal_is_corrected p m grid n;
   spelled = normal_words_spell p m grid h n;
 }

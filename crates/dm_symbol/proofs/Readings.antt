@@ -46,13 +46,13 @@ corrected_is_one grid u c v d hu hv =
 -- A grid is read as at most one message.
 pub one_message : (grid : GridView) (k l : ℕ) (m n : List Item) → Reads grid k m → Reads grid l n → m ≡ n
 one_message grid k l m n hm hn =
-    let same : hm.c ≡ hn.c = (corrected_is_one grid hm.words hm.c hn.words hn.c hm.corrected hn.corrected).1 in
-    one_spelled (data_part grid.size hn.c) m n (data_is_bytes grid.size hn.c hn.corrected.of_size)
+    let same : hm.codewords ≡ hn.codewords = (corrected_is_one grid hm.words hm.codewords hn.words hn.codewords hm.corrected hn.corrected).1 in
+    one_spelled (data_part grid.size hn.codewords) m n (data_is_bytes grid.size hn.codewords hn.corrected.of_size)
     (subst (λ c. Spells (data_part grid.size c) m) same hm.spelled) hn.spelled
 
 -- What is read is a message.
 pub read_is_message : (grid : GridView) (limit : ℕ) (m : List Item) → Reads grid limit m → IsMessage m
-read_is_message grid limit m h = spelled_is_message (data_part grid.size h.c) m h.spelled
+read_is_message grid limit m h = spelled_is_message (data_part grid.size h.codewords) m h.spelled
 
 -- Bytes are refused with at most one fault, and not where they spell a message.
 one_refused : (words : List ℕ) (a b : WordFault) → All (λ w. w < 256) words → Refused words a → Refused words b → a ≡ b
@@ -117,7 +117,7 @@ one_given grid limit a b (ReadAnswer.message u c m h hu spelled e) (ReadAnswer.b
 one_given grid limit a b (ReadAnswer.message u c m h hu spelled e) (ReadAnswer.words v d why k hv refused f) = absurd (not_both grid u c v d m why hu hv spelled refused)
 one_given grid limit a b (ReadAnswer.message u c m h hu spelled e) (ReadAnswer.message v d n k hv other f) =
     let same = corrected_is_one grid u c v d hu hv in
-    let message : m ≡ n = one_message grid limit limit m n (record { border = h; words = u; c = c; corrected = hu; spelled = spelled }) (record { border = k; words = v; c = d; corrected = hv; spelled = other }) in
+    let message : m ≡ n = one_message grid limit limit m n (record { border = h; words = u; codewords = c; corrected = hu; spelled = spelled }) (record { border = k; words = v; codewords = d; corrected = hv; spelled = other }) in
     e ∙ ap (λ x. Ok (reading_of x (distances grid.size u c) (border_fault_count grid))) message
     ∙ ap (λ x. Ok (reading_of n (distances grid.size x c) (border_fault_count grid))) same.0
     ∙ ap (λ x. Ok (reading_of n (distances grid.size v x) (border_fault_count grid))) same.1
@@ -125,8 +125,8 @@ one_given grid limit a b (ReadAnswer.message u c m h hu spelled e) (ReadAnswer.m
 
 -- The answer to a grid that is read as a message.
 pub answer_of_read : (grid : GridView) (limit : ℕ) (m : List Item) → (r : Reads grid limit m)
-    → ReadAnswer grid limit (Ok (reading_of m (distances grid.size r.words r.c) (border_fault_count grid)))
-answer_of_read grid limit m r = ReadAnswer.message r.words r.c m r.border r.corrected r.spelled refl
+    → ReadAnswer grid limit (Ok (reading_of m (distances grid.size r.words r.codewords) (border_fault_count grid)))
+answer_of_read grid limit m r = ReadAnswer.message r.words r.codewords m r.border r.corrected r.spelled refl
 
 -- The answer is a reading of a message exactly where the grid is read as it.
 pub read_by_answer : (grid : GridView) (limit : ℕ) (answer : Result Reading ReadFault) (m : List Item) → ReadAnswer grid limit answer → Reads grid limit m → IsReadAs answer m
@@ -139,4 +139,4 @@ reads_by_answer grid limit answer m (ReadAnswer.block u x h hu first e) is = abs
 reads_by_answer grid limit answer m (ReadAnswer.words u c why h hu refused e) is = absurd (subst (λ a. IsReadAs a m) e is)
 reads_by_answer grid limit answer m (ReadAnswer.message u c n h hu spelled e) is =
     let same : n ≡ m = subst (λ a. IsReadAs a m) e is in
-    record { border = h; words = u; c = c; corrected = hu; spelled = subst (λ x. Spells (data_part grid.size c) x) same spelled }
+    record { border = h; words = u; codewords = c; corrected = hu; spelled = subst (λ x. Spells (data_part grid.size c) x) same spelled }

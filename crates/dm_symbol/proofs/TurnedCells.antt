@@ -230,7 +230,7 @@ turned_reads p m normal others limit h n is_grid few at_least =
     record {
       border = omega (arith, border_changes size normal.rows others n.laid.border, few, at_least);
       words = held.0;
-      c = n.words;
+      codewords = n.words;
       corrected = record {
         words_held = held.1;
         of_size = n.laid.holds.codewords;

@@ -1,4 +1,4 @@
--- Which codewords a grid holds, and what becomes of them where each block that a codeword is near is corrected.
+-- Which codewords a grid holds, and which they are once each block that a codeword is near is corrected.
 use Rattle.std.specs.Prelude.{◌≡◌, ℕ, ◌<◌, List, Option, Some, None, length, get_or}
 use Rattle.dm_code.specs.Codeword.{IsNear, distance}
 use Rattle.dm_layout.specs.Sizes.{block_check}
@@ -9,14 +9,14 @@ use Rattle.dm_symbol.specs.declared.inspection.Inspection.{Inspection}
 use Rattle.dm_symbol.specs.Blocks.{AreWordsOf, block_at}
 use Rattle.dm_symbol.specs.Reading.{HasNear}
 
--- what becomes of a block with k check codewords: the codeword that is near it, which differs from it in `count` places; or the block
--- itself, where no codeword is near
+-- A block with k check codewords, mended: it becomes the codeword that is near it, which differs from it at `count` places; or it stays as
+-- it is, where no codeword is near.
 abbrev pub IsMended : ℕ → List ℕ → List ℕ → Option ℕ → Type 0
 IsMended k block mended (Some count) = IsNear k block mended × (count ≡ distance block mended)
 IsMended k block mended None = (HasNear k block → ⊥) × (mended ≡ block)
 
--- the codewords that the grid holds; the corrected codewords, in which each block is the codeword near the held block, or the held block
--- itself where there is none; for each block in how many places these differ; and how many border cells have the other colour
+-- The inspection of a grid: the codewords that it holds; the same, with each block mended; for each block the number of places at which
+-- these differ; and how many modules of the borders have the wrong colour.
 pub record IsInspection (grid : GridView) (inspection : Inspection) : Type 0 where
   pub held : Holds grid inspection.held
   pub same_size : inspection.mended.size ≡ grid.size

@@ -21,7 +21,7 @@ NormalGridsTellMessages = (profile : Profile) (m n : List Item) (g h : GridView)
 abbrev pub OneMessageIsRead : Type 0
 OneMessageIsRead = (grid : GridView) (k l : ℕ) (m n : List Item) → Reads grid k m → Reads grid l n → m ≡ n
 
--- A grid has at most one answer for a limit.
+-- A grid has at most one answer of reading for a limit.
 abbrev pub OneAnswerIsGiven : Type 0
 OneAnswerIsGiven = (grid : GridView) (limit : ℕ) (a b : Result Reading ReadFault) → ReadAnswer grid limit a → ReadAnswer grid limit b → a ≡ b
 
@@ -30,7 +30,7 @@ abbrev pub OneNormalAnswerIsGiven : Type 0
 OneNormalAnswerIsGiven = (profile : Profile) (grid : GridView) (limit : ℕ) (a b : Result GridView NormalFault) → NormalAnswer profile grid limit a
     → NormalAnswer profile grid limit b → a ≡ b
 
--- A grid has some answer for each limit.
+-- A grid has some answer of reading for each limit.
 abbrev pub AnAnswerIsGiven : Type 0
 AnAnswerIsGiven = (grid : GridView) (limit : ℕ) → IsGrid grid → (answer : Result Reading ReadFault) × ReadAnswer grid limit answer
 
@@ -50,29 +50,29 @@ NormalGridIsRead = (profile : Profile) (m : List Item) (grid : GridView) (limit 
     → IsNormalGrid profile m grid
     → ReadAnswer grid limit answer ↔ (answer ≡ Ok (reading_of m (replicate grid.size.blocks 0) 0))
 
--- At how many cells two grids of one side differ.
+-- The number of cells at which two grids of one side differ.
 abbrev pub turned_cells : GridView → GridView → ℕ
 turned_cells g h =
     sum_by (λ row. count_by (λ column. not (beq (cell_at g row column) (cell_at h row column))) (range_with_len 0 g.size.side)) (range_with_len 0 g.size.side)
 
--- Where at most as many cells of a normal grid are turned over as codewords can be corrected in a block of its size, what comes out is
--- read as the same message, for every border limit of at least that correction limit.
+-- If no more cells of a normal grid are turned over than codewords can be corrected in a block of its size, the grid that comes out is
+-- read as the same message, for every border limit that is no less than that number of codewords.
 abbrev pub TurnedCellsAreRead : Type 0
 TurnedCellsAreRead = (profile : Profile) (m : List Item) (normal grid : GridView) (limit : ℕ) → IsMessage m → IsNormalGrid profile m normal → IsGrid grid
     → grid.size.side ≡ normal.size.side → turned_cells normal grid ≤ normal.size.limit → normal.size.limit ≤ limit → Reads grid limit m
 
--- Normalising twice is once: where the answer is a normal grid, the answer for that grid is the grid itself, for every limit.
+-- Normalising twice is the same as normalising once: a normal grid is its own normal grid, for every limit.
 abbrev pub NormalTwiceIsOnce : Type 0
 NormalTwiceIsOnce = (profile : Profile) (grid normal : GridView) (limit other : ℕ) (answer : Result GridView NormalFault)
     → HasNormal profile grid limit normal → NormalAnswer profile normal other answer ↔ (answer ≡ Ok normal)
 
--- Normalising under one profile and then under another is normalising under the other, for every second limit: where the first answer is a
--- normal grid, the answer for that grid is the answer for the grid itself, also where that is that the message is too long.
+-- Normalising under one profile and then under another is the same as normalising under the other alone, for every second limit: where the
+-- first answer is a normal grid, the answer for that grid is the answer for the grid itself, even if it is that the message is too long.
 abbrev pub TheLastProfileDecides : Type 0
 TheLastProfileDecides = (first last : Profile) (grid normal : GridView) (limit other : ℕ) (answer : Result GridView NormalFault)
     → HasNormal first grid limit normal → NormalAnswer last normal other answer ↔ NormalAnswer last grid limit answer
 
--- Two read grids have equal normal grids under one profile exactly where their messages are equal, whatever the limits.
+-- Two grids that are read have equal normal grids under one profile exactly where their messages are equal, whatever the limits.
 abbrev pub EqualNormalGridsMeanEqualMessages : Type 0
 EqualNormalGridsMeanEqualMessages = (profile : Profile) (g h a b : GridView) (i j k l : ℕ) (m n : List Item) → Reads g i m → Reads h j n
     → HasNormal profile g k a → HasNormal profile h l b → (a ≡ b) ↔ (m ≡ n)

@@ -1,4 +1,4 @@
--- The normal grid of what a grid says, under a profile.
+-- The normal grid, under a profile, of the message that a grid is read as.
 use Rattle.std.specs.Prelude.{◌≡◌, ℕ, List, Result, Ok, Err, ◌↔◌}
 use Rattle.dm_words.specs.declared.item.Item.{Item}
 use Rattle.dm_words.specs.declared.profile.Profile.{Profile}
@@ -9,25 +9,25 @@ use Rattle.dm_symbol.specs.declared.normalising.NormalFault.TheVariants.{Read, T
 use Rattle.dm_symbol.specs.NormalGrid.{IsNormalGrid, FitsSomeSize}
 use Rattle.dm_symbol.specs.Reading.{Reads, ReadAnswer}
 
--- the grid is read as a message, and this is the normal grid of that message
+-- The grid is read as a message, and this is the normal grid of that message.
 pub record HasNormal (profile : Profile) (grid : GridView) (limit : ℕ) (normal : GridView) : Type 0 where
   pub message : List Item
   pub read : Reads grid limit message
   pub normal_grid : IsNormalGrid profile message normal
 
--- the grid is read as a message that has no normal grid
+-- The grid is read as a message that fits no size, and so has no normal grid.
 pub record HasNoNormal (profile : Profile) (grid : GridView) (limit : ℕ) : Type 0 where
   pub message : List Item
   pub read : Reads grid limit message
   pub too_long : FitsSomeSize profile message → ⊥
 
--- the answer for a grid: the normal grid of the message as which it is read; that this message has none; or the fault of reading
+-- The answer for a grid: the normal grid of the message that it is read as; that this message fits no size; or the fault of reading.
 pub data NormalAnswer (profile : Profile) (grid : GridView) (limit : ℕ) (answer : Result GridView NormalFault) : Type 0 where
   normal : (n : GridView) → HasNormal profile grid limit n → answer ≡ Ok n → NormalAnswer profile grid limit answer
   too_long : HasNoNormal profile grid limit → answer ≡ Err TooLong → NormalAnswer profile grid limit answer
   fault : (why : ReadFault) → ReadAnswer grid limit (Err why) → answer ≡ Err (Read why) → NormalAnswer profile grid limit answer
 
--- the same, with when each kind of answer is given: exactly where it is said here
+-- The same, and each answer is given exactly where it holds.
 pub record IsNormalised (profile : Profile) (grid : GridView) (limit : ℕ) (answer : Result GridView NormalFault) : Type 0 where
   pub answer_is : NormalAnswer profile grid limit answer
   pub normal : (n : GridView) → (answer ≡ Ok n) ↔ HasNormal profile grid limit n

@@ -10,23 +10,23 @@ use Rattle.dm_words.specs.NormalForm.{normal_form}
 use Rattle.dm_words.specs.Pads.{padded}
 use Rattle.dm_symbol.specs.Blocks.{symbol, BlocksAreCodewords, data_part}
 
--- the message fits some size: one that has at least as many data codewords as its normal form has codewords
+-- The message fits some size of the table: one with at least as many data codewords as its normal form has codewords.
 abbrev pub FitsSomeSize : Profile → List Item → Type 0
 FitsSomeSize profile m = IsSome (row_for_words (length (normal_form profile m)))
 
--- the grid is the normal grid of the message
+-- The grid is the normal grid of the message.
 pub record IsNormalGrid (profile : Profile) (m : List Item) (grid : GridView) : Type 0 where
-  -- its size is the smallest with at least as many data codewords as the normal form of the message has
+  -- its size is the smallest with at least as many data codewords as the normal form of the message has codewords
   pub smallest : row_for_words (length (normal_form profile m)) ≡ Some grid.size
-  -- codewords of this size are laid in it: it holds them, no border cell has the wrong colour, and it has the fixed square
+  -- codewords of this size are laid in it: it holds them, each module of its borders has the right colour, and it has the fixed square
   pub words : List ℕ
   pub laid : IsLaid (symbol grid.size words) grid
   -- the data codewords are the normal form, followed by pads
   pub data_words : data_part grid.size words ≡ padded (normal_form profile m) grid.size.data_count
-  -- the check codewords make each block a codeword
+  -- the check codewords make each block a codeword of its Reed-Solomon code
   pub checked : BlocksAreCodewords grid.size words
 
--- the answer of writing a message: its normal grid, of which there is one, where some size holds its normal form; else it has none
+-- What writing a message answers: its only normal grid, where the message fits some size; else that it has none.
 pub record IsWritten (profile : Profile) (m : List Item) (answer : Result GridView TooLong) : Type 0 where
   pub normal : IfOk answer (λ grid. IsNormalGrid profile m grid)
   pub one : IfOk answer (λ grid. (other : GridView) → IsNormalGrid profile m other → other ≡ grid)

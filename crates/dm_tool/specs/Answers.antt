@@ -1,5 +1,5 @@
 -- What is written for records and lines, and the table of sizes.
-use Rattle.std.specs.Prelude.{◌≡◌, ◌/◌, ℕ, Bool, true, false, List, [], ◌∷◌, ◌++◌, map, flat_map, codes, if◌then◌else◌, Option, Some, None, Result, Ok, Err}
+use Rattle.std.specs.Prelude.{◌≡◌, ℕ, Bool, true, false, List, [], ◌∷◌, ◌++◌, map, flat_map, codes, if◌then◌else◌, Option, Some, None, Result, Ok, Err}
 use Rattle.std.specs.Fmt.{decimal}
 use Rattle.dm_symbol.specs.declared.Item.{Item}
 use Rattle.dm_symbol.specs.declared.Profile.{Profile}
@@ -8,7 +8,7 @@ use Rattle.dm_symbol.specs.declared.ReadFault.{ReadFault}
 use Rattle.dm_symbol.specs.declared.NormalFault.{NormalFault}
 use Rattle.dm_symbol.specs.Sizes.{SizeRow, size_table}
 use Rattle.dm_symbol.specs.Grid.{GridView}
-use Rattle.dm_symbol.specs.Reading.{ReadAnswer}
+use Rattle.dm_symbol.specs.Reading.{ReadAnswer, usual_limit}
 use Rattle.dm_symbol.specs.Normal.{NormalAnswer}
 use Rattle.dm_symbol.specs.NormalGrid.{IsNormalGrid, FitsSomeSize}
 use Rattle.dm_tool.specs.declared.task.Task.{Task}
@@ -77,10 +77,10 @@ abbrev pub normalising_answer : Result GridView NormalFault → Answer
 normalising_answer (Ok grid) = grid_answer grid
 normalising_answer (Err why) = blank_refusal_answer (normal_refusal why)
 
--- The border limit for a grid of this side: the number given, else a quarter of the side.
+-- The border limit for a grid of this side: the number given, else the usual limit.
 abbrev pub limit_for : Option ℕ → ℕ → ℕ
 limit_for (Some limit) side = limit
-limit_for None side = side / 4
+limit_for None side = usual_limit side
 
 -- What is written for a record whose message is asked for.
 abbrev pub IsReadAnswer : Option ℕ → RecordAnswer → Answer → Type 0

@@ -1,5 +1,6 @@
 //! Reading.
-ghost use Rattle.std.specs.Prelude.{◌≡◌, ◌/◌};
+ghost use Rattle.std.specs.Prelude.{◌≡◌};
+ghost use Rattle.dm_symbol.specs.Reading.{usual_limit};
 ghost use Rattle.ecc200.specs.Readings.{IsReadAnswer, no_reading, reading_shown};
 
 use crate::fault::{Fault, read_fault};
@@ -45,7 +46,7 @@ pub extern "C" fn ecc200_read(
 /// How many wrong border modules are usually accepted in a symbol of this side.
 #[unsafe(no_mangle)]
 pub extern "C" fn ecc200_usual_limit(side: u16) -> u16
-    ensures { result ≡ side / 4 }
+    ensures { result ≡ usual_limit side }
 {
     usual_limit(side)
 }
