@@ -7,7 +7,8 @@ use Rattle.dm_tool.specs.Texts.{lf}
 use Rattle.dm_tool.specs.Runs.{AreMatched, IsOut, tally_of}
 use Rattle.dm_tool.specs.Endings.{IsEndingOf}
 
--- The text ends where no record is open: it is empty, or ends with an empty line. Of message lines it is empty, or ends with LF.
+-- A text of records ends between them if it is empty or ends with an empty line, and a text of message lines ends
+-- between them if it is empty or ends with LF.
 abbrev pub EndsBetween : Task → List ℕ → Type 0
 EndsBetween (Write profile) text = (text ≡ []) ⊎ ((front : List ℕ) × (text ≡ front ++ lf ∷ []))
 EndsBetween task text = (text ≡ []) ⊎ ((text ≡ lf ∷ []) ⊎ ((front : List ℕ) × (text ≡ front ++ lf ∷ lf ∷ [])))
@@ -18,25 +19,25 @@ AreCutBetween task [] = Unit {0}
 AreCutBetween task (part ∷ []) = Unit {0}
 AreCutBetween task (part ∷ next ∷ parts) = EndsBetween task part × AreCutBetween task (next ∷ parts)
 
--- What is written for a part, and its tally.
+-- A part of a text has what is written for it, and its tally.
 pub record PartOut : Type 0 where
   pub out : List ℕ
   pub tally : Tally
 
--- What is written for each part, as for a text of its own.
+-- For each part is written what would be written for it as a text of its own.
 abbrev pub AreOuts : Task → List (List ℕ) → List PartOut → Type 0
 AreOuts task parts outs = AreMatched (λ part given. IsOut task part given.out given.tally) parts outs
 
--- The sum of two tallies.
+-- The sum of two tallies adds up their answers and their refusals.
 abbrev pub added : Tally → Tally → Tally
 added s t = record { answered = s.answered + t.answered; refused = s.refused + t.refused }
 
--- The sum of tallies.
+-- The sum of a list of tallies adds up all their answers and all their refusals.
 abbrev pub sum_of : List Tally → Tally
 sum_of [] = tally_of []
 sum_of (tally ∷ tallies) = added tally (sum_of tallies)
 
--- The largest of some numbers, and 0 where there are none.
+-- The largest number of a list is 0 if the list is empty.
 abbrev pub largest : List ℕ → ℕ
 largest [] = 0
 largest (number ∷ numbers) = max number (largest numbers)

@@ -4,22 +4,23 @@ use Rattle.dm_symbol.specs.declared.Item.{Item}
 use Rattle.dm_tool.specs.Spellings.{IsJoined, IsJoining, IsSpelling}
 use Rattle.dm_tool.specs.MessageLines.{IsLongestFront, column_after, most_bytes, most_items}
 
--- The facts of an open line.
+-- An open line has these facts.
 pub data LineFacts : Type 0 where
-  -- a fault stands in it, at this column
+  -- A fault stands in the line, at this column.
   Faulty : (column : ℕ) → LineFacts
-  -- so many bytes are the longest front that is spellings, joined; its items, unless they are too many; the bytes after it
+  -- The longest front of the line that is joined spellings has so many bytes, and these items unless they are too
+  -- many; after it come these bytes.
   Good : (front : ℕ) (items : Option (List Item)) (pending : List ℕ) → LineFacts
 
--- Items, unless they are too many.
+-- Items are kept unless they are too many.
 abbrev pub kept : List Item → Option (List Item)
 kept items = if nat_le (length items) most_items then Some items else None
 
--- Bytes that can still become a spelling, by bytes after them.
+-- Bytes can become a spelling if some bytes after them complete one.
 abbrev pub CanBecomeSpelling : List ℕ → Type 0
 CanBecomeSpelling pending = (more : List ℕ) × (item : Item) × IsSpelling (pending ++ more) item
 
--- No bytes after it make the line a joining of spellings; the column is that of its fault.
+-- A line is faulty if no bytes after it make it a joining of spellings; the column is that of its fault.
 pub record IsFaultyLine (line : List ℕ) (column : ℕ) : Type 0 where
   pub front : List ℕ
   pub rest : List ℕ
@@ -27,7 +28,8 @@ pub record IsFaultyLine (line : List ℕ) (column : ℕ) : Type 0 where
   pub broken : (more : List ℕ) → IsJoined (line ++ more) → ⊥
   pub column_is : column ≡ column_after front
 
--- The bytes after the longest front that is spellings of these items can still become a spelling.
+-- A line is good if what comes after its longest front of joined spellings
+-- can still become a spelling; its items are those of that front.
 pub record IsGoodLine (line : List ℕ) (count : ℕ) (known : Option (List Item)) (pending : List ℕ) : Type 0 where
   pub front : List ℕ
   pub items : List Item
@@ -37,7 +39,7 @@ pub record IsGoodLine (line : List ℕ) (count : ℕ) (known : Option (List Item
   pub count_is : count ≡ min (length front) most_bytes
   pub known_is : known ≡ kept items
 
--- The facts of an open line.
+-- These are the facts of an open line.
 abbrev pub AreLineFacts : List ℕ → LineFacts → Type 0
 AreLineFacts line (Faulty column) = IsFaultyLine line column
 AreLineFacts line (Good front items pending) = IsGoodLine line front items pending

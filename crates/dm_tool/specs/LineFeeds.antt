@@ -6,17 +6,18 @@ use Rattle.dm_tool.specs.MessageLines.{IsLine}
 use Rattle.dm_tool.specs.LineFacts.{LineFacts, AreLineFacts}
 use Rattle.dm_tool.specs.Texts.{HasNoLf, lf, IsSplit}
 
--- What a line is answered by: its message, or its fault.
+-- A line is answered by its message or by its fault.
 abbrev pub LineAnswer : Type 0
 LineAnswer = Result (List Item) LineFault
 
--- No byte of the piece closes the line: it is taken as a whole, and the open line is longer by it.
+-- A piece without LF leaves the line open: it is taken as a whole, and the open line is longer by it.
 pub record LeavesLineOpen (old : LineFacts) (piece : List ℕ) (taken : ℕ) (new : LineFacts) : Type 0 where
   pub whole : taken ≡ length piece
   pub no_lf : HasNoLf piece
   pub grown : (line : List ℕ) → AreLineFacts line old → AreLineFacts (line ++ piece) new
 
--- The first LF of the piece closes the line: the piece is taken up to and with it, and no line is open then.
+-- The first LF of a piece closes the line: the piece is taken up to and
+-- with it, the line is answered, and none is open then.
 pub record ClosesLine (old : LineFacts) (piece : List ℕ) (taken : ℕ) (answer : LineAnswer) (new : LineFacts) : Type 0 where
   pub before : List ℕ
   pub after : List ℕ
@@ -41,7 +42,8 @@ AreAnswered [] [] = Unit {0}
 AreAnswered (line ∷ lines) (answer ∷ answers) = IsLine line answer × AreAnswered lines answers
 AreAnswered _ _ = ⊥
 
--- What pieces close and leave open is that of the text that they are together: the lines that an LF ends, and the rest.
+-- Pieces close and leave open what the text does that they are together:
+-- the lines that an LF ends are answered, and the rest is left open.
 pub record AreOfText (text : List ℕ) (answers : List LineAnswer) (new : LineFacts) : Type 0 where
   pub lines : List (List ℕ)
   pub rest : List ℕ

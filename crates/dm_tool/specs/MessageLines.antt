@@ -6,25 +6,25 @@ use Rattle.dm_tool.specs.declared.message_line.LineFault.{LineFault}
 use Rattle.dm_tool.specs.declared.message_line.LineFault.TheVariants.{BadEscape, TooLong}
 use Rattle.dm_tool.specs.Spellings.{IsJoined, IsJoining}
 
--- The most items of a message: two for each data codeword.
+-- A message has at most two items for each data codeword.
 abbrev pub most_items : ℕ
 most_items = 2 * most_data
 
--- The most that a count or a column in a line reaches.
+-- A count of bytes or a column in a line never exceeds this number.
 abbrev pub most_bytes : ℕ
 most_bytes = 2 ^ 64 - 1
 
--- The longest front of a line that is spellings, joined, and what is after it.
+-- A front of a line is the longest that is joined spellings, and this is the rest after it.
 pub record IsLongestFront (line front rest : List ℕ) : Type 0 where
   pub whole : line ≡ front ++ rest
   pub joined : IsJoined front
   pub longest : (other after : List ℕ) → line ≡ other ++ after → IsJoined other → length other ≤ length front
 
--- The column after some bytes. Columns count bytes from 1.
+-- The column after some bytes is that of the next byte; columns count bytes from 1.
 abbrev pub column_after : List ℕ → ℕ
 column_after front = min (length front + 1) most_bytes
 
--- The line is no joining of spellings, and this is the column after its longest front that is one.
+-- A line has a bad escape if it isn't joined spellings; its column is the one after the longest front that is.
 pub record IsBadEscape (line : List ℕ) (column : ℕ) : Type 0 where
   pub front : List ℕ
   pub rest : List ℕ
@@ -32,7 +32,7 @@ pub record IsBadEscape (line : List ℕ) (column : ℕ) : Type 0 where
   pub broken : IsJoined line → ⊥
   pub column_is : column ≡ column_after front
 
--- What a line means: the items whose spellings it joins, where they are not too many; else its fault.
+-- A line means the items whose spellings it joins, if they aren't too many, and else its fault.
 abbrev pub IsLine : List ℕ → Result (List Item) LineFault → Type 0
 IsLine line (Ok items) = IsJoining line items × (length items ≤ most_items)
 IsLine line (Err TooLong) = (items : List Item) × IsJoining line items × (most_items < length items)

@@ -2,10 +2,10 @@
 use Rattle.dm_tool.specs.declared.source.FromRead.{FromRead}
 use Rattle.dm_tool.specs.declared.sink.ToWrite.{ToWrite}
 
--- the reader under a source
+-- A source reads from this reader.
 abbrev pub reader_of : {R : Type 0} → FromRead R → R
 reader_of s = s.reader
 
--- the writer under a sink
+-- A sink writes to this writer.
 abbrev pub writer_of : {W : Type 0} → ToWrite W → W
 writer_of s = s.writer

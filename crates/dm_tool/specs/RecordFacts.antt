@@ -4,48 +4,48 @@ use Rattle.std.specs.List.{list_any}
 use Rattle.dm_tool.specs.Texts.{last_line}
 use Rattle.dm_tool.specs.Records.{IsOpenRecord, has_foreign, is_large, rows_of}
 
--- What stands in an open record.
+-- An open record has contents of one of these kinds.
 pub data RecordContents : Type 0 where
-  -- a character other than 0 and 1
+  -- A character other than 0 and 1 stands in the record.
   Foreign : RecordContents
-  -- no such character, but a line that is too long or too many lines
+  -- There is no such character, but a line is too long or there are too many lines.
   Large : RecordContents
-  -- neither: how many lines there are, how long the first and the last are, and the rows of cells unless a line that is ended by LF differs
-  -- in length from the first
+  -- Neither is so: there are so many lines, the first and the last are so long, and the rows of cells are known
+  -- unless a line that is ended by LF differs in length from the first.
   Cells : (count first last : ℕ) (rows : Option (List (List Bool))) → RecordContents
 
--- The facts of an open record. Empty lines before it are left away.
+-- An open record has these facts; empty lines before it don't belong to it.
 pub record RecordFacts : Type 0 where
-  -- its last byte is LF
+  -- The last byte of the record is LF.
   pub ended : Bool
   pub contents : RecordContents
 
--- How long the first line is.
+-- The first of some lines has this length; without lines it is 0.
 abbrev pub first_length : List (List ℕ) → ℕ
 first_length [] = 0
 first_length (line ∷ lines) = length line
 
--- How long the last line is.
+-- The last of some lines has this length; without lines it is 0.
 abbrev pub last_length : List (List ℕ) → ℕ
 last_length [] = 0
 last_length (line ∷ []) = length line
 last_length (line ∷ next ∷ lines) = last_length (next ∷ lines)
 
--- No list of bytes stands there.
+-- The list is empty.
 abbrev pub is_nothing : {X : Type 0} → List X → Bool
 is_nothing [] = true
 is_nothing (x ∷ xs) = false
 
--- Some line is not of this length.
+-- Some line doesn't have this length.
 abbrev pub differ : ℕ → List (List ℕ) → Bool
 differ first lines = list_any (λ line. not (length line == first)) lines
 
--- What stands in lines that are neither foreign nor too large; the first ones, `done`, are ended by LF.
+-- Lines that are neither foreign nor too large have these contents; the first of them, `done`, are ended by LF.
 abbrev pub cells_of_lines : List (List ℕ) → List (List ℕ) → RecordContents
 cells_of_lines done lines =
     Cells (length lines) (first_length lines) (last_length lines) (if differ (first_length lines) done then None else Some (rows_of lines))
 
--- What stands in lines, each ended by LF, and a rest.
+-- Lines that are each ended by LF, and a rest, have these contents.
 abbrev pub contents_of : List (List ℕ) → List ℕ → RecordContents
 contents_of lines rest =
     let all = lines ++ last_line rest in
@@ -53,14 +53,14 @@ contents_of lines rest =
     else if is_large all then Large
     else cells_of_lines lines all
 
--- The facts of lines, each ended by LF, and a rest.
+-- Lines that are each ended by LF, and a rest, have these facts.
 abbrev pub facts_of_record : List (List ℕ) → List ℕ → RecordFacts
 facts_of_record lines rest = record {
   ended = is_nothing rest && not (is_nothing lines);
   contents = contents_of lines rest;
 }
 
--- The facts of a text in which a record stands open, or none does.
+-- A text has the facts of the record that stands open in it, or those of no lines if none does.
 pub record AreRecordFacts (text : List ℕ) (facts : RecordFacts) : Type 0 where
   pub lines : List (List ℕ)
   pub rest : List ℕ

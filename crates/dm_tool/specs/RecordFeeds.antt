@@ -7,11 +7,12 @@ use Rattle.dm_tool.specs.Texts.{ended, last_line, IsSplit}
 use Rattle.dm_tool.specs.Records.{AreRecords, IsClosedRecord, IsOpenRecord, record_of}
 use Rattle.dm_tool.specs.RecordFacts.{RecordFacts, AreRecordFacts}
 
--- What a record is answered by: its grid, or its fault.
+-- A record is answered by its grid or by its fault.
 abbrev pub RecordAnswer : Type 0
 RecordAnswer = Result GridView RecordFault
 
--- No byte of the piece closes a record: it is taken as a whole, and what stands open is longer by it.
+-- A piece none of whose bytes closes a record leaves it open: the piece
+-- is taken as a whole, and what stands open is longer by it.
 pub record LeavesRecordOpen (old : RecordFacts) (piece : List ℕ) (taken : ℕ) (new : RecordFacts) : Type 0 where
   pub whole : taken ≡ length piece
   pub grown : (text : List ℕ) → AreRecordFacts text old → AreRecordFacts (text ++ piece) new
@@ -22,14 +23,15 @@ pub record IsAnsweredRecord (text : List ℕ) (answer : RecordAnswer) : Type 0 w
   pub closed : IsClosedRecord text lines
   pub answer_is : answer ≡ record_of lines
 
--- A byte of the piece closes a record: the piece is taken up to and with it, and no record stands open then.
+-- A byte of a piece closes a record: the piece is taken up to and with
+-- it, the record is answered, and none stands open then.
 pub record ClosesRecord (old : RecordFacts) (piece : List ℕ) (taken : ℕ) (answer : RecordAnswer) (new : RecordFacts) : Type 0 where
   pub some : 0 < taken
   pub within : taken ≤ length piece
   pub answered : (text : List ℕ) → AreRecordFacts text old → IsAnsweredRecord (text ++ take taken piece) answer
   pub empty : AreRecordFacts [] new
 
--- The record that stands open is answered: lines that aren't empty, and a rest without LF, of which there is some.
+-- The record that stands open at the end of a text, and of which there are some lines or a rest, is answered.
 pub record IsLastRecord (text : List ℕ) (answer : RecordAnswer) : Type 0 where
   pub lines : List (List ℕ)
   pub rest : List ℕ
@@ -46,14 +48,14 @@ pub data AreRecordsFed : RecordFacts → List (List ℕ) → List RecordAnswer �
       → ClosesRecord old piece taken answer mid → AreRecordsFed mid (drop taken piece ∷ pieces) answers new
       → AreRecordsFed old (piece ∷ pieces) (answer ∷ answers) new
 
--- The lines up to the last empty one, and the lines after it.
+-- The lines of a text are cut after the last empty one, or before all of them if none is empty.
 pub record IsLastBlank (lines before after : List (List ℕ)) : Type 0 where
   pub whole : lines ≡ before ++ after
   pub full : AllByRecursion (λ line. line ≢ []) after
   pub blank : (before ≡ []) ⊎ ((front : List (List ℕ)) × (before ≡ front ++ [] ∷ []))
 
--- What pieces close and leave open is that of the text that they are together: the records that an empty line ends are answered, and what
--- is after the last empty line stands open.
+-- Pieces close and leave open what the text does that they are together: the records that an empty line ends are
+-- answered, and what is after the last empty line stands open.
 pub record AreRecordsOfText (text : List ℕ) (answers : List RecordAnswer) (new : RecordFacts) : Type 0 where
   pub lines : List (List ℕ)
   pub rest : List ℕ

@@ -9,16 +9,16 @@ use Rattle.dm_tool.specs.Texts.{lf, HasNoLf, ended}
 
 -- ---- where records stand
 
--- Bytes that are LF alone: empty lines.
+-- Bytes that are all LF are empty lines.
 abbrev pub AreLfs : List ℕ → Type 0
 AreLfs bytes = AllByRecursion (λ b. b ≡ lf) bytes
 
--- Lines without LF that aren't empty.
+-- Full lines have no LF and aren't empty.
 abbrev pub AreFullLines : List (List ℕ) → Type 0
 AreFullLines lines = AllByRecursion (λ line. (line ≢ []) × HasNoLf line) lines
 
--- A text that closes no record: empty lines, lines that aren't empty, and a rest without LF. The lines and the rest are what is known of the
--- record that stands open; where both are empty, none does.
+-- A text closes no record if it is empty lines, then full lines, then a rest without LF. These full lines and the
+-- rest are what is known of the record that stands open; where there are none, no record does.
 pub record IsOpenRecord (text : List ℕ) (lines : List (List ℕ)) (rest : List ℕ) : Type 0 where
   pub blank : List ℕ
   pub are_lfs : AreLfs blank
@@ -26,7 +26,7 @@ pub record IsOpenRecord (text : List ℕ) (lines : List (List ℕ)) (rest : List
   pub full : AreFullLines lines
   pub rest_no_lf : HasNoLf rest
 
--- A text whose last byte closes a record: empty lines, the lines of the record, and an empty line.
+-- The last byte of a text closes a record if the text is empty lines, the lines of the record, and an empty line.
 pub record IsClosedRecord (text : List ℕ) (lines : List (List ℕ)) : Type 0 where
   pub blank : List ℕ
   pub are_lfs : AreLfs blank
@@ -34,25 +34,25 @@ pub record IsClosedRecord (text : List ℕ) (lines : List (List ℕ)) : Type 0 w
   pub full : AreFullLines lines
   pub some : lines ≢ []
 
--- No line, or an empty one, comes next.
+-- No line comes next, or an empty one does.
 abbrev pub BeginsBlank : List (List ℕ) → Type 0
 BeginsBlank [] = Unit {0}
 BeginsBlank ([] ∷ lines) = Unit {0}
 BeginsBlank ((b ∷ line) ∷ lines) = ⊥
 
--- The longest runs of lines that aren't empty.
+-- The records in some lines are the longest runs of lines that aren't empty.
 pub data AreRecords : List (List ℕ) → List (List (List ℕ)) → Type 0 where
-  -- no line is left
+  -- Where no line is left there is no record.
   no_line : AreRecords [] []
-  -- an empty line
+  -- An empty line belongs to no record.
   empty_line : (lines : List (List ℕ)) (records : List (List (List ℕ))) → AreRecords lines records → AreRecords ([] ∷ lines) records
-  -- a run, which no further line makes longer
+  -- A run of full lines that no further line makes longer is a record.
   longest_run : (these lines : List (List ℕ)) (records : List (List (List ℕ))) → these ≢ [] → AreFullLines these → BeginsBlank lines
       → AreRecords lines records → AreRecords (these ++ lines) (these ∷ records)
 
 -- ---- what a record comes to
 
--- The characters 0, a light cell, and 1, a dark one, are 48 and 49.
+-- A character is foreign if it is neither 0, a light cell, nor 1, a dark one; these are 48 and 49.
 abbrev pub is_foreign : ℕ → Bool
 is_foreign b = not (b == 48 || b == 49)
 
@@ -60,24 +60,24 @@ is_foreign b = not (b == 48 || b == 49)
 abbrev pub has_foreign : List (List ℕ) → Bool
 has_foreign lines = list_any (list_any is_foreign) lines
 
--- A line is longer than the largest side, or there are more lines than that.
+-- Lines are too large if one of them is longer than the largest side, or if they are more than that.
 abbrev pub is_large : List (List ℕ) → Bool
 is_large lines = nat_lt largest_side (length lines) || list_any (λ line. nat_lt largest_side (length line)) lines
 
--- The lines are all as long as they are many.
+-- Lines are square if each is as long as they are many.
 abbrev pub is_square : List (List ℕ) → Bool
 is_square lines = list_all (λ line. length line == length lines) lines
 
--- The rows of cells; true is dark.
+-- The lines of a record are rows of cells, in which the character 1 is dark.
 abbrev pub rows_of : List (List ℕ) → List (List Bool)
 rows_of lines = map (map (λ b. b == 49)) lines
 
--- The grid of a size with these lines, where there is such a size.
+-- Lines make the grid of the size with that side, if there is such a size.
 abbrev pub sized : Option SizeRow → List (List ℕ) → Result GridView RecordFault
 sized (Some size) lines = Ok (record { size = size; rows = rows_of lines })
 sized None lines = Err (NoSuchSize (length lines))
 
--- What the lines of a record come to: a grid, or of its faults the first.
+-- The lines of a record make a grid, or have a fault; of several faults the first counts.
 abbrev pub record_of : List (List ℕ) → Result GridView RecordFault
 record_of lines =
     if has_foreign lines then Err Character

@@ -13,44 +13,45 @@ use Rattle.dm_tool.specs.Answers.{Answer, IsRecordAnswer, IsWriteAnswer, table_t
 
 -- ---- what is written for a text
 
--- Two lists of one length, whose members match in order.
+-- Two lists are matched if they are equally long and their members match in order.
 abbrev pub AreMatched : {A B : Type 0} → (A → B → Type 0) → List A → List B → Type 0
 AreMatched Matches [] [] = Unit {0}
 AreMatched Matches (x ∷ xs) (y ∷ ys) = Matches x y × AreMatched Matches xs ys
 AreMatched Matches _ _ = ⊥
 
--- The answer to the lines of a record.
+-- A record is answered by what its lines make: a grid or a fault.
 abbrev pub IsAnswerToRecord : Task → List (List ℕ) → Answer → Type 0
 IsAnswerToRecord task lines answer = IsRecordAnswer task (record_of lines) answer
 
--- The answer to a message line under a profile.
+-- A message line is answered, under a profile, by what it means.
 abbrev pub IsAnswerToLine : Profile → List ℕ → Answer → Type 0
 IsAnswerToLine profile line answer = (message : LineAnswer) × IsLine line message × IsWriteAnswer profile message answer
 
--- The answers to the records in some lines, in order.
+-- The records in some lines are answered, each in order.
 abbrev pub AreAnswersToRecords : Task → List (List ℕ) → List Answer → Type 0
 AreAnswersToRecords task lines answers =
     (records : List (List (List ℕ))) × AreRecords lines records × AreMatched (IsAnswerToRecord task) records answers
 
--- The answers to all records or message lines of some lines, in order.
+-- The records or message lines of some lines are answered, each in order.
 abbrev pub AreAnswersTo : Task → List (List ℕ) → List Answer → Type 0
 AreAnswersTo (Write profile) lines answers = AreMatched (IsAnswerToLine profile) lines answers
 AreAnswersTo task lines answers = AreAnswersToRecords task lines answers
 
--- The answers to all records or message lines of a text. The end of the text closes the last one.
+-- All records or message lines of a text are answered; the end of the text closes the last one.
 pub record AreAllAnswers (task : Task) (text : List ℕ) (answers : List Answer) : Type 0 where
   pub lines : List (List ℕ)
   pub rest : List ℕ
   pub split : IsSplit text lines rest
   pub answered : AreAnswersTo task (lines ++ last_line rest) answers
 
--- Of the lines of a text that LF ends, the front in which every record or message line is closed: for message lines all of them, for
--- records those up to the last empty line.
+-- Of the lines of a text that LF ends, the closed ones are the front in which every record or message line is closed:
+-- for message lines all of them, for records those up to the last empty line.
 abbrev pub AreClosedLines : Task → List (List ℕ) → List (List ℕ) → Type 0
 AreClosedLines (Write profile) lines closed = closed ≡ lines
 AreClosedLines task lines closed = (after : List (List ℕ)) × IsLastBlank lines closed after
 
--- The answers to the records or message lines that are closed within a text: a record by an empty line after it, a message line by its LF.
+-- The records or message lines that are closed within a text are answered; a record is closed by an empty line after
+-- it, a message line by its LF.
 pub record AreClosedAnswers (task : Task) (text : List ℕ) (answers : List Answer) : Type 0 where
   pub lines : List (List ℕ)
   pub rest : List ℕ
@@ -59,22 +60,22 @@ pub record AreClosedAnswers (task : Task) (text : List ℕ) (answers : List Answ
   pub are_closed : AreClosedLines task lines closed
   pub answered : AreAnswersTo task closed answers
 
--- What is written for answers: their texts, joined.
+-- For a list of answers their texts are written, one after another.
 abbrev pub written : List Answer → List ℕ
 written answers = flat_map (λ a. a.text) answers
 
--- How many answers are no refusals, and how many are.
+-- The tally of some answers counts those that are no refusals, and those that are.
 abbrev pub tally_of : List Answer → Tally
 tally_of answers = record { answered = count_by (λ a. not a.refused) answers; refused = count_by (λ a. a.refused) answers }
 
--- What is written for a text as a whole, and the tally: the answers to all of its records or lines, joined. For the table the text counts as
--- empty: the table is written, and nothing is counted.
+-- For a text as a whole the answers to all of its records or lines are written, one after another, and counted in the
+-- tally. For the table the text counts as empty: the table is written, and nothing is counted.
 abbrev pub IsOut : Task → List ℕ → List ℕ → Tally → Type 0
 IsOut Table text out tally = (text ≡ []) × (out ≡ table_text) × (tally ≡ tally_of [])
 IsOut task text out tally = (answers : List Answer) × AreAllAnswers task text answers × (out ≡ written answers) × (tally ≡ tally_of answers)
 
--- What is written for a text that may go on: the answers to the records or lines that are closed within it, joined. For the table, whose
--- text counts as empty, it is the table.
+-- For a text that may go on the answers to the records or lines that are closed within it are written, one after
+-- another. For the table, whose text counts as empty, the table is written.
 abbrev pub IsOutSoFar : Task → List ℕ → List ℕ → Type 0
 IsOutSoFar Table text done = (text ≡ []) × (done ≡ table_text)
 IsOutSoFar task text done = (answers : List Answer) × AreClosedAnswers task text answers × (done ≡ written answers)
@@ -84,12 +85,13 @@ IsOutSoFar task text done = (answers : List Answer) × AreClosedAnswers task tex
 -- Between two moments a source gave exactly these bytes (`Gave`) and saw its end (`Ended`), and a sink took exactly these bytes (`Took`) or a
 -- beginning of them (`TookFront`).
 
--- The source has come to its end. For the table, which reads nothing, this counts as so.
+-- The source has come to its end; for the table, which reads nothing, this always holds.
 abbrev pub HasEnded : Task → Type 0 → Type 0
 HasEnded Table Ended = Unit {0}
 HasEnded task Ended = Ended
 
--- All was answered: the source gave a text of at most `most` bytes and ended, and what is written for this text as a whole was taken.
+-- A text is answered if the source gave it, at most `most` bytes, and
+-- ended, and what is written for this text as a whole was taken.
 pub record IsAnswered (task : Task) (most : ℕ) (Gave : List ℕ → Type 0) (Ended : Type 0) (Took : List ℕ → Type 0) (tally : Tally) : Type 0 where
   pub text : List ℕ
   pub gave : Gave text
@@ -99,7 +101,8 @@ pub record IsAnswered (task : Task) (most : ℕ) (Gave : List ℕ → Type 0) (E
   pub is_out : IsOut task text out tally
   pub took : Took out
 
--- The task reads. The source gave a text of at most `most` bytes, and exactly what is done by then was taken.
+-- What is due so far has been written if the task reads, the source gave a text of at most `most` bytes, and the sink
+-- took exactly what is written for what is closed within it.
 pub record HasWrittenOutSoFar (task : Task) (most : ℕ) (Gave Took : List ℕ → Type 0) : Type 0 where
   pub reads : task ≢ Table
   pub text : List ℕ
@@ -109,7 +112,8 @@ pub record HasWrittenOutSoFar (task : Task) (most : ℕ) (Gave Took : List ℕ �
   pub is_done : IsOutSoFar task text done
   pub took : Took done
 
--- The task reads. The source gave `most` bytes and one more, and exactly what is done by the first `most` was taken.
+-- The input is too much if the task reads, the source gave `most` bytes and one more, and the sink took exactly what
+-- is written for what is closed within the first `most` of them.
 pub record IsTooMuch (task : Task) (most : ℕ) (Gave Took : List ℕ → Type 0) : Type 0 where
   pub reads : task ≢ Table
   pub text : List ℕ
@@ -120,27 +124,30 @@ pub record IsTooMuch (task : Task) (most : ℕ) (Gave Took : List ℕ → Type 0
   pub is_done : IsOutSoFar task text done
   pub took : Took done
 
--- A beginning was taken of what is done by a text.
+-- The sink took a beginning of what is written for what is closed within a text.
 abbrev pub HasBegunOutSoFar : Task → List ℕ → (List ℕ → Type 0) → Type 0
 HasBegunOutSoFar task text TookFront = (done : List ℕ) × IsOutSoFar task text done × TookFront done
 
--- A beginning was taken of what is written for a text as a whole.
+-- The sink took a beginning of what is written for a text as a whole.
 abbrev pub HasBegunOut : Task → List ℕ → (List ℕ → Type 0) → Type 0
 HasBegunOut task text TookFront = (out : List ℕ) × (tally : Tally) × IsOut task text out tally × TookFront out
 
--- The source gave a text of at most `most` bytes, and a beginning was taken of what is done by then, or, if the source had ended, of what
--- is written for the text as a whole. Which of the sink's calls failed isn't told.
+-- A beginning has been written if the source gave a text of at most `most` bytes, and the sink took a beginning of
+-- what is written for what is closed within it or, if the source had ended, of what is written for the text as a
+-- whole. Which of the sink's calls failed isn't told.
 pub record HasWrittenFront (task : Task) (most : ℕ) (Gave : List ℕ → Type 0) (Ended : Type 0) (TookFront : List ℕ → Type 0) : Type 0 where
   pub text : List ℕ
   pub gave : Gave text
   pub within : length text ≤ most
   pub began : HasBegunOutSoFar task text TookFront ⊎ (HasEnded task Ended × HasBegunOut task text TookFront)
 
--- Up to which byte, counted from the first, may be asked where so many were given: up to `most`, and where all of these have come one more.
+-- Bytes may be asked for up to this one, counted from the first: up to
+-- `most`, and once all of these have come up to one more.
 abbrev pub most_asked : ℕ → ℕ → ℕ
 most_asked most given = if nat_lt given most then most else most + 1
 
--- There was no flush, Ok or not, or one, when all was answered and the sink had taken all that is written for it.
+-- There was no flush, whether it failed or not, or there was one, when
+-- all was answered and the sink had taken all that is written for it.
 abbrev pub IsFlushedAtEnd : Task → ℕ → (List ℕ → Type 0) → Type 0 → (List ℕ → Type 0) → Type 0 → Type 0 → Type 0
 IsFlushedAtEnd task most Gave Ended Took Unflushed FlushedOnce =
     Unflushed ⊎ ((tally : Tally) × IsAnswered task most Gave Ended Took tally × FlushedOnce)

@@ -9,26 +9,27 @@ use Rattle.dm_tool.specs.LineFeeds.{LineAnswer, AreOfText}
 use Rattle.dm_tool.specs.Answers.{Answer, AnswersRecords, IsRecordAnswer, IsWriteAnswer}
 use Rattle.dm_tool.specs.Runs.{AreAllAnswers, AreClosedAnswers, AreMatched, written}
 
--- After a text, these are the answers to what is closed within it, and this is what stands open.
+-- After a text, these are the answers to what is closed within it, and the state holds what stands open.
 abbrev pub IsAnsweredSoFar : Task → Answering → List ℕ → List Answer → Type 0
 IsAnsweredSoFar task (Records asked facts) text answers =
     (asked ≡ task) × AnswersRecords task × (records : List RecordAnswer) × AreRecordsOfText text records facts × AreMatched (IsRecordAnswer task) records answers
 IsAnsweredSoFar task (Lines profile facts) text answers =
     (task ≡ Write profile) × (lines : List LineAnswer) × AreOfText text lines facts × AreMatched (IsWriteAnswer profile) lines answers
 
--- Some text has come.
+-- The state is that after some text.
 abbrev pub HasTakenText : Answering → Type 0
 HasTakenText state = (task : Task) × (text : List ℕ) × (answers : List Answer) × IsAnsweredSoFar task state text answers
 
--- More of the text closes what has these answers.
+-- A further piece of the text closes records or lines that have these answers.
 abbrev pub Advances : Answering → List ℕ → List Answer → Answering → Type 0
 Advances old piece more new = (task : Task) (text : List ℕ) (answers : List Answer) → IsAnsweredSoFar task old text answers → IsAnsweredSoFar task new (text ++ piece) (answers ++ more)
 
--- The end of the text closes what has these answers.
+-- The end of the text closes a record or line that has these answers.
 abbrev pub EndsAnswered : Answering → List Answer → Type 0
 EndsAnswered old last = (task : Task) (text : List ℕ) (answers : List Answer) → IsAnsweredSoFar task old text answers → AreAllAnswers task text (answers ++ last)
 
--- Whatever has come, a beginning was taken of the answers to what is closed where more of the text comes.
+-- Whatever text has come, the sink took a beginning of what is written
+-- for the records or lines that a further piece closes.
 abbrev pub HasBegunAnswers : Answering → List ℕ → (List ℕ → Type 0) → Type 0
 HasBegunAnswers old piece TookFront = (task : Task) (text : List ℕ) (answers : List Answer) → IsAnsweredSoFar task old text answers
     → (more : List Answer) × AreClosedAnswers task (text ++ piece) (answers ++ more) × TookFront (written more)

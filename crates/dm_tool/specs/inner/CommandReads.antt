@@ -4,22 +4,22 @@ use Rattle.clap.specs.Walk.{Row, Text, first_of, one_of}
 use Rattle.clap.specs.Lexer.{without_minus}
 use Rattle.dm_tool.specs.CommandLine.{IsBorderLimit}
 
--- the border's text, where there is one, is a limit's, and is read without a minus
+-- The border's text, if there is one, writes a limit, and is read without its minus sign.
 abbrev pub HasLimit : List Row → Type 0
 HasLimit rows = (text : Text) → first_of (codes "border") rows ≡ Some text
     → (one_of (codes "border") rows ≡ Some (without_minus text)) × ((n : ℕ) × IsBorderLimit text n)
 
--- the flag's text, where there is one, is `true` or `false`, and is read as it stands
+-- The flag's text, if there is one, is `true` or `false`, and is read as it stands.
 abbrev pub HasFlag : List Row → Type 0
 HasFlag rows = (text : Text) → first_of (codes "shorter") rows ≡ Some text
     → (one_of (codes "shorter") rows ≡ Some text) × ((text ≡ codes "true") ⊎ (text ≡ codes "false"))
 
--- both
+-- The matches can be read if both the limit and the flag can.
 pub record IsReadable (rows : List Row) : Type 0 where
   pub limit : HasLimit rows
   pub flag : HasFlag rows
 
--- the name is that of none of the five subcommands
+-- The name is that of none of the five subcommands.
 pub record HasNoTask (name : Text) : Type 0 where
   pub read : name ≢ codes "read"
   pub check : name ≢ codes "check"

@@ -14,7 +14,7 @@ use Rattle.dm_tool.specs.declared.spelling.Next.TheVariants as next
 use Rattle.dm_tool.specs.declared.open_line.State.{State}
 use Rattle.dm_tool.specs.declared.open_line.State.TheVariants as state
 
--- A byte that stands for itself: 32 to 126, but not the backslash, which is 92.
+-- A plain byte stands for itself: it is one of 32 to 126, but not the backslash, which is 92.
 abbrev pub IsPlain : ℕ → Type 0
 IsPlain b = (32 ≤ b) × (b ≤ 126) × (b ≢ 92)
 
@@ -22,25 +22,25 @@ IsPlain b = (32 ≤ b) × (b ≤ 126) × (b ≢ 92)
 abbrev pub BeginsNoSpelling : List ℕ → Type 0
 BeginsNoSpelling bytes = (piece more : List ℕ) (item : Item) → bytes ≡ piece ++ more → IsSpelling piece item → ⊥
 
--- The bytes of a spelling that is begun.
+-- A spelling that is begun has these bytes so far.
 abbrev pub pending_bytes : Pending → List ℕ
 pending_bytes begun.Nothing = []
 pending_bytes begun.Backslash = 92 ∷ []
 pending_bytes begun.Hexadecimal = 92 ∷ 120 ∷ []
 pending_bytes (begun.Digit first) = 92 ∷ 120 ∷ first ∷ []
 
--- What these bytes come to: a spelling, the beginning of one, or neither, whatever follows.
+-- Bytes come to a spelling, to the beginning of one, or, whatever follows, to neither.
 abbrev pub IsNext : List ℕ → Next → Type 0
 IsNext bytes (next.Whole item) = IsSpelling bytes item
 IsNext bytes (next.Begun pending) = (pending_bytes pending ≡ bytes) × CanBecomeSpelling bytes × BeginsNoSpelling bytes
 IsNext bytes next.Fault = (more : List ℕ) → BeginsNoSpelling (bytes ++ more)
 
--- The facts that a state stands for.
+-- A state stands for these facts.
 abbrev pub facts_of : State → LineFacts
 facts_of (state.Faulty column) = Faulty column
 facts_of (state.Good good) = Good good.front good.items (pending_bytes good.pending)
 
--- What a line means, where the message is one that is pointed to.
+-- A line whose message is pointed to means that message.
 abbrev pub pointed_to : Result (Bor (List Item)) LineFault → LineAnswer
 pointed_to (Ok message) = Ok message.now
 pointed_to (Err fault) = Err fault
