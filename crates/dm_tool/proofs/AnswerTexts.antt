@@ -6,12 +6,12 @@ use Rattle.std.specs.Prelude.{flat_map, codes}
 use Rattle.std.specs.Fmt.{decimal}
 use Rattle.dm_tool.specs.Answers.{spaced}
 
--- the first number stands alone
+-- The first number is written without a space before it.
 pub spaced_first : (numbers : List ℕ) → 0 < length numbers → spaced (take 1 numbers) ≡ decimal (get_or numbers 0 0)
 spaced_first [] some = absurd (omega arith)
 spaced_first (number ∷ numbers) some = append-nil (decimal number)
 
--- one more number comes after a space
+-- Each further number is written after a space.
 pub spaced_more : (numbers : List ℕ) (i : ℕ) → 0 < i → i < length numbers
     → spaced (take (i + 1) numbers) ≡ spaced (take i numbers) ++ (codes " " ++ decimal (get_or numbers i 0))
 spaced_more [] i some within = absurd (omega arith)

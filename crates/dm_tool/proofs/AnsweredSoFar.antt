@@ -1,4 +1,4 @@
--- What stands between the bytes of a text that is answered as it comes, at its next byte and at its end.
+-- A text that is answered as it comes: what is known after each of its pieces, and at its end.
 use Rattle.std.proofs.Common.{◌≡◌, ◌≢◌, ◌∙◌, ◌≤◌, ◌+◌, ◌⊎◌, inl, inr, ℕ, zero, suc, List, [], ◌∷◌, ◌++◌, refl, sym, ap, subst, append-nil, append_assoc, map, length, length-take-le, drop, take, arith, Option, Result, Ok, Err, OnOk, OnErr}
 use Rattle.std.specs.Io.KnownBytes.{Appends, Keeps}
 use Rattle.dm_tool.specs.Devices.{AppendsFront, IsPassedOn}
@@ -24,7 +24,7 @@ use Rattle.dm_tool.proofs.LineTexts.{line_is_closed, lines_stay_open}
 
 -- ---- lists that are matched
 
--- one match after another
+-- Matched lists stay matched when other matched lists are appended to them.
 pub matched_append : {A B : Type 0} (R : A → B → Type 0) (xs more : List A) (ys others : List B) → AreMatched R xs ys → AreMatched R more others
     → AreMatched R (xs ++ more) (ys ++ others)
 matched_append R [] more [] others p q = q
@@ -32,7 +32,7 @@ matched_append R [] more (y ∷ ys) others p q = absurd p
 matched_append R (x ∷ xs) more [] others p q = absurd p
 matched_append R (x ∷ xs) more (y ∷ ys) others p q = (p.0, matched_append R xs more ys others p.1 q)
 
--- records whose grids or faults are matched
+-- Answers that match the grids or faults of records match the records.
 matched_records : (task : Task) (records : List (List (List ℕ))) (answers : List Answer) → AreMatched (IsRecordAnswer task) (map record_of records) answers
     → AreMatched (IsAnswerToRecord task) records answers
 matched_records task [] [] h = tt
@@ -40,7 +40,7 @@ matched_records task [] (y ∷ answers) h = absurd h
 matched_records task (x ∷ records) [] h = absurd h
 matched_records task (x ∷ records) (y ∷ answers) h = (h.0, matched_records task records answers h.1)
 
--- lines whose messages or faults are matched
+-- Answers that match the messages or faults of lines match the lines.
 pub matched_lines : (profile : Profile) (lines : List (List ℕ)) (messages : List LineAnswer) (answers : List Answer) → AreAnswered lines messages
     → AreMatched (IsWriteAnswer profile) messages answers → AreMatched (IsAnswerToLine profile) lines answers
 matched_lines profile [] [] [] p q = tt
@@ -68,21 +68,21 @@ closed_of_grids Table lines closed g h = absurd g
 
 -- ---- more of the text
 
--- one piece after another
+-- Two pieces, one after the other, close what has the answers of both.
 pub advances_then : (a b c : Answering) (x y : List ℕ) (m n : List Answer) → Advances a x m b → Advances b y n c → Advances a (x ++ y) (m ++ n) c
 advances_then a b c x y m n p q task text answers s =
     subst (λ l. IsAnsweredSoFar task c l (answers ++ (m ++ n))) (append_assoc text x y)
     (subst (IsAnsweredSoFar task c ((text ++ x) ++ y)) (append_assoc answers m n) (q task (text ++ x) (answers ++ m) (p task text answers s)))
 
--- no piece
+-- The empty piece closes nothing.
 pub advances_nowhere : (a : Answering) → Advances a [] [] a
 advances_nowhere a task text answers s = subst (λ l. IsAnsweredSoFar task a l (answers ++ [])) (sym (append-nil text)) (subst (IsAnsweredSoFar task a text) (sym (append-nil answers)) s)
 
--- where some text has come, more of it has
+-- A state after some text is again one after some text when a further piece has come.
 pub advances_from_text : (a b : Answering) (x : List ℕ) (m : List Answer) → HasTakenText a → Advances a x m b → HasTakenText b
 advances_from_text a b x m s p = (s.0, s.1 ++ x, s.2 ++ m, p s.0 s.1 s.2 s.3)
 
--- the front of a piece that was taken is taken as a whole
+-- Nothing is left of the front of a piece once that front is taken.
 none_after : (taken : ℕ) (piece : List ℕ) → drop taken (take taken piece) ≡ []
 none_after zero piece = refl
 none_after (suc n) [] = refl
@@ -130,7 +130,7 @@ line_open profile old new piece taken now task text answers s = (
   matched_append (IsWriteAnswer profile) s.1 [] answers [] s.3 tt,
 )
 
--- the bytes up to and with the one that closes the line
+-- The front that is taken of a piece which closes a line ends with the LF.
 closing : (piece before after : List ℕ) (taken : ℕ) → piece ≡ before ++ 10 ∷ after → taken ≡ length before + 1 → take taken piece ≡ before ++ 10 ∷ []
 closing piece [] after taken e n = ap (λ k. take k piece) n ∙ ap (take 1) e
 closing piece (b ∷ before) after taken e n =
@@ -202,7 +202,7 @@ lines_end profile facts none task text answers s =
           (matched_append (IsAnswerToLine profile) t.lines [] answers [] (matched_lines profile t.lines s.1 answers t.answered s.3) tt));
     }
 
--- some bytes are the line that the end closes
+-- Where there are bytes after the last LF, they are the line that the end closes.
 last_line_is : (rest : List ℕ) → rest ≢ [] → last_line rest ≡ rest ∷ []
 last_line_is [] n = absurd (n refl)
 last_line_is (b ∷ rest) n = refl
@@ -223,7 +223,7 @@ last_line_ends profile facts message answer last is task text answers s =
 
 -- ---- what is written
 
--- the answers so far are those to what is closed
+-- The answers so far are those to what is closed within the text.
 pub so_far_closed : (task : Task) (state : Answering) (text : List ℕ) (answers : List Answer) → IsAnsweredSoFar task state text answers → AreClosedAnswers task text answers
 so_far_closed task (Records asked facts) text answers s =
     let t = s.3 in
@@ -247,7 +247,7 @@ so_far_closed task (Lines profile facts) text answers s =
       answered = subst (λ w. AreAnswersTo w t.lines answers) (sym s.0) (matched_lines profile t.lines s.1 answers t.answered s.3);
     }
 
--- a task with an input isn't the table
+-- A task that answers a text as it comes isn't the table.
 pub not_table : (task : Task) (state : Answering) (text : List ℕ) (answers : List Answer) → IsAnsweredSoFar task state text answers → task ≢ Table
 not_table task (Records asked facts) text answers s e = subst AnswersRecords e s.1
 not_table task (Lines profile facts) text answers s e = let n : Write profile ≡ Table = sym s.0 ∙ e in cc
@@ -266,16 +266,16 @@ out_by (Normal border profile) text answers n h = (answers, h, refl, refl)
 out_by (Write profile) text answers n h = (answers, h, refl, refl)
 out_by Table text answers n h = absurd (n refl)
 
--- the answers so far, joined, are what is done
+-- The answers so far, joined, are what is written for a text that may go on.
 pub so_far_written : (task : Task) (state : Answering) (text : List ℕ) (answers : List Answer) → IsAnsweredSoFar task state text answers → IsOutSoFar task text (written answers)
 so_far_written task state text answers s = done_by task text answers (not_table task state text answers s) (so_far_closed task state text answers s)
 
--- with the last answer they are all that is written
+-- The answers so far and the last ones, joined, are what is written for the text as a whole.
 pub ends_out : (task : Task) (state : Answering) (text : List ℕ) (answers last : List Answer) → IsAnsweredSoFar task state text answers → EndsAnswered state last
     → IsOut task text (written (answers ++ last)) (tally_of (answers ++ last))
 ends_out task state text answers last s h = out_by task text (answers ++ last) (not_table task state text answers s) (h task text answers s)
 
--- the source of a task with an input has ended
+-- The source of a task that answers a text as it comes has ended once it says so.
 pub so_far_ended : (task : Task) (state : Answering) (text : List ℕ) (answers : List Answer) (Ended : Type 0) → IsAnsweredSoFar task state text answers → Ended
     → HasEnded task Ended
 so_far_ended (Read border) state text answers Ended s h = h
@@ -286,7 +286,7 @@ so_far_ended Table state text answers Ended s h = tt
 
 -- ---- what the feeds tell
 
--- reading, checking and normalising are tasks of grids
+-- Reading, checking and normalising are tasks that answer records.
 pub one_of_grids : (task : Task) → ((border : Option ℕ) × (task ≡ Read border)) ⊎ (((border : Option ℕ) × (task ≡ Check border)) ⊎ ((border : Option ℕ) × (profile : Profile) × (task ≡ Normal border profile))) → AnswersRecords task
 one_of_grids task (inl is) = subst AnswersRecords (sym is.1) tt
 one_of_grids task (inr (inl is)) = subst AnswersRecords (sym is.1) tt
@@ -294,48 +294,48 @@ one_of_grids task (inr (inr is)) = subst AnswersRecords (sym is.2) tt
 
 -- ---- what the sink takes
 
--- what is written for one answer
+-- What is written for one answer is its text.
 pub written_one : (answer : Answer) → written (answer ∷ []) ≡ answer.text
 written_one answer = append-nil answer.text
 
--- one answer is written and counted
+-- Where the writing of one answer is Ok, the answer is written and counted.
 pub one_more : {X E : Type 0} (Advances : List Answer → Type 0) (result : Result X E) (answer : Answer) (a b : Option (List ℕ)) (s t : Tally) → Advances (answer ∷ [])
     → OnOk result (Appends a b answer.text) → OnOk result ((answers : List Answer) → s ≡ tally_of answers → t ≡ tally_of (answers ++ answer ∷ []))
     → OnOk result ((more : List Answer) × Advances more × Appends a b (written more) × ((answers : List Answer) → s ≡ tally_of answers → t ≡ tally_of (answers ++ more)))
 one_more Advances (Ok x) answer a b s t goes took counted = (answer ∷ [], goes, subst (Appends a b) (sym (written_one answer)) took, counted)
 one_more Advances (Err e) answer a b s t goes took counted = tt
 
--- a beginning of one answer is written
+-- Where the writing of one answer fails, a beginning of it is written.
 pub one_begun : {X E : Type 0} (Advances : List Answer → Type 0) (result : Result X E) (answer : Answer) (a b : Option (List ℕ)) → Advances (answer ∷ [])
     → OnErr result (AppendsFront a b answer.text) → OnErr result ((more : List Answer) × Advances more × AppendsFront a b (written more))
 one_begun Advances (Ok x) answer a b goes took = tt
 one_begun Advances (Err e) answer a b goes took = (answer ∷ [], goes, subst (AppendsFront a b) (sym (written_one answer)) took)
 
--- what holds in any case holds where it is Ok
+-- What holds in any case holds where the result is Ok.
 pub on_ok : {X E : Type 0} (result : Result X E) (P : Type 0) → P → OnOk result P
 on_ok (Ok x) P p = p
 on_ok (Err e) P p = tt
 
--- what follows from what holds where it is an error
+-- What follows from what holds where the result is an error holds there too.
 pub on_err : {X E : Type 0} (result : Result X E) (P Q : Type 0) → OnErr result P → (P → Q) → OnErr result Q
 on_err (Ok x) P Q p f = tt
 on_err (Err e) P Q p f = f p
 
--- answers that were gathered are written in the end
+-- Answers that were gathered are all written once what is left of them is put.
 pub gathered_put : {X E : Type 0} (Advances Counted : List Answer → Type 0) (result : Result X E) (a b c : Option (List ℕ)) (more : List Answer) (left : List ℕ) → Advances more
     → Counted more → IsPassedOn a [] (written more) b left → OnOk result (Appends b c left)
     → OnOk result ((more : List Answer) × Advances more × Appends a c (written more) × Counted more)
 gathered_put Advances Counted (Ok x) a b c more left goes counted passed took = (more, goes, passed_and_put a b c (written more) left passed took, counted)
 gathered_put Advances Counted (Err e) a b c more left goes counted passed took = tt
 
--- a flush after the last answer changes no byte
+-- A flush after the last answer changes no byte that was written.
 pub all_flushed : {X E : Type 0} {Advances : List Answer → Type 0} {Counted : List Answer → Type 0} (result : Result X E) (a b c : Option (List ℕ))
     → (last : List Answer) × Advances last × Appends a b (written last) × Counted last → Keeps b c
     → OnOk result ((last : List Answer) × Advances last × Appends a c (written last) × Counted last)
 all_flushed (Ok x) a b c all same = (all.0, all.1, appends_kept a b c (written all.0) all.2 same, all.3)
 all_flushed (Err e) a b c all same = tt
 
--- where it fails, all is written
+-- Where the flush after the last answer fails, what is written is still a beginning of the answers.
 pub not_flushed : {X E : Type 0} {Advances : List Answer → Type 0} {Counted : List Answer → Type 0} (result : Result X E) (a b c : Option (List ℕ))
     → (last : List Answer) × Advances last × Appends a b (written last) × Counted last → Keeps b c
     → OnErr result ((last : List Answer) × Advances last × AppendsFront a c (written last))

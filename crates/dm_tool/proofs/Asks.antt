@@ -3,7 +3,7 @@ use Rattle.std.proofs.Common.{◌≡◌, ◌≤◌, ◌+◌, ℕ, zero, suc, Lis
 use Rattle.std.proofs.lemmas.Bool.{cases_lt, le-ltb, lt-ltb}
 use Rattle.dm_tool.specs.Runs.{most_asked}
 
--- at least `most` bytes may be asked for
+-- At least `most` bytes may be asked for.
 most_may_be_asked : (most given : ℕ) → most ≤ most_asked most given
 most_may_be_asked most given =
     elim (cases_lt given most) [
@@ -11,21 +11,21 @@ most_may_be_asked most given =
       | inr ge ↦ rw (le-ltb given most ge) (omega arith)
     ]
 
--- and one more where all have come
+-- One byte more than `most` may be asked for once `most` bytes have come.
 one_more_may_be_asked : (most given : ℕ) → most ≤ given → most + 1 ≤ most_asked most given
 one_more_may_be_asked most given all = rw (le-ltb given most all) (omega arith)
 
--- what is asked for where so many bytes may still come, or one
+-- The next read asks for no more than may be asked for: for the bytes that may still come, or for one more.
 next_may_be_asked : (before given left most : ℕ) → before + left ≡ most → before ≤ given → before + max left 1 ≤ most_asked most given
 next_may_be_asked before given zero most e h = omega (arith, one_more_may_be_asked most given (omega (arith, e, h)))
 next_may_be_asked before given (suc left) most e h = omega (arith, e, most_may_be_asked most given)
 
--- what is asked for where some bytes may still come
+-- While bytes may still come, the next read asks for no more than `most` in all.
 pub next_is_within : (before left most : ℕ) → before + left ≡ most → (left ≡ 0 → ⊥) → before + max left 1 ≤ most
 next_is_within before zero most e some = absurd (some refl)
 next_is_within before (suc left) most e some = omega (arith, e)
 
--- what is asked for in all, after the last read
+-- After the last read no more bytes were asked for in all than may be.
 pub asked_in_all : {S : Type 0} (Gave : S → S → List ℕ → Type 0) (Asked : S → S → ℕ → Type 0)
     → ((a b c : S) (x : List ℕ) (m n most : ℕ) → Gave a b x → Asked a b m → Asked b c n → m ≤ most → length x + n ≤ most → Asked a c most)
     → (a b c : S) (text more : List ℕ) (left most : ℕ) → Gave a b text → Asked a b most → Asked b c (max left 1) → length text + left ≡ most → length text ≤ length more

@@ -26,18 +26,18 @@ use Rattle.dm_tool.specs.CommandLine.{IsBorderLimit, border_rule, shorter_rule}
 use Rattle.dm_tool.specs.inner.CommandReads.{IsReadable}
 use Rattle.dm_tool.proofs.CommandWalks.{first_none, later_none, settle_keeps, walk_keeps}
 
--- a parser that refuses nothing takes the text
+-- A text of which a parser reports no fault is taken.
 taken_by : (b : Bool) (k : ErrorKind) → cond b [] (k ∷ []) ≡ [] → b ≡ true
 taken_by true k e = refl
 taken_by false k e = (cc)
 
--- a word that is one text isn't another
+-- A word that equals one text doesn't equal a different one.
 apart_from : (x other id : Text) → bytes_eq other id ≡ false → bytes_eq x other ≡ true → bytes_eq x id ≡ true → ⊥
 apart_from x other id apart is same =
     let e : x ≡ other = (bytes_eq-Decides x other).0 is in
     true≢false (sym (subst (λ (t : Text). bytes_eq t id ≡ true) e same) ∙ apart)
 
--- whether rows are as they are or as they are, they are good
+-- A choice between two lists of rows that are the same is good if they are.
 either : (P : List Row → Type 0) (b : Bool) (rows : List Row) → P rows → P (cond b rows rows)
 either P true rows good = good
 either P false rows good = good
@@ -45,11 +45,11 @@ either P false rows good = good
 -- ---- the rows of one argument, with its parser
 
 module _ (id : Text) (how : Reading) (parser : ValueParser) where
-  -- the row's texts are those that the parser takes, and are read so
+  -- The texts of the row are such as the parser takes, and are read in this way.
   abbrev pub Passes : Row → Type 0
   Passes r = (r.reading ≡ how) × (list_all (accepts false parser) r.values ≡ true)
 
-  -- each row of the argument passes
+  -- Each row of the argument passes.
   abbrev pub Good : List Row → Type 0
   Good [] = Unit {0}
   Good (r ∷ rs) = (bytes_eq r.id id ≡ true → Passes r) × Good rs
@@ -65,7 +65,7 @@ module _ (id : Text) (how : Reading) (parser : ValueParser) where
       let parts = both (accepts false parser x) (list_all (accepts false parser) xs) a in
       rw parts.0 (all_append xs ys parts.1 b)
 
-  -- a change of the first row of an argument
+  -- Rows stay good when the first row of an argument is changed into good ones.
   good_at : (other : Text) (change : Row → List Row) (missing : List Row) → ((r : Row) → bytes_eq r.id other ≡ true → (bytes_eq r.id id ≡ true → Passes r) → Good (change r))
       → Good missing → (rows : List Row) → Good rows → Good (at_row other change missing rows)
   good_at other change missing keeps last [] good = last
@@ -75,17 +75,17 @@ module _ (id : Text) (how : Reading) (parser : ValueParser) where
       go true e later = good_append (change r) rs (keeps r e good.0) good.1
       go false e later = (good.0, later)
 
-  -- no row of an argument is left
+  -- Rows stay good when those of an argument are removed.
   good_without : (other : Text) (rows : List Row) → Good rows → Good (without other rows)
   good_without other rows good = good_at other (λ r. []) [] (λ r is passes. tt) tt rows good
 
-  -- more texts that the parser takes
+  -- Rows stay good when the argument gets more texts that its parser takes.
   own_more : (s : ValueSource) (vs : List Text) (rows : List Row) → list_all (accepts false parser) vs ≡ true → Good rows → Good (with_values id how s vs rows)
   own_more s vs rows taken good =
       let new : Row = record { id = id; values = vs; count = None; source = Some s; reading = how } in
       good_at id (more_values s vs) (new ∷ []) (λ r is passes. (λ same. ((passes is).0, all_append r.values vs (passes is).1 taken), tt)) (λ same. (refl, taken), tt) rows good
 
-  -- texts of another argument
+  -- Rows stay good when another argument gets more texts.
   other_more : (other : Text) (other_how : Reading) → bytes_eq other id ≡ false → (s : ValueSource) (vs : List Text) (rows : List Row) → Good rows
       → Good (with_values other other_how s vs rows)
   other_more other other_how apart s vs rows good =
@@ -93,27 +93,27 @@ module _ (id : Text) (how : Reading) (parser : ValueParser) where
       good_at other (more_values s vs) (new ∷ []) (λ r is passes. (λ same. absurd (apart_from r.id other id apart is same), tt))
       (λ same. absurd (true≢false (sym same ∙ apart)), tt) rows good
 
-  -- texts in which the parser finds no fault are taken
+  -- Texts in which the parser finds no fault are taken.
   all_taken : (vs : List Text) → values_kinds false parser vs ≡ [] → list_all (accepts false parser) vs ≡ true
   all_taken [] e = refl
   all_taken (v ∷ vs) e =
       let first = taken_by (accepts false parser v) (refused_kind parser) (first_none _ (values_kinds false parser vs) e) in
       rw first (all_taken vs (later_none (value_kinds false parser v) (values_kinds false parser vs) e))
 
-  -- a use of the argument whose texts have no fault
+  -- Rows stay good when the argument is used with texts that have no fault.
   own_use : (vs : List Text) (rows : List Row) → values_kinds false parser vs ≡ [] → Good rows → Good (with_values id how CommandLine vs (without id rows))
   own_use vs rows e good = own_more CommandLine vs (without id rows) (all_taken vs e) (good_without id rows good)
 
-  -- a use of another
+  -- Rows stay good when another argument is used.
   other_use : (other : Text) (other_how : Reading) → bytes_eq other id ≡ false → (vs : List Text) (rows : List Row) → Good rows
       → Good (with_values other other_how CommandLine vs (without other rows))
   other_use other other_how apart vs rows good = other_more other other_how apart CommandLine vs (without other rows) (good_without other rows good)
 
-  -- each use of the argument that has no fault keeps the rows good
+  -- Each use of this argument that has no fault keeps the rows good.
   abbrev pub KeepsOne : Bool → Rule → Type 0
   KeepsOne again a = (values : List Text) (rows : List Row) → use_fault again a values rows ≡ [] → Good rows → Good (used a values rows)
 
-  -- each use of one of the arguments does
+  -- Each use of one of these arguments that has no fault keeps the rows good.
   abbrev pub Keeps : Bool → List Rule → Type 0
   Keeps again c = (p : Rule → Bool) (a : Rule) → find p c ≡ Some a → KeepsOne again a
 
@@ -129,11 +129,11 @@ module _ (id : Text) (how : Reading) (parser : ValueParser) where
           subst (λ (y : Rule). use_fault again y values rows ≡ [] → Good rows → Good (used y values rows)) same (first values rows) e good
       go false is = rest p a is values rows e good
 
-  -- the defaults of the arguments keep the rows good
+  -- The defaults of these arguments keep the rows good.
   abbrev pub KeepsDefaults : List Rule → Type 0
   KeepsDefaults c = (rows : List Row) → Good rows → Good (fold with_default rows c)
 
-  -- the words in which the subcommand finds no fault leave good rows
+  -- Words in which the subcommand finds no fault leave good rows.
   abbrev pub Sound : Shape → Type 0
   Sound s = (words : List Text) → level_fault s [] nothing_held words false [] ≡ [] → Good (rows_after s.rules [] words)
 
@@ -145,7 +145,7 @@ module _ (id : Text) (how : Reading) (parser : ValueParser) where
       defaults _ (settle_keeps s.rules s.args_override_self Good keeps end settle
       (walk_keeps s.rules s.args_override_self Good keeps s [] refl refl (walk_from nothing_held) words walked tt))
 
-  -- the row that is found passes
+  -- The row that is found for the argument passes.
   found_passes : (rows : List Row) → Good rows → (r : Row) → find (λ r. bytes_eq r.id id) rows ≡ Some r → Passes r
   found_passes [] good r is = (cc)
   found_passes (x ∷ xs) good r is = go (bytes_eq x.id id) refl is (found_passes xs good.1 r)
@@ -155,7 +155,7 @@ module _ (id : Text) (how : Reading) (parser : ValueParser) where
       go true e is later = subst Passes (ap (λ o. unwrap_or o x) is) (good.0 e)
       go false e is later = later is
 
-  -- the argument's first text among good rows is taken, and is read so
+  -- The argument's first text among good rows is taken by the parser, and is read in this way.
   first_taken : (rows : List Row) → Good rows → (text : Text) → first_of id rows ≡ Some text → (one_of id rows ≡ Some (read_as how text)) × (accepts false parser text ≡ true)
   first_taken rows good text = go (find (λ r. bytes_eq r.id id) rows) refl
     where
@@ -176,15 +176,15 @@ module _ (id : Text) (how : Reading) (parser : ValueParser) where
 
 -- ---- the arguments of the subcommands
 
--- the parser of the border
+-- The parser of the border takes numbers of 0 to 65535.
 abbrev border_parser : ValueParser
 border_parser = vp.Signed (pos 0) (pos 65535)
 
--- the rows of the border are good
+-- Each row of the border passes.
 abbrev GoodBorder : List Row → Type 0
 GoodBorder = Good (codes "border") reading.WithoutMinus border_parser
 
--- the rows of the flag are good
+-- Each row of the flag passes.
 abbrev GoodFlag : List Row → Type 0
 GoodFlag = Good (codes "shorter") reading.AsWritten vp.Bool
 
@@ -197,27 +197,27 @@ flag = filled shorter_rule
 abbrev pub help : Rule
 help = filled help_rule
 
--- a use of the option without a fault has texts without one
+-- A use of the option that has no fault has texts without a fault.
 border_values : (again : Bool) (values : List Text) (rows : List Row) → use_fault again border values rows ≡ [] → values_kinds false border_parser (values_or_missing border values) ≡ []
 border_values again values rows e =
     let vs = values_or_missing border values in
     later_none (repeat_fault again (codes "border") rows) (values_fault border vs)
     (later_none (range_kinds 1 1 (length values)) (or_else (repeat_fault again (codes "border") rows) (values_fault border vs)) e)
 
--- so has one of the flag
+-- A use of the flag that has no fault has texts without a fault.
 flag_values : (again : Bool) (values : List Text) (rows : List Row) → use_fault again flag values rows ≡ [] → values_kinds false vp.Bool (values_or_missing flag values) ≡ []
 flag_values again values rows e =
     let vs = values_or_missing flag values in
     later_none (repeat_fault again (codes "shorter") rows) (values_fault flag vs)
     (later_none (range_kinds 0 0 (length values)) (or_else (repeat_fault again (codes "shorter") rows) (values_fault flag vs)) e)
 
--- each use of help has a fault
+-- Each use of help has a fault.
 help_none : (again : Bool) (values : List Text) (rows : List Row) → use_fault again help values rows ≡ [] → ⊥
 help_none again values rows e =
     let none : kind.DisplayHelp ∷ [] ≡ [] = later_none (range_kinds 0 0 (length values)) (kind.DisplayHelp ∷ []) e in
     (cc)
 
--- the uses keep the rows of the option
+-- Each use of the option that has no fault keeps its own rows good.
 border_keeps_border : (again : Bool) → KeepsOne (codes "border") reading.WithoutMinus border_parser again border
 border_keeps_border again values rows e good =
     own_use (codes "border") reading.WithoutMinus border_parser (values_or_missing border values) rows (border_values again values rows e) good
@@ -229,7 +229,7 @@ flag_keeps_border again values rows e good =
 help_keeps_border : (again : Bool) → KeepsOne (codes "border") reading.WithoutMinus border_parser again help
 help_keeps_border again values rows e good = absurd (help_none again values rows e)
 
--- and those of the flag
+-- Each use of the option keeps the rows of the flag good.
 border_keeps_flag : (again : Bool) → KeepsOne (codes "shorter") reading.AsWritten vp.Bool again border
 border_keeps_flag again values rows e good =
     other_use (codes "shorter") reading.AsWritten vp.Bool (codes "border") reading.WithoutMinus refl (values_or_missing border values) rows good
@@ -241,7 +241,7 @@ flag_keeps_flag again values rows e good =
 help_keeps_flag : (again : Bool) → KeepsOne (codes "shorter") reading.AsWritten vp.Bool again help
 help_keeps_flag again values rows e good = absurd (help_none again values rows e)
 
--- the default of the flag keeps both
+-- The default of the flag keeps the rows of the option good.
 flag_default_border : (rows : List Row) → GoodBorder rows → GoodBorder (with_default rows flag)
 flag_default_border rows good = go (has_row (codes "shorter") rows)
   where
@@ -256,7 +256,7 @@ flag_default_flag rows good = go (has_row (codes "shorter") rows)
     go true = good
     go false = own_more (codes "shorter") reading.AsWritten vp.Bool DefaultValue (codes "false" ∷ []) rows refl good
 
--- the others have none
+-- What holds of the rows still holds after the default of an argument that has none.
 module _ (P : List Row → Type 0) where
   border_default : (rows : List Row) → P rows → P (with_default rows border)
   border_default rows good = either P (has_row (codes "border") rows) rows good
@@ -264,15 +264,15 @@ module _ (P : List Row → Type 0) where
   help_default : (rows : List Row) → P rows → P (with_default rows help)
   help_default rows good = either P (has_row (codes "help") rows) rows good
 
--- the words in which the subcommand finds no fault leave rows that are good for both
+-- Words in which the subcommand finds no fault leave rows that are good for the option and for the flag.
 abbrev pub IsSound : Shape → Type 0
 IsSound s = Sound (codes "border") reading.WithoutMinus border_parser s × Sound (codes "shorter") reading.AsWritten vp.Bool s
 
--- these are the arguments of the subcommand
+-- The subcommand has these arguments.
 abbrev pub Ruled : Shape → List Rule → Type 0
 Ruled s c = s.rules ≡ c
 
--- a subcommand with such arguments is sound
+-- A subcommand is sound if uses and defaults of its arguments keep the rows good for the option and for the flag.
 ruled_sound : (s : Shape) (c : List Rule) → Ruled s c
     → ((again : Bool) → Keeps (codes "border") reading.WithoutMinus border_parser again c) → KeepsDefaults (codes "border") reading.WithoutMinus border_parser c
     → ((again : Bool) → Keeps (codes "shorter") reading.AsWritten vp.Bool again c) → KeepsDefaults (codes "shorter") reading.AsWritten vp.Bool c → IsSound s
@@ -283,7 +283,7 @@ ruled_sound s c is keeps_border border_defaults keeps_flag flag_defaults = (
       (subst (KeepsDefaults (codes "shorter") reading.AsWritten vp.Bool) (sym is) flag_defaults),
 )
 
--- the uses of help alone, which each subcommand has, keep the rows good
+-- Where help is the only argument, its uses keep the rows of the option good.
 help_alone_border : (again : Bool) → Keeps (codes "border") reading.WithoutMinus border_parser again (help ∷ [])
 help_alone_border again =
     cons_keeps (codes "border") reading.WithoutMinus border_parser again help [] (help_keeps_border again) (nil_keeps (codes "border") reading.WithoutMinus border_parser again)
@@ -292,19 +292,19 @@ help_alone_flag : (again : Bool) → Keeps (codes "shorter") reading.AsWritten v
 help_alone_flag again =
     cons_keeps (codes "shorter") reading.AsWritten vp.Bool again help [] (help_keeps_flag again) (nil_keeps (codes "shorter") reading.AsWritten vp.Bool again)
 
--- so do those of the flag and help
+-- Where the flag and help are the only arguments, their uses keep the rows of the option good.
 flag_alone_border : (again : Bool) → Keeps (codes "border") reading.WithoutMinus border_parser again (flag ∷ help ∷ [])
 flag_alone_border again = cons_keeps (codes "border") reading.WithoutMinus border_parser again flag (help ∷ []) (flag_keeps_border again) (help_alone_border again)
 
 flag_alone_flag : (again : Bool) → Keeps (codes "shorter") reading.AsWritten vp.Bool again (flag ∷ help ∷ [])
 flag_alone_flag again = cons_keeps (codes "shorter") reading.AsWritten vp.Bool again flag (help ∷ []) (flag_keeps_flag again) (help_alone_flag again)
 
--- a subcommand with neither argument
+-- A subcommand with neither the option nor the flag is sound.
 pub plain_sound : (s : Shape) → Ruled s (help ∷ []) → IsSound s
 plain_sound s is = ruled_sound s (help ∷ []) is help_alone_border (λ rows good. help_default GoodBorder rows good)
     help_alone_flag (λ rows good. help_default GoodFlag rows good)
 
--- one with the option
+-- A subcommand with only the option is sound.
 pub bordered_sound : (s : Shape) → Ruled s (border ∷ help ∷ []) → IsSound s
 bordered_sound s is =
     ruled_sound s (border ∷ help ∷ []) is
@@ -313,14 +313,14 @@ bordered_sound s is =
     (λ again. cons_keeps (codes "shorter") reading.AsWritten vp.Bool again border (help ∷ []) (border_keeps_flag again) (help_alone_flag again))
     (λ rows good. help_default GoodFlag (with_default rows border) (border_default GoodFlag rows good))
 
--- one with the flag
+-- A subcommand with only the flag is sound.
 pub flagged_sound : (s : Shape) → Ruled s (flag ∷ help ∷ []) → IsSound s
 flagged_sound s is =
     ruled_sound s (flag ∷ help ∷ []) is
     flag_alone_border (λ rows good. help_default GoodBorder (with_default rows flag) (flag_default_border rows good))
     flag_alone_flag (λ rows good. help_default GoodFlag (with_default rows flag) (flag_default_flag rows good))
 
--- one with both
+-- A subcommand with both the option and the flag is sound.
 pub both_sound : (s : Shape) → Ruled s (border ∷ flag ∷ help ∷ []) → IsSound s
 both_sound s is =
     ruled_sound s (border ∷ flag ∷ help ∷ []) is
@@ -331,7 +331,7 @@ both_sound s is =
 
 -- ---- what is readable
 
--- a text that the parser takes is a limit's
+-- A text that the border's parser takes writes a limit.
 limit_of : (text : Text) → accepts false border_parser text ≡ true → (n : ℕ) × IsBorderLimit text n
 limit_of text e = go (signed_digits_value 10 text) refl
   where
@@ -346,7 +346,7 @@ limit_of text e = go (signed_digits_value 10 text) refl
         let low = rw is at passed.2 in
         absurd (omega (arith, ints))
 
--- a text that the flag's parser takes is `true` or `false`
+-- A text that the flag's parser takes is `true` or `false`.
 flag_text : (text : Text) → accepts false vp.Bool text ≡ true → (text ≡ codes "true") ⊎ (text ≡ codes "false")
 flag_text text e = go (bytes_eq text (codes "true")) refl e
   where
@@ -354,7 +354,7 @@ flag_text text e = go (bytes_eq text (codes "true")) refl e
     go true is e = inl ((bytes_eq-Decides text (codes "true")).0 is)
     go false is e = inr ((bytes_eq-Decides text (codes "false")).0 e)
 
--- the texts among good rows are a limit's and a flag's
+-- Rows that are good for the option and for the flag can be read.
 pub readable : (rows : List Row) → GoodBorder rows → GoodFlag rows → IsReadable rows
 readable rows border_good flag_good = record {
   limit = λ text is.

@@ -14,7 +14,7 @@ use Rattle.dm_symbol.specs.declared.Profile.TheVariants.{Ascii, Shorter}
 use Rattle.dm_tool.specs.declared.task.Task.{Task}
 use Rattle.dm_tool.specs.declared.task.Task.TheVariants.{Read, Check, Normal, Write, Table}
 
--- readable matches give a limit or none
+-- Matches that can be read give a limit or none.
 pub limit_given : (rows : List Row) → IsReadable rows → (limit : Option ℕ) × GivesLimit rows limit
 limit_given rows readable = go (first_of (codes "border") rows) refl
   where
@@ -24,7 +24,7 @@ limit_given rows readable = go (first_of (codes "border") rows) refl
         let number = (readable.limit text is).1 in
         (Some number.0, (text, is, number.1))
 
--- matches choose a profile
+-- Matches always choose a profile.
 pub profile_given : (rows : List Row) → (profile : Profile) × GivesProfile rows profile
 profile_given rows = go (first_of (codes "shorter") rows) refl
   where
@@ -39,7 +39,7 @@ profile_given rows = go (first_of (codes "shorter") rows) refl
     go None is = (Ascii, λ given. let no : None ≡ Some (codes "true") = sym is ∙ given in cc)
     go (Some text) is = by_text text (bytes_eq text (codes "true")) refl is
 
--- a name of no task is that of no task
+-- A subcommand whose name is none of the five is no task.
 pub no_task : (name : Text) (rows : List Row) (t : Task) → IsTaskOf name rows t → HasNoTask name → ⊥
 no_task name rows (Read limit) is none = none.read is.0
 no_task name rows (Check limit) is none = none.check is.0
@@ -47,7 +47,7 @@ no_task name rows (Normal limit profile) is none = none.normal is.0
 no_task name rows (Write profile) is none = none.write is.0
 no_task name rows Table is none = none.table is
 
--- matches give one limit at most
+-- Matches give at most one limit.
 one_limit : (rows : List Row) (a b : Option ℕ) → GivesLimit rows a → GivesLimit rows b → a ≡ b
 one_limit rows None None x y = refl
 one_limit rows None (Some n) x y =
@@ -62,14 +62,14 @@ one_limit rows (Some m) (Some n) x y =
     let same : m ≡ n = omega (arith, ints) in
     ap Some same
 
--- matches choose one profile at most
+-- Matches choose at most one profile.
 one_profile : (rows : List Row) (a b : Profile) → GivesProfile rows a → GivesProfile rows b → a ≡ b
 one_profile rows Ascii Ascii x y = refl
 one_profile rows Ascii Shorter x y = absurd (x y)
 one_profile rows Shorter Ascii x y = absurd (y x)
 one_profile rows Shorter Shorter x y = refl
 
--- the first letter of a task's name
+-- The names of the five tasks begin with different letters.
 abbrev letter : Task → ℕ
 letter (Read limit) = 114
 letter (Check limit) = 99
@@ -111,6 +111,6 @@ same_letter name rows Table (Normal b q) e x y = absurd (omega arith)
 same_letter name rows Table (Write q) e x y = absurd (omega arith)
 same_letter name rows Table Table e x y = refl
 
--- a subcommand with its matches is one task at most
+-- A subcommand with its matches is at most one task.
 pub one_task : (name : Text) (rows : List Row) (s t : Task) → IsTaskOf name rows s → IsTaskOf name rows t → s ≡ t
 one_task name rows s t x y = same_letter name rows s t (sym (has_letter name rows s x) ∙ has_letter name rows t y) x y

@@ -13,7 +13,7 @@ use Rattle.clap.specs.Walk.{Row, Text, first_of, one_of, row_text}
 use Rattle.dm_tool.specs.CommandLine.{GivesLimit, IsBorderLimit}
 use Rattle.dm_tool.specs.inner.CommandReads.{IsReadable}
 
--- the text without a first minus, by the test that the parser makes
+-- The text without a leading minus is what the parser's own test leaves of it.
 without_minus-cond : (t : Text) → without_minus t ≡ cond (starts_with_minus t) (drop 1 t) t
 without_minus-cond [] = refl
 without_minus-cond (x ∷ xs) = go (x == 45)
@@ -22,14 +22,14 @@ without_minus-cond (x ∷ xs) = go (x == 45)
     go true = refl
     go false = refl
 
--- digits have no plus before them
+-- Decimal digits have no plus before them.
 no_plus : (ds : Text) → IsNumeral 10 ds → without_leading_plus ds ≡ ds
 no_plus [] h = refl
 no_plus (d ∷ ds) h =
     let plus : (d == 43) ≡ false = ne_eqb _ _ (λ e. omega (arith, digit_from_value d h.1.0)) in
     ap (λ (b : Bool). drop (cond b 1 0) (d ∷ ds)) plus
 
--- the number read from a limit's text is that limit
+-- The number that is read from a text which writes a limit is that limit.
 limit_number : {E : Type 0} (G : Text → Result ℕ E → Type 0) → ((u : Text) (x : Result ℕ E) → G u x → ParsesUnsigned 16 10 u x)
     → (t : Text) (r : Option ℕ) (n : ℕ) → ReadsOne G (without_minus t) r → IsBorderLimit t n → r ≡ Some n
 limit_number {E} G parses t r n read limit =
@@ -59,7 +59,7 @@ limit_number {E} G parses t r n read limit =
         let value = rw minus at limit.1 in
         absurd (parses t (Err h.0) (rw minus at h.1) (numeral, omega (arith, ints)))
 
--- where there is no first value, nothing is read
+-- Where an argument has no first text, nothing is read of it.
 none_of : (id : Text) (rows : List Row) → first_of id rows ≡ None → one_of id rows ≡ None
 none_of id rows = go (find (λ r. bytes_eq r.id id) rows)
   where
@@ -67,7 +67,7 @@ none_of id rows = go (find (λ r. bytes_eq r.id id) rows)
     go None e = refl
     go (Some r) e = rw e refl
 
--- what the getter reads is the limit that the matches give
+-- What the getter reads for the border is the limit that the matches give.
 pub limit_read : {E : Type 0} (G : Text → Result ℕ E → Type 0) → ((u : Text) (x : Result ℕ E) → G u x → ParsesUnsigned 16 10 u x)
     → (rows : List Row) (r : Option ℕ) → (one_of (codes "border") rows ≡ None → r ≡ None)
     → ((t : Text) → one_of (codes "border") rows ≡ Some t → ReadsOne G t r) → IsReadable rows → GivesLimit rows r
@@ -82,7 +82,7 @@ limit_read {E} G parses rows r none value readable = go (first_of (codes "border
 
 module _ (rows : List Row) (readable : IsReadable rows) (b : Bool) (none : one_of (codes "shorter") rows ≡ None → b ≡ false)
     (given : one_of (codes "shorter") rows ≡ Some (codes "true") → b ≡ true) (other : one_of (codes "shorter") rows ≡ Some (codes "false") → b ≡ false) where
-  -- where the getter says so, the flag was given
+  -- Where the getter says that the flag was given, it was.
   pub flag_given : b ≡ true → first_of (codes "shorter") rows ≡ Some (codes "true")
   flag_given is = go (first_of (codes "shorter") rows) refl
     where
@@ -95,6 +95,6 @@ module _ (rows : List Row) (readable : IsReadable rows) (b : Bool) (none : one_o
             | inr f ↦ absurd (true≢false (sym is ∙ other (found.0 ∙ ap Some f)))
           ]
 
-  -- else it wasn't
+  -- Where the getter says that the flag wasn't given, it wasn't.
   pub flag_left_out : b ≡ false → first_of (codes "shorter") rows ≡ Some (codes "true") → ⊥
   flag_left_out is e = true≢false (sym (given (readable.flag (codes "true") e).0) ∙ is)

@@ -17,27 +17,27 @@ use Rattle.dm_tool.proofs.CommandWalks.{first_none, later_none}
 use Rattle.dm_tool.proofs.CommandNames.{limit_given, profile_given}
 use Rattle.dm_tool.proofs.CommandMatches.{IsSound, bordered_sound, both_sound, flagged_sound, plain_sound, readable}
 
--- two values in equal options are equal
+-- Two values in equal options are equal.
 pub unwrapped : (x y : Text × List Row) → Some x ≡ Some y → x ≡ y
 unwrapped x y e = ap (λ o. unwrap_or o x) e
 
--- where a subcommand is wanted and the last checks find no fault, there is one
+-- Where a subcommand is required and the last checks find no fault, there is one.
 wanted : (help has rest required : Bool) → required ≡ true → check_kinds help (not has && required) rest ≡ [] → has ≡ true
 wanted true has rest required r e = (cc)
 wanted false true rest required r e = refl
 wanted false false rest true r e = (cc)
 wanted false false rest false r e = (cc)
 
--- the subcommand is a task by each of its readable matches, and leaves good ones
+-- The subcommand is a task by any matches that can be read, and words without a fault leave good ones.
 abbrev Known : Shape → Type 0
 Known s = ((rows : List Row) → IsReadable rows → (t : Task) × IsTaskOf s.name rows t) × IsSound s
 
--- each of them
+-- Each of these subcommands is a task and leaves good matches.
 abbrev AllKnown : List Shape → Type 0
 AllKnown [] = Unit {0}
 AllKnown (s ∷ rest) = Known s × AllKnown rest
 
--- there is a subcommand, with readable matches, and it is a task
+-- There is a subcommand, its matches can be read, and it is a task.
 abbrev pub IsThere : Option (Text × List Row) → Type 0
 IsThere o = (found : Text × List Row) × (o ≡ Some found) × IsReadable found.1 × ((t : Task) × IsTaskOf found.0 found.1 t)
 
@@ -61,7 +61,7 @@ entered_there a (Some q) known has e = go (find (λ s. answers_to q.0 (label_of 
         let read = readable (rows_after s.rules [] q.1) (known_s.1.0 q.1 e) (known_s.1.1 q.1 e) in
         (rows_at s q.1, refl, read, known_s.0 (rows_after s.rules [] q.1) read)
 
--- each of the five subcommands is a task and leaves good matches
+-- Each of the five subcommands is a task and leaves good matches.
 all_known : AllKnown (built dm_app).subs
 all_known = (
   (λ rows r. let l = limit_given rows r in (Read l.0, (refl, l.1)), bordered_sound _ refl),

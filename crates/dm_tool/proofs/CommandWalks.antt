@@ -11,12 +11,12 @@ use Rattle.clap.specs.Simple.{Shape}
 use Rattle.clap.specs.declared.error.kind.ErrorKind.TheVariants as kind
 use Rattle.clap.specs.Walk.{Held, Names, Outcome, Row, Rule, Step, Text, Waiting, Walk, done, waits, plain, refused, idle, option, positional, next, trailing, subcommand, value, after_flag, after_step, arg_by_id, arg_by_index, arg_by_long, arg_by_short, attached_value, bundle, bundle_met, bundle_step, flag_met, is_pending, long_met, long_or_other, option_met, option_word, has_long, has_short, plain_word, pushed, reacted, settled, settled_rows, short_met, short_or_plain, subcommand_met, subcommand_or_other, takes_several, takes_values, to_positional, used, used_by_id, walked, walked_from, word_met}
 
--- where neither of two steps fails, the first doesn't
+-- Where two steps together have no fault, the first has none.
 pub first_none : (a b : Kinds) → or_else a b ≡ [] → a ≡ []
 first_none [] b e = refl
 first_none (k ∷ ks) b e = (cc)
 
--- nor does the second
+-- Where two steps together have no fault, the second has none.
 pub later_none : (a b : Kinds) → or_else a b ≡ [] → b ≡ []
 later_none [] b e = e
 later_none (k ∷ ks) b e = (cc)
@@ -32,7 +32,7 @@ module _ (c : List Rule) (again : Bool) (Good : List Row → Type 0)
       go None is e = good
       go (Some a) is e = keeps (λ a. bytes_eq a.id q.0) a is q.1 rows e good
 
-  -- the pending argument is used
+  -- Using the pending argument keeps the rows good.
   pub settle_keeps : (h : Held) → settle_fault c again h ≡ [] → Good h.rows → Good (settled c h).rows
   settle_keeps h e good = settle_rows h.pending h.rows e good
 
@@ -46,7 +46,7 @@ module _ (c : List Rule) (again : Bool) (Good : List Row → Type 0)
   option_keeps p a is (Some v) h e good = react_keeps p a is (v ∷ []) h e good
   option_keeps p a is None h e good = settle_keeps h e good
 
-  -- `--name` or `--name=value`
+  -- A word `--name` or `--name=value` keeps the rows good.
   long_keeps : (p : Rule → Bool) (o : Option Rule) → find p c ≡ o → (v : Option Text) (h : Held) → long_fault c again o v h ≡ [] → Good h.rows
       → Good (long_met c o v h).0.rows
   long_keeps p None is v h e good = good
@@ -58,7 +58,7 @@ module _ (c : List Rule) (again : Bool) (Good : List Row → Type 0)
       go false (Some v) e = good
       go false None e = react_keeps p a is [] h e good
 
-  -- a flag of a bundle, and then the rest of it
+  -- A flag of a bundle, with the rest of the bundle after it, keeps the rows good.
   short_keeps : (p : Rule → Bool) (o : Option Rule) → find p c ≡ o → (rest : Text) (h : Held) (fault : Held → Kinds) (met : Held → Held × Outcome)
       → ((g : Held) → fault g ≡ [] → Good g.rows → Good (met g).0.rows)
       → short_fault c again o rest h fault ≡ [] → Good h.rows → Good (short_met c o rest h met).0.rows
@@ -71,7 +71,7 @@ module _ (c : List Rule) (again : Bool) (Good : List Row → Type 0)
       go false e = later (reacted c a [] h) (later_none (react_fault c again a [] h) _ e)
           (react_keeps p a is [] h (first_none (react_fault c again a [] h) _ e) good)
 
-  -- the flags of a bundle
+  -- The flags of a bundle keep the rows good.
   flags_keep : (k : ℕ) (flags : Text) (skip : ℕ) (so_far : Outcome) (h : Held) → flags_fault c again k flags skip h ≡ [] → Good h.rows
       → Good (bundle_met c k flags skip so_far h).0.rows
   unfolding flags_fault bundle_met
@@ -87,7 +87,7 @@ module _ (c : List Rule) (again : Bool) (Good : List Row → Type 0)
           (λ g. later (drop (length (encode_utf8 x)) flags) 0 done g) e good
       go later (Some x) (suc n) e = later (drop (length (encode_utf8 x)) flags) n so_far h e good
 
-  -- a word that is no flag uses nothing
+  -- A word that is no flag keeps the rows good.
   plain_rows : (waiting : Waiting) (word : Text) (h : Held) → Good h.rows → Good (plain_word c waiting word h).0.rows
   plain_rows idle word h good = good
   plain_rows positional word h good = good
@@ -115,7 +115,7 @@ module _ (c : List Rule) (again : Bool) (Good : List Row → Type 0)
       go (Some flags) e = after_flag_rows waiting word (bundle c flags h).0 (bundle c flags h).1
           (flags_keep (length flags) flags h.skip plain (record h { skip = 0 }) e good)
 
-  -- what a word is, before it goes to a positional
+  -- Whatever a word is, before it goes to a positional, it keeps the rows good.
   word_keeps : (s : Shape) (names : Names) → s.rules ≡ c → s.args_override_self ≡ again → (is_trailing : Bool) (waiting : Waiting) (position : ℕ) (word : Text) (h : Held)
       → word_fault s names is_trailing waiting word h ≡ [] → Good h.rows → Good (word_met c names is_trailing waiting position word h).0.rows
   word_keeps s names rules over true waiting position word h e good = good
@@ -130,7 +130,7 @@ module _ (c : List Rule) (again : Bool) (Good : List Row → Type 0)
       go (Some name) e = good
       go None e = flag (bytes_eq word (45 ∷ 45 ∷ [])) e
 
-  -- what the word's step makes of it
+  -- The step that is made of a word keeps the rows good.
   step_keeps : (s : Shape) → s.rules ≡ c → s.args_override_self ≡ again → (w : Walk) (word : Text) (h : Held) (step : Step)
       → step_fault s w.position h step ≡ [] → Good h.rows → Good (after_step c word w h step).held.rows
   step_keeps s rules over w word h (next waiting) e good = good
@@ -162,7 +162,7 @@ module _ (c : List Rule) (again : Bool) (Good : List Row → Type 0)
           (word_met r names w.is_trailing w.waiting w.position word w.held).1 ≡ []) rules (later_none (word_fault s names w.is_trailing w.waiting word w.held) _ e))
           (word_keeps s names rules over w.is_trailing w.waiting w.position word w.held (first_none (word_fault s names w.is_trailing w.waiting word w.held) _ e) good)
 
-  -- the walk over all the words
+  -- The walk over all words keeps the rows good.
   pub walk_keeps : (s : Shape) (names : Names) → s.rules ≡ c → s.args_override_self ≡ again → (w : Walk) (words : List Text)
       → walk_fault s names w words ≡ [] → Good w.held.rows → Good (fold (walked c names) w words).held.rows
   unfolding walk_fault

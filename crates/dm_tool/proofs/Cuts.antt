@@ -19,7 +19,7 @@ use Rattle.dm_tool.proofs.Outcomes.{written_append}
 
 -- ---- the lines of a text that ends between
 
--- some bytes, ended by LF and then by whole lines
+-- Some bytes, an LF and then whole lines are split into lines, of which these are the last.
 ended_then : (front : List ℕ) (more : List (List ℕ)) → AllByRecursion HasNoLf more → (lines : List (List ℕ)) × IsSplit (front ++ lf ∷ ended more) (lines ++ more) []
 ended_then front more free =
     let t = text_is_split front in
@@ -36,11 +36,11 @@ ended_then front more free =
           (subst (λ l. IsSplit l (t.lines ++ t.rest ∷ more) []) text_is all),
     )
 
--- no text has no line
+-- The empty text has no lines.
 no_lines : IsSplit [] [] []
 no_lines = record { whole = refl; lines_no_lf = tt; rest_no_lf = tt }
 
--- the lines of a text that is empty or ends with an empty line end with an empty one, where there are any
+-- The lines of a text that is empty or ends with an empty line end with an empty one, if there are any.
 blank_lines : (text : List ℕ) → (text ≡ []) ⊎ ((text ≡ lf ∷ []) ⊎ ((front : List ℕ) × (text ≡ front ++ lf ∷ lf ∷ [])))
     → (lines : List (List ℕ)) × IsSplit text lines [] × EndsBlank lines
 blank_lines text (inl none) = ([], subst (λ l. IsSplit l [] []) (sym none) no_lines, inl refl)
@@ -50,7 +50,7 @@ blank_lines text (inr (inr some)) =
     let t = ended_then some.0 ([] ∷ []) (tt, tt) in
     (t.0 ++ [] ∷ [], subst (λ l. IsSplit l (t.0 ++ [] ∷ []) []) (sym some.1) t.1, inr (t.0, refl))
 
--- the lines of a text that is empty or ends with LF
+-- A text that is empty or ends with LF is split into lines without a rest.
 whole_lines : (text : List ℕ) → (text ≡ []) ⊎ ((front : List ℕ) × (text ≡ front ++ lf ∷ [])) → (lines : List (List ℕ)) × IsSplit text lines []
 whole_lines text (inl none) = ([], subst (λ l. IsSplit l [] []) (sym none) no_lines)
 whole_lines text (inr some) =
@@ -59,17 +59,18 @@ whole_lines text (inr some) =
 
 -- ---- two parts
 
--- the answers to some lines and to others are those to all of them
+-- The answers to these lines, and those to any lines after them, are together the answers to all.
 abbrev AreJoined : Task → List (List ℕ) → Type 0
 AreJoined task lines = (more : List (List ℕ)) (x y : List Answer) → AreAnswersTo task lines x → AreAnswersTo task more y → AreAnswersTo task (lines ++ more) (x ++ y)
 
--- the answers to records, where the first lines end with an empty one
+-- Where the first lines end with an empty one, the answers to their records, and those to the records after them, are
+-- together the answers to all.
 records_joined : (task : Task) (lines more : List (List ℕ)) (x y : List Answer) → EndsBlank lines → AreAnswersToRecords task lines x → AreAnswersToRecords task more y
     → AreAnswersToRecords task (lines ++ more) (x ++ y)
 records_joined task lines more x y blank p q =
     (p.0 ++ q.0, records_append lines more p.0 q.0 p.1 blank q.1, matched_append (IsAnswerToRecord task) p.0 q.0 x y p.2 q.2)
 
--- the answers to the whole
+-- The answers to two parts of a text are together the answers to the whole.
 answers_joined : (task : Task) (first second : List ℕ) (lines : List (List ℕ)) (x y : List Answer) → IsSplit first lines [] → AreJoined task lines
     → AreAllAnswers task first x → AreAllAnswers task second y → AreAllAnswers task (first ++ second) (x ++ y)
 answers_joined task first second lines x y split joined p q =
@@ -84,15 +85,15 @@ answers_joined task first second lines x y split joined p q =
           (joined (q.lines ++ last_line q.rest) x y (subst (λ l. AreAnswersTo task l x) (append-nil lines) here) q.answered);
     }
 
--- the tally of answers after others
+-- The tally of answers and further ones is the sum of their tallies.
 tally_append : (x y : List Answer) → tally_of (x ++ y) ≡ added (tally_of x) (tally_of y)
 tally_append x y = ap₂ (λ m n. record { answered = m; refused = n }) (sum_by-append _ x y) (sum_by-append _ x y)
 
--- what is written for a text that is no table's
+-- What is written for a text, and its tally, where the task isn't the table.
 abbrev OutOf : Task → List ℕ → List ℕ → Tally → Type 0
 OutOf task text out tally = (answers : List Answer) × AreAllAnswers task text answers × (out ≡ written answers) × (tally ≡ tally_of answers)
 
--- what is written for the whole
+-- What is written for two parts of a text is together what is written for the whole, and the tallies add up.
 outs_joined : (task : Task) (first second a b : List ℕ) (s t : Tally) (lines : List (List ℕ)) → IsSplit first lines [] → AreJoined task lines
     → OutOf task first a s → OutOf task second b t → OutOf task (first ++ second) (a ++ b) (added s t)
 outs_joined task first second a b s t lines split joined p q = (
@@ -102,7 +103,7 @@ outs_joined task first second a b s t lines split joined p q = (
   ap₂ added p.3 q.3 ∙ sym (tally_append p.0 q.0),
 )
 
--- two parts are the whole
+-- A text that is cut in two between records, or between message lines, is answered as its two parts are.
 pub two_parts : (task : Task) (first second a b : List ℕ) (s t : Tally) → task ≢ Table → EndsBetween task first → IsOut task first a s → IsOut task second b t
     → IsOut task (first ++ second) (a ++ b) (added s t)
 two_parts (Read border) first second a b s t reads ends p q =
@@ -121,7 +122,7 @@ two_parts Table first second a b s t reads ends p q = absurd (reads refl)
 
 -- ---- any number of parts
 
--- no line has no answer
+-- Where there are no lines there are no answers.
 no_answers : (task : Task) → AreAnswersTo task [] []
 no_answers (Read border) = ([], no_line, tt)
 no_answers (Check border) = ([], no_line, tt)
@@ -129,15 +130,15 @@ no_answers (Normal border profile) = ([], no_line, tt)
 no_answers (Write profile) = tt
 no_answers Table = ([], no_line, tt)
 
--- nothing is written for no text
+-- Nothing is written for the empty text.
 no_out : (task : Task) → task ≢ Table → IsOut task [] [] (tally_of [])
 no_out task reads = out_by task [] [] reads (record { lines = []; rest = []; split = no_lines; answered = no_answers task })
 
--- a tally and none
+-- Adding the tally of no answers changes no tally.
 added_none : (t : Tally) → added t (tally_of []) ≡ t
 added_none t = ap₂ (λ m n. record { answered = m; refused = n }) (omega arith) (omega arith)
 
--- any number of parts are the whole
+-- A text that is cut between records, or between message lines, is answered as its parts are, however many.
 pub all_parts : (task : Task) (parts : List (List ℕ)) (outs : List PartOut) → task ≢ Table → AreCutBetween task parts → AreOuts task parts outs
     → IsOut task (concat parts) (flat_map (λ given. given.out) outs) (sum_of (map (λ given. given.tally) outs))
 all_parts task [] [] reads cut are = no_out task reads
@@ -154,18 +155,18 @@ all_parts task (part ∷ next ∷ parts) (given ∷ outs) reads cut are =
 
 -- ---- the status
 
--- the status by how many were refused
+-- The status is 0 if none was refused, and else 1.
 status_for : ℕ → ℕ
 status_for zero = 0
 status_for (suc n) = 1
 
--- it is that status
+-- A status that is 0 if none was refused, and 1 if some were, is the status for that number.
 status_is : (refused status : ℕ) → (refused ≡ 0 → status ≡ 0) → (0 < refused → status ≡ 1) → status ≡ status_for refused
 unfolding status_for
 status_is zero status none some = none refl
 status_is (suc n) status none some = some (omega arith)
 
--- of two numbers of refused ones
+-- The status for the sum of two numbers of refusals is the larger of their statuses.
 status_added : (m n : ℕ) → max (status_for m) (status_for n) ≡ status_for (m + n)
 unfolding status_for
 status_added zero zero = refl
@@ -173,23 +174,23 @@ status_added zero (suc n) = let e : suc n ≡ zero + suc n = omega arith in ap s
 status_added (suc m) zero = let e : suc m ≡ suc m + zero = omega arith in ap status_for e
 status_added (suc m) (suc n) = let e : suc (m + suc n) ≡ suc m + suc n = omega arith in ap status_for e
 
--- where some were refused it is 1
+-- Where some were refused the status is 1.
 status_one : (refused : ℕ) → 0 < refused → status_for refused ≡ 1
 unfolding status_for
 status_one zero some = absurd (omega arith)
 status_one (suc n) some = refl
 
--- and where none was it is 0
+-- Where none was refused the status is 0.
 status_none : (refused : ℕ) → refused ≡ 0 → status_for refused ≡ 0
 unfolding status_for
 status_none zero none = refl
 status_none (suc n) none = absurd (omega arith)
 
--- the program ends with the status by how many were refused
+-- The program ends with the status for its number of refusals.
 ends_with : (tally : Tally) (status : ℕ) → status ≡ status_for tally.refused → EndsWith tally status
 ends_with tally status e = (λ none. (e ∙ status_none tally.refused none, refl), λ some. (e ∙ status_one tally.refused some, refl))
 
--- the largest status is that of the sum
+-- The largest of the statuses is the status for the sum of the refusals.
 largest_is : (tallies : List Tally) (statuses : List ℕ) → AreMatched EndsWith tallies statuses → largest statuses ≡ status_for (sum_of tallies).refused
 unfolding status_for
 largest_is [] [] are = refl
@@ -199,6 +200,6 @@ largest_is (t ∷ tallies) (n ∷ statuses) are =
     ap₂ max (status_is t.refused n (λ none. (are.0.0 none).0) (λ some. (are.0.1 some).0)) (largest_is tallies statuses are.1)
     ∙ status_added t.refused (sum_of tallies).refused
 
--- the largest of the parts' statuses is that of the whole
+-- The largest of the parts' statuses is the status of the whole.
 pub largest_status : (tallies : List Tally) (statuses : List ℕ) → AreMatched EndsWith tallies statuses → EndsWith (sum_of tallies) (largest statuses)
 largest_status tallies statuses are = ends_with (sum_of tallies) (largest statuses) (largest_is tallies statuses are)

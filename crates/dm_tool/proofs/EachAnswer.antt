@@ -26,7 +26,7 @@ use Rattle.dm_tool.proofs.EachLine.{joined_message, line_is_there}
 
 -- ---- the grid of a record
 
--- the rows of lines that are all as long
+-- Where all lines have one length, so have their rows.
 rows_wide : (n side : ℕ) (lines : List (List ℕ)) → side ≡ n → list_all (λ line. length line == n) lines ≡ true
     → AllByRecursion (λ (row : List Bool). length row ≡ side) (rows_of lines)
 rows_wide n side [] e h = tt
@@ -34,7 +34,7 @@ rows_wide n side (line ∷ lines) e h =
     let parts = and_parts (length line == n) (list_all (λ l. length l == n) lines) h in
     (length-map line (λ b. b == 49) ∙ eqb-true (length line) n parts.0 ∙ sym e, rows_wide n side lines e parts.1)
 
--- the grid of a size with the rows of a square
+-- Where the lines are square and there is a size of that side, their rows make a well-formed grid.
 sized_grid : (lines : List (List ℕ)) (grid : GridView) (size : Option SizeRow) → row_with_side (length lines) ≡ size → is_square lines ≡ true
     → sized size lines ≡ Ok grid → IsGrid grid
 sized_grid lines grid None found square e = cc
@@ -48,7 +48,7 @@ sized_grid lines grid (Some size) found square e =
       width = All-from_recursion (λ (row : List Bool). length row ≡ size.side) (rows_of lines) (rows_wide (length lines) size.side lines here.1 square);
     })
 
--- what a record comes to, by its tests
+-- Whatever the tests of the lines say, a grid that they make is well formed.
 by_tests : (lines : List (List ℕ)) (grid : GridView) (foreign large square : Bool) → is_square lines ≡ square
     → (if foreign then Err fault.Character else if large then Err fault.Large else if square then sized (row_with_side (length lines)) lines else Err fault.NotSquare) ≡ Ok grid
     → IsGrid grid
@@ -57,13 +57,13 @@ by_tests lines grid false true square s e = cc
 by_tests lines grid false false false s e = cc
 by_tests lines grid false false true s e = sized_grid lines grid (row_with_side (length lines)) refl s e
 
--- where a record comes to a grid, it is one
+-- A grid that the lines of a record make is well formed.
 record_grid : (lines : List (List ℕ)) (grid : GridView) → record_of lines ≡ Ok grid → IsGrid grid
 record_grid lines grid e = by_tests lines grid (has_foreign lines) (is_large lines) (is_square lines) refl e
 
 -- ---- answers
 
--- the answer to a grid, or to what is none
+-- A grid, and a fault of a record, has its answer.
 record_answer : (task : Task) → AnswersRecords task → (r : RecordAnswer) → ((grid : GridView) → r ≡ Ok grid → IsGrid grid) → (answer : Answer) × IsRecordAnswer task r answer
 record_answer (Read border) of_grids (Ok grid) is =
     let x = answer_is_given grid (limit_for border grid.size.side) (is grid refl) in
@@ -80,11 +80,11 @@ record_answer (Normal border profile) of_grids (Err why) is = (blank_refusal_ans
 record_answer (Write profile) of_grids r is = absurd of_grids
 record_answer Table of_grids r is = absurd of_grids
 
--- each record has its answer
+-- Each record has its answer.
 pub record_is_answered : (task : Task) → AnswersRecords task → (lines : List (List ℕ)) → (answer : Answer) × IsAnswerToRecord task lines answer
 record_is_answered task of_grids lines = record_answer task of_grids (record_of lines) (record_grid lines)
 
--- the answer to a message
+-- Each message has its answer.
 message_answer : (profile : Profile) (message : List Item) → IsMessage message → (answer : Answer) × IsMessageAnswer profile message answer
 message_answer profile message h =
     elim (fits_or_not (row_for_words (length (normal_form profile message)))) [
@@ -92,13 +92,13 @@ message_answer profile message h =
       | inr none ↦ (blank_refusal_answer too_long_refusal, too_long none refl)
     ]
 
--- the answer to a message line, by what it means
+-- A message line has its answer, whatever it means.
 line_answer : (profile : Profile) (line : List ℕ) (message : LineAnswer) → IsLine line message → (answer : Answer) × IsAnswerToLine profile line answer
 line_answer profile line (Ok message) h =
     let x = message_answer profile message (joined_message message line h.0) in
     (x.0, (Ok message, h, x.1))
 line_answer profile line (Err why) h = (blank_refusal_answer (line_refusal why), (Err why, h, refl))
 
--- each message line has its answer
+-- Each message line has its answer.
 pub line_is_answered : (profile : Profile) (line : List ℕ) → (answer : Answer) × IsAnswerToLine profile line answer
 line_is_answered profile line = let means = line_is_there line in line_answer profile line means.0 means.1

@@ -17,13 +17,13 @@ use Rattle.dm_tool.proofs.SpellingBytes.{backslash_none, digit_none, first_digit
 
 -- ---- digits
 
--- a byte outside the three ranges of digits is none
+-- A byte outside the three ranges of digits is no digit.
 no_digit : (d v : ℕ) → (48 ≤ d → d < 58 → ⊥) → (65 ≤ d → d < 71 → ⊥) → (97 ≤ d → d < 103 → ⊥) → IsHexDigit d v → ⊥
 no_digit d v f u l (figure small e) = f (omega (arith, e)) (omega (arith, small, e))
 no_digit d v f u l (upper low high e) = u (omega (arith, low, e)) (omega (arith, high, e))
 no_digit d v f u l (lower low high e) = l (omega (arith, low, e)) (omega (arith, high, e))
 
--- a byte is a digit, or it is none
+-- A byte is a digit with a value, or it is no digit.
 digit_or_none : (d : ℕ) → ((v : ℕ) × IsHexDigit d v) ⊎ ((v : ℕ) → IsHexDigit d v → ⊥)
 digit_or_none d =
     elim (cases_lt d 48) [
@@ -48,7 +48,7 @@ digit_or_none d =
 
 -- ---- a spelling at the front
 
--- a spelling stands at the front of these bytes
+-- A spelling stands at the front of these bytes.
 record BeginsSpelling (bytes : List ℕ) : Type 0 where
   pub piece : List ℕ
   pub more : List ℕ
@@ -56,7 +56,7 @@ record BeginsSpelling (bytes : List ℕ) : Type 0 where
   pub whole : bytes ≡ piece ++ more
   pub spelling : IsSpelling piece item
 
--- after a backslash, x and a digit
+-- A spelling, or none, stands at the front of bytes that begin with a backslash, x and a digit.
 after_digit : (s u : ℕ) → IsHexDigit s u → (more : List ℕ) → BeginsSpelling (92 ∷ 120 ∷ s ∷ more) ⊎ BeginsNoSpelling (92 ∷ 120 ∷ s ∷ more)
 after_digit s u h [] = inr (digit_none s)
 after_digit s u h (t ∷ more) =
@@ -71,7 +71,7 @@ after_digit s u h (t ∷ more) =
       | inr none ↦ inr (second_digit_none s t more none)
     ]
 
--- after a backslash and x
+-- A spelling, or none, stands at the front of bytes that begin with a backslash and x.
 after_x : (more : List ℕ) → BeginsSpelling (92 ∷ 120 ∷ more) ⊎ BeginsNoSpelling (92 ∷ 120 ∷ more)
 after_x [] = inr hexadecimal_none
 after_x (s ∷ more) =
@@ -80,7 +80,7 @@ after_x (s ∷ more) =
       | inr none ↦ inr (first_digit_none s more none)
     ]
 
--- after a backslash
+-- A spelling, or none, stands at the front of bytes that begin with a backslash.
 after_backslash : (more : List ℕ) → BeginsSpelling (92 ∷ more) ⊎ BeginsNoSpelling (92 ∷ more)
 after_backslash [] = inr backslash_none
 after_backslash (b ∷ more) =
@@ -95,7 +95,7 @@ after_backslash (b ∷ more) =
       ]
     ]
 
--- a spelling stands at the front of bytes, or none does
+-- A spelling stands at the front of any bytes, or none does.
 spelling_or_none : (bytes : List ℕ) → BeginsSpelling bytes ⊎ BeginsNoSpelling bytes
 spelling_or_none [] = inr none_begun
 spelling_or_none (b ∷ more) =
@@ -112,7 +112,7 @@ spelling_or_none (b ∷ more) =
 
 -- ---- a whole line
 
--- a line's front is spellings, joined, and none stands after it
+-- The line has a front that is joined spellings, and none stands after it.
 record HasFront (line : List ℕ) : Type 0 where
   pub front : List ℕ
   pub rest : List ℕ
@@ -121,16 +121,16 @@ record HasFront (line : List ℕ) : Type 0 where
   pub joining : IsJoining front items
   pub none : BeginsNoSpelling rest
 
--- a line with no spelling at its front
+-- A line with no spelling at its front has the empty front.
 front_none : (line : List ℕ) → BeginsNoSpelling line → HasFront line
 front_none line none = record { front = []; rest = line; items = []; whole = refl; joining = refl; none = none }
 
--- a line without bytes
+-- No spelling stands at the front of an empty line.
 no_bytes : (line : List ℕ) → length line ≤ 0 → BeginsNoSpelling line
 no_bytes [] h = none_begun
 no_bytes (b ∷ line) h = absurd (omega (arith, h))
 
--- a line of at most n bytes
+-- A line of at most n bytes has a front of joined spellings, and none stands after it.
 front_of : (n : ℕ) (line : List ℕ) → length line ≤ n → HasFront line
 front_of zero line h = front_none line (no_bytes line h)
 front_of (suc n) line h =
@@ -148,7 +148,7 @@ front_of (suc n) line h =
           }
     ]
 
--- what a line means, by its front
+-- A line means what its front of joined spellings and the bytes after it say.
 by_rest : (line front rest : List ℕ) (items : List Item) → line ≡ front ++ rest → IsJoining front items → BeginsNoSpelling rest
     → (answer : LineAnswer) × IsLine line answer
 by_rest line front [] items whole joining none =
@@ -174,7 +174,7 @@ by_rest line front (b ∷ rest) items whole joining none = (
   },
 )
 
--- each line means something
+-- Each line means something.
 pub line_is_there : (line : List ℕ) → (answer : LineAnswer) × IsLine line answer
 line_is_there line =
     let f = front_of (length line) line (omega arith) in
@@ -182,13 +182,13 @@ line_is_there line =
 
 -- ---- its items
 
--- the value of a digit is below 16
+-- The value of a hexadecimal digit is below 16.
 digit_small : (d v : ℕ) → IsHexDigit d v → v < 16
 digit_small d v (figure small e) = omega (arith, small)
 digit_small d v (upper low high e) = high
 digit_small d v (lower low high e) = high
 
--- what is spelled is a byte or FNC1
+-- What is spelled is a byte or FNC1.
 spelled_item : (piece : List ℕ) (item : Item) → IsSpelling piece item → IsItem item
 spelled_item piece item (plain b least most other p i) = subst IsItem (sym i) (let small : b < 256 = omega (arith, most) in small)
 spelled_item piece item (backslash p i) = subst IsItem (sym i) (let small : 92 < 256 = omega arith in small)
@@ -196,11 +196,11 @@ spelled_item piece item (fnc1 p i) = subst IsItem (sym i) (let small : 0 < 256 =
 spelled_item piece item (byte s t u v hs ht p i) =
     subst IsItem (sym i) (let small : 16 * u + v < 256 = omega (arith, digit_small s u hs, digit_small t v ht) in small)
 
--- the items of spellings, one by one
+-- Each of the items whose spellings a line joins is a byte or FNC1.
 joined_items : (items : List Item) (line : List ℕ) → IsJoining line items → AllByRecursion IsItem items
 joined_items [] line j = tt
 joined_items (item ∷ items) line j = (spelled_item j.0 item j.2, joined_items items j.1 j.4)
 
--- the items of a line are a message
+-- The items whose spellings a line joins are a message.
 pub joined_message : (items : List Item) (line : List ℕ) → IsJoining line items → IsMessage items
 joined_message items line j = All-from_recursion IsItem items (joined_items items line j)

@@ -8,13 +8,13 @@ use Rattle.dm_tool.specs.RecordFeeds.{IsLastBlank}
 
 -- ---- lines
 
--- a text and its lines
+-- The text is split into lines and a rest.
 pub record HasLines (text : List ℕ) : Type 0 where
   pub lines : List (List ℕ)
   pub rest : List ℕ
   pub split : IsSplit text lines rest
 
--- one byte more, before the first line
+-- A split text with one byte before it that isn't LF is split too.
 byte_before : (b : ℕ) (text : List ℕ) → b ≢ lf → (lines : List (List ℕ)) (rest : List ℕ) → IsSplit text lines rest → HasLines (b ∷ text)
 byte_before b text other [] rest s = record {
   lines = [];
@@ -27,7 +27,7 @@ byte_before b text other (line ∷ lines) rest s = record {
   split = record { whole = ap (λ l. b ∷ l) s.whole; lines_no_lf = ((other, s.lines_no_lf.0), s.lines_no_lf.1); rest_no_lf = s.rest_no_lf };
 }
 
--- each text has its lines
+-- Each text is split into lines and a rest.
 pub text_is_split : (text : List ℕ) → HasLines text
 text_is_split [] = record { lines = []; rest = []; split = record { whole = refl; lines_no_lf = tt; rest_no_lf = tt } }
 text_is_split (b ∷ text) =
@@ -43,7 +43,7 @@ text_is_split (b ∷ text) =
 
 -- ---- records
 
--- the records of lines before which another one is put that isn't empty
+-- Lines that have their records have some, too, with a full line before them.
 line_before : (line : List ℕ) (lines : List (List ℕ)) (records : List (List (List ℕ))) → line ≢ [] → HasNoLf line → AreRecords lines records
     → (more : List (List (List ℕ))) × AreRecords (line ∷ lines) more
 line_before line _ _ some free no_line = ((line ∷ []) ∷ [], longest_run (line ∷ []) [] [] (λ e. cc) ((some, free), tt) tt no_line)
@@ -52,7 +52,7 @@ line_before line _ _ some free (empty_line lines records h) =
 line_before line _ _ some free (longest_run these lines records n full blank h) =
     ((line ∷ these) ∷ records, longest_run (line ∷ these) lines records (λ e. cc) ((some, free), full) blank h)
 
--- lines have their records
+-- Lines without LF have their records.
 pub records_are_there : (lines : List (List ℕ)) → AllByRecursion HasNoLf lines → (records : List (List (List ℕ))) × AreRecords lines records
 records_are_there [] free = ([], no_line)
 records_are_there ([] ∷ lines) free =
@@ -64,13 +64,13 @@ records_are_there ((b ∷ line) ∷ lines) free =
 
 -- ---- the last empty line
 
--- lines and the last empty one among them
+-- The lines are cut after the last empty one, or before all of them.
 pub record HasLastBlank (lines : List (List ℕ)) : Type 0 where
   pub before : List (List ℕ)
   pub after : List (List ℕ)
   pub is : IsLastBlank lines before after
 
--- one line more, before all others
+-- Lines that are cut after the last empty one can be cut so, too, with one line before them.
 blank_or_full : (line : List ℕ) (lines before after : List (List ℕ)) → IsLastBlank lines before after → HasLastBlank (line ∷ lines)
 blank_or_full [] lines [] after h = record {
   before = [] ∷ [];
@@ -92,7 +92,7 @@ blank_or_full line lines (x ∷ before) after h = record {
     later (inl e) = cc
     later (inr some) = (line ∷ some.0, ap (λ l. line ∷ l) some.1)
 
--- lines have a last empty one, or none is empty
+-- Lines have a last empty one, or none of them is empty.
 pub last_blank_is_there : (lines : List (List ℕ)) → HasLastBlank lines
 last_blank_is_there [] = record { before = []; after = []; is = record { whole = refl; full = tt; blank = inl refl } }
 last_blank_is_there (line ∷ lines) =

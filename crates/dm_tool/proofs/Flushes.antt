@@ -1,4 +1,4 @@
--- Flushes of two times, one after the other, and the flush at the end of a run.
+-- Flushes in two steps, one after the other, and the flush at the end of a run.
 use Rattle.std.proofs.Common.{◌≡◌, ◌≤◌, ℕ, List, [], ◌∷◌, ◌++◌, ◌⊎◌, inl, inr, Option, Some, None, refl, sym, subst, length, arith, Result, Ok, Err, OnOk, OnErr, IsErrOf}
 use Rattle.std.specs.Io.KnownBytes.{Appends}
 use Rattle.dm_tool.specs.declared.task.Task.{Task}
@@ -14,7 +14,7 @@ use Rattle.dm_tool.specs.inner.AnsweredSoFar.{EndsAnswered, IsAnsweredSoFar}
 use Rattle.dm_tool.proofs.KnownBytes.{appends_then}
 use Rattle.dm_tool.proofs.Outcomes.{all_answered, written_append}
 
--- where there was no flush before the one, there was one in all
+-- Where there was no flush in the first step and one in the second, there was one in all.
 pub flushed_later : (First Then All : List ℕ → Type 0) (a b c : Option (List ℕ)) (s : List ℕ) → ((x y : List ℕ) → First x → Then y → All (x ++ y)) → First [] → Appends a b s
     → IsFlushedOnce Then b c → IsFlushedOnce All a c
 flushed_later First Then All None b c s joined none grew once = tt
@@ -22,20 +22,20 @@ flushed_later First Then All (Some xs) None c s joined none grew once = absurd g
 flushed_later First Then All (Some xs) (Some ys) None s joined none grew once = tt
 flushed_later First Then All (Some xs) (Some ys) (Some zs) s joined none grew once = joined [] (length zs ∷ []) none once
 
--- an Ok flush after all was taken
+-- Where the run is Ok, there was one flush, after all was taken.
 pub flushed_well : {X E : Type 0} (First Then All : List ℕ → Type 0) (result : Result X E) (a b c : Option (List ℕ)) (s : List ℕ)
     → ((x y : List ℕ) → First x → Then y → All (x ++ y)) → First [] → Appends a b s → IsFlushedOnce Then b c → OnOk result (IsFlushedOnce All a c)
 flushed_well First Then All (Ok x) a b c s joined none grew once = flushed_later First Then All a b c s joined none grew once
 flushed_well First Then All (Err e) a b c s joined none grew once = tt
 
--- a failed flush after all was taken
+-- Where the run fails after all was taken, there was no flush, or one after all was taken.
 pub flushed_badly : {X E : Type 0} (Took : Type 0) (First Then All : List ℕ → Type 0) (result : Result X E) (a b c : Option (List ℕ)) (s : List ℕ)
     → ((x y : List ℕ) → First x → Then y → All (x ++ y)) → First [] → Appends a b s → IsFlushedOnce Then b c → Took
     → OnErr result (All [] ⊎ (IsFlushedOnce All a c × Took))
 flushed_badly Took First Then All (Ok x) a b c s joined none grew once took = tt
 flushed_badly Took First Then All (Err e) a b c s joined none grew once took = inr (flushed_later First Then All a b c s joined none grew once, took)
 
--- the table's flush failed, or no flush was reached
+-- Where writing the table fails, no flush was reached, or the one after all was taken failed.
 pub table_flushed : (task : Task) (most : ℕ) (Gave Took : List ℕ → Type 0) (Ended Unflushed Once : Type 0) (result : Result Tally RunFault) → task ≡ Table → Gave []
     → OnErr result (Unflushed ⊎ (Once × Took table_text)) → IsErrOf result fault.Write → IsFlushedAtEnd task most Gave Ended Took Unflushed Once
 table_flushed task most Gave Took Ended Unflushed Once (Ok tally) table gave late is = cc
@@ -54,7 +54,7 @@ table_flushed task most Gave Took Ended Unflushed Once (Err why) table gave (inr
   all.0,
 )
 
--- the flush at the end of a text failed, or none was reached
+-- Where writing fails at the end of a text, no flush was reached, or the one after all was taken failed.
 pub text_flushed : (task : Task) (most : ℕ) (Gave : List ℕ → Type 0) (Ended : Type 0) (state : Answering) (text : List ℕ) (answers : List Answer) (s t : Tally)
     (First Then All : List ℕ → Type 0) (a b c : Option (List ℕ)) → ((x y : List ℕ) → First x → Then y → All (x ++ y)) → First [] → Appends a b (written answers)
     → Gave text → Ended → length text ≤ most → IsAnsweredSoFar task state text answers → s ≡ tally_of answers

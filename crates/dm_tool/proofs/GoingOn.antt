@@ -18,7 +18,7 @@ use Rattle.dm_tool.proofs.RecordCuts.{split_lines}
 use Rattle.dm_tool.proofs.RecordTexts.{all_back, all_front, full_of, records_after}
 use Rattle.dm_tool.proofs.AnsweredSoFar.{matched_append, matched_lines, so_far_closed}
 
--- a text, its records, and what stands open after them
+-- The text has records, and facts of what stands open after them.
 record HasRecords (text : List ℕ) : Type 0 where
   pub records : List (List (List ℕ))
   pub new : RecordFacts
@@ -52,7 +52,7 @@ has_records text =
       };
     }
 
--- answers to records are answers to their grids or faults
+-- Answers that match records match their grids or faults.
 matched_grids : (task : Task) (records : List (List (List ℕ))) (answers : List Answer) → AreMatched (IsAnswerToRecord task) records answers
     → AreMatched (IsRecordAnswer task) (map record_of records) answers
 matched_grids task [] [] h = tt
@@ -60,7 +60,7 @@ matched_grids task [] (y ∷ answers) h = absurd h
 matched_grids task (x ∷ records) [] h = absurd h
 matched_grids task (x ∷ records) (y ∷ answers) h = (h.0, matched_grids task records answers h.1)
 
--- whatever comes after a text closes something, or nothing
+-- Whatever comes after a text, the answers so far are the first of those to what is then closed.
 pub goes_on : (task : Task) (state : Answering) (text piece : List ℕ) (answers : List Answer) → IsAnsweredSoFar task state text answers
     → (more : List Answer) × AreClosedAnswers task (text ++ piece) (answers ++ more)
 goes_on task (Records asked facts) text piece answers s =

@@ -5,7 +5,7 @@ use Rattle.dm_symbol.specs.declared.Item.TheVariants.{Byte}
 use Rattle.dm_tool.specs.Spellings.{IsHexDigit, figure, upper, lower, IsSpelling, plain, backslash, fnc1, byte, IsJoining}
 use Rattle.dm_tool.specs.inner.OpenLines.{BeginsNoSpelling}
 
--- a digit has one value
+-- A hexadecimal digit has only one value.
 pub hex_unique : (d u v : ℕ) → IsHexDigit d u → IsHexDigit d v → u ≡ v
 hex_unique d u v (figure a e) (figure b f) = omega arith
 hex_unique d u v (figure a e) (upper b c f) = omega arith
@@ -17,23 +17,23 @@ hex_unique d u v (lower a b e) (figure c f) = omega arith
 hex_unique d u v (lower a b e) (upper c d' f) = omega arith
 hex_unique d u v (lower a b e) (lower c d' f) = omega arith
 
--- two fronts, written out
+-- Where two fronts are known in full, equal bytes are equal with the fronts written out.
 shown : (p q p' q' x y : List ℕ) → p ≡ p' → q ≡ q' → p ++ x ≡ q ++ y → p' ++ x ≡ q' ++ y
 shown p q p' q' x y e f h = ap (λ l. l ++ x) (sym e) ∙ h ∙ ap (λ l. l ++ y) f
 
--- what equal lists that are not empty begin with
+-- Equal lists have the same first item.
 pub heads : (a b : ℕ) (x y : List ℕ) → a ∷ x ≡ b ∷ y → a ≡ b
 heads a b x y e = cc
 
--- what comes after it
+-- Equal lists are the same after their first item.
 pub tails : (a b : ℕ) (x y : List ℕ) → a ∷ x ≡ b ∷ y → x ≡ y
 tails a b x y e = cc
 
--- what two spellings at the front of one list have in common
+-- Two spellings at the front of the same bytes, their items, and what comes after them are the same.
 abbrev Same : List ℕ → List ℕ → List ℕ → List ℕ → Item → Item → Type 0
 Same p q x y a b = (p ≡ q) × (a ≡ b) × (x ≡ y)
 
--- at the front of a list stands at most one spelling
+-- At the front of any bytes stands at most one spelling.
 pub one_spelling : (p q x y : List ℕ) (a b : Item) → IsSpelling p a → IsSpelling q b → p ++ x ≡ q ++ y → Same p q x y a b
 one_spelling p q x y a b (plain c _ _ n e f) (plain d _ _ m g h) eq =
     let s : c ∷ x ≡ d ∷ y = shown p q (c ∷ []) (d ∷ []) x y e g eq in
@@ -81,24 +81,24 @@ one_spelling p q x y a b (byte s t u v hs ht e f) (byte s' t' u' v' hs' ht' g h)
       tails t t' x y (tails s s' (t ∷ x) (t' ∷ y) digits),
     )
 
--- a spelling has a byte
+-- A spelling has at least one byte.
 pub spelling_some : (p : List ℕ) (a : Item) → IsSpelling p a → 0 < length p
 spelling_some p a (plain c _ _ n e f) = omega (arith, ap length e)
 spelling_some p a (backslash e f) = omega (arith, ap length e)
 spelling_some p a (fnc1 e f) = omega (arith, ap length e)
 spelling_some p a (byte s t u v _ _ e f) = omega (arith, ap length e)
 
--- one spelling is a joining
+-- A spelling by itself is a joining.
 pub joining_one : (p : List ℕ) (a : Item) → IsSpelling p a → IsJoining p (a ∷ [])
 joining_one p a h = (p, [], h, sym (append-nil p), refl)
 
--- two joinings, one after the other, are one
+-- Two joinings, one after the other, are a joining.
 pub joining_append : (xs ys : List Item) (a b : List ℕ) → IsJoining a xs → IsJoining b ys → IsJoining (a ++ b) (xs ++ ys)
 joining_append [] ys a b p q = subst (λ l. IsJoining (l ++ b) ys) (sym p) q
 joining_append (x ∷ xs) ys a b p q =
     (p.0, p.1 ++ b, p.2, ap (λ l. l ++ b) p.3 ∙ append_assoc p.0 p.1 b, joining_append xs ys p.1 b p.4 q)
 
--- a front that is a joining, before bytes that begin no spelling, is the longest one
+-- A front that is a joining, before bytes that begin no spelling, is the longest one.
 pub front_longest : (items others : List Item) (front rest other after : List ℕ) → IsJoining front items → BeginsNoSpelling rest
     → front ++ rest ≡ other ++ after → IsJoining other others → length other ≤ length front
 front_longest items [] front rest other after p none eq q = omega (arith, ap length q)
@@ -114,7 +114,7 @@ front_longest (i ∷ is) (j ∷ js) front rest other after p none eq q =
     let even : length p.0 ≡ length q.0 = ap length same.0 in
     omega arith
 
--- a line is a joining in one way
+-- A line is a joining in only one way.
 pub joining_unique : (xs ys : List Item) (line : List ℕ) → IsJoining line xs → IsJoining line ys → xs ≡ ys
 joining_unique [] [] line p q = refl
 joining_unique [] (y ∷ ys) line p q =

@@ -12,14 +12,14 @@ use Rattle.dm_tool.specs.Spellings.{IsJoining, IsJoined, IsSpelling}
 use Rattle.dm_tool.proofs.Joinings.{joining_append, joining_one, joining_unique}
 use Rattle.dm_tool.proofs.OpenLineSteps.{line_unique}
 
--- the rest of a piece after its first line
+-- What is left of a piece after its first line is what comes after the LF.
 pub rest_of : (piece before after : List ℕ) (taken : ℕ) → piece ≡ before ++ lf ∷ after → taken ≡ length before + 1 → drop taken piece ≡ after
 rest_of piece before after taken e n =
     let cut : piece ≡ (before ++ lf ∷ []) ++ after = e ∙ sym (append_assoc before (lf ∷ []) after) in
     let long : length (before ++ lf ∷ []) ≡ taken = length-append before (lf ∷ []) ∙ sym n in
     ap (drop taken) cut ∙ drop_at (before ++ lf ∷ []) after taken long
 
--- pieces fed to a feed in which a line stands open
+-- Pieces that are fed while a line stands open close and leave open what that line does with their bytes after it.
 pub fed_after : (u : List ℕ) (old new : LineFacts) (pieces : List (List ℕ)) (answers : List LineAnswer) → AreLinesFed old pieces answers new
     → AreLineFacts u old → HasNoLf u → AreOfText (u ++ concat pieces) answers new
 fed_after u old new pieces answers (no_piece facts) known h = record {
@@ -47,7 +47,7 @@ fed_after u old new pieces answers (closes _ mid _ piece taken answer more other
       left = rest.left;
     }
 
--- what pieces close and leave open is that of their text
+-- Pieces close and leave open what the text does that they are together.
 pub fed_is_text : (pieces : List (List ℕ)) (answers : List LineAnswer) (old new : LineFacts) → AreLineFacts [] old → AreLinesFed old pieces answers new
     → AreOfText (concat pieces) answers new
 fed_is_text pieces answers old new known fed = fed_after [] old new pieces answers fed known tt
@@ -57,7 +57,7 @@ front_length line f g r s p q =
     let one = q.longest f r p.whole p.joined in
     let two = p.longest g s q.whole q.joined in omega arith
 
--- fronts of one length
+-- Two fronts of the same bytes that have one length are the same, and so is what comes after them.
 same_front : (f g r s : List ℕ) → length f ≡ length g → f ++ r ≡ g ++ s → (f ≡ g) × (r ≡ s)
 same_front [] [] r s n e = (refl, e)
 same_front [] (y ∷ g) r s n e = absurd (omega arith)
@@ -68,7 +68,7 @@ same_front (x ∷ f) (y ∷ g) r s n e =
     let less : length f ≡ length g = omega arith in
     let t = same_front f g r s less tail in (ap (λ k. k ∷ f) head ∙ ap (λ l. y ∷ l) t.0, t.1)
 
--- a good line and what makes its pending bytes a spelling
+-- A good line becomes joined spellings by bytes that complete its pending ones.
 joined_on : (line front pending more : List ℕ) (items : List Item) (item : Item) → line ≡ front ++ pending → IsJoining front items → IsSpelling (pending ++ more) item
     → IsJoined (line ++ more)
 joined_on line front pending more items item e j s = (
@@ -77,7 +77,7 @@ joined_on line front pending more items item e j s = (
       (joining_append items (item ∷ []) front (pending ++ more) j (joining_one (pending ++ more) item s)),
 )
 
--- the facts of a line are one
+-- A line has only one set of facts.
 pub facts_unique : (line : List ℕ) (a b : LineFacts) → AreLineFacts line a → AreLineFacts line b → a ≡ b
 facts_unique line (Faulty m) (Faulty n) p q =
     ap Faulty (p.column_is ∙ ap (λ k. min (k + 1) most_bytes) (front_length line p.front q.front p.rest q.rest p.longest q.longest) ∙ sym q.column_is)
@@ -94,7 +94,7 @@ facts_unique line (Good n items pending) (Good n' items' pending') p q =
     let known : items ≡ items' = p.known_is ∙ ap kept list ∙ sym q.known_is in
     let waiting : pending ≡ pending' = same.1 in cc
 
--- two lists of answers to the same lines
+-- Lines have only one list of answers.
 answers_unique : (lines : List (List ℕ)) (a b : List LineAnswer) → AreAnswered lines a → AreAnswered lines b → a ≡ b
 answers_unique [] [] [] p q = refl
 answers_unique [] [] (y ∷ b) p q = absurd q
@@ -105,7 +105,7 @@ answers_unique (l ∷ lines) (x ∷ a) (y ∷ b) p q =
     let head : x ≡ y = line_unique l x y p.0 q.0 in
     let tail : a ≡ b = answers_unique lines a b p.1 q.1 in cc
 
--- the answers to a text, and what is left open, are one
+-- A text has only one list of answers, and leaves open only one thing.
 pub of_text_unique : (text : List ℕ) (a b : List LineAnswer) (f g : LineFacts) → AreOfText text a f → AreOfText text b g → (a ≡ b) × (f ≡ g)
 of_text_unique text a b f g p q =
     let same = split_unique p.lines q.lines text p.rest q.rest p.split q.split in (
@@ -113,7 +113,7 @@ of_text_unique text a b f g p q =
       facts_unique q.rest f g (subst (λ l. AreLineFacts l f) same.1 p.left) q.left,
     )
 
--- the cuts change nothing
+-- How a text is cut into pieces changes neither the answers nor what is left open.
 pub cuts_change_nothing : (pieces others : List (List ℕ)) (answers theirs : List LineAnswer) (old new end : LineFacts) → AreLineFacts [] old
     → concat pieces ≡ concat others → AreLinesFed old pieces answers new → AreLinesFed old others theirs end → (answers ≡ theirs) × (new ≡ end)
 cuts_change_nothing pieces others answers theirs old new end known same p q =

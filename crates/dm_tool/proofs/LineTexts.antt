@@ -9,7 +9,7 @@ use Rattle.dm_tool.specs.LineFeeds.{LineAnswer, AreAnswered, AreLinesFed, AreOfT
 use Rattle.dm_tool.proofs.LineCuts.{fed_after}
 use Rattle.dm_tool.proofs.RecordCuts.{split_lines}
 
--- answers to lines before answers to others
+-- Lines with their answers, followed by others with theirs, are lines with their answers.
 answered_append : (lines more : List (List ℕ)) (answers others : List LineAnswer) → AreAnswered lines answers → AreAnswered more others
     → AreAnswered (lines ++ more) (answers ++ others)
 answered_append [] more [] others p q = q
@@ -17,7 +17,7 @@ answered_append [] more (x ∷ answers) others p q = absurd p
 answered_append (l ∷ lines) more [] others p q = absurd p
 answered_append (l ∷ lines) more (x ∷ answers) others p q = (p.0, answered_append lines more answers others p.1 q)
 
--- a text that goes on in pieces
+-- A text that goes on in pieces has the answers so far, followed by those of the pieces.
 pub lines_go_on : (text : List ℕ) (answers more : List LineAnswer) (old new : LineFacts) (pieces : List (List ℕ))
     → AreOfText text answers old → AreLinesFed old pieces more new → AreOfText (text ++ concat pieces) (answers ++ more) new
 lines_go_on text answers more old new pieces t fed =
@@ -33,19 +33,19 @@ lines_go_on text answers more old new pieces t fed =
       left = later.left;
     }
 
--- a piece that closes no line
+-- A piece that closes no line gives a text no further answer.
 pub lines_stay_open : (text : List ℕ) (answers : List LineAnswer) (old new : LineFacts) (piece : List ℕ) (taken : ℕ)
     → AreOfText text answers old → LeavesLineOpen old piece taken new → AreOfText (text ++ piece) (answers ++ []) new
 lines_stay_open text answers old new piece taken t now =
     subst (λ l. AreOfText (text ++ l) (answers ++ []) new) (append-nil piece)
     (lines_go_on text answers [] old new (piece ∷ []) t (leaves_open old new new piece taken [] [] now (no_piece new)))
 
--- the empty piece leaves all as it is
+-- The empty piece closes no line and changes nothing.
 nothing_more : (facts : LineFacts) → AreLinesFed facts ([] ∷ []) [] facts
 nothing_more facts = leaves_open facts facts facts [] 0 [] []
     (record { whole = refl; no_lf = tt; grown = λ line known. subst (λ l. AreLineFacts l facts) (sym (append-nil line)) known }) (no_piece facts)
 
--- a piece that closes a line with its last byte
+-- A piece that closes a line with its last byte gives a text that line's answer.
 pub line_is_closed : (text : List ℕ) (answers : List LineAnswer) (old new : LineFacts) (piece : List ℕ) (taken : ℕ) (answer : LineAnswer)
     → AreOfText text answers old → ClosesLine old piece taken answer new → drop taken piece ≡ [] → AreOfText (text ++ piece) (answers ++ answer ∷ []) new
 line_is_closed text answers old new piece taken answer t now all =
@@ -53,7 +53,7 @@ line_is_closed text answers old new piece taken answer t now all =
     subst (λ l. AreOfText (text ++ l) (answers ++ answer ∷ []) new) (append-nil piece)
     (lines_go_on text answers (answer ∷ []) old new (piece ∷ []) t (closes old new new piece taken answer [] [] now rest))
 
--- a line that is held, and what it means
+-- A line that is held at its LF is closed with the answer that it means.
 pub line_ends : (old mid new : LineFacts) (piece : List ℕ) (taken : ℕ) (message : LineAnswer) → EndsLine old piece taken mid
     → ((line : List ℕ) → AreLineFacts line mid → IsLine line message) → AreLineFacts [] new → ClosesLine old piece taken message new
 line_ends old mid new piece taken message held means none = record {

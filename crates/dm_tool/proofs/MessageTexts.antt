@@ -8,7 +8,7 @@ use Rattle.dm_symbol.specs.Messages.{IsItem, IsMessage}
 use Rattle.dm_tool.specs.Spellings.{IsHexDigit, figure, upper, IsSpelling, plain, backslash, fnc1, byte, IsJoining, spelled, text_of, upper_digit}
 use Rattle.dm_tool.specs.MessageLines.{IsLine, most_items}
 
--- the digit of a value has that value
+-- The digit that is written for a value has this value.
 digit_value : (v : ℕ) → v < 16 → IsHexDigit (upper_digit v) v
 digit_value v small = elim (cases_lt v 10) [
   | inl lt ↦ rw (lt-ltb v 10 lt) (figure lt refl)
@@ -27,12 +27,12 @@ bytes b small false true false p q r = written b small
 bytes b small false false g p q r = byte (upper_digit (b / 16)) (upper_digit (b % 16)) (b / 16) (b % 16) (digit_value (b / 16) (omega arith)) (digit_value (b % 16) (omega arith)) refl
     (let e : b ≡ 16 * (b / 16) + b % 16 = omega arith in ap Byte e)
 
--- how an item is written is a spelling of it
+-- How an item is written is a spelling of it.
 pub spelled_spells : (item : Item) → IsItem item → IsSpelling (spelled item) item
 spelled_spells Fnc1 small = fnc1 refl refl
 spelled_spells (Byte b) small = bytes b small (b == 92) (nat_le 32 b) (nat_le b 126) refl refl refl
 
--- the text is a joining
+-- The text of a message joins the spellings of its items.
 pub text_joins : (items : List Item) → IsMessage items → IsJoining (text_of items) items
 text_joins [] all = refl
 text_joins (item ∷ items) all =

@@ -15,17 +15,17 @@ use Rattle.dm_tool.specs.Texts.{HasNoLf}
 use Rattle.dm_tool.specs.inner.OpenLines.{BeginsNoSpelling, IsPlain}
 use Rattle.dm_tool.proofs.Joinings.{front_longest, joining_append, joining_one, joining_unique, spelling_some}
 
--- a line that stands before what makes it longer by one byte
+-- When a line becomes longer by one byte, so does what comes after its front.
 grown : (line front rest : List ℕ) (b : ℕ) → line ≡ front ++ rest → line ++ b ∷ [] ≡ front ++ (rest ++ b ∷ [])
 grown line front rest b e = ap (λ l. l ++ b ∷ []) e ∙ append_assoc front rest (b ∷ [])
 
--- the empty line
+-- No spelling stands at the front of the empty line.
 pub none_begun : BeginsNoSpelling []
 none_begun piece more item e h =
     let some = spelling_some piece item h in
     let long : 0 ≡ length piece + length more = ap length e ∙ length-append piece more in absurd (omega arith)
 
--- nothing can become a space
+-- Without any bytes yet, a spelling can still come.
 pub nothing_can : CanBecomeSpelling []
 nothing_can = (32 ∷ [], Byte 32, plain 32 (omega arith) (omega arith) (λ e. omega arith) refl refl)
 
@@ -40,7 +40,7 @@ good_none = record {
   known_is = refl;
 }
 
--- a byte with which the pending bytes are still no spelling
+-- A good line stays good with a byte after which the pending bytes can still become a spelling, but are none.
 pub good_begun : (line pending : List ℕ) (b n : ℕ) (known : Option (List Item)) → IsGoodLine line n known pending
     → CanBecomeSpelling (pending ++ b ∷ []) → BeginsNoSpelling (pending ++ b ∷ []) → IsGoodLine (line ++ b ∷ []) n known (pending ++ b ∷ [])
 good_begun line pending b n known good can none =
@@ -62,7 +62,7 @@ good_begun line pending b n known good can none =
 counted : (n front pending line : ℕ) → n ≡ min front most_bytes → line ≡ front + (pending + 1) → min (n + (pending + 1)) most_bytes ≡ min line most_bytes
 counted n front pending line e f = omega arith
 
--- a byte with which the pending bytes are a spelling
+-- A good line stays good with a byte that makes the pending bytes a spelling.
 pub good_whole : (line pending : List ℕ) (b n : ℕ) (known more : Option (List Item)) (item : Item) → IsGoodLine line n known pending
     → IsSpelling (pending ++ b ∷ []) item → ((all : List Item) → known ≡ kept all → more ≡ kept (all ++ item ∷ []))
     → IsGoodLine (line ++ b ∷ []) (min (n + (length pending + 1)) most_bytes) more []
@@ -86,7 +86,7 @@ good_whole line pending b n known more item good spelling pushed =
       known_is = pushed good.items good.known_is;
     }
 
--- what is kept of items, and one more, for which there is room
+-- Items that are kept, with one more for which there is room, are what is kept of all of them.
 kept_more : (items all : List Item) (item : Item) → Some items ≡ kept all → length items + 1 ≤ most_items → Some (items ++ item ∷ []) ≡ kept (all ++ item ∷ [])
 kept_more items all item e room = by_test (nat_le (length all) most_items) e
   where
@@ -100,7 +100,7 @@ kept_more items all item e room = by_test (nat_le (length all) most_items) e
 counted_more : (n k : ℕ) → min (min (n + (0 + 1)) most_bytes + k) most_bytes ≡ min (n + suc k) most_bytes
 counted_more n k = omega arith
 
--- bytes that stand for themselves
+-- A good line with nothing pending stays good with bytes that stand for themselves.
 pub good_plain : (line bytes : List ℕ) (n : ℕ) (items : List Item) → IsGoodLine line n (Some items) [] → AllByRecursion IsPlain bytes
     → length items + length bytes ≤ most_items → IsGoodLine (line ++ bytes) (min (n + length bytes) most_bytes) (Some (items ++ map Byte bytes)) []
 good_plain line [] n items good plains few =
@@ -128,7 +128,7 @@ no_bytes : (bytes : List ℕ) → length bytes ≡ 0 → bytes ≡ []
 no_bytes [] e = refl
 no_bytes (x ∷ bytes) e = absurd (omega arith)
 
--- bytes at the front that stand for themselves
+-- A good line with nothing pending stays good with the first bytes of a piece that stand for themselves.
 pub good_front : (line bytes pending : List ℕ) (front n : ℕ) (known : Option (List Item)) (old new : List Item) → IsGoodLine line front known pending
     → length pending ≡ 0 → known ≡ Some old → AllByRecursion IsPlain (take n bytes) → n ≤ length bytes → new ≡ old ++ map Byte (take n bytes)
     → (length old ≤ most_items → length new ≤ most_items) → IsGoodLine (line ++ take n bytes) (min (front + n) most_bytes) (Some new) pending
@@ -142,7 +142,7 @@ good_front line bytes pending front n known old new good zero_p is plains le add
     (subst (λ (k : ℕ). IsGoodLine (line ++ take n bytes) (min (front + k) most_bytes) (Some (old ++ map Byte (take n bytes))) []) (length-take-le n bytes le)
     (good_plain line (take n bytes) front old good0 plains (omega arith))))
 
--- they are no LF
+-- Bytes that stand for themselves are no LF.
 pub plain_no_lf : (bytes : List ℕ) → AllByRecursion IsPlain bytes → HasNoLf bytes
 plain_no_lf [] h = tt
 plain_no_lf (b ∷ bytes) h = (λ e. let low = h.0.0 in omega arith, plain_no_lf bytes h.1)
@@ -150,7 +150,7 @@ plain_no_lf (b ∷ bytes) h = (λ e. let low = h.0.0 in omega arith, plain_no_lf
 column_is : (n front : ℕ) → n ≡ min front most_bytes → min (n + 1) most_bytes ≡ min (front + 1) most_bytes
 column_is n front e = omega arith
 
--- a byte with which the pending bytes can become no spelling
+-- A good line becomes faulty with a byte after which the pending bytes can't become a spelling.
 pub good_fault : (line pending : List ℕ) (b n : ℕ) (known : Option (List Item)) → IsGoodLine line n known pending
     → ((more : List ℕ) → BeginsNoSpelling ((pending ++ b ∷ []) ++ more)) → IsFaultyLine (line ++ b ∷ []) (min (n + 1) most_bytes)
 good_fault line pending b n known good none =
@@ -176,7 +176,7 @@ good_fault line pending b n known good none =
       column_is = column_is n (length good.front) good.count_is;
     }
 
--- a front that is no longer than the line is a front of the line
+-- A front of a line and further bytes that is no longer than the line is a front of the line.
 cut : (other line t after : List ℕ) → line ++ t ≡ other ++ after → length other ≤ length line → (s : List ℕ) × (line ≡ other ++ s)
 cut [] line t after e le = (line, refl)
 cut (x ∷ o) [] t after e le = absurd (omega arith)
@@ -190,7 +190,7 @@ no_more : (after : List ℕ) → length after ≡ 0 → after ≡ []
 no_more [] e = refl
 no_more (x ∷ after) e = absurd (omega arith)
 
--- a byte after a fault
+-- A faulty line stays faulty with one more byte.
 pub faulty_more : (line : List ℕ) (b column : ℕ) → IsFaultyLine line column → IsFaultyLine (line ++ b ∷ []) column
 faulty_more line b column faulty = record {
   front = faulty.front;
@@ -212,7 +212,7 @@ faulty_more line b column faulty = record {
   column_is = faulty.column_is;
 }
 
--- the end of a line with a fault
+-- A faulty line that ends has a bad escape.
 pub faulty_end : (line : List ℕ) (column : ℕ) → IsFaultyLine line column → IsBadEscape line column
 faulty_end line column faulty = record {
   front = faulty.front;
@@ -222,7 +222,7 @@ faulty_end line column faulty = record {
   column_is = faulty.column_is;
 }
 
--- the end of a line in the middle of a spelling
+-- A line that ends in the middle of a spelling has a bad escape.
 pub pending_end : (line pending : List ℕ) (n : ℕ) (known : Option (List Item)) → IsGoodLine line n known pending → 0 < length pending
     → IsBadEscape line (min (n + 1) most_bytes)
 pending_end line pending n known good some = record {
@@ -242,7 +242,7 @@ fault_column line a b p q =
     let two = p.longest.longest q.front q.rest q.longest.whole q.longest.joined in
     p.column_is ∙ ap (λ n. min (n + 1) most_bytes) (omega arith) ∙ sym q.column_is
 
--- a line means one thing
+-- A line means only one thing.
 pub line_unique : (line : List ℕ) (a b : Result (List Item) LineFault) → IsLine line a → IsLine line b → a ≡ b
 line_unique line (Ok xs) (Ok ys) p q = ap Ok (joining_unique xs ys line p.0 q.0)
 line_unique line (Ok xs) (Err TooLong) p q = let same = ap length (joining_unique xs q.0 line p.0 q.1) in absurd (omega arith)
@@ -254,11 +254,11 @@ line_unique line (Err (BadEscape m)) (Ok ys) p q = absurd (p.broken (ys, q.0))
 line_unique line (Err (BadEscape m)) (Err TooLong) p q = absurd (p.broken (q.0, q.1))
 line_unique line (Err (BadEscape m)) (Err (BadEscape n)) p q = ap (λ k. Err (BadEscape k)) (fault_column line m n p q)
 
--- an answer is the only one
+-- Where a line means one answer, another is equal to it exactly if the line means that too.
 pub line_only : (line : List ℕ) (a : Result (List Item) LineFault) → IsLine line a → (b : Result (List Item) LineFault) → (a ≡ b) ↔ IsLine line b
 line_only line a p b = (λ e. subst (IsLine line) e p, λ q. line_unique line a b p q)
 
--- a line with a fault has a byte
+-- A faulty line has at least one byte.
 pub faulty_some : (line : List ℕ) (column : ℕ) → IsFaultyLine line column → line ≡ [] → ⊥
 faulty_some line column faulty e = faulty.broken [] ([], ap (λ l. l ++ []) e)
 
@@ -268,6 +268,6 @@ good_empty_counts line pending n known good e =
     let none : length line ≡ 0 = ap length e in
     let c = good.count_is in (omega arith, omega arith)
 
--- the facts of the empty line are those of no other
+-- The facts of a line that is empty are facts of the empty line.
 pub facts_empty : (line : List ℕ) (facts : LineFacts) → AreLineFacts line facts → line ≡ [] → AreLineFacts [] facts
 facts_empty line facts h e = subst (λ l. AreLineFacts l facts) e h

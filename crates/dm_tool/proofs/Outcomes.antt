@@ -1,4 +1,4 @@
--- How a run ends, from what stands then.
+-- How a run ends, by what was read and written until then.
 use Rattle.std.proofs.Common.{◌≡◌, ◌≤◌, ℕ, List, [], ◌∷◌, ◌++◌, refl, sym, subst, length, arith, inl, inr, Result, Ok, Err, OnOk, OnErr, IfOk, IsErrOf}
 use Rattle.std.proofs.lemmas.Grind.{flat_map-append}
 use Rattle.dm_tool.specs.declared.task.Task.{Task}
@@ -12,11 +12,11 @@ use Rattle.dm_tool.specs.Runs.{HasEnded, IsAnswered, HasWrittenFront, IsOutSoFar
 use Rattle.dm_tool.specs.inner.AnsweredSoFar.{EndsAnswered, IsAnsweredSoFar}
 use Rattle.dm_tool.proofs.AnsweredSoFar.{ends_out, not_table, so_far_written, so_far_ended}
 
--- answers after others
+-- What is written for answers and further ones is what is written for the first and then for the others.
 pub written_append : (answers more : List Answer) → written (answers ++ more) ≡ written answers ++ written more
 written_append answers more = flat_map-append (λ a. a.text) answers more
 
--- the table, written
+-- Where the run of the table is Ok, all of the table is written.
 pub table_answered : (task : Task) (most : ℕ) (Gave Took : List ℕ → Type 0) (Ended : Type 0) (result : Result Tally RunFault) → task ≡ Table → Gave []
     → IfOk result (λ tally. tally ≡ tally_of []) → OnOk result (Took table_text) → IfOk result (λ tally. IsAnswered task most Gave Ended Took tally)
 table_answered task most Gave Took Ended (Ok tally) table gave none took = record {
@@ -30,7 +30,7 @@ table_answered task most Gave Took Ended (Ok tally) table gave none took = recor
 }
 table_answered task most Gave Took Ended (Err why) table gave none took = tt
 
--- the table, begun
+-- Where the run of the table fails, a beginning of the table is written.
 pub table_broken : (task : Task) (most : ℕ) (Gave TookFront : List ℕ → Type 0) (Ended : Type 0) (result : Result Tally RunFault) → task ≡ Table → Gave []
     → OnErr result (TookFront table_text) → IsErrOf result fault.Write → HasWrittenFront task most Gave Ended TookFront
 table_broken task most Gave TookFront Ended (Ok tally) table gave took is = cc
@@ -41,7 +41,7 @@ table_broken task most Gave TookFront Ended (Err why) table gave took is = recor
   began = inl (table_text, subst (λ t. IsOutSoFar t [] table_text) (sym table) (refl, refl), took);
 }
 
--- the end came, and all was written
+-- Where the end of a text came and all was written, the text is answered.
 pub all_answered : (task : Task) (most : ℕ) (Gave Took : List ℕ → Type 0) (Ended : Type 0) (state : Answering) (text : List ℕ) (answers last : List Answer)
     (tally : Tally) → Gave text → Ended → length text ≤ most → IsAnsweredSoFar task state text answers → EndsAnswered state last → tally ≡ tally_of (answers ++ last)
     → Took (written (answers ++ last)) → IsAnswered task most Gave Ended Took tally
@@ -55,7 +55,7 @@ all_answered task most Gave Took Ended state text answers last tally gave ended 
   took = took;
 }
 
--- a read failed
+-- Where a read fails, exactly what is due so far is written.
 pub done_so_far : (task : Task) (most : ℕ) (Gave Took : List ℕ → Type 0) (state : Answering) (text : List ℕ) (answers : List Answer)
     → Gave text → length text ≤ most → IsAnsweredSoFar task state text answers → Took (written answers) → HasWrittenOutSoFar task most Gave Took
 done_so_far task most Gave Took state text answers gave within s took = record {
@@ -68,7 +68,7 @@ done_so_far task most Gave Took state text answers gave within s took = record {
   took = took;
 }
 
--- one byte too much came
+-- Where one byte too many comes, the input is too much.
 pub too_much : (task : Task) (most : ℕ) (Gave Took : List ℕ → Type 0) (state : Answering) (text : List ℕ) (byte : ℕ) (answers : List Answer)
     → Gave (text ++ byte ∷ []) → length text ≡ most → IsAnsweredSoFar task state text answers → Took (written answers) → IsTooMuch task most Gave Took
 too_much task most Gave Took state text byte answers gave full s took = record {
@@ -82,7 +82,7 @@ too_much task most Gave Took state text byte answers gave full s took = record {
   took = took;
 }
 
--- a write failed before the end came
+-- Where a write fails before the end came, a beginning of what is due so far is written.
 pub broken_before : (task : Task) (most : ℕ) (Gave TookFront : List ℕ → Type 0) (Ended : Type 0) (text : List ℕ) (answers : List Answer)
     → Gave text → length text ≤ most → IsOutSoFar task text (written answers) → TookFront (written answers) → HasWrittenFront task most Gave Ended TookFront
 broken_before task most Gave TookFront Ended text answers gave within done took = record {
@@ -92,7 +92,7 @@ broken_before task most Gave TookFront Ended text answers gave within done took 
   began = inl (written answers, done, took);
 }
 
--- a write or the flush failed when the end had come
+-- Where a write or the flush fails after the end came, a beginning of all is written.
 pub broken_after : (task : Task) (most : ℕ) (Gave TookFront : List ℕ → Type 0) (Ended : Type 0) (state : Answering) (text : List ℕ) (answers last : List Answer)
     → Gave text → Ended → length text ≤ most → IsAnsweredSoFar task state text answers → EndsAnswered state last → TookFront (written (answers ++ last))
     → HasWrittenFront task most Gave Ended TookFront

@@ -16,7 +16,7 @@ use Rattle.dm_tool.proofs.Fronts.{holds_at}
 
 -- ---- sixteen cells
 
--- the character that a lane shows for the bit of this weight
+-- A lane shows this character for the bit of this weight.
 abbrev pub shown : ℕ → ℕ → ℕ
 shown byte weight = cond (top 7 (cond (not (eqb (bit_and byte weight) 0)) 255 0)) 49 48
 
@@ -28,18 +28,18 @@ shown_bit zero w l some = let none : 0 * w ≡ 0 = omega arith in rw none refl
 shown_bit (suc zero) w l some = let one : eqb (1 * w) 0 ≡ false = ne_eqb (1 * w) 0 (λ e. omega arith) in rw one refl
 shown_bit (suc (suc b)) w l some = absurd (omega arith)
 
--- it is that of the bit
+-- The character that a lane shows for a bit is that of the bit's cell.
 lane_is : (byte k : ℕ) → shown byte (2 ^ k) ≡ character_of (is_dark_in byte k)
 lane_is byte k =
     ap (λ (n : ℕ). cond (top 7 (cond (not (eqb n 0)) 255 0)) 49 48) (and_pow byte k) ∙ shown_bit (byte / 2 ^ k % 2) (2 ^ k) (bit_small byte k) (pow_pos k)
 
--- a bit that a mask keeps
+-- A bit of the mask is kept as it is.
 kept_bit : (n mask k : ℕ) → mask / 2 ^ k % 2 ≡ 1 → is_dark_in (bit_and n mask) k ≡ is_dark_in n k
 kept_bit n mask k e =
     let same : min (n / 2 ^ k % 2) 1 ≡ n / 2 ^ k % 2 = omega (arith, bit_small n k) in
     ap (λ (b : ℕ). nat_eq b 1) (bit_at_and n mask k ∙ ap (λ (b : ℕ). min (n / 2 ^ k % 2) b) e ∙ same)
 
--- a cell of the low byte, and one of the high byte
+-- A lane of the low byte shows the character of its cell.
 pub low_is : (cells k : ℕ) → 255 / 2 ^ k % 2 ≡ 1 → shown (bit_and cells 255) (2 ^ k) ≡ character_of (is_dark_in cells k)
 low_is cells k e = lane_is (bit_and cells 255) k ∙ ap character_of (kept_bit cells 255 k e)
 
@@ -52,13 +52,13 @@ high_is cells k e =
 all_kept : list_all (λ (k : ℕ). eqb (65535 / 2 ^ k % 2) 1) (range_with_len 0 16) ≡ true
 all_kept = refl
 
--- a cell of sixteen that are cut out
+-- The cells that are cut out of a row are those of the row from that column on.
 cut_cell : (cells column k : ℕ) → k < 16 → is_dark_in (bit_and (cells / 2 ^ column) 65535) k ≡ is_dark_in cells (column + k)
 cut_cell cells column k l =
     kept_bit (cells / 2 ^ column) 65535 k (eqb-true (65535 / 2 ^ k % 2) 1 (holds_at (λ (k : ℕ). eqb (65535 / 2 ^ k % 2) 1) 16 all_kept k l))
     ∙ ap (λ (n : ℕ). nat_eq (n % 2) 1) (div-div-eq-div-mul cells (2 ^ column) (2 ^ k) ∙ ap (λ (w : ℕ). cells / w) (sym (pow-add 2 column k)))
 
--- some cells, and more
+-- The first cells of a row, and a few that are cut out after them, are the first cells of the row.
 joined : (cells column few : ℕ) → few ≤ 16 → cells_in column cells ++ cells_in few (bit_and (cells / 2 ^ column) 65535) ≡ cells_in (column + few) cells
 joined cells column few le =
     let left = cells_in column cells in
@@ -78,7 +78,7 @@ joined cells column few le =
           ∙ cut_cell cells column (k - column) (omega arith) ∙ ap (is_dark_in cells) back
     ])
 
--- the characters of some cells, and those of more
+-- The characters of the first cells of a row, and those of a few more, are the characters of all these cells.
 pub more_cells : (before : List ℕ) (cells column few : ℕ) → few ≤ 16
     → (before ++ map character_of (cells_in column cells)) ++ take few (map character_of (cells_in 16 (bit_and (cells / 2 ^ column) 65535)))
     ≡ before ++ map character_of (cells_in (column + few) cells)
@@ -91,15 +91,15 @@ more_cells before cells column few le =
     ∙ ap (λ (l : List ℕ). before ++ l) (sym (map-append character_of (cells_in column cells) (cells_in few part)))
     ∙ ap (λ (l : List Bool). before ++ map character_of l) (joined cells column few le)
 
--- how long the characters of cells are
+-- Cells have as many characters as there are cells.
 pub cells_long : (n cells : ℕ) → length (map character_of (cells_in n cells)) ≡ n
 cells_long n cells = length-map (cells_in n cells) character_of ∙ length-map-range_with_len (is_dark_in cells) 0 n
 
--- a row is its cells
+-- A row of cells is the cells of the number that has them as its bits.
 pub row_is : (row : List Bool) (cells width : ℕ) → length row ≡ width → ((column : ℕ) → column < width → is_dark_in cells column ≡ get_or row column false)
     → cells_in width cells ≡ row
 row_is row cells width long each = sym (fill_by_all (is_dark_in cells) row width false long (λ k l. sym (each k l)))
 
--- how long some of sixteen characters are
+-- Of sixteen characters the first few are so many.
 pub few_long : (few cells : ℕ) → few ≤ 16 → length (take few (map character_of (cells_in 16 cells))) ≡ few
 few_long few cells le = length-take-le few (map character_of (cells_in 16 cells)) (omega (arith, cells_long 16 cells))

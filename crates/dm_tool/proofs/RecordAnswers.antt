@@ -12,24 +12,24 @@ use Rattle.dm_tool.specs.Records.{has_foreign, is_large, is_square, record_of, r
 use Rattle.dm_tool.specs.RecordFacts.{RecordContents, Foreign, Large, Cells, contents_of, differ, first_length, last_length}
 use Rattle.dm_tool.proofs.RecordSteps.{by_tests}
 
--- the grid of a size with these rows
+-- These rows are the grid of the size, if there is one with this side.
 abbrev pub sized_rows : Option SizeRow → ℕ → List (List Bool) → Result GridView RecordFault
 sized_rows (Some size) side rows = Ok (record { size = size; rows = rows })
 sized_rows None side rows = Err (fault.NoSuchSize side)
 
--- the answer to cells, by whether the last line is as long as the first and that is as long as they are many
+-- Cells are answered by whether the last line is as long as the first, and this as long as the lines are many.
 abbrev pub cells_answer : Bool → ℕ → Option (List (List Bool)) → Result GridView RecordFault
 cells_answer true c (Some rows) = sized_rows (row_with_side c) c rows
 cells_answer true c None = Err fault.NotSquare
 cells_answer false c rows = Err fault.NotSquare
 
--- the answer to contents
+-- Contents are answered by a grid or by a fault.
 abbrev pub answer_of : RecordContents → Result GridView RecordFault
 answer_of Foreign = Err fault.Character
 answer_of Large = Err fault.Large
 answer_of (Cells c f l rows) = cells_answer (l == f && f == c) c rows
 
--- both of two tests hold
+-- Where two tests pass together, each of them passes.
 pub and_parts : (a b : Bool) → (a && b) ≡ true → (a ≡ true) × (b ≡ true)
 and_parts true b e = (refl, e)
 and_parts false b e = cc
@@ -44,7 +44,7 @@ either P false f g = g refl
 abbrev All : ℕ → List (List ℕ) → Bool
 All n lines = list_all (λ l. length l == n) lines
 
--- lines that are all so long
+-- Where all lines have one length, the first of them has it.
 firsts : (n : ℕ) (lines : List (List ℕ)) → 0 < length lines → All n lines ≡ true → first_length lines ≡ n
 firsts n [] some e = absurd (omega arith)
 firsts n (l ∷ lines) some e = eqb-true (length l) n (and_parts (length l == n) (All n lines) e).0
@@ -67,7 +67,7 @@ neither : (a : Bool) (b : Bool) → (not a || b) ≡ false → (a ≡ true) × (
 neither true b e = (refl, e)
 neither false b e = cc
 
--- lines that don't differ, the last one too
+-- Lines that don't differ from one length, and whose last one has it too, all have it.
 all_by : (n : ℕ) (lines : List (List ℕ)) (rest : List ℕ) → differ n lines ≡ false → last_length (lines ++ last_line rest) ≡ n → All n (lines ++ last_line rest) ≡ true
 all_by n [] [] d e = refl
 all_by n [] (x ∷ r) d e = both_true (length (x ∷ r) == n) true (eq-eqb (length (x ∷ r)) n e) refl
@@ -78,7 +78,7 @@ all_by n (l ∷ m ∷ lines) rest d e =
     let parts = neither (length l == n) (differ n (m ∷ lines)) d in
     both_true (length l == n) (All n ((m ∷ lines) ++ last_line rest)) parts.0 (all_by n (m ∷ lines) rest parts.1 e)
 
--- what makes lines a square
+-- Where lines are square, the first and the last are as long as the lines are many, and the lines don't differ.
 pub square_tells : (lines : List (List ℕ)) (rest : List ℕ) → is_square (lines ++ last_line rest) ≡ true
     → (first_length (lines ++ last_line rest) ≡ length (lines ++ last_line rest)) × (last_length (lines ++ last_line rest) ≡ length (lines ++ last_line rest))
     × (differ (first_length (lines ++ last_line rest)) lines ≡ false)
@@ -100,7 +100,7 @@ square_tells lines rest e = go (length (lines ++ last_line rest) == 0) refl
         let first = firsts (length (lines ++ last_line rest)) (lines ++ last_line rest) (omega arith) e in
         (first, lasts (length (lines ++ last_line rest)) (lines ++ last_line rest) (omega arith) e, ap (λ k. differ k lines) first ∙ not_differ (length (lines ++ last_line rest)) lines rest e)
 
--- lines that make a square
+-- Lines that don't differ are square if the first and the last are as long as the lines are many.
 pub square_by_facts : (lines : List (List ℕ)) (rest : List ℕ) → differ (first_length (lines ++ last_line rest)) lines ≡ false
     → last_length (lines ++ last_line rest) ≡ first_length (lines ++ last_line rest) → first_length (lines ++ last_line rest) ≡ length (lines ++ last_line rest)
     → is_square (lines ++ last_line rest) ≡ true
@@ -111,7 +111,7 @@ same_sized : (size : Option SizeRow) (lines : List (List ℕ)) → sized size li
 same_sized (Some size) lines = refl
 same_sized None lines = refl
 
--- what the lines come to, by their tests
+-- What the lines of a record come to follows from their tests.
 pub tested_answer : (lines : List (List ℕ)) (rest : List ℕ) (h g s d : Bool)
     → is_square (lines ++ last_line rest) ≡ s → differ (first_length (lines ++ last_line rest)) lines ≡ d
     → (if h then Err fault.Character else if g then Err fault.Large else if is_square (lines ++ last_line rest) then sized (row_with_side (length (lines ++ last_line rest))) (lines ++ last_line rest) else Err fault.NotSquare)
@@ -138,7 +138,7 @@ tested_answer lines rest false false false false es ed =
     not_both true false n = refl
     not_both false b n = refl
 
--- the answer to a record is that to its contents
+-- A record is answered as its contents are.
 pub answer_is : (lines : List (List ℕ)) (rest : List ℕ) → record_of (lines ++ last_line rest) ≡ answer_of (contents_of lines rest)
 answer_is lines rest = tested_answer lines rest (has_foreign (lines ++ last_line rest)) (is_large (lines ++ last_line rest)) (is_square (lines ++ last_line rest))
     (differ (first_length (lines ++ last_line rest)) lines) refl refl

@@ -10,7 +10,7 @@ use Rattle.dm_tool.proofs.Texts.{split_more, split_unique}
 
 -- ---- empty lines
 
--- an empty line for each LF
+-- Each LF is an empty line.
 pub blanks : List ℕ → List (List ℕ)
 blanks [] = []
 blanks (b ∷ bytes) = [] ∷ blanks bytes
@@ -38,7 +38,7 @@ pub full_some : (lines : List (List ℕ)) → AreFullLines lines → AllByRecurs
 full_some [] h = tt
 full_some (l ∷ lines) h = (h.0.0, full_some lines h.1)
 
--- lines before a text that is split
+-- Lines before a split text are the first of its lines.
 pub split_lines : (lines more : List (List ℕ)) (text rest : List ℕ) → AllByRecursion HasNoLf lines → IsSplit text more rest → IsSplit (ended lines ++ text) (lines ++ more) rest
 split_lines [] more text rest h s = s
 split_lines (l ∷ lines) more text rest h s =
@@ -48,7 +48,7 @@ split_lines (l ∷ lines) more text rest h s =
 rest_alone : (rest : List ℕ) → HasNoLf rest → IsSplit rest [] rest
 rest_alone rest h = record { whole = refl; lines_no_lf = tt; rest_no_lf = h }
 
--- the lines of a text in which a record stands open
+-- A text in which a record stands open is split into empty lines, the lines of the record, and the rest.
 pub split_open : (text : List ℕ) (lines : List (List ℕ)) (rest : List ℕ) → (o : IsOpenRecord text lines rest) → IsSplit text (blanks o.blank ++ lines) rest
 split_open text lines rest o =
     let inner = split_lines lines [] rest rest (full_no_lf lines o.full) (rest_alone rest o.rest_no_lf) in
@@ -66,7 +66,7 @@ ends_blank (b ∷ bytes) = elim (ends_blank bytes) [
 
 -- ---- pieces
 
--- nothing more than an open record
+-- A text that closes no record has no answers.
 pub open_text : (text : List ℕ) (new : RecordFacts) → AreRecordFacts text new → AreRecordsOfText text [] new
 open_text text new known =
     let o = known.open_record in
@@ -93,7 +93,7 @@ ends_later : (front before : List (List ℕ)) → (before ≡ []) ⊎ ((f : List
 ends_later front before (inl none) = inr (front, ap (λ l. front ++ [] ∷ l) none)
 ends_later front before (inr some) = inr (front ++ [] ∷ some.0, ap (λ l. front ++ [] ∷ l) some.1 ∙ sym (append_assoc front ([] ∷ some.0) ([] ∷ [])))
 
--- a record that is closed before the rest of a text
+-- A record that is closed before the rest of a text is answered before the records of that rest.
 closed_before : (text later : List ℕ) (lines : List (List ℕ)) (answers : List RecordAnswer) (new : RecordFacts) → IsClosedRecord text lines
     → AreRecordsOfText later answers new → AreRecordsOfText (text ++ later) (record_of lines ∷ answers) new
 closed_before text later lines answers new c t =
@@ -139,7 +139,7 @@ fed_after u old new pieces answers (closes _ mid _ piece taken answer more other
     subst (λ a. AreRecordsOfText (u ++ (piece ++ concat more)) (a ∷ others) new) (sym done.answer_is)
     (subst (λ l. AreRecordsOfText l (record_of done.lines ∷ others) new) text all)
 
--- what pieces close and leave open is that of their text
+-- Pieces close and leave open what the text does that they are together.
 pub fed_is_text : (pieces : List (List ℕ)) (answers : List RecordAnswer) (old new : RecordFacts) → AreRecordFacts [] old → AreRecordsFed old pieces answers new
     → AreRecordsOfText (concat pieces) answers new
 fed_is_text pieces answers old new known fed = fed_after [] old new pieces answers fed known
@@ -163,11 +163,11 @@ front_full : (c d : List (List ℕ)) → AllByRecursion (λ l. l ≢ []) (c ++ d
 front_full [] d h = tt
 front_full (x ∷ c) d h = (h.0, front_full c d h.1)
 
--- lines that aren't empty don't begin with lines up to an empty one
+-- Where no line is empty, a front that is empty or ends with an empty line is empty.
 front_blank : (c d b : List (List ℕ)) → c ++ d ≡ b → AllByRecursion (λ l. l ≢ []) b → (c ≡ []) ⊎ ((f : List (List ℕ)) × (c ≡ f ++ [] ∷ [])) → c ≡ []
 front_blank c d b e h hc = blank_is_none c hc (front_full c d (subst (AllByRecursion (λ l. l ≢ [])) (sym e) h))
 
--- the last empty line is one
+-- Lines are cut after their last empty one in only one way.
 pub last_blank_unique : (a b c d : List (List ℕ)) → a ++ b ≡ c ++ d → AllByRecursion (λ l. l ≢ []) b → AllByRecursion (λ l. l ≢ []) d
     → (a ≡ []) ⊎ ((f : List (List ℕ)) × (a ≡ f ++ [] ∷ [])) → (c ≡ []) ⊎ ((f : List (List ℕ)) × (c ≡ f ++ [] ∷ [])) → (a ≡ c) × (b ≡ d)
 last_blank_unique [] b [] d e hb hd ha hc = (refl, e)
@@ -184,7 +184,7 @@ full_first y [] c n h e = cc
 full_first y ([] ∷ b) c n h e = let k : [] ≡ y = cc in n (sym k)
 full_first y ((x ∷ l) ∷ b) c n h e = h
 
--- a longest run is one
+-- Lines have only one longest run of full lines at their front.
 run_unique : (a b c d : List (List ℕ)) → AreFullLines a → AreFullLines c → BeginsBlank b → BeginsBlank d → a ++ b ≡ c ++ d → (a ≡ c) × (b ≡ d)
 run_unique [] b [] d ha hc hb hd e = (refl, e)
 run_unique [] b (y ∷ c) d ha hc hb hd e = absurd (full_first y b (c ++ d) hc.0.0 hb e)
@@ -202,7 +202,7 @@ pub none_first : (a b : List (List ℕ)) → a ≢ [] → a ++ b ≡ [] → ⊥
 none_first [] b n e = n refl
 none_first (x ∷ a) b n e = cc
 
--- the records of lines are one
+-- Lines have their records in only one way.
 pub records_unique : (l m : List (List ℕ)) (r s : List (List (List ℕ))) → AreRecords l r → AreRecords m s → l ≡ m → r ≡ s
 records_unique _ _ _ _ no_line no_line e = refl
 records_unique _ _ _ _ no_line (empty_line m s h) e = cc
@@ -226,12 +226,12 @@ blank_front (x ∷ a) [] l [] h k e = cc
 blank_front (x ∷ a) [] l (y ∷ m) h k e = let n : y ≡ [] = cc in absurd (k.0.0 n)
 blank_front (x ∷ a) (y ∷ b) l m h k e = let tail : blanks a ++ l ≡ blanks b ++ m = cc in blank_front a b l m h k tail
 
--- empty lines and lines that aren't, that are lines that aren't
+-- Where empty lines and full ones after them are together full, they are the full ones.
 pub after_blank_front : (a : List ℕ) (l m : List (List ℕ)) → AreFullLines l → AreFullLines m → blanks a ++ l ≡ m → l ≡ m
 unfolding blanks
 after_blank_front a l m h k e = blank_front a [] l m h k e
 
--- the facts of a text are one
+-- A text has only one set of facts.
 pub record_facts_unique : (text : List ℕ) (f g : RecordFacts) → AreRecordFacts text f → AreRecordFacts text g → f ≡ g
 record_facts_unique text f g p q =
     let o = p.open_record in
@@ -240,7 +240,7 @@ record_facts_unique text f g p q =
     let lines = blank_front o.blank v.blank p.lines q.lines o.full v.full same.0 in
     p.facts_are ∙ ap (λ l. facts_of_record l p.rest) lines ∙ ap (facts_of_record q.lines) same.1 ∙ sym q.facts_are
 
--- what is answered of a text, and what is left open, are one
+-- A text has only one list of answers, and leaves open only one thing.
 of_text_unique : (text : List ℕ) (a b : List RecordAnswer) (f g : RecordFacts) → AreRecordsOfText text a f → AreRecordsOfText text b g → (a ≡ b) × (f ≡ g)
 of_text_unique text a b f g p q =
     let same = split_unique p.lines q.lines text p.rest q.rest p.split q.split in
@@ -250,7 +250,7 @@ of_text_unique text a b f g p q =
       record_facts_unique (ended q.after ++ q.rest) f g (subst (λ l. AreRecordFacts l f) (ap (λ l. ended l ++ p.rest) cut.1 ∙ ap (λ r. ended q.after ++ r) same.1) p.left) q.left,
     )
 
--- the cuts change nothing
+-- How a text is cut into pieces changes neither the answers nor what is left open.
 pub record_cuts : (pieces others : List (List ℕ)) (answers theirs : List RecordAnswer) (old new end : RecordFacts) → AreRecordFacts [] old
     → concat pieces ≡ concat others → AreRecordsFed old pieces answers new → AreRecordsFed old others theirs end → (answers ≡ theirs) × (new ≡ end)
 record_cuts pieces others answers theirs old new end known same p q =

@@ -19,7 +19,7 @@ use Rattle.dm_tool.specs.inner.OpenRecords.{HoldsLines, cells_in, line_count, nu
 use Rattle.dm_tool.proofs.KeptRows.{cells_are, counted}
 use Rattle.dm_tool.proofs.RecordAnswers.{and_parts, square_by_facts, square_tells}
 
--- what lines that are held come to
+-- Lines that are held make a grid if they are square, and else have this fault.
 abbrev by_square : Bool → List (List ℕ) → Result GridView RecordFault
 by_square t lines = if t then sized (row_with_side (length lines)) lines else Err fault.NotSquare
 
@@ -31,7 +31,7 @@ never_square : (s : Bool) → (s ≡ true → ⊥) → s ≡ false
 never_square true n = absurd (n refl)
 never_square false n = refl
 
--- lines that make no square
+-- Lines that differ in length, or that aren't as long as they are many, make no square.
 pub not_square : (t : Rows) (lines : List (List ℕ)) (rest : List ℕ) → HoldsLines t lines rest → (t.differs ≡ false → t.last ≡ t.first → t.first ≡ line_count t → ⊥)
     → Err fault.NotSquare ≡ record_of (lines ++ last_line rest)
 not_square t lines rest h n =
@@ -40,13 +40,13 @@ not_square t lines rest h n =
     n (h.differs_is ∙ ap (λ f. differ f lines) h.first_is ∙ tells.2) (h.last_is ∙ tells.1 ∙ sym tells.0 ∙ sym h.first_is) (h.first_is ∙ tells.0 ∙ sym (counted t lines rest h))) in
     sym (comes_to t lines rest false h never)
 
--- lines that do
+-- Lines that don't differ in length, and are as long as they are many, make a square.
 square : (t : Rows) (lines : List (List ℕ)) (rest : List ℕ) → HoldsLines t lines rest → t.differs ≡ false → t.last ≡ t.first → t.first ≡ line_count t
     → is_square (lines ++ last_line rest) ≡ true
 square t lines rest h d l f =
     square_by_facts lines rest (ap (λ k. differ k lines) (sym h.first_is) ∙ sym h.differs_is ∙ d) (sym h.last_is ∙ l ∙ h.first_is) (sym h.first_is ∙ f ∙ counted t lines rest h)
 
--- their rows are those of their numbers
+-- The rows of square lines are the cells of their numbers.
 row_at : (n : ℕ) (lines : List (List ℕ)) (r : ℕ) → list_all (λ line. length line == n) lines ≡ true → r < length lines
     → get_or (rows_of lines) r [] ≡ cells_in n (get_or (map number_of lines) r 0)
 row_at n [] r all l = absurd (omega arith)
@@ -55,7 +55,7 @@ row_at n (m ∷ lines) zero all l =
 row_at n (m ∷ lines) (suc r) all l =
     row_at n lines r (and_parts (length m == n) (list_all (λ line. length line == n) lines) all).1 (omega (arith, l))
 
--- the square of those numbers is that of the lines
+-- The square of the numbers of lines is the square of the lines.
 square_rows : (lines : List (List ℕ)) → is_square lines ≡ true → square_of_rows (length lines) (map number_of lines) ≡ rows_of lines
 square_rows lines all =
     sym (fill_by_all (λ r. cells_in (length lines) (get_or (map number_of lines) r 0)) (rows_of lines) (length lines) []
@@ -64,11 +64,11 @@ square_rows lines all =
 same_grid : (size : Option SizeRow) (lines : List (List ℕ)) (g : GridView) → size ≡ Some g.size → g.rows ≡ rows_of lines → Ok g ≡ sized size lines
 same_grid size lines g e f = rw e (ap (λ rows. Ok (let k : GridView = record { size = g.size; rows = rows } in k)) f)
 
--- the side of a square
+-- The length of the first of square lines is the number of the lines.
 side_is : (t : Rows) (lines : List (List ℕ)) (rest : List ℕ) → HoldsLines t lines rest → t.first ≡ line_count t → t.first ≡ length (lines ++ last_line rest)
 side_is t lines rest h f = f ∙ counted t lines rest h
 
--- the grid of a square
+-- Square lines of a side that some size has make the grid of that size.
 pub is_grid : (t : Rows) (lines : List (List ℕ)) (rest rows : List ℕ) (g : GridView) → HoldsLines t lines rest → t.differs ≡ false → t.last ≡ t.first
     → t.first ≡ line_count t → rows ≡ t.rows.items → row_with_side t.first ≡ Some g.size → g.rows ≡ square_of_rows t.first rows → Ok g ≡ record_of (lines ++ last_line rest)
 is_grid t lines rest rows g h d l f e size drawn =
@@ -88,7 +88,7 @@ no_size : (size : Option SizeRow) (lines : List (List ℕ)) → IsNone size → 
 no_size None lines h = refl
 no_size (Some size) lines h = cc
 
--- a square of a side that no size has
+-- Square lines of a side that no size has make no grid.
 pub no_grid : (t : Rows) (lines : List (List ℕ)) (rest rows : List ℕ) (why : GridFault) → HoldsLines t lines rest → t.differs ≡ false → t.last ≡ t.first
     → t.first ≡ line_count t → rows ≡ t.rows.items
     → ((let r : Result GridView GridFault = Err why in r) ≡ Err rows_fault.NotSquare → length rows ≡ t.first → ⊥)

@@ -7,7 +7,7 @@ use Rattle.dm_tool.specs.LineFacts.{CanBecomeSpelling}
 use Rattle.dm_tool.specs.inner.OpenLines.{BeginsNoSpelling}
 use Rattle.dm_tool.proofs.Joinings.{heads, tails}
 
--- the bytes begin with a spelling of one of the four kinds
+-- The bytes begin with a spelling of one of the four kinds.
 data Begins (bytes : List ℕ) : Type 0 where
   with_plain : (c : ℕ) (rest : List ℕ) → 32 ≤ c → c ≤ 126 → c ≢ 92 → bytes ≡ c ∷ rest → Begins bytes
   with_backslash : (rest : List ℕ) → bytes ≡ 92 ∷ 92 ∷ rest → Begins bytes
@@ -23,7 +23,7 @@ begins bytes piece more item e (byte s t u v hs ht p i) = with_byte s t u v more
 none_if : (bytes : List ℕ) → (Begins bytes → ⊥) → BeginsNoSpelling bytes
 none_if bytes never piece more item e h = never (begins bytes piece more item e h)
 
--- a backslash alone
+-- A backslash by itself begins with no spelling.
 backslash_alone : Begins (92 ∷ []) → ⊥
 backslash_alone (with_plain c rest l h n e) = n (sym (heads 92 c [] rest e))
 backslash_alone (with_backslash rest e) = let s : 1 ≡ suc (suc (length rest)) = ap length e in omega arith
@@ -36,7 +36,7 @@ backslash_none = none_if (92 ∷ []) backslash_alone
 pub backslash_can : CanBecomeSpelling (92 ∷ [])
 backslash_can = (92 ∷ [], Byte 92, backslash refl refl)
 
--- a backslash and x
+-- A backslash and x by themselves begin with no spelling.
 hexadecimal_alone : Begins (92 ∷ 120 ∷ []) → ⊥
 hexadecimal_alone (with_plain c rest l h n e) = n (sym (heads 92 c (120 ∷ []) rest e))
 hexadecimal_alone (with_backslash rest e) = let s = heads 120 92 [] rest (tails 92 92 (120 ∷ []) (92 ∷ rest) e) in omega arith
@@ -52,7 +52,7 @@ zero_digit = figure (omega arith) refl
 pub hexadecimal_can : CanBecomeSpelling (92 ∷ 120 ∷ [])
 hexadecimal_can = (48 ∷ 48 ∷ [], Byte 0, byte 48 48 0 0 zero_digit zero_digit refl refl)
 
--- a backslash, x and a digit
+-- A backslash, x and a digit by themselves begin with no spelling.
 digit_alone : (d : ℕ) → Begins (92 ∷ 120 ∷ d ∷ []) → ⊥
 digit_alone d (with_plain c rest l h n e) = n (sym (heads 92 c (120 ∷ d ∷ []) rest e))
 digit_alone d (with_backslash rest e) = let s = heads 120 92 (d ∷ []) rest (tails 92 92 (120 ∷ d ∷ []) (92 ∷ rest) e) in omega arith
@@ -65,7 +65,7 @@ digit_none d = none_if (92 ∷ 120 ∷ d ∷ []) (digit_alone d)
 pub digit_can : (d u : ℕ) → IsHexDigit d u → CanBecomeSpelling (92 ∷ 120 ∷ d ∷ [])
 digit_can d u h = (48 ∷ [], Byte (16 * u + 0), byte d 48 u 0 h zero_digit refl refl)
 
--- a byte outside 32 to 126
+-- No spelling begins with a byte outside 32 to 126.
 foreign_first : (b : ℕ) (more : List ℕ) → (32 ≤ b → b ≤ 126 → ⊥) → b ≢ 92 → Begins (b ∷ more) → ⊥
 foreign_first b more out n (with_plain c rest l h _ e) = let s = heads b c more rest e in out (omega arith) (omega arith)
 foreign_first b more out n (with_backslash rest e) = n (heads b 92 more (92 ∷ rest) e)
@@ -75,7 +75,7 @@ foreign_first b more out n (with_byte s t u v rest _ _ e) = n (heads b 92 more (
 pub foreign_none : (b : ℕ) (more : List ℕ) → (32 ≤ b → b ≤ 126 → ⊥) → b ≢ 92 → BeginsNoSpelling (b ∷ more)
 foreign_none b more out n = none_if (b ∷ more) (foreign_first b more out n)
 
--- a backslash and a byte that is none of the backslash, F and x
+-- No spelling begins with a backslash and a byte other than the backslash, F and x.
 stray_second : (b : ℕ) (more : List ℕ) → b ≢ 92 → b ≢ 70 → b ≢ 120 → Begins (92 ∷ b ∷ more) → ⊥
 stray_second b more n m o (with_plain c rest l h k e) = k (sym (heads 92 c (b ∷ more) rest e))
 stray_second b more n m o (with_backslash rest e) = n (heads b 92 more rest (tails 92 92 (b ∷ more) (92 ∷ rest) e))
@@ -85,7 +85,7 @@ stray_second b more n m o (with_byte s t u v rest _ _ e) = o (heads b 120 more (
 pub stray_none : (b : ℕ) (more : List ℕ) → b ≢ 92 → b ≢ 70 → b ≢ 120 → BeginsNoSpelling (92 ∷ b ∷ more)
 stray_none b more n m o = none_if (92 ∷ b ∷ more) (stray_second b more n m o)
 
--- a backslash, x and a byte that is no digit
+-- No spelling begins with a backslash, x and a byte that is no digit.
 no_first_digit : (b : ℕ) (more : List ℕ) → ((u : ℕ) → IsHexDigit b u → ⊥) → Begins (92 ∷ 120 ∷ b ∷ more) → ⊥
 no_first_digit b more never (with_plain c rest l h k e) = k (sym (heads 92 c (120 ∷ b ∷ more) rest e))
 no_first_digit b more never (with_backslash rest e) = let s = heads 120 92 (b ∷ more) rest (tails 92 92 (120 ∷ b ∷ more) (92 ∷ rest) e) in omega arith
@@ -97,7 +97,7 @@ no_first_digit b more never (with_byte s t u v rest hs ht e) =
 pub first_digit_none : (b : ℕ) (more : List ℕ) → ((u : ℕ) → IsHexDigit b u → ⊥) → BeginsNoSpelling (92 ∷ 120 ∷ b ∷ more)
 first_digit_none b more never = none_if (92 ∷ 120 ∷ b ∷ more) (no_first_digit b more never)
 
--- a backslash, x, a byte and a byte that is no digit
+-- No spelling begins with a backslash, x, a byte and a byte that is no digit.
 no_second_digit : (d b : ℕ) (more : List ℕ) → ((u : ℕ) → IsHexDigit b u → ⊥) → Begins (92 ∷ 120 ∷ d ∷ b ∷ more) → ⊥
 no_second_digit d b more never (with_plain c rest l h k e) = k (sym (heads 92 c (120 ∷ d ∷ b ∷ more) rest e))
 no_second_digit d b more never (with_backslash rest e) = let s = heads 120 92 (d ∷ b ∷ more) rest (tails 92 92 (120 ∷ d ∷ b ∷ more) (92 ∷ rest) e) in omega arith

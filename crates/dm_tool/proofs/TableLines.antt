@@ -5,6 +5,6 @@ use Rattle.dm_symbol.specs.Sizes.{SizeRow}
 use Rattle.dm_tool.specs.Texts.{ended}
 use Rattle.dm_tool.specs.Answers.{numbers_of, spaced}
 
--- the lines of rows
+-- The table has these lines for these rows.
 abbrev pub lines_of : List SizeRow → List ℕ
 lines_of rows = ended (map (λ size. spaced (numbers_of size)) rows)

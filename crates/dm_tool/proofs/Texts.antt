@@ -3,21 +3,21 @@ use Rattle.std.proofs.Common.{◌≡◌, ◌∙◌, ◌+◌, ◌<◌, ℕ, List,
 use Rattle.std.proofs.lemmas.List.{length-take-le}
 use Rattle.dm_tool.specs.Texts.{lf, HasNoLf, ended, IsSplit}
 
--- the bytes before an end and the end
+-- The bytes before a place in a piece, and the byte there, are as many as the place says, and one.
 pub length-front : (end : ℕ) (piece : List ℕ) → end < length piece → end + 1 ≡ length (take end piece) + 1
 length-front end piece lt = ap (λ n. n + 1) (sym (length-take-le end piece (omega arith)))
 
--- bytes without LF, one list after another
+-- Bytes without LF, followed by others without LF, have none.
 pub no_lf_append : (a b : List ℕ) → HasNoLf a → HasNoLf b → HasNoLf (a ++ b)
 no_lf_append [] b p q = q
 no_lf_append (x ∷ a) b p q = (p.0, no_lf_append a b p.1 q)
 
--- an LF stands in no bytes without LF
+-- Bytes without LF have no LF within them.
 lf_in : (a b : List ℕ) → HasNoLf (a ++ lf ∷ b) → ⊥
 lf_in [] b p = p.0 refl
 lf_in (x ∷ a) b p = lf_in a b p.1
 
--- the bytes before the first LF are the same, whichever way they are found
+-- The bytes before the first LF, and those after it, are the same, whichever way they are found.
 pub first_lf : (a b c d : List ℕ) → HasNoLf a → HasNoLf c → a ++ lf ∷ b ≡ c ++ lf ∷ d → (a ≡ c) × (b ≡ d)
 first_lf [] b [] d p q e = (refl, cc)
 first_lf [] b (y ∷ c) d p q e = let h : lf ≡ y = cc in absurd (q.0 (sym h))
@@ -27,11 +27,11 @@ first_lf (x ∷ a) b (y ∷ c) d p q e =
     let head : x ≡ y = cc in
     let r = first_lf a b c d p.1 q.1 tail in (ap (λ k. k ∷ a) head ∙ ap (λ l. y ∷ l) r.0, r.1)
 
--- the first line of ended ones
+-- A text of ended lines begins with its first line and an LF.
 line_first : (line : List ℕ) (lines : List (List ℕ)) (rest : List ℕ) → ended (line ∷ lines) ++ rest ≡ line ++ lf ∷ (ended lines ++ rest)
 line_first line lines rest = append_assoc (line ++ lf ∷ []) (ended lines) rest ∙ append_assoc line (lf ∷ []) (ended lines ++ rest)
 
--- a line before a split text
+-- A line before a split text, with an LF between, is the first of its lines.
 pub split_more : (line text : List ℕ) (lines : List (List ℕ)) (rest : List ℕ) → HasNoLf line → IsSplit text lines rest → IsSplit (line ++ lf ∷ text) (line ∷ lines) rest
 split_more line text lines rest h s = record {
   whole = ap (λ l. line ++ lf ∷ l) s.whole ∙ sym (line_first line lines rest);
@@ -39,7 +39,7 @@ split_more line text lines rest h s = record {
   rest_no_lf = s.rest_no_lf;
 }
 
--- a text is split in one way
+-- A text is split in only one way.
 pub split_unique : (xs ys : List (List ℕ)) (text r s : List ℕ) → IsSplit text xs r → IsSplit text ys s → (xs ≡ ys) × (r ≡ s)
 split_unique [] [] text r s p q = (refl, sym p.whole ∙ q.whole)
 split_unique [] (y ∷ ys) text r s p q =

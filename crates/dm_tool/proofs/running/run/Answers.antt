@@ -9,28 +9,28 @@ use Rattle.dm_tool.proofs.Outcomes.{all_answered, broken_after, broken_before, d
 use Rattle.dm_tool.proofs.AnsweredSoFar.{done_by, not_table}
 use Rattle.dm_tool.proofs.running.run.Goals as goal
 
--- bytes that are all of what may come, and fewer
+-- Where the bytes that came and those that may still come are `most` together, no more than `most` came.
 few : (text : List ℕ) (left most : ℕ) → length text + left ≡ most → length text ≤ most
 few text left most e = omega arith
 
--- no more came than might
+-- Where more bytes may still come, no more came than might.
 within : (count left : ℕ) → count ≤ max left 1 → (left ≡ 0 → ⊥) → count ≤ left
 within count zero h n = absurd (n refl)
 within count (suc left) h n = omega (arith, h)
 
--- a piece more
+-- After a further piece, the bytes that came and those that may still come are still `most` together.
 longer : (text place : List ℕ) (count left most : ℕ) → length text + left ≡ most → count ≤ max left 1 → (left ≡ 0 → ⊥) → count ≤ length place
     → length (text ++ take count place) + (left - count) ≡ most
 longer text place count left most e h n k = omega (arith, length-append text (take count place), length-take-le count place k, within count left h n)
 
--- a piece of one byte
+-- A piece of at most one byte that isn't empty is one byte.
 one_byte : (count : ℕ) (place : List ℕ) → (count ≡ 0 → ⊥) → count ≤ 1 → count ≤ length place → (byte : ℕ) × (take count place ≡ byte ∷ [])
 one_byte zero place n h k = absurd (n refl)
 one_byte (suc zero) [] n h k = absurd (omega arith)
 one_byte (suc zero) (byte ∷ place) n h k = (byte, refl)
 one_byte (suc (suc count)) place n h k = absurd (omega arith)
 
--- nothing more
+-- A piece of no bytes adds nothing to what the source gave.
 no_more : (Gave : List ℕ → Type 0) (text place : List ℕ) (count : ℕ) → count ≡ 0 → Gave (text ++ take count place) → Gave text
 no_more Gave text place count e gave = subst Gave (append-nil text) (subst (λ n. Gave (text ++ take n place)) e gave)
 
