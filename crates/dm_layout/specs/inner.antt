@@ -4,3 +4,4 @@ pub mod Reading
 pub mod Widened
 pub mod Slots
 pub mod BorderMasks
+pub mod Laying

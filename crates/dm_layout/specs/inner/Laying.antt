@@ -1,0 +1,28 @@
+-- Codewords laid by the rows of their anchors: their bits are scattered from slots into widened rows, which are then folded back into the square.
+-- Slot 16 r + k has, with its bits in the opposite order, the codeword of the k-th anchor of row r; the last slot has that of a corner.
+use Rattle.std.specs.Prelude.{◌≡◌, ℕ, ◌+◌, ◌-◌, ◌*◌, ◌/◌, ◌%◌, Bool, ◌&&◌, ◌||◌, nat_le, nat_lt, List, get_or}
+use Rattle.dm_layout.specs.Grid.{is_dark_in}
+use Rattle.dm_layout.specs.inner.Slots.{first_column}
+
+-- bit j of the codewords whose anchors lie in row r: eight for each
+abbrev pub slot_bit : List ℕ → ℕ → ℕ → Bool
+slot_bit slots r j = is_dark_in (get_or slots (16 * r + j / 8) 0) (j % 8)
+
+-- whether the codewords whose anchors lie in row r darken column c of a widened row by those of their bits that begin with `low`, `count` of each eight
+abbrev pub by_anchors : ℕ → List ℕ → ℕ → ℕ → ℕ → ℕ → Bool
+by_anchors n slots r low count c = nat_lt r n && (nat_le (first_column r) c && (nat_lt ((c - first_column r) % 8) count && slot_bit slots r (c - first_column r + low)))
+
+-- the widened rows of the codewords: two bits of each lie in the row of its anchor, which is two rows above the anchor's row in the square, three in the next row, and three in that after it
+abbrev pub scattered : ℕ → List ℕ → ℕ → ℕ → Bool
+scattered n slots r c =
+    by_anchors n slots r 0 2 c || ((nat_le 1 r && by_anchors n slots (r - 1) 2 3 c) || (nat_le 2 r && by_anchors n slots (r - 2) 5 3 c))
+
+-- the two rows above the square are laid over its last two rows, 4 - ((n + 4) mod 8) columns further to the right
+abbrev pub lowered : ℕ → (ℕ → ℕ → Bool) → ℕ → ℕ → Bool
+lowered n look r c = look r c || ((nat_le n r && nat_lt r (n + 2)) && (nat_le 4 (c + (n + 4) % 8) && look (r - n) (c + (n + 4) % 8 - 4)))
+
+-- and then the four columns to its left over its last four columns, 4 - ((n + 4) mod 8) rows further down; none of these lies above row 4
+abbrev pub folded : ℕ → (ℕ → ℕ → Bool) → ℕ → ℕ → Bool
+folded n look r c =
+    lowered n look (r + 2) (c + 4)
+    || (nat_le (n - 4) c && ((nat_le 6 (r + (n + 4) % 8) && nat_lt (r + (n + 4) % 8 - 2) (n + 2)) && lowered n look (r + (n + 4) % 8 - 2) (c + 4 - n)))
