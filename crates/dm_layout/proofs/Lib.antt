@@ -34,6 +34,7 @@ mod SlotRows
 mod LiftedWords
 mod TestedSlots
 mod SlotOrder
+mod FoldedRows
 mod DrawnRows
 mod BorderMasks
 mod BorderLemmas

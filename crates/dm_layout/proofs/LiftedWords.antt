@@ -43,25 +43,25 @@ all_inside n (x ∷ xs) h =
 
 -- ---- a cell of a standard shape in widened rows
 
-module _ (n : ℕ) (look : ℕ → ℕ → Bool) (rows : List ℕ) (least : 8 ≤ n) (most : n ≤ 96) (even : n % 2 ≡ 0) (wide : IsWidened n look rows) where
-  -- the cell by the three tests of its wrapping
-  abbrev cell_by : ℕ → ℕ → ℕ → ℕ → Bool → Bool → Bool → Cell
-  cell_by r c up left t u v =
-      elim t [
-        | true ↦ elim u [
-          | true ↦ At (r + n + 4 - (up + (n + 4) % 8)) (c + 4 + n - (left + (n + 4) % 8))
-          | false ↦ At (r + n - up) (c + 4 - (left + (n + 4) % 8))
-        ]
-        | false ↦ elim v [ true ↦ At (r + 4 - (up + (n + 4) % 8)) (c + n - left) | false ↦ At (r - up) (c - left) ]
+-- the cell by the three tests of its wrapping
+abbrev pub cell_by : ℕ → ℕ → ℕ → ℕ → ℕ → Bool → Bool → Bool → Cell
+cell_by n r c up left t u v =
+    elim t [
+      | true ↦ elim u [
+        | true ↦ At (r + n + 4 - (up + (n + 4) % 8)) (c + 4 + n - (left + (n + 4) % 8))
+        | false ↦ At (r + n - up) (c + 4 - (left + (n + 4) % 8))
       ]
+      | false ↦ elim v [ true ↦ At (r + 4 - (up + (n + 4) % 8)) (c + n - left) | false ↦ At (r - up) (c - left) ]
+    ]
 
+module _ (n : ℕ) (look : ℕ → ℕ → Bool) (rows : List ℕ) (least : 8 ≤ n) (most : n ≤ 96) (even : n % 2 ≡ 0) (wide : IsWidened n look rows) where
   -- two places that are the same
   same_look : (f : ℕ → ℕ → Bool) (a b x y : ℕ) → a ≡ x → b ≡ y → f a b ≡ f x y
   same_look f a b x y p q = ap (λ (i : ℕ). f i b) p ∙ ap (f x) q
 
   by_tests : (r c up left : ℕ) (t u v : Bool) → r < n → c < n → (5 * r + c) % 8 ≡ 4 → up ≤ 2 → left ≤ 2 → nat_lt r up ≡ t → nat_lt (c + 4) (left + (n + 4) % 8) ≡ u → nat_lt c left ≡ v →
-      (cell_by r c up left t u v).row < n → (cell_by r c up left t u v).column < n →
-      look_in rows (r + 2 - up) (c + 4 - left) ≡ look (cell_by r c up left t u v).row (cell_by r c up left t u v).column
+      (cell_by n r c up left t u v).row < n → (cell_by n r c up left t u v).column < n →
+      look_in rows (r + 2 - up) (c + 4 - left) ≡ look (cell_by n r c up left t u v).row (cell_by n r c up left t u v).column
   by_tests r c up left false u false lr lc anchor lu ll e f g ir ic =
       let a = ltb-false r up e in
       let b = ltb-false c left g in
