@@ -77,7 +77,7 @@ abbrev pub one_cell : ℕ → ℕ → ℕ → ℕ → Bool
 one_cell a b r c = nat_eq r a && nat_eq c b
 
 -- it is this cell
-abbrev IsCell : ℕ → ℕ → ℕ → ℕ → Type 0
+abbrev pub IsCell : ℕ → ℕ → ℕ → ℕ → Type 0
 IsCell a b r c = (r ≡ a) × (c ≡ b)
 
 -- or it is laid over this cell from above
@@ -88,10 +88,10 @@ IsLowered n s a b r c = IsCell a b r c ⊎ (((n ≤ r) × (r < n + 2)) × ((4 �
 abbrev IsFolded : ℕ → ℕ → ℕ → ℕ → ℕ → ℕ → Type 0
 IsFolded n s a b r c = IsLowered n s a b (r + 2) (c + 4) ⊎ ((n - 4 ≤ c) × (((6 ≤ r + s) × (r + s - 2 < n + 2)) × IsLowered n s a b (r + s - 2) (c + 4 - n)))
 
-decides_le : (a b : ℕ) → Decides (nat_le a b) (a ≤ b)
+pub decides_le : (a b : ℕ) → Decides (nat_le a b) (a ≤ b)
 decides_le a b = (leb-true a b, le-leb a b)
 
-decides_cell : (a b r c : ℕ) → Decides (one_cell a b r c) (IsCell a b r c)
+pub decides_cell : (a b r c : ℕ) → Decides (one_cell a b r c) (IsCell a b r c)
 decides_cell a b r c = Decides-and (nat_eq r a) (nat_eq c b) (Decides-eqb r a) (Decides-eqb c b)
 
 decides_lowered : (n a b r c : ℕ) → Decides (lowered n (one_cell a b) r c) (IsLowered n ((n + 4) % 8) a b r c)

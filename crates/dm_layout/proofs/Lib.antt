@@ -35,6 +35,7 @@ mod LiftedWords
 mod TestedSlots
 mod SlotOrder
 mod FoldedRows
+mod LaidSlots
 mod DrawnRows
 mod BorderMasks
 mod BorderLemmas
