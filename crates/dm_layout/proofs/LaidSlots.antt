@@ -3,12 +3,12 @@ use Rattle.std.proofs.Common.{◌≡◌, ◌⊎◌, inl, inr, ℕ, zero, suc, �
 use Rattle.std.specs.Prelude.{Decides}
 use Rattle.std.specs.Int.RustNames.{bit_or}
 use Rattle.std.specs.List.{list_all, range_with_len}
-use Rattle.std.proofs.Math.Bool.{and-or_distrib_left, or_assoc, or-false}
+use Rattle.std.proofs.Math.Bool.{and-or_distrib_left, or_assoc, or-false, and-true, and-false}
 use Rattle.std.proofs.lemmas.Bool.{true≢false, agree_below, agree_below_at, cases_eq}
 use Rattle.std.proofs.lemmas.Bool.Decides.{Decides-and, Decides-or, Decides-like, Decides-eqb, Decides-ltb, same_from_decides}
 use Rattle.dm_layout.specs.declared.shape.Cell.{Cell}
 use Rattle.dm_layout.specs.Grid.{is_dark_in}
-use Rattle.dm_layout.specs.Placement.{At, standard}
+use Rattle.dm_layout.specs.Placement.{At, wrapped_cell, standard}
 use Rattle.dm_layout.specs.inner.Laying.{by_anchors, scattered, folded}
 use Rattle.dm_layout.specs.inner.Reading.{marks_in}
 use Rattle.dm_layout.specs.inner.Slots.{first_column, reversed_bits}
@@ -172,3 +172,120 @@ added_none n s y q low count c most far lc small =
   where
     to : IsAdded n s y q low count c → ⊥
     to (lq, (lf, (lt, (es, d)))) = omega arith
+
+-- the cells of a standard shape in widened rows
+abbrev pub wide_cells : ℕ → ℕ → List Cell
+wide_cells i j = cells_run i (j + 2) 2 ++ cells_run (i + 1) (j + 2) 3 ++ cells_run (i + 2) (j + 2) 3
+
+-- three rows, to each of which something is added
+three_added : (a b d x y z : Bool) → ((a || x) || ((b || y) || (d || z))) ≡ ((a || (b || d)) || (x || (y || z)))
+three_added true b d x y z = refl
+three_added false true d true y z = refl
+three_added false true d false y z = refl
+three_added false false true true y z = refl
+three_added false false true false true z = refl
+three_added false false true false false z = refl
+three_added false false false x y z = refl
+
+module _ (n y : ℕ) (slots : List ℕ) where
+  -- a byte in the slot of an anchor scatters the cells of the anchor's shape
+  pub scattered_shape : (i j r c : ℕ) → i < n → j < 128 → c < 128 → (5 * i + j) % 8 ≡ 4 → 16 * i + j / 8 < length slots →
+      scattered n (set slots (16 * i + j / 8) (bit_or (get_or slots (16 * i + j / 8) 0) y)) r c ≡ (scattered n slots r c || marks_low y 0 (wide_cells i j) r c)
+  scattered_shape i j r c li lj lc anchor l =
+      ap (λ (b : Bool). b || ((nat_le 1 r && by_anchors n news (r - 1) 2 3 c) || (nat_le 2 r && by_anchors n news (r - 2) 5 3 c))) (in_row r 0 2 (omega arith))
+      ∙ ap (λ (b : Bool). (by_anchors n slots r 0 2 c || marks_low y 0 first r c) || (b || (nat_le 2 r && by_anchors n news (r - 2) 5 3 c))) (in_lower 1 2 3 (omega arith))
+      ∙ ap (λ (b : Bool). (by_anchors n slots r 0 2 c || marks_low y 0 first r c) || (((nat_le 1 r && by_anchors n slots (r - 1) 2 3 c) || marks_low y 2 second r c) || b)) (in_lower 2 5 3 (omega arith))
+      ∙ three_added (by_anchors n slots r 0 2 c) (nat_le 1 r && by_anchors n slots (r - 1) 2 3 c) (nat_le 2 r && by_anchors n slots (r - 2) 5 3 c) (marks_low y 0 first r c) (marks_low y 2 second r c) (marks_low y 5 third r c)
+      ∙ ap (λ (b : Bool). scattered n slots r c || (marks_low y 0 first r c || b)) (sym (marks_append y 2 second third r c))
+      ∙ ap (λ (b : Bool). scattered n slots r c || b) (sym (marks_append y 0 first (second ++ third) r c))
+    where
+      news : List ℕ
+      news = set slots (16 * i + j / 8) (bit_or (get_or slots (16 * i + j / 8) 0) y)
+
+      first : List Cell
+      first = cells_run i (j + 2) 2
+
+      second : List Cell
+      second = cells_run (i + 1) (j + 2) 3
+
+      third : List Cell
+      third = cells_run (i + 2) (j + 2) 3
+
+      in_row : (q low count : ℕ) → low + count ≤ 8 → by_anchors n news q low count c ≡ (by_anchors n slots q low count c || marks_low y low (cells_run i (j + 2) count) q c)
+      in_row q low count small =
+          anchors_or n (16 * i + j / 8) y q low count c slots l ∙ ap (λ (b : Bool). by_anchors n slots q low count c || b) (added_run n i j y q low count c li lj lc anchor small)
+
+      in_lower : (d low count : ℕ) → low + count ≤ 8 →
+          (nat_le d r && by_anchors n news (r - d) low count c) ≡ ((nat_le d r && by_anchors n slots (r - d) low count c) || marks_low y low (cells_run (i + d) (j + 2) count) r c)
+      in_lower d low count small =
+          ap (λ (b : Bool). nat_le d r && b) (in_row (r - d) low count small)
+          ∙ and-or_distrib_left (nat_le d r) (by_anchors n slots (r - d) low count c) (marks_low y low (cells_run i (j + 2) count) (r - d) c)
+          ∙ ap (λ (b : Bool). (nat_le d r && by_anchors n slots (r - d) low count c) || b) (run_below y low i (j + 2) count d r c)
+
+  -- a byte behind all rows scatters nothing
+  pub scattered_corner : (s r c : ℕ) → n ≤ 96 → 1536 ≤ s → c < 128 → s < length slots → scattered n (set slots s (bit_or (get_or slots s 0) y)) r c ≡ scattered n slots r c
+  scattered_corner s r c most far lc l =
+      ap (λ (b : Bool). b || ((nat_le 1 r && by_anchors n news (r - 1) 2 3 c) || (nat_le 2 r && by_anchors n news (r - 2) 5 3 c))) (same r 0 2 (omega arith))
+      ∙ ap (λ (b : Bool). by_anchors n slots r 0 2 c || ((nat_le 1 r && b) || (nat_le 2 r && by_anchors n news (r - 2) 5 3 c))) (same (r - 1) 2 3 (omega arith))
+      ∙ ap (λ (b : Bool). by_anchors n slots r 0 2 c || ((nat_le 1 r && by_anchors n slots (r - 1) 2 3 c) || (nat_le 2 r && b))) (same (r - 2) 5 3 (omega arith))
+    where
+      news : List ℕ
+      news = set slots s (bit_or (get_or slots s 0) y)
+
+      same : (q low count : ℕ) → low + count ≤ 8 → by_anchors n news q low count c ≡ by_anchors n slots q low count c
+      same q low count small =
+          anchors_or n s y q low count c slots l
+          ∙ ap (λ (b : Bool). by_anchors n slots q low count c || b) (added_none n s y q low count c most far lc small)
+          ∙ or-false (by_anchors n slots q low count c)
+
+-- ---- folded cells
+
+-- each of these cells is folded to one of those
+abbrev AreFolded : ℕ → ℕ → ℕ → List Cell → List Cell → Type 0
+AreFolded n r c [] [] = Unit {0}
+AreFolded n r c [] (z ∷ zs) = ⊥
+AreFolded n r c (x ∷ xs) [] = ⊥
+AreFolded n r c (x ∷ xs) (z ∷ zs) = (folded n (one_cell x.row x.column) r c ≡ one_cell z.row z.column r c) × AreFolded n r c xs zs
+
+-- a picture that a bit shows or hides
+folded_and : (n : ℕ) (f : ℕ → ℕ → Bool) (d : Bool) (r c : ℕ) → c < 96 → folded n (λ i j. f i j && d) r c ≡ (folded n f r c && d)
+folded_and n f true r c l = folded_same n (λ i j. f i j && true) f r c l (λ i j _. and-true (f i j)) ∙ sym (and-true (folded n f r c))
+folded_and n f false r c l = folded_same n (λ i j. f i j && false) (λ i j. false) r c l (λ i j _. and-false (f i j)) ∙ folded_none n r c ∙ sym (and-false (folded n f r c))
+
+folded_marks : (n y k r c : ℕ) (xs zs : List Cell) → c < 96 → AreFolded n r c xs zs → folded n (marks_low y k xs) r c ≡ marks_low y k zs r c
+folded_marks n y k r c [] [] l h = folded_none n r c
+folded_marks n y k r c [] (z ∷ zs) l h = absurd h
+folded_marks n y k r c (x ∷ xs) [] l h = absurd h
+folded_marks n y k r c (x ∷ xs) (z ∷ zs) l h =
+    folded_or n (λ i j. one_cell x.row x.column i j && is_dark_in y k) (marks_low y (suc k) xs) r c
+    ∙ ap (λ (b : Bool). b || folded n (marks_low y (suc k) xs) r c) (folded_and n (one_cell x.row x.column) (is_dark_in y k) r c l)
+    ∙ ap (λ (b : Bool). (b && is_dark_in y k) || folded n (marks_low y (suc k) xs) r c) h.0
+    ∙ ap (λ (b : Bool). (one_cell z.row z.column r c && is_dark_in y k) || b) (folded_marks n y (suc k) r c xs zs l h.1)
+
+-- those of a standard shape to where it wraps
+wide_folded : (n i j r c : ℕ) → 8 ≤ n → n % 2 ≡ 0 → i < n → j < n → (5 * i + j) % 8 ≡ 4 → r < n → c < n → AreFolded n r c (wide_cells i j) (standard n i j)
+wide_folded n i j r c least even li lj anchor lr lc = (
+  at 2 2 i (j + 2) (omega arith) (omega arith) (omega arith) (omega arith),
+  (
+    at 2 1 i (j + 2 + 1) (omega arith) (omega arith) (omega arith) (omega arith),
+    (
+      at 1 2 (i + 1) (j + 2) (omega arith) (omega arith) (omega arith) (omega arith),
+      (
+        at 1 1 (i + 1) (j + 2 + 1) (omega arith) (omega arith) (omega arith) (omega arith),
+        (
+          at 1 0 (i + 1) (j + 2 + 1 + 1) (omega arith) (omega arith) (omega arith) (omega arith),
+          (
+            at 0 2 (i + 2) (j + 2) (omega arith) (omega arith) (omega arith) (omega arith),
+            (
+              at 0 1 (i + 2) (j + 2 + 1) (omega arith) (omega arith) (omega arith) (omega arith),
+              (at 0 0 (i + 2) (j + 2 + 1 + 1) (omega arith) (omega arith) (omega arith) (omega arith), tt),
+            ),
+          ),
+        ),
+      ),
+    ),
+  ),
+)
+  where
+    at : (up left a b : ℕ) → up ≤ 2 → left ≤ 2 → a + up ≡ i + 2 → b + left ≡ j + 4 → folded n (one_cell a b) r c ≡ one_cell (wrapped_cell n i j up left).row (wrapped_cell n i j up left).column r c
+    at up left a b lu ll ea eb = folded_cell n i j up left a b r c least even li lj anchor lu ll ea eb lr lc
