@@ -252,7 +252,7 @@ folded_and : (n : ℕ) (f : ℕ → ℕ → Bool) (d : Bool) (r c : ℕ) → c <
 folded_and n f true r c l = folded_same n (λ i j. f i j && true) f r c l (λ i j _. and-true (f i j)) ∙ sym (and-true (folded n f r c))
 folded_and n f false r c l = folded_same n (λ i j. f i j && false) (λ i j. false) r c l (λ i j _. and-false (f i j)) ∙ folded_none n r c ∙ sym (and-false (folded n f r c))
 
-folded_marks : (n y k r c : ℕ) (xs zs : List Cell) → c < 96 → AreFolded n r c xs zs → folded n (marks_low y k xs) r c ≡ marks_low y k zs r c
+pub folded_marks : (n y k r c : ℕ) (xs zs : List Cell) → c < 96 → AreFolded n r c xs zs → folded n (marks_low y k xs) r c ≡ marks_low y k zs r c
 folded_marks n y k r c [] [] l h = folded_none n r c
 folded_marks n y k r c [] (z ∷ zs) l h = absurd h
 folded_marks n y k r c (x ∷ xs) [] l h = absurd h
@@ -263,7 +263,7 @@ folded_marks n y k r c (x ∷ xs) (z ∷ zs) l h =
     ∙ ap (λ (b : Bool). (one_cell z.row z.column r c && is_dark_in y k) || b) (folded_marks n y (suc k) r c xs zs l h.1)
 
 -- those of a standard shape to where it wraps
-wide_folded : (n i j r c : ℕ) → 8 ≤ n → n % 2 ≡ 0 → i < n → j < n → (5 * i + j) % 8 ≡ 4 → r < n → c < n → AreFolded n r c (wide_cells i j) (standard n i j)
+pub wide_folded : (n i j r c : ℕ) → 8 ≤ n → n % 2 ≡ 0 → i < n → j < n → (5 * i + j) % 8 ≡ 4 → r < n → c < n → AreFolded n r c (wide_cells i j) (standard n i j)
 wide_folded n i j r c least even li lj anchor lr lc = (
   at 2 2 i (j + 2) (omega arith) (omega arith) (omega arith) (omega arith),
   (

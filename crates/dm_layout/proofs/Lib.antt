@@ -36,6 +36,7 @@ mod TestedSlots
 mod SlotOrder
 mod FoldedRows
 mod LaidSlots
+mod LaidWords
 mod DrawnRows
 mod BorderMasks
 mod BorderLemmas
