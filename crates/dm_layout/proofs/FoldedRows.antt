@@ -1,10 +1,10 @@
 -- Widened rows that are folded back into the square.
-use Rattle.std.proofs.Common.{◌≡◌, ◌⊎◌, inl, inr, ℕ, ◌+◌, ◌-◌, ◌*◌, ◌%◌, ◌<◌, ◌≤◌, Bool, true, false, ◌&&◌, ◌||◌, nat_eq, nat_le, nat_lt, List, [], ◌∷◌, refl, sym, ◌∙◌, ap, arith}
+use Rattle.std.proofs.Common.{◌≡◌, ◌⊎◌, inl, inr, ℕ, ◌+◌, ◌-◌, ◌*◌, ◌%◌, ◌<◌, ◌≤◌, Bool, true, false, ◌&&◌, ◌||◌, nat_eq, nat_le, nat_lt, refl, ◌∙◌, ap, arith}
 use Rattle.std.specs.Prelude.{Decides}
 use Rattle.std.proofs.Math.Bool.{and-or_distrib_left}
 use Rattle.std.proofs.lemmas.Bool.{le-leb, leb-true, ltb-true, ltb-false}
 use Rattle.std.proofs.lemmas.Bool.Decides.{Decides-and, Decides-or, Decides-like, Decides-eqb, Decides-ltb, same_from_decides}
-use Rattle.dm_layout.specs.Placement.{At, wrapped_cell}
+use Rattle.dm_layout.specs.Placement.{wrapped_cell}
 use Rattle.dm_layout.specs.inner.Laying.{lowered, folded}
 use Rattle.dm_layout.proofs.LiftedWords.{cell_by}
 

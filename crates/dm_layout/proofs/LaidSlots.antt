@@ -15,7 +15,8 @@ use Rattle.dm_layout.specs.inner.Slots.{first_column, reversed_bits}
 use Rattle.dm_layout.proofs.FoldedRows.{IsCell, one_cell, decides_le, decides_cell, folded_or, folded_same, folded_none, folded_cell}
 use Rattle.dm_layout.proofs.OuterRows.{or_dark}
 use Rattle.dm_layout.proofs.Ranges.{all_below}
-use Rattle.dm_layout.proofs.WidenedRows.{put_over}
+use Rattle.dm_layout.proofs.SlotRows.{reversed_twice}
+use Rattle.dm_layout.proofs.WidenedRows.{put_over, low_bit}
 
 -- ---- the cells of a byte, of which the lowest bit comes first
 
@@ -33,12 +34,30 @@ reversed_bit x k l lk =
     agree_below_at (is_dark_in (reversed_bits x)) (λ k. nat_eq (x / 2 ^ (8 - (k + 1)) % 2) 1) 8 k
     (all_below (λ x. agree_below (is_dark_in (reversed_bits x)) (λ k. nat_eq (x / 2 ^ (8 - (k + 1)) % 2) 1) 8) 256 x reversed_test l) lk
 
--- they are the cells of the codeword
-pub marks_reversed : (w k : ℕ) (xs : List Cell) (r c : ℕ) → w < 256 → k + length xs ≤ 8 → marks_low (reversed_bits w) k xs r c ≡ marks_in w k xs r c
-marks_reversed w k [] r c l h = refl
-marks_reversed w k (x ∷ rest) r c l h =
-    ap (λ (b : Bool). (nat_eq r x.row && nat_eq c x.column && b) || marks_low (reversed_bits w) (suc k) rest r c) (reversed_bit w k l (omega arith))
-    ∙ ap (λ (b : Bool). (nat_eq r x.row && nat_eq c x.column && nat_eq (w / 2 ^ (8 - (k + 1)) % 2) 1) || b) (marks_reversed w (suc k) rest r c l (omega arith))
+-- if its bits are those of a codeword, they are the cells of the codeword
+marks_alike : (y w k : ℕ) (xs : List Cell) (r c : ℕ) → ((t : ℕ) → t < 8 → is_dark_in y t ≡ nat_eq (w / 2 ^ (8 - (t + 1)) % 2) 1) → k + length xs ≤ 8 → marks_low y k xs r c ≡ marks_in w k xs r c
+marks_alike y w k [] r c same h = refl
+marks_alike y w k (x ∷ rest) r c same h =
+    ap (λ (b : Bool). (nat_eq r x.row && nat_eq c x.column && b) || marks_low y (suc k) rest r c) (same k (omega arith))
+    ∙ ap (λ (b : Bool). (nat_eq r x.row && nat_eq c x.column && nat_eq (w / 2 ^ (8 - (k + 1)) % 2) 1) || b) (marks_alike y w (suc k) rest r c same (omega arith))
+
+-- those of a codeword with its bits in the opposite order are
+pub marks_reversed : (w : ℕ) (xs : List Cell) (r c : ℕ) → w < 256 → length xs ≤ 8 → marks_low (reversed_bits w) 0 xs r c ≡ marks_in w 0 xs r c
+marks_reversed w xs r c l h = marks_alike (reversed_bits w) w 0 xs r c (λ t lt. reversed_bit w t l lt) (omega arith)
+
+-- and the other way round
+pub marks_turned : (y : ℕ) (xs : List Cell) (r c : ℕ) → length xs ≤ 8 → marks_low y 0 xs r c ≡ marks_in (reversed_bits y) 0 xs r c
+marks_turned y xs r c h = marks_alike y (reversed_bits y) 0 xs r c turned (omega arith)
+  where
+    low : reversed_bits y ≡ reversed_bits (y % 256)
+    low = omega arith
+
+    turned : (t : ℕ) → t < 8 → is_dark_in y t ≡ nat_eq (reversed_bits y / 2 ^ (8 - (t + 1)) % 2) 1
+    turned t l =
+        sym (low_bit y 8 t l)
+        ∙ ap (λ (i : ℕ). is_dark_in i t) (sym (reversed_twice (y % 256) (omega arith)))
+        ∙ reversed_bit (reversed_bits (y % 256)) t (omega arith) l
+        ∙ ap (λ (i : ℕ). nat_eq (i / 2 ^ (8 - (t + 1)) % 2) 1) (sym low)
 
 -- a bit of either byte
 either_bit : (p a b x y : Bool) → (p && (a || b) || (x || y)) ≡ ((p && a || x) || (p && b || y))

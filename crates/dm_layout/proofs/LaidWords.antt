@@ -1,18 +1,23 @@
 -- That the codewords in slots, scattered and folded, lie at their places.
-use Rattle.std.proofs.Common.{◌≡◌, ◌≢◌, ℕ, suc, ◌+◌, ◌*◌, ◌/◌, ◌%◌, ◌<◌, ◌≤◌, Bool, true, false, ◌&&◌, ◌||◌, nat_eq, nat_lt, List, [], ◌∷◌, length, get_or, set, refl, sym, ◌∙◌, ap, arith, get_or-set_same, get_or-set_other}
+use Rattle.std.proofs.Common.{◌≡◌, ◌≢◌, ℕ, zero, suc, ◌+◌, ◌-◌, ◌*◌, ◌/◌, ◌%◌, ◌<◌, ◌≤◌, Bool, true, false, ◌&&◌, ◌||◌, nat_eq, nat_le, nat_lt, List, [], ◌∷◌, map, length, get_or, set, drop, replicate, refl, sym, ◌∙◌, ap, arith, get_or-set_same, get_or-set_other, drop-cons, drop_of_length-le}
 use Rattle.std.specs.Int.RustNames.{bit_or}
-use Rattle.std.proofs.Math.Bool.{or_assoc}
+use Rattle.std.specs.List.{list_all}
+use Rattle.std.proofs.Math.Bool.{or_assoc, or-false, and-false}
 use Rattle.std.proofs.lemmas.Bool.{and_parts, ltb-true, eqb-true}
+use Rattle.std.proofs.lemmas.List.{get_or-map}
+use Rattle.dm_layout.specs.declared.cells.Place.{Place}
 use Rattle.dm_layout.specs.declared.shape.Cell.{Cell}
 use Rattle.dm_layout.specs.declared.shape.Shape.{Shape}
 use Rattle.dm_layout.specs.declared.shape.Shape.TheVariants.{Standard, Corner1, Corner2, Corner3, Corner4}
-use Rattle.dm_layout.specs.Placement.{standard, cells_of}
-use Rattle.dm_layout.specs.inner.Laying.{scattered, folded}
+use Rattle.dm_layout.specs.Grid.{is_dark_in}
+use Rattle.dm_layout.specs.Placement.{standard, cells_of, shapes, places_from, places_in_order}
+use Rattle.dm_layout.specs.inner.Laying.{by_anchors, scattered, folded, corner_marks}
 use Rattle.dm_layout.specs.inner.Reading.{marks_in}
-use Rattle.dm_layout.specs.inner.Slots.{reversed_bits, slot_of}
-use Rattle.dm_layout.proofs.FoldedRows.{folded_or, folded_same}
-use Rattle.dm_layout.proofs.LaidSlots.{marks_low, marks_reversed, marks_or, wide_cells, scattered_shape, scattered_corner, folded_marks, wide_folded}
+use Rattle.dm_layout.specs.inner.Slots.{first_column, reversed_bits, slot_of}
+use Rattle.dm_layout.proofs.FoldedRows.{folded_or, folded_same, folded_none}
+use Rattle.dm_layout.proofs.LaidSlots.{marks_low, marks_reversed, marks_turned, marks_or, wide_cells, scattered_shape, scattered_corner, folded_marks, wide_folded}
 use Rattle.dm_layout.proofs.LiftedWords.{kind_test, inside_test, fits_test}
+use Rattle.dm_layout.proofs.Painting.{marks, marks_word, light_at}
 
 -- the cells of the corner that belongs to a side
 abbrev pub corner_cells : ℕ → List Cell
@@ -95,4 +100,96 @@ pub slot_put : (n w : ℕ) (slots : List ℕ) (s : Shape) (r c : ℕ) → 8 ≤ 
     laid_slots n (set slots (slot_of s) (bit_or (get_or slots (slot_of s) 0) (reversed_bits w))) r c ≡ (laid_slots n slots r c || marks_in w 0 (cells_of n s) r c)
 slot_put n w slots s r c least most even room small fits lr lc =
     let k = eight_cells n s in
-    put_low n (reversed_bits w) slots least most even room s r c fits lr lc ∙ ap (λ (b : Bool). laid_slots n slots r c || b) (marks_reversed w 0 (cells_of n s) r c small (omega arith))
+    put_low n (reversed_bits w) slots least most even room s r c fits lr lc ∙ ap (λ (b : Bool). laid_slots n slots r c || b) (marks_reversed w (cells_of n s) r c small (omega arith))
+
+-- ---- all codewords
+
+-- the square with what is in the slots, and the places of the codewords from i on, is that of all codewords
+abbrev pub AreLaid : ℕ → List ℕ → List ℕ → ℕ → Type 0
+AreLaid n words slots i =
+    (r c : ℕ) → r < n → c < n → (laid_slots n slots r c || marks words (places_from n i (drop i (shapes n))) r c) ≡ marks words (places_in_order n) r c
+
+-- a shape of a list that fits
+fits_here : (n i : ℕ) (ss : List Shape) → list_all (fits_test n) ss ≡ true → i < length ss → fits_test n (get_or ss i Corner1) ≡ true
+fits_here n i [] h l = absurd (omega arith)
+fits_here n zero (s ∷ ss) h l = (and_parts (fits_test n s) (list_all (fits_test n) ss) h).0
+fits_here n (suc i) (s ∷ ss) h l = fits_here n i ss (and_parts (fits_test n s) (list_all (fits_test n) ss) h).1 (omega arith)
+
+-- one more
+pub laid_more : (n i x y : ℕ) (words slots : List ℕ) → 8 ≤ n → n ≤ 96 → n % 2 ≡ 0 → 1536 < length slots → get_or words i 0 < 256 → list_all (fits_test n) (shapes n) ≡ true → i < length (shapes n) →
+    x ≡ get_or (map slot_of (shapes n)) i 0 → y ≡ reversed_bits (get_or words i 0) → AreLaid n words slots i → AreLaid n words (set slots x (bit_or (get_or slots x 0) y)) (i + 1)
+laid_more n i x y words slots least most even room small fits l ex ey so_far r c lr lc =
+    let s : Shape = get_or (shapes n) i Corner1 in
+    let w : ℕ = get_or words i 0 in
+    let next : suc i ≡ i + 1 = omega arith in
+    let rest : List Place = places_from n (suc i) (drop (suc i) (shapes n)) in
+    let at : x ≡ slot_of s = ex ∙ get_or-map slot_of (shapes n) i Corner1 0 l in
+    ap (λ (j : ℕ). laid_slots n (set slots x (bit_or (get_or slots x 0) y)) r c || marks words (places_from n j (drop j (shapes n))) r c) (sym next)
+    ∙ ap (λ (j : ℕ). laid_slots n (set slots j (bit_or (get_or slots j 0) y)) r c || marks words rest r c) at
+    ∙ ap (λ (j : ℕ). laid_slots n (set slots (slot_of s) (bit_or (get_or slots (slot_of s) 0) j)) r c || marks words rest r c) ey
+    ∙ ap (λ (b : Bool). b || marks words rest r c) (slot_put n w slots s r c least most even room small (fits_here n i (shapes n) fits l) lr lc)
+    ∙ or_assoc (laid_slots n slots r c) (marks_in w 0 (cells_of n s) r c) (marks words rest r c)
+    ∙ ap (λ (b : Bool). laid_slots n slots r c || b) (sym (marks_word words i 0 (cells_of n s) rest r c))
+    ∙ ap (λ (ss : List Shape). laid_slots n slots r c || marks words (places_from n i ss) r c) (sym (drop-cons (shapes n) i Corner1 l))
+    ∙ so_far r c lr lc
+
+-- slots of zeros scatter nothing
+scattered_none : (n m r c : ℕ) → scattered n (replicate m 0) r c ≡ false
+scattered_none n m r c =
+    ap (λ (b : Bool). b || ((nat_le 1 r && by_anchors n zeros (r - 1) 2 3 c) || (nat_le 2 r && by_anchors n zeros (r - 2) 5 3 c))) (none r 0 2)
+    ∙ ap (λ (b : Bool). (nat_le 1 r && b) || (nat_le 2 r && by_anchors n zeros (r - 2) 5 3 c)) (none (r - 1) 2 3)
+    ∙ ap (λ (b : Bool). b || (nat_le 2 r && by_anchors n zeros (r - 2) 5 3 c)) (and-false (nat_le 1 r))
+    ∙ ap (λ (b : Bool). nat_le 2 r && b) (none (r - 2) 5 3)
+    ∙ and-false (nat_le 2 r)
+  where
+    zeros : List ℕ
+    zeros = replicate m 0
+
+    guarded : (a b d : Bool) → (a && (b && (d && false))) ≡ false
+    guarded true true d = and-false d
+    guarded true false d = refl
+    guarded false b d = refl
+
+    none : (q low count : ℕ) → by_anchors n zeros q low count c ≡ false
+    none q low count =
+        ap (λ (b : Bool). nat_lt q n && (nat_le (first_column q) c && (nat_lt ((c - first_column q) % 8) count && b))) (light_at m (16 * q + (c - first_column q + low) / 8) ((c - first_column q + low) % 8))
+        ∙ guarded (nat_lt q n) (nat_le (first_column q) c) (nat_lt ((c - first_column q) % 8) count)
+
+-- nor does a corner's slot
+marks_none : (y k : ℕ) (xs : List Cell) (r c : ℕ) → ((t : ℕ) → is_dark_in y t ≡ false) → marks_low y k xs r c ≡ false
+marks_none y k [] r c dark = refl
+marks_none y k (x ∷ xs) r c dark =
+    ap (λ (b : Bool). (nat_eq r x.row && nat_eq c x.column && b) || marks_low y (suc k) xs r c) (dark k)
+    ∙ ap (λ (b : Bool). b || marks_low y (suc k) xs r c) (and-false (nat_eq r x.row && nat_eq c x.column))
+    ∙ marks_none y (suc k) xs r c dark
+
+-- before the first
+pub laid_first : (n : ℕ) (words : List ℕ) → n ≤ 96 → AreLaid n words (replicate 1552 0) 0
+unfolding places_in_order
+laid_first n words most r c lr lc =
+    ap (λ (b : Bool). (b || marks_low (get_or (replicate 1552 0) 1536 0) 0 (corner_cells n) r c) || marks words (places_from n 0 (shapes n)) r c)
+    (folded_same n (scattered n (replicate 1552 0)) (λ i j. false) r c (omega arith) (λ i j _. scattered_none n 1552 i j) ∙ folded_none n r c)
+    ∙ ap (λ (b : Bool). b || marks words (places_from n 0 (shapes n)) r c) (marks_none (get_or (replicate 1552 0) 1536 0) 0 (corner_cells n) r c (light_at 1552 1536))
+
+-- the corner of a side
+corner_same : (n y r c : ℕ) → marks_low y 0 (corner_cells n) r c ≡ corner_marks n (reversed_bits y) r c
+corner_same n y r c = by (nat_eq (n % 8) 4) (nat_eq (n % 8) 6) refl refl
+  where
+    here : Bool → Bool → List Cell
+    here t u = elim t as (λ _. List Cell) [ true ↦ cells_of n Corner1 | false ↦ elim u as (λ _. List Cell) [ true ↦ cells_of n Corner2 | false ↦ [] ] ]
+
+    by : (t u : Bool) → nat_eq (n % 8) 4 ≡ t → nat_eq (n % 8) 6 ≡ u →
+        marks_low y 0 (here t u) r c ≡ ((t && marks_in (reversed_bits y) 0 (cells_of n Corner1) r c) || (u && marks_in (reversed_bits y) 0 (cells_of n Corner2) r c))
+    by true true e f = let a = eqb-true (n % 8) 4 e in let b = eqb-true (n % 8) 6 f in absurd (omega arith)
+    by true false e f = marks_turned y (cells_of n Corner1) r c (omega arith) ∙ sym (or-false _)
+    by false true e f = marks_turned y (cells_of n Corner2) r c (omega arith)
+    by false false e f = refl
+
+-- after the last
+pub laid_all : (n i : ℕ) (words slots : List ℕ) → length (shapes n) ≤ i → AreLaid n words slots i →
+    (r c : ℕ) → r < n → c < n → (folded n (scattered n slots) r c || corner_marks n (reversed_bits (get_or slots 1536 0)) r c) ≡ marks words (places_in_order n) r c
+laid_all n i words slots l laid r c lr lc =
+    ap (λ (b : Bool). folded n (scattered n slots) r c || b) (sym (corner_same n (get_or slots 1536 0) r c))
+    ∙ sym (or-false (laid_slots n slots r c))
+    ∙ ap (λ (ss : List Shape). laid_slots n slots r c || marks words (places_from n i ss) r c) (sym (drop_of_length-le (shapes n) l))
+    ∙ laid r c lr lc

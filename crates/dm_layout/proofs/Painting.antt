@@ -80,7 +80,7 @@ marks words [] r c = false
 marks words (p ∷ rest) r c = (nat_eq r p.row && nat_eq c p.column && bit_of words p.word p.bit) || marks words rest r c
 
 -- the places of a codeword and then others mark what the codeword marks in its cells, and what the others mark
-marks_word : (words : List ℕ) (w k : ℕ) (xs : List Cell) (rest : List Place) (r c : ℕ) → marks words (bits_from w k xs ++ rest) r c ≡ (marks_in (get_or words w 0) k xs r c || marks words rest r c)
+pub marks_word : (words : List ℕ) (w k : ℕ) (xs : List Cell) (rest : List Place) (r c : ℕ) → marks words (bits_from w k xs ++ rest) r c ≡ (marks_in (get_or words w 0) k xs r c || marks words rest r c)
 marks_word words w k [] rest r c = sym (false-or (marks words rest r c))
 marks_word words w k (x ∷ xs) rest r c =
     let h : Bool = nat_eq r x.row && nat_eq c x.column && bit_of words w (k + 1) in

@@ -1,7 +1,10 @@
 -- Codewords laid by the rows of their anchors: their bits are scattered from slots into widened rows, which are then folded back into the square.
 -- Slot 16 r + k has, with its bits in the opposite order, the codeword of the k-th anchor of row r; the last slot has that of a corner.
-use Rattle.std.specs.Prelude.{◌≡◌, ℕ, ◌+◌, ◌-◌, ◌*◌, ◌/◌, ◌%◌, Bool, ◌&&◌, ◌||◌, nat_le, nat_lt, List, get_or}
+use Rattle.std.specs.Prelude.{ℕ, ◌+◌, ◌-◌, ◌*◌, ◌/◌, ◌%◌, Bool, ◌&&◌, ◌||◌, nat_eq, nat_le, nat_lt, List, get_or}
 use Rattle.dm_layout.specs.Grid.{is_dark_in}
+use Rattle.dm_layout.specs.Placement.{cells_of}
+use Rattle.dm_layout.specs.declared.shape.Shape.TheVariants.{Corner1, Corner2}
+use Rattle.dm_layout.specs.inner.Reading.{marks_in}
 use Rattle.dm_layout.specs.inner.Slots.{first_column}
 
 -- bit j of the codewords whose anchors lie in row r: eight for each
@@ -26,3 +29,7 @@ abbrev pub folded : ℕ → (ℕ → ℕ → Bool) → ℕ → ℕ → Bool
 folded n look r c =
     lowered n look (r + 2) (c + 4)
     || (nat_le (n - 4) c && ((nat_le 6 (r + (n + 4) % 8) && nat_lt (r + (n + 4) % 8 - 2) (n + 2)) && lowered n look (r + (n + 4) % 8 - 2) (c + 4 - n)))
+
+-- whether the codeword of a corner darkens a cell of the square
+abbrev pub corner_marks : ℕ → ℕ → ℕ → ℕ → Bool
+corner_marks n word r c = (nat_eq (n % 8) 4 && marks_in word 0 (cells_of n Corner1) r c) || (nat_eq (n % 8) 6 && marks_in word 0 (cells_of n Corner2) r c)
