@@ -1,5 +1,5 @@
 -- A grid into which the rows of the mapping square are put, and that it is the grid in which codewords are laid.
-use Rattle.std.proofs.Common.{◌≡◌, ◌≢◌, ◌⊎◌, inl, inr, ℕ, ◌+◌, ◌*◌, ◌/◌, ◌%◌, ◌<◌, ◌≤◌, Bool, true, false, ◌&&◌, ◌||◌, nat_eq, nat_lt, List, refl, sym, ◌∙◌, ap, arith, subst, eq-eqb}
+use Rattle.std.proofs.Common.{◌≡◌, ◌≢◌, ◌⊎◌, inl, inr, ℕ, ◌+◌, ◌*◌, ◌/◌, ◌%◌, ◌<◌, ◌≤◌, Bool, true, false, ◌&&◌, ◌||◌, nat_eq, nat_lt, refl, sym, ◌∙◌, ap, arith, subst, eq-eqb}
 use Rattle.std.proofs.Math.Bool.{or-false, false-or}
 use Rattle.std.proofs.Math.Nat.{mul-div_cancel}
 use Rattle.std.proofs.lemmas.Bool.{eqb-true, ne_eqb, cases_lt, le-ltb, lt-ltb}
@@ -10,7 +10,6 @@ use Rattle.dm_layout.specs.Border.{symbol_line, mapping_line, mapped_cell, is_bo
 use Rattle.dm_layout.specs.Grid.{GridView, IsGrid, is_dark_in, cell_at}
 use Rattle.dm_layout.specs.Holds.{bit_of, IsLaid}
 use Rattle.dm_layout.specs.Placement.{IsPlace, EachCellOnce}
-use Rattle.dm_layout.specs.inner.Reading.{look_in}
 use Rattle.dm_layout.specs.Words.{WordsView, IsWords}
 use Rattle.dm_layout.proofs.GridLemmas.{cell_of_square}
 use Rattle.dm_layout.proofs.Laid.{begun_empty, on_border, in_mapping}
@@ -21,16 +20,16 @@ use Rattle.dm_layout.proofs.SymbolLines.{symbol_line-one, symbol_line-mod, mappi
 use Rattle.dm_layout.proofs.TableRows.{row_facts}
 
 -- the grid in which the rows above `line` are put
-pub record IsDrawn (size : SizeRow) (rows : List ℕ) (line : ℕ) (grid : GridView) : Type 0 where
+pub record IsDrawn (size : SizeRow) (look : ℕ → ℕ → Bool) (line : ℕ) (grid : GridView) : Type 0 where
   pub same_size : grid.size ≡ size
   pub square : IsGrid grid
   pub border : (u v : ℕ) → u < size.side → v < size.side → is_border size u v ≡ true → cell_at grid u v ≡ border_is_dark size u v
   pub mapped : (r c : ℕ) → r < size.mapping → c < size.mapping →
-      cell_at grid (symbol_line size.region_side r) (symbol_line size.region_side c) ≡ (is_fixed_dark size.mapping r c || (nat_lt r line && look_in rows r c))
+      cell_at grid (symbol_line size.region_side r) (symbol_line size.region_side c) ≡ (is_fixed_dark size.mapping r c || (nat_lt r line && look r c))
 
 -- before the first
-pub drawn_first : (size : SizeRow) (rows : List ℕ) (grid : GridView) → IsRow size → grid ≡ empty_grid size → IsDrawn size rows 0 grid
-drawn_first size rows grid row e =
+pub drawn_first : (size : SizeRow) (look : ℕ → ℕ → Bool) (grid : GridView) → IsRow size → grid ≡ empty_grid size → IsDrawn size look 0 grid
+drawn_first size look grid row e =
     let d : ℕ = size.region_side in
     let n : ℕ = size.mapping in
     let least = (row_facts size row).least in
@@ -45,7 +44,7 @@ drawn_first size rows grid row e =
           ∙ ap (λ (i : ℕ). is_fixed_dark n i (mapping_line d (symbol_line d c))) (mapping_line-symbol_line d r least)
           ∙ ap (is_fixed_dark n r) (mapping_line-symbol_line d c least)
           ∙ sym (or-false (is_fixed_dark n r c))
-          ∙ ap (λ (t : Bool). is_fixed_dark n r c || (t && look_in rows r c)) (sym (le-ltb r 0 (omega arith)));
+          ∙ ap (λ (t : Bool). is_fixed_dark n r c || (t && look r c)) (sym (le-ltb r 0 (omega arith)));
     }
 
 -- a cell of a border in a row that is no border's lies in a column that is
@@ -70,11 +69,11 @@ line_again false true = refl
 line_again false false = refl
 
 -- one more row
-pub drawn_more : (size : SizeRow) (rows : List ℕ) (line x cells : ℕ) (grid next : GridView) → IsRow size → IsDrawn size rows line grid → line < size.mapping → x ≡ symbol_line size.region_side line →
+pub drawn_more : (size : SizeRow) (look : ℕ → ℕ → Bool) (line x cells : ℕ) (grid next : GridView) → IsRow size → IsDrawn size look line grid → line < size.mapping → x ≡ symbol_line size.region_side line →
     next.size ≡ grid.size → IsGrid next → ((r c : ℕ) → r < grid.size.side → c < grid.size.side → cell_at next r c ≡ (cell_at grid r c || (nat_eq r x && is_dark_in cells c))) →
-    ((c : ℕ) → c < size.mapping → is_dark_in cells (symbol_line size.region_side c) ≡ look_in rows line c) →
-    ((j : ℕ) → ((j % (size.region_side + 2) ≡ 0) ⊎ (j % (size.region_side + 2) ≡ size.region_side + 1)) → is_dark_in cells j ≡ false) → IsDrawn size rows (line + 1) next
-drawn_more size rows line x cells grid next row old l ex es g put in_row on_edge = record {
+    ((c : ℕ) → c < size.mapping → is_dark_in cells (symbol_line size.region_side c) ≡ look line c) →
+    ((j : ℕ) → ((j % (size.region_side + 2) ≡ 0) ⊎ (j % (size.region_side + 2) ≡ size.region_side + 1)) → is_dark_in cells j ≡ false) → IsDrawn size look (line + 1) next
+drawn_more size look line x cells grid next row old l ex es g put in_row on_edge = record {
   same_size = es ∙ old.same_size;
   square = g;
   border = border_again;
@@ -107,11 +106,11 @@ drawn_more size rows line x cells grid next row old l ex es g put in_row on_edge
             in_column (inr z) = on_edge v (inr (eqb-true _ _ z))
 
     mapped_more : (r c : ℕ) → r < size.mapping → c < size.mapping →
-        cell_at next (symbol_line size.region_side r) (symbol_line size.region_side c) ≡ (is_fixed_dark size.mapping r c || (nat_lt r (line + 1) && look_in rows r c))
+        cell_at next (symbol_line size.region_side r) (symbol_line size.region_side c) ≡ (is_fixed_dark size.mapping r c || (nat_lt r (line + 1) && look r c))
     mapped_more r c lr lc =
         put_here (symbol_line d r) (symbol_line d c) (lies_inside size r row lr) (lies_inside size c row lc)
         ∙ ap (λ (b : Bool). b || (nat_eq (symbol_line d r) x && is_dark_in cells (symbol_line d c))) (old.mapped r c lr lc)
-        ∙ ap (λ (b : Bool). (f || (nat_lt r line && look_in rows r c)) || (nat_eq (symbol_line d r) x && b)) (in_row c lc)
+        ∙ ap (λ (b : Bool). (f || (nat_lt r line && look r c)) || (nat_eq (symbol_line d r) x && b)) (in_row c lc)
         ∙ by_row (eqb_tells r line)
       where
         d : ℕ
@@ -121,43 +120,43 @@ drawn_more size rows line x cells grid next row old l ex es g put in_row on_edge
         f = is_fixed_dark size.mapping r c
 
         by_row : ((nat_eq r line ≡ true) × (r ≡ line)) ⊎ ((nat_eq r line ≡ false) × (r ≢ line)) →
-            ((is_fixed_dark size.mapping r c || (nat_lt r line && look_in rows r c)) || (nat_eq (symbol_line size.region_side r) x && look_in rows line c)) ≡ (is_fixed_dark size.mapping r c || (nat_lt r (line + 1) && look_in rows r c))
+            ((is_fixed_dark size.mapping r c || (nat_lt r line && look r c)) || (nat_eq (symbol_line size.region_side r) x && look line c)) ≡ (is_fixed_dark size.mapping r c || (nat_lt r (line + 1) && look r c))
         by_row (inl e) =
             let same : symbol_line size.region_side r ≡ x = ap (symbol_line size.region_side) e.1 ∙ sym ex in
             let no : nat_lt r line ≡ false = le-ltb r line (omega (arith, e.1)) in
             let yes : nat_lt r (line + 1) ≡ true = lt-ltb r (line + 1) (omega (arith, e.1)) in
-            ap (λ (t : Bool). (is_fixed_dark size.mapping r c || (t && look_in rows r c)) || (nat_eq (symbol_line size.region_side r) x && look_in rows line c)) no
-            ∙ ap (λ (t : Bool). (is_fixed_dark size.mapping r c || (false && look_in rows r c)) || (t && look_in rows line c)) (eq-eqb (symbol_line size.region_side r) x same)
-            ∙ ap (λ (i : ℕ). (is_fixed_dark size.mapping r c || (false && look_in rows r c)) || (true && look_in rows i c)) (sym e.1)
-            ∙ line_again (is_fixed_dark size.mapping r c) (look_in rows r c)
-            ∙ ap (λ (t : Bool). is_fixed_dark size.mapping r c || (t && look_in rows r c)) (sym yes)
+            ap (λ (t : Bool). (is_fixed_dark size.mapping r c || (t && look r c)) || (nat_eq (symbol_line size.region_side r) x && look line c)) no
+            ∙ ap (λ (t : Bool). (is_fixed_dark size.mapping r c || (false && look r c)) || (t && look line c)) (eq-eqb (symbol_line size.region_side r) x same)
+            ∙ ap (λ (i : ℕ). (is_fixed_dark size.mapping r c || (false && look r c)) || (true && look i c)) (sym e.1)
+            ∙ line_again (is_fixed_dark size.mapping r c) (look r c)
+            ∙ ap (λ (t : Bool). is_fixed_dark size.mapping r c || (t && look r c)) (sym yes)
         by_row (inr e) =
             let other : nat_eq (symbol_line size.region_side r) x ≡ false = ne_eqb (symbol_line size.region_side r) x (λ z. e.1 (symbol_line-one size.region_side r line least (z ∙ ex))) in
-            ap (λ (t : Bool). (is_fixed_dark size.mapping r c || (nat_lt r line && look_in rows r c)) || (t && look_in rows line c)) other
-            ∙ or-false (is_fixed_dark size.mapping r c || (nat_lt r line && look_in rows r c))
-            ∙ ap (λ (t : Bool). is_fixed_dark size.mapping r c || (t && look_in rows r c)) (same_test (cases_lt r line))
+            ap (λ (t : Bool). (is_fixed_dark size.mapping r c || (nat_lt r line && look r c)) || (t && look line c)) other
+            ∙ or-false (is_fixed_dark size.mapping r c || (nat_lt r line && look r c))
+            ∙ ap (λ (t : Bool). is_fixed_dark size.mapping r c || (t && look r c)) (same_test (cases_lt r line))
           where
             same_test : (r < line) ⊎ (line ≤ r) → nat_lt r line ≡ nat_lt r (line + 1)
             same_test (inl k) = lt-ltb r line k ∙ sym (lt-ltb r (line + 1) (omega (arith, k)))
             same_test (inr k) = le-ltb r line k ∙ sym (le-ltb r (line + 1) (let ne = e.1 in omega (arith, k, ne)))
 
 -- after the last
-pub drawn_all : (size : SizeRow) (rows : List ℕ) (line : ℕ) (grid : GridView) → IsDrawn size rows line grid → size.mapping ≤ line → (r c : ℕ) → r < size.mapping → c < size.mapping →
-    mapped_cell grid r c ≡ (is_fixed_dark size.mapping r c || look_in rows r c)
-drawn_all size rows line grid h far r c lr lc =
+pub drawn_all : (size : SizeRow) (look : ℕ → ℕ → Bool) (line : ℕ) (grid : GridView) → IsDrawn size look line grid → size.mapping ≤ line → (r c : ℕ) → r < size.mapping → c < size.mapping →
+    mapped_cell grid r c ≡ (is_fixed_dark size.mapping r c || look r c)
+drawn_all size look line grid h far r c lr lc =
     ap (λ (t : SizeRow). cell_at grid (symbol_line t.region_side r) (symbol_line t.region_side c)) h.same_size
     ∙ h.mapped r c lr lc
-    ∙ ap (λ (t : Bool). is_fixed_dark size.mapping r c || (t && look_in rows r c)) (lt-ltb r line (omega (arith, far, lr)))
+    ∙ ap (λ (t : Bool). is_fixed_dark size.mapping r c || (t && look r c)) (lt-ltb r line (omega (arith, far, lr)))
 
 -- ---- the grid of painted rows
 
 -- the codewords are laid in it
-pub laid_by : (words : WordsView) (size : SizeRow) (rows : List ℕ) (grid : GridView) → IsWords words → size ≡ words.size → grid.size ≡ size → IsGrid grid →
+pub laid_by : (words : WordsView) (size : SizeRow) (look : ℕ → ℕ → Bool) (grid : GridView) → IsWords words → size ≡ words.size → grid.size ≡ size → IsGrid grid →
     ((u v : ℕ) → u < size.side → v < size.side → is_border size u v ≡ true → cell_at grid u v ≡ border_is_dark size u v) →
-    ((r c : ℕ) → r < size.mapping → c < size.mapping → mapped_cell grid r c ≡ (is_fixed_dark size.mapping r c || look_in rows r c)) →
-    ((w b : ℕ) (cell : Cell) → IsPlace words.size.mapping w b cell → look_in rows cell.row cell.column ≡ bit_of words.list w b) →
-    ((r c : ℕ) → is_fixed words.size.mapping r c ≡ true → look_in rows r c ≡ false) → IsLaid words grid
-laid_by words size rows grid h es eg g border mapped bits fixed =
+    ((r c : ℕ) → r < size.mapping → c < size.mapping → mapped_cell grid r c ≡ (is_fixed_dark size.mapping r c || look r c)) →
+    ((w b : ℕ) (cell : Cell) → IsPlace words.size.mapping w b cell → look cell.row cell.column ≡ bit_of words.list w b) →
+    ((r c : ℕ) → r < words.size.mapping → c < words.size.mapping → is_fixed words.size.mapping r c ≡ true → look r c ≡ false) → IsLaid words grid
+laid_by words size look grid h es eg g border mapped bits fixed =
     record {
       holds = record {
         square = g;
@@ -166,15 +165,15 @@ laid_by words size rows grid h es eg g border mapped bits fixed =
         bits = λ w b cell p.
             let inside = law.inside w b cell p in
             mapped_here cell.row cell.column inside.0 inside.1
-            ∙ ap (λ (t : Bool). (t && fixed_is_dark cell.row cell.column) || look_in rows cell.row cell.column) (not_fixed w b cell p)
-            ∙ false-or (look_in rows cell.row cell.column)
+            ∙ ap (λ (t : Bool). (t && fixed_is_dark cell.row cell.column) || look cell.row cell.column) (not_fixed w b cell p)
+            ∙ false-or (look cell.row cell.column)
             ∙ bits_here w b cell p;
       };
       border = no_faults grid (subst (λ (t : SizeRow). (u v : ℕ) → u < t.side → v < t.side → is_border t u v ≡ true → cell_at grid u v ≡ border_is_dark t u v) (sym eg) border);
       fixed_square = λ r c lr lc e.
           mapped_here r c lr lc
-          ∙ ap (λ (t : Bool). (t && fixed_is_dark r c) || look_in rows r c) e
-          ∙ ap (λ (t : Bool). fixed_is_dark r c || t) (fixed_here r c e)
+          ∙ ap (λ (t : Bool). (t && fixed_is_dark r c) || look r c) e
+          ∙ ap (λ (t : Bool). fixed_is_dark r c || t) (fixed_here r c lr lc e)
           ∙ or-false (fixed_is_dark r c);
     }
   where
@@ -184,14 +183,14 @@ laid_by words size rows grid h es eg g border mapped bits fixed =
     law : EachCellOnce grid.size.mapping
     law = once_at_row grid.size g.row
 
-    mapped_here : (r c : ℕ) → r < grid.size.mapping → c < grid.size.mapping → mapped_cell grid r c ≡ (is_fixed_dark grid.size.mapping r c || look_in rows r c)
-    mapped_here = subst (λ (t : SizeRow). (r c : ℕ) → r < t.mapping → c < t.mapping → mapped_cell grid r c ≡ (is_fixed_dark t.mapping r c || look_in rows r c)) (sym eg) mapped
+    mapped_here : (r c : ℕ) → r < grid.size.mapping → c < grid.size.mapping → mapped_cell grid r c ≡ (is_fixed_dark grid.size.mapping r c || look r c)
+    mapped_here = subst (λ (t : SizeRow). (r c : ℕ) → r < t.mapping → c < t.mapping → mapped_cell grid r c ≡ (is_fixed_dark t.mapping r c || look r c)) (sym eg) mapped
 
-    bits_here : (w b : ℕ) (cell : Cell) → IsPlace grid.size.mapping w b cell → look_in rows cell.row cell.column ≡ bit_of words.list w b
-    bits_here = subst (λ (t : SizeRow). (w b : ℕ) (cell : Cell) → IsPlace t.mapping w b cell → look_in rows cell.row cell.column ≡ bit_of words.list w b) same bits
+    bits_here : (w b : ℕ) (cell : Cell) → IsPlace grid.size.mapping w b cell → look cell.row cell.column ≡ bit_of words.list w b
+    bits_here = subst (λ (t : SizeRow). (w b : ℕ) (cell : Cell) → IsPlace t.mapping w b cell → look cell.row cell.column ≡ bit_of words.list w b) same bits
 
-    fixed_here : (r c : ℕ) → is_fixed grid.size.mapping r c ≡ true → look_in rows r c ≡ false
-    fixed_here = subst (λ (t : SizeRow). (r c : ℕ) → is_fixed t.mapping r c ≡ true → look_in rows r c ≡ false) same fixed
+    fixed_here : (r c : ℕ) → r < grid.size.mapping → c < grid.size.mapping → is_fixed grid.size.mapping r c ≡ true → look r c ≡ false
+    fixed_here = subst (λ (t : SizeRow). (r c : ℕ) → r < t.mapping → c < t.mapping → is_fixed t.mapping r c ≡ true → look r c ≡ false) same fixed
 
     not_fixed : (w b : ℕ) (cell : Cell) → IsPlace grid.size.mapping w b cell → is_fixed grid.size.mapping cell.row cell.column ≡ false
     not_fixed w b cell p = by_test (is_fixed grid.size.mapping cell.row cell.column) refl
@@ -210,8 +209,8 @@ regions_cover size row =
     ap (λ (i : ℕ). i / size.region_side * size.region_side) facts.mapping ∙ ap (λ (i : ℕ). i * size.region_side) (mul-div_cancel (regions_across size) p) ∙ sym facts.mapping
 
 -- the cells of an outer row by the numbers of the size
-pub in_rows : (size : SizeRow) (rows : List ℕ) (m d line cells inner : ℕ) → IsRow size → m ≡ size.mapping → d ≡ size.region_side →
+pub in_rows : (size : SizeRow) (m d cells inner : ℕ) → IsRow size → m ≡ size.mapping → d ≡ size.region_side →
     ((c : ℕ) → c < m / d * d → is_dark_in cells (symbol_line d c) ≡ is_dark_in inner c) → (c : ℕ) → c < size.mapping → is_dark_in cells (symbol_line size.region_side c) ≡ is_dark_in inner c
-in_rows size rows m d line cells inner row em ed mapped c l =
+in_rows size m d cells inner row em ed mapped c l =
     let w : m / d * d ≡ size.mapping = ap (λ (i : ℕ). i / d * d) em ∙ ap (λ (i : ℕ). size.mapping / i * i) ed ∙ regions_cover size row in
     ap (λ (i : ℕ). is_dark_in cells (symbol_line i c)) (sym ed) ∙ mapped c (omega (arith, w, l))

@@ -1,9 +1,9 @@
--- Rows of the mapping square as numbers, and the codewords that are read from them.
-use Rattle.std.proofs.Common.{◌≡◌, ◌⊎◌, inl, inr, ℕ, ◌+◌, ◌-◌, ◌*◌, ◌/◌, ◌%◌, ◌^◌, ◌<◌, ◌≤◌, Bool, true, false, nat_eq, nat_lt, [], ◌∷◌, refl, sym, ◌∙◌, ap, arith, subst}
+-- Rows of the mapping square as numbers.
+use Rattle.std.proofs.Common.{◌≡◌, ◌⊎◌, inl, inr, ℕ, ◌+◌, ◌-◌, ◌*◌, ◌/◌, ◌%◌, ◌^◌, ◌<◌, ◌≤◌, Bool, true, false, nat_eq, nat_lt, refl, sym, ◌∙◌, ap, arith, subst}
 use Rattle.std.specs.Int.{bit_at}
 use Rattle.std.specs.Int.RustNames.{bit_or}
 use Rattle.std.specs.Int.Bits.{or_shifted_r}
-use Rattle.std.proofs.lemmas.Bool.{ltb-true, ltb-false, le-ltb}
+use Rattle.std.proofs.lemmas.Bool.{ltb-true, ltb-false}
 use Rattle.std.proofs.Math.Nat.{mod-eq_of_lt, div-div-eq-div-mul, mul-le-mul_right, mul-div_cancel}
 use Rattle.dm_layout.specs.Sizes.{SizeRow, regions_across}
 use Rattle.dm_layout.proofs.TableRows.{row_facts}
@@ -13,8 +13,6 @@ use Rattle.std.proofs.lemmas.Nat.{pow-add, mul-add-lt, div-mul-add, pow_below}
 use Rattle.std.proofs.lemmas.Nat.Bits.{bit_at_cat_low, bit_at_cat_high}
 use Rattle.dm_layout.specs.Border.{symbol_line, mapped_cell}
 use Rattle.dm_layout.specs.Grid.{GridView, IsGrid, cell_at, is_dark_in}
-use Rattle.dm_layout.specs.Placement.{At, wrapped_cell, standard}
-use Rattle.dm_layout.specs.declared.shape.Cell.{Cell}
 use Rattle.dm_layout.proofs.PackedRows.{weight, front_cell}
 
 -- ---- the bits of a row that is moved to the right
@@ -101,46 +99,6 @@ cut_more inner row d a n least l fits narrow so_far =
       narrow = subst (λ (i : ℕ). i < 2 ^ ((a + 1) * d)) (sym x.is_sum) x.narrow;
       so_far = λ c lc. ap (λ (i : ℕ). is_dark_in i c) x.is_sum ∙ one_more inner row d a least small narrow so_far c lc;
     }
-
--- ---- codewords
-
--- its place is counted from the anchor alone
-unwrapped : (n r c up left : ℕ) → up ≤ r → left ≤ c → wrapped_cell n r c up left ≡ At (r - up) (c - left)
-unwrapped n r c up left lu ll =
-    ap (λ (t : Bool). elim t as (λ _. Cell) [
-      | true ↦ elim (nat_lt (c + 4) (left + (n + 4) % 8)) as (λ _. Cell) [
-        | true ↦ At (r + n + 4 - (up + (n + 4) % 8)) (c + 4 + n - (left + (n + 4) % 8))
-        | false ↦ At (r + n - up) (c + 4 - (left + (n + 4) % 8))
-      ]
-      | false ↦ elim (nat_lt c left) as (λ _. Cell) [ true ↦ At (r + 4 - (up + (n + 4) % 8)) (c + n - left) | false ↦ At (r - up) (c - left) ]
-    ]) (le-ltb r up lu)
-    ∙ ap (λ (t : Bool). elim t as (λ _. Cell) [ true ↦ At (r + 4 - (up + (n + 4) % 8)) (c + n - left) | false ↦ At (r - up) (c - left) ]) (le-ltb c left ll)
-
--- lists of eight equal cells are equal
-same_eight : (a b c d e f g h s t u v w x y z : Cell) → a ≡ s → b ≡ t → c ≡ u → d ≡ v → e ≡ w → f ≡ x → g ≡ y → h ≡ z →
-    a ∷ b ∷ c ∷ d ∷ e ∷ f ∷ g ∷ h ∷ [] ≡ s ∷ t ∷ u ∷ v ∷ w ∷ x ∷ y ∷ z ∷ []
-same_eight a b c d e f g h s t u v w x y z p1 p2 p3 p4 p5 p6 p7 p8 = cc
-
--- the cells of a shape that wraps round no edge
-pub inner_cells : (n r c : ℕ) → 2 ≤ r → 2 ≤ c → standard n r c ≡
-    At (r - 2) (c - 2) ∷ At (r - 2) (c - 2 + 1) ∷ At (r - 1) (c - 2) ∷ At (r - 1) (c - 2 + 1) ∷ At (r - 1) (c - 2 + 2) ∷ At r (c - 2) ∷ At r (c - 2 + 1) ∷ At r (c - 2 + 2) ∷ []
-inner_cells n r c lr lc =
-    let e1 : c - 1 ≡ c - 2 + 1 = omega arith in
-    let e2 : c - 0 ≡ c - 2 + 2 = omega arith in
-    let e0 : r - 0 ≡ r = omega arith in
-    let m1 : 1 ≤ r = omega arith in
-    let m2 : 1 ≤ c = omega arith in
-    let m0 : 0 ≤ r = omega arith in
-    let z0 : 0 ≤ c = omega arith in
-    same_eight _ _ _ _ _ _ _ _ _ _ _ _ _ _ _ _
-    (unwrapped n r c 2 2 lr lc)
-    (unwrapped n r c 2 1 lr m2 ∙ ap (At (r - 2)) e1)
-    (unwrapped n r c 1 2 m1 lc)
-    (unwrapped n r c 1 1 m1 m2 ∙ ap (At (r - 1)) e1)
-    (unwrapped n r c 1 0 m1 z0 ∙ ap (At (r - 1)) e2)
-    (unwrapped n r c 0 2 m0 lc ∙ ap (λ (i : ℕ). At i (c - 2)) e0)
-    (unwrapped n r c 0 1 m0 m2 ∙ ap (λ (i : ℕ). At i (c - 1)) e0 ∙ ap (At r) e1)
-    (unwrapped n r c 0 0 m0 z0 ∙ ap (λ (i : ℕ). At i (c - 0)) e0 ∙ ap (At r) e2)
 
 -- ---- the loops
 

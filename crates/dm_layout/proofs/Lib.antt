@@ -11,9 +11,6 @@ mod TestedPlacement
 mod TestedSweep
 mod TestedWalk
 mod PlacementRows
-mod TestedOrder
-mod OrderRows
-mod OrderSteps
 mod BlockLemmas
 mod GridLemmas
 mod PackedRows
@@ -28,10 +25,11 @@ mod Reading
 mod InnerRows
 mod Painting
 mod OuterRows
-mod PaintedThree
 mod WidenedRows
 mod SlotRows
 mod LiftedWords
+mod LaidRows
+mod MovedRows
 mod TestedSlots
 mod SlotOrder
 mod FoldedRows

@@ -3,15 +3,14 @@ use Rattle.std.proofs.Common.{◌≡◌, ℕ, zero, suc, ◌+◌, ◌-◌, ◌*�
 use Rattle.std.specs.Int.RustNames.{bit_or}
 use Rattle.std.specs.Int.Bits.{or_zero_r}
 use Rattle.std.proofs.Math.Bool.{or_assoc, or-false, false-or}
-use Rattle.std.proofs.lemmas.Bool.{eqb-true, eqb-false}
+use Rattle.std.proofs.lemmas.Bool.{eqb-true, eqb-false, ne_eqb}
 use Rattle.std.proofs.lemmas.Nat.Bits.{bit_at-zero}
 use Rattle.dm_layout.specs.declared.shape.Cell.{Cell}
 use Rattle.dm_layout.specs.declared.cells.Place.{Place}
-use Rattle.dm_layout.specs.declared.shape.Shape.{Shape}
 use Rattle.dm_layout.specs.Border.{is_fixed}
 use Rattle.dm_layout.specs.Grid.{is_dark_in}
 use Rattle.dm_layout.specs.Holds.{bit_of}
-use Rattle.dm_layout.specs.Placement.{At, IsPlace, EachCellOnce, cells_of, bits_from, places_from, places_in_order, shapes}
+use Rattle.dm_layout.specs.Placement.{At, IsPlace, EachCellOnce, bits_from, places_in_order}
 use Rattle.dm_layout.specs.inner.Reading.{look_in, marks_in}
 use Rattle.dm_layout.proofs.PackedRows.{darkened_cell}
 use Rattle.dm_layout.proofs.PlaceOrder.{ArePlaces, all_are_places, one_bit, none_fixed, place_at, lies_in, length-places_in_order}
@@ -54,22 +53,34 @@ bit_put rows q col d r c l lc ld = by_row (nat_eq r q) refl
 
 -- ---- one codeword, cell by cell
 
--- one more bit is put at its cell
-pub cell_put : (rows olds : List ℕ) (word i d : ℕ) (cells : List Cell) (x : Cell) (rest : List Cell) → drop i cells ≡ x ∷ rest → rest ≡ drop (i + 1) cells → x.row < length rows → x.column < 128 → i < 8 → d ≡ word / 2 ^ (7 - i) % 2 →
-    ((r c : ℕ) → (look_in rows r c || marks_in word i (drop i cells) r c) ≡ (look_in olds r c || marks_in word 0 cells r c)) →
-    (r c : ℕ) → (look_in (set rows x.row (bit_or (get_or rows x.row 0) (d * 2 ^ x.column % 2 ^ 128))) r c || marks_in word (i + 1) (drop (i + 1) cells) r c) ≡ (look_in olds r c || marks_in word 0 cells r c)
+-- numbers that are greater by as many are equal where they are
+same_sum : (a b k : ℕ) → nat_eq (a + k) (b + k) ≡ nat_eq a b
+same_sum a b k = by_test (nat_eq a b) refl
+  where
+    by_test : (t : Bool) → nat_eq a b ≡ t → nat_eq (a + k) (b + k) ≡ t
+    by_test true e = let f = eqb-true a b e in eq-eqb (a + k) (b + k) (omega (arith, f))
+    by_test false e = let f = eqb-false a b e in ne_eqb (a + k) (b + k) (λ g. omega (arith, f, g))
+
+-- one more bit is put at its cell, in widened rows
+pub cell_put : (rows olds : List ℕ) (word i d : ℕ) (cells : List Cell) (x : Cell) (rest : List Cell) → drop i cells ≡ x ∷ rest → rest ≡ drop (i + 1) cells → x.row + 2 < length rows → x.column + 4 < 128 → i < 8 → d ≡ word / 2 ^ (7 - i) % 2 →
+    ((r c : ℕ) → (look_in rows (r + 2) (c + 4) || marks_in word i (drop i cells) r c) ≡ (look_in olds (r + 2) (c + 4) || marks_in word 0 cells r c)) →
+    (r c : ℕ) → (look_in (set rows (x.row + 2) (bit_or (get_or rows (x.row + 2) 0) (d * 2 ^ (x.column + 4) % 2 ^ 128))) (r + 2) (c + 4) || marks_in word (i + 1) (drop (i + 1) cells) r c) ≡ (look_in olds (r + 2) (c + 4) || marks_in word 0 cells r c)
 cell_put rows olds word i d cells x rest e f lr lc li ed so_far r c =
     let k : 7 - i ≡ 8 - (i + 1) = omega arith in
     let j : suc i ≡ i + 1 = omega arith in
     let dd : d ≡ word / 2 ^ (8 - (i + 1)) % 2 = ed ∙ ap (λ (m : ℕ). word / 2 ^ m % 2) k in
     let ld : d < 2 = omega (arith, ed) in
     let h : Bool = nat_eq r x.row && nat_eq c x.column && nat_eq d 1 in
-    ap (λ (b : Bool). b || marks_in word (i + 1) (drop (i + 1) cells) r c) (bit_put rows x.row x.column d r c lr lc ld)
-    ∙ or_assoc (look_in rows r c) h (marks_in word (i + 1) (drop (i + 1) cells) r c)
-    ∙ ap (λ (m : ℕ). look_in rows r c || ((nat_eq r x.row && nat_eq c x.column && nat_eq m 1) || marks_in word (i + 1) (drop (i + 1) cells) r c)) dd
-    ∙ ap (λ (m : ℕ). look_in rows r c || ((nat_eq r x.row && nat_eq c x.column && nat_eq (word / 2 ^ (8 - (i + 1)) % 2) 1) || marks_in word m (drop (i + 1) cells) r c)) (sym j)
-    ∙ ap (λ (xs : List Cell). look_in rows r c || ((nat_eq r x.row && nat_eq c x.column && nat_eq (word / 2 ^ (8 - (i + 1)) % 2) 1) || marks_in word (suc i) xs r c)) (sym f)
-    ∙ ap (λ (xs : List Cell). look_in rows r c || marks_in word i xs r c) (sym e)
+    let old : Bool = look_in rows (r + 2) (c + 4) in
+    ap (λ (b : Bool). b || marks_in word (i + 1) (drop (i + 1) cells) r c)
+    (bit_put rows (x.row + 2) (x.column + 4) d (r + 2) (c + 4) lr lc ld
+    ∙ ap (λ (b : Bool). old || (b && nat_eq (c + 4) (x.column + 4) && nat_eq d 1)) (same_sum r x.row 2)
+    ∙ ap (λ (b : Bool). old || (nat_eq r x.row && b && nat_eq d 1)) (same_sum c x.column 4))
+    ∙ or_assoc old h (marks_in word (i + 1) (drop (i + 1) cells) r c)
+    ∙ ap (λ (m : ℕ). old || ((nat_eq r x.row && nat_eq c x.column && nat_eq m 1) || marks_in word (i + 1) (drop (i + 1) cells) r c)) dd
+    ∙ ap (λ (m : ℕ). old || ((nat_eq r x.row && nat_eq c x.column && nat_eq (word / 2 ^ (8 - (i + 1)) % 2) 1) || marks_in word m (drop (i + 1) cells) r c)) (sym j)
+    ∙ ap (λ (xs : List Cell). old || ((nat_eq r x.row && nat_eq c x.column && nat_eq (word / 2 ^ (8 - (i + 1)) % 2) 1) || marks_in word (suc i) xs r c)) (sym f)
+    ∙ ap (λ (xs : List Cell). old || marks_in word i xs r c) (sym e)
     ∙ so_far r c
 
 -- ---- all codewords
@@ -86,38 +97,11 @@ marks_word words w k (x ∷ xs) rest r c =
     let h : Bool = nat_eq r x.row && nat_eq c x.column && bit_of words w (k + 1) in
     ap (λ (b : Bool). h || b) (marks_word words w (suc k) xs rest r c) ∙ sym (or_assoc h (marks_in (get_or words w 0) (suc k) xs r c) (marks words rest r c))
 
--- one more codeword
-pub word_put : (rows news words : List ℕ) (n w x : ℕ) (cells : List Cell) (ss rest : List Shape) (s : Shape) → ss ≡ s ∷ rest → cells ≡ cells_of n s → x ≡ get_or words w 0 →
-    ((r c : ℕ) → look_in news r c ≡ (look_in rows r c || marks_in x 0 cells r c)) →
-    ((r c : ℕ) → (look_in rows r c || marks words (places_from n w ss) r c) ≡ marks words (places_in_order n) r c) →
-    (r c : ℕ) → (look_in news r c || marks words (places_from n (w + 1) rest) r c) ≡ marks words (places_in_order n) r c
-word_put rows news words n w x cells ss rest s e f g put so_far r c =
-    let j : suc w ≡ w + 1 = omega arith in
-    ap (λ (b : Bool). b || marks words (places_from n (w + 1) rest) r c) (put r c)
-    ∙ or_assoc (look_in rows r c) (marks_in x 0 cells r c) (marks words (places_from n (w + 1) rest) r c)
-    ∙ ap (λ (i : ℕ). look_in rows r c || (marks_in i 0 cells r c || marks words (places_from n (w + 1) rest) r c)) g
-    ∙ ap (λ (xs : List Cell). look_in rows r c || (marks_in (get_or words w 0) 0 xs r c || marks words (places_from n (w + 1) rest) r c)) f
-    ∙ ap (λ (i : ℕ). look_in rows r c || (marks_in (get_or words w 0) 0 (cells_of n s) r c || marks words (places_from n i rest) r c)) (sym j)
-    ∙ ap (λ (b : Bool). look_in rows r c || b) (sym (marks_word words w 0 (cells_of n s) (places_from n (suc w) rest) r c))
-    ∙ ap (λ (xs : List Shape). look_in rows r c || marks words (places_from n w xs) r c) (sym e)
-    ∙ so_far r c
-
 -- rows of zeros are light
 pub light_at : (n r c : ℕ) → is_dark_in (get_or (replicate n 0) r 0) c ≡ false
 light_at zero r c = ap (λ (i : ℕ). nat_eq i 1) (bit_at-zero c)
 light_at (suc n) zero c = ap (λ (i : ℕ). nat_eq i 1) (bit_at-zero c)
 light_at (suc n) (suc r) c = light_at n r c
-
--- before the first
-pub none_put : (words : List ℕ) (n : ℕ) (ss : List Shape) → ss ≡ shapes n → (r c : ℕ) → (look_in (replicate 96 0) r c || marks words (places_from n 0 ss) r c) ≡ marks words (places_in_order n) r c
-unfolding places_in_order
-none_put words n ss e r c =
-    ap (λ (b : Bool). b || marks words (places_from n 0 ss) r c) (light_at 96 r c) ∙ false-or _ ∙ ap (λ (xs : List Shape). marks words (places_from n 0 xs) r c) e
-
--- after the last
-pub all_put : (rows words : List ℕ) (n w : ℕ) (ss : List Shape) → ss ≡ [] → ((r c : ℕ) → (look_in rows r c || marks words (places_from n w ss) r c) ≡ marks words (places_in_order n) r c) →
-    (r c : ℕ) → look_in rows r c ≡ marks words (places_in_order n) r c
-all_put rows words n w ss e so_far r c = sym (or-false (look_in rows r c)) ∙ ap (λ (xs : List Shape). look_in rows r c || marks words (places_from n w xs) r c) (sym e) ∙ so_far r c
 
 -- ---- what is marked
 

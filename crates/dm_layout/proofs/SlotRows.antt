@@ -88,19 +88,20 @@ masks_at c l =
     (beq-true _ _ both.0, beq-true _ _ both.1)
 
 -- a masked row, moved to the left
-masked_up : (b s c : ℕ) → c < 128 → is_dark_in (bit_and b 9341084582143408800955381380479911687 * 2 ^ s % 2 ^ 128) c ≡ (nat_le s c && (is_dark_in b (c - s) && nat_lt ((c - s) % 8) 3))
-masked_up b s c l = low_bit (x * 2 ^ s) 128 c l ∙ by_column (cases_lt c s)
+pub masked_up : (mask count b s c : ℕ) → ((i : ℕ) → i < 128 → is_dark_in mask i ≡ nat_lt (i % 8) count) → c < 128 →
+    is_dark_in (bit_and b mask * 2 ^ s % 2 ^ 128) c ≡ (nat_le s c && (is_dark_in b (c - s) && nat_lt ((c - s) % 8) count))
+masked_up mask count b s c masked l = low_bit (x * 2 ^ s) 128 c l ∙ by_column (cases_lt c s)
   where
     x : ℕ
-    x = bit_and b 9341084582143408800955381380479911687
+    x = bit_and b mask
 
-    by_column : (c < s) ⊎ (s ≤ c) → is_dark_in (x * 2 ^ s) c ≡ (nat_le s c && (is_dark_in b (c - s) && nat_lt ((c - s) % 8) 3))
-    by_column (inl h) = none_up x s c h ∙ ap (λ (t : Bool). t && (is_dark_in b (c - s) && nat_lt ((c - s) % 8) 3)) (sym (lt-leb s c h))
+    by_column : (c < s) ⊎ (s ≤ c) → is_dark_in (x * 2 ^ s) c ≡ (nat_le s c && (is_dark_in b (c - s) && nat_lt ((c - s) % 8) count))
+    by_column (inl h) = none_up x s c h ∙ ap (λ (t : Bool). t && (is_dark_in b (c - s) && nat_lt ((c - s) % 8) count)) (sym (lt-leb s c h))
     by_column (inr h) =
         let e : c ≡ s + (c - s) = omega arith in
-        ap (is_dark_in (x * 2 ^ s)) e ∙ bit_up x s (c - s) ∙ and_dark b 9341084582143408800955381380479911687 (c - s)
-        ∙ ap (λ (t : Bool). is_dark_in b (c - s) && t) (masks_at (c - s) (omega arith)).1
-        ∙ ap (λ (t : Bool). t && (is_dark_in b (c - s) && nat_lt ((c - s) % 8) 3)) (sym (le-leb s c h))
+        ap (is_dark_in (x * 2 ^ s)) e ∙ bit_up x s (c - s) ∙ and_dark b mask (c - s)
+        ∙ ap (λ (t : Bool). is_dark_in b (c - s) && t) (masked (c - s) (omega arith))
+        ∙ ap (λ (t : Bool). t && (is_dark_in b (c - s) && nat_lt ((c - s) % 8) count)) (sym (le-leb s c h))
 
 -- the three together
 pub joined_bit : (a b d c : ℕ) → c < 128 →
@@ -111,8 +112,8 @@ joined_bit a b d c l =
     (or_dark (bit_and a 4003321963775746628980877734491390723) (bit_and b 9341084582143408800955381380479911687 * 4 % 2 ^ 128) c)
     ∙ ap (λ (t : Bool). (t || is_dark_in (bit_and b 9341084582143408800955381380479911687 * 4 % 2 ^ 128) c) || is_dark_in (bit_and d 9341084582143408800955381380479911687 * 32 % 2 ^ 128) c)
     (and_dark a 4003321963775746628980877734491390723 c ∙ ap (λ (t : Bool). is_dark_in a c && t) (masks_at c l).0)
-    ∙ ap (λ (t : Bool). ((is_dark_in a c && nat_lt (c % 8) 2) || t) || is_dark_in (bit_and d 9341084582143408800955381380479911687 * 32 % 2 ^ 128) c) (masked_up b 2 c l)
-    ∙ ap (λ (t : Bool). ((is_dark_in a c && nat_lt (c % 8) 2) || (nat_le 2 c && (is_dark_in b (c - 2) && nat_lt ((c - 2) % 8) 3))) || t) (masked_up d 5 c l)
+    ∙ ap (λ (t : Bool). ((is_dark_in a c && nat_lt (c % 8) 2) || t) || is_dark_in (bit_and d 9341084582143408800955381380479911687 * 32 % 2 ^ 128) c) (masked_up 9341084582143408800955381380479911687 3 b 2 c (λ i h. (masks_at i h).1) l)
+    ∙ ap (λ (t : Bool). ((is_dark_in a c && nat_lt (c % 8) 2) || (nat_le 2 c && (is_dark_in b (c - 2) && nat_lt ((c - 2) % 8) 3))) || t) (masked_up 9341084582143408800955381380479911687 3 d 5 c (λ i h. (masks_at i h).1) l)
 
 -- ---- the bytes of a row
 

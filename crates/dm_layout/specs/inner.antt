@@ -1,5 +1,4 @@
 pub mod Walking
-pub mod Order
 pub mod Reading
 pub mod Widened
 pub mod Slots

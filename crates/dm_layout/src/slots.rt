@@ -14,10 +14,10 @@ use crate::shape::{Cell, LARGEST_MAPPING, Shape};
 use crate::widened::WIDENED;
 
 /// The lowest two bits of each byte.
-const TWO: u128 = 0x0303_0303_0303_0303_0303_0303_0303_0303;
+pub(crate) const TWO: u128 = 0x0303_0303_0303_0303_0303_0303_0303_0303;
 
 /// The lowest three bits of each byte.
-const THREE: u128 = 0x0707_0707_0707_0707_0707_0707_0707_0707;
+pub(crate) const THREE: u128 = 0x0707_0707_0707_0707_0707_0707_0707_0707;
 
 /// For each row of the mapping square the codewords of its anchors, in two numbers of eight, and behind them all that of a corner; each
 /// has its bits in the opposite order.
@@ -44,7 +44,7 @@ static REVERSED: [u8; 256] = [
 ];
 
 /// A byte with its bits in the opposite order.
-fn reversed(byte: u8) -> u8
+pub(crate) fn reversed(byte: u8) -> u8
     ensures { result ≡ reversed_bits byte }
 {
     REVERSED[byte as usize]

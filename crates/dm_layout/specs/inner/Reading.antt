@@ -1,5 +1,5 @@
 -- Codewords in the mapping square, whose rows are numbers: the cell of column c is the bit of weight 2^c.
-use Rattle.std.specs.Prelude.{ℕ, suc, ◌+◌, ◌-◌, ◌*◌, ◌/◌, ◌%◌, ◌^◌, Bool, false, ◌&&◌, ◌||◌, nat_eq, List, [], ◌∷◌, get_or}
+use Rattle.std.specs.Prelude.{ℕ, suc, ◌+◌, ◌-◌, ◌/◌, ◌%◌, ◌^◌, Bool, false, ◌&&◌, ◌||◌, nat_eq, List, [], ◌∷◌, get_or}
 use Rattle.dm_layout.specs.Grid.{is_dark_in}
 use Rattle.dm_layout.specs.declared.shape.Cell.{Cell}
 
@@ -11,12 +11,3 @@ look_in rows r c = is_dark_in (get_or rows r 0) c
 abbrev pub marks_in : ℕ → ℕ → List Cell → ℕ → ℕ → Bool
 marks_in word k [] r c = false
 marks_in word k (x ∷ rest) r c = (nat_eq r x.row && nat_eq c x.column && nat_eq (word / 2 ^ (8 - (k + 1)) % 2) 1) || marks_in word (suc k) rest r c
-
--- three bits in the opposite order
-abbrev pub turned_bits : ℕ → ℕ
-turned_bits x = 4 * (x % 2) + 2 * (x / 2 % 2) + x / 4
-
--- whether one of three bits, of which the highest is for the column `left` and the others for the next two, lies in column c and is 1
-abbrev pub marks_three : ℕ → ℕ → ℕ → Bool
-marks_three x left c =
-    (nat_eq c left && nat_eq (x / 4 % 2) 1) || (nat_eq c (left + 1) && nat_eq (x / 2 % 2) 1) || (nat_eq c (left + 2) && nat_eq (x % 2) 1)

@@ -1,0 +1,9 @@
+use Rattle.std.proofs.Common.{◌≡◌, length}
+use Rattle.dm_layout.proofs.LaidWords.{AreLaid}
+use Rattle.dm_layout.proofs.mapping.paint.Given as goal
+
+abbrev pub invariant-loop-i : goal.invariant-loop-i
+invariant-loop-i l = record {
+  count : length l.slots ≡ 1552;
+  so_far : AreLaid l.mapping l.list l.slots l.i;
+}
