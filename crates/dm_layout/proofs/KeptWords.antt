@@ -1,8 +1,11 @@
 -- Codewords that are kept at the front of a list of bytes.
-use Rattle.std.proofs.Common.{◌≡◌, ℕ, ◌+◌, ◌<◌, List, length, take, set, get_or, sym, ◌∙◌, arith, length-take, ap, [], ◌∷◌, ◌++◌}
-use Rattle.std.proofs.lemmas.List.{take_more, take_more_set}
-use Rattle.std.proofs.lemmas.List.Elements.{All-take}
-use Rattle.dm_layout.specs.Sizes.{SizeRow, codeword_count}
+use Rattle.std.proofs.Common.{◌≡◌, ℕ, ◌+◌, ◌-◌, ◌<◌, ◌≤◌, List, length, take, drop, set, get_or, replicate, sym, ◌∙◌, arith, length-take, ap, [], ◌∷◌, ◌++◌}
+use Rattle.std.specs.Prelude.{All}
+use Rattle.std.proofs.Math.Seq.{take-append-add}
+use Rattle.std.proofs.lemmas.List.{take_more, take_more_set, drop-replicate, take-replicate, length-append, length-drop, length-replicate}
+use Rattle.std.proofs.lemmas.List.Elements.{All-append, All-drop, All-replicate, All-take}
+use borrow.Rule.Slice.PartMut.{put_mid, same_len_mid}
+use Rattle.dm_layout.specs.Sizes.{SizeRow, IsRow, codeword_count, most_codewords}
 use Rattle.dm_layout.specs.Words.{IsWords, kept_words, AreKept}
 
 -- The codewords that are kept for a size are well-formed codewords of that size.
@@ -17,3 +20,40 @@ words_of_kept size kept h = record {
 pub one_more : (kept list : List ℕ) (i : ℕ) → i < length kept → i < length list → take i kept ≡ take i list → take (i + 1) (set kept i (get_or list i 0)) ≡ take (i + 1) list
 one_more kept list i l k h =
     take_more_set kept i (get_or list i 0) l ∙ ap (λ (ws : List ℕ). ws ++ get_or list i 0 ∷ []) h ∙ sym (take_more list i 0 k)
+
+-- Data codewords, and zeros behind them, are kept.
+pub data_kept : (size : SizeRow) (front : List ℕ) → IsRow size → codeword_count size ≤ most_codewords → length front ≡ size.data_count → All (λ word. word < 256) front
+    → AreKept size (front ++ drop (length front) (replicate most_codewords 0))
+data_kept size front row fits count bytes =
+    let none : ℕ = 0 in
+    let zeros : List ℕ = drop (length front) (replicate most_codewords none) in
+    let long : length zeros ≡ most_codewords - length front = ap length (drop-replicate (length front) most_codewords none) ∙ length-replicate (most_codewords - length front) none in
+    record {
+      row = row;
+      fits = fits;
+      count = omega (arith, length-append front zeros, long, fits, count);
+      bytes = All-append (λ (word : ℕ). word < 256) front zeros bytes (All-drop (λ (word : ℕ). word < 256) (length front) (replicate most_codewords none) (All-replicate (λ (word : ℕ). word < 256) most_codewords none (omega arith)));
+    }
+
+-- The codewords of the size are then these data codewords and zeros.
+pub zeros_behind : (size : SizeRow) (front : List ℕ) → codeword_count size ≤ most_codewords → length front ≡ size.data_count
+    → take (codeword_count size) (front ++ drop (length front) (replicate most_codewords 0)) ≡ front ++ replicate size.check_count 0
+zeros_behind size front fits count =
+    let all : codeword_count size ≡ length front + size.check_count = omega (arith, count) in
+    ap (λ n. take n (front ++ drop (length front) (replicate most_codewords 0))) all
+    ∙ take-append-add front (drop (length front) (replicate most_codewords 0)) size.check_count
+    ∙ ap (λ zeros. front ++ take size.check_count zeros) (drop-replicate (length front) most_codewords 0)
+    ∙ ap (λ zeros. front ++ zeros) (take-replicate size.check_count (most_codewords - length front) 0 (omega (arith, fits, count)))
+
+-- Codewords of the size that are put among what is kept are kept with it.
+pub part_kept : (size : SizeRow) (start count : ℕ) (kept part : List ℕ) → AreKept size kept → start + count ≤ most_codewords → length part ≡ count → All (λ word. word < 256) part
+    → AreKept size (put_mid start count kept part)
+part_kept size start count kept part h room long bytes =
+    let front : All (λ word. word < 256) (take start kept) = All-take (λ word. word < 256) start kept h.bytes in
+    let back : All (λ word. word < 256) (drop count (drop start kept)) = All-drop (λ word. word < 256) count _ (All-drop (λ word. word < 256) start kept h.bytes) in
+    record {
+      row = h.row;
+      fits = h.fits;
+      count = same_len_mid start count kept part (omega (arith, long, h.count, length-take count (drop start kept), length-drop start kept)) ∙ h.count;
+      bytes = All-append (λ word. word < 256) (take start kept) _ front (All-append (λ word. word < 256) part _ bytes back);
+    }

@@ -1,6 +1,6 @@
 //! The codewords of a symbol.
 
-ghost use Rattle.std.specs.Prelude.{◌≡◌, ◌<◌, ◌≤◌, length, set};
+ghost use Rattle.std.specs.Prelude.{◌≡◌, ◌<◌, ◌≤◌, ◌++◌, length, replicate, set};
 ghost use Rattle.dm_layout.specs.Sizes.{codeword_count, most_codewords};
 ghost use Rattle.dm_layout.specs.Words.{WordsView, IsWords, data_of};
 
@@ -42,6 +42,31 @@ impl Words {
             kept[i] = *word;
         }
         Words { size, kept }
+    }
+
+    /// Codewords of this size with these data codewords, as many as the size has. The check codewords are 0 until they are put.
+    pub fn with_data(size: Size, front: &[u8]) -> Words
+        requires { length front.now ≡ size.data_count }
+        ensures value { result ≡ record { size = size; list = front.now ++ replicate size.check_count 0 } }
+        ensures words { IsWords result }
+    {
+        // That they fit is known from the size's methods.
+        let _checks = size.check_count();
+        let _side = size.side();
+        let mut kept = [0; MOST_CODEWORDS];
+        kept[..front.len()].copy_from_slice(front);
+        Words { size, kept }
+    }
+
+    /// Puts the check codewords, as many as the size has. The data codewords stay.
+    pub fn put_checks(&mut self, checks: &[u8])
+        requires { length checks.now ≡ self.old.size.check_count }
+        ensures value { self.new ≡ record { size = self.old.size; list = data_of self.old ++ checks.now } }
+        ensures words { IsWords self.new }
+    {
+        let start = usize::from(self.size.data_count());
+        let end = self.count();
+        self.kept[start..end].copy_from_slice(checks);
     }
 
     /// Codewords of this size, all of them 0.

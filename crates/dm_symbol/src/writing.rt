@@ -1,8 +1,8 @@
 //! Writing: the normal grid of a message.
 
-ghost use Rattle.std.specs.Prelude.{◌≡◌, ◌≢◌, ◌++◌, ◌<◌, ℕ, length, take, drop, replicate};
+ghost use Rattle.std.specs.Prelude.{◌≡◌, ◌≢◌, ◌<◌, ℕ, length};
 ghost use Rattle.dm_code.specs.Codeword.{IsCodeword};
-ghost use Rattle.dm_layout.specs.Sizes.{codeword_count, block_check};
+ghost use Rattle.dm_layout.specs.Sizes.{block_check};
 ghost use Rattle.dm_layout.specs.Holds.{IsLaid};
 ghost use Rattle.dm_symbol.specs.Blocks.{AreWordsOf, BlocksAreCodewords, block_at, data_part};
 ghost use Rattle.dm_words.specs.Places.{outcome};
@@ -11,7 +11,7 @@ ghost use Rattle.dm_symbol.specs.NormalGrid.{IsWritten};
 use crate::place::light_grid;
 use arrayvec::ArrayVec;
 use dm_code::encode;
-use dm_layout::{Grid, MOST_CODEWORDS, Size, Words, block, lay_to, put_block};
+use dm_layout::{Grid, Size, Words, block, lay_to, put_block};
 use dm_words::{Message, Profile, TooLong, add_pads, normal_words_to};
 
 /// The normal grid of a message under [`Profile::Ascii`]: what [`write_as`] answers for that profile.
@@ -48,7 +48,7 @@ pub fn write_to(profile: Profile, message: &Message, grid: &mut Grid) -> Result<
         return Err(TooLong);
     };
     add_pads(&mut list, size);
-    lay_in(&completed(&mut list, size), grid);
+    lay_in(&completed(&list, size), grid);
     Ok(())
 }
 
@@ -61,54 +61,36 @@ fn lay_in(words: &Words, grid: &mut Grid)
     lay_to(words, grid);
 }
 
-/// The codewords of a symbol of this size with these data codewords: the check codewords make each block a codeword. The list is left
-/// with something at the place of each check codeword.
+/// The codewords of a symbol of this size with these data codewords: the check codewords make each block a codeword.
 // The codewords of a block stand in a frame of their own, which is gone when the grid is made.
 #[inline(never)]
-fn completed(list: &mut ArrayVec<u8, MOST_CODEWORDS>, size: Size) -> Words
-    requires { length list.old.items ≡ size.data_count }
+fn completed(list: &[u8], size: Size) -> Words
+    requires { length list.now ≡ size.data_count }
     ensures size { result.size ≡ size }
-    ensures data_words { data_part size result.list ≡ list.old.items }
+    ensures data_words { data_part size result.list ≡ list.now }
     ensures checked { BlocksAreCodewords size result.list }
 {
+    let mut words = Words::with_data(size, list);
     if size.blocks() == 1 {
-        return completed_block(list, size);
+        complete_only_block(&mut words);
+        return words;
     }
-    add_room(list, size);
-    let mut words = Words::new(size, list);
     for b in 0..size.blocks() as usize {
         complete_block(&mut words, b);
     }
     words
 }
 
-/// The same for a symbol of one block: nothing is dealt, and the check codewords are added to the list.
-fn completed_block(list: &mut ArrayVec<u8, MOST_CODEWORDS>, size: Size) -> Words
-    requires one { size.blocks ≡ 1 }
-    requires data_words { length list.old.items ≡ size.data_count }
-    ensures size { result.size ≡ size }
-    ensures data_words { data_part size result.list ≡ list.old.items }
-    ensures checked { BlocksAreCodewords size result.list }
+/// Puts the check codewords of a symbol of one block, whose codewords aren't dealt.
+fn complete_only_block(words: &mut Words)
+    requires { words.old.size.blocks ≡ 1 }
+    ensures size { words.new.size ≡ words.old.size }
+    ensures data_words { data_part words.old.size words.new.list ≡ data_part words.old.size words.old.list }
+    ensures checked { BlocksAreCodewords words.old.size words.new.list }
 {
-    // That they fit is known from the size's methods.
-    let _side = size.side();
-    let checks = encode(list, usize::from(size.block_check()));
-    for check in checks.as_slice() {
-        list.push(*check);
-    }
-    Words::new(size, list)
-}
-
-/// Adds 0 at the place of each check codeword to the data codewords.
-fn add_room(list: &mut ArrayVec<u8, MOST_CODEWORDS>, size: Size)
-    requires { length list.old.items ≡ size.data_count }
-    ensures count { length list.new.items ≡ codeword_count size }
-    ensures front { take size.data_count list.new.items ≡ list.old.items }
-    ensures room { drop size.data_count list.new.items ≡ replicate size.check_count 0 }
-{
-    for _ in 0..size.check_count() {
-        list.push(0);
-    }
+    let size = words.size();
+    let checks = encode(words.data_part(), usize::from(size.block_check()));
+    words.put_checks(&checks);
 }
 
 /// Puts the check codewords of one block: its data codewords stay, and the block becomes a codeword.

@@ -8,6 +8,6 @@ use Rattle.dm_symbol.proofs.writing.completed.Given as goal
 abbrev pub invariant-loop-b : goal.invariant-loop-b
 invariant-loop-b l = record {
   size : l.words.size ≡ l.fn.size;
-  data_words : data_part l.fn.size l.words.list ≡ l.fn.list.items;
+  data_words : data_part l.fn.size l.words.list ≡ l.fn.list;
   checked : (a : ℕ) → a < l.b → IsCodeword (block_check l.fn.size) (block_at l.fn.size l.words.list a);
 }

@@ -17,6 +17,6 @@ returns c =
     let size = c.in-Some.size in
     let count : row_for_words (length (normal_form p m)) ≡ Some size = sym (c.in-Some.ensures.value ∙ ap row_for_words (c.len.ensures.value ∙ ap length c.in-Ok.ensures.words)) in
     let front : data_part size c.completed.result.list ≡ padded (normal_form p m) size.data_count =
-    c.completed.ensures.data_words ∙ c.add_pads.ensures.words ∙ ap (λ w. padded w size.data_count) c.in-Ok.ensures.words in
+    c.completed.ensures.data_words ∙ c.deref.ensures.0 ∙ c.add_pads.ensures.words ∙ ap (λ w. padded w size.data_count) c.in-Ok.ensures.words in
     is_written p m c.lay_in.new.grid (laid_is_normal p m c.lay_in.new.grid c.completed.result size count c.completed.ensures.size front c.completed.ensures.checked
     c.lay_in.ensures)
