@@ -1,18 +1,16 @@
 -- Numbers and messages.
-use Rattle.std.proofs.Common.{◌≡◌, ◌⊎◌, inl, inr, ℕ, ◌<◌, ◌≤◌, List, [], ◌∷◌, length, Option, Some, None, refl, sym, ◌∙◌, ap, arith}
-use Rattle.std.specs.Prelude.{All, IsSome}
+use Rattle.std.proofs.Common.{◌≡◌, ◌⊎◌, inl, inr, ℕ, ◌<◌, ◌≤◌, List, [], ◌∷◌, length, refl, sym, ◌∙◌, ap, arith}
+use Rattle.std.specs.Prelude.{All}
 use Rattle.std.specs.List.{AllByRecursion}
 use Rattle.std.proofs.lemmas.List.{length-map}
 use Rattle.std.proofs.lemmas.List.Elements.{recursion_from_All, All-from_recursion}
-use Rattle.std.proofs.lemmas.Bool.{cases_lt, false≢true}
+use Rattle.std.proofs.lemmas.Bool.{cases_lt}
 use Rattle.dm_symbol.specs.declared.Item.{Item}
 use Rattle.dm_symbol.specs.declared.Item.TheVariants.{Byte, Fnc1}
 use Rattle.dm_symbol.specs.declared.Profile.{Profile}
-use Rattle.dm_symbol.specs.Sizes.{SizeRow, row_for_words}
 use Rattle.dm_symbol.specs.Messages.{IsItem, IsMessage}
-use Rattle.dm_symbol.specs.NormalForm.{normal_form}
 use Rattle.dm_symbol.specs.NormalGrid.{FitsSomeSize}
-use Rattle.dm_symbol.proofs.Exported.{holds_that_many, size_facts}
+use Rattle.dm_symbol.proofs.Exported.{too_long_fits_none}
 use Rattle.dm_words.proofs.Exported.{normal_form_items}
 use Rattle.ecc200.specs.Items.{number_of, numbers_of}
 
@@ -37,15 +35,8 @@ message_there numbers h =
     let there = items_there numbers (recursion_from_All (λ number. number ≤ 256) numbers h) in
     (there.0, All-from_recursion IsItem there.0 there.1, there.2)
 
--- No size has more than 816 data codewords.
-none_found : (count : ℕ) (o : Option SizeRow) → row_for_words count ≡ o → 816 < count → IsSome o → ⊥
-none_found count (Some size) e many h =
-    let row = holds_that_many count size e in
-    omega (arith, row.1, (size_facts size row.0).few_data, many)
-none_found count None e many h = false≢true h
-
 -- A message of more than 1,632 items fits no size.
 pub too_many : (profile : Profile) (m : List Item) (numbers : List ℕ) → numbers_of m ≡ numbers → 1632 < length numbers → FitsSomeSize profile m → ⊥
 too_many profile m numbers e many h =
     let count : length m ≡ length numbers = sym (length-map m number_of) ∙ ap length e in
-    none_found (length (normal_form profile m)) (row_for_words (length (normal_form profile m))) refl (omega (arith, normal_form_items profile m, count, many)) h
+    too_long_fits_none profile m (omega (arith, normal_form_items profile m, count, many)) h

@@ -7,7 +7,7 @@ use crate::fault::{Fault, read_fault};
 use crate::front::put_bytes;
 use crate::message::put_message;
 use crate::modules::grid_of;
-use dm_symbol::{MOST_BLOCKS, MOST_ITEMS, Reading, read, usual_limit};
+use dm_symbol::{MOST_BLOCKS, MOST_ITEMS, Reading, read_to, usual_limit};
 
 /// What a grid says, and how much of it was wrong. Where there is a fault, all else is 0.
 #[repr(C)]
@@ -34,10 +34,13 @@ pub extern "C" fn ecc200_read(
     ensures code { result ≡ out.new.fault.code }
 {
     match grid_of(modules, side) {
-        Ok(grid) => match read(&grid, border_limit) {
-            Ok(reading) => show_reading(out, side, &reading),
-            Err(why) => show_fault(out, read_fault(why)),
-        },
+        Ok(grid) => {
+            let mut reading = Reading::new();
+            match read_to(&grid, border_limit, &mut reading) {
+                Ok(()) => show_reading(out, side, &reading),
+                Err(why) => show_fault(out, read_fault(why)),
+            }
+        }
         Err(why) => show_fault(out, why),
     }
     out.fault.code

@@ -1,11 +1,12 @@
 //! Writing and normalising.
 ghost use Rattle.std.specs.Prelude.{◌≡◌, ◌≤◌, All};
+ghost use Rattle.dm_symbol.specs.Places.{outcome};
 ghost use Rattle.ecc200.specs.Symbols.{IsNormalAnswer, IsWriteAnswer, NormalisedAnswer, WrittenAnswer, no_symbol, profile_of, symbol_shown};
 
 use crate::fault::{Fault, normal_fault};
 use crate::message::{first_foreign, message_of};
 use crate::modules::{MOST_MODULES, grid_of, put_modules};
-use dm_symbol::{Grid, MOST_ITEMS, Profile, TooLong, normal_as, write_as};
+use dm_symbol::{Grid, MOST_ITEMS, Profile, Reading, TooLong, light_grid, normal_to, write_to};
 
 /// A symbol: the first `side * side` modules, row by row from the top, 1 for dark. Where there is a fault, all else is 0.
 #[repr(C)]
@@ -23,10 +24,13 @@ pub extern "C" fn ecc200_write(items: &[u16], profile: u16, out: &mut SymbolOut)
     ensures code { result ≡ out.new.fault.code }
 {
     match profile_of(profile) {
-        Some(profile) => match written(items, profile) {
-            Ok(grid) => show_grid(out, &grid),
-            Err(why) => show_fault(out, why),
-        },
+        Some(profile) => {
+            let mut grid = light_grid();
+            match written(items, profile, &mut grid) {
+                Ok(()) => show_grid(out, &grid),
+                Err(why) => show_fault(out, why),
+            }
+        }
         None => show_fault(out, Fault::of(16, profile, 0)),
     }
     out.fault.code
@@ -45,10 +49,13 @@ pub extern "C" fn ecc200_normal(
     ensures code { result ≡ out.new.fault.code }
 {
     match profile_of(profile) {
-        Some(profile) => match normalised(modules, side, border_limit, profile) {
-            Ok(grid) => show_grid(out, &grid),
-            Err(why) => show_fault(out, why),
-        },
+        Some(profile) => {
+            let mut grid = light_grid();
+            match normalised(modules, side, border_limit, profile, &mut grid) {
+                Ok(()) => show_grid(out, &grid),
+                Err(why) => show_fault(out, why),
+            }
+        }
         None => show_fault(out, Fault::of(16, profile, 0)),
     }
     out.fault.code
@@ -65,39 +72,48 @@ fn profile_of(number: u16) -> Option<Profile>
     }
 }
 
-/// The normal grid of the message of these numbers.
-fn written(items: &[u16], profile: Profile) -> Result<Grid, Fault>
-    ensures { WrittenAnswer profile items.now result }
+/// Leaves the normal grid of the message of these numbers in the place, or says why there is none.
+fn written(items: &[u16], profile: Profile, grid: &mut Grid) -> Result<(), Fault>
+    ensures { WrittenAnswer profile items.now (outcome result grid.new) }
 {
     match first_foreign(items) {
         Some(place) => Err(Fault::of(15, items[place], place.min(65535) as u16)),
-        None => written_message(items, profile),
+        None => written_message(items, profile, grid),
     }
 }
 
-/// The same where all are items.
-fn written_message(items: &[u16], profile: Profile) -> Result<Grid, Fault>
+/// The same where each number is an item's.
+fn written_message(items: &[u16], profile: Profile, grid: &mut Grid) -> Result<(), Fault>
     requires { All (λ item. item ≤ 256) items.now }
-    ensures { WrittenAnswer profile items.now result }
+    ensures { WrittenAnswer profile items.now (outcome result grid.new) }
 {
     if items.len() > MOST_ITEMS {
         return Err(Fault::of(14, 0, 0));
     }
-    match write_as(profile, &message_of(items)) {
-        Ok(grid) => Ok(grid),
+    match write_to(profile, &message_of(items), grid) {
+        Ok(()) => Ok(()),
         Err(TooLong) => Err(Fault::of(14, 0, 0)),
     }
 }
 
-/// The normal grid of what the grid of these modules says.
-fn normalised(modules: &[u8], side: u16, border_limit: u16, profile: Profile) -> Result<Grid, Fault>
-    ensures { NormalisedAnswer profile side modules.now border_limit result }
+/// Leaves the normal grid of what the grid of these modules says in the place, or says why there is none.
+fn normalised(
+    modules: &[u8],
+    side: u16,
+    border_limit: u16,
+    profile: Profile,
+    normal: &mut Grid,
+) -> Result<(), Fault>
+    ensures { NormalisedAnswer profile side modules.now border_limit (outcome result normal.new) }
 {
     match grid_of(modules, side) {
-        Ok(grid) => match normal_as(profile, &grid, border_limit) {
-            Ok(normal) => Ok(normal),
-            Err(why) => Err(normal_fault(why)),
-        },
+        Ok(grid) => {
+            let mut reading = Reading::new();
+            match normal_to(profile, &grid, border_limit, &mut reading, normal) {
+                Ok(()) => Ok(()),
+                Err(why) => Err(normal_fault(why)),
+            }
+        }
         Err(why) => Err(why),
     }
 }

@@ -10,7 +10,7 @@ returns-then-items-gt-MOST_ITEMS c =
     WrittenAnswer.no_grid there.0 there.1 there.2 (too_many c.args.profile there.0 c.args.items.now there.2 c.if-items-gt-MOST_ITEMS.true) (ap Err c.of.ensures)
 
 pub returns-in-Ok : goal.returns-in-Ok
-returns-in-Ok c = WrittenAnswer.normal c.message_of.result c.in-Ok.grid c.message_of.ensures.message c.message_of.ensures.numbers c.in-Ok.ensures.normal refl
+returns-in-Ok c = WrittenAnswer.normal c.message_of.result c.write_to.new.grid c.message_of.ensures.message c.message_of.ensures.numbers c.in-Ok.ensures.normal refl
 
 pub returns-in-Err : goal.returns-in-Err
 returns-in-Err c = WrittenAnswer.no_grid c.message_of.result c.message_of.ensures.message c.message_of.ensures.numbers (λ h. false≢true (c.in-Err.ensures.fits.1 h)) (ap Err c.of-in-Err.ensures)
