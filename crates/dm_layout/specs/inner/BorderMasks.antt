@@ -5,8 +5,8 @@ use Rattle.dm_layout.specs.Sizes.{SizeRow, IsRow}
 use Rattle.dm_layout.specs.Grid.{is_dark_in}
 use Rattle.dm_layout.specs.Border.{is_on_edge, edge_is_dark}
 
--- the last row of the square of a region and its border; the left columns of the squares, these and their right columns, the even
--- columns and all columns
+-- Of the rows, `left` marks the left columns of the squares of the regions and their borders, `both` the left and
+-- right ones, `even` the even columns of the symbol and `all` all of them; `last` is the last line of such a square.
 pub record AreBorders (size : SizeRow) (last left both even all : ℕ) : Type 0 where
   pub row : IsRow size
   pub last_row : last ≡ size.region_side + 1
@@ -19,6 +19,7 @@ pub record AreBorders (size : SizeRow) (last left both even all : ℕ) : Type 0 
   pub even_width : even < 2 ^ size.side
   pub all_width : all < 2 ^ size.side
 
--- the cell of a column of a row, which is `inner` inside its region's square of side d + 2, belongs to a border and has the other colour
+-- A cell of row `inner` of a region's square, whose side is d + 2, is
+-- wrong if it belongs to the border and has the other colour.
 abbrev pub is_wrong : ℕ → ℕ → ℕ → ℕ → Bool
 is_wrong d inner row column = is_on_edge d inner (column % (d + 2)) && not (beq (is_dark_in row column) (edge_is_dark d inner (column % (d + 2))))

@@ -12,13 +12,13 @@ use Rattle.dm_layout.specs.declared.sweep.Walk.{Walk}
 use Rattle.dm_layout.specs.declared.cells.Place.{Place}
 use Rattle.dm_layout.specs.Placement.{cells_of, bits_from, places_from}
 
--- the side of the largest mapping square
+-- The largest mapping square has this side.
 abbrev pub largest_mapping : ℕ
 largest_mapping = 96
 
 -- ---- the cells of a shape
 
--- the anchor lies in the square
+-- The anchor of a standard shape lies in the square; a corner always does.
 abbrev pub AnchorInside : ℕ → Shape → Type 0
 AnchorInside n (Standard r c) = (r < n) × (c < n)
 AnchorInside n Corner1 = Unit {0}
@@ -26,23 +26,23 @@ AnchorInside n Corner2 = Unit {0}
 AnchorInside n Corner3 = Unit {0}
 AnchorInside n Corner4 = Unit {0}
 
--- every one of these cells lies in the square
+-- All of these cells lie in the square.
 abbrev pub CellsInside : ℕ → List Cell → Type 0
 CellsInside n [] = Unit {0}
 CellsInside n (x ∷ rest) = (x.row < n) × (x.column < n) × CellsInside n rest
 
 -- ---- the table of filled cells
 
--- whether a cell is filled
+-- A cell is filled if the number of its row has the bit of its column.
 abbrev pub is_filled : List ℕ → ℕ → ℕ → Bool
 is_filled table r c = nat_eq (get_or table r 0 / 2 ^ c % 2) 1
 
--- the table with these cells filled too
+-- This is the table with these cells filled too.
 abbrev pub fill : List ℕ → List Cell → List ℕ
 fill table [] = table
 fill table (x ∷ rest) = fill (set table x.row (bit_or (get_or table x.row 0) (2 ^ x.column))) rest
 
--- a standard shape is left out where its anchor is filled
+-- A standard shape is left out where its anchor is filled; a corner is never left out.
 abbrev pub is_left_out : List ℕ → Shape → Bool
 is_left_out table (Standard r c) = is_filled table r c
 is_left_out table Corner1 = false
@@ -52,7 +52,7 @@ is_left_out table Corner4 = false
 
 -- ---- one move
 
--- the corner at the beginning of a turn
+-- A turn begins with this corner, if with any.
 abbrev pub corner_at : ℕ → ℕ → ℕ → Option Shape
 corner_at n u v =
     elim (nat_eq u (n + 2) && nat_eq v 2) [
@@ -66,48 +66,48 @@ corner_at n u v =
       ]
     ]
 
--- the standard shape at a cell inside the square
+-- At a cell inside the square the walk comes by the standard shape that has its anchor there, and elsewhere by none.
 abbrev pub inside_at : ℕ → ℕ → ℕ → Option Shape
 inside_at n u v =
     elim (nat_le 2 u && nat_lt u (n + 2) && nat_le 2 v && nat_lt v (n + 2)) [ true ↦ Some (Standard (u - 2) (v - 2)) | false ↦ None ]
 
--- the shape that a move comes by
+-- A move comes by this shape: by a corner where a turn begins, and else by a standard shape.
 abbrev pub candidate_at : ℕ → Leg → ℕ → ℕ → Option Shape
 candidate_at n Turn u v = corner_at n u v
 candidate_at n Up u v = inside_at n u v
 candidate_at n Down u v = inside_at n u v
 
--- the same, by the place where the walk is
+-- The next move of the walk comes by this shape.
 abbrev pub candidate_of : ℕ → Cursor → Option Shape
 candidate_of n c = candidate_at n c.leg c.row c.column
 
--- a place of the walk
+-- The walk is in a part of a turn, at a row and a column.
 abbrev pub to : Leg → ℕ → ℕ → Cursor
 to leg u v = record { leg = leg; row = u; column = v }
 
--- where a move ends
+-- A move ends here.
 abbrev pub moved_at : ℕ → Leg → ℕ → ℕ → Cursor
 moved_at n Turn u v = to Up u v
 moved_at n Up u v = elim (nat_lt u 4 || nat_le n v) [ true ↦ to Down (u - 1) (v + 5) | false ↦ to Up (u - 2) (v + 2) ]
 moved_at n Down u v = elim (nat_le n u || nat_lt v 4) [ true ↦ to Turn (u + 5) (v - 1) | false ↦ to Down (u + 2) (v - 2) ]
 
--- the same, by the place where the walk is
+-- The next move of the walk ends here.
 abbrev pub moved_of : ℕ → Cursor → Cursor
 moved_of n c = moved_at n c.leg c.row c.column
 
--- the walk is over
+-- The walk is over if a turn would begin with row and column both past the square.
 abbrev pub is_over_at : ℕ → Leg → ℕ → ℕ → Bool
 is_over_at n Turn u v = nat_le (n + 2) u && nat_le (n + 2) v
 is_over_at n Up u v = false
 is_over_at n Down u v = false
 
--- the same, by the place where the walk is
+-- The walk is over where it stands.
 abbrev pub is_over_of : ℕ → Cursor → Bool
 is_over_of n c = is_over_at n c.leg c.row c.column
 
 -- ---- all moves
 
--- the shapes that the walk comes by in at most so many moves, whether their cells are filled or not
+-- The walk comes by these shapes in at most so many moves, whether their cells are filled or not.
 unfoldable pub candidates_at : ℕ → ℕ → Leg → ℕ → ℕ → List Shape
 candidates_at zero n leg u v = []
 candidates_at (suc k) n Turn u v =
@@ -119,12 +119,12 @@ candidates_at (suc k) n Down u v =
     option_to_list (inside_at n u v)
     ++ elim (nat_le n u || nat_lt v 4) [ true ↦ candidates_at k n Turn (u + 5) (v - 1) | false ↦ candidates_at k n Down (u + 2) (v - 2) ]
 
--- the same, by the place where the walk is
+-- From where it stands, the walk comes by these shapes in at most so many moves.
 unfoldable pub candidates : ℕ → ℕ → Cursor → List Shape
 unfolding candidates_at
 candidates k n c = candidates_at k n c.leg c.row c.column
 
--- of these shapes, in turn, those that are placed
+-- Of the shapes that it comes by, in turn, the walk places those that aren't left out, and each fills its cells.
 unfoldable pub placed : ℕ → List ℕ → List Shape → List Shape
 placed n table [] = []
 placed n table (s ∷ rest) =
@@ -132,40 +132,41 @@ placed n table (s ∷ rest) =
 
 -- ---- the state
 
--- the next moves stay within the numbers, and none goes below 0
+-- The next move of this part of a turn doesn't go below 0.
 abbrev pub LegIsSafe : Leg → ℕ → ℕ → Type 0
 LegIsSafe Turn u v = 2 ≤ u
 LegIsSafe Up u v = 2 ≤ u
 LegIsSafe Down u v = 2 ≤ v
 
--- so do all moves that are left
+-- The moves that are left go neither below 0 nor past what the numbers hold.
 abbrev pub CursorIsSafe : Cursor → ℕ → Type 0
 CursorIsSafe c moves = LegIsSafe c.leg c.row c.column × (c.row + 5 * moves ≤ 60000) × (c.column + 5 * moves ≤ 60000)
 
--- the shapes that the walk has still to place
+-- The walk still has these shapes to place.
 abbrev pub shapes_left : Walk → List Shape
 shapes_left w = placed w.mapping w.filled (candidates w.moves w.mapping w.cursor)
 
--- the cells of the next shape that is left, or nothing is left
+-- The cells are those of the next shape that is left, or no shape is left.
 abbrev pub TakesShape : ℕ → List Shape → Option (List Cell) → List Shape → Type 0
 TakesShape n before None after = (before ≡ []) × (after ≡ [])
 TakesShape n before (Some cells) after = (shape : Shape) × (before ≡ shape ∷ after) × (cells ≡ cells_of n shape)
 
--- the walk before its first move
+-- The walk begins at row 4, column 0, with nothing filled and as many moves left as the square has cells.
 abbrev pub walk_of : ℕ → Walk
 walk_of n = record { mapping = n; filled = replicate largest_mapping 0; cursor = to Turn 6 2; moves = n * n }
 
--- the walk has a mapping square of the table, and its moves are safe
+-- The mapping square of the walk is neither too small nor too large, and its moves are safe.
 pub record WalkIsSafe (w : Walk) : Type 0 where
   pub low : 8 ≤ w.mapping
   pub small : w.mapping ≤ largest_mapping
   pub cursor : CursorIsSafe w.cursor w.moves
 
--- the places that are left, where `bit` bits of the current shape are given, and it is that of the word before `taken`
+-- These places are left when `bit` bits of the current shape have been
+-- given, which is that of the codeword before number `taken`.
 abbrev pub places_left : List Cell → ℕ → ℕ → Walk → List Place
 places_left current taken bit w = bits_from (taken - 1) bit (drop bit current) ++ places_from w.mapping taken (shapes_left w)
 
--- the walk is safe, at most eight bits of the current shape are given, and the numbers of the words fit
+-- The walk is safe, at most eight bits of the current shape have been given, and the numbers of the codewords fit.
 pub record CellsAreSafe (current : List Cell) (taken bit : ℕ) (w : Walk) : Type 0 where
   pub walk : WalkIsSafe w
   pub within : bit ≤ 8
