@@ -47,7 +47,7 @@ fed_after u old new pieces answers (closes _ mid _ piece taken answer more other
       left = rest.left;
     }
 
--- Pieces close and leave open what the text does that they are together.
+-- Pieces close, and leave open, what their joined text does.
 pub fed_is_text : (pieces : List (List ℕ)) (answers : List LineAnswer) (old new : LineFacts) → AreLineFacts [] old → AreLinesFed old pieces answers new
     → AreOfText (concat pieces) answers new
 fed_is_text pieces answers old new known fed = fed_after [] old new pieces answers fed known tt

@@ -139,7 +139,7 @@ fed_after u old new pieces answers (closes _ mid _ piece taken answer more other
     subst (λ a. AreRecordsOfText (u ++ (piece ++ concat more)) (a ∷ others) new) (sym done.answer_is)
     (subst (λ l. AreRecordsOfText l (record_of done.lines ∷ others) new) text all)
 
--- Pieces close and leave open what the text does that they are together.
+-- Pieces close, and leave open, what their joined text does.
 pub fed_is_text : (pieces : List (List ℕ)) (answers : List RecordAnswer) (old new : RecordFacts) → AreRecordFacts [] old → AreRecordsFed old pieces answers new
     → AreRecordsOfText (concat pieces) answers new
 fed_is_text pieces answers old new known fed = fed_after [] old new pieces answers fed known

@@ -42,8 +42,8 @@ AreAnswered [] [] = Unit {0}
 AreAnswered (line ∷ lines) (answer ∷ answers) = IsLine line answer × AreAnswered lines answers
 AreAnswered _ _ = ⊥
 
--- Pieces close and leave open what the text does that they are together:
--- the lines that an LF ends are answered, and the rest is left open.
+-- Pieces close, and leave open, what their joined text does: the lines
+-- that an LF ends are answered, and the rest is left open.
 pub record AreOfText (text : List ℕ) (answers : List LineAnswer) (new : LineFacts) : Type 0 where
   pub lines : List (List ℕ)
   pub rest : List ℕ

@@ -54,8 +54,8 @@ pub record IsLastBlank (lines before after : List (List ℕ)) : Type 0 where
   pub full : AllByRecursion (λ line. line ≢ []) after
   pub blank : (before ≡ []) ⊎ ((front : List (List ℕ)) × (before ≡ front ++ [] ∷ []))
 
--- Pieces close and leave open what the text does that they are together: the records that an empty line ends are
--- answered, and what is after the last empty line stands open.
+-- Pieces close, and leave open, what their joined text does: the records that an empty line ends are answered, and
+-- what is after the last empty line stands open.
 pub record AreRecordsOfText (text : List ℕ) (answers : List RecordAnswer) (new : RecordFacts) : Type 0 where
   pub lines : List (List ℕ)
   pub rest : List ℕ

@@ -21,7 +21,7 @@ use dm_symbol::{
 };
 use std::marker::Model;
 
-/// What is written for a record or a line, its LFs included, and whether it is a refusal.
+/// What is written for a record or a line, with its LFs, and whether it is a refusal.
 #[derive(Drop)]
 pub(crate) struct Answer {
     text: AnswerText,
@@ -37,7 +37,7 @@ impl Model for Answer {
 }
 
 impl Answer {
-    /// Nothing is written.
+    /// An answer in which nothing is written.
     pub(crate) fn none() -> Answer {
         Answer {
             text: AnswerText::new(),
@@ -126,7 +126,7 @@ impl Answer {
         push_all(&mut self.text, b"\n");
     }
 
-    /// Nothing is written yet.
+    /// Begins an answer, in which nothing is written yet.
     fn begin(&mut self, refused: bool)
         ensures text { self.new.text ≡ [] }
         ensures refused { self.new.refused ≡ refused }
@@ -151,19 +151,19 @@ impl Answer {
     }
 }
 
-/// Places for what records and message lines come to, one after another.
+/// Places for the grids and the readings of records and message lines, one after another.
 #[derive(Drop)]
 pub(crate) struct Places {
     /// The grid of a record.
     pub(crate) grid: Grid,
-    /// What it says.
+    /// The reading of that grid.
     reading: Reading,
-    /// The normal grid of what it says, or of a message line.
+    /// The normal grid of the message of a record or of a message line.
     pub(crate) normal: Grid,
 }
 
 impl Places {
-    /// Places in which nothing stands yet that was asked for.
+    /// Places in which nothing that was asked for stands yet.
     pub(crate) fn new() -> Places {
         Places {
             grid: light_grid(),
@@ -173,10 +173,10 @@ impl Places {
     }
 }
 
-// An answer has room for the largest grid, and so have the places. So there is one of each for all records and lines, which each of these
-// functions is given; what stood in them before doesn't matter.
+// An answer has room for the largest grid, and so have the places. So there is one of each for all records and lines,
+// which is handed to each of these functions; what stood in them before doesn't matter.
 
-/// What is written for a record where grids are read, checked or normalised. Its grid, if it is one, is in its place.
+/// Answers a record where grids are read, checked or normalised. Its grid, if it is one, is in its place.
 pub(crate) fn answer_record(
     task: Task,
     found: Result<(), RecordFault>,
@@ -194,7 +194,7 @@ pub(crate) fn answer_record(
     }
 }
 
-/// What is written for a message line under a profile, whose normal grid is made in a place that is handed in.
+/// Answers a message line under a profile. Its normal grid is made in a place that is handed in.
 pub(crate) fn answer_line(
     profile: Profile,
     line: Result<&Message, LineFault>,
@@ -212,7 +212,7 @@ pub(crate) fn answer_line(
     }
 }
 
-/// The message of a record's grid.
+/// Answers a record with the message of its grid.
 fn answer_read(
     border: Option<u16>,
     found: Result<(), RecordFault>,
@@ -233,7 +233,7 @@ fn answer_read(
     }
 }
 
-/// How damaged a record's grid is.
+/// Answers a record with how damaged its grid is.
 fn answer_check(
     border: Option<u16>,
     found: Result<(), RecordFault>,
@@ -254,7 +254,7 @@ fn answer_check(
     }
 }
 
-/// The normal grid under a profile of what a record's grid says.
+/// Answers a record with the normal grid, under a profile, of its grid's message.
 fn answer_normal(
     border: Option<u16>,
     profile: Profile,
@@ -292,7 +292,7 @@ fn limit_for(border: Option<u16>, grid: &Grid) -> u16
     }
 }
 
-/// Appends how damaged a grid of this side is, where there is room for the most.
+/// Appends how damaged a grid of this side is; there is room for the longest such line.
 fn push_counts(text: &mut AnswerText, side: u16, reading: &Reading)
     requires { length text.old.items + MOST_COUNTS ≤ MOST_ANSWER }
     ensures text { text.new.items ≡ text.old.items ++ check_text side reading.now }
@@ -306,10 +306,10 @@ fn push_counts(text: &mut AnswerText, side: u16, reading: &Reading)
     push_spaced(text, &widened(&reading.corrected));
 }
 
-/// More bytes than a line of counts has.
+/// More bytes than the longest line of counts has.
 const MOST_COUNTS: usize = 160;
 
-/// Few numbers, each in more bits.
+/// The same numbers, each in 16 bits.
 fn widened(counts: &ArrayVec<u8, MOST_BLOCKS>) -> ArrayVec<u16, MOST_BLOCKS>
     ensures { result.items ≡ counts.now.items }
 {

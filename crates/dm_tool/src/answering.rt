@@ -19,7 +19,7 @@ pub(crate) enum Answering {
 }
 
 impl Answering {
-    /// Nothing has come yet. None where the task has no input.
+    /// The state before any text has come; None where the task has no input.
     pub(crate) fn new(task: Task) -> Option<Self>
         ensures some { IfSome result (λ answering. IsAnsweredSoFar task answering [] []) }
         ensures none { IfNone result (task ≡ Task.Table) }
@@ -34,9 +34,9 @@ impl Answering {
         }
     }
 
-    /// Takes bytes up to and with the first one that closes a record or a line: how many, with the answer to what they close in
-    /// `answer`. None where the piece closes nothing, and all of it is taken. An answer has room for the largest grid, so there is
-    /// one place for all of them.
+    /// Takes the bytes up to and with the first one that closes a record or a line, and says how many; the answer to
+    /// what they close is then in `answer`. None where the piece closes nothing; all of it is taken then. An answer
+    /// has room for the largest grid, so there is one place for all of them.
     pub(crate) fn feed(
         &mut self,
         piece: &[u8],
@@ -68,7 +68,7 @@ impl Answering {
         }
     }
 
-    /// Whether the end of the text closes a record or a line; the answer to it is then in `answer`.
+    /// Whether the end of the text closes a record or a line; if it does, the answer is in `answer`.
     pub(crate) fn finish(&mut self, places: &mut Places, answer: &mut Answer) -> bool
         requires { HasTakenText self.old }
         ensures none { OnFalse result (EndsAnswered self.old []) }

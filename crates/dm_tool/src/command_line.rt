@@ -70,7 +70,7 @@ fn plain<'a>(alloc: Global, name: &'a str) -> Command<'a>
     Command::new(alloc, name)
 }
 
-/// The command before its subcommands are joined to it.
+/// The command without its subcommands.
 fn top<'a>(alloc: Global) -> Command<'a>
     ensures { app_of result ≡ top_app }
 {
@@ -132,7 +132,7 @@ fn task_in(name: &str, matches: &ArgMatches<'_>) -> Option<Task>
     }
 }
 
-/// What an error of clap says of the call.
+/// The fault of a command line in which clap finds this error.
 fn fault_in(error: Error) -> CallFault
     ensures { (result ≡ CallFault.Memory) ↔ (kind_of error ≡ ErrorKind.OutOfMemory) }
 {
@@ -155,8 +155,8 @@ fn named(matches: &ArgMatches<'_>) -> Option<Task>
 
 /// The task of a command line, whose first word is the program's name.
 ///
-/// It is `CallFault::Usage` where clap finds a fault in the words, a request for help among them, and
-/// `CallFault::Memory` where there was no memory to take them apart.
+/// The error is `CallFault::Usage` where clap finds a fault in the words or they ask for help, and
+/// `CallFault::Memory` where there was no memory to parse them.
 pub fn task_of<'a>(alloc: Global, words: &'a [&'a str]) -> Result<Task, CallFault>
     ensures task { IfOk result (NamesTask (subcommand_of dm_app (texts_of words.entry.now))) }
     ensures taken { OnOk result (fault_of dm_app (texts_of words.entry.now) ≡ []) }

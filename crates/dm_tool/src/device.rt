@@ -8,9 +8,9 @@ use std::io;
 #[derive(Clone, Copy, Debug, PartialEq, Eq)]
 pub struct Failed;
 
-/// The answer of a device, of which each error is a failure and is counted.
+/// The answer of a device: each error is a failure, and is counted.
 ///
-/// The count stays at `u64::MAX` once it is there.
+/// The count stays at `u64::MAX` once it has reached it.
 pub(crate) fn counted<T>(failures: &mut u64, answer: io::Result<T>) -> Result<T, Failed>
     ensures ok { IfOk answer (λ x. result ≡ Ok x) }
     ensures err { OnErr answer (IsErr result) }
@@ -22,7 +22,7 @@ pub(crate) fn counted<T>(failures: &mut u64, answer: io::Result<T>) -> Result<T,
     }
 }
 
-/// One more failure.
+/// Counts one more failure.
 pub(crate) fn failure(failures: &mut u64) -> Failed
     ensures { HasRisen failures.old failures.new }
 {

@@ -8,13 +8,13 @@ use crate::printed::{MOST_ANSWER, push_all};
 use crate::sink::{Sink, put};
 use arrayvec::ArrayVec;
 
-/// The most bytes of answers that wait to be written: three of the largest grid.
+/// The most bytes of answers that wait to be written: those of three of the largest grids.
 const MOST_GATHERED: usize = 3 * MOST_ANSWER;
 
 /// Answers that are to be written together.
 pub(crate) type Gathered = ArrayVec<u8, MOST_GATHERED>;
 
-/// Gathers the bytes of an answer. Where the place is full, what stands in it is written first.
+/// Gathers the bytes of an answer. Where there is no room for them, all that is gathered is written first.
 pub(crate) fn gather<O: Sink>(
     sink: &mut O,
     gathered: &mut Gathered,
@@ -35,7 +35,7 @@ pub(crate) fn gather<O: Sink>(
     }
 }
 
-/// Sees to it that there is room for so many bytes more: where there isn't, all that is gathered is written.
+/// Makes room for so many more bytes: where there is none, all that is gathered is written.
 fn make_room<O: Sink>(sink: &mut O, gathered: &mut Gathered, count: usize) -> Result<(), Failed>
     requires { count ≤ MOST_ANSWER }
     ensures ok { OnOk result (IsPassedOn (O.contents sink.old) gathered.old.items [] (O.contents sink.new) gathered.new.items) }

@@ -9,9 +9,9 @@ use crate::record::{OpenRecord, RecordFault};
 use dm_symbol::{Grid, light_grid};
 use std::marker::Model;
 
-/// Cuts a text that comes in pieces into records, the longest runs of lines that are not empty. It holds
-/// the record that stands open, and no more of it than a grid can have: once a byte other than 0, 1 and LF
-/// has come, or the record is too large, that alone.
+/// Cuts a text that comes in pieces into records, the longest runs of lines that are not empty. It holds the record
+/// that stands open, but no more of it than a grid can have: once a byte other than 0, 1 and LF has come, or the
+/// record is too large, it holds only that.
 #[derive(Drop)]
 pub struct GridFeed {
     record: OpenRecord,
@@ -26,7 +26,7 @@ impl Model for GridFeed {
 
     ghost view = { λ f. f.record };
 
-    // They are the facts of some text.
+    // These are the facts of some text.
     ghost invariant = { λ f. (text : List ℕ) × AreRecordFacts text f.record };
 }
 
@@ -35,7 +35,7 @@ impl Model for GridFeed {
 pub struct Fed {
     /// How many bytes of the piece were taken.
     pub taken: usize,
-    /// The record that they close, if they close one: its grid, or why it is none.
+    /// The record that they close, if any: its grid, or why it is none.
     pub closed: Option<Result<Grid, RecordFault>>,
 }
 
@@ -70,7 +70,7 @@ impl GridFeed {
         }
     }
 
-    /// Closes the record that is open, if one is. The feed is as new then.
+    /// Closes the open record, if there is one. The feed is then as a new one is.
     pub fn finish(&mut self) -> Option<Result<Grid, RecordFault>>
         ensures none { IfNone result ((text : List ℕ) → AreRecordFacts text self.old → AreLfs text) }
         ensures last { IfSome result (λ answer. (text : List ℕ) → AreRecordFacts text self.old → IsLastRecord text answer) }
@@ -84,8 +84,9 @@ impl GridFeed {
         Some(with_grid(found, grid))
     }
 
-    /// Takes bytes as [`GridFeed::feed`] does, with the grid in a place that is handed in: how many, where they close a record, and its
-    /// fault where it is no grid; the place may then hold anything. None where all of the piece is taken.
+    /// Takes bytes as [`GridFeed::feed`] does, with the grid in a place that is handed in. Where they close a record,
+    /// says how many they are, and the record's fault if it is no grid; the place may then hold anything. None where
+    /// all of the piece is taken.
     pub(crate) fn feed_to(
         &mut self,
         piece: &[u8],
@@ -101,7 +102,8 @@ impl GridFeed {
         Some((end + 1, self.record.close_to(grid)))
     }
 
-    /// Closes the record that is open, if one is, as [`GridFeed::finish`] does, with the grid in a place that is handed in.
+    /// Closes the open record, if there is one, as [`GridFeed::finish`] does,
+    /// with the grid in a place that is handed in.
     pub(crate) fn finish_to(&mut self, grid: &mut Grid) -> Option<Result<(), RecordFault>>
         ensures none { IfNone result ((text : List ℕ) → AreRecordFacts text self.old → AreLfs text) }
         ensures last { IfSome result (λ found. (text : List ℕ) → AreRecordFacts text self.old → IsLastRecord text (outcome found grid.new)) }
@@ -115,7 +117,7 @@ impl GridFeed {
     }
 }
 
-/// What a record comes to, with the grid from its place.
+/// The grid of a record, from its place, or the record's fault.
 fn with_grid(found: Result<(), RecordFault>, grid: Grid) -> Result<Grid, RecordFault>
     ensures { result ≡ outcome found grid }
 {

@@ -25,9 +25,9 @@ pub fn text_is_read_back()
         → IsLine (text_of message) (Ok message) }
 {}
 
-/// How a text is cut into pieces changes nothing for its message lines: what the pieces, fed to a feed
-/// in which no line stands open, close and leave open is that of the text that they are together; and it
-/// is the same for all ways to cut that text.
+/// How a text is cut into pieces changes nothing for its message lines: pieces
+/// that are fed to a feed in which no line stands open close, and leave open, what
+/// their joined text does, and this is the same for all ways to cut that text.
 pub fn line_cuts_change_nothing()
     ensures text { (pieces : List (List ℕ)) (answers : List LineAnswer) (old new : LineFacts) → AreLineFacts [] old
         → AreLinesFed old pieces answers new → AreOfText (concat pieces) answers new }
@@ -36,9 +36,9 @@ pub fn line_cuts_change_nothing()
         → AreLinesFed old pieces answers new → AreLinesFed old others theirs end → (answers ≡ theirs) × (new ≡ end) }
 {}
 
-/// How a text is cut into pieces changes nothing for its records: what the pieces, fed to a feed in which no
-/// record stands open, close and leave open is that of the text that they are together, and it is the same
-/// for all ways to cut that text.
+/// How a text is cut into pieces changes nothing for its records: pieces that
+/// are fed to a feed in which no record stands open close, and leave open, what
+/// their joined text does, and this is the same for all ways to cut that text.
 pub fn record_cuts_change_nothing()
     ensures text { (pieces : List (List ℕ)) (answers : List RecordAnswer) (old new : RecordFacts) → AreRecordFacts [] old
         → AreRecordsFed old pieces answers new → AreRecordsOfText (concat pieces) answers new }
@@ -47,21 +47,20 @@ pub fn record_cuts_change_nothing()
         → AreRecordsFed old pieces answers new → AreRecordsFed old others theirs end → (answers ≡ theirs) × (new ≡ end) }
 {}
 
-/// What is written for a text as a whole, and how many are answered and refused, is one thing; so is what is
-/// written for a text that may go on.
+/// Only one thing is written for a text as a whole, with one tally, and only one thing for a text that may go on.
 pub fn one_text_is_written()
     ensures out { (task : Task) (text a b : List ℕ) (s t : Tally) → IsOut task text a s → IsOut task text b t → (a ≡ b) × (s ≡ t) }
     ensures done { (task : Task) (text a b : List ℕ) → IsOutSoFar task text a → IsOutSoFar task text b → a ≡ b }
 {}
 
-/// Something is written for each text as a whole, and there is a tally of it; so it is for each text that may
-/// go on. With what [`one_text_is_written`] says, it is exactly one thing. For the table the text counts as empty.
+/// Something is written for each text as a whole, with a tally, and for each text that may go on. With what
+/// [`one_text_is_written`] says, it is exactly one thing. For the table the text counts as empty.
 pub fn each_text_is_written()
     ensures out { (task : Task) (text : List ℕ) → (task ≡ Table → text ≡ []) → (out : List ℕ) × (tally : Tally) × IsOut task text out tally }
     ensures done { (task : Task) (text : List ℕ) → (task ≡ Table → text ≡ []) → (done : List ℕ) × IsOutSoFar task text done }
 {}
 
-/// Each line means something: a message, or a fault; and only one thing.
+/// Each line means exactly one thing: a message, or a fault.
 pub fn each_line_means_one_thing()
     ensures some { (line : List ℕ) → (answer : LineAnswer) × IsLine line answer }
     ensures one { (line : List ℕ) (a b : LineAnswer) → IsLine line a → IsLine line b → a ≡ b }

@@ -10,9 +10,9 @@ use crate::open_line::OpenLine;
 use dm_symbol::Message;
 use std::marker::Model;
 
-/// Cuts a text that comes in pieces into message lines. It holds what is known of the line that stands
-/// open: its items while they are at most `MOST_ITEMS`, the bytes of a spelling that is begun, a count, or the
-/// column of its fault.
+/// Cuts a text that comes in pieces into message lines. It holds what is known of
+/// the line that stands open: its items while they are at most `MOST_ITEMS`, the
+/// bytes of a spelling that is begun, and a count; or the column of its fault.
 #[derive(Drop)]
 pub struct LineFeed {
     line: OpenLine,
@@ -27,7 +27,7 @@ impl Model for LineFeed {
 
     ghost view = { λ f. f.line };
 
-    // They are the facts of some line.
+    // These are the facts of some line.
     ghost invariant = { λ f. (line : List ℕ) × AreLineFacts line f.line };
 }
 
@@ -36,7 +36,7 @@ impl Model for LineFeed {
 pub struct LineFed {
     /// How many bytes of the piece were taken.
     pub taken: usize,
-    /// The line that they close, if they close one: its message, or why it is none.
+    /// The line that they close, if any: its message, or why it is none.
     pub closed: Option<Result<Message, LineFault>>,
 }
 
@@ -69,8 +69,8 @@ impl LineFeed {
         }
     }
 
-    /// Closes the line that is open, if one is: where the text ends, its bytes after the last LF are a
-    /// line, if there are any. The feed is as new then.
+    /// Closes the open line, if there is one: where the text ends, its bytes after the last LF are a line, if there
+    /// are any. The feed is then as a new one is.
     pub fn finish(&mut self) -> Option<Result<Message, LineFault>>
         ensures none { IfNone result (AreLineFacts [] self.old) }
         ensures line { IfSome result (λ closed. (line : List ℕ) → AreLineFacts line self.old → IsLine line closed) }
@@ -84,7 +84,7 @@ impl LineFeed {
         Some(self.close())
     }
 
-    /// The line ends, and the next one begins.
+    /// Ends the line, and begins the next one.
     fn close(&mut self) -> Result<Message, LineFault>
         ensures line { (line : List ℕ) → AreLineFacts line self.old → IsLine line result }
         ensures empty { AreLineFacts [] self.new }
@@ -92,10 +92,10 @@ impl LineFeed {
         std::mem::replace(&mut self.line, OpenLine::new()).close()
     }
 
-    // A line is closed without a copy of its message where these follow on one another.
+    // Called in this order, these close a line without copying its message.
 
-    /// Takes bytes up to and with the first LF, and holds the line that it ends: how many, where there is one. None where all of the
-    /// piece is taken.
+    /// Takes the bytes up to and with the first LF, holds the line that it ends, and says how many they are. None
+    /// where there is no LF; all of the piece is taken then.
     pub(crate) fn take_line(&mut self, piece: &[u8]) -> Option<usize>
         ensures open { IfNone result (LeavesLineOpen self.old piece.now (length piece.now) self.new) }
         ensures ends { IfSome result (λ taken. EndsLine self.old piece.now taken self.new) }
@@ -121,7 +121,7 @@ impl LineFeed {
         self.line.meaning()
     }
 
-    /// The next line begins.
+    /// Begins the next line.
     pub(crate) fn begin_line(&mut self)
         ensures { AreLineFacts [] self.new }
     {

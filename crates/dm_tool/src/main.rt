@@ -4,8 +4,8 @@
 //! feeds [`GridFeed`] and [`LineFeed`] cut texts that come in pieces. What the contracts say is defined in `specs/`: `Runs` and
 //! `Answers` for what is written, `Records` and `MessageLines` for what is read.
 //!
-//! The program takes its task from the command line ([`task_of`]), does it over the standard streams and ends by what came of it
-//! ([`ending`]). Only the command line takes memory.
+//! The program takes its task from the command line ([`task_of`]), does it over the standard streams, and ends with a
+//! status that says what came of it ([`ending`]). Only the command line allocates memory.
 #![tactic(auto)]
 
 mod answer;

@@ -14,19 +14,18 @@ pub const MOST_TEXT: usize = 4 * MOST_ITEMS;
 /// Why a line is no message.
 #[derive(Clone, Copy, Debug, PartialEq, Eq)]
 pub enum LineFault {
-    /// A byte that is outside 32 to 126, or a backslash that begins none of `\\`, `\F` and `\xHH`:
-    /// the column of the first one, which counts bytes from 1. A column above `u64::MAX` is given as
-    /// that.
+    /// A byte outside 32 to 126, or a backslash that begins none of `\\`, `\F` and `\xHH`: the column of the first
+    /// one, counting bytes from 1. A column above `u64::MAX` is given as that.
     BadEscape(u64),
     /// More than [`MOST_ITEMS`] items.
     TooLong,
 }
 
-/// The message that a line spells. The line is one without its LF.
+/// The message that a line, given without its LF, spells.
 ///
-/// Bytes 32 to 126 other than the backslash stand for themselves, `\\` is the backslash, `\F` is FNC1,
-/// and `\xHH` is the byte of two hexadecimal digits, of either case. `BadEscape` comes where a line
-/// has anything else, and then `TooLong` where it has more than [`MOST_ITEMS`] items.
+/// Bytes 32 to 126 other than the backslash stand for themselves, `\\` is the backslash, `\F` is FNC1, and `\xHH` is
+/// the byte of two hexadecimal digits, of either case. The error is `BadEscape` where a line has anything else, and
+/// otherwise `TooLong` where it has more than [`MOST_ITEMS`] items.
 pub fn message_from(line: &[u8]) -> Result<Message, LineFault>
     ensures { (answer : Result (List AnItem) LineFault) → (result ≡ answer) ↔ IsLine line.now answer }
 {

@@ -13,8 +13,8 @@ use crate::text::LF;
 use dm_symbol::{Item, MOST_ITEMS, Message};
 use std::marker::Model;
 
-/// A line in which no fault stands: so many bytes are spellings, joined; their items, unless they are
-/// too many; the bytes after them.
+/// A line without a fault so far: how many bytes at its front are joined spellings, the items of these unless they
+/// are too many, and the bytes after them.
 #[derive(Drop)]
 struct GoodLine {
     front: u64,
@@ -22,15 +22,15 @@ struct GoodLine {
     pending: Pending,
 }
 
-/// What an open line comes to.
+/// What is known of an open line.
 #[derive(Drop)]
 enum State {
-    /// A fault stands in it, at this column.
+    /// A fault stands in the line, at this column.
     Faulty(u64),
     Good(GoodLine),
 }
 
-/// A message line whose end has not come.
+/// A message line whose end has not come yet.
 #[derive(Drop)]
 pub(crate) struct OpenLine {
     state: State,
@@ -65,7 +65,7 @@ impl OpenLine {
         }
     }
 
-    /// More bytes of the line.
+    /// Takes more bytes of the line.
     pub(crate) fn take(&mut self, bytes: &[u8])
         ensures { (line : List ℕ) → AreLineFacts line self.old → AreLineFacts (line ++ bytes.now) self.new }
     {
@@ -74,7 +74,8 @@ impl OpenLine {
         }
     }
 
-    /// More bytes of the line, up to the first LF, which ends it: how many stand before that, where it has come.
+    /// Takes more bytes of the line, up to the first LF, which ends it. Where
+    /// there is one, says how many stand before it.
     pub(crate) fn take_to_lf(&mut self, bytes: &[u8]) -> Option<usize>
         ensures none { IfNone result (HasNoLf bytes.now) }
         ensures open { IfNone result ((line : List ℕ) → AreLineFacts line self.old → AreLineFacts (line ++ bytes.now) self.new) }
@@ -98,7 +99,7 @@ impl OpenLine {
         None
     }
 
-    /// Takes bytes at the front that stand for themselves, where no other spelling is begun, and says how many.
+    /// Takes the bytes at the front that stand for themselves, if no other spelling is begun, and says how many.
     fn take_plain(&mut self, bytes: &[u8]) -> usize
         ensures within { result ≤ length bytes.now }
         ensures no_lf { HasNoLf (take result bytes.now) }
@@ -110,7 +111,7 @@ impl OpenLine {
         }
     }
 
-    /// One more byte of the line.
+    /// Takes one more byte of the line.
     pub(crate) fn push(&mut self, byte: u8)
         ensures { (line : List ℕ) → AreLineFacts line self.old → AreLineFacts (line ++ byte ∷ []) self.new }
     {
@@ -131,7 +132,7 @@ impl OpenLine {
         }
     }
 
-    /// What the line means where it ends here: its message, or its fault.
+    /// What the line means if it ends here: its message, or its fault.
     pub(crate) fn meaning(&self) -> Result<&Message, LineFault>
         ensures { (line : List ℕ) → AreLineFacts line self.now → IsLine line (pointed_to result) }
     {
@@ -177,7 +178,7 @@ impl GoodLine {
         }
     }
 
-    /// Takes bytes at the front that stand for themselves, where no other spelling is begun, and says how many.
+    /// Takes the bytes at the front that stand for themselves, if no other spelling is begun, and says how many.
     fn take_plain(&mut self, bytes: &[u8]) -> usize
         ensures within { result ≤ length bytes.now }
         ensures no_lf { HasNoLf (take result bytes.now) }
@@ -195,7 +196,7 @@ impl GoodLine {
         count
     }
 
-    /// What the line means where it ends here: its message, or its fault.
+    /// What the line means if it ends here: its message, or its fault.
     fn meaning(&self) -> Result<&Message, LineFault>
         ensures { (line : List ℕ) → IsGoodLine line self.now.front self.now.items (pending_bytes self.now.pending) → IsLine line (pointed_to result) }
     {
@@ -231,7 +232,7 @@ impl GoodLine {
     }
 }
 
-/// One more item, unless they are too many.
+/// Adds one more item, unless there are too many then.
 fn push_item(items: &mut Option<Message>, item: Item)
     ensures { (all : List AnItem) → items.old ≡ kept all → items.new ≡ kept (all ++ item ∷ []) }
 {

@@ -49,7 +49,7 @@ pub(crate) fn push_spaced<const N: usize>(text: &mut ArrayVec<u8, N>, numbers: &
     }
 }
 
-/// Appends the rows of a grid, each followed by LF, to no text.
+/// Appends the rows of a grid, each followed by LF, to an empty text.
 pub(crate) fn push_grid(text: &mut AnswerText, grid: &Grid)
     requires { text.old.items ≡ [] }
     ensures text { text.new.items ≡ grid_text grid.now.rows }
@@ -86,7 +86,7 @@ fn push_cells(text: &mut AnswerText, cells: u128, width: u16)
     }
 }
 
-/// So many cells are written together.
+/// This many cells are written together.
 const TOGETHER: u16 = 16;
 
 /// The characters of sixteen cells, of which the first is the lowest bit.

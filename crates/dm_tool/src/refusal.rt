@@ -8,10 +8,10 @@ use crate::printed::{AnswerText, MOST_ANSWER, push_all, push_decimal};
 use crate::record::RecordFault;
 use dm_symbol::{NormalFault, ReadFault, WordFault};
 
-/// More bytes than a refusal has.
+/// More bytes than the longest refusal has.
 pub(crate) const MOST_REFUSAL: usize = 80;
 
-// Each of these appends a refusal, without an LF, where there is room for the longest.
+// Each of these appends a refusal without an LF; there is room for the longest.
 
 /// Appends the refusal of a record.
 pub(crate) fn push_record_refusal(text: &mut AnswerText, fault: RecordFault)

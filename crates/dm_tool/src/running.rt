@@ -19,13 +19,14 @@ use crate::task::{RunFault, Tally, Task};
 /// [`Task::Table`] reads nothing, and writes the table of sizes. Gives how many records or lines were
 /// answered, and how many refused.
 ///
-/// It asks for at most `most` bytes, and only when all of them have come for one byte more. `Read` and
-/// `TooMuchInput` come after the answers to all that was closed by then have been written; where the sink
-/// fails, `Write` comes after a beginning of what was to be written. A device that failed isn't tried again.
-/// It flushes once, when the end of the input has come and all is written; where that is Ok, the sink's mark of
-/// pending bytes is clear.
+/// It asks for at most `most` bytes, and, only once all of them have come, for one byte more.
+/// `Read` and `TooMuchInput` come after the answers to all that was closed by then have been
+/// written; where the sink fails, `Write` comes after a beginning of what was to be written.
+/// A device that failed isn't tried again. It flushes once, when the end of the input has
+/// come and all is written; where that is Ok, the sink's mark of pending bytes is clear.
 ///
-/// The clauses speak of the bytes that source and sink tell: of one that doesn't tell its own they say nothing.
+/// The clauses are about the bytes that the source and the sink tell; they
+/// say nothing about one that doesn't tell its own.
 pub fn run<I: Source, O: Sink>(
     task: Task,
     source: &mut I,
@@ -99,7 +100,7 @@ pub fn run<I: Source, O: Sink>(
 /// The most bytes that are asked for at once.
 const PIECE: usize = 4096;
 
-/// Nothing answered, nothing refused.
+/// The tally before anything is answered or refused.
 const NO_ANSWER: Tally = Tally {
     answered: 0,
     refused: 0,
@@ -141,8 +142,8 @@ fn put_all<O: Sink>(sink: &mut O, bytes: &[u8]) -> Result<(), Failed>
     }
 }
 
-/// Reads the next bytes of the source to the front of `place`, and says how many: no more than may still come, and one where none
-/// may. The number 0 is the end of the input.
+/// Reads the next bytes of the source to the front of `place`, and says how many: no more than may still come, or one
+/// if none may. The number 0 is the end of the input.
 fn next_piece<I: Source>(
     source: &mut I,
     place: &mut [u8; PIECE],
@@ -164,8 +165,8 @@ fn next_piece<I: Source>(
     source.read(&mut place[..most])
 }
 
-/// Takes a piece of the text, and writes the answers to what it closes. Each comes from `answer`, its place, and they are put together
-/// in `gathered`, which begins with none; it is written whenever it is full, and in the end.
+/// Takes a piece of the text, and writes the answers to what it closes. Each is made in `answer`, and they are put
+/// together in `gathered`, which is empty at first; it is written whenever it is full, and at the end.
 fn answer_piece<O: Sink>(
     answering: &mut Answering,
     sink: &mut O,

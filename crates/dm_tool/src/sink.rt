@@ -8,7 +8,7 @@ use std::io::Write;
 
 /// Where bytes go.
 ///
-/// A call answers an error exactly where the device failed in it; it has then taken no byte.
+/// A call returns an error exactly where the device failed in it; it has then taken no byte.
 pub trait Sink {
     // The bytes taken so far, where they are known.
     ghost contents: { Self → Option (List ℕ) };
@@ -16,11 +16,11 @@ pub trait Sink {
     // How many calls have failed, up to the most that a `u64` holds.
     ghost failed: { Self → ℕ };
 
-    // Bytes may have been taken that no Ok flush has handed on.
+    // Bytes may have been taken that no successful flush has handed on.
     ghost is_pending: { Self → Bool };
 
-    // From the first state to the second there was a flush, Ok or not, for each of these numbers, which says how many bytes had
-    // been taken in all by then, as far as the sink tells it.
+    // From the first state to the second there was a flush, successful or not, for each of these numbers; it says how
+    // many bytes had been taken in all by then, as far as the sink tells it.
     ghost flushed: { Self → Self → List ℕ → Type 0 };
 
     /// Takes a front of `bytes`, and says how long it is: at least 1, unless `bytes` is empty.
@@ -32,7 +32,7 @@ pub trait Sink {
         ensures unflushed { flushed self.old self.new [] }
         ensures count { Counts (failed self.old) (failed self.new) result };
 
-    /// Hands on all that was taken, where it is Ok.
+    /// Hands on all that was taken, if it succeeds.
     fn flush(&mut self) -> Result<(), Failed>
         ensures bytes { Keeps (contents self.old) (contents self.new) }
         ensures clear { OnOk result (is_pending self.new ≡ false) }
@@ -40,7 +40,7 @@ pub trait Sink {
         ensures held { IsFlushedOnce (flushed self.old self.new) (contents self.old) (contents self.new) }
         ensures count { Counts (failed self.old) (failed self.new) result };
 
-    /// How many writes and flushes have failed. At `u64::MAX` the count stays.
+    /// How many writes and flushes have failed. The count stays at `u64::MAX` once it has reached it.
     fn failures(&self) -> u64
         ensures { result ≡ failed self.now };
 
@@ -48,15 +48,15 @@ pub trait Sink {
     fn pending(&self) -> bool
         ensures { result ≡ is_pending self.now };
 
-    // In no time there is no flush.
+    // From a state to itself there was no flush.
     ghost flushed_none: { (s : Self) → flushed s s [] };
 
-    // The flushes of two times that follow on one another are joined.
+    // The flushes from one state to a second, and from that to a third, are joined.
     ghost flushed_joined: { (a b c : Self) → (x y : List ℕ) → flushed a b x → flushed b c y → flushed a c (x ++ y) };
 }
 
-/// A sink from any writer of std. Each error of the writer is a failure, `Interrupted` too, and so
-/// is a write that takes none of some bytes. It doesn't tell its flushes.
+/// A sink from any writer of std. Each error of the writer is a failure, `Interrupted` too, and so is a write of some
+/// bytes that takes none of them. It doesn't tell its flushes.
 #[derive(Drop)]
 pub struct ToWrite<W: Write + Drop> {
     writer: W,
@@ -124,7 +124,7 @@ impl<W: Write + Drop> Sink for ToWrite<W> {
     }
 }
 
-/// Writes all of the bytes, or a beginning of them where the sink failed.
+/// Writes all of the bytes, or a beginning of them if the sink fails.
 pub(crate) fn put<O: Sink>(sink: &mut O, bytes: &[u8]) -> Result<(), Failed>
     ensures ok { OnOk result (Appends (O.contents sink.old) (O.contents sink.new) bytes.now) }
     ensures err { OnErr result (AppendsFront (O.contents sink.old) (O.contents sink.new) bytes.now) }

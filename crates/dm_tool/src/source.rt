@@ -8,8 +8,8 @@ use std::io::Read;
 
 /// Where bytes come from.
 ///
-/// A read answers an error exactly where the device failed in it. A failed read has given no byte;
-/// of what the source gives after it nothing is said.
+/// A read returns an error exactly where the device failed in it. A failed read has given no byte; nothing is said of
+/// what the source gives after it.
 pub trait Source {
     // From the first state to the second the source gave these bytes, as far as it tells them.
     ghost gave: { Self → Self → List ℕ → Type 0 };
@@ -20,7 +20,8 @@ pub trait Source {
     // How many calls have failed, up to the most that a `u64` holds.
     ghost failed: { Self → ℕ };
 
-    // From the first state to the second no byte after so many was asked for, counted from the first, as far as the source tells it.
+    // From the first state to the second no byte past this one was asked for,
+    // counted from the first, as far as the source tells it.
     ghost asked: { Self → Self → ℕ → Type 0 };
 
     /// Reads bytes into the front of `into`, and says how many. The number 0 is the end of the
@@ -33,20 +34,20 @@ pub trait Source {
         ensures asked { asked self.old self.new (length into.new) }
         ensures count { Counts (failed self.old) (failed self.new) result };
 
-    /// How many reads have failed. At `u64::MAX` the count stays.
+    /// How many reads have failed. The count stays at `u64::MAX` once it has reached it.
     fn failures(&self) -> u64
         ensures { result ≡ failed self.now };
 
-    // In no time nothing is given.
+    // From a state to itself nothing was given.
     ghost gave_none: { (s : Self) → gave s s [] };
 
-    // What is given in two times that follow on one another is joined.
+    // What was given from one state to a second, and from that to a third, is joined.
     ghost gave_joined: { (a b c : Self) → (x y : List ℕ) → gave a b x → gave b c y → gave a c (x ++ y) };
 
-    // In no time nothing is asked for.
+    // From a state to itself nothing was asked for.
     ghost asked_none: { (s : Self) → asked s s 0 };
 
-    // What is asked for in two times that follow on one another comes after what was given in the first.
+    // What was asked for from a second state to a third counts on from what was given before.
     ghost asked_joined: { (a b c : Self) → (x : List ℕ) (m n most : ℕ) → gave a b x → asked a b m → asked b c n
         → m ≤ most → length x + n ≤ most → asked a c most };
 }

@@ -12,7 +12,7 @@ use crate::task::{RunFault, Tally, Task};
 /// The most bytes of input that the program reads, 1 GiB.
 const MOST_INPUT: u64 = 1 << 30;
 
-/// Does a task as [`run`] does, with at most 1 GiB of input. The program does it over its standard streams.
+/// Does a task as [`run`] does, with at most 1 GiB of input. The program uses it for its standard streams.
 pub fn run_streams<I: Source, O: Sink>(
     task: Task,
     source: &mut I,

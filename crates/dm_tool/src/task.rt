@@ -5,7 +5,7 @@ use thiserror::Error;
 
 /// What is to be done with the input.
 ///
-/// The number of the first three is the border limit; without one it is the usual limit of each grid's own side.
+/// The first three have the border limit; without one it is the usual limit of each grid's own side.
 #[derive(Clone, Copy, Debug, PartialEq, Eq)]
 pub enum Task {
     /// The messages of grids.
@@ -27,7 +27,7 @@ pub struct Tally {
     pub refused: u64,
 }
 
-/// Why a run failed: before its input ended, or, where the sink failed, maybe after it.
+/// Why a run failed. A sink may also fail after the input has ended.
 #[derive(Clone, Copy, Debug, PartialEq, Eq, Error)]
 pub enum RunFault {
     /// A read of the source failed.
@@ -47,7 +47,7 @@ pub enum CallFault {
     /// It isn't one that the program knows.
     #[error("dm_tool: usage: dm_tool read|check [--border N] | normal [--border N] [--shorter] | write [--shorter] | table")]
     Usage,
-    /// There was no memory to take it apart.
+    /// There was no memory to parse it.
     #[error("dm_tool: no memory")]
     Memory,
 }

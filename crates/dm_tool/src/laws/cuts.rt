@@ -7,14 +7,14 @@ ghost use Rattle.dm_tool.specs.declared.task.Tally.{Tally};
 ghost use Rattle.dm_tool.specs.Runs.{AreMatched, IsOut};
 ghost use Rattle.dm_tool.specs.Cuts.{AreCutBetween, AreOuts, EndsBetween, EndsWith, PartOut, added, largest, sum_of};
 
-/// Where a text ends between records, or between message lines, what is written for it and a text after it is
-/// what is written for each, joined, and their counts add.
+/// Where a text ends between records, or between message lines, what is written for it, followed by what is written
+/// for a further text, is what is written for both together, and their counts add up.
 pub fn two_parts_are_the_whole()
     ensures { (task : Task) (first second a b : List ℕ) (s t : Tally) → task ≢ Table → EndsBetween task first
         → IsOut task first a s → IsOut task second b t → IsOut task (first ++ second) (a ++ b) (added s t) }
 {}
 
-/// So it is for any number of parts of which each but the last ends between records, or between message lines.
+/// The same holds of any number of parts, where each but the last ends between records, or between message lines.
 pub fn parts_are_the_whole()
     ensures { (task : Task) (parts : List (List ℕ)) (outs : List PartOut) → task ≢ Table → AreCutBetween task parts
         → AreOuts task parts outs
