@@ -18,6 +18,7 @@ use Rattle.dm_layout.proofs.Ranges.{range-append}
 abbrev pub faults_above : GridView → ℕ → ℕ
 faults_above grid row = sum_by (λ r. count_by (is_fault grid r) (range_with_len 0 grid.size.side)) (range_with_len 0 row)
 
+-- The border faults above the next row are those above this row and those in it.
 pub faults_above_more : (grid : GridView) (row : ℕ) → faults_above grid (row + 1) ≡ faults_above grid row + count_by (is_fault grid row) (range_with_len 0 grid.size.side)
 faults_above_more grid row =
     let f : ℕ → ℕ = λ r. count_by (is_fault grid r) (range_with_len 0 grid.size.side) in
@@ -47,6 +48,7 @@ mapping_line_parts d region place l =
     let f : region * (d + 2) + (place + 1) - 2 * region - 1 ≡ region * d + place = omega arith in
     ap (λ q. region * (d + 2) + (place + 1) - 2 * q - 1) e ∙ f
 
+-- A line with place p + 1 in the square of a region, p being below the region's side, lies inside the region.
 inner_parts : (d region place : ℕ) → place < d → is_inner_line d (region * (d + 2) + (place + 1)) ≡ true
 inner_parts d region place l = ap (λ r. not (nat_eq r 0 || nat_eq r (d + 1))) (mod-mul-add region (d + 2) (place + 1) (omega arith)) ∙ inside (place + 1) (omega arith) (omega arith)
   where
@@ -63,6 +65,7 @@ pub record IsMapped (s : SizeRow) (line : ℕ) : Type 0 where
   pub inner : is_inner_line s.region_side (symbol_line s.region_side line) ≡ true
   pub back : mapping_line s.region_side (symbol_line s.region_side line) ≡ line
 
+-- Each line of the mapping square lies in the symbol, inside a region, and is found again from there.
 pub mapped_line : (s : SizeRow) (line : ℕ) → IsRow s → line < s.mapping → IsMapped s line
 mapped_line s line h l =
     let facts = row_facts s h in
@@ -85,6 +88,7 @@ pub record IsFromMapping (s : SizeRow) (line : ℕ) : Type 0 where
   pub below : mapping_line s.region_side line < s.mapping
   pub back : symbol_line s.region_side (mapping_line s.region_side line) ≡ line
 
+-- Each line of the symbol that lies inside a region holds a line of the mapping square.
 pub inner_line : (s : SizeRow) (line : ℕ) → IsRow s → line < s.side → is_inner_line s.region_side line ≡ true → IsFromMapping s line
 inner_line s line h l inner =
     let facts = row_facts s h in
@@ -141,6 +145,7 @@ pub record IsImage (s : SizeRow) (r c : ℕ) : Type 0 where
   pub row : IsFromMapping s r
   pub column : IsFromMapping s c
 
+-- Each cell of the symbol that belongs to no border is where a cell of the mapping square lies.
 pub image_of_mapping : (s : SizeRow) (row column : ℕ) → IsRow s → row < s.side → column < s.side → is_border s row column ≡ false → IsImage s row column
 image_of_mapping s r c h lr lc e =
     let both = and_parts (is_inner_line s.region_side r) (is_inner_line s.region_side c) (not_false (is_inner_line s.region_side r && is_inner_line s.region_side c) (sym (border_by_lines s r c) ∙ e)) in

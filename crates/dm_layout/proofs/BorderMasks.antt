@@ -71,7 +71,8 @@ same_count (suc n) f g same =
 
 -- ---- the cells that differ from their colour, among some
 
--- Of three binary digits, the sum of two masked by the third is 1 exactly where the third is 1 and the two differ.
+-- Of three binary digits, the exclusive or of two, masked by the third,
+-- is 1 exactly where the third is 1 and the two differ.
 differ : (x y m : ℕ) → x < 2 → y < 2 → m < 2 → nat_eq (min ((x + y) % 2) m) 1 ≡ nat_eq m 1 && not (beq (nat_eq x 1) (nat_eq y 1))
 differ zero zero zero a b c = refl
 differ zero zero (suc zero) a b c = refl
@@ -128,8 +129,8 @@ stands c a s = by_start (cases_lt c (a * s))
         by_end (inl l) = inr (inl (c - a * s, omega arith, omega arith))
         by_end (inr k) = inr (inr k)
 
--- In the first a squares, each of the lines 0 to `last`, the one row is
--- dark in the left columns and the other in the left and right columns.
+-- The row `left` is dark in the left columns of the first a squares, and `both` in their left and right columns; the
+-- columns of a square are 0 to `last`.
 pub record AreRuled (last a left both : ℕ) : Type 0 where
   pub left_columns : (c : ℕ) → is_dark_in left c ≡ nat_lt c (a * (last + 1)) && nat_eq (c % (last + 1)) 0
   pub both_columns : (c : ℕ) → is_dark_in both c ≡ nat_lt c (a * (last + 1)) && (nat_eq (c % (last + 1)) 0 || nat_eq (c % (last + 1)) last)

@@ -13,6 +13,7 @@ all_cells n = flat_map (cells_of n) (shapes n)
 abbrev pub entry : List ℕ → ℕ → ℕ → ℕ
 entry t r c = get_or t r 0 / 2 ^ (14 * c) % 2 ^ 14
 
+-- A cell's entry is added to a table in which it was 0.
 abbrev pub enter : List ℕ → ℕ → ℕ → ℕ → List ℕ
 enter t r c x = set t r (get_or t r 0 + x * 2 ^ (14 * c))
 

@@ -49,6 +49,7 @@ line_from_end s k h l =
 pub last_line : (s : SizeRow) → IsRow s → symbol_line s.region_side (s.mapping - 1) ≡ s.side - 2
 last_line s h = let facts = row_facts s h in line_from_end s 0 h (omega (arith, facts.least))
 
+-- The last line but one of the mapping square lies in the last line but two of the symbol.
 pub line_before_last : (s : SizeRow) → IsRow s → symbol_line s.region_side (s.mapping - 2) ≡ s.side - 3
 line_before_last s h = let facts = row_facts s h in line_from_end s 1 h (omega (arith, facts.least))
 

@@ -70,6 +70,7 @@ same_rows n xs ys hx hy wx wy cells =
 abbrev pub grid_from : SizeRow → List (List Bool) → GridView
 grid_from size rows = record { size = size; rows = rows }
 
+-- Grids of equal sizes with equal rows are equal.
 pub same_parts : (s t : SizeRow) (xs ys : List (List Bool)) → s ≡ t → xs ≡ ys → grid_from s xs ≡ grid_from t ys
 same_parts s t xs ys p q = cc
 

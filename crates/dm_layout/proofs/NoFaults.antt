@@ -16,6 +16,7 @@ IsBordered grid =
 
 -- ---- sums of nothing
 
+-- A test that each number of a range passes is passed by the range.
 all_from : (f : ℕ → Bool) (from len : ℕ) → ((x : ℕ) → x < len → f (from + x) ≡ true) → list_all f (range_with_len from len) ≡ true
 all_from f from zero h = refl
 all_from f from (suc len) h =
@@ -25,11 +26,13 @@ all_from f from (suc len) h =
     subst (λ (j : ℕ). f j ≡ true) e (h (suc x) (omega arith))) in
     rw (first, rest) refl
 
+-- Where the sum over a range is 0, so is each of its summands.
 sum_at : (f : ℕ → ℕ) (len x : ℕ) → sum_by f (range_with_len 0 len) ≡ 0 → x < len → f x ≡ 0
 sum_at f len x h l =
     let t : list_all (λ (i : ℕ). nat_eq (f i) 0) (range_with_len 0 len) ≡ true = sym (sum_by-zero f (range_with_len 0 len)) ∙ eq-eqb (sum_by f (range_with_len 0 len)) 0 h in
     eqb-true _ _ (subst (λ (j : ℕ). nat_eq (f j) 0 ≡ true) (zero-add x) (all_at (λ (i : ℕ). nat_eq (f i) 0) 0 len x t l))
 
+-- Where each summand over a range is 0, so is the sum.
 sum_from : (f : ℕ → ℕ) (len : ℕ) → ((x : ℕ) → x < len → f x ≡ 0) → sum_by f (range_with_len 0 len) ≡ 0
 sum_from f len h =
     let t : list_all (λ (i : ℕ). nat_eq (f i) 0) (range_with_len 0 len) ≡ true =
@@ -38,9 +41,11 @@ sum_from f len h =
 
 -- ---- one cell
 
+-- A cell counts 1 if it is a border cell whose colour differs from the right one, and else 0.
 abbrev fault_of : Bool → Bool → Bool → ℕ
 fault_of b x y = cond (b && not (beq x y)) 1 0
 
+-- A border cell that counts 0 has the right colour.
 fault_none : (b x y : Bool) → fault_of b x y ≡ 0 → b ≡ true → x ≡ y
 fault_none true true true h e = refl
 fault_none true true false h e = absurd (omega arith)
@@ -48,6 +53,7 @@ fault_none true false true h e = absurd (omega arith)
 fault_none true false false h e = refl
 fault_none false x y h e = cc
 
+-- A cell counts 0 if it has the right colour or is no border cell.
 none_fault : (b x y : Bool) → (b ≡ true → x ≡ y) → fault_of b x y ≡ 0
 none_fault true true true h = refl
 none_fault true true false h = let e : true ≡ false = h refl in cc
@@ -57,12 +63,14 @@ none_fault false x y h = refl
 
 -- ---- the whole grid
 
+-- A grid whose border cells have their colours has no border fault.
 pub no_faults : (grid : GridView) → IsBordered grid → border_fault_count grid ≡ 0
 no_faults grid h =
     sum_from (λ (row : ℕ). count_by (is_fault grid row) (range_with_len 0 grid.size.side)) grid.size.side (λ row lr.
     sum_from (λ (column : ℕ). cond (is_fault grid row column) 1 0) grid.size.side (λ column lc.
     none_fault (is_border grid.size row column) (cell_at grid row column) (border_is_dark grid.size row column) (h row column lr lc)))
 
+-- In a grid without border faults the border cells have their colours.
 pub bordered_of_no_faults : (grid : GridView) → border_fault_count grid ≡ 0 → IsBordered grid
 bordered_of_no_faults grid h row column lr lc b =
     let r : count_by (is_fault grid row) (range_with_len 0 grid.size.side) ≡ 0 =

@@ -13,12 +13,14 @@ use Rattle.dm_layout.specs.Placement.{At, shapes, cells_of, place, IsPlace, NoPl
 use Rattle.dm_layout.proofs.Ranges.{all_at}
 use Rattle.dm_layout.proofs.CellTables.{all_cells, entry, agree, cell_test, one_cell, tables_agree, placement_test}
 
+-- The cell of place k lies in the square, and the two tables undo each other there.
 record Agrees (n : ℕ) (p q : List ℕ) (k : ℕ) (x : Cell) : Type 0 where
   row_in : x.row < n
   column_in : x.column < n
   back : entry p x.row x.column ≡ suc k
   forth : entry q (k / 128) (k % 128) ≡ x.row * n + x.column
 
+-- Where the tables pass their test at a list of cells, they do at the first of them and at the others.
 agrees_here : (n : ℕ) (p q : List ℕ) (k : ℕ) (x : Cell) (rest : List Cell) → agree n p q k (x ∷ rest) ≡ true → Agrees n p q k x × (agree n p q (suc k) rest ≡ true)
 agrees_here n p q k x rest h =
     let both = and_parts _ _ h in
@@ -27,6 +29,7 @@ agrees_here n p q k x rest h =
     let a = and_parts _ _ ab.0 in
     (record { row_in = ltb-true x.row n a.0; column_in = ltb-true x.column n a.1; back = eqb-true _ _ ab.1; forth = eqb-true _ _ abc.1 }, both.1)
 
+-- Where the tables pass their test at a list of cells, they undo each other at each of them.
 agrees_at : (n : ℕ) (p q : List ℕ) (k : ℕ) (ps : List Cell) (i : ℕ) (d : Cell) → agree n p q k ps ≡ true → i < length ps → Agrees n p q (k + i) (get_or ps i d)
 agrees_at n p q k [] i d h l = absurd (omega arith)
 agrees_at n p q k (x ∷ ps) zero d h l = subst (λ (j : ℕ). Agrees n p q j x) (sym (add-zero k)) (agrees_here n p q k x ps h).0
@@ -34,6 +37,7 @@ agrees_at n p q k (x ∷ ps) (suc i) d h l =
     let e : suc k + i ≡ k + suc i = omega arith in
     subst (λ (j : ℕ). Agrees n p q j (get_or ps i d)) e (agrees_at n p q (suc k) ps i d (agrees_here n p q k x ps h).1 (omega arith))
 
+-- A shape has eight cells.
 pub eight : (n : ℕ) (s : Shape) → length (cells_of n s) ≡ 8
 eight n (Standard r c) = refl
 eight n Corner1 = refl
@@ -41,6 +45,7 @@ eight n Corner2 = refl
 eight n Corner3 = refl
 eight n Corner4 = refl
 
+-- Shapes have eight cells each.
 flat_length : (n : ℕ) (xs : List Shape) → length (flat_map (cells_of n) xs) ≡ 8 * length xs
 flat_length n [] = refl
 flat_length n (x ∷ xs) =
@@ -49,10 +54,12 @@ flat_length n (x ∷ xs) =
     let c = flat_length n xs in
     omega (arith, a, b, c)
 
+-- The square has eight times as many places as shapes.
 pub length-all_cells : (n : ℕ) → length (all_cells n) ≡ 8 * length (shapes n)
 unfolding all_cells
 length-all_cells n = flat_length n (shapes n)
 
+-- Place 8 * w + b, b being below 8, lies in cell b of the shape of codeword w.
 all_cells-at : (n w b : ℕ) → w < length (shapes n) → b < 8 → get_or (all_cells n) (8 * w + b) (At 0 0) ≡ get_or (cells_of n (get_or (shapes n) w Corner1)) b (At 0 0)
 unfolding all_cells
 all_cells-at n w b lw lb =
@@ -63,9 +70,11 @@ all_cells-at n w b lw lb =
     let g = get_or-flat_map (cells_of n) (shapes n) w b Corner1 (At 0 0) lw k in
     subst (λ (j : ℕ). get_or (flat_map (cells_of n) (shapes n)) (j + b) (At 0 0) ≡ get_or (cells_of n (get_or (shapes n) w Corner1)) b (At 0 0)) e g
 
+-- A cell is given by its row and its column.
 same_cell : (x : Cell) (r c : ℕ) → x.row ≡ r → x.column ≡ c → x ≡ At r c
 same_cell x r c e f = ap (λ (j : ℕ). At j x.column) e ∙ ap (λ (j : ℕ). At r j) f
 
+-- A positive number is the successor of the number before it.
 from_pos : (m : ℕ) → 0 < m → m ≡ suc (m - 1)
 from_pos m h = omega arith
 
@@ -150,6 +159,7 @@ module _ (n : ℕ) (p q : List ℕ) (ok : tables_agree n (all_cells n) p q ≡ t
   by_tables : EachCellOnce n
   by_tables = record { once = at_any; inside = inside_square }
 
+-- Where the computed test passes, each cell outside the fixed square holds exactly one bit.
 pub each_cell_once : (n : ℕ) → placement_test n ≡ true → EachCellOnce n
 unfolding placement_test
 each_cell_once n ok = by_tables n _ _ ok

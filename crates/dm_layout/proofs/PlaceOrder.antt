@@ -17,6 +17,7 @@ use Rattle.dm_layout.proofs.OnePlace.{eight}
 abbrev pub lies_in : ℕ → ℕ → Cell → Place
 lies_in w b x = record { word = w; bit = b; row = x.row; column = x.column }
 
+-- The places of a codeword's bits are listed by bit.
 bits_at : (w k : ℕ) (xs : List Cell) (b : ℕ) (d : Place) → b < length xs → get_or (bits_from w k xs) b d ≡ lies_in w (k + b + 1) (get_or xs b (At 0 0))
 bits_at w k [] b d l = absurd (omega arith)
 bits_at w k (x ∷ xs) zero d l = ap (λ (j : ℕ). lies_in w (j + 1) x) (sym (add-zero k))
@@ -24,10 +25,12 @@ bits_at w k (x ∷ xs) (suc b) d l =
     let e : suc k + b ≡ k + suc b = omega arith in
     bits_at w (suc k) xs b d (omega arith) ∙ ap (λ (j : ℕ). lies_in w (j + 1) (get_or xs b (At 0 0))) e
 
+-- A codeword has as many places as it has cells.
 length-bits : (w k : ℕ) (xs : List Cell) → length (bits_from w k xs) ≡ length xs
 length-bits w k [] = refl
 length-bits w k (x ∷ xs) = ap suc (length-bits w (suc k) xs)
 
+-- The places of codewords are eight times as many as their shapes.
 pub length-places_from : (n w : ℕ) (ss : List Shape) → length (places_from n w ss) ≡ 8 * length ss
 length-places_from n w [] = refl
 length-places_from n w (s ∷ ss) =
@@ -37,6 +40,7 @@ length-places_from n w (s ∷ ss) =
     let c = length-places_from n (suc w) ss in
     omega (arith, a, b, c, e)
 
+-- Place 8 * j + b in the list, b being below 8, is that of bit b + 1 of the codeword with the j-th shape.
 places_from-at : (n w : ℕ) (ss : List Shape) (j b : ℕ) (d : Place) → j < length ss → b < 8 → get_or (places_from n w ss) (8 * j + b) d ≡ lies_in (w + j) (b + 1) (get_or (cells_of n (get_or ss j Corner1)) b (At 0 0))
 places_from-at n w [] j b d l lb = absurd (omega arith)
 places_from-at n w (s ∷ ss) zero b d l lb =
@@ -59,6 +63,7 @@ places_from-at n w (s ∷ ss) (suc j) b d l lb =
     ∙ places_from-at n (suc w) ss j b d (omega arith) lb
     ∙ ap (λ (i : ℕ). lies_in i (b + 1) (get_or (cells_of n (get_or ss j Corner1)) b (At 0 0))) y
 
+-- The list of all places has eight of them for each shape.
 pub length-places_in_order : (n : ℕ) → length (places_in_order n) ≡ 8 * length (shapes n)
 unfolding places_in_order
 length-places_in_order n = length-places_from n 0 (shapes n)
@@ -80,10 +85,12 @@ abbrev pub ArePlaces : ℕ → List Place → Type 0
 ArePlaces n [] = Unit {0}
 ArePlaces n (p ∷ rest) = IsPlace n p.word p.bit (At p.row p.column) × ArePlaces n rest
 
+-- Each of a list's items is a place if each is at its index.
 places_by_index : (n : ℕ) (ps : List Place) → ((i : ℕ) (d : Place) → i < length ps → IsPlace n (get_or ps i d).word (get_or ps i d).bit (At (get_or ps i d).row (get_or ps i d).column)) → ArePlaces n ps
 places_by_index n [] h = tt
 places_by_index n (p ∷ ps) h = (h 0 p (omega arith), places_by_index n ps (λ i d l. h (suc i) d (omega arith)))
 
+-- Each item of the list of all places is a place.
 pub all_are_places : (n : ℕ) → ArePlaces n (places_in_order n)
 all_are_places n = places_by_index n (places_in_order n) (λ i d l.
     let c = length-places_in_order n in
@@ -98,6 +105,7 @@ all_are_places n = places_by_index n (places_in_order n) (λ i d l.
 
 -- ---- a cell holds one bit
 
+-- A cell holds at most one bit.
 pub one_bit : (n : ℕ) (r c w b v e : ℕ) → EachCellOnce n → IsPlace n w b (At r c) → IsPlace n v e (At r c) → (v ≡ w) × (e ≡ b)
 one_bit n r c w b v e law p q =
     let inside = law.inside w b (At r c) p in
@@ -122,6 +130,7 @@ some_bit n r c law lr lc f = MatchBool-at_false (NoPlace n (At r c)) (OnePlace n
 
 -- ---- the list of all places
 
+-- The list of all places has them by codeword and then by bit.
 pub is_place_list : (n : ℕ) → IsPlaceList n (places_in_order n)
 is_place_list n = record {
   count = length-places_in_order n;

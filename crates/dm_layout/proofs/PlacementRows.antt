@@ -25,27 +25,33 @@ at_row P s h row = at_found P (λ r. nat_eq r.side s.side) size_table s h row
 
 -- ---- the laws
 
+-- In the mapping square of each size, each cell outside the fixed square holds exactly one bit.
 pub each_size_once : All (λ size. EachCellOnce size.mapping) size_table
 each_size_once =
     All-weaker (λ (size : SizeRow). placement_test size.mapping ≡ true) (λ size. EachCellOnce size.mapping) (λ size h. each_cell_once size.mapping h) size_table
     (All-from_recursion (λ (size : SizeRow). placement_test size.mapping ≡ true) size_table placement.tested)
 
+-- Each size has as many shapes as codewords.
 pub each_size_counted : All (λ size. length (shapes size.mapping) ≡ codeword_count size) size_table
 each_size_counted = All-from_recursion (λ (size : SizeRow). length (shapes size.mapping) ≡ codeword_count size) size_table walked.counted
 
+-- The sweep of a size passes its tests: it places the shapes of the closed form, and ends.
 abbrev IsSwept : SizeRow → Type 0
 IsSwept size = (same_shapes (sweep size.mapping) (shapes size.mapping) ≡ true) × (is_done (size.mapping * size.mapping) size.mapping Corner (pos 4) (pos 0) ≡ true)
 
+-- Where each row has one property and each has another, each row has both.
 both_parts : (P Q : SizeRow → Type 0) (rows : List SizeRow) → AllByRecursion P rows → AllByRecursion Q rows → AllByRecursion (λ (s : SizeRow). P s × Q s) rows
 both_parts P Q [] h g = tt
 both_parts P Q (r ∷ rows) h g = ((h.0, g.0), both_parts P Q rows h.1 g.1)
 
+-- A sweep that passes its tests places the shapes of the closed form, and ends.
 sweeps_once : (size : SizeRow) → IsSwept size → Sweeps size.mapping (shapes size.mapping)
 sweeps_once size h = record {
   places = shapes_equal (sweep size.mapping) (shapes size.mapping) h.0;
   ends = λ more. sweep-more size.mapping more h.1;
 }
 
+-- The sweep of each size places the shapes of the closed form, and ends.
 pub each_size_swept : All (λ size. Sweeps size.mapping (shapes size.mapping)) size_table
 each_size_swept =
     All-weaker IsSwept (λ size. Sweeps size.mapping (shapes size.mapping)) sweeps_once size_table
@@ -55,12 +61,15 @@ each_size_swept =
 
 -- ---- at one size
 
+-- In the mapping square of a size, each cell outside the fixed square holds exactly one bit.
 pub once_at_row : (s : SizeRow) → IsRow s → EachCellOnce s.mapping
 once_at_row s row = each_cell_once s.mapping (at_row (λ size. placement_test size.mapping ≡ true) s placement.tested row)
 
+-- A size has as many shapes as codewords.
 pub count_at_row : (s : SizeRow) → IsRow s → length (shapes s.mapping) ≡ codeword_count s
 count_at_row s row = at_row (λ size. length (shapes size.mapping) ≡ codeword_count size) s walked.counted row
 
+-- The walk of a size has the shapes of the closed form to place.
 pub walk_at_row : (s : SizeRow) → IsRow s → shapes_left (walk_of s.mapping) ≡ shapes s.mapping
 walk_at_row s row =
     shapes_equal (shapes_left (walk_of s.mapping)) (shapes s.mapping)
@@ -70,15 +79,18 @@ walk_at_row s row =
 abbrev bounds_test : SizeRow → Bool
 bounds_test s = nat_le 8 s.mapping && nat_le s.mapping largest_mapping && nat_le (codeword_count s) 2000
 
+-- Each row of the table passes the test of its bounds.
 bounds_pass : list_all bounds_test size_table ≡ true
 unfolding size_table
 bounds_pass = refl
 
+-- The mapping side of a size is neither too small nor too large, and its codewords are at most 2000.
 pub record MappingBounds (s : SizeRow) : Type 0 where
   pub low : 8 ≤ s.mapping
   pub high : s.mapping ≤ largest_mapping
   pub words : codeword_count s ≤ 2000
 
+-- The bounds hold for each size.
 pub bounds_at_row : (s : SizeRow) → IsRow s → MappingBounds s
 bounds_at_row s row =
     let t = at_row (λ (r : SizeRow). bounds_test r ≡ true) s

@@ -33,6 +33,7 @@ gathered look a (p ∷ rest) =
 abbrev pub word_of : (ℕ → ℕ → Bool) → List Cell → ℕ
 word_of look xs = number_of 0 (map (λ x. look x.row x.column) xs)
 
+-- The codeword of the first shape is gathered first, and then those at the places after it.
 one_word : (look : ℕ → ℕ → Bool) (n w : ℕ) (sh : Shape) (rest : List Place) → gathered look 0 (bits_from w 0 (cells_of n sh) ++ rest) ≡ word_of look (cells_of n sh) ∷ gathered look 0 rest
 one_word look n w (Standard r c) rest = refl
 one_word look n w Corner1 rest = refl
@@ -40,20 +41,24 @@ one_word look n w Corner2 rest = refl
 one_word look n w Corner3 rest = refl
 one_word look n w Corner4 rest = refl
 
+-- At the places of some shapes, the codewords of these shapes are gathered.
 gathered_words : (look : ℕ → ℕ → Bool) (n w : ℕ) (ss : List Shape) → gathered look 0 (places_from n w ss) ≡ map (λ sh. word_of look (cells_of n sh)) ss
 gathered_words look n w [] = refl
 gathered_words look n w (sh ∷ ss) =
     one_word look n w sh (places_from n (suc w) ss) ∙ ap (λ (r : List ℕ). word_of look (cells_of n sh) ∷ r) (gathered_words look n (suc w) ss)
 
+-- At all places of the square, the codewords of all its shapes are gathered.
 pub gathered_all : (look : ℕ → ℕ → Bool) (n : ℕ) → gathered look 0 (places_in_order n) ≡ map (λ sh. word_of look (cells_of n sh)) (shapes n)
 unfolding places_in_order
 gathered_all look n = gathered_words look n 0 (shapes n)
 
+-- As many codewords are gathered as there are shapes.
 pub length-gathered : (look : ℕ → ℕ → Bool) (n : ℕ) → length (gathered look 0 (places_in_order n)) ≡ length (shapes n)
 length-gathered look n = ap length (gathered_all look n) ∙ simp length-map
 
 -- ---- the bits of a gathered word
 
+-- The codeword that is read at the cells of a shape has the bits that are seen there.
 bit_in : (look : ℕ → ℕ → Bool) (n : ℕ) (sh : Shape) (bit : ℕ) → 1 ≤ bit → bit ≤ 8 →
     nat_eq (word_of look (cells_of n sh) / 2 ^ (8 - bit) % 2) 1 ≡ look (get_or (cells_of n sh) (bit - 1) (At 0 0)).row (get_or (cells_of n sh) (bit - 1) (At 0 0)).column
 bit_in look n sh bit lo hi =

@@ -34,6 +34,7 @@ shape_again Corner4 = refl
 abbrev pub same_shape : Shape → Shape → Bool
 same_shape x y = pointwise nat_eq (numbers_of x) (numbers_of y)
 
+-- Shapes whose numbers agree are equal.
 shape_equal : (x y : Shape) → same_shape x y ≡ true → x ≡ y
 shape_equal x y h = sym (shape_again x) ∙ ap shape_of (same_text (numbers_of x) (numbers_of y) (sym h)) ∙ shape_again y
 

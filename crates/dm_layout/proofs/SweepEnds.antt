@@ -26,13 +26,15 @@ same_choice : (t : Bool) (a b c d : List Shape) (p q : Bool) → elim t as (λ _
 same_choice true a b c d p q h f g = f h
 same_choice false a b c d p q h f g = g h
 
--- The two halves of a turn end by these tests.
+-- The upward half of a turn ends by this test.
 abbrev up_ends : ℕ → ℤ → ℤ → Bool
 up_ends n r c = int_lt (r -ℤ pos 2) (pos 0) || int_le (pos n) (c +ℤ pos 2)
 
+-- The downward half of a turn ends by this test.
 abbrev down_ends : ℕ → ℤ → ℤ → Bool
 down_ends n r c = int_le (pos n) (r +ℤ pos 2) || int_lt (c -ℤ pos 2) (pos 0)
 
+-- Once the turns have ended, further moves come by no more shapes.
 pub comes_by-more : (k j n : ℕ) (part : Part) (r c : ℤ) (more : ℕ) → j ≡ k + more → is_done k n part r c ≡ true → comes_by j n part r c ≡ comes_by k n part r c
 unfolding comes_by is_done
 comes_by-more zero j n part r c more e h = cc
@@ -62,6 +64,7 @@ comes_by-more (suc k) (suc j) n Downwards r c more e h =
     (λ g. comes_by-more k j n Corner (r +ℤ pos 2 +ℤ pos 3) (c -ℤ pos 2 +ℤ pos 1) more f g)
     (λ g. comes_by-more k j n Downwards (r +ℤ pos 2) (c -ℤ pos 2) more f g))
 
+-- Once the turns have ended, further moves place no more shapes.
 pub sweep-more : (n more : ℕ) → is_done (n * n) n Corner (pos 4) (pos 0) ≡ true → sweep_within (n * n + more) n ≡ sweep n
 unfolding sweep_within
 sweep-more n more h = ap (placed n (nothing_filled n)) (comes_by-more (n * n) (n * n + more) n Corner (pos 4) (pos 0) more refl h)

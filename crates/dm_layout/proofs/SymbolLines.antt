@@ -11,12 +11,14 @@ use Rattle.dm_layout.proofs.TableRows.{row_facts}
 pub symbol_line-form : (d r : ℕ) → 8 ≤ d → symbol_line d r ≡ r / d * (d + 2) + (r % d + 1)
 symbol_line-form d r h = let p : 0 < d = omega arith in omega arith
 
+-- A line of the mapping square has, in its region's square, a place one further than in its region.
 pub symbol_line-mod : (d r : ℕ) → 8 ≤ d → symbol_line d r % (d + 2) ≡ r % d + 1
 symbol_line-mod d r h =
     let p : 0 < d = omega arith in
     let l : r % d + 1 < d + 2 = omega arith in
     ap (λ (x : ℕ). x % (d + 2)) (symbol_line-form d r h) ∙ mod-mul-add (r / d) (d + 2) (r % d + 1) l
 
+-- A line of the mapping square lies in the square of its own region.
 pub symbol_line-div : (d r : ℕ) → 8 ≤ d → symbol_line d r / (d + 2) ≡ r / d
 symbol_line-div d r h =
     let p : 0 < d = omega arith in
@@ -31,6 +33,7 @@ mapping_line-symbol_line d r h = let e = symbol_line-div d r h in omega (arith, 
 pub symbol_line-one : (d r s : ℕ) → 8 ≤ d → symbol_line d r ≡ symbol_line d s → r ≡ s
 symbol_line-one d r s h e = sym (mapping_line-symbol_line d r h) ∙ ap (mapping_line d) e ∙ mapping_line-symbol_line d s h
 
+-- A number is below another if its not being so is refuted.
 lt_cases : (a k : ℕ) (b : Bool) → nat_lt a k ≡ b → (k ≤ a → ⊥) → a < k
 lt_cases a k true e f = ltb-true a k e
 lt_cases a k false e f = absurd (f (ltb-false a k e))
@@ -63,6 +66,7 @@ pub record ComesFrom (size : SizeRow) (line : ℕ) : Type 0 where
   pub inside : mapping_line size.region_side line < size.mapping
   pub there : symbol_line size.region_side (mapping_line size.region_side line) ≡ line
 
+-- Each line of the symbol that is neither first nor last in its region's square holds a line of the mapping square.
 pub comes_from : (size : SizeRow) (line : ℕ) → IsRow size → line < size.side → line % (size.region_side + 2) ≢ 0 → line % (size.region_side + 2) ≢ size.region_side + 1 → ComesFrom size line
 comes_from size line row l first last =
     let facts = row_facts size row in

@@ -15,6 +15,7 @@ found_case P y x o true h k e =
     subst P g h
 found_case P y x o false h k e = k e
 
+-- What holds of each item of a list holds of the one that is found.
 pub at_found : {X : Type 0} (P : X → Type 0) (p : X → Bool) (xs : List X) (x : X) → AllByRecursion P xs → find p xs ≡ Some x → P x
 at_found P p [] x h e = cc
 at_found P p (y ∷ ys) x h e = found_case P y x (find p ys) (p y) h.0 (at_found P p ys x h.1) e
@@ -37,6 +38,7 @@ found_row side s h =
 
 -- ---- the facts of a row, tested over the whole table
 
+-- The numbers of a row pass a test of how they are related.
 abbrev pub row_test : SizeRow → Bool
 row_test s =
     nat_le 1 (regions_across s) && nat_le 8 s.region_side && nat_eq (s.region_side % 2) 0
@@ -60,15 +62,18 @@ pub record RowFacts (s : SizeRow) : Type 0 where
   pub short : block_length s ≤ 255
   pub parts : block_data s + block_check s ≡ block_length s
 
+-- Each row of the table passes the test, as the checker computes.
 table_passes : list_all row_test size_table ≡ true
 unfolding size_table
 table_passes = refl
 
+-- A size passes the test of its row.
 test_of_row : (s : SizeRow) → IsRow s → row_test s ≡ true
 test_of_row s h =
     at_found (λ r. row_test r ≡ true) (λ r. nat_eq r.side s.side) size_table s
     (recursion_from_All (λ r. row_test r ≡ true) size_table (AllPass-from_list_all row_test size_table table_passes)) h
 
+-- The relations between the numbers of a row hold for each size.
 pub row_facts : (s : SizeRow) → IsRow s → RowFacts s
 row_facts s h =
     let l = and_parts _ (nat_eq (block_data s + block_check s) (block_length s)) (test_of_row s h) in
@@ -108,10 +113,12 @@ abbrev pub Rises : List SizeRow → Type 0
 Rises [] = Unit {0}
 Rises (r ∷ rows) = AllByRecursion (λ (s : SizeRow). r.side ≤ s.side) rows × Rises rows
 
+-- A test whether the sides of these rows rise.
 abbrev pub rises : List SizeRow → Bool
 rises [] = true
 rises (r ∷ rows) = list_all (λ (s : SizeRow). nat_le r.side s.side) rows && rises rows
 
+-- Rows that pass the test have rising sides.
 rises_test : (rows : List SizeRow) → rises rows ≡ true → Rises rows
 rises_test [] h = tt
 rises_test (r ∷ rows) h =
@@ -145,6 +152,7 @@ found_first count (r ∷ rows) size h e = first_case (nat_le count r.data_count)
         ((λ _. subst (λ (q : SizeRow). q.side ≤ r.side) g (omega arith)), weaker rows h.0 g)
     first_case false t e later = ((λ l. absurd (too_large (leb-false _ _ t) l)), later e)
 
+-- The sides of the table pass the test.
 table_rises : rises size_table ≡ true
 unfolding size_table
 table_rises = refl

@@ -43,6 +43,7 @@ begun_more s p b grid row law place h =
     let l = lies_inside s p.row row inside.0 in
     record { square = grid_with_cell grid _ _ b h.square (subst (λ (t : SizeRow). symbol_line s.region_side p.row < t.side) (sym h.same_size) l); same_size = h.same_size }
 
+-- A grid into which any bits are put at their places stays well formed and keeps its size.
 pub begun_all : (s : SizeRow) (words : List ℕ) (ps : List Place) (grid : GridView) → IsRow s → EachCellOnce s.mapping → ArePlaces s.mapping ps → IsBegun s grid → IsBegun s (written s words ps grid)
 begun_all s words [] grid row law are h = h
 begun_all s words (p ∷ rest) grid row law are h =
@@ -53,9 +54,11 @@ abbrev pub Avoids : SizeRow → ℕ → ℕ → List Place → Type 0
 Avoids s u v [] = Unit {0}
 Avoids s u v (p ∷ rest) = (u ≡ symbol_line s.region_side p.row → v ≡ symbol_line s.region_side p.column → ⊥) × Avoids s u v rest
 
+-- What is below the side of the size is below the side of a grid of that size.
 side_of : (s : SizeRow) (grid : GridView) (x : ℕ) → IsBegun s grid → x < s.side → x < grid.size.side
 side_of s grid x h l = subst (λ (t : SizeRow). x < t.side) (sym h.same_size) l
 
+-- A cell in which none of the places lies stays as it was, whatever bits are put.
 pub written-avoided : (s : SizeRow) (words : List ℕ) (ps : List Place) (grid : GridView) (u v : ℕ) → IsRow s → EachCellOnce s.mapping → ArePlaces s.mapping ps → IsBegun s grid → Avoids s u v ps →
     cell_at (written s words ps grid) u v ≡ cell_at grid u v
 written-avoided s words [] grid u v row law are h a = refl

@@ -19,7 +19,7 @@ pub record IsGrid (grid : GridView) : Type 0 where
 abbrev pub cell_at : GridView → ℕ → ℕ → Bool
 cell_at grid row column = get_or (get_or grid.rows row []) column false
 
--- This grid has the given colour at one cell and is the same at all others.
+-- When one cell of a grid is given a colour, all others stay as they are.
 abbrev pub with_cell : GridView → ℕ → ℕ → Bool → GridView
 with_cell grid row column dark = record { size = grid.size; rows = set grid.rows row (set (get_or grid.rows row []) column dark) }
 
