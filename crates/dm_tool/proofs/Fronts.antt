@@ -1,12 +1,12 @@
 -- Cells that are looked at together.
-use Rattle.std.proofs.Common.{◌≡◌, ◌∙◌, ◌+◌, ◌-◌, ◌*◌, ◌%◌, ◌^◌, ◌<◌, ◌≤◌, ℕ, suc, Bool, true, false, not, List, [], ◌∷◌, refl, sym, ap, subst, length, map, get_or, take, drop, bit_and, bit_or, ◌≢◌, arith, w8, Fits}
+use Rattle.std.proofs.Common.{◌≡◌, ◌∙◌, ◌+◌, ◌-◌, ◌*◌, ◌%◌, ◌^◌, ◌<◌, ◌≤◌, ℕ, suc, Bool, true, false, not, List, [], ◌∷◌, ◌++◌, refl, sym, ap, subst, length, length-append, map, get_or, take, drop, bit_and, bit_or, ◌≢◌, arith, w8, Fits}
 use Rattle.std.specs.Prelude.{◌==◌, ◌||◌}
 use Rattle.std.specs.List.{list_all, list_any, prefix_len, range_with_len}
 use Rattle.std.specs.Simd.Lanes.{mask_l, chunk, Each1}
 use Rattle.std.proofs.Math.Nat.{mod-eq_of_lt, one-mul, zero-add}
 use Rattle.std.proofs.Math.Pow.{pow_mono}
 use Rattle.std.proofs.lemmas.List.{length-take-le, take-append-drop, take-take}
-use Rattle.std.proofs.lemmas.List.Folds.{list_all_at}
+use Rattle.std.proofs.lemmas.List.Folds.{list_all_at, list_any-append}
 use Rattle.std.proofs.lemmas.List.FromFn.{get_or-range_with_len, length-range_with_len}
 use Rattle.std.proofs.lemmas.List.Sums.{prefix_len-le-length}
 use Rattle.std.proofs.lemmas.Nat.{and_mask, mod-mul-add, pow_pos}
@@ -14,9 +14,12 @@ use Rattle.std.proofs.lemmas.Simd.{length-chunk, get_or-chunk, Each1-from_get_or
 use Rattle.dm_tool.specs.Texts.{HasNoLf}
 use Rattle.dm_tool.specs.Records.{is_foreign}
 use Rattle.dm_tool.specs.declared.front.Front.{Front}
-use Rattle.dm_tool.specs.inner.OpenRecords.{IsFrontOf, digit_of, is_dark, number_of}
+use Rattle.dm_tool.specs.inner.OpenRecords.{AreCells, IsFrontOf, digit_of, is_dark, number_of}
+use Rattle.std.proofs.Math.Seq.{take-add}
+use Rattle.dm_tool.proofs.KnownBytes.{rest_is}
+use Rattle.dm_tool.proofs.Pieces.{rest_length}
 use Rattle.dm_tool.proofs.RecordSteps.{or_cases}
-use Rattle.dm_tool.proofs.KeptRows.{number_more, number_small}
+use Rattle.dm_tool.proofs.KeptRows.{number_more, number_put, number_small}
 
 -- the number of a line is the mask of its dark cells
 pub number_is_mask : (line : List ℕ) → number_of line ≡ mask_l (map is_dark line)
@@ -88,33 +91,70 @@ cells_no_lf (b ∷ more) e =
 -- ---- the front of a text
 
 -- it is no longer than a block
-pub front_short : (text : List ℕ) (n : ℕ) → 64 ≤ length text → n ≡ prefix_len is_near (chunk 0 64 text) → n ≤ 64
-front_short text n long e = omega (arith, e, prefix_len-le-length is_near (chunk 0 64 text), length-chunk 0 64 text long)
+pub front_short : (text : List ℕ) (n : ℕ) → 32 ≤ length text → n ≡ prefix_len is_near (chunk 0 32 text) → n ≤ 32
+front_short text n long e = omega (arith, e, prefix_len-le-length is_near (chunk 0 32 text), length-chunk 0 32 text long)
 
--- so many low bits are within 128
-pub mask_within : (n : ℕ) → n ≤ 64 → 1 * 2 ^ n % 2 ^ 128 ≡ 2 ^ n
-mask_within n le = ap (λ (k : ℕ). k % 2 ^ 128) (one-mul (2 ^ n)) ∙ mod-eq_of_lt (omega (arith, pow_mono le))
+-- so many low bits are within 64
+pub mask_within : (n : ℕ) → n ≤ 32 → 1 * 2 ^ n % 2 ^ 64 ≡ 2 ^ n
+mask_within n le = ap (λ (k : ℕ). k % 2 ^ 64) (one-mul (2 ^ n)) ∙ mod-eq_of_lt (omega (arith, pow_mono le))
 
-pub mask_is : (n : ℕ) → n ≤ 64 → 1 ≤ 1 * 2 ^ n % 2 ^ 128
+pub mask_is : (n : ℕ) → n ≤ 32 → 1 ≤ 1 * 2 ^ n % 2 ^ 64
 mask_is n le = rw (mask_within n le) (pow_pos n)
 
--- what stands at the front is taken
-pub front_is : (text : List ℕ) (n bits : ℕ) → 64 ≤ length text → n ≡ prefix_len is_near (chunk 0 64 text) → bits ≡ mask_l (map is_dark (chunk 0 64 text))
-    → n ≢ 0 → ((i : ℕ) → Fits w8 (get_or text i 0))
-    → IsFrontOf text (let f : Front = record { bits = bit_and bits (1 * 2 ^ n % 2 ^ 128 - 1); count = n } in f)
-front_is text n bits long count is some bytes =
-    let block = chunk 0 64 text in
-    let whole : length block ≡ 64 = length-chunk 0 64 text long in
-    let short : n ≤ 64 = front_short text n long count in
-    let front : take n block ≡ take n text = take-take n 64 text short in
+-- the cells at the front of a text are taken
+pub front_is : (text : List ℕ) (n bits front : ℕ) → 32 ≤ length text → n ≡ prefix_len is_near (chunk 0 32 text) → bits ≡ mask_l (map is_dark (chunk 0 32 text))
+    → front ≡ bit_and bits (1 * 2 ^ n % 2 ^ 64 - 1) → n ≢ 0 → ((i : ℕ) → Fits w8 (get_or text i 0))
+    → IsFrontOf text (let f : Front = record { bits = front; count = n } in f)
+front_is text n bits front long count is masked some bytes =
+    let block = chunk 0 32 text in
+    let whole : length block ≡ 32 = length-chunk 0 32 text long in
+    let short : n ≤ 32 = front_short text n long count in
+    let these : take n block ≡ take n text = take-take n 32 text short in
     record {
       within = omega arith;
       cells = record {
-        bits_are = ap (λ (k : ℕ). bit_and bits (k - 1)) (mask_within n short) ∙ ap (λ (k : ℕ). bit_and k (2 ^ n - 1)) (is ∙ sym (number_is_mask block))
-            ∙ masked_front n block (omega (arith, whole, short)) ∙ ap number_of front;
+        bits_are = masked ∙ ap (λ (k : ℕ). bit_and bits (k - 1)) (mask_within n short) ∙ ap (λ (k : ℕ). bit_and k (2 ^ n - 1)) (is ∙ sym (number_is_mask block))
+            ∙ masked_front n block (omega (arith, whole, short)) ∙ ap number_of these;
         count_is = sym (length-take-le n text (omega arith));
         some = omega (arith, some);
-        few = short;
-        cells = ap (list_any is_foreign) (sym front) ∙ ap (λ (k : ℕ). list_any is_foreign (take k block)) count ∙ front_cells block (Each1-from_get_or (Fits w8) block 0 (λ i l. subst (Fits w8) (sym (get_or-chunk 0 64 text i 0 (omega (arith, l, whole)))) (bytes (0 + i))));
+        few = omega (arith, short);
+        cells = ap (list_any is_foreign) (sym these) ∙ ap (λ (k : ℕ). list_any is_foreign (take k block)) count ∙ front_cells block (Each1-from_get_or (Fits w8) block 0 (λ i l. subst (Fits w8) (sym (get_or-chunk 0 32 text i 0 (omega (arith, l, whole)))) (bytes (0 + i))));
       };
     }
+
+-- cells are some characters
+pub cells_some : (characters : List ℕ) (f : Front) → AreCells characters f → characters ≢ []
+cells_some [] f cells none = absurd (omega (arith, cells.some, cells.count_is))
+cells_some (b ∷ characters) f cells none = cc
+
+-- cells, and others after them
+pub joined_cells : (xs ys : List ℕ) (f g : Front) → AreCells xs f → AreCells ys g → f.count + g.count ≤ 128
+    → AreCells (xs ++ ys) (let h : Front = record { bits = bit_or f.bits (g.bits * 2 ^ f.count % 2 ^ 128); count = f.count + g.count } in h)
+joined_cells xs ys f g a b room =
+    let count : f.count + g.count ≡ length (xs ++ ys) = omega (arith, a.count_is, b.count_is, length-append xs ys) in
+    let long : length (xs ++ ys) ≤ 128 = omega (arith, room, count) in
+    let small : number_of ys * 2 ^ length xs < 2 ^ 128 = omega (arith, number_more xs ys, number_small (xs ++ ys), pow_mono long) in
+    record {
+      bits_are = ap (λ (k : ℕ). bit_or k (g.bits * 2 ^ f.count % 2 ^ 128)) a.bits_are
+          ∙ ap (λ (k : ℕ). bit_or (number_of xs) (k * 2 ^ f.count % 2 ^ 128)) b.bits_are
+          ∙ ap (λ (k : ℕ). bit_or (number_of xs) (number_of ys * 2 ^ k % 2 ^ 128)) a.count_is
+          ∙ ap (bit_or (number_of xs)) (mod-eq_of_lt small) ∙ number_put xs ys;
+      count_is = count;
+      some = omega (arith, a.some);
+      few = room;
+      cells = list_any-append is_foreign xs ys ∙ rw (a.cells, b.cells) refl;
+    }
+
+-- the cells at the front of a text, and those at the front of the rest
+pub front_longer : (text : List ℕ) (at : ℕ) (f g h : Front) → IsFrontOf text f → f.count ≡ at → IsFrontOf (take (length text - at) (drop at text)) g
+    → ((xs ys : List ℕ) → AreCells xs f → AreCells ys g → AreCells (xs ++ ys) h) → IsFrontOf text h × (h.count ≡ f.count + g.count)
+front_longer text at f g h a e b both =
+    let rest = take (length text - at) (drop at text) in
+    let cells = both (take f.count text) (take g.count rest) a.cells b.cells in
+    let whole : take f.count text ++ take g.count rest ≡ take (f.count + g.count) text =
+    ap (λ (k : List ℕ). take f.count text ++ take g.count k) (rest_is text at ∙ ap (λ (n : ℕ). drop n text) (sym e)) ∙ sym (take-add f.count g.count text) in
+    let within : f.count + g.count ≤ length text = omega (arith, a.within, b.within, rest_length text at, e) in
+    let count : h.count ≡ f.count + g.count = cells.count_is ∙ ap length whole ∙ length-take-le (f.count + g.count) text within in (
+      record { within = omega (arith, within, count); cells = subst (λ (k : List ℕ). AreCells k h) (whole ∙ ap (λ (n : ℕ). take n text) (sym count)) cells },
+      count,
+    )

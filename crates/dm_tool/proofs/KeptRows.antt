@@ -1,6 +1,6 @@
 -- The rows that are kept of lines.
-use Rattle.std.proofs.Common.{◌≡◌, ◌≢◌, ◌∙◌, ◌+◌, ◌-◌, ◌*◌, ◌/◌, ◌%◌, ◌^◌, ◌<◌, ◌≤◌, ◌⊎◌, ℕ, zero, suc, Bool, true, false, not, nat_eq, List, [], ◌∷◌, ◌++◌, Some, None, refl, sym, ap, subst, append-nil, length, length-append, map, get_or, set, take, drop, arith, inl, inr}
-use Rattle.std.specs.Prelude.{◌==◌, ◌||◌, nat_lt, if◌then◌else◌, slice_index_or, slice_set}
+use Rattle.std.proofs.Common.{◌≡◌, ◌≢◌, ◌∙◌, ◌+◌, ◌-◌, ◌*◌, ◌/◌, ◌%◌, ◌^◌, ◌<◌, ◌≤◌, ◌⊎◌, ℕ, zero, suc, Bool, true, false, not, nat_eq, List, [], ◌∷◌, ◌++◌, Some, None, refl, sym, ap, subst, append-nil, append_assoc, length, length-append, map, get_or, set, take, drop, arith, inl, inr}
+use Rattle.std.specs.Prelude.{◌==◌, ◌||◌, ◌↔◌, IsTrue, nat_lt, if◌then◌else◌, slice_index_or, slice_set}
 use Rattle.std.specs.List.{list_any, refill}
 use Rattle.std.specs.Int.RustNames.{bit_or}
 use Rattle.std.specs.Int.Bits.{or_shifted_r}
@@ -14,11 +14,12 @@ use Rattle.std.proofs.lemmas.List.FromFn.{fill_by_all}
 use Rattle.dm_symbol.specs.Sizes.{largest_side}
 use Rattle.dm_symbol.specs.Grid.{is_dark_in}
 use Rattle.dm_tool.specs.declared.rows.Rows.{Rows}
-use Rattle.dm_tool.specs.Texts.{last_line}
+use Rattle.dm_tool.specs.Texts.{lf, HasNoLf, last_line}
 use Rattle.dm_tool.specs.Records.{is_foreign, has_foreign, is_large, rows_of}
 use Rattle.dm_tool.specs.RecordFacts.{Cells, contents_of, differ, first_length, last_length}
-use Rattle.dm_tool.specs.inner.OpenRecords.{HoldsLines, cells_in, digit_of, is_dark, is_ended, line_count, number_of, rows_in, rows_seen}
-use Rattle.dm_tool.proofs.RecordSteps.{by_tests, same_cells, count_new, last_new, first_new, or_cases, or_false, any_last, long, zero_lines}
+use Rattle.dm_tool.specs.inner.OpenRecords.{EndsLines, HoldsLines, cells_in, digit_of, is_dark, is_ended, line_count, number_of, rows_in, rows_seen}
+use Rattle.dm_tool.proofs.OpenRecordTexts.{ended_more, full_more}
+use Rattle.dm_tool.proofs.RecordSteps.{by_tests, same_cells, count_new, last_new, first_new, or_cases, or_false, or_right, any_last, long, zero_lines}
 
 -- ---- a line as a number
 
@@ -49,7 +50,7 @@ number_more (x ∷ line) more =
     omega (arith, number_more line more, weight)
 
 -- so they are put by bits
-number_put : (line more : List ℕ) → bit_or (number_of line) (number_of more * 2 ^ length line) ≡ number_of (line ++ more)
+pub number_put : (line more : List ℕ) → bit_or (number_of line) (number_of more * 2 ^ length line) ≡ number_of (line ++ more)
 number_put line more = or_shifted_r (number_of more) (length line) (number_of line) (number_small line) ∙ sym (number_more line more)
 
 -- the first cell is the lowest digit
@@ -163,6 +164,13 @@ begin_full t lines (y ∷ ys) h full some =
     let known = without_line t lines h in
     large_line lines (y ∷ ys) (rw (append-nil lines) at h.small)
     ∙ true_or (nat_lt largest_side (length lines + 1)) (long (y ∷ ys)) (lt-ltb largest_side (length lines + 1) (omega (arith, known.1, full)))
+
+-- no room for a line that is too long
+pub begin_long : (t : Rows) (lines : List (List ℕ)) (more : List ℕ) → HoldsLines t lines [] → largest_side < length more → is_large (lines ++ last_line more) ≡ true
+begin_long t lines [] h full = absurd (omega arith)
+begin_long t lines (y ∷ ys) h full =
+    large_line lines (y ∷ ys) (rw (append-nil lines) at h.small)
+    ∙ or_right (nat_lt largest_side (length lines + 1)) (long (y ∷ ys)) (lt-ltb largest_side (length (y ∷ ys)) full)
 
 false_both : (a b : Bool) → a ≡ false → b ≡ false → (a || b) ≡ false
 false_both a b e f = rw (e, f) refl
@@ -343,3 +351,26 @@ begun t e held why = (held.0, subst (HoldsLines t held.0) (begins t held.0 held.
 pub lengthened : (t : Rows) (e : Bool) → Held t e → e ≡ false → line_count t ≢ 0 → (lines : List (List ℕ)) × (x : ℕ) × (rest : List ℕ) × HoldsLines t lines (x ∷ rest)
 lengthened t e held never some =
     let r = continues t held.0 held.1 e held.2 held.3 never some in (held.0, r.0, r.1, subst (HoldsLines t held.0) r.2 held.2)
+
+-- ---- whole lines
+
+-- no line more
+pub ends_none : (t : Rows) (lines : List (List ℕ)) → HoldsLines t lines [] → EndsLines t lines []
+ends_none t lines h = record { more = []; bytes_are = refl; full = tt; held = subst (λ (l : List (List ℕ)). HoldsLines t l []) (sym (append-nil lines)) h }
+
+-- a line more
+pub ends_more : (t u : Rows) (lines : List (List ℕ)) (bytes line : List ℕ) → (e : EndsLines t lines bytes) → line ≢ [] → HasNoLf line
+    → HoldsLines u ((lines ++ e.more) ++ line ∷ []) [] → EndsLines u lines (bytes ++ (line ++ lf ∷ []))
+ends_more t u lines bytes line e some no_lf held = record {
+  more = e.more ++ line ∷ [];
+  bytes_are = ap (λ (k : List ℕ). k ++ (line ++ lf ∷ [])) e.bytes_are ∙ sym (ended_more e.more line);
+  full = full_more e.more line e.full some no_lf;
+  held = subst (λ (l : List (List ℕ)). HoldsLines u l []) (append_assoc lines e.more (line ∷ [])) held;
+}
+
+-- the last byte is LF where there is a line
+pub lines_end : (t : Rows) (lines : List (List ℕ)) (none : Bool) → HoldsLines t lines [] → (IsTrue none ↔ (line_count t ≡ 0)) → not none ≡ is_ended lines []
+lines_end t [] true h by = refl
+lines_end t [] false h by = let never : false ≡ true = by.1 (counted t [] [] h) in cc
+lines_end t (l ∷ lines) true h by = let never = (zero_lines (l ∷ lines) [] (sym (counted t (l ∷ lines) [] h) ∙ by.0 refl)).0 in cc
+lines_end t (l ∷ lines) false h by = refl

@@ -51,10 +51,12 @@ grown_characters text f g lines rest (b ∷ more) known n e h =
     (grown_characters (text ++ b ∷ []) (facts_of_record lines (rest ++ b ∷ [])) g lines (rest ++ b ∷ []) more one n.1 refl
     (h ∙ ap (facts_of_record lines) (sym (append_assoc rest (b ∷ []) more))))
 
-ended_more : (lines : List (List ℕ)) (line : List ℕ) → ended (lines ++ line ∷ []) ≡ ended lines ++ (line ++ lf ∷ [])
+-- the bytes of lines and one more
+pub ended_more : (lines : List (List ℕ)) (line : List ℕ) → ended (lines ++ line ∷ []) ≡ ended lines ++ (line ++ lf ∷ [])
 ended_more lines line = flat_map-append (λ l. l ++ lf ∷ []) lines (line ∷ []) ∙ ap (λ l. ended lines ++ l) (append-nil (line ++ lf ∷ []))
 
-full_more : (lines : List (List ℕ)) (line : List ℕ) → AreFullLines lines → line ≢ [] → HasNoLf line → AreFullLines (lines ++ line ∷ [])
+-- lines that aren't empty and one more
+pub full_more : (lines : List (List ℕ)) (line : List ℕ) → AreFullLines lines → line ≢ [] → HasNoLf line → AreFullLines (lines ++ line ∷ [])
 full_more [] line h n k = ((n, k), tt)
 full_more (l ∷ lines) line h n k = (h.0, full_more lines line h.1 n k)
 
@@ -85,6 +87,22 @@ by_rest text f g lines x r theirs (y ∷ s) old known e h = record {
 pub grown_end : (text : List ℕ) (f g : RecordFacts) (lines : List (List ℕ)) (x : ℕ) (r : List ℕ) → AreRecordFacts text f
     → f ≡ facts_of_record lines (x ∷ r) → g ≡ facts_of_record (lines ++ (x ∷ r) ∷ []) [] → AreRecordFacts (text ++ lf ∷ []) g
 grown_end text f g lines x r known e h = by_rest text f g lines x r known.lines known.rest known.open_record known.facts_are e h
+
+-- whole lines more
+pub grown_lines : (text : List ℕ) (f : RecordFacts) (lines more : List (List ℕ)) → AreRecordFacts text f → f ≡ facts_of_record lines [] → AreFullLines more
+    → AreRecordFacts (text ++ ended more) (facts_of_record (lines ++ more) [])
+grown_lines text f lines [] known e full =
+    subst (λ (l : List ℕ). AreRecordFacts l (facts_of_record (lines ++ []) [])) (sym (append-nil text))
+    (subst (λ (k : RecordFacts). AreRecordFacts text k) (e ∙ ap (λ l. facts_of_record l []) (sym (append-nil lines))) known)
+grown_lines text f lines ([] ∷ more) known e full = absurd (full.0.0 refl)
+grown_lines text f lines ((x ∷ r) ∷ more) known e full =
+    let begun = grown_characters text f (facts_of_record lines (x ∷ r)) lines [] (x ∷ r) known full.0.1 e refl in
+    let one = grown_end (text ++ x ∷ r) (facts_of_record lines (x ∷ r)) (facts_of_record (lines ++ (x ∷ r) ∷ []) []) lines x r begun refl refl in
+    let others = grown_lines ((text ++ x ∷ r) ++ lf ∷ []) (facts_of_record (lines ++ (x ∷ r) ∷ []) []) (lines ++ (x ∷ r) ∷ []) more one refl full.1 in
+    let bytes : ((text ++ x ∷ r) ++ lf ∷ []) ++ ended more ≡ text ++ (((x ∷ r) ++ lf ∷ []) ++ ended more) =
+    ap (λ l. l ++ ended more) (append_assoc text (x ∷ r) (lf ∷ [])) ∙ append_assoc text ((x ∷ r) ++ lf ∷ []) (ended more) in
+    subst (λ (l : List ℕ). AreRecordFacts l (facts_of_record (lines ++ (x ∷ r) ∷ more) [])) bytes
+    (subst (λ (l : List (List ℕ)). AreRecordFacts (((text ++ x ∷ r) ++ lf ∷ []) ++ ended more) (facts_of_record l [])) (append_assoc lines ((x ∷ r) ∷ []) more) others)
 
 lfs_more : (blank : List ℕ) → AreLfs blank → AreLfs (blank ++ lf ∷ [])
 lfs_more [] h = (refl, tt)

@@ -29,6 +29,13 @@ pub go_on_by_one : (text bytes : List ℕ) (i : ℕ) → i < length bytes → (t
 go_on_by_one text bytes i l =
     append_assoc text (take i bytes) (get_or bytes i 0 ∷ []) ∙ ap (λ (k : List ℕ). text ++ k) (sym (take_more bytes i 0 l))
 
+-- what was taken, a line and the byte that ends it
+pub go_on_by_line : (bytes : List ℕ) (at n b : ℕ) → at + n < length bytes → get_or bytes (at + n) 0 ≡ b
+    → take at bytes ++ (take n (take (length bytes - at) (drop at bytes)) ++ b ∷ []) ≡ take (at + n + 1) bytes
+go_on_by_line bytes at n b l e =
+    sym (append_assoc (take at bytes) (take n (take (length bytes - at) (drop at bytes))) (b ∷ []))
+    ∙ ap (λ (k : List ℕ). k ++ b ∷ []) (go_on [] bytes at n) ∙ ap (λ (k : ℕ). take (at + n) bytes ++ k ∷ []) (sym e) ∙ go_on_by_one [] bytes (at + n) l
+
 -- where the end is reached all is taken
 pub all_taken : (text bytes : List ℕ) (i : ℕ) → length bytes ≤ i → text ++ take i bytes ≡ text ++ bytes
 all_taken text bytes i l = ap (λ (k : List ℕ). text ++ k) (take_all i bytes l)

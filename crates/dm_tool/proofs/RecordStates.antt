@@ -1,6 +1,6 @@
 -- How an open record is kept, as it grows.
-use Rattle.std.proofs.Common.{◌≡◌, ◌≢◌, ◌∙◌, ℕ, Bool, true, false, List, [], ◌∷◌, ◌++◌, ◌<◌, refl, sym, ap, subst, append_assoc, append-nil, length, arith}
-use Rattle.std.specs.Prelude.{◌||◌}
+use Rattle.std.proofs.Common.{◌≡◌, ◌≢◌, ◌∙◌, ℕ, ◌⊎◌, Bool, true, false, not, List, [], ◌∷◌, ◌++◌, ◌<◌, refl, sym, ap, subst, append_assoc, append-nil, length, arith}
+use Rattle.std.specs.Prelude.{◌||◌, ◌↔◌, IsTrue}
 use Rattle.std.specs.List.{list_any}
 use Rattle.std.proofs.lemmas.List.Folds.{list_any-append}
 use Rattle.dm_tool.specs.declared.rows.Rows.{Rows}
@@ -9,11 +9,11 @@ use Rattle.dm_tool.specs.declared.record.Contents.TheVariants as kept
 use Rattle.dm_tool.specs.Texts.{lf, HasNoLf, last_line}
 use Rattle.dm_tool.specs.Records.{has_foreign, is_foreign, is_large}
 use Rattle.dm_tool.specs.RecordFacts.{RecordContents, Foreign, Large, Cells, RecordFacts, AreRecordFacts, contents_of, facts_of_record}
-use Rattle.dm_tool.specs.inner.OpenRecords.{AreContents, HoldsLines, IsRecordState, contents_seen, is_ended, line_count, rows_seen}
+use Rattle.dm_tool.specs.inner.OpenRecords.{AreContents, EndsLines, HoldsLines, IsRecordState, contents_seen, is_ended, line_count, rows_seen}
 use Rattle.std.proofs.lemmas.Bool.{eqb-true, eq-eqb}
 use Rattle.dm_tool.proofs.RecordSteps.{any_last, contents_passed, character_is, character_step, contents_end, no_lines, or_cases, same_facts}
-use Rattle.dm_tool.proofs.KeptRows.{seen_is}
-use Rattle.dm_tool.proofs.OpenRecordTexts.{grown_characters, grown_end}
+use Rattle.dm_tool.proofs.KeptRows.{begins, lines_end, seen_is}
+use Rattle.dm_tool.proofs.OpenRecordTexts.{grown_characters, grown_end, grown_lines}
 
 -- the value that is kept
 abbrev pub value : Bool → Contents → RecordFacts
@@ -96,6 +96,33 @@ with_end c d s x r e h = record { lines = s.lines ++ (x ∷ r) ∷ []; rest = []
 -- there is a line that ends
 pub some_rest_kept : (c : Contents) (s : IsRecordState false c) → (no_lines (contents_seen c) ≡ true → ⊥) → (x : ℕ) × (r : List ℕ) × (s.rest ≡ x ∷ r)
 some_rest_kept c s n = some_lines s.lines s.rest s.ended_is (λ e. n (ap no_lines (contents_are c s.lines s.rest s.contents_are) ∙ e))
+
+-- the lines that are kept where no line stands open
+none_begun : (e : Bool) (c : Contents) (t : Rows) (s : IsRecordState e c) → c ≡ kept.Cells t → (e ≡ true) ⊎ (line_count t ≡ 0)
+    → (s.rest ≡ []) × HoldsLines t s.lines []
+none_begun e c t s is why =
+    let held : HoldsLines t s.lines s.rest = subst (λ (k : Contents). AreContents k s.lines s.rest) is s.contents_are in
+    let none = begins t s.lines s.rest e held s.ended_is why in
+    (none, subst (HoldsLines t s.lines) none held)
+
+-- whole lines are kept
+pub lines_kept : (bytes : List ℕ) (e none : Bool) (c : Contents) (t u : Rows) (s : IsRecordState e c) → c ≡ kept.Cells t → (e ≡ true) ⊎ (line_count t ≡ 0)
+    → ((lines : List (List ℕ)) → HoldsLines t lines [] → EndsLines u lines bytes) → (IsTrue none ↔ (line_count u ≡ 0)) → IsRecordState (not none) (kept.Cells u)
+lines_kept bytes e none c t u s is why ends by =
+    let more = ends s.lines (none_begun e c t s is why).1 in
+    record { lines = s.lines ++ more.more; rest = []; ended_is = lines_end u (s.lines ++ more.more) none more.held by; contents_are = more.held }
+
+-- the text is longer by whole lines
+pub lines_by : (text bytes : List ℕ) (f : RecordFacts) (e none : Bool) (c : Contents) (t u : Rows) (s : IsRecordState e c) → c ≡ kept.Cells t → (e ≡ true) ⊎ (line_count t ≡ 0)
+    → ((lines : List (List ℕ)) → HoldsLines t lines [] → EndsLines u lines bytes) → (IsTrue none ↔ (line_count u ≡ 0)) → value e c ≡ f → AreRecordFacts text f
+    → AreRecordFacts (text ++ bytes) (value (not none) (kept.Cells u))
+unfolding lines_kept
+lines_by text bytes f e none c t u s is why ends by seen known =
+    let before = none_begun e c t s is why in
+    let more = ends s.lines before.1 in
+    let facts : f ≡ facts_of_record s.lines [] = sym seen ∙ value_is e c s ∙ ap (facts_of_record s.lines) before.0 in
+    subst (λ (k : RecordFacts). AreRecordFacts (text ++ bytes) k) (sym (value_is (not none) (kept.Cells u) (lines_kept bytes e none c t u s is why ends by)))
+    (subst (λ (l : List ℕ). AreRecordFacts (text ++ l) (facts_of_record (s.lines ++ more.more) [])) (sym more.bytes_are) (grown_lines text f s.lines more.more known facts more.full))
 
 -- marks stay where a line ends
 pub mark_ends : (c : Contents) (lines : List (List ℕ)) (x : ℕ) (r : List ℕ) → ((t : Rows) → c ≢ kept.Cells t) → AreContents c lines (x ∷ r) → AreContents c (lines ++ (x ∷ r) ∷ []) []

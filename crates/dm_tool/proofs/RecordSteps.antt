@@ -82,7 +82,7 @@ pub or_cases : (a b : Bool) → (a || b) ≡ false → (a ≡ false) × (b ≡ f
 or_cases true b e = cc
 or_cases false b e = (refl, e)
 
-or_right : (a b : Bool) → b ≡ true → (a || b) ≡ true
+pub or_right : (a b : Bool) → b ≡ true → (a || b) ≡ true
 or_right true b e = refl
 or_right false b e = e
 

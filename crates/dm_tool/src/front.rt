@@ -1,5 +1,5 @@
-//! The cells at the front of some text, up to 64 at once.
-ghost use Rattle.std.specs.Prelude.{◌≡◌, ◌==◌, ◌∷◌, [], false, map, IfSome};
+//! The cells at the front of some text, up to 128 at once.
+ghost use Rattle.std.specs.Prelude.{◌≡◌, ◌==◌, ◌≤◌, ◌+◌, ◌∷◌, ◌++◌, [], ℕ, false, map, List, IfSome};
 ghost use Rattle.std.specs.Simd.Lanes.{mask_l};
 ghost use Rattle.std.specs.List.{prefix_len};
 ghost use Rattle.std.specs.Int.Bits.{bit_or};
@@ -8,15 +8,18 @@ ghost use Rattle.dm_tool.specs.inner.OpenRecords.{AreCells, IsFrontOf, is_dark};
 
 use std::simd::prelude::*;
 
-/// So many characters are looked at together, and no more cells than that make a front.
-const BLOCK: usize = 64;
+/// So many characters are compared together: with LF a whole line of the smaller sizes.
+const BLOCK: usize = 32;
+
+/// So many blocks may make a front: with LF a whole line of the largest size.
+const MOST_BLOCKS: usize = 4;
 
 /// Some cells of a row, as characters 0 and 1 that follow on one another.
 #[derive(Clone, Copy)]
 pub(crate) struct Front {
     /// The cell of the character `c`, counted from 0, is the bit of weight 2^c, 1 for dark.
     pub(crate) bits: u128,
-    /// How many cells there are: 1 to 64.
+    /// How many cells there are: 1 to 128.
     pub(crate) count: u16,
 }
 
@@ -32,39 +35,77 @@ impl Front {
         }
     }
 
-    /// The cells before the first other byte of a text, or the first 64. None where fewer bytes than that have come, or where the first
-    /// one is no cell.
+    /// The cells at the front of a text: those before the first other byte, or 128, or fewer near the end of the text. None where the
+    /// first byte is no cell, or where fewer than 32 bytes have come.
     pub(crate) fn of_text(text: &[u8]) -> Option<Front>
         ensures { IfSome result (λ front. IsFrontOf text.now front) }
+    {
+        let Some(mut front) = Front::of_block(text) else {
+            return None;
+        };
+        for block in 1..MOST_BLOCKS {
+            if usize::from(front.count) < block * BLOCK {
+                break;
+            }
+            let Some(next) = Front::of_block(&text[block * BLOCK..]) else {
+                break;
+            };
+            front = front.joined(next);
+        }
+        Some(front)
+    }
+
+    /// The cells at the front of a text as far as its first 32 bytes.
+    fn of_block(text: &[u8]) -> Option<Front>
+        ensures front { IfSome result (λ front. IsFrontOf text.now front) }
+        ensures few { IfSome result (λ front. front.count ≤ BLOCK) }
     {
         if text.len() < BLOCK {
             return None;
         }
-        let block = u8x64::from_slice(text);
+        let block = u8x32::from_slice(text);
         let count = front_count(block);
         if count == 0 {
             return None;
         }
         Some(Front {
-            bits: u128::from(dark_bits(block)) & ((1 << count) - 1),
+            bits: u128::from(dark_bits(block) & ((1 << count) - 1)),
             count: count as u16,
         })
+    }
+
+    /// These cells, and others after them.
+    fn joined(self, next: Front) -> Front
+        requires room { self.count + next.count ≤ 128 }
+        requires some { (more : List ℕ) × AreCells more next }
+        ensures { (characters more : List ℕ) → AreCells characters self → AreCells more next → AreCells (characters ++ more) result }
+    {
+        Front {
+            bits: self.bits | next.bits << self.count,
+            count: self.count + next.count,
+        }
     }
 }
 
 /// The dark cells of a block: 1 for the character 1.
 #[inline]
-fn dark_bits(block: u8x64) -> u64
+fn dark_bits(block: u8x32) -> u64
     ensures { result ≡ mask_l (map is_dark block) }
 {
-    block.simd_eq(u8x64::splat(b'1')).to_bitmask()
+    block.simd_eq(u8x32::splat(b'1')).to_bitmask()
 }
 
 /// How many characters 0 and 1 stand at the front of a block. They are the two that differ from 1 in the lowest bit at most.
 #[inline]
-fn front_count(block: u8x64) -> u32
+fn front_count(block: u8x32) -> u32
     ensures { result ≡ prefix_len (λ b. bit_or b 1 == 49) block }
 {
-    let others = (block | u8x64::splat(1)).simd_ne(u8x64::splat(b'1'));
-    others.to_bitmask().trailing_zeros()
+    let others = (block | u8x32::splat(1))
+        .simd_ne(u8x32::splat(b'1'))
+        .to_bitmask();
+    if others == 0 {
+        BLOCK as u32
+    } else {
+        others.trailing_zeros()
+    }
 }

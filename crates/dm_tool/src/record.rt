@@ -91,7 +91,8 @@ impl OpenRecord {
     {
         let mut at = 0;
         while at < bytes.len() {
-            let end = at + self.take_cells(&bytes[at..]);
+            let line = at + self.take_lines(&bytes[at..]);
+            let end = line + self.take_cells(&bytes[line..]);
             if end == bytes.len() {
                 return None;
             }
@@ -101,6 +102,22 @@ impl OpenRecord {
             at = end + 1;
         }
         None
+    }
+
+    /// Takes whole lines at the front of some bytes, each with its LF at once: how many bytes they are. Where a line stands open, or the
+    /// record can be no grid any more, it takes none.
+    fn take_lines(&mut self, bytes: &[u8]) -> usize
+        ensures within { result ≤ length bytes.now }
+        ensures grown { (text : List ℕ) → AreRecordFacts text self.old → AreRecordFacts (text ++ take result bytes.now) self.new }
+    {
+        if let Contents::Cells(rows) = &mut self.contents {
+            if self.ended || rows.is_empty() {
+                let taken = rows.take_lines(bytes);
+                self.ended = !rows.is_empty();
+                return taken;
+            }
+        }
+        0
     }
 
     /// Takes cells at the front of some bytes together, and says how many. Where a foreign character stands in the record already it

@@ -1,12 +1,14 @@
 //! The lines of a record, as rows of cells.
-ghost use Rattle.std.specs.Prelude.{◌≡◌, ◌≢◌, ◌∷◌, ◌++◌, ◌↔◌, [], ℕ, Bool, true, false, List, IsTrue};
+ghost use Rattle.std.specs.Prelude.{◌≡◌, ◌≢◌, ◌≤◌, ◌∷◌, ◌++◌, ◌↔◌, [], ℕ, Bool, true, false, List, IsTrue, length, take};
+ghost use Rattle.std.specs.Bool.{OnTrue, OnFalse};
 ghost use Rattle.dm_tool.specs.Records.{record_of};
-ghost use Rattle.dm_tool.specs.inner.OpenRecords.{AreCells, Continues, HoldsLines, is_ended, line_count};
+ghost use Rattle.dm_tool.specs.inner.OpenRecords.{AreCells, Continues, EndsLines, HoldsLines, is_ended, line_count};
 ghost use Rattle.dm_tool.specs.Texts.{last_line};
 ghost use Rattle.dm_symbol.specs.Places.{outcome};
 
 use crate::front::Front;
 use crate::record::RecordFault;
+use crate::text::LF;
 use arrayvec::ArrayVec;
 use dm_symbol::{Grid, LARGEST_SIDE};
 
@@ -59,14 +61,15 @@ impl Rows {
         }
     }
 
-    /// Cells in a new line; false where the lines are too many then.
+    /// Cells in a new line; false where the lines are too many or too long then, and nothing changes.
     fn begin_line(&mut self, front: Front) -> bool
         requires cells { (characters : List ℕ) × AreCells characters front }
         requires lines { (lines : List (List ℕ)) × HoldsLines self.old lines [] }
-        ensures { (lines : List (List ℕ)) (characters : List ℕ) → HoldsLines self.old lines [] → AreCells characters front
+        ensures lines { (lines : List (List ℕ)) (characters : List ℕ) → HoldsLines self.old lines [] → AreCells characters front
             → Continues result self.new lines characters }
+        ensures same { OnFalse result (self.new ≡ self.old) }
     {
-        if self.rows.is_full() {
+        if self.rows.is_full() || usize::from(front.count) > LARGEST_SIDE {
             return false;
         }
         let first = if self.is_empty() {
@@ -97,6 +100,38 @@ impl Rows {
         self.rows.as_mut_slice()[count - 1] |= front.bits << column;
         self.first = first;
         self.last = last;
+        true
+    }
+
+    /// Takes the whole lines at the front of some bytes, each with its LF, as far as there is room for them: how many bytes they are.
+    pub(crate) fn take_lines(&mut self, bytes: &[u8]) -> usize
+        requires { (lines : List (List ℕ)) × HoldsLines self.old lines [] }
+        ensures within { result ≤ length bytes.now }
+        ensures ended { (lines : List (List ℕ)) → HoldsLines self.old lines [] → EndsLines self.new lines (take result bytes.now) }
+    {
+        let mut at = 0;
+        while let Some(front) = Front::of_text(&bytes[at..]) {
+            let end = at + usize::from(front.count);
+            if end == bytes.len() || bytes[end] != LF || !self.push_line(front) {
+                break;
+            }
+            at = end + 1;
+        }
+        at
+    }
+
+    /// A whole line; false where the lines are too many or too long with it, and then nothing changes.
+    fn push_line(&mut self, line: Front) -> bool
+        requires cells { (characters : List ℕ) × AreCells characters line }
+        requires lines { (lines : List (List ℕ)) × HoldsLines self.old lines [] }
+        ensures held { OnTrue result ((lines : List (List ℕ)) (characters : List ℕ) → HoldsLines self.old lines [] → AreCells characters line
+            → HoldsLines self.new (lines ++ characters ∷ []) []) }
+        ensures same { OnFalse result (self.new ≡ self.old) }
+    {
+        if !self.begin_line(line) {
+            return false;
+        }
+        self.end_line();
         true
     }
 

@@ -6,8 +6,8 @@ use Rattle.dm_tool.specs.declared.front.Front.{Front}
 use Rattle.dm_tool.specs.declared.rows.Rows.{Rows}
 use Rattle.dm_tool.specs.declared.record.Contents.{Contents}
 use Rattle.dm_tool.specs.declared.record.Contents.TheVariants as kept
-use Rattle.dm_tool.specs.Texts.{last_line}
-use Rattle.dm_tool.specs.Records.{IsClosedRecord, has_foreign, is_foreign, is_large}
+use Rattle.dm_tool.specs.Texts.{ended, last_line}
+use Rattle.dm_tool.specs.Records.{AreFullLines, IsClosedRecord, has_foreign, is_foreign, is_large}
 use Rattle.dm_tool.specs.RecordFacts.{AreRecordFacts, RecordContents, RecordFacts, Foreign, Large, Cells, contents_of, facts_of_record, differ, first_length, last_length, is_nothing}
 
 -- A character is a dark cell.
@@ -56,12 +56,12 @@ pub record HoldsLines (t : Rows) (lines : List (List ℕ)) (rest : List ℕ) : T
   pub cells : has_foreign (lines ++ last_line rest) ≡ false
   pub small : is_large (lines ++ last_line rest) ≡ false
 
--- The cells are those of these characters: 1 to 64, each of them 0 or 1.
+-- The cells are those of these characters: 1 to 128, each of them 0 or 1.
 pub record AreCells (characters : List ℕ) (front : Front) : Type 0 where
   pub bits_are : front.bits ≡ number_of characters
   pub count_is : front.count ≡ length characters
   pub some : 0 < front.count
-  pub few : front.count ≤ 64
+  pub few : front.count ≤ 128
   pub cells : list_any is_foreign characters ≡ false
 
 -- The cells are those of the characters at the front of a text.
@@ -85,6 +85,13 @@ pub record IsRecordState (ended : Bool) (contents : Contents) : Type 0 where
   pub rest : List ℕ
   pub ended_is : ended ≡ is_ended lines rest
   pub contents_are : AreContents contents lines rest
+
+-- These bytes are whole lines, each with its LF, and the rows are those of the lines before and of them.
+pub record EndsLines (t : Rows) (lines : List (List ℕ)) (bytes : List ℕ) : Type 0 where
+  pub more : List (List ℕ)
+  pub bytes_are : bytes ≡ ended more
+  pub full : AreFullLines more
+  pub held : HoldsLines t (lines ++ more) []
 
 -- Where there was room the rows are those of the lines and the rest, and else these are too many or too long.
 abbrev pub Continues : Bool → Rows → List (List ℕ) → List ℕ → Type 0

@@ -3,4 +3,4 @@ use Rattle.std.proofs.lemmas.Simd.{bitmask_splat}
 use Rattle.dm_tool.proofs.front.dark_bits.Goals as goal
 
 pub returns : goal.returns
-returns c = bitmask_splat w8 eqb c.args.block 64 49 c.fits-block.0 (omega arith)
+returns c = bitmask_splat w8 eqb c.args.block 32 49 c.fits-block.0 (omega arith)
