@@ -1,4 +1,4 @@
--- The ASCII words of a message.
+-- The ASCII form of a message spells it, and is the only greedy joining of units.
 use Rattle.std.proofs.Common.{◌≡◌, ℕ, zero, suc, ◌+◌, ◌-◌, ◌*◌, ◌/◌, ◌%◌, ◌<◌, ◌≤◌, List, [], ◌∷◌, ◌++◌, length, refl, sym, ap, subst, ◌∙◌, arith, Bool, true, false, cond, ltb, ◌&&◌, Some}
 use Rattle.std.specs.Prelude.{IsTrue}
 use Rattle.std.specs.List.{AllByRecursion}
@@ -32,7 +32,7 @@ digits_of n lt = grind (arith, nat_tests)
 
 -- ---- the form by the front spells the message
 
--- The codewords of a byte alone are a unit that means it.
+-- The codewords of a byte by itself are a unit that means it.
 single_spells : (b : ℕ) → b < 256 → (after : List ℕ) → IsAsciiUnit (single b) (Byte b ∷ [])
 single_spells b lt after = by_test (ltb b 128) refl where
   by_test : (t : Bool) → ltb b 128 ≡ t → IsAsciiUnit (cond t ((b + 1) ∷ []) (235 ∷ (b - 127) ∷ [])) (Byte b ∷ [])
@@ -122,7 +122,7 @@ ascii_spells m count fit =
 pub is_ascii : (m : List Item) → AreItems m → IsAscii m (ascii m)
 is_ascii m fit = let h = units_of m fit in record { units = h.units; each = h.each; greedy = h.greedy; items = h.items; whole = h.whole }
 
--- Each codeword of a byte alone is a codeword.
+-- The codewords of a byte by itself are 0 to 255.
 single_bytes : (b : ℕ) → b < 256 → AreBytes (single b)
 single_bytes b lt = by_test (ltb b 128) refl where
   by_test : (t : Bool) → ltb b 128 ≡ t → AreBytes (cond t ((b + 1) ∷ []) (235 ∷ (b - 127) ∷ []))
@@ -148,7 +148,7 @@ ascii_bytes (Byte b ∷ Byte c ∷ m) fit = both (is_digit b) (is_digit c) refl 
   both true false es et h k = AreBytes-append (single b) (ascii (Byte c ∷ m)) (single_bytes b fit.0) k
   both false t es et h k = AreBytes-append (single b) (ascii (Byte c ∷ m)) (single_bytes b fit.0) k
 
--- ---- and it is the only one
+-- ---- it is the only one
 
 -- Which codewords are characters.
 pub character_is : (w b : ℕ) → codeword_of w ≡ Some (codeword.Character b) → (w ≡ b + 1) × (b < 128)
@@ -197,7 +197,7 @@ greedy_rest : (u : Piece (List Item)) (us : List (Piece (List Item))) → IsGree
 greedy_rest u [] g = tt
 greedy_rest u (v ∷ us) g = g.1
 
--- The form of what a unit means and a rest begins with the unit.
+-- The form of a message that begins with the items of a unit begins with that unit.
 unit_first : (words : List ℕ) (items rest : List Item) → IsAsciiUnit words items → (IsOneDigit items → BeginsWithDigit rest → ⊥) → ascii (items ++ rest) ≡ words ++ ascii rest
 unit_first words items rest (character w b k e i) apart =
     let is = character_is w b k in

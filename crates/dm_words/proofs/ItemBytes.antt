@@ -44,7 +44,7 @@ character_byte : (set : CodeSet) (vs : List ℕ) (b : ℕ) → IsCharacter set v
 character_byte set vs b (plain v e w) = basic_byte set v b e
 character_byte set vs b (by_shift s) = shifted_byte set s.shift s.second b s.means
 
--- A spelling's item is one.
+-- The item of a spelling is a byte of 0 to 255 or FNC1.
 spelling_item : (set : CodeSet) (vs : List ℕ) (item : Item) → IsSpelling set vs item → IsItem item
 spelling_item set vs item (values.character b c i) = let lt = character_byte set vs b c in rw i (omega (arith, lt))
 spelling_item set vs item (values.fnc1 s i) = rw i (omega arith)
@@ -86,7 +86,7 @@ parts_items place (p ∷ ps) after h = items-append p.what (gathered ps) (part_i
 pub spelled_is_message : (words : List ℕ) (m : List Item) → Spells words m → IsMessage m
 spelled_is_message words m s = All-from_recursion IsItem m (subst AreItems (sym s.items) (parts_items 1 s.parts s.after s.joined))
 
--- So is what is left in a place.
+-- So is a message that is left in a place.
 pub left_is_message : {U : Type 0} (words : List ℕ) (r : Result U WordFault) (place : List Item) → ((m : List Item) → outcome r place ≡ Ok m → Spells words m)
     → OnOk r (IsMessage place)
 left_is_message words (Ok u) place h = spelled_is_message words place (h place refl)

@@ -22,11 +22,11 @@ one_answer words fit = reading.one_answer words (recursion_from_All (λ w. w < 2
 pub ascii_spells : (m : List Item) (count : ℕ) → IsMessage m → length (ascii m) ≤ count → Spells (padded (ascii m) count) m
 ascii_spells m count fit le = form.ascii_spells m count (recursion_from_All IsItem m fit)
 
--- It is so many words.
+-- The ASCII form with pads up to a count has so many codewords.
 pub ascii_count : (m : List Item) (count : ℕ) → length (ascii m) ≤ count → length (padded (ascii m) count) ≡ count
 ascii_count m count le = length-padded (ascii m) count le
 
--- They are codewords.
+-- Each of these codewords is 0 to 255.
 pub ascii_codewords : (m : List Item) (count : ℕ) → IsMessage m → AreCodewords (padded (ascii m) count)
 ascii_codewords m count fit = All-from_recursion (λ w. w < 256) (padded (ascii m) count) (padded_bytes (ascii m) count (form.ascii_bytes m (recursion_from_All IsItem m fit)))
 
@@ -34,6 +34,6 @@ ascii_codewords m count fit = All-from_recursion (λ w. w < 256) (padded (ascii 
 pub ascii_is_greedy : (m : List Item) (words : List ℕ) → IsMessage m → IsAscii m words ↔ (words ≡ ascii m)
 ascii_is_greedy m words fit = ((λ h. form.ascii_only m words h), (λ e. subst (λ (w : List ℕ). IsAscii m w) (sym e) (form.is_ascii m (recursion_from_All IsItem m fit))))
 
--- What can stand behind the last whole spelling has none at its front, and nothing else has none.
+-- What can follow the last whole spelling has no whole spelling at its front, and nothing else has none.
 pub rest_has_no_spelling : (set : CodeSet) (values : List ℕ) → AreRunValues values → IsRest set values ↔ BeginsNoSpelling set values
 rest_has_no_spelling set values fit = ((λ r. rest_begins_no_spelling set values r), (λ none. no_spelling_is_rest set values fit none))

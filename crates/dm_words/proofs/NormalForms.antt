@@ -25,15 +25,15 @@ use Rattle.dm_words.proofs.PadWords.{length-padded, padded_bytes}
 
 -- ---- the length field
 
--- Up to 249 it is one number.
+-- The length field of up to 249 bytes is one number.
 pub short_numbers : (n : ℕ) → n ≤ 249 → length_numbers n ≡ n ∷ []
 short_numbers n le = grind (arith, nat_tests)
 
--- Above that it is two.
+-- The length field of more bytes is two numbers.
 pub long_numbers : (n : ℕ) → 249 < n → length_numbers n ≡ (249 + n / 250) ∷ (n % 250) ∷ []
 long_numbers n big = grind (arith, nat_tests)
 
--- It says so many bytes.
+-- It is a length field for so many bytes.
 says_count : (n : ℕ) (after : List ℕ) → 0 < n → n < 1750 → IsLengthField (length_numbers n) n after
 says_count n after some few =
     elim (cases_lt 249 n) [
@@ -48,7 +48,7 @@ length-one_segment bytes =
 
 -- ---- the bytes of a message
 
--- A message without FNC1 is its bytes.
+-- A message without FNC1 is the list of its bytes.
 pub bytes_are_items : (m : List Item) → has_fnc1 m ≡ false → m ≡ byte_items (map byte_of m)
 bytes_are_items [] none = refl
 bytes_are_items (Byte b ∷ m) none = ap (λ (r : List Item). Byte b ∷ r) (bytes_are_items m none)
@@ -119,7 +119,7 @@ record IsSegmentTaken (m : List Item) : Type 0 where
   less : length (segment_of m) < length (ascii m)
   is : shorter m ≡ segment_of m
 
--- Either is taken.
+-- Either the segment or ASCII is taken.
 which : (m : List Item) → IsSegmentTaken m ⊎ (shorter m ≡ ascii m)
 which m =
     elim (cases_Bool (has_fnc1 m)) [
@@ -154,11 +154,11 @@ pub normal_form_spells : (profile : Profile) (m : List Item) (count : ℕ) → I
 normal_form_spells Ascii m count fit le most = form.ascii_spells m count (recursion_from_All IsItem m fit)
 normal_form_spells Shorter m count fit le most = shorter_spells m count fit le most
 
--- It is so many words.
+-- The normal form with pads up to a count has so many codewords.
 pub normal_form_count : (profile : Profile) (m : List Item) (count : ℕ) → length (normal_form profile m) ≤ count → length (padded (normal_form profile m) count) ≡ count
 normal_form_count profile m count le = length-padded (normal_form profile m) count le
 
--- What is written are bytes.
+-- What is written for values is bytes.
 written_bytes : (place : ℕ) (vs : List ℕ) → AreBytes (written place vs)
 written_bytes place [] = tt
 written_bytes place (v ∷ vs) = (omega arith, written_bytes (place + 1) vs)
@@ -176,7 +176,7 @@ normal_form_bytes Shorter m fit =
       | inr e ↦ subst AreBytes (sym e) (ascii_bytes m fit)
     ]
 
--- With pads they are codewords.
+-- With pads, they are still bytes.
 pub normal_form_codewords : (profile : Profile) (m : List Item) (count : ℕ) → IsMessage m → AreCodewords (padded (normal_form profile m) count)
 normal_form_codewords profile m count fit =
     All-from_recursion (λ w. w < 256) (padded (normal_form profile m) count)
@@ -190,12 +190,12 @@ shorter_than_ascii m =
       | inr e ↦ omega (arith, ap length e)
     ]
 
--- Bytes are a message without FNC1.
+-- A message of bytes has no FNC1.
 no_fnc1 : (bytes : List ℕ) → has_fnc1 (byte_items bytes) ≡ false
 no_fnc1 [] = refl
 no_fnc1 (b ∷ bytes) = no_fnc1 bytes
 
--- Its bytes are they.
+-- The bytes of a message of bytes are these.
 items_are_bytes : (bytes : List ℕ) → map byte_of (byte_items bytes) ≡ bytes
 items_are_bytes [] = refl
 items_are_bytes (b ∷ bytes) = ap (λ (r : List ℕ). b ∷ r) (items_are_bytes bytes)
@@ -210,7 +210,7 @@ shorter_than_segment bytes =
       | inr le ↦ omega (arith, le, ap length (takes_ascii m le), same)
     ]
 
--- A byte alone has some codeword.
+-- A byte by itself has at least one codeword.
 some_single : (b : ℕ) → 0 < length (single b)
 some_single b = by_test (ltb b 128)
   where
@@ -231,7 +231,7 @@ two_items (Byte b ∷ Byte c ∷ m) = both (is_digit b && is_digit c) (two_items
     both true h k = omega (arith, h)
     both false h k = omega (arith, k, some_single b, length-append (single b) (ascii (Byte c ∷ m)))
 
--- The same of the normal form.
+-- So it has at most two for each codeword of its normal form.
 pub normal_form_items : (profile : Profile) (m : List Item) → length m ≤ 2 * length (normal_form profile m)
 normal_form_items Ascii m = two_items m
 normal_form_items Shorter m =
@@ -242,14 +242,14 @@ normal_form_items Shorter m =
 
 -- ---- writing a segment
 
--- One value more at the end.
+-- One more value is written at the end.
 pub one_value_more : (old new vs : List ℕ) (v : ℕ) → old ≡ 231 ∷ written 2 vs → new ≡ old ++ randomised (length old + 1) v ∷ [] → new ≡ 231 ∷ written 2 (vs ++ v ∷ [])
 one_value_more old new vs v so_far e =
     let place : length old + 1 ≡ 2 + length vs = omega (arith, ap length so_far, length-written 2 vs) in
     let more : written 2 (vs ++ v ∷ []) ≡ written 2 vs ++ randomised (2 + length vs) v ∷ [] = written-append 2 vs (v ∷ []) in
     rw (e, so_far, more) (ap (λ (k : ℕ). 231 ∷ (written 2 vs ++ randomised k v ∷ [])) (sym (ap (λ (k : ℕ). k) (ap (λ (r : List ℕ). length r + 1) so_far)) ∙ place))
 
--- One item more has its byte at the end.
+-- One more item has its byte at the end.
 pub one_byte_more : (m : List Item) (i : ℕ) (d : Item) → i < length m → map byte_of (take (i + 1) m) ≡ map byte_of (take i m) ++ byte_of (get_or m i d) ∷ []
 one_byte_more m i d lt = ap (map byte_of) (rw add-one (take-suc m i d lt)) ∙ map-append byte_of (take i m) (get_or m i d ∷ [])
 
@@ -282,14 +282,29 @@ has_room old m i lt so_far =
 -- ---- choosing
 
 -- How many codewords the segment has.
-pub length-segment_of : (m found : List Item) (count : ℕ) → found ≡ m → count ≡ 1 + length (length_numbers (length found)) + length found → count ≡ length (segment_of m)
-length-segment_of m found count same is =
-    let here : length (map byte_of m) ≡ length found = length-map m byte_of ∙ ap length (sym same) in
-    omega (arith, is, length-one_segment (map byte_of m), here, ap (λ (n : ℕ). length (length_numbers n)) here)
+length-segment_of : (m : List Item) → length (segment_of m) ≡ 1 + length (length_numbers (length m)) + length m
+length-segment_of m =
+    let here : length (map byte_of m) ≡ length m = length-map m byte_of in
+    omega (arith, length-one_segment (map byte_of m), here, ap (λ (n : ℕ). length (length_numbers n)) here)
 
 -- The form that was chosen is the normal form.
-pub chosen_form : (profile : Profile) (m : List Item) (takes marked : Bool) (count words : ℕ) → (profile ≡ Ascii → takes ≡ false)
+chosen_form : (profile : Profile) (m : List Item) (takes marked : Bool) (count words : ℕ) → (profile ≡ Ascii → takes ≡ false)
     → (profile ≡ Shorter → takes ≡ (not marked && ltb count words)) → marked ≡ has_fnc1 m → count ≡ length (segment_of m) → words ≡ length (ascii m)
     → normal_form profile m ≡ cond takes (segment_of m) (ascii m)
 chosen_form Ascii m takes marked count words never when mark is lengths = rw (never refl) refl
 chosen_form Shorter m takes marked count words never when mark is lengths = rw (when refl, mark, is, lengths) refl
+
+-- The length of the form that was chosen.
+chosen_length : (takes : Bool) (m : List Item) (count words : ℕ) → count ≡ length (segment_of m) → words ≡ length (ascii m)
+    → cond takes count words ≡ length (cond takes (segment_of m) (ascii m))
+chosen_length true m count words is lengths = is
+chosen_length false m count words is lengths = lengths
+
+-- What is known of the normal form, and of its length, by the length of the segment and what was found of the ASCII form.
+pub form_known : (profile : Profile) (m : List Item) (takes marked : Bool) (count words : ℕ) → (profile ≡ Ascii → takes ≡ false)
+    → (profile ≡ Shorter → takes ≡ (not marked && ltb count words)) → marked ≡ has_fnc1 m → count ≡ 1 + length (length_numbers (length m)) + length m → words ≡ length (ascii m)
+    → (normal_form profile m ≡ cond takes (segment_of m) (ascii m)) × (cond takes count words ≡ length (normal_form profile m))
+form_known profile m takes marked count words never when mark counted lengths =
+    let is : count ≡ length (segment_of m) = counted ∙ sym (length-segment_of m) in
+    let form = chosen_form profile m takes marked count words never when mark is lengths in
+    (form, chosen_length takes m count words is lengths ∙ ap length (sym form))

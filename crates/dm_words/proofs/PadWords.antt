@@ -1,16 +1,16 @@
--- Pads.
+-- Lemmas on pads.
 use Rattle.std.proofs.Common.{◌≡◌, ℕ, zero, suc, ◌+◌, ◌-◌, ◌*◌, ◌%◌, ◌<◌, ◌≤◌, List, [], ◌∷◌, ◌++◌, length, length-append, refl, ap, ◌∙◌, append_assoc, add-zero, arith, Bool, true, false, cond, leb}
 use Rattle.std.proofs.lemmas.Bool.Decides.{nat_tests}
 use Rattle.dm_words.specs.Pads.{pad_at, further_pads, pads, padded}
 use Rattle.dm_words.specs.Base256.{AreBytes}
 use Rattle.dm_words.proofs.Segments.{AreBytes-append}
 
--- One pad more stands at the end.
+-- One more pad stands at the end.
 further_pads-push : (place n : ℕ) → further_pads place (suc n) ≡ further_pads place n ++ pad_at (place + n) ∷ []
 further_pads-push place zero = rw add-zero refl
 further_pads-push place (suc n) = ap (λ (r : List ℕ). pad_at place ∷ r) (further_pads-push (place + 1) n ∙ ap (λ (k : ℕ). further_pads (place + 1) n ++ pad_at k ∷ []) (omega arith))
 
--- One turn of the loop that pads.
+-- One turn of the loop that adds pads.
 pub pads_more : (words : List ℕ) (place : ℕ) (old new : List ℕ) (p : ℕ) → length words + 2 ≤ place → p ≡ pad_at place → old ≡ words ++ 129 ∷ further_pads (length words + 2) (place - (length words + 2))
     → new ≡ old ++ p ∷ [] → new ≡ words ++ 129 ∷ further_pads (length words + 2) (place + 1 - (length words + 2))
 pads_more words place old new p le is so_far e =
@@ -20,7 +20,7 @@ pads_more words place old new p le is so_far e =
     let more = further_pads-push (length words + 2) n in
     rw (e, so_far, count, more, at, is) (append_assoc words (129 ∷ further_pads (length words + 2) n) (pad_at place ∷ []))
 
--- So many pads.
+-- There are as many pads as asked for.
 length-further_pads : (place n : ℕ) → length (further_pads place n) ≡ n
 length-further_pads place zero = refl
 length-further_pads place (suc n) = ap suc (length-further_pads (place + 1) n)
@@ -29,7 +29,7 @@ length-pads : (place n : ℕ) → length (pads place n) ≡ n
 length-pads place zero = refl
 length-pads place (suc n) = ap suc (length-further_pads (place + 1) n)
 
--- The words and their pads are so many words.
+-- The codewords and their pads are as many as asked for.
 pub length-padded : (words : List ℕ) (count : ℕ) → length words ≤ count → length (padded words count) ≡ count
 length-padded words count le =
     omega (arith, length-append words (pads (length words + 1) (count - length words)), length-pads (length words + 1) (count - length words))

@@ -1,4 +1,4 @@
--- The pairs of a run, as they are found, are those that stand there.
+-- The pairs that the scan finds in a run are those that stand there.
 use Rattle.std.proofs.Common.{◌≡◌, ◌≢◌, ℕ, ◌+◌, ◌-◌, ◌*◌, ◌/◌, ◌%◌, ◌<◌, ◌≤◌, List, [], ◌∷◌, length, take, drop, get_or, refl, ap, subst, arith, Bool, true, false, cond, eqb, ltb, inl, inr, ◌⊎◌}
 use Rattle.std.proofs.lemmas.Bool.{eqb-true, ltb-false}
 use Rattle.std.proofs.lemmas.Bool.Decides.{nat_tests}
@@ -14,7 +14,7 @@ use Rattle.dm_words.proofs.Walks.{IsSound, IsComplete}
 abbrev pub IsBytes : List ℕ → Type 0
 IsBytes words = (i : ℕ) → get_or words i 0 < 256
 
--- So is each of the later ones.
+-- So is each word after the first n.
 pub IsBytes-drop : (n : ℕ) (words : List ℕ) → IsBytes words → IsBytes (drop n words)
 IsBytes-drop n words h i = rw get_or-drop (h (n + i))
 
@@ -29,7 +29,7 @@ pub data IsStop (words : List ℕ) (kind : PairsEnd) : Type 0 where
 abbrev pub PairRight : ℕ → List ℕ → List ℕ → List ℕ → Type 0
 PairRight place words after values = IsPair words values
 
--- The first so many words are a pair with these values.
+-- The first n words are a pair with these values.
 abbrev Right : List ℕ → ℕ → List ℕ → Type 0
 Right words n values = IsPair (take n words) values × (0 < n) × (n ≤ length words)
 
@@ -46,7 +46,7 @@ digits_small n pos le = (omega arith, omega arith, omega arith)
 digits_join : (n : ℕ) → 0 < n → n ≡ 1600 * ((n - 1) / 1600) + 40 * ((n - 1) / 40 % 40) + (n - 1) % 40 + 1
 digits_join n pos = omega arith
 
--- By the number of two words.
+-- What is found by the number of two words is right.
 judged_number : (v w : ℕ) (more : List ℕ) (a b : Bool) → w < 256 → v ≢ 254 → eqb (256 * v + w) 0 ≡ a → ltb 64000 (256 * v + w) ≡ b
     → Judged (v ∷ w ∷ more) (cond a (Stops stop.BadPair) (cond b (Stops stop.BadPair) (Takes 2 (values_of (256 * v + w)))))
 judged_number v w more true b small ne ea eb = bad v w more ne (inl (eqb-true _ _ ea)) refl refl
@@ -58,17 +58,17 @@ judged_number v w more false false small ne ea eb =
     let is : IsPair (v ∷ w ∷ []) (values_of (256 * v + w)) = record { high = v; low = w; is_byte = small; first = _; second = _; third = _; first_small = d.0; second_small = d.1; third_small = d.2; number = digits_join (256 * v + w) pos; words_are = refl; values_are = refl } in
     (is, omega arith, omega arith)
 
--- By the first of two words.
+-- What is found by the first of two words is right.
 judged_two : (v w : ℕ) (more : List ℕ) (a : Bool) → w < 256 → eqb v 254 ≡ a → Judged (v ∷ w ∷ more) (cond a (Stops stop.Unlatch) (pair_by (256 * v + w)))
 judged_two v w more true small e = let is : v ≡ 254 = eqb-true _ _ e in unlatched (w ∷ more) (ap (λ (x : ℕ). x ∷ w ∷ more) is) refl
 judged_two v w more false small e = judged_number v w more _ _ small (λ is. (let t : eqb v 254 ≡ true = rw is refl in cc)) refl refl
 
--- By the one word that is left.
+-- What is found where one word is left is right.
 judged_one : (v : ℕ) (a : Bool) → eqb v 254 ≡ a → Judged (v ∷ []) (cond a (Stops stop.Unlatch) (Stops stop.SymbolEnd))
 judged_one v true e = let is : v ≡ 254 = eqb-true _ _ e in unlatched [] (ap (λ (x : ℕ). x ∷ []) is) refl
 judged_one v false e = one_left v (λ is. (let t : eqb v 254 ≡ true = rw is refl in cc)) refl refl
 
--- By the words.
+-- What is found is right, however many words are left.
 judged : (place : ℕ) (words : List ℕ) → IsBytes words → Judged words (pair_front place words)
 judged place [] fit = over refl refl
 judged place (v ∷ []) fit = judged_one v _ refl
@@ -107,7 +107,7 @@ pair_complete place words after values p =
     let d = values_again (256 * p.high + p.low) p.first p.second p.third p.first_small p.second_small p.third_small p.number in
     rw (p.words_are, p.values_are) ((rw (x, y, z, d.0, d.1, d.2) refl), omega arith)
 
--- Where none stands, none is found.
+-- Where no pair stands, none is found.
 pub stop_complete : (place : ℕ) (words : List ℕ) (kind : PairsEnd) → IsStop words kind → pair_front place words ≡ Stops kind
 stop_complete place words kind (over e is) = rw (e, is) refl
 stop_complete place words kind (one_left w ne e is) = (let t : eqb w 254 ≡ false = grind (arith, nat_tests) in rw (e, is, t) refl)

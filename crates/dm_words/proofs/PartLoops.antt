@@ -1,4 +1,4 @@
--- Reading in a loop.
+-- The loop that reads one part after the other.
 use Rattle.std.proofs.Common.{◌≡◌, ℕ, suc, ◌+◌, ◌*◌, ◌<◌, ◌≤◌, List, ◌++◌, length, drop, sym, ap, ◌∙◌, append_assoc, arith, Option, Some, None, Result, Ok}
 use Rattle.std.proofs.lemmas.List.{append-nil, length-drop, length-append, drop-drop}
 use Rattle.dm_words.specs.declared.item.Item.{Item}
@@ -15,7 +15,7 @@ use Rattle.dm_words.proofs.Parts.{part_sound, part_room}
 read_to-append : (x y : List Item) (rest : List (List Item)) (why : Option WordFault) → read_to (x ++ (y ++ flat rest)) why ≡ read_to ((x ++ y) ++ flat rest) why
 read_to-append x y rest why = ap (λ (i : List Item). read_to i why) (sym (append_assoc x y (flat rest)))
 
--- Reading on past one part.
+-- Reading on takes the part at the front.
 pub read_on-takes : (so_far : List Item) (place : ℕ) (words : List ℕ) (n : ℕ) (items : List Item) → IsBytes words → part_front place words ≡ Takes n items
     → read_on so_far place words ≡ read_on (so_far ++ items) (place + n) (drop n words)
 unfolding read_on walk
@@ -24,12 +24,12 @@ read_on-takes so_far place words n items fit e =
     let w = walk-fuel part_front IsPart IsBytes None part_sound (length words) (suc (length (drop n words))) (place + n) (drop n words) (omega (arith, r.1, r.2, length-drop n words)) (omega arith) (part_sound.fits n words fit) in
     rw (e, w) (read_to-append so_far items (walk part_front None (suc (length (drop n words))) (place + n) (drop n words)).taken (walk part_front None (suc (length (drop n words))) (place + n) (drop n words)).why)
 
--- Reading on where no part stands.
+-- Reading on stops where no part stands.
 pub read_on-stops : (so_far : List Item) (place : ℕ) (words : List ℕ) (why : Option WordFault) → part_front place words ≡ Stops why → read_on so_far place words ≡ read_to so_far why
 unfolding read_on walk
 read_on-stops so_far place words why e = rw e (ap (λ (i : List Item). read_to i why) (append-nil so_far))
 
--- One turn of the loop.
+-- One turn of the loop, which takes a part.
 pub goes_on : (words : List ℕ) (at n : ℕ) (old new : List Item) (total : Result (List Item) WordFault) → IsBytes words → at ≤ length words → length old ≤ 2 * at
     → IsPartTakenOrEnd (Ok (Some n)) old new (part_front (at + 1) (drop at words)) → read_on old (at + 1) (drop at words) ≡ total
     → (at + n ≤ length words) × (length new ≤ 2 * (at + n)) × (0 < n) × (read_on new (at + n + 1) (drop (at + n) words) ≡ total)

@@ -19,17 +19,17 @@ use Rattle.dm_words.proofs.Runs.{RunTakes, RunJudged, run_judged, RunFound, run_
 use Rattle.dm_words.proofs.Runs as runs
 use Rattle.dm_words.proofs.Segments.{SegmentJudged, segment_judged, SegmentFound, segment_complete, bad_complete, segment_room}
 
--- What a step answers.
+-- What the scan finds at the front: a part, the end, or a fault.
 abbrev pub Found : Type 0
 Found = Step (List Item) (Option WordFault)
 
--- What is found at the front is right.
+-- What the scan finds at the front is right.
 abbrev Judged : ℕ → List ℕ → Found → Type 0
 Judged place words (Takes n items) = IsPart place (take n words) (drop n words) items × (0 < n) × (n ≤ length words)
 Judged place words (Stops None) = IsEnd words
 Judged place words (Stops (Some f)) = IsFault place words f
 
--- An Upper Shift and the next word.
+-- What is found behind an Upper Shift is right.
 judged_upper : (place s w : ℕ) (more : List ℕ) (k : Option Codeword) → codeword_of s ≡ Some codeword.UpperShift → codeword_of w ≡ k → Judged place (s ∷ w ∷ more) (raised_unit_by place k)
 judged_upper place s w more (Some (codeword.Character b)) es ew = (ascii (raised s w b es ew refl refl), omega arith, omega arith)
 judged_upper place s w more _ es ew = upper_shift s w more es (λ b h. cc) refl refl
@@ -46,7 +46,7 @@ from_segment place words (Takes n items) j = (segment j.right, j.some, j.within)
 from_segment place words (Stops None) j = absurd j
 from_segment place words (Stops (Some f)) j = faulty_segment j.0 j.1
 
--- By the meaning of the first word.
+-- What is found by the meaning of the first word is right.
 judged_by : (place w : ℕ) (more : List ℕ) (k : Option Codeword) → codeword_of w ≡ k → IsBytes more → Judged place (w ∷ more) (part_by place w more k)
 judged_by place w more (Some (codeword.Character b)) k fit = (ascii (character w b k refl refl), omega arith, omega arith)
 judged_by place w more (Some (codeword.Digits d)) k fit = (ascii (digits w d k refl refl), omega arith, omega arith)
@@ -59,12 +59,12 @@ judged_by place w more (Some codeword.Base256) k fit = from_segment place (w ∷
 judged_by place w more (Some codeword.LeftOut) k fit = left_out w more k refl refl
 judged_by place w more None k fit = reserved w more k refl refl
 
--- By the words.
+-- What is found at the front of the words is right.
 judged : (place : ℕ) (words : List ℕ) → IsBytes words → Judged place words (part_front place words)
 judged place [] fit = nothing refl
 judged place (w ∷ more) fit = judged_by place w more (codeword_of w) refl (λ i. fit (suc i))
 
--- By what was found.
+-- So it is for whatever the scan answers.
 judged_as : (place : ℕ) (words : List ℕ) (found : Found) → IsBytes words → part_front place words ≡ found → Judged place words found
 judged_as place words found fit e = let P : Found → Type 0 = λ s. Judged place words s in subst P e (judged place words fit)
 
@@ -108,7 +108,7 @@ pub end_complete : (place : ℕ) (words : List ℕ) → IsEnd words → part_fro
 end_complete place words (nothing e) = rw e refl
 end_complete place words (pad w more k e) = rw (e, k) refl
 
--- An Upper Shift before what is no character.
+-- An Upper Shift before something that is not a character is found to be faulty.
 no_character : (place : ℕ) (k : Option Codeword) → ((b : ℕ) → k ≢ Some (codeword.Character b)) → raised_unit_by place k ≡ Stops (Some (fault.UpperShift place))
 no_character place (Some (codeword.Character b)) none_such = absurd (none_such b refl)
 no_character place _ none_such = refl
@@ -122,20 +122,20 @@ fault_complete place words f (faulty_segment s is) = rw is (segment_found place 
 fault_complete place words f (unfinished w k e is) = rw (e, k, is) refl
 fault_complete place words f (upper_shift s w more k none_such e is) = rw (e, k, is) (no_character place (codeword_of w) none_such)
 
--- A part has at most two items for each word.
+-- A unit of ASCII has at most two items for each word.
 unit_room : (words : List ℕ) (items : List Item) → IsAsciiUnit words items → length items ≤ 2 * length words
 unit_room words items (character w b k e i) = rw (e, i) (omega arith)
 unit_room words items (digits w n k e i) = rw (e, i) (omega arith)
 unit_room words items (fnc1 w k e i) = rw (e, i) (omega arith)
 unit_room words items (raised s w b k l e i) = rw (e, i) (omega arith)
 
--- The same of all parts.
+-- A part has at most two items for each word.
 room_of : (place : ℕ) (words after : List ℕ) (items : List Item) → IsPart place words after items → length items ≤ 2 * length words
 room_of place words after items (ascii u) = unit_room words items u
 room_of place words after items (segment s) = segment_room place words after items s
 room_of place words after items (run set r) = run_room set words after items r
 
--- How many items and words the part at the front has.
+-- The part at the front has some words, and at most two items for each.
 pub part_room : (place : ℕ) (words : List ℕ) (n : ℕ) (items : List Item) → IsBytes words → part_front place words ≡ Takes n items → (length items ≤ 2 * n) × (0 < n) × (n ≤ length words)
 part_room place words n items fit e =
     let r = part_sound.right place words n items fit e in

@@ -1,19 +1,20 @@
--- Reading the pairs and the items of a run in loops.
-use Rattle.std.proofs.Common.{◌≡◌, ℕ, ◌+◌, ◌<◌, ◌≤◌, List, [], ◌∷◌, ◌++◌, length, drop, refl, sym, ap, ◌∙◌, append_assoc, arith, None}
-use Rattle.std.proofs.lemmas.List.{append-nil, length-drop, drop-drop}
+-- The loops that read the pairs and the items of a run.
+use Rattle.std.proofs.Common.{◌≡◌, ℕ, ◌+◌, ◌-◌, ◌<◌, ◌≤◌, List, [], ◌∷◌, ◌++◌, length, take, drop, refl, sym, ap, ◌∙◌, append_assoc, arith, Option}
+use Rattle.std.proofs.lemmas.List.{append-nil, length-drop, drop-drop, take_all}
 use Rattle.dm_words.specs.declared.c40.set.CodeSet.{CodeSet}
 use Rattle.dm_words.specs.declared.c40.pair.PairsEnd.{PairsEnd}
 use Rattle.dm_words.specs.declared.c40.pair.PairsEnd.TheVariants as stop
 use Rattle.dm_words.specs.declared.c40.value.Rest.{Rest}
 use Rattle.dm_words.specs.declared.c40.value.Rest.TheVariants as left
 use Rattle.dm_words.specs.declared.item.Item.{Item}
+use Rattle.dm_words.specs.declared.fault.WordFault.{WordFault}
 use Rattle.dm_words.specs.inner.Scan.Walk.{Takes, Stops, Walked, and_before, flat}
 use Rattle.dm_words.specs.inner.Scan.Fronts.{pair_front, spelling_front, pairs_from, items_from, pairs_in, items_in, run_front, run_fault, run_unless, end_length}
 use Rattle.dm_words.proofs.Walks.{walk_all-takes, walk_all-stops}
 use Rattle.dm_words.proofs.Values.{ItemRight, Anything, item_sound}
 use Rattle.dm_words.proofs.Pairs.{IsBytes, IsBytes-drop, PairRight, pair_sound}
 
--- One turn: what was read, and what is still read.
+-- What was read so far, and what the rest gives, are together what the whole gives.
 pub record GoesOn {A : Type 0} {S : Type 0} (total : List A) (front : List A) (rest : List A) (place : ℕ) (why : S) (total_place : ℕ) (total_why : S) : Type 0 where
   pub values : total ≡ front ++ rest
   pub place_is : total_place ≡ place
@@ -35,7 +36,7 @@ pairs_turn words at a b d old new total fit le e is so_far =
     let joined : old ++ ((a ∷ b ∷ d ∷ []) ++ flat (pairs_from (at + 2) (drop (at + 2) words)).taken) ≡ new ++ flat (pairs_from (at + 2) (drop (at + 2) words)).taken = rw is (simp append_assoc) in
     (record { values = before.values ∙ joined; place_is = before.place_is; why_is = before.why_is }, omega (arith, r.2, length-drop at words))
 
--- All was read.
+-- What was read is what the whole gives.
 pub record Stopped {A S : Type 0} (total front : List A) (at : ℕ) (why : S) (total_place : ℕ) (total_why : S) : Type 0 where
   pub values : front ≡ total
   pub place_is : at ≡ total_place
@@ -73,15 +74,13 @@ items_stop set values at first old k total e so_far =
     let before = rw one at so_far in
     record { values = sym (before.values ∙ append-nil old); place_is = sym before.place_is; why_is = sym before.why_is }
 
--- A run from what the two loops found.
-pub run_is : (set : CodeSet) (place : ℕ) (words values : List ℕ) (count : ℕ) (t : PairsEnd) (read : ℕ) (k : Rest)
-    → values ≡ flat (pairs_in words).taken → count ≡ (pairs_in words).place → t ≡ (pairs_in words).why → read ≡ (items_in set values).place → k ≡ (items_in set values).why
-    → run_front set place words ≡ run_unless (run_fault place count t read k) (1 + count + end_length t) (items_in set values).taken
+-- What stands behind a latch at a place, from what the two loops found in the words behind it.
+pub run_is : (set : CodeSet) (place : ℕ) (words values : List ℕ) (count : ℕ) (t : PairsEnd) (read : ℕ) (k : Rest) (f : Option WordFault)
+    → (let part = take (length words - place) (drop place words) in (values ≡ flat (pairs_in part).taken) × (count ≡ (pairs_in part).place) × (t ≡ (pairs_in part).why))
+    → read ≡ (items_in set values).place → k ≡ (items_in set values).why → run_fault place count t read k ≡ f
+    → run_front set place (drop place words) ≡ run_unless f (1 + count + end_length t) (items_in set values).taken
 unfolding run_front
-run_is set place words values count t read k v c tt' r kk = rw (r, kk, c, tt', v) refl
-
--- A run with no fault and no unlatch has no word for its end.
-pub closing_none : (t : PairsEnd) (place count values : ℕ) (k : Rest) → run_fault place count t values k ≡ None → (t ≡ stop.Unlatch → ⊥) → end_length t ≡ 0
-closing_none stop.Unlatch place count values k e other = absurd (other refl)
-closing_none stop.SymbolEnd place count values k e other = refl
-closing_none stop.BadPair place count values k e other = refl
+run_is set place words values count t read k f pairs r kk e =
+    let all : take (length words - place) (drop place words) ≡ drop place words = take_all _ (drop place words) (omega (arith, length-drop place words)) in
+    let here : (values ≡ flat (pairs_in (drop place words)).taken) × (count ≡ (pairs_in (drop place words)).place) × (t ≡ (pairs_in (drop place words)).why) = rw all at pairs in
+    rw (← e, r, kk, here.1, here.2, here.0) refl

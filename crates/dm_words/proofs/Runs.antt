@@ -29,12 +29,12 @@ module _ {B : Type 0} where
   flat-whats (p ∷ ps) = ap (λ (r : List B). p.what ++ r) (flat-whats ps)
 
 module _ {A : Type 0} (R : List ℕ → A → Type 0) where
-  -- What is right wherever it stands.
+  -- Pieces that are right where they stand are right by themselves, if their place and what follows don't matter.
   each_right : (place : ℕ) (ps : List (Piece A)) (after : List ℕ) → AreJoined (λ place words after a. R words a) place ps after → AllByRecursion (λ p. R p.words p.what) ps
   each_right place [] after h = tt
   each_right place (p ∷ ps) after h = (h.0, each_right (place + length p.words) ps after h.1)
 
-  -- And the other way round.
+  -- Pieces that are right by themselves are right where they stand.
   joined_right : (place : ℕ) (ps : List (Piece A)) (after : List ℕ) → AllByRecursion (λ p. R p.words p.what) ps → AreJoined (λ place words after a. R words a) place ps after
   joined_right place [] after h = tt
   joined_right place (p ∷ ps) after h = (h.0, joined_right (place + length p.words) ps after h.1)
@@ -89,12 +89,12 @@ fault_is set place n values stop.Unlatch left.Waiting rest words f r s e = unfin
 fault_is set place n values stop.SymbolEnd left.Complete rest words f r s e = absurd cc
 fault_is set place n values stop.Unlatch left.Complete rest words f r s e = absurd cc
 
--- What the pairs of a run give is below 40.
+-- The back of a list of values below 40 is such a list.
 run_values-right : (a b : List ℕ) → AreSmall (a ++ b) → AreSmall b
 run_values-right [] b h = h
 run_values-right (v ∷ a) b h = run_values-right a b h.1
 
--- Values below 40, joined.
+-- Two lists of values below 40, joined, are such a list.
 run_values-append : (a b : List ℕ) → AreSmall a → AreSmall b → AreSmall (a ++ b)
 run_values-append [] b ha hb = hb
 run_values-append (v ∷ a) b ha hb = (ha.0, run_values-append a b ha.1 hb)
@@ -106,13 +106,13 @@ pairs_run_values (p ∷ ps) h =
     let one : AreSmall p.what = rw h.0.values_are (h.0.first_small, (h.0.second_small, (h.0.third_small, tt))) in
     run_values-append p.what (gathered ps) one (pairs_run_values ps h.1)
 
--- So many words of a run, and what stands behind them.
+-- The first n codewords are a run, by what follows them.
 pub record RunTakes (set : CodeSet) (words : List ℕ) (n : ℕ) (items : List Item) : Type 0 where
   pub right : IsRun set (take n words) (drop n words) items
   pub some : 0 < n
   pub within : n ≤ length words
 
--- What is found behind a latch is right.
+-- What is found behind a latch is a run, or a faulty run with the fault that is found.
 abbrev pub RunJudged : CodeSet → ℕ → List ℕ → Step (List Item) (Option WordFault) → Type 0
 RunJudged set place words (Takes n items) = RunTakes set words n items
 RunJudged set place words (Stops None) = ⊥
@@ -128,11 +128,11 @@ module _ (set : CodeSet) (place w : ℕ) (is_latch : codeword_of w ≡ Some (cod
   joined_values : gathered p.pieces ≡ spelled v.pieces ++ v.after
   joined_values = sym (flat-whats p.pieces) ∙ sym (ap flat p.taken) ∙ v.whole
 
-  -- Each spelling is one.
+  -- Each piece that was taken from the values is a spelling.
   spellings_right : AllByRecursion (λ p. IsSpelling set p.words p.what) v.pieces
   spellings_right = each_right (IsSpelling set) 0 v.pieces v.after v.joined
 
-  -- Each pair is one.
+  -- Each piece that was taken from the codewords is a pair.
   pairs_right : AllByRecursion (λ p. IsPair p.words p.what) p.pieces
   pairs_right = each_right IsPair 0 p.pieces p.after p.joined
 
@@ -144,7 +144,7 @@ module _ (set : CodeSet) (place w : ℕ) (is_latch : codeword_of w ≡ Some (cod
   stop_is : IsStop p.after pw.why
   stop_is = stop_sound pw.place p.after pw.why p.fits p.stopped
 
-  -- A run with this end.
+  -- With this end, the run that is found is a run.
   run_taken : (end more : List ℕ) (n : ℕ) → p.after ≡ end ++ more → IsRunEnd end more → IsFiller set v.after → n ≡ 1 + length (spelled p.pieces) + length end → RunTakes set (w ∷ words) n vw.taken
   run_taken end more n e ended filler len =
       let front : List ℕ = w ∷ (spelled p.pieces ++ end) in
@@ -154,14 +154,14 @@ module _ (set : CodeSet) (place w : ℕ) (is_latch : codeword_of w ≡ Some (cod
       let run : IsRun set front more vw.taken = record { latch = w; is_latch = is_latch; pairs = p.pieces; each = pairs_right; end = end; ended = ended; whole = refl; values = values } in
       record { right = rw (c.0, c.1) run; some = omega (arith, len); within = c.2 }
 
-  -- A run, by the end of its pairs.
+  -- However the pairs end without a bad one, the run that is found is a run.
   taken_by : (t : PairsEnd) (tw : List ℕ) → p.after ≡ tw → IsStop tw t → t ≢ stop.BadPair → IsFiller set v.after → RunTakes set (w ∷ words) (1 + pw.place + end_length t) vw.taken
   taken_by t tw e (over h is) good filler = rw is (run_taken [] p.after (1 + pw.place + 0) refl (symbol_end refl (e ∙ h)) filler (omega (arith, p.place_is)))
   taken_by t tw e (one_left x ne h is) good filler = rw is (run_taken [] p.after (1 + pw.place + 0) refl (last_word x ne refl (e ∙ h)) filler (omega (arith, p.place_is)))
   taken_by t tw e (unlatched more h is) good filler = rw is (run_taken (254 ∷ []) more (1 + pw.place + 1) (e ∙ h) (unlatch refl) filler (omega (arith, p.place_is)))
   taken_by t tw e (bad x y more ne b h is) good filler = absurd (good is)
 
-  -- A run or a faulty run, by the fault that was found.
+  -- Without a fault it is a run, and with a fault a faulty run.
   judged_by : (f : Option WordFault) → run_fault place pw.place pw.why vw.place vw.why ≡ f → RunJudged set place (w ∷ words) (run_unless f (1 + pw.place + end_length pw.why) vw.taken)
   judged_by None e = let h = no_fault place pw.place vw.place pw.why vw.why e in taken_by pw.why p.after refl stop_is h.1 (subst (IsRestOf set v.after) h.0 rest_is)
   judged_by (Some f) e =
@@ -209,7 +209,7 @@ run_again set place pairs others t spellings rest kind each stop_right each_spel
     let values : flat (whats pairs) ≡ spelled spellings ++ rest = flat-whats pairs ∙ whole in
     rw (p, values, v) refl
 
--- A run and what stands behind it, from its latch on.
+-- The latch of a run, and what is found behind it.
 pub record RunFound (set : CodeSet) (place : ℕ) (words : List ℕ) (answer : Step (List Item) (Option WordFault)) : Type 0 where
   pub latch : ℕ
   pub others : List ℕ
@@ -253,7 +253,7 @@ record FaultFound (set : CodeSet) (place values : ℕ) (rest : List ℕ) (n : �
   left_so : IsRestOf set rest kind
   found : run_fault place n end values kind ≡ Some f
 
--- How the pairs stop.
+-- The pairs stop in one of the ways that the scan knows.
 stop_of : (words : List ℕ) → StopsPairs words → (t : PairsEnd) × IsStop words t
 stop_of words (inl e) = let f = end_found e.end e.after e.ended in (f.0, rw e.whole f.1)
 stop_of words (inr b) = (stop.BadPair, bad b.high b.low b.more b.no_unlatch b.is_bad b.whole refl)

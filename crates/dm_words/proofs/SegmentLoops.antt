@@ -1,4 +1,4 @@
--- Reading a segment.
+-- The loop that reads a segment, and the ways in which it is left.
 use Rattle.std.proofs.Common.{◌≡◌, ℕ, zero, suc, ◌+◌, ◌-◌, ◌<◌, ◌≤◌, List, [], ◌∷◌, ◌++◌, length, take, drop, get_or, refl, sym, ap, subst, ◌∙◌, append_assoc, add-zero, add-one, arith, Option, Some}
 use Rattle.std.proofs.lemmas.List.{take-append-drop, length-take, get_or-drop, length-drop, nil_from_length, take_all}
 use Rattle.std.proofs.Math.Seq.{take-suc, drop-cons}
@@ -11,7 +11,7 @@ use Rattle.dm_words.specs.inner.Scan.Walk.{Step, Takes, Stops}
 use Rattle.dm_words.specs.inner.Scan.Fronts.{plain_at, plain, segment_front}
 use Rattle.dm_words.proofs.Segments.{segment_again, bad_again}
 
--- The bytes of two lists, as items.
+-- The bytes of two lists, joined, as items.
 byte_items-append : (a b : List ℕ) → byte_items (a ++ b) ≡ byte_items a ++ byte_items b
 byte_items-append [] b = refl
 byte_items-append (x ∷ a) b = ap (λ (r : List Item). Byte x ∷ r) (byte_items-append a b)
@@ -27,7 +27,7 @@ get_or-plain place [] i lt = absurd (omega arith)
 get_or-plain place (w ∷ ws) zero lt = rw add-zero refl
 get_or-plain place (w ∷ ws) (suc i) lt = get_or-plain (place + 1) ws i (omega arith) ∙ ap (λ (k : ℕ). plain_at k (get_or ws i 0)) (omega arith)
 
--- One more byte.
+-- One more byte is read.
 pub bytes_more : (words : List ℕ) (start i b : ℕ) (first old new : List Item) → start + i < length words → b ≡ plain_at (start + i + 1) (get_or words (start + i) 0)
     → old ≡ first ++ byte_items (take i (plain (start + 1) (drop start words))) → new ≡ old ++ Byte b ∷ []
     → new ≡ first ++ byte_items (take (i + 1) (plain (start + 1) (drop start words)))
@@ -45,7 +45,7 @@ plain_first words place k d lt is =
     let cut : drop k words ≡ get_or words k 0 ∷ drop (k + 1) words = drop-cons words k 0 lt ∙ ap (λ (j : ℕ). get_or words k 0 ∷ drop j words) (sym (add-one k)) in
     ap (plain place) cut ∙ ap (λ (v : ℕ). v ∷ plain (place + 1) (drop (k + 1) words)) (sym is)
 
--- A field and so many bytes.
+-- A length field and as many bytes as it says.
 pub segment_takes : (place : ℕ) (field values : List ℕ) (n : ℕ) → n ≤ length values → ((after : List ℕ) → IsLengthField field n after) → segment_front place (field ++ values) ≡ Takes (1 + length field + n) (byte_items (take n values))
 segment_takes place field values n le counted =
     let len : length (take n values) ≡ n = omega (arith, length-take n values) in

@@ -14,13 +14,13 @@ use Rattle.dm_words.specs.inner.Scan.Fronts.{plain, segment_by, long_segment, se
 use Rattle.dm_words.proofs.Pairs.{IsBytes}
 use Rattle.dm_words.proofs.Runs.{cut}
 
--- ---- what is written and what is plain
+-- ---- written values and plain ones
 
--- Adding a random number and taking it away.
+-- Adding a random number and taking it away gives the same value.
 random_goes : (v m : ℕ) → v < 256 → 0 < m → m < 256 → ((v + m) % 256 + 256 - m) % 256 ≡ v
 random_goes v m lv pm lm = omega arith
 
--- Taking a random number away and adding it.
+-- Taking a random number away and adding it gives the same codeword.
 random_comes : (w m : ℕ) → w < 256 → 0 < m → m < 256 → ((w + 256 - m) % 256 + m) % 256 ≡ w
 random_comes w m lw pm lm = omega arith
 
@@ -39,7 +39,7 @@ written-plain place (w ∷ ws) fit =
     let m = random_small place in
     rw (random_comes w (random_at place) (fit 0) m.0 m.1, written-plain (place + 1) ws (IsBytes-rest w ws fit)) refl
 
--- The codewords of values stand for them.
+-- The codewords that are written for values stand for these values.
 pub plain-written : (place : ℕ) (vs : List ℕ) → AreBytes vs → plain place (written place vs) ≡ vs
 plain-written place [] fit = refl
 plain-written place (v ∷ vs) fit =
@@ -51,7 +51,7 @@ pub plain_small : (place : ℕ) (ws : List ℕ) → AreBytes (plain place ws)
 plain_small place [] = tt
 plain_small place (w ∷ ws) = (omega arith, plain_small (place + 1) ws)
 
--- Two lists of values, written one behind the other.
+-- Two lists of values, joined, are written one behind the other.
 pub written-append : (place : ℕ) (a b : List ℕ) → written place (a ++ b) ≡ written place a ++ written (place + length a) b
 written-append place [] b = rw add-zero refl
 written-append place (v ∷ a) b = ap (λ (r : List ℕ). ((v + random_at place) % 256) ∷ r) (written-append (place + 1) a b ∙ ap (λ (k : ℕ). written (place + 1) a ++ written k b) (omega arith))
@@ -61,33 +61,33 @@ pub length-written : (place : ℕ) (vs : List ℕ) → length (written place vs)
 length-written place [] = refl
 length-written place (v ∷ vs) = ap suc (length-written (place + 1) vs)
 
--- The first so many bytes are bytes.
+-- The first n bytes are bytes.
 AreBytes-take : (n : ℕ) (vs : List ℕ) → AreBytes vs → AreBytes (take n vs)
 AreBytes-take zero vs fit = tt
 AreBytes-take (suc n) [] fit = tt
 AreBytes-take (suc n) (v ∷ vs) fit = (fit.0, AreBytes-take n vs fit.1)
 
--- Bytes, joined.
+-- Two lists of bytes, joined, are bytes.
 pub AreBytes-append : (a b : List ℕ) → AreBytes a → AreBytes b → AreBytes (a ++ b)
 AreBytes-append [] b fa fb = fb
 AreBytes-append (v ∷ a) b fa fb = (fa.0, AreBytes-append a b fa.1 fb)
 
 -- ---- what is found is right
 
--- So many words of a segment, and what stands behind them.
+-- The first n codewords are a segment, by what follows them.
 pub record SegmentTakes (place : ℕ) (words : List ℕ) (n : ℕ) (items : List Item) : Type 0 where
   pub right : IsSegment place (take n words) (drop n words) items
   pub some : 0 < n
   pub within : n ≤ length words
 
--- What is found behind a latch is right.
+-- What is found behind a latch is a segment, or a faulty one with a bad length.
 abbrev pub SegmentJudged : ℕ → List ℕ → Step (List Item) (Option WordFault) → Type 0
 SegmentJudged place words (Takes n items) = SegmentTakes place words n items
 SegmentJudged place words (Stops None) = ⊥
 SegmentJudged place words (Stops (Some f)) = IsFaultySegment place words × (f ≡ fault.Length place)
 
 module _ (place w : ℕ) (is_latch : codeword_of w ≡ Some codeword.Base256) (words : List ℕ) where
-  -- A segment with this field and these bytes.
+  -- With this field and these bytes, the segment that is found is a segment.
   taken : (field bytes more : List ℕ) (n : ℕ) → words ≡ written (place + 1) ((field ++ bytes) ++ more) → AreBytes bytes
       → IsLengthField field (length bytes) (written (place + 1 + length (field ++ bytes)) more) → n ≡ 1 + length field + length bytes → SegmentTakes place (w ∷ words) n (byte_items bytes)
   taken field bytes more n e fit counted len =
@@ -98,11 +98,11 @@ module _ (place w : ℕ) (is_latch : codeword_of w ≡ Some codeword.Base256) (w
       let right : IsSegment place front back (byte_items bytes) = record { latch = w; is_latch = is_latch; field = field; bytes = bytes; whole = refl; in_range = fit; counted = counted; items_are = refl } in
       record { right = rw (c.0, c.1) right; some = omega (arith, len); within = c.2 }
 
-  -- A segment with a bad length.
+  -- With a bad length, the segment is faulty.
   faulty : (values : List ℕ) → words ≡ written (place + 1) values → AreBytes values → IsBadLength values → IsFaultySegment place (w ∷ words) × (fault.Length place ≡ fault.Length place)
   faulty values e fit is_bad = (record { latch = w; is_latch = is_latch; values = values; whole = ap (λ (r : List ℕ). w ∷ r) e; in_range = fit; is_bad = is_bad }, refl)
 
-  -- By the number of bytes that the field says.
+  -- What is found by the number of bytes that the field says is right.
   by_count : (field values : List ℕ) (n : ℕ) (b : Bool) → words ≡ written (place + 1) (field ++ values) → AreBytes field → AreBytes values → ltb (length values) n ≡ b
       → (length values < n → IsBadLength (field ++ values)) → ((count : ℕ) (after : List ℕ) → count ≡ n → IsLengthField field count after)
       → SegmentJudged place (w ∷ words) (cond b (Stops (Some (fault.Length place))) (Takes (1 + length field + n) (byte_items (take n values))))
@@ -114,7 +114,7 @@ module _ (place w : ℕ) (is_latch : codeword_of w ≡ Some codeword.Base256) (w
       e ∙ ap (λ (r : List ℕ). written (place + 1) r) (ap (λ (r : List ℕ). field ++ r) (sym (take-append-drop n values)) ∙ sym (append_assoc field (take n values) (drop n values))) in
       taken field (take n values) (drop n values) (1 + length field + n) regrouped (AreBytes-take n values fit) (good (length (take n values)) _ len) (omega (arith, len))
 
-  -- By the second length number.
+  -- What is found by the second length number is right.
   by_second : (d e : ℕ) (values : List ℕ) (b : Bool) → words ≡ written (place + 1) (d ∷ e ∷ values) → AreBytes (d ∷ e ∷ values) → 249 < d → ltb 249 e ≡ b
       → SegmentJudged place (w ∷ words) (cond b (Stops (Some (fault.Length place))) (segment_by place 2 (long_count d e) values))
   by_second d e values true eq fit big eb = faulty (d ∷ e ∷ values) eq fit (wrong_second d e values big (ltb-true _ _ eb) refl)
@@ -122,12 +122,12 @@ module _ (place w : ℕ) (is_latch : codeword_of w ≡ Some codeword.Base256) (w
       let le : e ≤ 249 = ltb-false _ _ eb in
       by_count (d ∷ e ∷ []) values (long_count d e) _ eq (fit.0, (fit.1.0, tt)) fit.1.1 refl (λ lt. past_long d e values big le refl lt) (λ count after is. long d e big fit.0 le refl is)
 
-  -- By the values behind a first length number of 250 or more.
+  -- What is found behind a first length number of 250 or more is right.
   by_long : (d : ℕ) (values : List ℕ) → words ≡ written (place + 1) (d ∷ values) → AreBytes (d ∷ values) → 249 < d → SegmentJudged place (w ∷ words) (long_segment place d values)
   by_long d [] eq fit big = faulty (d ∷ []) eq fit (no_second d big refl)
   by_long d (e ∷ values) eq fit big = by_second d e values _ eq fit big refl
 
-  -- By the first length number.
+  -- What is found by the first length number is right.
   by_first : (d : ℕ) (values : List ℕ) (a b : Bool) → words ≡ written (place + 1) (d ∷ values) → AreBytes (d ∷ values) → eqb d 0 ≡ a → ltb 249 d ≡ b
       → SegmentJudged place (w ∷ words) (cond a (Takes (2 + length values) (byte_items values)) (cond b (long_segment place d values) (segment_by place 1 d values)))
   by_first d values true b eq fit ea eb =
@@ -139,7 +139,7 @@ module _ (place w : ℕ) (is_latch : codeword_of w ≡ Some codeword.Base256) (w
       let pos : 0 < d = grind (arith, nat_tests) in
       by_count (d ∷ []) values d _ eq (fit.0, tt) fit.1 refl (λ lt. past_short d values le refl lt) (λ count after is. short d pos le refl is)
 
-  -- By the values behind the latch.
+  -- What is found by the values behind the latch is right.
   by_values : (values : List ℕ) → words ≡ written (place + 1) values → AreBytes values → SegmentJudged place (w ∷ words) (segment_front place values)
   unfolding segment_front
   by_values [] eq fit = faulty [] eq fit (missing refl)
@@ -192,7 +192,7 @@ bad_again place values (past_long d f more big le e lt) =
     let g : ltb (length more) (long_count d f) ≡ true = grind (arith, nat_tests) in
     rw (e, a, b, c, g) refl
 
--- A segment and what stands behind it, from its latch on.
+-- The latch of a segment, and what is found behind it.
 pub record SegmentFound (place : ℕ) (words : List ℕ) (answer : Step (List Item) (Option WordFault)) : Type 0 where
   pub latch : ℕ
   pub others : List ℕ
@@ -247,7 +247,7 @@ bad_complete place words s = record {
   found = ap (segment_front place) (plain-written (place + 1) s.values s.in_range) ∙ bad_again place s.values s.is_bad;
 }
 
--- One item for each byte.
+-- There is one item for each byte.
 pub byte_items-length : (bs : List ℕ) → length (byte_items bs) ≡ length bs
 byte_items-length [] = refl
 byte_items-length (b ∷ bs) = ap suc (byte_items-length bs)

@@ -1,4 +1,4 @@
--- The items among the values of a run, as they are found, are those that are spelled.
+-- The items that the scan finds among the values of a run are those that they spell.
 use Rattle.std.proofs.Common.{◌≡◌, ◌≢◌, ℕ, ◌+◌, ◌<◌, ◌≤◌, List, [], ◌∷◌, ◌++◌, length, take, drop, refl, sym, ap, subst, ◌∙◌, arith, Option, Some, None, inl, inr, ◌⊎◌}
 use Rattle.std.specs.List.{AllByRecursion}
 use Rattle.std.proofs.lemmas.Bool.Decides.{nat_tests}
@@ -47,7 +47,7 @@ IsRestOf set values left.Waiting = IsWaiting set values
 IsRestOf set values left.WrongUpperShift = BeginsWrongUpperShift set values
 IsRestOf set values (left.Meaningless index) = BeginsWithoutMeaning set values index
 
--- The first so many values spell this item.
+-- The first n values spell this item.
 abbrev Right : CodeSet → List ℕ → ℕ → Item → Type 0
 Right set values n item = IsSpelling set (take n values) item × (0 < n) × (n ≤ length values)
 
@@ -56,11 +56,11 @@ abbrev Judged : CodeSet → List ℕ → Step Item Rest → Type 0
 Judged set values (Takes n item) = Right set values n item
 Judged set values (Stops kind) = AreSmall values → IsRestOf set values kind
 
--- A shift and a value.
+-- A shift and the value after it.
 two : (set : CodeSet) (s v : ℕ) (shift : Shift) (meaning : Option Shifted) → basic_of set s ≡ Some (basic.Shift shift) → shifted_of set shift v ≡ meaning → IsShifted set (s ∷ v ∷ []) meaning
 two set s v shift meaning es ev = record { first = s; second = v; shift = shift; is_shift = es; means = ev; whole = refl }
 
--- Behind an Upper Shift and a shift.
+-- What is found behind an Upper Shift and a shift is right.
 judged_raised_shifted : (set : CodeSet) (s v t w : ℕ) (shift : Shift) (more : List ℕ) (k : Option Shifted) → IsUpperShift set (s ∷ v ∷ []) → basic_of set t ≡ Some (basic.Shift shift) → shifted_of set shift w ≡ k
     → Judged set (s ∷ v ∷ t ∷ w ∷ more) (raised_shifted k)
 judged_raised_shifted set s v t w shift more (Some (shifted.Character b)) u et ew = (raised (s ∷ v ∷ []) (t ∷ w ∷ []) b u (by_shift (two set t w shift _ et ew)) refl refl, omega arith, omega arith)
@@ -68,14 +68,14 @@ judged_raised_shifted set s v t w shift more (Some shifted.Fnc1) u et ew = λ fi
 judged_raised_shifted set s v t w shift more (Some shifted.UpperShift) u et ew = λ fit. record { upper = s ∷ v ∷ []; two = t ∷ w ∷ []; more = more; is_upper = u; is_wrong = inr (two set t w shift _ et ew); whole = refl }
 judged_raised_shifted set s v t w shift more None u et ew = λ fit. after_upper_shift (s ∷ v ∷ []) (t ∷ w ∷ []) more u (two set t w shift _ et ew) refl refl
 
--- Behind an Upper Shift.
+-- What is found behind an Upper Shift is right.
 judged_raised : (set : CodeSet) (s v t : ℕ) (more : List ℕ) (k : Option Basic) → IsUpperShift set (s ∷ v ∷ []) → basic_of set t ≡ k → Judged set (s ∷ v ∷ t ∷ more) (raised_by set more k)
 judged_raised set s v t more None u et = λ fit. absurd (basic_some set t fit.1.1.0 et)
 judged_raised set s v t more (Some (basic.Character b)) u et = (raised (s ∷ v ∷ []) (t ∷ []) b u (plain t et refl) refl refl, omega arith, omega arith)
 judged_raised set s v t [] (Some (basic.Shift shift)) u et = λ fit. record { upper = s ∷ v ∷ []; filler = t ∷ []; is_upper = u; ended = lone_shift t shift et refl; whole = refl }
 judged_raised set s v t (w ∷ more) (Some (basic.Shift shift)) u et = judged_raised_shifted set s v t w shift more (shifted_of set shift w) u et refl
 
--- Behind a shift.
+-- What is found behind a shift is right.
 judged_shifted : (set : CodeSet) (s v : ℕ) (shift : Shift) (more : List ℕ) (k : Option Shifted) → basic_of set s ≡ Some (basic.Shift shift) → shifted_of set shift v ≡ k → Judged set (s ∷ v ∷ more) (shifted_by set more k)
 judged_shifted set s v shift more (Some (shifted.Character b)) es ev = (character b (by_shift (two set s v shift _ es ev)) refl, omega arith, omega arith)
 judged_shifted set s v shift more (Some shifted.Fnc1) es ev = (fnc1 (two set s v shift _ es ev) refl, omega arith, omega arith)
@@ -83,7 +83,7 @@ judged_shifted set s v shift more None es ev = λ fit. at_once (s ∷ v ∷ []) 
 judged_shifted set s v shift [] (Some shifted.UpperShift) es ev = λ fit. record { upper = s ∷ v ∷ []; filler = []; is_upper = two set s v shift _ es ev; ended = nothing refl; whole = refl }
 judged_shifted set s v shift (t ∷ more) (Some shifted.UpperShift) es ev = judged_raised set s v t more (basic_of set t) (two set s v shift _ es ev) refl
 
--- By the meaning of the first value.
+-- What is found by the meaning of the first value is right.
 judged_spelling : (set : CodeSet) (s : ℕ) (more : List ℕ) (k : Option Basic) → basic_of set s ≡ k → Judged set (s ∷ more) (spelling_by set more k)
 judged_spelling set s more None es = λ fit. absurd (basic_some set s fit.0 es)
 judged_spelling set s more (Some (basic.Character b)) es = (character b (plain s es refl) refl, omega arith, omega arith)
@@ -131,7 +131,7 @@ waiting_complete : (set : CodeSet) (place : ℕ) (values upper filler : List ℕ
 waiting_complete set place values upper filler u (nothing e) w = rw (w, u.whole, e) (rw (u.is_shift, u.means) refl)
 waiting_complete set place values upper filler u (lone_shift v shift e is) w = rw (w, u.whole, is) (rw (u.is_shift, u.means, e) refl)
 
--- An Upper Shift before no character is found.
+-- An Upper Shift before something that is not a character is found.
 wrong_complete : (set : CodeSet) (place : ℕ) (values upper pair more : List ℕ) → IsUpperShift set upper → IsShifted set pair (Some shifted.Fnc1) ⊎ IsUpperShift set pair → values ≡ upper ++ (pair ++ more)
     → spelling_front set place values ≡ Stops left.WrongUpperShift
 wrong_complete set place values upper pair more u (inl t) w = rw (w, u.whole, t.whole) (rw (u.is_shift, u.means, t.is_shift, t.means) refl)
@@ -171,7 +171,7 @@ rest_begins_no_spelling set values r front more item e s =
     let both : Stops k.0 ≡ Takes (length front) item = sym stops ∙ ap (spelling_front set 0) e ∙ takes in
     cc
 
--- By what is found at the front.
+-- Whatever is found at the front, values with no whole spelling there are a rest.
 no_spelling_by : (set : CodeSet) (values : List ℕ) (s : Step Item Rest) → spelling_front set 0 values ≡ s → AreSmall values → BeginsNoSpelling set values → IsRest set values
 no_spelling_by set values (Takes n item) e fit none = absurd (none (take n values) (drop n values) item (sym (take-append-drop n values)) ((item_sound set).right 0 values n item tt e).0)
 no_spelling_by set values (Stops kind) e fit none = rest_of set values kind (rest_sound set 0 values kind fit e)

@@ -17,19 +17,19 @@ module _ {A S : Type 0} where
     pub stopped : step w.place after ≡ Stops w.why
     pub fits : Fit after
 
-  -- A step takes only what is right.
+  -- Each piece that a step takes is right.
   pub record IsSound (step : ℕ → List ℕ → Step A S) (IsRight : ℕ → List ℕ → List ℕ → A → Type 0) (Fit : List ℕ → Type 0) : Type 0 where
     pub right : (place : ℕ) (words : List ℕ) (n : ℕ) (a : A) → Fit words → step place words ≡ Takes n a
         → IsRight place (take n words) (drop n words) a × (0 < n) × (n ≤ length words)
     pub fits : (n : ℕ) (words : List ℕ) → Fit words → Fit (drop n words)
 
-  -- A step takes what is right.
+  -- Each piece that is right is taken by a step.
   abbrev pub IsComplete : (ℕ → List ℕ → Step A S) → (ℕ → List ℕ → List ℕ → A → Type 0) → Type 0
   IsComplete step IsRight = (place : ℕ) (words after : List ℕ) (a : A) → IsRight place words after a
       → (step place (words ++ after) ≡ Takes (length words) a) × (0 < length words)
 
   module _ (step : ℕ → List ℕ → Step A S) (IsRight : ℕ → List ℕ → List ℕ → A → Type 0) (Fit : List ℕ → Type 0) (never : S) where
-    -- One piece before a walk.
+    -- One more piece before a walk.
     then_walks : (place : ℕ) (words : List ℕ) (n : ℕ) (a : A) (w : Walked A S) → IsRight place (take n words) (drop n words) a → n ≤ length words
         → Walks step IsRight Fit (place + n) (drop n words) w → Walks step IsRight Fit place words (and_before a w)
     then_walks place words n a w right le v =

@@ -1,4 +1,4 @@
--- What is read is spelled, what is refused is refused, and the other way round.
+-- A message is read from codewords exactly where they spell it, and a fault is found exactly where they are refused with it.
 use Rattle.std.proofs.Common.{◌≡◌, ℕ, zero, suc, ◌+◌, List, [], ◌∷◌, ◌++◌, length, refl, sym, ap, subst, ◌∙◌, arith, Option, Some, None, Result, Ok, Err, inl, inr}
 use Rattle.dm_words.specs.declared.item.Item.{Item}
 use Rattle.dm_words.specs.declared.fault.WordFault.{WordFault}
@@ -18,11 +18,11 @@ use Rattle.dm_words.proofs.Parts.{part_sound, part_complete, fault_sound, fault_
 abbrev walked : List ℕ → Walked (List Item) (Option WordFault)
 walked words = walk part_front None (suc (length words)) 1 words
 
--- It takes parts, joined.
+-- It takes parts, one after the other.
 the_walk : (words : List ℕ) → IsBytes words → Walks part_front IsPart IsBytes 1 words (walked words)
 the_walk words fit = walks part_front IsPart IsBytes None part_sound (suc (length words)) 1 words (omega arith) fit
 
--- What a walk tells: a message where it came to an end, else a fault.
+-- A walk that came to the end gives a message that is spelled; another one gives a fault that is there.
 outcome : (words : List ℕ) (w : Walked (List Item) (Option WordFault)) (why : Option WordFault) → w.why ≡ why → Walks part_front IsPart IsBytes 1 words w
     → ((m : List Item) → read_to (flat w.taken) why ≡ Ok m → Spells words m) × ((f : WordFault) → read_to (flat w.taken) why ≡ Err f → Refused words f)
 outcome words w None e v = (
@@ -47,37 +47,37 @@ outcome words w (Some g) e v = (
   }),
 )
 
--- What is read is spelled.
+-- A message that is read is spelled.
 pub reads_spelled : (words : List ℕ) (m : List Item) → IsBytes words → reading words ≡ Ok m → Spells words m
 unfolding reading read_on
 reads_spelled words m fit e = (outcome words (walked words) (walked words).why refl (the_walk words fit)).0 m e
 
--- What is refused in reading is refused.
+-- A fault that is found in reading is one with which the codewords are refused.
 pub reads_refused : (words : List ℕ) (f : WordFault) → IsBytes words → reading words ≡ Err f → Refused words f
 unfolding reading read_on
 reads_refused words f fit e = (outcome words (walked words) (walked words).why refl (the_walk words fit)).1 f e
 
--- What is spelled is read.
+-- A message that is spelled is read.
 pub spelled_reads : (words : List ℕ) (m : List Item) → Spells words m → reading words ≡ Ok m
 unfolding reading read_on
 spelled_reads words m s =
     let w = walk-joined part_front IsPart IsBytes None part_complete (suc (length (spelled s.parts ++ s.after))) 1 s.parts s.after None s.joined (end_complete (1 + length (spelled s.parts)) s.after s.ended) (omega arith) in
     rw (s.whole, w, s.items, flat-whats s.parts) refl
 
--- What is refused is refused in reading.
+-- A fault with which the codewords are refused is found in reading.
 pub refused_reads : (words : List ℕ) (f : WordFault) → Refused words f → reading words ≡ Err f
 unfolding reading read_on
 refused_reads words f r =
     let w = walk-joined part_front IsPart IsBytes None part_complete (suc (length (spelled r.parts ++ r.after))) 1 r.parts r.after (Some f) r.joined (fault_complete (1 + length (spelled r.parts)) r.after f r.faulty) (omega arith) in
     rw (r.whole, w) refl
 
--- Bytes, by recursion and by index.
+-- Bytes by recursion are bytes by index.
 pub bytes_at : (words : List ℕ) → AreBytes words → IsBytes words
 bytes_at [] fit i = omega arith
 bytes_at (w ∷ words) fit zero = fit.0
 bytes_at (w ∷ words) fit (suc i) = bytes_at words fit.1 i
 
--- One answer, by what is read.
+-- Codewords have one answer, by what is read from them.
 answer_of : (words : List ℕ) (r : Result (List Item) WordFault) → reading words ≡ r → IsBytes words → HasOneAnswer words
 answer_of words (Ok m) e fit = inl (record {
   message = m;
@@ -92,6 +92,6 @@ answer_of words (Err f) e fit = inr (record {
   not_spelled = λ m s. (let h = spelled_reads words m s in cc);
 })
 
--- One message or one fault.
+-- Codewords have one answer: a message or a fault.
 pub one_answer : (words : List ℕ) → AreBytes words → HasOneAnswer words
 one_answer words fit = answer_of words (reading words) refl (bytes_at words fit)

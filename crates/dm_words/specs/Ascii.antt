@@ -14,7 +14,7 @@ pub data IsAsciiUnit (words : List ℕ) (items : List Item) : Type 0 where
   fnc1 : (w : ℕ) → codeword_of w ≡ Some codeword.Fnc1 → words ≡ w ∷ [] → items ≡ Fnc1 ∷ [] → IsAsciiUnit words items
   raised : (s w b : ℕ) → codeword_of s ≡ Some codeword.UpperShift → codeword_of w ≡ Some (codeword.Character b) → words ≡ s ∷ w ∷ [] → items ≡ Byte (b + 128) ∷ [] → IsAsciiUnit words items
 
--- The byte of a digit, 0 to 9.
+-- The byte is a digit, 0 to 9.
 abbrev pub is_digit : ℕ → Bool
 is_digit b = nat_le 48 b && nat_le b 57
 
@@ -34,7 +34,7 @@ IsGreedy [] = Unit {0}
 IsGreedy (u ∷ []) = Unit {0}
 IsGreedy (u ∷ v ∷ us) = (IsOneDigit u.what → BeginsWithDigit v.what → ⊥) × IsGreedy (v ∷ us)
 
--- The ASCII form of a message: the words are a joining of such units whose items, joined, are the message.
+-- The ASCII form of a message: units, one after the other, with no such pair among them, whose items, joined, are the message.
 pub record IsAscii (m : List Item) (words : List ℕ) : Type 0 where
   pub units : List (Piece (List Item))
   pub each : AllByRecursion (λ u. IsAsciiUnit u.words u.what) units
@@ -42,15 +42,15 @@ pub record IsAscii (m : List Item) (words : List ℕ) : Type 0 where
   pub whole : words ≡ spelled units
   pub items : m ≡ gathered units
 
--- The codeword of two digit bytes.
+-- The codeword of two digits, given as bytes.
 abbrev pub digit_pair : ℕ → ℕ → ℕ
 digit_pair tens ones = 130 + (10 * (tens - 48) + (ones - 48))
 
--- The codewords of a byte of 0 to 255 alone.
+-- The codewords of one byte of 0 to 255, by itself.
 abbrev pub single : ℕ → List ℕ
 single b = if nat_lt b 128 then (b + 1) ∷ [] else 235 ∷ (b - 127) ∷ []
 
--- The same form by the front of the message, whose bytes are 0 to 255: two digits are taken together wherever they stand at the front.
+-- The same form, computed from the front of the message, whose bytes are 0 to 255: where two digits come first, they are taken together.
 abbrev pub ascii : List Item → List ℕ
 ascii [] = []
 ascii (Fnc1 ∷ m) = 232 ∷ ascii m

@@ -1,7 +1,7 @@
--- A list as a joining of pieces.
+-- Lists that are cut into pieces.
 use Rattle.std.specs.Prelude.{ℕ, ◌+◌, List, [], ◌∷◌, ◌++◌, length}
 
--- Some numbers of a list (codewords, or the values of a run), and what they stand for.
+-- A piece: some numbers of a list, which are codewords or the values of a run, and what they stand for.
 pub record Piece (A : Type 0) : Type 0 where
   pub words : List ℕ
   pub what : A
@@ -17,8 +17,8 @@ module _ {A : Type 0} where
   whats [] = []
   whats (p ∷ ps) = p.what ∷ whats ps
 
-  -- Each piece is right where it stands: at its place, the first piece at this one, and before all that comes after it, to the end of
-  -- the list. `after` comes after the last piece.
+  -- Each piece is right where it stands: at its place, which for the first piece is this one, and before everything that follows it, up to
+  -- the end of the list. `after` follows the last piece.
   abbrev pub AreJoined : (ℕ → List ℕ → List ℕ → A → Type 0) → ℕ → List (Piece A) → List ℕ → Type 0
   AreJoined IsRight place [] after = Unit {0}
   AreJoined IsRight place (p ∷ ps) after =

@@ -21,15 +21,15 @@ pub record RefusedOnly (words : List ℕ) : Type 0 where
   pub only : (other : WordFault) → Refused words other → other ≡ why
   pub not_spelled : (m : List Item) → Spells words m → ⊥
 
--- One message, or one fault.
+-- The words have one answer: a message, or a fault.
 abbrev pub HasOneAnswer : List ℕ → Type 0
 HasOneAnswer words = SpellsOnly words ⊎ RefusedOnly words
 
--- Codewords: each is 0 to 255.
+-- Each of these codewords is 0 to 255.
 abbrev pub AreCodewords : List ℕ → Type 0
 AreCodewords words = All (λ w. w < 256) words
 
--- Values of a run: each is 0 to 39.
+-- Each of these values of a run is 0 to 39.
 abbrev pub AreRunValues : List ℕ → Type 0
 AreRunValues values = All (λ v. v < 40) values
 

@@ -15,8 +15,8 @@ has_fnc1 [] = false
 has_fnc1 (Byte b ∷ m) = has_fnc1 m
 has_fnc1 (Fnc1 ∷ m) = true
 
--- The length field of so many bytes, written out: one number up to 249, else two. From 1750 on the first would be no byte;
--- no symbol holds as many.
+-- The length field of so many bytes, written out: one number up to 249, else two. From 1750 bytes on the first number would be more than 255,
+-- but no symbol holds so many.
 abbrev pub length_numbers : ℕ → List ℕ
 length_numbers n = if nat_le n 249 then n ∷ [] else (249 + n / 250) ∷ (n % 250) ∷ []
 
@@ -24,8 +24,8 @@ length_numbers n = if nat_le n 249 then n ∷ [] else (249 + n / 250) ∷ (n % 2
 abbrev pub one_segment : List ℕ → List ℕ
 one_segment bytes = 231 ∷ written 2 (length_numbers (length bytes) ++ bytes)
 
--- The shorter form of a message: one segment of all its bytes, where it has no FNC1 and the segment has fewer codewords than the ASCII
--- form; else the ASCII form, also where both have equally many.
+-- The shorter form of a message: one segment of all its bytes, if it has no FNC1 and the segment has fewer codewords than the ASCII form;
+-- else the ASCII form. So the ASCII form is taken where both have equally many codewords.
 abbrev pub shorter : List Item → List ℕ
 shorter m = let s = one_segment (map byte_of m) in if not (has_fnc1 m) && nat_lt (length s) (length (ascii m)) then s else ascii m
 

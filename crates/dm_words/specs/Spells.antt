@@ -1,5 +1,5 @@
--- Which data codewords of a symbol spell which message (ISO/IEC 16022, encodation schemes). The words are all data codewords of the
--- symbol, so their end is its end, and each is 0 to 255.
+-- Which data codewords of a symbol spell which message (ISO/IEC 16022, encodation schemes). The words are all data codewords of the symbol,
+-- each of 0 to 255, so their end is the end of the symbol.
 use Rattle.std.specs.Prelude.{◌≡◌, ℕ, List, [], ◌∷◌, ◌++◌, Some}
 use Rattle.dm_words.specs.declared.item.Item.{Item}
 use Rattle.dm_words.specs.declared.codeword.Codeword.TheVariants as codeword
@@ -10,19 +10,19 @@ use Rattle.dm_words.specs.Ascii.{IsAsciiUnit}
 use Rattle.dm_words.specs.Runs.{IsRun}
 use Rattle.dm_words.specs.Base256.{IsSegment}
 
--- A part of the words and its items: a unit of ASCII, a run, or a segment of Base 256. It begins at a place, and `after` are all words that
--- follow it up to the end of the symbol, pads among them.
+-- A part of the codewords and the items that it spells: a unit of ASCII, a run, or a segment of Base 256. It begins at a place; `after` are
+-- all codewords that follow it, up to the end of the symbol, including pads.
 pub data IsPart (place : ℕ) (words after : List ℕ) (items : List Item) : Type 0 where
   ascii : IsAsciiUnit words items → IsPart place words after items
   run : (set : CodeSet) → IsRun set words after items → IsPart place words after items
   segment : IsSegment place words after items → IsPart place words after items
 
--- The end of the message: no word is left, or a pad and anything.
+-- The end of the message: no codeword is left, or a pad comes next. What follows that pad is ignored.
 pub data IsEnd (words : List ℕ) : Type 0 where
   nothing : words ≡ [] → IsEnd words
   pad : (w : ℕ) (more : List ℕ) → codeword_of w ≡ Some codeword.Pad → words ≡ w ∷ more → IsEnd words
 
--- The words are parts, joined, and an end; the items of the parts, joined, are the message.
+-- The words are parts, one after the other, and then an end; the items of the parts, joined, are the message.
 pub record Spells (words : List ℕ) (message : List Item) : Type 0 where
   pub parts : List (Piece (List Item))
   pub after : List ℕ

@@ -1,4 +1,4 @@
--- The values of a run of C40, Text or X12, and the items that they spell.
+-- The values of a run of C40, Text or X12, and the items that they spell (ISO/IEC 16022, C40, Text and ANSI X12 encodation).
 use Rattle.std.specs.Prelude.{◌≡◌, ℕ, ◌+◌, List, [], ◌∷◌, ◌++◌, Option, Some, None, ◌⊎◌}
 use Rattle.std.specs.List.{AllByRecursion}
 use Rattle.dm_words.specs.declared.item.Item.{Item}
@@ -11,7 +11,7 @@ use Rattle.dm_words.specs.declared.c40.set.Shifted.TheVariants as shifted
 use Rattle.dm_words.specs.CodeSets.{basic_of, shifted_of}
 use Rattle.dm_words.specs.Joined.{Piece, spelled, whats}
 
--- A shift and a value, which together mean this; `None` is nothing.
+-- A shift and the value after it, which together have this meaning; `None` says that they have none.
 pub record IsShifted (set : CodeSet) (values : List ℕ) (meaning : Option Shifted) : Type 0 where
   pub first : ℕ
   pub second : ℕ
@@ -20,11 +20,11 @@ pub record IsShifted (set : CodeSet) (values : List ℕ) (meaning : Option Shift
   pub means : shifted_of set shift second ≡ meaning
   pub whole : values ≡ first ∷ second ∷ []
 
--- The Upper Shift: Shift 2 and 30.
+-- The Upper Shift: Shift 2 and the value 30.
 abbrev pub IsUpperShift : CodeSet → List ℕ → Type 0
 IsUpperShift set values = IsShifted set values (Some shifted.UpperShift)
 
--- A basic value, or a shift and a value, that gives a byte.
+-- A character: a value of the basic set, or a shift and a value, that means this byte.
 pub data IsCharacter (set : CodeSet) (values : List ℕ) (byte : ℕ) : Type 0 where
   plain : (v : ℕ) → basic_of set v ≡ Some (basic.Character byte) → values ≡ v ∷ [] → IsCharacter set values byte
   by_shift : IsShifted set values (Some (shifted.Character byte)) → IsCharacter set values byte
@@ -35,12 +35,12 @@ pub data IsSpelling (set : CodeSet) (values : List ℕ) (item : Item) : Type 0 w
   fnc1 : IsShifted set values (Some shifted.Fnc1) → item ≡ Fnc1 → IsSpelling set values item
   raised : (upper more : List ℕ) (b : ℕ) → IsUpperShift set upper → IsCharacter set more b → values ≡ upper ++ more → item ≡ Byte (b + 128) → IsSpelling set values item
 
--- At most one lone shift, which means nothing.
+-- Nothing, or one shift with no value after it, which means nothing.
 pub data IsFiller (set : CodeSet) (values : List ℕ) : Type 0 where
   nothing : values ≡ [] → IsFiller set values
   lone_shift : (v : ℕ) (shift : Shift) → basic_of set v ≡ Some (basic.Shift shift) → values ≡ v ∷ [] → IsFiller set values
 
--- The values are spellings of these items, joined, and then at most one lone shift.
+-- The values of a run: spellings of these items, one after the other, and then at most one lone shift.
 pub record AreValues (set : CodeSet) (values : List ℕ) (items : List Item) : Type 0 where
   pub spellings : List (Piece Item)
   pub each : AllByRecursion (λ p. IsSpelling set p.words p.what) spellings
@@ -49,7 +49,7 @@ pub record AreValues (set : CodeSet) (values : List ℕ) (items : List Item) : T
   pub whole : values ≡ spelled spellings ++ filler
   pub items_are : items ≡ whats spellings
 
--- An Upper Shift that waits for its character, alone or before one lone shift.
+-- An Upper Shift that waits for its character: it stands alone, or before one lone shift.
 pub record IsWaiting (set : CodeSet) (values : List ℕ) : Type 0 where
   pub upper : List ℕ
   pub filler : List ℕ
@@ -57,7 +57,8 @@ pub record IsWaiting (set : CodeSet) (values : List ℕ) : Type 0 where
   pub ended : IsFiller set filler
   pub whole : values ≡ upper ++ filler
 
--- The values begin with a shift and a value without meaning, an Upper Shift before them or not; that value stands at this index.
+-- The values begin with a shift and a value that has no meaning after it, with or without an Upper Shift before them. That value stands at
+-- this index.
 pub data BeginsWithoutMeaning (set : CodeSet) (values : List ℕ) (index : ℕ) : Type 0 where
   at_once : (two more : List ℕ) → IsShifted set two None → values ≡ two ++ more → index ≡ 1 → BeginsWithoutMeaning set values index
   after_upper_shift : (upper two more : List ℕ) → IsUpperShift set upper → IsShifted set two None → values ≡ upper ++ (two ++ more) → index ≡ 3 → BeginsWithoutMeaning set values index
@@ -71,7 +72,7 @@ pub record BeginsWrongUpperShift (set : CodeSet) (values : List ℕ) : Type 0 wh
   pub is_wrong : IsShifted set two (Some shifted.Fnc1) ⊎ IsUpperShift set two
   pub whole : values ≡ upper ++ (two ++ more)
 
--- What can stand behind the last whole spelling. Values of a run are 0 to 39.
+-- What can follow the last whole spelling. The values of a run are 0 to 39.
 pub data IsRest (set : CodeSet) (values : List ℕ) : Type 0 where
   complete : IsFiller set values → IsRest set values
   waiting : IsWaiting set values → IsRest set values

@@ -58,7 +58,7 @@ fn unit_at(items: &[Item], at: usize) -> Unit
     single(first)
 }
 
-/// What there is to be known of the ASCII form before it is written.
+/// What is known of the ASCII form before it is written.
 #[derive(Clone, Copy)]
 pub struct AsciiForm {
     /// How many codewords it has.
@@ -67,7 +67,7 @@ pub struct AsciiForm {
     pub has_fnc1: bool,
 }
 
-/// Looks through the items once, without writing.
+/// What is known of the ASCII form of these items, by one look through them.
 pub fn ascii_form(items: &[Item]) -> AsciiForm
     requires { length items.now ≤ MOST_ITEMS }
     ensures length { result.length ≡ length (ascii items.now) }
@@ -102,7 +102,7 @@ pub fn ascii_form(items: &[Item]) -> AsciiForm
     form
 }
 
-/// Writes the ASCII codewords of the items, from the left two digits in one codeword wherever two stand at the front, into the place.
+/// Writes the ASCII codewords of the items into the place: from the left, two digits in one codeword wherever two come first.
 pub fn write_ascii(items: &[Item], words: &mut ArrayVec<u8, MOST_CODEWORDS>)
     requires { length (ascii items.now) ≤ MOST_DATA }
     ensures { words.new.items ≡ ascii items.now }

@@ -119,7 +119,7 @@ pub fn segment_length(count: usize) -> usize
     }
 }
 
-/// The pseudo-random number of the place behind one with this number.
+/// The pseudo-random number of the place after one that has this number.
 fn next_random(number: u32) -> u32
     requires { number ≤ 255 }
     ensures next { (place : ℕ) → number ≡ random_at place → result ≡ random_at (place + 1) }

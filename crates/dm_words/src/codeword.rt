@@ -24,7 +24,7 @@ pub enum Codeword {
     Fnc1,
     /// 128 is added to the character that follows.
     UpperShift,
-    /// The beginning of something that is not read here.
+    /// The first codeword of something that is not read here.
     LeftOut,
 }
 

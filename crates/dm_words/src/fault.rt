@@ -1,12 +1,12 @@
-//! Why codewords spell no message, and why a message has no ASCII codewords.
+//! Why codewords spell no message, and why a message has no codewords.
 
 /// Why a list of data codewords spells no message. A place counts the data codewords of the symbol from 1.
 #[derive(Clone, Copy, Debug, PartialEq, Eq)]
 pub enum WordFault {
-    /// A codeword at this place that ASCII encodation does not use: 0 or 242 to 255.
+    /// The codeword at this place is one that ASCII encodation does not use: 0 or 242 to 255.
     Reserved(u16),
-    /// This codeword, at this place, begins what is left out here: structured append (233), reader programming (234), macro 05
-    /// (236), macro 06 (237), EDIFACT (240) or ECI (241).
+    /// This codeword, at this place, begins something that is not read here: structured append (233), reader programming (234),
+    /// macro 05 (236), macro 06 (237), EDIFACT (240) or ECI (241).
     LeftOut(u8, u16),
     /// An Upper Shift that is followed by something other than its character. The place is that of the codeword 235, or in a
     /// run that of the pair that holds the value 30 of the first Upper Shift.
@@ -22,6 +22,6 @@ pub enum WordFault {
     Unfinished(u16),
 }
 
-/// The ASCII codewords of the message are more than `MOST_DATA`.
+/// The codewords of the message, under its profile, are more than `MOST_DATA`.
 #[derive(Clone, Copy, Debug, PartialEq, Eq)]
 pub struct TooLong;

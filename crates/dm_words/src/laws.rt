@@ -46,8 +46,8 @@ pub fn ascii_is_greedy()
     ensures { (m : List Item) (words : List ℕ) → IsMessage m → IsAscii m words ↔ (words ≡ ascii m) }
 {}
 
-/// The normal form of a message under each profile, with pads up to any number of codewords that holds it and that a symbol has, is so
-/// many codewords, and they spell the message.
+/// The normal form of a message under each profile, with pads up to any number of codewords that holds it and that a symbol can have, is
+/// so many codewords, and they spell the message.
 pub fn normal_form_spells()
     ensures message { (profile : Profile) (m : List Item) (count : ℕ) → IsMessage m → length (normal_form profile m) ≤ count → count ≤ most_data → Spells (padded (normal_form profile m) count) m }
     ensures count { (profile : Profile) (m : List Item) (count : ℕ) → length (normal_form profile m) ≤ count → length (padded (normal_form profile m) count) ≡ count }
@@ -65,19 +65,19 @@ pub fn normal_form_holds_two_items()
     ensures { (profile : Profile) (m : List Item) → length m ≤ 2 * length (normal_form profile m) }
 {}
 
-/// What can stand behind the last whole spelling of a run is exactly what has no whole spelling at its front.
+/// What can follow the last whole spelling of a run is exactly what has no whole spelling at its front.
 pub fn rest_has_no_spelling()
     ensures { (set : CodeSet) (values : List ℕ) → AreRunValues values → IsRest set values ↔ BeginsNoSpelling set values }
 {}
 
-/// In the tables each row has as many codewords or values as bytes or numbers, and none stands in two rows.
+/// Each row of the tables has as many codewords or values as meanings, and none of these is in two rows.
 pub fn tables_are_sound()
     ensures codewords { IsTable codeword_rows }
     ensures basic { (set : CodeSet) → IsTable (basic_rows set) }
     ensures shifted { (set : CodeSet) (shift : Shift) → IsTable (shifted_rows set shift) }
 {}
 
-/// As many data codewords are read and written as the table of sizes has at the most, and a message has two items for each.
+/// The most data codewords that are read and written are those of the largest size, and a message has room for two items for each.
 pub fn limits_are_those_of_the_table()
     ensures data { MOST_DATA ≡ most_data }
     ensures items { MOST_ITEMS ≡ 2 * most_data }

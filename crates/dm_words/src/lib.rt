@@ -27,9 +27,7 @@ pub use fault::{TooLong, WordFault};
 pub use item::Item;
 pub use limits::MOST_ITEMS;
 pub use message::Message;
-pub use normal_form::{
-    ascii_words, ascii_words_to, normal_words, normal_words_to, shorter_words, shorter_words_to,
-};
+pub use normal_form::{ascii_words, normal_words, normal_words_to, shorter_words};
 pub use pad::{add_pads, padded};
 pub use profile::Profile;
 pub use reading::{message_of, message_to};

@@ -38,7 +38,7 @@ impl Message {
         }
     }
 
-    /// Takes all items away. The work is that of the items that were there.
+    /// Takes all items away. The work grows with the number of items that were there.
     pub fn clear(&mut self)
         ensures { self.new ≡ [] }
     {

@@ -9,7 +9,7 @@ use dm_layout::{MOST_CODEWORDS, MOST_DATA, Size};
 
 const FIRST_PAD: u8 = 129;
 
-/// The pad at a place, which isn't the first pad of the symbol.
+/// The pad at a place, where it isn't the first of the symbol.
 fn pad_word(place: u16) -> u8
     requires { place ≤ MOST_DATA }
     ensures { result ≡ pad_at place }

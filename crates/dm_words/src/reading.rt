@@ -88,7 +88,7 @@ fn read_all(words: &[u8], message: &mut Message) -> Result<(), WordFault>
 
 /// The message that the data codewords of a symbol spell, in any of the five encodations, or the fault with which they are
 /// refused. The list is the whole data part, at most `MOST_DATA` codewords, so its end is the end of the symbol. What follows the
-/// first pad is ignored. The first part from the left that is faulty decides; `WordFault` says when each fault comes.
+/// first pad is ignored. The first faulty part from the left decides; `WordFault` says when each fault comes.
 /// ISO/IEC 16022, encodation schemes.
 pub fn message_of(words: &[u8]) -> Result<Message, WordFault>
     requires { length words.now ≤ MOST_DATA }
@@ -104,8 +104,8 @@ pub fn message_of(words: &[u8]) -> Result<Message, WordFault>
     }
 }
 
-/// Does the same as [`message_of()`] in a place: where it answers `Ok`, the message stands there, whatever stood there before. After a
-/// fault the place holds some message.
+/// Does the same as [`message_of()`] in a place: if it answers `Ok`, the place holds the message, whatever it held before. After a fault
+/// it holds some message.
 pub fn message_to(words: &[u8], message: &mut Message) -> Result<(), WordFault>
     requires { length words.now ≤ MOST_DATA }
     ensures message { (m : List Item) → (outcome result message.new ≡ Ok m) ↔ Spells words.now m }

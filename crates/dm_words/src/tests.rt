@@ -336,8 +336,8 @@ fn writes_and_reads_in_places(rt: HostRuntime) {
         assert!(rt; read == message);
     }
     assert!(rt; message_to(&[240], &mut read) == Err(WordFault::LeftOut(240, 1)));
-    assert!(rt; ascii_words_to(&message, &mut words).is_ok());
+    assert!(rt; normal_words_to(Profile::Ascii, &message, &mut words).is_ok());
     assert_eq!(rt; words.as_slice(), [66].as_slice());
-    assert!(rt; shorter_words_to(&message, &mut words).is_ok());
+    assert!(rt; normal_words_to(Profile::Shorter, &message, &mut words).is_ok());
     assert_eq!(rt; words.as_slice(), [66].as_slice());
 }

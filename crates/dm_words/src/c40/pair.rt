@@ -11,7 +11,7 @@ use dm_layout::MOST_DATA;
 
 const UNLATCH: u8 = 254;
 
-/// Why no pair stands at the front: the unlatch stands there, no two codewords are left, or its number is 0 or more than 64000.
+/// Why no further pair follows: the next codeword is the unlatch, fewer than two codewords are left, or their number is 0 or more than 64000.
 #[derive(Clone, Copy)]
 pub enum PairsEnd {
     Unlatch,

@@ -2,7 +2,7 @@
 
 ghost use Rattle.std.specs.Prelude.{◌≡◌, ◌+◌, ◌*◌, ◌/◌, ◌^◌, ◌≤◌, ◌<◌, length, drop};
 ghost use Rattle.dm_words.specs.RunFaults.{pair_place as pair_place_of};
-ghost use Rattle.dm_words.specs.inner.Scan.Fronts.{run_fault, run_front};
+ghost use Rattle.dm_words.specs.inner.Scan.Fronts.{end_length, run_fault, run_front};
 ghost use Rattle.dm_words.specs.inner.Scan.Answers.{IsPartTaken};
 
 use crate::c40::pair::{PairsEnd, pairs_of};
@@ -21,8 +21,8 @@ fn pair_place(place: u16, index: u16) -> u16
     place + 1 + 2 * (index / 3)
 }
 
-/// What is wrong with the run whose latch stands at a place, if anything is: the first value that offends; where none does, a bad
-/// pair; where there is none, an Upper Shift that waits. The pairs have so many codewords.
+/// What is wrong with the run whose latch stands at a place, if anything is: the first wrong value; if there is none, a bad pair; if
+/// there is none either, an Upper Shift that waits. The pairs have so many codewords.
 fn fault_of(place: u16, pair_words: usize, end: PairsEnd, spelled: Spelled) -> Option<WordFault>
     requires place { place ≤ MOST_DATA }
     requires pair_words { pair_words ≤ MOST_DATA }
@@ -55,11 +55,18 @@ pub fn run_part(
 {
     let pairs = pairs_of(&words[at + 1..]);
     let spelled = read_values(set, pairs.values.as_slice(), message);
-    if let Some(fault) = fault_of(at as u16 + 1, pairs.count, pairs.end, spelled) {
-        return Err(fault);
+    match fault_of(at as u16 + 1, pairs.count, pairs.end, spelled) {
+        Some(fault) => Err(fault),
+        None => Ok(1 + pairs.count + end_length(pairs.end)),
     }
-    match pairs.end {
-        PairsEnd::Unlatch => Ok(1 + pairs.count + 1),
-        _ => Ok(1 + pairs.count),
+}
+
+/// How many codewords the end of a run has.
+fn end_length(end: PairsEnd) -> usize
+    ensures { result ≡ end_length end }
+{
+    match end {
+        PairsEnd::Unlatch => 1,
+        PairsEnd::SymbolEnd | PairsEnd::BadPair => 0,
     }
 }

@@ -9,7 +9,7 @@ use crate::item::Item;
 use crate::limits::MOST_ITEMS;
 use crate::message::Message;
 
-/// What stands behind the last whole spelling.
+/// What follows the last whole spelling.
 #[derive(Clone, Copy)]
 pub enum Rest {
     /// Nothing, or one lone shift, which is dropped.
@@ -18,7 +18,7 @@ pub enum Rest {
     Waiting,
     /// An Upper Shift before FNC1 or another Upper Shift.
     WrongUpperShift,
-    /// A shift before a value without meaning, with or without an Upper Shift. The value stands so many values on.
+    /// A shift before a value that has no meaning after it, with or without an Upper Shift before them. The value stands so many values on.
     Meaningless(u8),
 }
 
@@ -76,7 +76,7 @@ fn raised_at(set: CodeSet, values: &[u8], at: usize) -> Spelling
     }
 }
 
-/// How many values are in whole spellings, and what stands behind them.
+/// How many values are in whole spellings, and what follows them.
 #[derive(Clone, Copy)]
 pub struct Spelled {
     pub count: usize,
