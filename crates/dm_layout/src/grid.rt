@@ -1,6 +1,6 @@
 //! A grid: the square of cells of a symbol.
 
-ghost use Rattle.std.specs.Prelude.{◌≡◌, ℕ, nat_eq, ◌&&◌, ◌||◌, ◌≢◌, ◌*◌, ◌^◌, ◌<◌, ◌↔◌, All, IfOk, IsNone, length};
+ghost use Rattle.std.specs.Prelude.{◌≡◌, ℕ, nat_eq, ◌&&◌, ◌||◌, ◌≢◌, ◌*◌, ◌^◌, ◌<◌, ◌↔◌, All, IfOk, OnErr, OnOk, IsNone, length};
 ghost use Rattle.dm_layout.specs.Sizes.{row_with_side};
 ghost use Rattle.dm_layout.specs.Grid.{IsGrid, IsLight, is_dark_in, cell_at, with_cell, square_of, square_of_rows};
 
@@ -73,17 +73,36 @@ impl Grid {
         ensures size { IfOk result (λ g. row_with_side side ≡ Some g.size) }
         ensures cells { IfOk result (λ g. g.rows ≡ square_of_rows side rows.now) }
     {
-        if rows.len() != side as usize {
-            return Err(GridFault::NotSquare);
-        }
-        let Some(size) = Size::of_side(side) else {
-            return Err(GridFault::NoSuchSize);
-        };
-        let mut kept = [0; LARGEST_SIDE];
+        let size = size_of_square(side, rows)?;
+        let mut grid = Grid::light(size);
+        grid.put_rows(size, rows);
+        Ok(grid)
+    }
+
+    /// Becomes the grid of these rows, as [`Grid::of_rows`] makes it. Where that gives a fault, it stays as it is.
+    pub fn become_rows(&mut self, side: u16, rows: &[u128]) -> Result<(), GridFault>
+        ensures not_square { (result ≡ Err GridFault.NotSquare) ↔ (length rows.now ≢ side) }
+        ensures no_such_size { (result ≡ Err GridFault.NoSuchSize) ↔ ((length rows.now ≡ side) × IsNone (row_with_side side)) }
+        ensures size { OnOk result (row_with_side side ≡ Some self.new.size) }
+        ensures cells { OnOk result (self.new.rows ≡ square_of_rows side rows.now) }
+        ensures same { OnErr result (self.new ≡ self.old) }
+    {
+        let size = size_of_square(side, rows)?;
+        self.put_rows(size, rows);
+        Ok(())
+    }
+
+    /// Makes it the grid of this size with these rows, of each as many cells as the side.
+    fn put_rows(&mut self, square: Size, rows: &[u128])
+        requires { length rows.now ≡ square.side }
+        ensures size { self.new.size ≡ square }
+        ensures cells { self.new.rows ≡ square_of_rows square.side rows.now }
+    {
+        let side = square.side();
+        self.size = square;
         for row in 0..rows.len() {
-            kept[row] = front(rows[row], side);
+            self.rows[row] = front(rows[row], side);
         }
-        Ok(Grid { size, rows: kept })
     }
 
     /// The grid of a size with all cells light.
@@ -167,6 +186,22 @@ impl Grid {
         ensures rows { self.now.rows ≡ square_of_rows self.now.size.side result.now }
     {
         &self.rows[..self.size.side() as usize]
+    }
+}
+
+/// The size of the square that these rows make, or why they make none.
+fn size_of_square(side: u16, rows: &[u128]) -> Result<Size, GridFault>
+    ensures not_square { (result ≡ Err GridFault.NotSquare) ↔ (length rows.now ≢ side) }
+    ensures no_such_size { (result ≡ Err GridFault.NoSuchSize) ↔ ((length rows.now ≡ side) × IsNone (row_with_side side)) }
+    ensures size { IfOk result (λ size. row_with_side side ≡ Some size) }
+    ensures rows { IfOk result (λ size. length rows.now ≡ size.side) }
+{
+    if rows.len() != side as usize {
+        return Err(GridFault::NotSquare);
+    }
+    match Size::of_side(side) {
+        Some(size) => Ok(size),
+        None => Err(GridFault::NoSuchSize),
     }
 }
 

@@ -1,10 +1,11 @@
-use Rattle.std.proofs.Common.{◌+◌, ◌*◌, ◌^◌, ◌<◌, ◌∙◌, ℕ, false, sym, subst, get_or, arith}
+use Rattle.std.proofs.Common.{◌+◌, ◌*◌, ◌^◌, ◌<◌, ◌∙◌, ℕ, false, refl, sym, subst, get_or, replicate, arith}
+use Rattle.dm_layout.specs.Sizes.{largest_side}
 use Rattle.dm_layout.proofs.TableRows.{found_row, side_fits}
 use Rattle.dm_layout.proofs.PackedRows.{packed_at_first, packed_more, kept_of_packed, square_of_packed, length_of_part, cell_of_part}
 use Rattle.dm_layout.proofs.grid.Grid.new.Goals as goal
 
 pub loop-row-init : goal.loop-row-init
-loop-row-init c = packed_at_first c.args.side (λ (r column : ℕ). get_or c.args.cells.now (r * c.args.side + column) false)
+loop-row-init c = packed_at_first c.args.side (λ (r column : ℕ). get_or c.args.cells.now (r * c.args.side + column) false) (replicate largest_side 0) refl
 
 pub packed_row-requires : goal.packed_row-requires
 packed_row-requires c =
@@ -29,7 +30,7 @@ loop-row-preserved c =
 pub invariant_of-result : goal.invariant_of-result
 invariant_of-result c =
     let row = found_row c.args.side c.in-Some.size (sym c.in-Some.ensures) in
-    kept_of_packed c.in-Some.size c.args.side c.loop-row.row (λ (r column : ℕ). get_or c.args.cells.now (r * c.args.side + column) false) c.loop-row.rows row.1 row.0 c.loop-row.invariant
+    kept_of_packed c.in-Some.size c.args.side c.loop-row.row (λ (r column : ℕ). get_or c.args.cells.now (r * c.args.side + column) false) c.loop-row.rows row.1 row.0 (omega arith) c.loop-row.invariant
 
 pub returns-clause-cells : goal.returns-clause-cells
 returns-clause-cells c =

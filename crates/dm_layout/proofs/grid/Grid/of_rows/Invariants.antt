@@ -1,7 +1,0 @@
-use Rattle.std.proofs.Common.{get_or}
-use Rattle.dm_layout.specs.Grid.{is_dark_in}
-use Rattle.dm_layout.proofs.PackedRows.{IsPacked}
-use Rattle.dm_layout.proofs.grid.Grid.of_rows.Given as goal
-
-abbrev pub invariant-loop-row : goal.invariant-loop-row
-invariant-loop-row l = IsPacked l.side l.row (λ r. is_dark_in (get_or l.rows r 0)) l.kept
