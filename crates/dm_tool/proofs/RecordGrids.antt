@@ -79,8 +79,8 @@ is_grid t lines rest rows g h d l f e size drawn =
     same_grid (row_with_side (length all)) all g (ap row_with_side (sym side) ∙ size) these ∙ sym (comes_to t lines rest true h does)
 
 none_by : (why : GridFault) (n : ℕ) (rows : List ℕ) → length rows ≡ n
-    → ((let r : Result GridView GridFault = Err why in r) ≡ Err rows_fault.NotSquare → length rows ≡ n → ⊥)
-    → ((let r : Result GridView GridFault = Err why in r) ≡ Err rows_fault.NoSuchSize → IsNone (row_with_side n)) → IsNone (row_with_side n)
+    → ((let r : Result (Unit {0}) GridFault = Err why in r) ≡ Err rows_fault.NotSquare → length rows ≡ n → ⊥)
+    → ((let r : Result (Unit {0}) GridFault = Err why in r) ≡ Err rows_fault.NoSuchSize → IsNone (row_with_side n)) → IsNone (row_with_side n)
 none_by rows_fault.NotSquare n rows e f g = absurd (f refl e)
 none_by rows_fault.NoSuchSize n rows e f g = g refl
 
@@ -91,8 +91,8 @@ no_size (Some size) lines h = cc
 -- Square lines of a side that no size has make no grid.
 pub no_grid : (t : Rows) (lines : List (List ℕ)) (rest rows : List ℕ) (why : GridFault) → HoldsLines t lines rest → t.differs ≡ false → t.last ≡ t.first
     → t.first ≡ line_count t → rows ≡ t.rows.items
-    → ((let r : Result GridView GridFault = Err why in r) ≡ Err rows_fault.NotSquare → length rows ≡ t.first → ⊥)
-    → ((let r : Result GridView GridFault = Err why in r) ≡ Err rows_fault.NoSuchSize → IsNone (row_with_side t.first))
+    → ((let r : Result (Unit {0}) GridFault = Err why in r) ≡ Err rows_fault.NotSquare → length rows ≡ t.first → ⊥)
+    → ((let r : Result (Unit {0}) GridFault = Err why in r) ≡ Err rows_fault.NoSuchSize → IsNone (row_with_side t.first))
     → Err (fault.NoSuchSize t.first) ≡ record_of (lines ++ last_line rest)
 no_grid t lines rest rows why h d l f e not none =
     let all = lines ++ last_line rest in
