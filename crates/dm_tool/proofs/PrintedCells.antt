@@ -4,9 +4,9 @@ use Rattle.std.specs.List.{list_all, range_with_len, take-map}
 use Rattle.std.specs.Simd.Lanes.{top}
 use Rattle.std.proofs.Math.Nat.{div-div-eq-div-mul}
 use Rattle.std.proofs.lemmas.Bool.{cases_lt, eqb-true, ne_eqb}
-use Rattle.std.proofs.lemmas.List.{get_or_append_left, length-map, length-take-le, map-append}
+use Rattle.std.proofs.lemmas.List.{get_or_append_left, length-map, length-take-le, map-append, take_all}
 use Rattle.std.proofs.lemmas.List.FromFn.{fill_by_all, get_or-map-range_with_len, length-map-range_with_len, take-map-range_with_len}
-use Rattle.std.proofs.Math.Seq.{get_or-append_right}
+use Rattle.std.proofs.Math.Seq.{get_or-append_right, take-append-add}
 use Rattle.std.proofs.lemmas.Nat.{pow-add, pow_pos}
 use Rattle.std.proofs.lemmas.Nat.Bits.{and_pow, bit_at_and}
 use Rattle.dm_symbol.specs.Grid.{is_dark_in}
@@ -103,3 +103,18 @@ row_is row cells width long each = sym (fill_by_all (is_dark_in cells) row width
 -- Of sixteen characters the first few are so many.
 pub few_long : (few cells : ℕ) → few ≤ 16 → length (take few (map character_of (cells_in 16 cells))) ≡ few
 few_long few cells le = length-take-le few (map character_of (cells_in 16 cells)) (omega (arith, cells_long 16 cells))
+
+-- The characters of the first cells of a row, and those of sixteen more, are the characters of all these cells.
+pub sixteen_more : (before : List ℕ) (cells column : ℕ)
+    → (before ++ map character_of (cells_in column cells)) ++ map character_of (cells_in 16 (bit_and (cells / 2 ^ column) 65535)) ≡ before ++ map character_of (cells_in (column + 16) cells)
+sixteen_more before cells column =
+    let part = map character_of (cells_in 16 (bit_and (cells / 2 ^ column) 65535)) in
+    ap (λ (l : List ℕ). (before ++ map character_of (cells_in column cells)) ++ l) (sym (take_all 16 part (omega (arith, cells_long 16 (bit_and (cells / 2 ^ column) 65535)))))
+    ∙ more_cells before cells column 16 (omega arith)
+
+-- Where the characters of too many cells stand after a text, those of the first cells are cut out with it.
+pub first_cells : (before : List ℕ) (cells column width : ℕ) → width ≤ column
+    → take (length before + width) (before ++ map character_of (cells_in column cells)) ≡ before ++ map character_of (cells_in width cells)
+first_cells before cells column width le =
+    take-append-add before (map character_of (cells_in column cells)) width
+    ∙ ap (λ (l : List ℕ). before ++ l) (take-map character_of width (cells_in column cells) ∙ ap (map character_of) (take-map-range_with_len (is_dark_in cells) 0 column width le))

@@ -7,7 +7,7 @@ ghost use Rattle.dm_tool.specs.Spellings.{text_of};
 ghost use Rattle.dm_tool.specs.Refusals.{line_refusal, normal_refusal, read_refusal, record_refusal, too_long_refusal};
 
 use crate::message_line::{LineFault, push_items};
-use crate::printed::{AnswerText, MOST_ANSWER, push_all, push_decimal, push_grid, push_spaced};
+use crate::printed::{AnswerText, MOST_ANSWER, push_decimal, push_grid, push_spaced};
 use crate::record::RecordFault;
 use crate::refusal::{
     push_line_refusal, push_normal_refusal, push_read_refusal, push_record_refusal,
@@ -51,7 +51,7 @@ impl Answer {
     {
         self.begin(false);
         push_items(&mut self.text, message.items());
-        push_all(&mut self.text, b"\n");
+        self.text.push_all(b"\n");
     }
 
     /// Becomes a line that says how damaged a grid of this side is.
@@ -60,7 +60,7 @@ impl Answer {
     {
         self.begin(false);
         push_counts(&mut self.text, side, reading);
-        push_all(&mut self.text, b"\n");
+        self.text.push_all(b"\n");
     }
 
     /// Becomes the refusal of a record.
@@ -69,7 +69,7 @@ impl Answer {
     {
         self.begin(true);
         push_record_refusal(&mut self.text, fault);
-        push_all(&mut self.text, b"\n");
+        self.text.push_all(b"\n");
     }
 
     /// Becomes the refusal of a grid that is not read.
@@ -78,7 +78,7 @@ impl Answer {
     {
         self.begin(true);
         push_read_refusal(&mut self.text, fault);
-        push_all(&mut self.text, b"\n");
+        self.text.push_all(b"\n");
     }
 
     /// Becomes the refusal of a record, and an empty line.
@@ -87,7 +87,7 @@ impl Answer {
     {
         self.begin(true);
         push_record_refusal(&mut self.text, fault);
-        push_all(&mut self.text, b"\n\n");
+        self.text.push_all(b"\n\n");
     }
 
     /// Becomes the refusal of a grid that has no normal grid, and an empty line.
@@ -96,7 +96,7 @@ impl Answer {
     {
         self.begin(true);
         push_normal_refusal(&mut self.text, fault);
-        push_all(&mut self.text, b"\n\n");
+        self.text.push_all(b"\n\n");
     }
 
     /// Becomes the refusal of a line, and an empty line.
@@ -105,7 +105,7 @@ impl Answer {
     {
         self.begin(true);
         push_line_refusal(&mut self.text, fault);
-        push_all(&mut self.text, b"\n\n");
+        self.text.push_all(b"\n\n");
     }
 
     /// Becomes the refusal of a message that fits no size, and an empty line.
@@ -114,7 +114,7 @@ impl Answer {
     {
         self.begin(true);
         push_too_long_refusal(&mut self.text);
-        push_all(&mut self.text, b"\n\n");
+        self.text.push_all(b"\n\n");
     }
 
     /// Becomes a grid, and an empty line.
@@ -123,7 +123,7 @@ impl Answer {
     {
         self.begin(false);
         push_grid(&mut self.text, grid);
-        push_all(&mut self.text, b"\n");
+        self.text.push_all(b"\n");
     }
 
     /// Begins an answer, in which nothing is written yet.
@@ -298,11 +298,11 @@ fn push_counts(text: &mut AnswerText, side: u16, reading: &Reading)
     ensures text { text.new.items ≡ text.old.items ++ check_text side reading.now }
     ensures room { length text.new.items ≤ length text.old.items + MOST_COUNTS }
 {
-    push_all(text, b"ok ");
+    text.push_all(b"ok ");
     push_decimal(text, u64::from(side));
-    push_all(text, b" border ");
+    text.push_all(b" border ");
     push_decimal(text, u64::from(reading.border_faults));
-    push_all(text, b" corrected ");
+    text.push_all(b" corrected ");
     push_spaced(text, &widened(&reading.corrected));
 }
 

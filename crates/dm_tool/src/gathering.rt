@@ -4,15 +4,15 @@ ghost use Rattle.std.specs.Io.KnownBytes.{Appends};
 ghost use Rattle.dm_tool.specs.Devices.{AppendsFront, Counts, IsPassedOn};
 
 use crate::device::Failed;
-use crate::printed::{MOST_ANSWER, push_all};
+use crate::printed::MOST_ANSWER;
 use crate::sink::{Sink, put};
-use arrayvec::ArrayVec;
+use crate::text::Text;
 
 /// The most bytes of answers that wait to be written: those of three of the largest grids.
 const MOST_GATHERED: usize = 3 * MOST_ANSWER;
 
 /// Answers that are to be written together.
-pub(crate) type Gathered = ArrayVec<u8, MOST_GATHERED>;
+pub(crate) type Gathered = Text<MOST_GATHERED>;
 
 /// Gathers the bytes of an answer. Where there is no room for them, all that is gathered is written first.
 pub(crate) fn gather<O: Sink>(
@@ -28,7 +28,7 @@ pub(crate) fn gather<O: Sink>(
 {
     match make_room(sink, gathered, bytes.len()) {
         Ok(()) => {
-            push_all(gathered, bytes);
+            gathered.push_all(bytes);
             Ok(())
         }
         Err(Failed) => Err(Failed),

@@ -5,6 +5,7 @@ ghost use Rattle.dm_tool.specs.Spellings.{spelled, text_of, upper_digit};
 ghost use Rattle.dm_tool.specs.MessageLines.{IsLine};
 
 use crate::open_line::OpenLine;
+use crate::text::Text;
 use arrayvec::ArrayVec;
 use dm_symbol::{Item, MOST_ITEMS, Message};
 
@@ -41,13 +42,15 @@ pub fn message_from(line: &[u8]) -> Result<Message, LineFault>
 pub fn message_text(message: &Message) -> ArrayVec<u8, MOST_TEXT>
     ensures { result.items ≡ text_of message.now }
 {
-    let mut text = ArrayVec::new();
+    let mut text: Text<MOST_TEXT> = Text::new();
     push_items(&mut text, message.items());
-    text
+    let mut list = ArrayVec::new();
+    let _room = list.try_extend_from_slice(text.as_slice());
+    list
 }
 
 /// Appends the text of a message with these items.
-pub(crate) fn push_items<const N: usize>(text: &mut ArrayVec<u8, N>, items: &[Item])
+pub(crate) fn push_items<const N: usize>(text: &mut Text<N>, items: &[Item])
     requires { length text.old.items + 4 * length items.now ≤ N }
     ensures text { text.new.items ≡ text.old.items ++ text_of items.now }
     ensures room { length text.new.items ≤ length text.old.items + 4 * length items.now }
@@ -59,7 +62,7 @@ pub(crate) fn push_items<const N: usize>(text: &mut ArrayVec<u8, N>, items: &[It
 
 /// Appends how an item is written.
 #[inline]
-fn spell<const N: usize>(text: &mut ArrayVec<u8, N>, item: Item)
+fn spell<const N: usize>(text: &mut Text<N>, item: Item)
     requires { length text.old.items + 4 ≤ N }
     ensures text { text.new.items ≡ text.old.items ++ spelled item }
     ensures room { length text.new.items ≤ length text.old.items + 4 }

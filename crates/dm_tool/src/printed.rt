@@ -4,26 +4,19 @@ ghost use Rattle.std.specs.Fmt.{decimal};
 ghost use Rattle.dm_tool.specs.Answers.{character_of, grid_text, spaced};
 ghost use Rattle.dm_tool.specs.inner.OpenRecords.{cells_in};
 
-use arrayvec::ArrayVec;
+use crate::text::Text;
 use dm_symbol::{Grid, LARGEST_SIDE};
 use std::simd::prelude::*;
 
-/// The most bytes of an answer: those of a grid of the largest side, each row with its LF, and of an empty line.
-pub(crate) const MOST_ANSWER: usize = LARGEST_SIDE * (LARGEST_SIDE + 1) + 1;
+/// The most bytes of an answer: those of a grid of the largest side, each row with its LF, and of an empty line; and as many as are
+/// written together, since the last ones of a row are written as a whole and then cut.
+pub(crate) const MOST_ANSWER: usize = LARGEST_SIDE * (LARGEST_SIDE + 1) + 1 + TOGETHER as usize;
 
 /// The text of an answer.
-pub(crate) type AnswerText = ArrayVec<u8, MOST_ANSWER>;
-
-/// Appends bytes.
-pub(crate) fn push_all<const N: usize>(text: &mut ArrayVec<u8, N>, bytes: &[u8])
-    requires { length text.old.items + length bytes.now ≤ N }
-    ensures { text.new.items ≡ text.old.items ++ bytes.now }
-{
-    let _room = text.try_extend_from_slice(bytes);
-}
+pub(crate) type AnswerText = Text<MOST_ANSWER>;
 
 /// Appends a number in decimal digits.
-pub(crate) fn push_decimal<const N: usize>(text: &mut ArrayVec<u8, N>, number: u64)
+pub(crate) fn push_decimal<const N: usize>(text: &mut Text<N>, number: u64)
     requires { length text.old.items + 20 ≤ N }
     ensures text { text.new.items ≡ text.old.items ++ decimal number }
     ensures length { length text.new.items ≤ length text.old.items + 20 }
@@ -35,7 +28,7 @@ pub(crate) fn push_decimal<const N: usize>(text: &mut ArrayVec<u8, N>, number: u
 }
 
 /// Appends numbers in decimal digits, with single spaces between.
-pub(crate) fn push_spaced<const N: usize>(text: &mut ArrayVec<u8, N>, numbers: &[u16])
+pub(crate) fn push_spaced<const N: usize>(text: &mut Text<N>, numbers: &[u16])
     requires room { length text.old.items + 64 ≤ N }
     requires few { length numbers.now ≤ 8 }
     ensures text { text.new.items ≡ text.old.items ++ spaced numbers.now }
@@ -64,7 +57,7 @@ pub(crate) fn push_grid(text: &mut AnswerText, grid: &Grid)
 fn push_row(text: &mut AnswerText, grid: &Grid, row: u16)
     requires row { row < grid.now.size.side }
     requires width { length (get_or grid.now.rows row []) ≡ grid.now.size.side }
-    requires room { length text.old.items + grid.now.size.side < MOST_ANSWER }
+    requires room { length text.old.items + grid.now.size.side + TOGETHER < MOST_ANSWER }
     ensures { text.new.items ≡ text.old.items ++ map character_of (get_or grid.now.rows row []) ++ 10 ∷ [] }
 {
     push_cells(text, grid.row(row), grid.size().side());
@@ -74,16 +67,16 @@ fn push_row(text: &mut AnswerText, grid: &Grid, row: u16)
 /// Appends the characters of a row's first cells, of which the first is the lowest bit.
 fn push_cells(text: &mut AnswerText, cells: u128, width: u16)
     requires width { width ≤ LARGEST_SIDE }
-    requires room { length text.old.items + width ≤ MOST_ANSWER }
+    requires room { length text.old.items + width + TOGETHER ≤ MOST_ANSWER }
     ensures { text.new.items ≡ text.old.items ++ map character_of (cells_in width cells) }
 {
+    let start = text.len();
     let mut column = 0;
     while column < width {
-        let few = (width - column).min(TOGETHER);
-        let characters = characters((cells >> column & 0xffff) as u16);
-        push_all(text, &characters[..usize::from(few)]);
-        column += few;
+        text.push_all(&characters((cells >> column & 0xffff) as u16));
+        column += TOGETHER;
     }
+    text.truncate(start + usize::from(width));
 }
 
 /// This many cells are written together.

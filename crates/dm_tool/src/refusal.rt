@@ -4,7 +4,7 @@ ghost use Rattle.std.specs.Fmt.{decimal};
 ghost use Rattle.dm_tool.specs.Refusals.{line_refusal, normal_refusal, read_refusal, record_refusal, too_long_refusal, word_refusal};
 
 use crate::message_line::LineFault;
-use crate::printed::{AnswerText, MOST_ANSWER, push_all, push_decimal};
+use crate::printed::{AnswerText, MOST_ANSWER, push_decimal};
 use crate::record::RecordFault;
 use dm_symbol::{NormalFault, ReadFault, WordFault};
 
@@ -20,9 +20,9 @@ pub(crate) fn push_record_refusal(text: &mut AnswerText, fault: RecordFault)
     ensures room { length text.new.items ≤ length text.old.items + MOST_REFUSAL }
 {
     match fault {
-        RecordFault::Character => push_all(text, b"\\no 1 character"),
-        RecordFault::Large => push_all(text, b"\\no 2 large"),
-        RecordFault::NotSquare => push_all(text, b"\\no 3 shape"),
+        RecordFault::Character => text.push_all(b"\\no 1 character"),
+        RecordFault::Large => text.push_all(b"\\no 2 large"),
+        RecordFault::NotSquare => text.push_all(b"\\no 3 shape"),
         RecordFault::NoSuchSize(side) => push_numbered(text, b"\\no 4 side ", u64::from(side)),
     }
 }
@@ -86,7 +86,7 @@ pub(crate) fn push_too_long_refusal(text: &mut AnswerText)
     ensures text { text.new.items ≡ text.old.items ++ too_long_refusal }
     ensures room { length text.new.items ≤ length text.old.items + MOST_REFUSAL }
 {
-    push_all(text, b"\\no 14 too-long");
+    text.push_all(b"\\no 14 too-long");
 }
 
 /// Appends the refusal of a line that is no message.
@@ -108,6 +108,6 @@ fn push_numbered(text: &mut AnswerText, words: &[u8], number: u64)
     ensures text { text.new.items ≡ text.old.items ++ (words.now ++ decimal number) }
     ensures room { length text.new.items ≤ length text.old.items + 40 }
 {
-    push_all(text, words);
+    text.push_all(words);
     push_decimal(text, number);
 }

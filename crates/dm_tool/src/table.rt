@@ -2,7 +2,7 @@
 ghost use Rattle.std.specs.Prelude.{◌≡◌, ◌≤◌, ◌+◌, ◌∷◌, ◌++◌, [], length};
 ghost use Rattle.dm_tool.specs.Answers.{numbers_of, spaced, table_text};
 
-use crate::printed::{AnswerText, MOST_ANSWER, push_all, push_spaced};
+use crate::printed::{AnswerText, MOST_ANSWER, push_spaced};
 use dm_symbol::{Size, table};
 
 /// A line for each size, by rising side.
@@ -33,5 +33,5 @@ fn push_size(text: &mut AnswerText, size: Size)
         size.limit(),
     ];
     push_spaced(text, &numbers);
-    push_all(text, b"\n");
+    text.push_all(b"\n");
 }
