@@ -52,6 +52,7 @@ matched_lines profile (l ∷ lines) (x ∷ messages) (y ∷ answers) p q = ((x, 
 
 -- ---- tasks of grids
 
+-- Where a task answers records, the answers to the records in some lines are the task's answers to these lines.
 pub answers_of_grids : (task : Task) (lines : List (List ℕ)) (answers : List Answer) → AnswersRecords task → AreAnswersToRecords task lines answers → AreAnswersTo task lines answers
 answers_of_grids (Read border) lines answers g h = h
 answers_of_grids (Check border) lines answers g h = h
@@ -59,6 +60,7 @@ answers_of_grids (Normal border profile) lines answers g h = h
 answers_of_grids (Write profile) lines answers g h = absurd g
 answers_of_grids Table lines answers g h = absurd g
 
+-- Where a task answers records, its closed lines are those up to the last empty one.
 pub closed_of_grids : (task : Task) (lines closed : List (List ℕ)) → AnswersRecords task → (after : List (List ℕ)) × IsLastBlank lines closed after → AreClosedLines task lines closed
 closed_of_grids (Read border) lines closed g h = h
 closed_of_grids (Check border) lines closed g h = h
@@ -88,14 +90,17 @@ none_after zero piece = refl
 none_after (suc n) [] = refl
 none_after (suc n) (b ∷ piece) = none_after n piece
 
+-- Taking the front of a piece twice takes it once.
 take_twice : (taken : ℕ) (piece : List ℕ) → take taken (take taken piece) ≡ take taken piece
 take_twice zero piece = refl
 take_twice (suc n) [] = refl
 take_twice (suc n) (b ∷ piece) = ap (λ l. b ∷ l) (take_twice n piece)
 
+-- What is taken of a piece lies within the front that is taken.
 taken_within : (taken : ℕ) (piece : List ℕ) → taken ≤ length piece → taken ≤ length (take taken piece)
 taken_within taken piece h = subst (λ n. taken ≤ n) (sym (length-take-le taken piece h)) (omega arith)
 
+-- A piece that leaves a record open advances the text without an answer.
 pub record_open : (task : Task) (old new : RecordFacts) (piece : List ℕ) (taken : ℕ) → LeavesRecordOpen old piece taken new
     → Advances (Records task old) piece [] (Records task new)
 record_open asked old new piece taken now task text answers s = (
@@ -106,6 +111,7 @@ record_open asked old new piece taken now task text answers s = (
   matched_append (IsRecordAnswer task) s.2 [] answers [] s.4 tt,
 )
 
+-- A front of a piece that closes a record advances the text with the record's answer.
 pub record_closed : (asked : Task) (old new : RecordFacts) (piece : List ℕ) (taken : ℕ) (grid : RecordAnswer) (answer : Answer) → ClosesRecord old piece taken grid new
     → IsRecordAnswer asked grid answer → Advances (Records asked old) (take taken piece) (answer ∷ []) (Records asked new)
 record_closed asked old new piece taken grid answer now is task text answers s =
@@ -122,6 +128,7 @@ record_closed asked old new piece taken grid answer now is task text answers s =
       matched_append (IsRecordAnswer task) s.2 (grid ∷ []) answers (answer ∷ []) s.4 (subst (λ t. IsRecordAnswer t grid answer) s.0 is, tt),
     )
 
+-- A piece that leaves a line open advances the text without an answer.
 pub line_open : (profile : Profile) (old new : LineFacts) (piece : List ℕ) (taken : ℕ) → LeavesLineOpen old piece taken new → Advances (Lines profile old) piece [] (Lines profile new)
 line_open profile old new piece taken now task text answers s = (
   s.0,
@@ -138,6 +145,7 @@ closing piece (b ∷ before) after taken e n =
     ap (λ k. take k piece) more ∙ ap (take (suc (length before + 1))) e
     ∙ ap (λ l. b ∷ l) (closing (before ++ 10 ∷ after) before after (length before + 1) refl refl)
 
+-- A front of a piece that closes a line advances the text with the line's answer.
 pub line_closed : (profile : Profile) (old new : LineFacts) (piece : List ℕ) (taken : ℕ) (message : LineAnswer) (answer : Answer) → ClosesLine old piece taken message new
     → IsWriteAnswer profile message answer → Advances (Lines profile old) (take taken piece) (answer ∷ []) (Lines profile new)
 line_closed profile old new piece taken message answer now is task text answers s =
@@ -158,6 +166,7 @@ line_closed profile old new piece taken message answer now is task text answers 
 
 -- ---- the end
 
+-- Where no record stands open, the end of a text closes nothing.
 pub records_end : (asked : Task) (facts : RecordFacts) → ((u : List ℕ) → AreRecordFacts u facts → AreLfs u) → EndsAnswered (Records asked facts) []
 records_end asked facts none task text answers s =
     let t = s.3 in
@@ -170,6 +179,7 @@ records_end asked facts none task text answers s =
           (t.records, all_closed text s.2 facts t none, matched_records task t.records answers (subst (λ r. AreMatched (IsRecordAnswer task) r answers) t.answered s.4)));
     }
 
+-- Where a record stands open, the end of a text closes it, with its answer.
 pub last_record_ends : (asked : Task) (facts : RecordFacts) (grid : RecordAnswer) (answer : Answer) → ((u : List ℕ) → AreRecordFacts u facts → IsLastRecord u grid)
     → IsRecordAnswer asked grid answer → EndsAnswered (Records asked facts) (answer ∷ [])
 last_record_ends asked facts grid answer last is task text answers s =
@@ -189,6 +199,7 @@ last_record_ends asked facts grid answer last is task text answers s =
       );
     }
 
+-- Where no line stands open, the end of a text closes nothing.
 pub lines_end : (profile : Profile) (facts : LineFacts) → ((line : List ℕ) → AreLineFacts line facts → line ≡ []) → EndsAnswered (Lines profile facts) []
 lines_end profile facts none task text answers s =
     let t = s.2 in
@@ -207,6 +218,7 @@ last_line_is : (rest : List ℕ) → rest ≢ [] → last_line rest ≡ rest ∷
 last_line_is [] n = absurd (n refl)
 last_line_is (b ∷ rest) n = refl
 
+-- Where a line stands open, the end of a text closes it, with its answer.
 pub last_line_ends : (profile : Profile) (facts : LineFacts) (message : LineAnswer) (answer : Answer) → ((line : List ℕ) → AreLineFacts line facts → (line ≢ []) × IsLine line message)
     → IsWriteAnswer profile message answer → EndsAnswered (Lines profile facts) (answer ∷ [])
 last_line_ends profile facts message answer last is task text answers s =
@@ -252,6 +264,7 @@ pub not_table : (task : Task) (state : Answering) (text : List ℕ) (answers : L
 not_table task (Records asked facts) text answers s e = subst AnswersRecords e s.1
 not_table task (Lines profile facts) text answers s e = let n : Write profile ≡ Table = sym s.0 ∙ e in cc
 
+-- Unless the task is the table, what is written for a text that may go on is the answers to what is closed, joined.
 pub done_by : (task : Task) (text : List ℕ) (answers : List Answer) → task ≢ Table → AreClosedAnswers task text answers → IsOutSoFar task text (written answers)
 done_by (Read border) text answers n h = (answers, h, refl)
 done_by (Check border) text answers n h = (answers, h, refl)
@@ -259,6 +272,7 @@ done_by (Normal border profile) text answers n h = (answers, h, refl)
 done_by (Write profile) text answers n h = (answers, h, refl)
 done_by Table text answers n h = absurd (n refl)
 
+-- Unless the task is the table, what is written for a text as a whole is the answers to all of it, joined.
 pub out_by : (task : Task) (text : List ℕ) (answers : List Answer) → task ≢ Table → AreAllAnswers task text answers → IsOut task text (written answers) (tally_of answers)
 out_by (Read border) text answers n h = (answers, h, refl, refl)
 out_by (Check border) text answers n h = (answers, h, refl, refl)

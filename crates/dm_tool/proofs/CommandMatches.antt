@@ -188,12 +188,15 @@ GoodBorder = Good (codes "border") reading.WithoutMinus border_parser
 abbrev GoodFlag : List Row → Type 0
 GoodFlag = Good (codes "shorter") reading.AsWritten vp.Bool
 
+-- The option `--border` as clap completes it.
 abbrev pub border : Rule
 border = filled border_rule
 
+-- The flag `--shorter` as clap completes it.
 abbrev pub flag : Rule
 flag = filled shorter_rule
 
+-- The flag for help as clap completes it.
 abbrev pub help : Rule
 help = filled help_rule
 
@@ -222,10 +225,12 @@ border_keeps_border : (again : Bool) → KeepsOne (codes "border") reading.Witho
 border_keeps_border again values rows e good =
     own_use (codes "border") reading.WithoutMinus border_parser (values_or_missing border values) rows (border_values again values rows e) good
 
+-- Each use of the flag keeps the rows of the option good.
 flag_keeps_border : (again : Bool) → KeepsOne (codes "border") reading.WithoutMinus border_parser again flag
 flag_keeps_border again values rows e good =
     other_use (codes "border") reading.WithoutMinus border_parser (codes "shorter") reading.AsWritten refl (values_or_missing flag values) rows good
 
+-- No use of help is without a fault, so each keeps the rows of the option good.
 help_keeps_border : (again : Bool) → KeepsOne (codes "border") reading.WithoutMinus border_parser again help
 help_keeps_border again values rows e good = absurd (help_none again values rows e)
 
@@ -234,10 +239,12 @@ border_keeps_flag : (again : Bool) → KeepsOne (codes "shorter") reading.AsWrit
 border_keeps_flag again values rows e good =
     other_use (codes "shorter") reading.AsWritten vp.Bool (codes "border") reading.WithoutMinus refl (values_or_missing border values) rows good
 
+-- Each use of the flag that has no fault keeps its own rows good.
 flag_keeps_flag : (again : Bool) → KeepsOne (codes "shorter") reading.AsWritten vp.Bool again flag
 flag_keeps_flag again values rows e good =
     own_use (codes "shorter") reading.AsWritten vp.Bool (values_or_missing flag values) rows (flag_values again values rows e) good
 
+-- No use of help is without a fault, so each keeps the rows of the flag good.
 help_keeps_flag : (again : Bool) → KeepsOne (codes "shorter") reading.AsWritten vp.Bool again help
 help_keeps_flag again values rows e good = absurd (help_none again values rows e)
 
@@ -249,6 +256,7 @@ flag_default_border rows good = go (has_row (codes "shorter") rows)
     go true = good
     go false = other_more (codes "border") reading.WithoutMinus border_parser (codes "shorter") reading.AsWritten refl DefaultValue (codes "false" ∷ []) rows good
 
+-- The default of the flag keeps its own rows good.
 flag_default_flag : (rows : List Row) → GoodFlag rows → GoodFlag (with_default rows flag)
 flag_default_flag rows good = go (has_row (codes "shorter") rows)
   where
@@ -288,6 +296,7 @@ help_alone_border : (again : Bool) → Keeps (codes "border") reading.WithoutMin
 help_alone_border again =
     cons_keeps (codes "border") reading.WithoutMinus border_parser again help [] (help_keeps_border again) (nil_keeps (codes "border") reading.WithoutMinus border_parser again)
 
+-- Where help is the only argument, its uses keep the rows of the flag good.
 help_alone_flag : (again : Bool) → Keeps (codes "shorter") reading.AsWritten vp.Bool again (help ∷ [])
 help_alone_flag again =
     cons_keeps (codes "shorter") reading.AsWritten vp.Bool again help [] (help_keeps_flag again) (nil_keeps (codes "shorter") reading.AsWritten vp.Bool again)
@@ -296,6 +305,7 @@ help_alone_flag again =
 flag_alone_border : (again : Bool) → Keeps (codes "border") reading.WithoutMinus border_parser again (flag ∷ help ∷ [])
 flag_alone_border again = cons_keeps (codes "border") reading.WithoutMinus border_parser again flag (help ∷ []) (flag_keeps_border again) (help_alone_border again)
 
+-- Where the flag and help are the only arguments, their uses keep the rows of the flag good.
 flag_alone_flag : (again : Bool) → Keeps (codes "shorter") reading.AsWritten vp.Bool again (flag ∷ help ∷ [])
 flag_alone_flag again = cons_keeps (codes "shorter") reading.AsWritten vp.Bool again flag (help ∷ []) (flag_keeps_flag again) (help_alone_flag again)
 

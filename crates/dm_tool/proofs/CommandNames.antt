@@ -77,6 +77,7 @@ letter (Normal limit profile) = 110
 letter (Write profile) = 119
 letter Table = 116
 
+-- The name of a subcommand that is a task begins with the letter of the task.
 has_letter : (name : Text) (rows : List Row) (t : Task) → IsTaskOf name rows t → slice_index name 0 ≡ letter t
 has_letter name rows (Read limit) is = ap (λ n. slice_index n 0) is.0
 has_letter name rows (Check limit) is = ap (λ n. slice_index n 0) is.0
@@ -84,6 +85,7 @@ has_letter name rows (Normal limit profile) is = ap (λ n. slice_index n 0) is.0
 has_letter name rows (Write profile) is = ap (λ n. slice_index n 0) is.0
 has_letter name rows Table is = ap (λ n. slice_index n 0) is
 
+-- Two tasks with one letter that a subcommand is are the same.
 same_letter : (name : Text) (rows : List Row) (s t : Task) → letter s ≡ letter t → IsTaskOf name rows s → IsTaskOf name rows t → s ≡ t
 same_letter name rows (Read a) (Read b) e x y = ap Read (one_limit rows a b x.1 y.1)
 same_letter name rows (Read a) (Check b) e x y = absurd (omega arith)

@@ -41,6 +41,7 @@ AllKnown (s ∷ rest) = Known s × AllKnown rest
 abbrev pub IsThere : Option (Text × List Row) → Type 0
 IsThere o = (found : Text × List Row) × (o ≡ Some found) × IsReadable found.1 × ((t : Task) × IsTaskOf found.0 found.1 t)
 
+-- A subcommand that is found among known ones is known.
 found_known : (p : Shape → Bool) (xs : List Shape) → AllKnown xs → (s : Shape) → find p xs ≡ Some s → Known s
 found_known p [] known s is = (cc)
 found_known p (x ∷ xs) known s is = go (p x) is (found_known p xs known.1 s)
@@ -49,6 +50,8 @@ found_known p (x ∷ xs) known s is = go (p x) is (found_known p xs known.1 s)
     go true is later = subst Known (ap (λ o. unwrap_or o x) is) known.0
     go false is later = later is
 
+-- Where the words come to a subcommand, all subcommands are known and
+-- there is no fault, it is a task with matches that can be read.
 entered_there : (a : App) (stop : Option (Text × List Text)) → AllKnown a.subs → is_some (entered a stop) ≡ true → entered_fault a stop ≡ [] → IsThere (entered a stop)
 entered_there a None known has e = absurd (true≢false (sym has))
 entered_there a (Some q) known has e = go (find (λ s. answers_to q.0 (label_of s)) a.subs) refl has e
@@ -77,6 +80,7 @@ all_known = (
   ),
 )
 
+-- Where a subcommand is required and a level has no fault, there is a subcommand, and its level has no fault.
 level_checked : (s : Shape) (names : Names) (h : Held) (ws : List Text) (has : Bool) (below : Kinds)
     → s.subcommand_required ≡ true → level_fault s names h ws has below ≡ [] → (has ≡ true) × (below ≡ [])
 level_checked s names h ws has below required e =
@@ -94,6 +98,7 @@ level_checked s names h ws has below required e =
       first_none below settle one,
     )
 
+-- Words in which clap finds no fault name a subcommand that is a task, with matches that can be read.
 pub subcommand_there : (words : List Text) → fault_of dm_app words ≡ [] → IsThere (subcommand_of dm_app words)
 subcommand_there words e =
     let b = built dm_app in

@@ -43,7 +43,7 @@ text_is_split (b ∷ text) =
 
 -- ---- records
 
--- Lines that have their records have some, too, with a full line before them.
+-- Lines with a full line before them have their records, if the lines alone have.
 line_before : (line : List ℕ) (lines : List (List ℕ)) (records : List (List (List ℕ))) → line ≢ [] → HasNoLf line → AreRecords lines records
     → (more : List (List (List ℕ))) × AreRecords (line ∷ lines) more
 line_before line _ _ some free no_line = ((line ∷ []) ∷ [], longest_run (line ∷ []) [] [] (λ e. cc) ((some, free), tt) tt no_line)

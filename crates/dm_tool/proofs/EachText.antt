@@ -47,6 +47,7 @@ record HasClosed (task : Task) (lines : List (List ℕ)) : Type 0 where
   pub are : AreClosedLines task lines closed
   pub free : AllByRecursion HasNoLf closed
 
+-- Where a task answers records, some lines have a front in which every record is closed.
 closed_records : (task : Task) → AnswersRecords task → (lines : List (List ℕ)) → AllByRecursion HasNoLf lines → HasClosed task lines
 closed_records task of_grids lines free =
     let last = last_blank_is_there lines in
@@ -56,6 +57,7 @@ closed_records task of_grids lines free =
       free = all_front HasNoLf last.before last.after (subst (AllByRecursion HasNoLf) last.is.whole free);
     }
 
+-- Unless the task is the table, some lines have a front in which every record or message line is closed.
 closed_there : (task : Task) → task ≢ Table → (lines : List (List ℕ)) → AllByRecursion HasNoLf lines → HasClosed task lines
 closed_there (Read border) reads lines free = closed_records (Read border) tt lines free
 closed_there (Check border) reads lines free = closed_records (Check border) tt lines free

@@ -24,6 +24,7 @@ record HasRecords (text : List ℕ) : Type 0 where
   pub new : RecordFacts
   pub are : AreRecordsOfText text (map record_of records) new
 
+-- Each text has its records.
 has_records : (text : List ℕ) → HasRecords text
 has_records text =
     let t = text_is_split text in

@@ -17,7 +17,7 @@ hex_unique d u v (lower a b e) (figure c f) = omega arith
 hex_unique d u v (lower a b e) (upper c d' f) = omega arith
 hex_unique d u v (lower a b e) (lower c d' f) = omega arith
 
--- Where two fronts are known in full, equal bytes are equal with the fronts written out.
+-- Equal bytes stay equal when equal fronts take the place of theirs.
 shown : (p q p' q' x y : List ℕ) → p ≡ p' → q ≡ q' → p ++ x ≡ q ++ y → p' ++ x ≡ q' ++ y
 shown p q p' q' x y e f h = ap (λ l. l ++ x) (sym e) ∙ h ∙ ap (λ l. l ++ y) f
 

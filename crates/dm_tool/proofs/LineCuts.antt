@@ -52,6 +52,7 @@ pub fed_is_text : (pieces : List (List ℕ)) (answers : List LineAnswer) (old ne
     → AreOfText (concat pieces) answers new
 fed_is_text pieces answers old new known fed = fed_after [] old new pieces answers fed known tt
 
+-- Two longest fronts of a line that are joined spellings have one length.
 front_length : (line f g r s : List ℕ) → IsLongestFront line f r → IsLongestFront line g s → length f ≡ length g
 front_length line f g r s p q =
     let one = q.longest f r p.whole p.joined in

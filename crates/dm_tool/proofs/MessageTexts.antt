@@ -15,6 +15,7 @@ digit_value v small = elim (cases_lt v 10) [
   | inr ge ↦ rw (le-ltb v 10 ge) (upper ge small (omega arith))
 ]
 
+-- However a byte is written by its tests, that is a spelling of it.
 bytes : (b : ℕ) → b < 256 → (e f g : Bool) → (b == 92) ≡ e → nat_le 32 b ≡ f → nat_le b 126 ≡ g
     → IsSpelling (if e then 92 ∷ 92 ∷ [] else if f && g then b ∷ [] else 92 ∷ 120 ∷ upper_digit (b / 16) ∷ upper_digit (b % 16) ∷ []) (Byte b)
 bytes b small true f g p q r = backslash refl (ap Byte (eqb-true b 92 p))
@@ -38,5 +39,6 @@ text_joins [] all = refl
 text_joins (item ∷ items) all =
     (spelled item, text_of items, spelled_spells item (all 0 item (omega arith)), refl, text_joins items (λ k d within. all (suc k) d (omega arith)))
 
+-- The text of a message is a line that means the message.
 pub text_is_line : (items : List Item) → IsMessage items → length items ≤ most_items → IsLine (text_of items) (Ok items)
 text_is_line items all few = (text_joins items all, few)

@@ -51,19 +51,21 @@ closed_is_one (Normal border profile) lines c d p q = (last_blank_unique c p.0 d
 closed_is_one (Write profile) lines c d p q = p ∙ sym q
 closed_is_one Table lines c d p q = (last_blank_unique c p.0 d q.0 (sym p.1.whole ∙ q.1.whole) p.1.full q.1.full p.1.blank q.1.blank).0
 
+-- All records or message lines of a text have only one list of answers.
 all_answers_are_one : (task : Task) (text : List ℕ) (a b : List Answer) → AreAllAnswers task text a → AreAllAnswers task text b → a ≡ b
 all_answers_are_one task text a b p q =
     let same = split_unique p.lines q.lines text p.rest q.rest p.split q.split in
     answers_are_one task (q.lines ++ last_line q.rest) a b
     (subst (λ l. AreAnswersTo task l a) (ap (λ l. l ++ last_line p.rest) same.0 ∙ ap (λ r. q.lines ++ last_line r) same.1) p.answered) q.answered
 
+-- The records or message lines that are closed within a text have only one list of answers.
 closed_answers_are_one : (task : Task) (text : List ℕ) (a b : List Answer) → AreClosedAnswers task text a → AreClosedAnswers task text b → a ≡ b
 closed_answers_are_one task text a b p q =
     let same = split_unique p.lines q.lines text p.rest q.rest p.split q.split in
     let closed = closed_is_one task q.lines p.closed q.closed (subst (λ l. AreClosedLines task l p.closed) same.0 p.are_closed) q.are_closed in
     answers_are_one task q.closed a b (subst (λ l. AreAnswersTo task l a) closed p.answered) q.answered
 
--- What is written for a text as a whole, and its tally, are one.
+-- Only one thing is written for a text as a whole, with one tally.
 pub one_out : (task : Task) (text a b : List ℕ) (s t : Tally) → IsOut task text a s → IsOut task text b t → (a ≡ b) × (s ≡ t)
 one_out (Read border) text a b s t p q = let same = all_answers_are_one (Read border) text p.0 q.0 p.1 q.1 in (p.2 ∙ ap written same ∙ sym q.2, p.3 ∙ ap tally_of same ∙ sym q.3)
 one_out (Check border) text a b s t p q = let same = all_answers_are_one (Check border) text p.0 q.0 p.1 q.1 in (p.2 ∙ ap written same ∙ sym q.2, p.3 ∙ ap tally_of same ∙ sym q.3)

@@ -29,6 +29,7 @@ none_begun piece more item e h =
 pub nothing_can : CanBecomeSpelling []
 nothing_can = (32 ∷ [], Byte 32, plain 32 (omega arith) (omega arith) (λ e. omega arith) refl refl)
 
+-- The empty line is a good one, with no items and nothing pending.
 pub good_none : IsGoodLine [] 0 (Some []) []
 good_none = record {
   front = [];
@@ -59,6 +60,7 @@ good_begun line pending b n known good can none =
       known_is = good.known_is;
     }
 
+-- A count that stops at its most is right after the bytes of a spelling if it was right before them.
 counted : (n front pending line : ℕ) → n ≡ min front most_bytes → line ≡ front + (pending + 1) → min (n + (pending + 1)) most_bytes ≡ min line most_bytes
 counted n front pending line e f = omega arith
 
@@ -97,6 +99,7 @@ kept_more items all item e room = by_test (nat_le (length all) most_items) e
         rw (le-leb (length (all ++ item ∷ [])) most_items long) (ap (λ l. Some (l ++ item ∷ [])) same)
     by_test false h = cc
 
+-- Counting one byte and then k more, up to the most, counts k + 1.
 counted_more : (n k : ℕ) → min (min (n + (0 + 1)) most_bytes + k) most_bytes ≡ min (n + suc k) most_bytes
 counted_more n k = omega arith
 
@@ -117,6 +120,7 @@ good_plain line (b ∷ bytes) n items good plains few =
     (subst (λ (l : List Item). IsGoodLine ((line ++ b ∷ []) ++ bytes) (min (n + suc (length bytes)) most_bytes) (Some l) []) (append_assoc items (Byte b ∷ []) (map Byte bytes))
     (subst (λ (k : ℕ). IsGoodLine ((line ++ b ∷ []) ++ bytes) k (Some ((items ++ Byte b ∷ []) ++ map Byte bytes)) []) (counted_more n (length bytes)) rest))
 
+-- Items that are kept are not too many.
 kept_few : (items all : List Item) → Some items ≡ kept all → length items ≤ most_items
 kept_few items all e = by_test (nat_le (length all) most_items) refl e
   where
@@ -124,6 +128,7 @@ kept_few items all e = by_test (nat_le (length all) most_items) refl e
     by_test true few h = let same : items ≡ all = cc in omega (arith, ap length same, leb-true (length all) most_items few)
     by_test false few h = cc
 
+-- A list of no bytes is empty.
 no_bytes : (bytes : List ℕ) → length bytes ≡ 0 → bytes ≡ []
 no_bytes [] e = refl
 no_bytes (x ∷ bytes) e = absurd (omega arith)
@@ -147,6 +152,7 @@ pub plain_no_lf : (bytes : List ℕ) → AllByRecursion IsPlain bytes → HasNoL
 plain_no_lf [] h = tt
 plain_no_lf (b ∷ bytes) h = (λ e. let low = h.0.0 in omega arith, plain_no_lf bytes h.1)
 
+-- The column after a front is one more than the count of its bytes, up to the most.
 column_is : (n front : ℕ) → n ≡ min front most_bytes → min (n + 1) most_bytes ≡ min (front + 1) most_bytes
 column_is n front e = omega arith
 
@@ -186,6 +192,7 @@ cut (x ∷ o) (y ∷ l) t after e le =
     let less : length o ≤ length l = omega arith in
     let r = cut o l t after tail less in (r.0, ap (λ k. k ∷ l) head ∙ ap (λ k. x ∷ k) r.1)
 
+-- Where no bytes come after, the list of them is empty.
 no_more : (after : List ℕ) → length after ≡ 0 → after ≡ []
 no_more [] e = refl
 no_more (x ∷ after) e = absurd (omega arith)
@@ -236,6 +243,7 @@ pending_end line pending n known good some = record {
   column_is = column_is n (length good.front) good.count_is;
 }
 
+-- A line has only one column of a bad escape.
 fault_column : (line : List ℕ) (a b : ℕ) → IsBadEscape line a → IsBadEscape line b → a ≡ b
 fault_column line a b p q =
     let one = q.longest.longest p.front p.rest p.longest.whole p.longest.joined in
@@ -262,6 +270,7 @@ line_only line a p b = (λ e. subst (IsLine line) e p, λ q. line_unique line a 
 pub faulty_some : (line : List ℕ) (column : ℕ) → IsFaultyLine line column → line ≡ [] → ⊥
 faulty_some line column faulty e = faulty.broken [] ([], ap (λ l. l ++ []) e)
 
+-- A good line that is empty has a count of 0 and nothing pending.
 pub good_empty_counts : (line pending : List ℕ) (n : ℕ) (known : Option (List Item)) → IsGoodLine line n known pending → line ≡ [] → (n ≡ 0) × (length pending ≡ 0)
 good_empty_counts line pending n known good e =
     let parts : length line ≡ length good.front + length pending = ap length good.longest.whole ∙ length-append good.front pending in

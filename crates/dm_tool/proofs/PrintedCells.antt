@@ -20,9 +20,11 @@ use Rattle.dm_tool.proofs.Fronts.{holds_at}
 abbrev pub shown : ℕ → ℕ → ℕ
 shown byte weight = cond (top 7 (cond (not (eqb (bit_and byte weight) 0)) 255 0)) 49 48
 
+-- A bit is 0 or 1.
 bit_small : (n k : ℕ) → n / 2 ^ k % 2 < 2
 bit_small n k = omega arith
 
+-- A lane shows 1 where the bit times its weight isn't 0, and else 0.
 shown_bit : (b w : ℕ) → b < 2 → 0 < w → cond (top 7 (cond (not (eqb (b * w) 0)) 255 0)) 49 48 ≡ character_of (nat_eq b 1)
 shown_bit zero w l some = let none : 0 * w ≡ 0 = omega arith in rw none refl
 shown_bit (suc zero) w l some = let one : eqb (1 * w) 0 ≡ false = ne_eqb (1 * w) 0 (λ e. omega arith) in rw one refl
@@ -43,12 +45,14 @@ kept_bit n mask k e =
 pub low_is : (cells k : ℕ) → 255 / 2 ^ k % 2 ≡ 1 → shown (bit_and cells 255) (2 ^ k) ≡ character_of (is_dark_in cells k)
 low_is cells k e = lane_is (bit_and cells 255) k ∙ ap character_of (kept_bit cells 255 k e)
 
+-- A lane of the high byte shows the character of its cell.
 pub high_is : (cells k : ℕ) → 256 * 2 ^ k ≡ 2 ^ (8 + k) → shown (cells / 256) (2 ^ k) ≡ character_of (is_dark_in cells (8 + k))
 high_is cells k e =
     lane_is (cells / 256) k ∙ ap (λ (n : ℕ). character_of (nat_eq (n % 2) 1)) (div-div-eq-div-mul cells 256 (2 ^ k) ∙ ap (λ (w : ℕ). cells / w) e)
 
 -- ---- cells of a row, part by part
 
+-- The sixteen lowest bits of a mask of 65535 are all 1.
 all_kept : list_all (λ (k : ℕ). eqb (65535 / 2 ^ k % 2) 1) (range_with_len 0 16) ≡ true
 all_kept = refl
 

@@ -34,13 +34,16 @@ pub and_parts : (a b : Bool) → (a && b) ≡ true → (a ≡ true) × (b ≡ tr
 and_parts true b e = (refl, e)
 and_parts false b e = cc
 
+-- Where each of two tests passes, both pass together.
 both_true : (a b : Bool) → a ≡ true → b ≡ true → (a && b) ≡ true
 both_true a b e f = rw (e, f) refl
 
+-- What follows whether a test passes or not holds.
 either : (P : Type 0) (a : Bool) → (a ≡ true → P) → (a ≡ false → P) → P
 either P true f g = f refl
 either P false f g = g refl
 
+-- All of the lines have this length.
 abbrev All : ℕ → List (List ℕ) → Bool
 All n lines = list_all (λ l. length l == n) lines
 
@@ -49,20 +52,24 @@ firsts : (n : ℕ) (lines : List (List ℕ)) → 0 < length lines → All n line
 firsts n [] some e = absurd (omega arith)
 firsts n (l ∷ lines) some e = eqb-true (length l) n (and_parts (length l == n) (All n lines) e).0
 
+-- Where all lines have one length, the last of them has it.
 lasts : (n : ℕ) (lines : List (List ℕ)) → 0 < length lines → All n lines ≡ true → last_length lines ≡ n
 lasts n [] some e = absurd (omega arith)
 lasts n (l ∷ []) some e = eqb-true (length l) n (and_parts (length l == n) true e).0
 lasts n (l ∷ m ∷ lines) some e = lasts n (m ∷ lines) (omega arith) (and_parts (length l == n) (All n (m ∷ lines)) e).1
 
+-- Where all lines have one length, none of the ended ones differs from it.
 not_differ : (n : ℕ) (lines : List (List ℕ)) (rest : List ℕ) → All n (lines ++ last_line rest) ≡ true → differ n lines ≡ false
 not_differ n [] rest e = refl
 not_differ n (l ∷ lines) rest e =
     let parts = and_parts (length l == n) (All n (lines ++ last_line rest)) e in rw parts.0 (not_differ n lines rest parts.1)
 
+-- Where there are no lines, the first and the last have the length 0.
 all_none : (n : ℕ) (lines : List (List ℕ)) → length lines ≡ 0 → (first_length lines ≡ 0) × (last_length lines ≡ 0)
 all_none n [] e = (refl, refl)
 all_none n (l ∷ lines) e = absurd (omega arith)
 
+-- Where neither the failing of a first test nor the passing of a second holds, the first passes and the second fails.
 neither : (a : Bool) (b : Bool) → (not a || b) ≡ false → (a ≡ true) × (b ≡ false)
 neither true b e = (refl, e)
 neither false b e = cc
@@ -107,6 +114,7 @@ pub square_by_facts : (lines : List (List ℕ)) (rest : List ℕ) → differ (fi
 square_by_facts lines rest d e f =
     let all = all_by (first_length (lines ++ last_line rest)) lines rest d e in subst (λ n. All n (lines ++ last_line rest) ≡ true) f all
 
+-- A grid by its size and its rows is the grid by its size and its lines.
 same_sized : (size : Option SizeRow) (lines : List (List ℕ)) → sized size lines ≡ sized_rows size (length lines) (rows_of lines)
 same_sized (Some size) lines = refl
 same_sized None lines = refl

@@ -15,25 +15,30 @@ pub blanks : List ℕ → List (List ℕ)
 blanks [] = []
 blanks (b ∷ bytes) = [] ∷ blanks bytes
 
+-- Bytes that are all LF are their empty lines, each ended by LF.
 blanks_are : (bytes : List ℕ) → AreLfs bytes → bytes ≡ ended (blanks bytes)
 unfolding blanks
 blanks_are [] h = refl
 blanks_are (b ∷ bytes) h = ap (λ k. k ∷ bytes) h.0 ∙ ap (λ l. lf ∷ l) (blanks_are bytes h.1)
 
+-- Empty lines have no LF.
 blanks_no_lf : (bytes : List ℕ) → AllByRecursion HasNoLf (blanks bytes)
 unfolding blanks
 blanks_no_lf [] = tt
 blanks_no_lf (b ∷ bytes) = (tt, blanks_no_lf bytes)
 
+-- Empty lines before other lines add no records.
 pub after_blanks : (bytes : List ℕ) (lines : List (List ℕ)) (records : List (List (List ℕ))) → AreRecords lines records → AreRecords (blanks bytes ++ lines) records
 unfolding blanks
 after_blanks [] lines records h = h
 after_blanks (b ∷ bytes) lines records h = empty_line (blanks bytes ++ lines) records (after_blanks bytes lines records h)
 
+-- Full lines have no LF.
 pub full_no_lf : (lines : List (List ℕ)) → AreFullLines lines → AllByRecursion HasNoLf lines
 full_no_lf [] h = tt
 full_no_lf (l ∷ lines) h = (h.0.1, full_no_lf lines h.1)
 
+-- Full lines are not empty.
 pub full_some : (lines : List (List ℕ)) → AreFullLines lines → AllByRecursion (λ l. l ≢ []) lines
 full_some [] h = tt
 full_some (l ∷ lines) h = (h.0.0, full_some lines h.1)
@@ -45,6 +50,7 @@ split_lines (l ∷ lines) more text rest h s =
     subst (λ t. IsSplit t (l ∷ (lines ++ more)) rest) (sym (append_assoc (l ++ lf ∷ []) (ended lines) text ∙ append_assoc l (lf ∷ []) (ended lines ++ text)))
     (split_more l (ended lines ++ text) (lines ++ more) rest h.0 (split_lines lines more text rest h.1 s))
 
+-- Bytes without LF are split into no lines and themselves as the rest.
 rest_alone : (rest : List ℕ) → HasNoLf rest → IsSplit rest [] rest
 rest_alone rest h = record { whole = refl; lines_no_lf = tt; rest_no_lf = h }
 
@@ -56,6 +62,7 @@ split_open text lines rest o =
     subst (λ t. IsSplit t (blanks o.blank ++ lines) rest) (ap (λ l. l ++ (ended lines ++ rest)) (sym (blanks_are o.blank o.are_lfs)) ∙ sym o.whole)
     (subst (λ l. IsSplit (ended (blanks o.blank) ++ (ended lines ++ rest)) (blanks o.blank ++ l) rest) (append-nil lines) outer)
 
+-- Empty lines are none, or an empty one is the last.
 ends_blank : (bytes : List ℕ) → (blanks bytes ≡ []) ⊎ ((front : List (List ℕ)) × (blanks bytes ≡ front ++ [] ∷ []))
 unfolding blanks
 ends_blank [] = inl refl
@@ -88,6 +95,7 @@ open_text text new known =
       };
     }
 
+-- Lines that end blank still do with others and an empty one before them.
 ends_later : (front before : List (List ℕ)) → (before ≡ []) ⊎ ((f : List (List ℕ)) × (before ≡ f ++ [] ∷ []))
     → ((front ++ [] ∷ before) ≡ []) ⊎ ((f : List (List ℕ)) × (front ++ [] ∷ before ≡ f ++ [] ∷ []))
 ends_later front before (inl none) = inr (front, ap (λ l. front ++ [] ∷ l) none)
@@ -124,6 +132,7 @@ closed_before text later lines answers new c t =
       left = t.left;
     }
 
+-- Pieces that are fed while a record stands open close, and leave open, what its text does with their bytes after it.
 pub fed_after : (u : List ℕ) (old new : RecordFacts) (pieces : List (List ℕ)) (answers : List RecordAnswer) → AreRecordsFed old pieces answers new
     → AreRecordFacts u old → AreRecordsOfText (u ++ concat pieces) answers new
 fed_after u old new pieces answers (no_piece facts) known = subst (λ l. AreRecordsOfText l [] facts) (sym (append-nil u)) (open_text u facts known)
@@ -146,19 +155,23 @@ fed_is_text pieces answers old new known fed = fed_after [] old new pieces answe
 
 -- ---- a text has its records in one way
 
+-- Lines of which the last is empty are not all non-empty.
 tail_blank : (front : List (List ℕ)) → AllByRecursion (λ l. l ≢ []) (front ++ [] ∷ []) → ⊥
 tail_blank [] h = h.0 refl
 tail_blank (x ∷ front) h = tail_blank front h.1
 
+-- Lines that end blank, none of which is empty, are none.
 pub blank_is_none : (a : List (List ℕ)) → (a ≡ []) ⊎ ((f : List (List ℕ)) × (a ≡ f ++ [] ∷ [])) → AllByRecursion (λ l. l ≢ []) a → a ≡ []
 blank_is_none a (inl e) h = e
 blank_is_none a (inr s) h = absurd (tail_blank s.0 (subst (AllByRecursion (λ l. l ≢ [])) s.1 h))
 
+-- Lines that end blank still do without the first of them.
 pub later_blank : (x : List ℕ) (a : List (List ℕ)) → ((x ∷ a) ≡ []) ⊎ ((f : List (List ℕ)) × (x ∷ a ≡ f ++ [] ∷ [])) → (a ≡ []) ⊎ ((f : List (List ℕ)) × (a ≡ f ++ [] ∷ []))
 later_blank x a (inl e) = let n : x ∷ a ≡ [] = e in cc
 later_blank x a (inr ([], e)) = let n : a ≡ [] = cc in inl n
 later_blank x a (inr (y ∷ f, e)) = let n : a ≡ f ++ [] ∷ [] = cc in inr (f, n)
 
+-- Where no line is empty, none at the front is.
 front_full : (c d : List (List ℕ)) → AllByRecursion (λ l. l ≢ []) (c ++ d) → AllByRecursion (λ l. l ≢ []) c
 front_full [] d h = tt
 front_full (x ∷ c) d h = (h.0, front_full c d h.1)
@@ -179,6 +192,7 @@ last_blank_unique (x ∷ a) b (y ∷ c) d e hb hd ha hc =
     let r = last_blank_unique a b c d tail hb hd (later_blank x a ha) (later_blank y c hc) in
     (ap (λ k. k ∷ a) head ∙ ap (λ l. y ∷ l) r.0, r.1)
 
+-- Lines that begin blank don't begin with one that isn't empty.
 full_first : (y : List ℕ) (b c : List (List ℕ)) → y ≢ [] → BeginsBlank b → b ≡ y ∷ c → ⊥
 full_first y [] c n h e = cc
 full_first y ([] ∷ b) c n h e = let k : [] ≡ y = cc in n (sym k)
@@ -194,10 +208,12 @@ run_unique (x ∷ a) b (y ∷ c) d ha hc hb hd e =
     let tail : a ++ b ≡ c ++ d = cc in
     let r = run_unique a b c d ha.1 hc.1 hb hd tail in (ap (λ k. k ∷ a) head ∙ ap (λ l. y ∷ l) r.0, r.1)
 
+-- Lines that begin with a full one don't begin with an empty one.
 some_first : (a b c : List (List ℕ)) → a ≢ [] → AreFullLines a → a ++ b ≡ [] ∷ c → ⊥
 some_first [] b c n h e = n refl
 some_first (x ∷ a) b c n h e = let k : x ≡ [] = cc in h.0.0 k
 
+-- Lines of which there are some at the front are not none.
 pub none_first : (a b : List (List ℕ)) → a ≢ [] → a ++ b ≡ [] → ⊥
 none_first [] b n e = n refl
 none_first (x ∷ a) b n e = cc
@@ -217,6 +233,7 @@ records_unique _ _ _ _ (longest_run a l r n f b g) (longest_run c d s k i j h) e
     let rest = records_unique l d r s g h same.1 in
     ap (λ x. x ∷ r) same.0 ∙ ap (λ x. c ∷ x) rest
 
+-- Full lines after empty ones are the same if all of the lines together are.
 blank_front : (a b : List ℕ) (l m : List (List ℕ)) → AreFullLines l → AreFullLines m → blanks a ++ l ≡ blanks b ++ m → l ≡ m
 unfolding blanks
 blank_front [] [] l m h k e = e

@@ -23,10 +23,12 @@ use Rattle.dm_tool.proofs.RecordAnswers.{and_parts, square_by_facts, square_tell
 abbrev by_square : Bool → List (List ℕ) → Result GridView RecordFault
 by_square t lines = if t then sized (row_with_side (length lines)) lines else Err fault.NotSquare
 
+-- Lines that are held come to a grid or a fault by whether they are square.
 comes_to : (t : Rows) (lines : List (List ℕ)) (rest : List ℕ) (s : Bool) → HoldsLines t lines rest → is_square (lines ++ last_line rest) ≡ s
     → record_of (lines ++ last_line rest) ≡ by_square s (lines ++ last_line rest)
 comes_to t lines rest s h e = rw (h.cells, h.small, e) refl
 
+-- A test that can't pass fails.
 never_square : (s : Bool) → (s ≡ true → ⊥) → s ≡ false
 never_square true n = absurd (n refl)
 never_square false n = refl
@@ -61,6 +63,7 @@ square_rows lines all =
     sym (fill_by_all (λ r. cells_in (length lines) (get_or (map number_of lines) r 0)) (rows_of lines) (length lines) []
     (length-map lines (map (λ b. b == 49))) (λ r l. row_at (length lines) lines r all l))
 
+-- Rows that are those of the lines make the grid of their size.
 same_grid : (size : Option SizeRow) (lines : List (List ℕ)) (g : GridView) → size ≡ Some g.size → g.rows ≡ rows_of lines → Ok g ≡ sized size lines
 same_grid size lines g e f = rw e (ap (λ rows. Ok (let k : GridView = record { size = g.size; rows = rows } in k)) f)
 
@@ -78,12 +81,14 @@ is_grid t lines rest rows g h d l f e size drawn =
     let these = drawn ∙ ap (square_of_rows t.first) (e ∙ h.rows_are) ∙ ap (λ n. square_of_rows n (map number_of all)) side ∙ square_rows all does in
     same_grid (row_with_side (length all)) all g (ap row_with_side (sym side) ∙ size) these ∙ sym (comes_to t lines rest true h does)
 
+-- Where rows that are as many as they should be make no grid, no size has this side.
 none_by : (why : GridFault) (n : ℕ) (rows : List ℕ) → length rows ≡ n
     → ((let r : Result (Unit {0}) GridFault = Err why in r) ≡ Err rows_fault.NotSquare → length rows ≡ n → ⊥)
     → ((let r : Result (Unit {0}) GridFault = Err why in r) ≡ Err rows_fault.NoSuchSize → IsNone (row_with_side n)) → IsNone (row_with_side n)
 none_by rows_fault.NotSquare n rows e f g = absurd (f refl e)
 none_by rows_fault.NoSuchSize n rows e f g = g refl
 
+-- Lines of a side that no size has come to that fault.
 no_size : (size : Option SizeRow) (lines : List (List ℕ)) → IsNone size → Err (fault.NoSuchSize (length lines)) ≡ sized size lines
 no_size None lines h = refl
 no_size (Some size) lines h = cc

@@ -86,9 +86,11 @@ closed_part text answers new t =
     t.split.whole ∙ ap (λ l. ended l ++ t.rest) t.last_blank.whole
     ∙ ap (λ l. l ++ t.rest) (flat_map-append (λ l. l ++ lf ∷ []) t.before t.after) ∙ append_assoc (ended t.before) (ended t.after) t.rest
 
+-- The lines of the closed part of a text have no LF.
 before_no_lf : (text : List ℕ) (answers : List RecordAnswer) (new : RecordFacts) → (t : AreRecordsOfText text answers new) → AllByRecursion HasNoLf t.before
 before_no_lf text answers new t = all_front HasNoLf t.before t.after (subst (AllByRecursion HasNoLf) t.last_blank.whole t.split.lines_no_lf)
 
+-- The lines after the closed part of a text have no LF.
 after_no_lf : (text : List ℕ) (answers : List RecordAnswer) (new : RecordFacts) → (t : AreRecordsOfText text answers new) → AllByRecursion HasNoLf t.after
 after_no_lf text answers new t = all_back HasNoLf t.before t.after (subst (AllByRecursion HasNoLf) t.last_blank.whole t.split.lines_no_lf)
 
@@ -130,10 +132,12 @@ record_is_closed text answers old new piece taken answer t now all =
 
 -- ---- a text that ends
 
+-- Lines that aren't empty and have no LF are full.
 pub full_of : (lines : List (List ℕ)) → AllByRecursion (λ l. l ≢ []) lines → AllByRecursion HasNoLf lines → AreFullLines lines
 full_of [] h k = tt
 full_of (x ∷ lines) h k = ((h.0, k.0), full_of lines h.1 k.1)
 
+-- The lines after the closed part of a text are full.
 full_after : (text : List ℕ) (answers : List RecordAnswer) (new : RecordFacts) → (t : AreRecordsOfText text answers new) → AreFullLines t.after
 full_after text answers new t = full_of t.after t.last_blank.full (after_no_lf text answers new t)
 
@@ -150,6 +154,7 @@ full_last [] [] f r = tt
 full_last [] (b ∷ rest) f r = ((λ e. cc, r), tt)
 full_last (x ∷ lines) rest f r = (f.0, full_last lines rest f.1 r)
 
+-- The lines of a text, with the one that its end closes, are those of its closed part and those after it.
 lines_last : (lines before after : List (List ℕ)) (rest : List ℕ) → lines ≡ before ++ after → lines ++ last_line rest ≡ before ++ (after ++ last_line rest)
 lines_last lines before after rest e = ap (λ l. l ++ last_line rest) e ∙ append_assoc before after (last_line rest)
 

@@ -3,7 +3,7 @@ use Rattle.std.proofs.Common.{◌≡◌, ◌∙◌, ◌+◌, ◌<◌, ℕ, List,
 use Rattle.std.proofs.lemmas.List.{length-take-le}
 use Rattle.dm_tool.specs.Texts.{lf, HasNoLf, ended, IsSplit}
 
--- The bytes before a place in a piece, and the byte there, are as many as the place says, and one.
+-- As many bytes stand before a place of a piece as the place says, and one more with the byte there.
 pub length-front : (end : ℕ) (piece : List ℕ) → end < length piece → end + 1 ≡ length (take end piece) + 1
 length-front end piece lt = ap (λ n. n + 1) (sym (length-take-le end piece (omega arith)))
 
