@@ -20,7 +20,7 @@ use Rattle.dm_code.proofs.Exported.{codewords_one, codeword_bytes, near_or_none 
 use Rattle.dm_layout.proofs.Exported.{every_grid_holds as every_grid_holds_of, laid_somewhere as laid_somewhere_of, blocks_make_words as blocks_make_words_of, word_of_block, length_of_block, one_list, one_laid, once_at_row, count_at_row}
 use Rattle.dm_words.proofs.Exported.{spelled_is_message as spelled_is_message_of, one_answer as one_answer_of, normal_form_codewords as normal_form_codewords_of, normal_form_count as normal_form_count_of, normal_form_spells as normal_form_spells_of}
 
--- Two codewords of k checks and one length that differ in at most k places are equal.
+-- Two codewords of one length and of k check codewords that differ at no more than k places are equal.
 pub codewords_apart : (k : ℕ) (c d : List ℕ) → IsCodeword k c → IsCodeword k d → length c ≡ length d → length c ≤ 255 → distance c d ≤ k → c ≡ d
 codewords_apart = codewords_one
 
@@ -46,13 +46,13 @@ block_places size words h b i hb hi = word_of_block (symbol size words) b i h hb
 pub block_lengths : (size : SizeRow) (words : List ℕ) → AreWordsOf size words → (b : ℕ) → b < size.blocks → length (block_at size words b) ≡ block_length size
 block_lengths size words h b hb = length_of_block (symbol size words) b h hb
 
--- Codewords of a symbol with these blocks.
+-- The codewords of a symbol whose blocks are these.
 pub record HasBlocks (size : SizeRow) (blocks : ℕ → List ℕ) : Type 0 where
   pub list : List ℕ
   pub of_size : AreWordsOf size list
   pub are : (b : ℕ) → b < size.blocks → block_at size list b ≡ blocks b
 
--- Blocks make the codewords of a symbol.
+-- There are codewords of a symbol with any blocks of the right length.
 pub blocks_make_words : (size : SizeRow) (blocks : ℕ → List ℕ) → IsRow size → AreBlocks size blocks → HasBlocks size blocks
 blocks_make_words size blocks row are =
     let made = blocks_make_words_of size blocks row are in
@@ -64,7 +64,7 @@ every_grid_holds grid h =
     let made = every_grid_holds_of grid h in
     (made.0.list, subst (λ x. Holds grid x) (ap (λ s. symbol s made.0.list) made.1.same_size) made.1)
 
--- A grid holds one list of codewords.
+-- A grid holds only one list of codewords.
 pub held_words_are_one : (grid : GridView) (u v : List ℕ) → AreHeld grid u → AreHeld grid v → u ≡ v
 held_words_are_one grid u v hu hv = ap (λ w. w.list) (one_list grid (symbol grid.size u) (symbol grid.size v) hu hv)
 
@@ -72,11 +72,11 @@ held_words_are_one grid u v hu hv = ap (λ w. w.list) (one_list grid (symbol gri
 pub laid_somewhere : (words : WordsView) → IsWords words → (grid : GridView) × IsLaid words grid
 laid_somewhere = laid_somewhere_of
 
--- Codewords are laid in one grid.
+-- Codewords are laid in only one grid.
 pub laid_grid_is_one : (g h : GridView) (words : WordsView) → IsLaid words g → IsLaid words h → g ≡ h
 laid_grid_is_one g h words hg hh = one_laid words g h hg hh
 
--- A cell of the mapping square is the place of at most one bit.
+-- A cell of the mapping matrix is the place of at most one bit.
 pub each_cell_once : (size : SizeRow) → IsRow size → EachCellOnce size.mapping
 each_cell_once size row = once_at_row size row
 
@@ -93,7 +93,7 @@ pub normal_form_spells : (p : Profile) (m : List Item) (count : ℕ) → IsMessa
     → Spells (padded (normal_form p m) count) m
 normal_form_spells = normal_form_spells_of
 
--- With pads it is so many codewords.
+-- With pads up to a count it has so many codewords.
 pub normal_form_words_are : (p : Profile) (m : List Item) (count : ℕ) → IsMessage m → length (normal_form p m) ≤ count
     → (length (padded (normal_form p m) count) ≡ count) × All (λ w. w < 256) (padded (normal_form p m) count)
 normal_form_words_are p m count h fits = (normal_form_count_of p m count fits, normal_form_codewords_of p m count h)

@@ -1,4 +1,4 @@
--- One list for each of finitely many numbers.
+-- Choosing a list for each of finitely many numbers.
 use Rattle.std.proofs.Common.{ℕ, ◌<◌, ◌≤◌, ◌⊎◌, List, [], inl, inr, arith}
 use Rattle.std.proofs.lemmas.Bool.{cases_lt}
 

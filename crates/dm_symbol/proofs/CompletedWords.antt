@@ -1,4 +1,4 @@
--- Each message that some size holds has a normal grid.
+-- Each message that fits some size has a normal grid.
 use Rattle.std.proofs.Common.{◌≡◌, ℕ, ◌+◌, ◌*◌, ◌<◌, List, ◌++◌, length, get_or, take, replicate, Option, Some, None, IsSome, refl, sym, ap, subst, ◌∙◌, arith, mul_comm}
 use Rattle.std.specs.List.{All}
 use Rattle.std.proofs.lemmas.Bool.{false≢true}
@@ -22,7 +22,7 @@ use Rattle.dm_symbol.proofs.WriteSteps.{laid_is_normal}
 use Rattle.dm_symbol.proofs.Choosing.{chosen}
 use Rattle.dm_symbol.proofs.Below.{block_places, block_lengths, blocks_make_words, codewords_are_bytes, checks_are_there, laid_somewhere, normal_form_words_are}
 
--- A block is of bytes.
+-- The codewords of a block are bytes.
 block_bytes : (size : SizeRow) (words : List ℕ) → AreWordsOf size words → (b : ℕ) → b < size.blocks → All (λ w. w < 256) (block_at size words b)
 block_bytes size words h b hb =
     let f = size_facts size h.row in
@@ -45,7 +45,7 @@ front_length : (size : SizeRow) (words : List ℕ) → AreWordsOf size words →
 front_length size words h b hb =
     length-take-le (block_data size) (block_at size words b) (omega (arith, block_lengths size words h b hb, (size_facts size h.row).length))
 
--- Each block has its completion.
+-- Each block has check codewords that complete it.
 completion : (size : SizeRow) (words : List ℕ) → AreWordsOf size words → (b : ℕ) → b < size.blocks → (list : List ℕ) × IsCompletion size words b list
 completion size words h b hb =
     let f = size_facts size h.row in
@@ -64,7 +64,7 @@ pub record HasChecks (size : SizeRow) (data_words : List ℕ) : Type 0 where
   pub front : data_part size list ≡ data_words
   pub checked : BlocksAreCodewords size list
 
--- Data codewords before zeros are the codewords of a symbol.
+-- Data codewords with zeros behind them are codewords of a symbol.
 with_room : (size : SizeRow) (data_words : List ℕ) → IsRow size → length data_words ≡ size.data_count → All (λ w. w < 256) data_words
     → AreWordsOf size (data_words ++ replicate size.check_count 0)
 with_room size data_words row long bytes =
@@ -97,7 +97,7 @@ checks_for size data_words row long bytes =
       checked = λ b hb. subst (IsCodeword (block_check size)) (sym (made.are b hb)) (blocks.1 b hb).codeword;
     }
 
--- A message that some size holds has a normal grid.
+-- A message that fits some size has a normal grid.
 pub normal_grid_is_there : (p : Profile) (m : List Item) → IsMessage m → FitsSomeSize p m → (grid : GridView) × IsNormalGrid p m grid
 normal_grid_is_there p m h fits = of_size (row_for_words (length (normal_form p m))) refl fits
   where

@@ -19,7 +19,7 @@ sum_grows f g a (suc n) h =
       sum_by-cons g a (range_with_len (a + 1) n),
     )
 
--- It is larger by one where one of the terms is.
+-- If one of the terms is larger by one, the sum is larger by one.
 pub sum_grows_at : (f g : ℕ → ℕ) (a n r : ℕ) → ((i : ℕ) → a ≤ i → i < a + n → f i ≤ g i) → a ≤ r → r < a + n → f r + 1 ≤ g r
     → sum_by f (range_with_len a n) + 1 ≤ sum_by g (range_with_len a n)
 sum_grows_at f g a zero r h low high more = absurd (omega (arith, low, high))
@@ -50,22 +50,22 @@ sum_of_none f n i e h =
 counted : Bool → ℕ
 counted b = cond b 1 0
 
--- What passes counts at least as much as what implies it.
+-- A test counts at least as much as one that implies it.
 counted_grows : (p q : Bool) → (p ≡ true → q ≡ true) → cond {A = ℕ} p 1 0 ≤ cond q 1 0
 counted_grows true q h = omega (arith, cond-true {A = ℕ} q 1 0 (h refl))
 counted_grows false q h = omega arith
 
--- Of the cells of a square of n rows and n columns, how many pass a test.
+-- How many cells of a square of n rows and n columns pass a test.
 abbrev pub count_cells : ℕ → (ℕ → ℕ → Bool) → ℕ
 count_cells n test = sum_by (λ row. count_by (test row) (range_with_len 0 n)) (range_with_len 0 n)
 
--- A weaker test passes as many cells.
+-- At least as many cells pass a weaker test.
 pub cells_grow : (n : ℕ) (p q : ℕ → ℕ → Bool) → ((r c : ℕ) → r < n → c < n → p r c ≡ true → q r c ≡ true) → count_cells n p ≤ count_cells n q
 cells_grow n p q h =
     sum_grows (λ r. count_by (p r) (range_with_len 0 n)) (λ r. count_by (q r) (range_with_len 0 n)) 0 n (λ r low high.
     sum_grows (λ c. cond (p r c) 1 0) (λ c. cond (q r c) 1 0) 0 n (λ c left right. counted_grows (p r c) (q r c) (h r c (omega (arith, high)) (omega (arith, right)))))
 
--- Without one of the cells that pass there is one less.
+-- If some cell passes only the weaker of two tests, at least one cell more passes that.
 pub cells_grow_at : (n : ℕ) (p q : ℕ → ℕ → Bool) (x y : ℕ) → ((r c : ℕ) → r < n → c < n → p r c ≡ true → q r c ≡ true)
     → x < n → y < n → p x y ≡ false → q x y ≡ true → count_cells n p + 1 ≤ count_cells n q
 cells_grow_at n p q x y h hx hy left_out kept =
@@ -103,7 +103,7 @@ without_keeps test x y r c t other =
       | inr e ↦ and_from (test r c) (not (eqb r x && eqb c y)) t (not_from_false (eqb r x && eqb c y) e)
     ]
 
--- The cell itself doesn't.
+-- The cell itself doesn't pass any more.
 without_itself : (test : ℕ → ℕ → Bool) (x y : ℕ) → without test x y x y ≡ false
 without_itself test x y =
     and_right (test x y) (not (eqb x x && eqb y y)) (not_from_true (eqb x x && eqb y y) (and_from (eqb x x) (eqb y y) (eq-eqb x x refl) (eq-eqb y y refl)))

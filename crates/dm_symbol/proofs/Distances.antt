@@ -1,22 +1,22 @@
--- Distances of words.
+-- The distance between two words: at how many places they differ.
 use Rattle.std.proofs.Common.{◌≡◌, ℕ, zero, suc, ◌+◌, ◌-◌, ◌<◌, ◌≤◌, eqb, List, get_or, length, refl, sym, inl, inr, arith}
 use Rattle.std.proofs.lemmas.Bool.{cases_Bool, cases_eq, cases_lt, eq-eqb, ne_eqb, cond-true, cond-false}
 use Rattle.std.proofs.lemmas.List.{ext_get_or}
 use Rattle.dm_code.specs.Codeword.{differs, differing, distance}
 
--- Equal numbers count nothing.
+-- Equal numbers have distance 0.
 pub differs_same : (a b : ℕ) → a ≡ b → differs a b ≡ 0
 differs_same a b e = cond-true {A = ℕ} (eqb a b) 0 1 (eq-eqb a b e)
 
--- Two numbers count at most one.
+-- Two numbers have a distance of at most 1.
 pub differs_most : (a b : ℕ) → differs a b ≤ 1
 differs_most a b = elim (cases_Bool (eqb a b)) [ inl e ↦ omega (arith, cond-true {A = ℕ} (eqb a b) 0 1 e) | inr e ↦ omega (arith, cond-false {A = ℕ} (eqb a b) 0 1 e) ]
 
--- Different numbers count one.
+-- Different numbers have distance 1.
 pub differs_other : (a b : ℕ) → (a ≡ b → ⊥) → differs a b ≡ 1
 differs_other a b n = cond-false {A = ℕ} (eqb a b) 0 1 (ne_eqb a b n)
 
--- Over a third number no way is shorter.
+-- The distance between two numbers is at most the sum of those to a third one.
 pub differs_over : (a b c : ℕ) → differs a c ≤ differs a b + differs b c
 differs_over a b c =
     elim (cases_eq a b) [
@@ -24,7 +24,7 @@ differs_over a b c =
       | inr n ↦ omega (arith, differs_most a c, differs_other a b n)
     ]
 
--- Whichever number comes first.
+-- The distance between two numbers is the same both ways.
 pub differs_turned : (a b : ℕ) → differs a b ≡ differs b a
 differs_turned a b =
     elim (cases_eq a b) [
@@ -48,19 +48,19 @@ differing_front w c m (suc n) e =
       | inr h ↦ omega (arith, differing_front w c m n e, differs_most (get_or w n 0) (get_or c n 0))
     ]
 
--- Over a third word no way is shorter.
+-- The distance between two words is at most the sum of those to a third one.
 pub differing_over : (w x c : List ℕ) (n : ℕ) → differing w c n ≤ differing w x n + differing x c n
 unfolding differing
 differing_over w x c zero = omega arith
 differing_over w x c (suc n) = omega (arith, differing_over w x c n, differs_over (get_or w n 0) (get_or x n 0) (get_or c n 0))
 
--- Whichever word comes first.
+-- The distance between two words is the same both ways.
 pub differing_turned : (w c : List ℕ) (n : ℕ) → differing w c n ≡ differing c w n
 unfolding differing
 differing_turned w c zero = refl
 differing_turned w c (suc n) = omega (arith, differing_turned w c n, differs_turned (get_or w n 0) (get_or c n 0))
 
--- Two numbers that count nothing are equal.
+-- Two numbers with distance 0 are equal.
 same_number : (a b : ℕ) → differs a b ≡ 0 → a ≡ b
 same_number a b none = elim (cases_eq a b) [ inl e ↦ e | inr n ↦ absurd (omega (arith, none, differs_other a b n)) ]
 

@@ -67,7 +67,7 @@ corrected grid words h near =
       },
     )
 
--- The answer of what is corrected.
+-- A grid whose words are corrected has an answer.
 corrected_answer : (grid : GridView) (limit : ℕ) (words c : List ℕ) → border_fault_count grid ≤ limit → IsCorrected grid words c
     → (answer : Result Reading ReadFault) × ReadAnswer grid limit answer
 corrected_answer grid limit words c few h =
@@ -92,12 +92,12 @@ answer_is_given grid limit is_grid =
           ]
     ]
 
--- Some size holds the message, or none does.
+-- A message fits some size or none.
 pub fits_or_not : {A : Type 0} (o : Option A) → IsSome o ⊎ (IsSome o → ⊥)
 fits_or_not (Some a) = inl refl
 fits_or_not None = inr (λ is. false≢true is)
 
--- The answer of `normal` for a grid that is read.
+-- A grid that is read has an answer of normalising.
 normal_of_read : (p : Profile) (grid : GridView) (limit : ℕ) (m : List Item) → Reads grid limit m → (answer : Result GridView NormalFault) × NormalAnswer p grid limit answer
 normal_of_read p grid limit m r =
     elim (fits_or_not (row_for_words (length (normal_form p m)))) [
@@ -108,12 +108,12 @@ normal_of_read p grid limit m r =
       | inr none ↦ (Err TooLong, NormalAnswer.too_long (record { message = m; read = r; too_long = none }) refl)
     ]
 
--- The answer of `normal` for a grid that isn't read.
+-- A grid that isn't read has an answer of normalising.
 normal_of_fault : (p : Profile) (grid : GridView) (limit : ℕ) (answer : Result Reading ReadFault) (why : ReadFault) → answer ≡ Err why → ReadAnswer grid limit answer
     → (normal : Result GridView NormalFault) × NormalAnswer p grid limit normal
 normal_of_fault p grid limit answer why e h = (Err (Read why), NormalAnswer.fault why (subst (ReadAnswer grid limit) e h) refl)
 
--- The answer of `normal`, by that of reading.
+-- A grid with an answer of reading has an answer of normalising.
 normal_by_answer : (p : Profile) (grid : GridView) (limit : ℕ) (answer : Result Reading ReadFault) → ReadAnswer grid limit answer
     → (normal : Result GridView NormalFault) × NormalAnswer p grid limit normal
 normal_by_answer p grid limit answer (ReadAnswer.border more e) =
@@ -124,7 +124,7 @@ normal_by_answer p grid limit answer (ReadAnswer.words u c why few h refused e) 
 normal_by_answer p grid limit answer (ReadAnswer.message u c m few h spelled e) =
     normal_of_read p grid limit m (record { border = few; words = u; codewords = c; corrected = h; spelled = spelled })
 
--- Each grid has an answer of `normal`.
+-- Each grid has an answer of normalising.
 pub normal_answer_is_given : (p : Profile) (grid : GridView) (limit : ℕ) → IsGrid grid → (answer : Result GridView NormalFault) × NormalAnswer p grid limit answer
 normal_answer_is_given p grid limit is_grid =
     let read = answer_is_given grid limit is_grid in

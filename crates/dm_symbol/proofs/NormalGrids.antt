@@ -1,4 +1,4 @@
--- A message has one normal grid, and a normal grid one message.
+-- A message has at most one normal grid, and a normal grid is that of one message.
 use Rattle.std.proofs.Common.{◌≡◌, ℕ, ◌<◌, List, length, Some, inl, inr, sym, ap, subst, ◌∙◌}
 use Rattle.std.proofs.lemmas.List.Elements.{All-take}
 use Rattle.dm_words.specs.declared.item.Item.{Item}
@@ -17,7 +17,7 @@ use Rattle.dm_symbol.proofs.SymbolBlocks.{checks_are_one}
 use Rattle.dm_symbol.proofs.SizeFacts.{size_facts, holds_that_many}
 use Rattle.dm_symbol.proofs.Below.{one_answer, normal_form_spells, held_words_are_one, laid_grid_is_one}
 
--- `Some` forgets nothing.
+-- Two equal answers that are there say the same.
 pub some_is : {A : Type 0} (a b : A) → Some a ≡ Some b → a ≡ b
 some_is a b e = cc
 
@@ -51,7 +51,7 @@ normal_grid_is_one p m g h ng nh =
     let symbols : symbol g.size ng.words ≡ symbol h.size nh.words = ap (λ s. symbol s ng.words) size ∙ ap (λ w. symbol h.size w) same in
     laid_grid_is_one g h (symbol h.size nh.words) (subst (λ w. IsLaid w g) symbols ng.laid) nh.laid
 
--- Messages with one normal grid are equal.
+-- Messages with the same normal grid are equal.
 pub normal_message_is_one : (p : Profile) (m n : List Item) (g : GridView) → IsMessage m → IsMessage n → IsNormalGrid p m g → IsNormalGrid p n g → m ≡ n
 normal_message_is_one p m n g hm hn nm nn =
     let same : nm.words ≡ nn.words = held_words_are_one g nm.words nn.words nm.laid.holds nn.laid.holds in

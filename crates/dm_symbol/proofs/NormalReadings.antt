@@ -1,4 +1,4 @@
--- What is read from a normal grid.
+-- Normal grids are read as their messages, and what follows from that.
 use Rattle.std.proofs.Common.{◌≡◌, ◌↔◌, ℕ, zero, suc, ◌+◌, List, ◌∷◌, map, replicate, length, IsSome, Result, Ok, Err, refl, sym, ap, subst, ◌∙◌, arith}
 use Rattle.std.specs.List.{range_with_len}
 use Rattle.dm_words.specs.declared.item.Item.{Item}
@@ -19,11 +19,11 @@ use Rattle.dm_symbol.proofs.Distances.{differing_same}
 use Rattle.dm_symbol.proofs.NormalGrids.{normal_words_spell, normal_grid_is_one, normal_message_is_one}
 use Rattle.dm_symbol.proofs.Readings.{one_given, one_message, answer_of_read, read_by_answer, read_is_message}
 
--- `Err` forgets nothing.
+-- Two equal errors say the same.
 err_is : (a b : ReadFault) → ◌≡◌ {A = Result Reading ReadFault} (Err a) (Err b) → a ≡ b
 err_is a b e = cc
 
--- No word differs from itself.
+-- A list of words doesn't differ from itself.
 distance_to_itself : (word : List ℕ) → distance word word ≡ 0
 distance_to_itself word = differing_same word word (length word) (λ i h. refl)
 
@@ -45,7 +45,7 @@ normal_reads p m grid limit h n = record {
   spelled = normal_words_spell p m grid h n;
 }
 
--- A list made by a function that is always 0.
+-- A list that is made by a function that is always 0 is all zeros.
 map_to_zero : (f : ℕ → ℕ) (a n : ℕ) → ((b : ℕ) → f b ≡ 0) → map f (range_with_len a n) ≡ replicate n 0
 map_to_zero f a zero e = refl
 map_to_zero f a (suc n) e = ap (λ x. x ∷ map f (range_with_len (a + 1) n)) (e a) ∙ ap (λ xs. 0 ∷ xs) (map_to_zero f (a + 1) n e)
@@ -76,7 +76,7 @@ normal_grids_tell p m n g h hm hn ng nh =
 pub normal_grid_fits : (p : Profile) (m : List Item) (g : GridView) → IsNormalGrid p m g → FitsSomeSize p m
 normal_grid_fits p m g n = subst IsSome (sym n.smallest) refl
 
--- The normal grid of what is read is one.
+-- A grid has at most one normal grid under a profile.
 pub one_normal : (p : Profile) (grid n o : GridView) (k l : ℕ) → HasNormal p grid k n → HasNormal p grid l o → n ≡ o
 one_normal p grid n o k l hn ho =
     let same = one_message grid k l hn.message ho.message hn.read ho.read in
@@ -92,7 +92,7 @@ not_too_long p grid n k l h none =
 no_fault : (grid : GridView) (limit : ℕ) (m : List Item) (why : ReadFault) → Reads grid limit m → ReadAnswer grid limit (Err why) → ⊥
 no_fault grid limit m why r a = read_by_answer grid limit (Err why) m a r
 
--- What `normal` answers is one.
+-- A grid has at most one answer of normalising.
 pub one_normal_answer : (p : Profile) (grid : GridView) (limit : ℕ) (a b : Result GridView NormalFault) → NormalAnswer p grid limit a → NormalAnswer p grid limit b → a ≡ b
 one_normal_answer p grid limit a b (NormalAnswer.normal n h e) (NormalAnswer.normal o k f) = e ∙ ap (λ x. Ok x) (one_normal p grid n o limit limit h k) ∙ sym f
 one_normal_answer p grid limit a b (NormalAnswer.normal n h e) (NormalAnswer.too_long k f) = absurd (not_too_long p grid n limit limit h k)
@@ -115,14 +115,14 @@ normal_of_normal p grid normal limit other h = record {
   normal_grid = h.normal_grid;
 }
 
--- So the answer for a normal grid is the grid itself.
+-- So the answer of normalising for a normal grid is the grid itself.
 pub twice_is_once : (p : Profile) (grid normal : GridView) (limit other : ℕ) (answer : Result GridView NormalFault) → HasNormal p grid limit normal
     → NormalAnswer p normal other answer ↔ (answer ≡ Ok normal)
 twice_is_once p grid normal limit other answer h =
     let itself : NormalAnswer p normal other (Ok normal) = NormalAnswer.normal normal (normal_of_normal p grid normal limit other h) refl in
     (λ a. one_normal_answer p normal other answer (Ok normal) a itself, λ e. subst (λ a. NormalAnswer p normal other a) (sym e) itself)
 
--- Two grids that are read as one message have the same answers.
+-- Two grids that are read as the same message have the same answers of normalising.
 answer_moves : (p : Profile) (g h : GridView) (k l : ℕ) (m : List Item) (answer : Result GridView NormalFault) → Reads g k m → Reads h l m
     → NormalAnswer p g k answer → NormalAnswer p h l answer
 answer_moves p g h k l m answer rg rh (NormalAnswer.normal n a e) =
@@ -140,28 +140,28 @@ last_profile_decides p q grid normal limit other answer h =
     let again : Reads normal other h.message = normal_reads p h.message normal other (read_is_message grid limit h.message h.read) h.normal_grid in
     (answer_moves q normal grid other limit h.message answer again h.read, answer_moves q grid normal limit other h.message answer h.read again)
 
--- Two read grids have equal normal grids exactly where their messages are equal.
+-- Two grids that are read have equal normal grids exactly where their messages are equal.
 pub equal_normals : (p : Profile) (g h a b : GridView) (i j k l : ℕ) (m n : List Item) → Reads g i m → Reads h j n → HasNormal p g k a → HasNormal p h l b → (a ≡ b) ↔ (m ≡ n)
 equal_normals p g h a b i j k l m n hm hn ha hb =
     let na : IsNormalGrid p m a = subst (λ x. IsNormalGrid p x a) (one_message g k i ha.message m ha.read hm) ha.normal_grid in
     let nb : IsNormalGrid p n b = subst (λ x. IsNormalGrid p x b) (one_message h l j hb.message n hb.read hn) hb.normal_grid in
     normal_grids_tell p m n a b (read_is_message g i m hm) (read_is_message h j n hn) na nb
 
--- ---- what an answer of `normal` says
+-- ---- what an answer of normalising says
 
 -- Two answers that are equal say the same, and answers of two kinds aren't equal.
 ok_is : (a b : GridView) → ◌≡◌ {A = Result GridView NormalFault} (Ok a) (Ok b) → a ≡ b
 ok_is a b e = cc
 
--- A fault is no grid.
+-- A fault isn't a grid.
 err_no_ok : (a : GridView) (f : NormalFault) → ◌≡◌ {A = Result GridView NormalFault} (Err f) (Ok a) → ⊥
 err_no_ok a f e = cc
 
--- A grid is no fault.
+-- A grid isn't a fault.
 ok_no_err : (a : GridView) (f : NormalFault) → ◌≡◌ {A = Result GridView NormalFault} (Ok a) (Err f) → ⊥
 ok_no_err a f e = cc
 
--- One fault of reading.
+-- Two equal faults of reading say the same.
 read_is : (a b : ReadFault) → ◌≡◌ {A = Result GridView NormalFault} (Err (Read a)) (Err (Read b)) → a ≡ b
 read_is a b e = cc
 
@@ -169,7 +169,7 @@ read_is a b e = cc
 read_no_too_long : (a : ReadFault) → ◌≡◌ {A = Result GridView NormalFault} (Err (Read a)) (Err TooLong) → ⊥
 read_no_too_long a e = cc
 
--- The normal grid.
+-- The answer is a normal grid exactly where the grid has it.
 says_normal : (p : Profile) (grid : GridView) (limit : ℕ) (answer : Result GridView NormalFault) → NormalAnswer p grid limit answer → (n : GridView)
     → (answer ≡ Ok n) ↔ HasNormal p grid limit n
 says_normal p grid limit answer a n = (λ e. told answer a e, λ h. one_normal_answer p grid limit answer (Ok n) a (NormalAnswer.normal n h refl))
@@ -179,7 +179,7 @@ says_normal p grid limit answer a n = (λ e. told answer a e, λ h. one_normal_a
     told answer (NormalAnswer.too_long h e) f = absurd (err_no_ok n TooLong (sym e ∙ f))
     told answer (NormalAnswer.fault why h e) f = absurd (err_no_ok n (Read why) (sym e ∙ f))
 
--- That there is none.
+-- The answer is that there is none exactly where the grid has none.
 says_too_long : (p : Profile) (grid : GridView) (limit : ℕ) (answer : Result GridView NormalFault) → NormalAnswer p grid limit answer
     → (answer ≡ Err TooLong) ↔ HasNoNormal p grid limit
 says_too_long p grid limit answer a = (λ e. told answer a e, λ h. one_normal_answer p grid limit answer (Err TooLong) a (NormalAnswer.too_long h refl))
@@ -189,7 +189,7 @@ says_too_long p grid limit answer a = (λ e. told answer a e, λ h. one_normal_a
     told answer (NormalAnswer.too_long h e) f = h
     told answer (NormalAnswer.fault why h e) f = absurd (read_no_too_long why (sym e ∙ f))
 
--- The fault of reading.
+-- The answer is a fault of reading exactly where the grid is refused with it.
 says_fault : (p : Profile) (grid : GridView) (limit : ℕ) (answer : Result GridView NormalFault) → NormalAnswer p grid limit answer → (why : ReadFault)
     → (answer ≡ Err (Read why)) ↔ ReadAnswer grid limit (Err why)
 says_fault p grid limit answer a why = (λ e. told answer a e, λ h. one_normal_answer p grid limit answer (Err (Read why)) a (NormalAnswer.fault why h refl))
@@ -199,7 +199,7 @@ says_fault p grid limit answer a why = (λ e. told answer a e, λ h. one_normal_
     told answer (NormalAnswer.too_long h e) f = absurd (read_no_too_long why (sym f ∙ e))
     told answer (NormalAnswer.fault other h e) f = subst (λ x. ReadAnswer grid limit (Err x)) (read_is other why (sym e ∙ f)) h
 
--- All of it.
+-- All of this together.
 pub is_normalised : (p : Profile) (grid : GridView) (limit : ℕ) (answer : Result GridView NormalFault) → NormalAnswer p grid limit answer
     → IsNormalised p grid limit answer
 is_normalised p grid limit answer a =

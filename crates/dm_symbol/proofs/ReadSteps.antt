@@ -1,4 +1,4 @@
--- The answers of a reading, from what was lifted and corrected.
+-- The answers of reading, from what was lifted and corrected.
 use Rattle.std.proofs.Common.{◌≡◌, ◌↔◌, ℕ, ◌<◌, ◌≤◌, List, Result, Ok, Err, refl, sym, ap, subst, ◌∙◌}
 use Rattle.arrayvec.specs.ArrayVec.{ArrayVec}
 use Rattle.dm_words.specs.declared.item.Item.{Item}
@@ -16,7 +16,7 @@ use Rattle.dm_symbol.specs.Blocks.{symbol, AreWordsOf, AreHeld, BlocksAreNear, d
 use Rattle.dm_symbol.specs.Reading.{IsCorrected, Reads, IsFirstBeyond, ReadAnswer, reading_of, IsReadAs}
 use Rattle.dm_symbol.proofs.Readings.{one_given, read_by_answer, reads_by_answer}
 
--- Words that a grid holds are of its size.
+-- Words that a grid holds are codewords of a symbol of its size.
 held_words : (grid : GridView) (w : WordsView) → Holds grid w → AreHeld grid w.list
 held_words grid w h = subst (λ x. Holds grid x) (ap (λ s. symbol s w.list) h.same_size) h
 
@@ -28,7 +28,7 @@ block_answer grid limit w b few h first =
 
 module _ (grid : GridView) (limit : ℕ) (w v : WordsView) (few : border_fault_count grid ≤ limit) (h : Holds grid w) (same : v.size ≡ w.size)
     (of_size : AreWordsOf w.size v.list) (near : BlocksAreNear w.size w.list v.list) where
-  -- The corrected words.
+  -- The words are corrected.
   are_corrected : IsCorrected grid w.list v.list
   are_corrected = record {
     words_held = held_words grid w h;
@@ -36,15 +36,15 @@ module _ (grid : GridView) (limit : ℕ) (w v : WordsView) (few : border_fault_c
     near = subst (λ s. BlocksAreNear s w.list v.list) h.same_size near;
   }
 
-  -- Their data part.
+  -- The data part is that of the corrected words.
   data_of_grid : data_of v ≡ data_part grid.size v.list
   data_of_grid = ap (λ s. data_part s v.list) (same ∙ h.same_size)
 
-  -- The answer where the data part is refused.
+  -- Where the data part is refused, its fault is a right answer.
   pub words_answer : (why : WordFault) → Refused (data_of v) why → ReadAnswer grid limit (Err (fault.Words why))
   words_answer why refused = ReadAnswer.words w.list v.list why few are_corrected (subst (λ words. Refused words why) data_of_grid refused) refl
 
-  -- The answer where it spells a message.
+  -- Where the data part spells a message, the reading is a right answer.
   pub message_answer : (m : List Item) (counts : ArrayVec ℕ) (faults : ℕ) → counts.items ≡ distances w.size w.list v.list → faults ≡ border_fault_count grid
       → Spells (data_of v) m → ReadAnswer grid limit (Ok (record { message = m; corrected = counts; border_faults = faults }))
   message_answer m counts faults counted border spelled =
@@ -60,15 +60,15 @@ says_message grid limit answer a m = (λ is. reads_by_answer grid limit answer m
 same : (a b : ℕ) → ◌≡◌ {A = Result Reading ReadFault} (Err (fault.Border a)) (Err (fault.Border b)) → a ≡ b
 same a b e = cc
 
--- A block is no border.
+-- The fault of a block isn't one of the border.
 block_no_border : (n b : ℕ) → ◌≡◌ {A = Result Reading ReadFault} (Err (fault.Block b)) (Err (fault.Border n)) → ⊥
 block_no_border n b e = cc
 
--- Words are no border.
+-- The fault of data codewords isn't one of the border.
 words_no_border : (n : ℕ) (why : WordFault) → ◌≡◌ {A = Result Reading ReadFault} (Err (fault.Words why)) (Err (fault.Border n)) → ⊥
 words_no_border n why e = cc
 
--- A message is no border.
+-- A reading isn't a fault of the border.
 message_no_border : (n : ℕ) (r : Reading) → ◌≡◌ {A = Result Reading ReadFault} (Ok r) (Err (fault.Border n)) → ⊥
 message_no_border n r e = cc
 

@@ -31,7 +31,7 @@ near_is_one k block c d short hc hd =
     codewords_apart k c d hc.codeword hd.codeword (hc.long ∙ sym hd.long) (omega (arith, hc.long, short))
     (subst (λ j. differing c d j ≤ k) (sym hc.long) (omega (arith, way, turned, hc.close, hd.close)))
 
--- The words that a grid holds and the codewords near them are one.
+-- A grid holds only one list of words, and only one list of codewords is near them.
 pub corrected_is_one : (grid : GridView) (u c v d : List ℕ) → IsCorrected grid u c → IsCorrected grid v d → (u ≡ v) × (c ≡ d)
 corrected_is_one grid u c v d hu hv =
     let same : v ≡ u = held_words_are_one grid v u hv.words_held hu.words_held in
@@ -70,7 +70,7 @@ spelled_not_refused words m why bytes hm hw =
       | inr r ↦ r.not_spelled m hm
     ]
 
--- The first block that no codeword is near is one.
+-- Only one block is the first that no codeword is near.
 first_is_one : (size : SizeRow) (words : List ℕ) (a b : ℕ) → IsFirstBeyond size words a → IsFirstBeyond size words b → a ≡ b
 first_is_one size words a b ha hb =
     elim (cases_order a b) [
@@ -78,14 +78,14 @@ first_is_one size words a b ha hb =
       | inr other ↦ elim other [ inl h ↦ absurd (ha.beyond (hb.first a h)) | inr h ↦ absurd (hb.beyond (ha.first b h)) ]
     ]
 
--- Corrected words have no block that no codeword is near.
+-- Words that are corrected have no block that no codeword is near.
 none_beyond : (grid : GridView) (v u c : List ℕ) (b : ℕ) → AreHeld grid v → IsFirstBeyond grid.size v b → IsCorrected grid u c → ⊥
 none_beyond grid v u c b hv first h =
     let same : u ≡ v = held_words_are_one grid u v h.words_held hv in
     let near : BlocksAreNear grid.size v c = subst (λ w. BlocksAreNear grid.size w c) same h.near in
     first.beyond (block_at grid.size c b, near b first.in_symbol)
 
--- The data part of the same codewords isn't both spelled and refused.
+-- The data part of codewords doesn't spell a message if it is refused.
 not_both : (grid : GridView) (u c v d : List ℕ) (m : List Item) (why : WordFault) → IsCorrected grid u c → IsCorrected grid v d
     → Spells (data_part grid.size c) m → Refused (data_part grid.size d) why → ⊥
 not_both grid u c v d m why hu hv spelled refused =

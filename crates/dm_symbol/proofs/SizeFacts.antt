@@ -1,4 +1,4 @@
--- How the numbers of a row of the table of sizes hang together.
+-- How the numbers in a row of the table of sizes depend on one another.
 use Rattle.std.proofs.Common.{◌≡◌, ℕ, ◌+◌, ◌*◌, ◌/◌, ◌<◌, ◌≤◌, Bool, true, false, cond, ◌&&◌, List, [], ◌∷◌, Some, refl, ap, subst, nat_eq, nat_le}
 use Rattle.std.specs.Prelude.{find}
 use Rattle.std.specs.List.{AllByRecursion, list_all}
@@ -16,7 +16,7 @@ found P p (r ∷ rows) row h e = here (p r) refl e (λ f. found P p rows row h.1
     here true t f later = let same : r ≡ row = cc in subst (λ x. P x × (p x ≡ true)) same (h.0, t)
     here false t f later = later f
 
--- All numbers of a row at once.
+-- One test for all numbers of a row.
 abbrev row_test : SizeRow → Bool
 row_test s =
     nat_le 1 s.blocks && nat_eq (s.blocks * block_data s) s.data_count && nat_eq (s.blocks * block_length s) (codeword_count s)
@@ -37,7 +37,7 @@ rows_pass = recursion_from_All (λ r. row_test r ≡ true) size_table (AllPass-f
 test_of_row : (s : SizeRow) → IsRow s → row_test s ≡ true
 test_of_row s h = (found (λ r. row_test r ≡ true) (λ r. nat_eq r.side s.side) size_table s rows_pass h).0
 
--- How the numbers of a row hang together.
+-- How the numbers in a row depend on one another.
 pub record Facts (s : SizeRow) : Type 0 where
   pub some_blocks : 0 < s.blocks
   pub data_dealt : s.blocks * block_data s ≡ s.data_count
@@ -54,7 +54,7 @@ pub record Facts (s : SizeRow) : Type 0 where
   pub mapping : s.mapping ≡ regions_across s * s.region_side
   pub some_side : 8 ≤ s.region_side
 
--- The numbers of a row, one by one.
+-- A row of the table has all of these properties.
 pub size_facts : (s : SizeRow) → IsRow s → Facts s
 size_facts s h =
     let n = and_parts _ (nat_le 8 s.region_side) (test_of_row s h) in
@@ -87,7 +87,7 @@ size_facts s h =
       some_side = leb-true _ _ n.1;
     }
 
--- One size has one number of blocks.
+-- Equal sizes have the same number of blocks.
 pub blocks_of_size : (s t : SizeRow) → s ≡ t → s.blocks ≡ t.blocks
 blocks_of_size s t e = ap (λ r. r.blocks) e
 

@@ -1,4 +1,4 @@
--- The words of a symbol by its blocks.
+-- The codewords of a symbol and those of its blocks.
 use Rattle.std.proofs.Common.{◌≡◌, ℕ, ◌+◌, ◌*◌, ◌/◌, ◌%◌, ◌<◌, ◌≤◌, List, length, get_or, sym, ap, ◌∙◌, arith, mul_comm}
 use Rattle.std.proofs.lemmas.List.{ext_get_or, get_or-take}
 use Rattle.std.proofs.lemmas.Nat.{div-add-mod', mod_below, mul-add-lt, div_below}

@@ -1,4 +1,4 @@
--- Cells that are turned over.
+-- A normal grid of which some cells are turned over is still read.
 use Rattle.std.proofs.Common.{◌≡◌, ℕ, zero, suc, ◌+◌, ◌-◌, ◌*◌, ◌/◌, ◌%◌, ◌^◌, ◌<◌, ◌≤◌, Bool, true, false, not, ◌&&◌, eqb, List, get_or, inl, inr, refl, sym, ap, subst, ◌∙◌, arith}
 use Rattle.std.specs.Bool.{beq, MatchBool}
 use Rattle.std.specs.Int.{bit_at}
@@ -40,7 +40,7 @@ bit_differs (suc k) x y hx hy other =
 
 -- ---- lines
 
--- Two mapping lines that are moved to one symbol line are one.
+-- Two lines of the mapping matrix that are moved to the same line of the symbol are the same.
 pub line_is_one : (d x y : ℕ) → 0 < d → symbol_line d x ≡ symbol_line d y → x ≡ y
 line_is_one d x y hd e =
     elim (cases_order x y) [
@@ -52,13 +52,13 @@ line_is_one d x y hd e =
           ]
     ]
 
--- A mapping line is moved into the symbol.
+-- A line of the mapping matrix is moved to a line of the symbol.
 pub line_within : (d across x : ℕ) → 0 < d → x < across * d → symbol_line d x < across * (d + 2)
 line_within d across x hd h = omega (arith, h, div_below x d across hd h, mul-add across d 2)
 
 -- ---- colours
 
--- Two colours that aren't one differ.
+-- Two colours that aren't equal differ.
 colours_differ : (a b : Bool) → (a ≡ b → ⊥) → not (beq a b) ≡ true
 colours_differ true true h = absurd (h refl)
 colours_differ true false h = refl
@@ -75,7 +75,7 @@ fault_shows true false true d right wrong = refl
 fault_shows true false false true right wrong = absurd (true≢false right)
 fault_shows true false false false right wrong = absurd (false≢true wrong)
 
--- Bits with one colour are one.
+-- Bits of the same colour are equal.
 bit_is_one : (a b : ℕ) → a < 2 → b < 2 → eqb a 1 ≡ eqb b 1 → a ≡ b
 bit_is_one a b ha hb e =
     elim (cases_Bool (eqb a 1)) [
@@ -114,11 +114,11 @@ record LiesAt (size : SizeRow) (b i r c : ℕ) : Type 0 where
   row : symbol_line size.region_side (place size.mapping (i * size.blocks + b) bit).row ≡ r
   column : symbol_line size.region_side (place size.mapping (i * size.blocks + b) bit).column ≡ c
 
--- A cell is its row and its column.
+-- Cells with the same row and the same column are the same.
 same_cell : (x y : Cell) → x.row ≡ y.row → x.column ≡ y.column → x ≡ y
 same_cell x y e f = ap (λ r. At r x.column) e ∙ ap (λ c. At y.row c) f
 
--- One of two cases, each of which gives the same.
+-- What follows in both of two cases, of which one holds.
 of_match : (b : Bool) (P Q R : Type 0) → MatchBool b P Q → (P → R) → (Q → R) → R
 of_match true P Q R h p q = p h
 of_match false P Q R h p q = q h
@@ -158,11 +158,11 @@ one_lies size row b hb i j r c hi hj li lj =
     let ej = (one.3 (j * size.blocks + b) lj.bit py_at).0 in
     (same_from_place i b j b size.blocks hb hb (ei ∙ sym ej)).0)
 
--- What is equal to different numbers differs.
+-- Two numbers that equal two different ones differ.
 differ_too : (a b x y : ℕ) → a ≡ x → b ≡ y → (b ≡ a → ⊥) → x ≡ y → ⊥
 differ_too a b x y p q other e = other (q ∙ sym e ∙ sym p)
 
--- The test that a cell has changed.
+-- The test whether a cell has changed.
 abbrev changed : GridView → GridView → ℕ → ℕ → Bool
 changed g h row column = not (beq (cell_at g row column) (cell_at h row column))
 
@@ -219,7 +219,7 @@ border_changes size rows others none =
     cells_grow size.side (is_fault h) (changed g h) (λ r c hr hc wrong.
     fault_shows (is_border size r c) (cell_at g r c) (cell_at h r c) (border_is_dark size r c) (none_pass size.side (is_fault g) r c none hr hc) wrong)
 
--- A normal grid of which so many cells are turned over is read as its message.
+-- A normal grid of which no more cells are turned over is read as its message.
 turned_reads : (p : Profile) (m : List Item) (normal : GridView) (others : List (List Bool)) (limit : ℕ) → IsMessage m → IsNormalGrid p m normal
     → IsGrid (record { size = normal.size; rows = others }) → turned_cells normal (record { size = normal.size; rows = others }) ≤ normal.size.limit
     → normal.size.limit ≤ limit → Reads (record { size = normal.size; rows = others }) limit m

@@ -1,4 +1,4 @@
--- What is laid is a normal grid.
+-- The steps of writing lead to the normal grid.
 use Rattle.std.proofs.Common.{◌≡◌, ℕ, ◌<◌, List, length, Option, Some, None, IsSome, Result, Ok, Err, IsErr, refl, sym, ap, subst, ◌∙◌, arith}
 use Rattle.dm_words.specs.declared.item.Item.{Item}
 use Rattle.dm_words.specs.declared.profile.Profile.{Profile}
@@ -41,7 +41,7 @@ none_for_more count None e long is = absurd (false≢true is)
 pub too_long_fits_none : (p : Profile) (m : List Item) → most_data < length (normal_form p m) → FitsSomeSize p m → ⊥
 too_long_fits_none p m long fits = none_for_more (length (normal_form p m)) (row_for_words (length (normal_form p m))) refl long fits
 
--- The normal grid is what is to be answered.
+-- The normal grid is a right answer of writing.
 pub is_written : (p : Profile) (m : List Item) (grid : GridView) → IsNormalGrid p m grid → IsWritten p m (Ok grid)
 is_written p m grid n = record {
   normal = n;
@@ -50,7 +50,7 @@ is_written p m grid n = record {
   none = tt;
 }
 
--- A message that no size holds is refused.
+-- That there is none is the right answer for a message that fits no size.
 pub none_is_written : (p : Profile) (m : List Item) (answer : Result GridView TooLong) → IsErr answer → (FitsSomeSize p m → ⊥) → IsWritten p m answer
 none_is_written p m (Ok grid) is none = absurd (false≢true is)
 none_is_written p m (Err e) is none = record {

@@ -11,7 +11,7 @@ use dm_code::{BeyondLimit, Fixed, Quick, correct};
 use dm_layout::{Words, block, put_block};
 
 /// Puts the codeword near a block in its place, and gives the number of codewords that this changes, or None where no codeword is near.
-/// A block that is a codeword already isn't touched.
+/// A block without errors isn't touched.
 pub fn mend_block(words: &mut Words, b: usize) -> Option<u8>
     requires { b < words.old.size.blocks }
     ensures size { words.new.size ≡ words.old.size }
@@ -29,7 +29,7 @@ pub fn mend_block(words: &mut Words, b: usize) -> Option<u8>
     Some(fixed.changed)
 }
 
-/// The codeword near a block. A symbol of one block is that block, and isn't copied.
+/// The codeword near a block. The codewords of a symbol that has one block are that block, and aren't copied.
 fn corrected_block(words: &Words, b: usize) -> Result<Fixed, BeyondLimit>
     requires { b < words.now.size.blocks }
     ensures near { MatchResult result (λ fixed. IsNear (block_check words.now.size) (block_at words.now.size words.now.list b) fixed.word.items) (λ _. HasNear (block_check words.now.size) (block_at words.now.size words.now.list b) → ⊥) }

@@ -1,4 +1,4 @@
-//! Inspection: the codewords of a grid, and as they are corrected, whether it can be read or not.
+//! Inspection: the codewords of a grid before and after correction, whether it can be read or not.
 
 ghost use Rattle.std.specs.Prelude.{◌≡◌, ◌<◌, ℕ, None, get_or, length};
 ghost use Rattle.dm_layout.specs.Grid.{GridView};
@@ -10,21 +10,21 @@ use crate::correction::mend_block;
 use arrayvec::ArrayVec;
 use dm_layout::{Grid, MOST_BLOCKS, Words, border_faults, lift};
 
-/// The codewords of a grid, and as far as they can be corrected.
+/// The codewords of a grid, and the same corrected as far as they can be.
 #[derive(Clone, Debug, Drop, PartialEq, Eq)]
 pub struct Inspection {
     /// The codewords that the grid holds.
     pub held: Words,
     /// The same, with the codeword near each block in its place. A block that no codeword is near is left as it is.
     pub mended: Words,
-    /// For each block, in order, in how many codewords these differ; None where no codeword is near.
+    /// For each block, in order, in how many codewords these two differ; None where no codeword is near the block.
     pub corrected: ArrayVec<Option<u8>, MOST_BLOCKS>,
-    /// How many border cells have the wrong colour.
+    /// How many modules of the borders have the wrong colour.
     pub border_faults: u16,
 }
 
-/// Inspects a grid: where [`read`](crate::read()) refuses a border or a block, or finds codewords that spell no message, this goes
-/// on, so that what is wrong with a symbol can be shown.
+/// Inspects a grid. Where [`read`](crate::read()) refuses a border or a block, or finds codewords that spell no message, this goes on,
+/// so that a program can show what is wrong with a symbol.
 pub fn inspect(grid: &Grid) -> Inspection
     ensures { IsInspection grid.now result }
 {

@@ -1,6 +1,6 @@
 //! Whole symbols of Data Matrix ECC 200 (ISO/IEC 16022): the normal grid of a message ([`write_as()`]), the message of a grid
 //! ([`read()`]), and the normal grid of what a grid says ([`normal_as()`]), each normal grid under a [`Profile`]; [`write()`] and
-//! [`normal()`] are those of [`Profile::Ascii`]. [`inspect()`] gives the codewords of a grid, and as they are corrected.
+//! [`normal()`] are those of [`Profile::Ascii`]. [`inspect()`] gives the codewords of a grid, before and after correction.
 //!
 //! What the contracts say is defined in `specs/`: `Blocks`, `NormalGrid`, `Reading`, `Normal` and `Inspection`; `Laws` has the laws of
 //! these definitions, which the functions of [`laws`] prove. No call takes memory.

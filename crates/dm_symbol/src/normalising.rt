@@ -1,4 +1,4 @@
-//! The normal grid of what a grid says.
+//! Normalising: the normal grid of what a grid says.
 
 ghost use Rattle.std.specs.Prelude.{OnOk};
 ghost use Rattle.dm_words.specs.Places.{outcome};
@@ -27,9 +27,10 @@ pub fn normal(grid: &Grid, border_limit: u16) -> Result<Grid, NormalFault>
     normal_as(Profile::Ascii, grid, border_limit)
 }
 
-/// The normal grid under a profile of the message that the grid says, whatever size, encodation and damage it came with. Two grids
-/// that are read have equal normal grids under one profile exactly where they say the same, and a normal grid is its own. `Read`
-/// comes where [`read`](crate::read()) refuses, with its fault, and `TooLong` where [`write_as`](crate::write_as()) refuses the message under this profile.
+/// The normal grid, under a profile, of the message that the grid says, whatever its size, encodation and damage. Two grids that are
+/// read have equal normal grids under one profile exactly where they say the same, and a normal grid is its own. The answer is `Read`
+/// where [`read`](crate::read()) refuses the grid, with its fault, and `TooLong` where [`write_as`](crate::write_as()) refuses the
+/// message under this profile.
 pub fn normal_as(profile: Profile, grid: &Grid, border_limit: u16) -> Result<Grid, NormalFault>
     ensures { IsNormalised profile grid.now border_limit result }
 {
@@ -41,8 +42,8 @@ pub fn normal_as(profile: Profile, grid: &Grid, border_limit: u16) -> Result<Gri
     }
 }
 
-/// Does the same as [`normal_as`] in places: where it answers `Ok`, the normal grid stands in `normal` and what the grid says in
-/// `reading`, whatever stood there before. After a fault the places hold some reading and some grid.
+/// Does the same as [`normal_as`] in places: if it answers `Ok`, `normal` holds the normal grid and `reading` what the grid says,
+/// whatever they held before. After a fault they hold some grid and some reading.
 pub fn normal_to(
     profile: Profile,
     grid: &Grid,

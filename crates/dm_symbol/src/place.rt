@@ -1,4 +1,4 @@
-//! Places for what the calls leave in a place that is handed in.
+//! A place in which a call can leave a grid.
 
 ghost use Rattle.std.specs.Prelude.{◌≡◌, Some, replicate};
 ghost use Rattle.dm_layout.specs.Sizes.{row_with_side};
@@ -7,7 +7,7 @@ ghost use Rattle.dm_layout.specs.Grid.{square_of_rows};
 use dm_layout::Grid;
 
 /// A grid of the smallest size with all cells light: a place for [`write_to`](crate::write_to()) and [`normal_to`](crate::normal_to()).
-// The grid's copies stand in a frame of their own, which no caller's frame has to hold.
+// The copies of the grid have a stack frame of their own, so that no caller's frame has to hold them.
 #[inline(never)]
 pub fn light_grid() -> Grid
     ensures size { row_with_side 10 ≡ Some result.size }

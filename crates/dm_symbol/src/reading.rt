@@ -1,4 +1,4 @@
-//! Reading: the message of a grid.
+//! Reading: the message that a grid says.
 
 ghost use Rattle.std.specs.Prelude.{◌≡◌, ◌<◌, ◌↔◌, ℕ, List, [], OnOk, IfErr};
 ghost use Rattle.dm_words.specs.declared.item.Item.{Item};
@@ -18,25 +18,25 @@ use dm_words::{Message, WordFault, message_to};
 pub struct Reading {
     /// The message.
     pub message: Message,
-    /// For each block, in order, at how many places it differs from the codeword as which it is read.
+    /// For each block, in order, the number of its codewords that were corrected.
     pub corrected: ArrayVec<u8, MOST_BLOCKS>,
-    /// How many border cells have the wrong colour.
+    /// How many modules of the borders have the wrong colour.
     pub border_faults: u16,
 }
 
 /// Why a grid is not read.
 #[derive(Clone, Copy, Debug, PartialEq, Eq)]
 pub enum ReadFault {
-    /// More border cells than the limit have the wrong colour: so many.
+    /// More modules of the borders have the wrong colour than the limit allows: so many.
     Border(u16),
-    /// No codeword is within the correction limit of this block. It is the first such block; blocks count from 0.
+    /// This block has more errors than can be corrected. It is the first such block; blocks count from 0.
     Block(u8),
     /// The corrected data codewords spell no message.
     Words(WordFault),
 }
 
 impl Reading {
-    /// The reading of an empty message with nothing corrected: a place for [`read_to`].
+    /// The reading of an empty message, with nothing corrected: a place for [`read_to`].
     pub fn new() -> Reading
         ensures { result ≡ reading_of [] [] 0 }
     {
@@ -48,10 +48,10 @@ impl Reading {
     }
 }
 
-/// Reads a grid (ISO/IEC 16022, decoding): looks whether more border cells than `border_limit` have the wrong colour, corrects the
-/// blocks in order, each up to half of its check codewords, and reads the data codewords. The first of these that fails gives the
-/// fault. The fixed square is not looked at, nor what follows the first pad. The grid is taken as upright; one with more damage may
-/// lie near the codewords of another message, and is then read as that.
+/// Reads a grid (ISO/IEC 16022, decode algorithm): refuses it if more than `border_limit` modules of its borders have the wrong colour,
+/// corrects the blocks in order, each in up to half as many codewords as it has check codewords, and reads the data codewords. The first
+/// of these steps that fails gives the fault. The fixed square isn't looked at, nor is what follows the first pad. The grid is taken to
+/// be upright. A grid with more damage may be near the codewords of another message, and is then read as that message.
 pub fn read(grid: &Grid, border_limit: u16) -> Result<Reading, ReadFault>
     ensures answer { ReadAnswer grid.now border_limit result }
     ensures message { (m : List Item) → IsReadAs result m ↔ Reads grid.now border_limit m }
@@ -64,8 +64,8 @@ pub fn read(grid: &Grid, border_limit: u16) -> Result<Reading, ReadFault>
     }
 }
 
-/// Does the same as [`read`] in a place: where it answers `Ok`, the reading stands there, whatever stood there before. After a fault
-/// the place holds some reading. One place serves for any number of grids, and a small symbol pays nothing for the room of the largest.
+/// Does the same as [`read`] in a place: if it answers `Ok`, the place holds the reading, whatever it held before. After a fault it
+/// holds some reading. One place serves any number of grids, and a small symbol pays nothing for the room that the largest needs.
 pub fn read_to(grid: &Grid, border_limit: u16, reading: &mut Reading) -> Result<(), ReadFault>
     ensures answer { ReadAnswer grid.now border_limit (outcome result reading.new) }
     ensures message { (m : List Item) → IsReadAs (outcome result reading.new) m ↔ Reads grid.now border_limit m }

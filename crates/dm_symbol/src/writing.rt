@@ -22,8 +22,8 @@ pub fn write(message: &Message) -> Result<Grid, TooLong>
 }
 
 /// The normal grid of a message under a profile: the codewords that the profile chooses, pads and check codewords, laid in the
-/// smallest symbol that holds them (ISO/IEC 16022, symbol construction). `TooLong` comes exactly where the message has none, since
-/// those codewords are more than the data codewords of the largest size.
+/// smallest symbol that holds them (ISO/IEC 16022, symbol construction). The answer is `TooLong` exactly where there is none, since the
+/// largest size has fewer data codewords.
 pub fn write_as(profile: Profile, message: &Message) -> Result<Grid, TooLong>
     ensures { IsWritten profile message.now result }
 {
@@ -34,8 +34,8 @@ pub fn write_as(profile: Profile, message: &Message) -> Result<Grid, TooLong>
     }
 }
 
-/// Does the same as [`write_as`] in a place: where it answers `Ok`, the normal grid stands there, whatever stood there before. After
-/// `TooLong` the place holds some grid.
+/// Does the same as [`write_as`] in a place: if it answers `Ok`, the place holds the normal grid, whatever it held before. After
+/// `TooLong` it holds some grid.
 pub fn write_to(profile: Profile, message: &Message, grid: &mut Grid) -> Result<(), TooLong>
     ensures { IsWritten profile message.now (outcome result grid.new) }
 {
@@ -52,8 +52,8 @@ pub fn write_to(profile: Profile, message: &Message, grid: &mut Grid) -> Result<
     Ok(())
 }
 
-/// Makes it the grid in which these codewords are laid.
-// The rows that are laid stand in a frame of their own, which no caller's frame has to hold.
+/// Lays these codewords in the grid.
+// The rows that are laid have a stack frame of their own, so that no caller's frame has to hold them.
 #[inline(never)]
 fn lay_in(words: &Words, grid: &mut Grid)
     ensures { IsLaid words.now grid.new }
@@ -61,8 +61,9 @@ fn lay_in(words: &Words, grid: &mut Grid)
     lay_to(words, grid);
 }
 
-/// The codewords of a symbol of this size with these data codewords: the check codewords make each block a codeword.
-// The codewords of a block stand in a frame of their own, which is gone when the grid is made.
+/// The codewords of a symbol of this size with these data codewords: the check codewords make each block a codeword of its
+/// Reed-Solomon code.
+// The codewords of a block have a stack frame of their own, which is gone when the grid is made.
 #[inline(never)]
 fn completed(list: &[u8], size: Size) -> Words
     requires { length list.now ≡ size.data_count }
@@ -81,7 +82,7 @@ fn completed(list: &[u8], size: Size) -> Words
     words
 }
 
-/// Puts the check codewords of a symbol of one block, whose codewords aren't dealt.
+/// Puts the check codewords of a symbol that has one block.
 fn complete_only_block(words: &mut Words)
     requires { words.old.size.blocks ≡ 1 }
     ensures size { words.new.size ≡ words.old.size }
@@ -93,7 +94,7 @@ fn complete_only_block(words: &mut Words)
     words.put_checks(&checks);
 }
 
-/// Puts the check codewords of one block: its data codewords stay, and the block becomes a codeword.
+/// Puts the check codewords of one block: its data codewords stay, and it becomes a codeword of its Reed-Solomon code.
 fn complete_block(words: &mut Words, b: usize)
     requires { b < words.old.size.blocks }
     ensures size { words.new.size ≡ words.old.size }

@@ -17,7 +17,7 @@ use Rattle.ecc200.specs.Places.{AreModulesOf, nothing, bit_place, border_place, 
 use Rattle.ecc200.specs.Places as places
 use Rattle.ecc200.specs.inner.PlaceSteps.{structure_by, structure_place, with_bits}
 
--- Where a cell of the mapping square stands among the modules.
+-- The place of a cell of the mapping matrix among the modules.
 abbrev pub module_of_cell : SizeRow → ℕ → ℕ → ℕ
 module_of_cell size r c = symbol_line size.region_side r * size.side + symbol_line size.region_side c
 
@@ -28,7 +28,7 @@ one_module side r c u v lc lv e = (
   sym (mod-mul-add r side c lc) ∙ ap (λ x. x % side) e ∙ mod-mul-add u side v lv,
 )
 
--- The same said of cells of the mapping square.
+-- So do different cells of the mapping matrix.
 pub one_cell : (size : SizeRow) (r c u v : ℕ) → IsRow size → c < size.mapping → v < size.mapping → module_of_cell size r c ≡ module_of_cell size u v → (r ≡ u) × (c ≡ v)
 one_cell size r c u v row lc lv e =
     let d : ℕ = size.region_side in
@@ -36,7 +36,7 @@ one_cell size r c u v row lc lv e =
     let both = one_module size.side (symbol_line d r) (symbol_line d c) (symbol_line d u) (symbol_line d v) (lies_inside size c row lc) (lies_inside size v row lv) e in
     (symbol_line-one d r u least both.0, symbol_line-one d c v least both.1)
 
--- They stand among the modules of the symbol.
+-- Each cell of the mapping matrix has its place among the modules of the symbol.
 pub cell_inside : (size : SizeRow) (r c : ℕ) → IsRow size → r < size.mapping → c < size.mapping → module_of_cell size r c < size.side * size.side
 cell_inside size r c row lr lc =
     let d : ℕ = size.region_side in
@@ -81,7 +81,7 @@ bits_stay size (p ∷ rest) xs w b r c row are place room e =
         ap (λ i. get_or next i nothing) x.1 ∙ get_or-set_same xs at (bit_place p.word p.bit) nothing (omega (arith, cell_inside size p.row p.column row its.0 its.1, room))
         ∙ ap (λ i. bit_place i p.bit) one.0 ∙ ap (bit_place w) one.1
 
--- It becomes right when its place is written.
+-- The module of a bit becomes right when its place is written.
 bits_come : (size : SizeRow) (ps : List Place) (xs : List PlaceOut) (i : ℕ) (d : Place) → IsRow size → ArePlaces size.mapping ps → size.side * size.side ≤ length xs → i < length ps
     → get_or (with_bits size ps xs) (module_of_cell size (get_or ps i d).row (get_or ps i d).column) nothing ≡ bit_place (get_or ps i d).word (get_or ps i d).bit
 bits_come size [] xs i d row are room l = absurd (omega arith)
@@ -106,7 +106,7 @@ bits_are_there size xs word bit cell row room p =
     subst (λ (q : Place). get_or (with_bits size (places_in_order n) xs) (module_of_cell size q.row q.column) nothing ≡ bit_place q.word q.bit) found
     (bits_come size (places_in_order n) xs i d row (all_are_places n) room inside)
 
--- The module of a border, before and after.
+-- The module of a border is right before the bits are written, and stays so.
 border_is_there : (size : SizeRow) (xs : List PlaceOut) (r c : ℕ) → IsRow size → r < size.side → c < size.side → is_border size r c ≡ true
     → places.place_at size xs r c ≡ structure_place size r c → places.place_at size (with_bits size (places_in_order size.mapping) xs) r c ≡ border_place (border_is_dark size r c)
 border_is_there size xs r c row lr lc h e =
@@ -118,7 +118,7 @@ border_is_there size xs r c row lr lc h e =
     true≢false (sym h ∙ off))
     ∙ e ∙ ap (λ x. structure_by (cond x (Some (border_is_dark size r c)) None) r c) h
 
--- Two lines are one in the symbol exactly where they are one in the mapping square.
+-- Two lines of the mapping matrix are the same exactly where they are the same in the symbol.
 same_lines : (d r c : ℕ) → 8 ≤ d → nat_eq (symbol_line d r) (symbol_line d c) ≡ nat_eq r c
 same_lines d r c least = by_test (eqb_tells r c) (eqb_tells (symbol_line d r) (symbol_line d c))
   where
@@ -130,7 +130,7 @@ same_lines d r c least = by_test (eqb_tells r c) (eqb_tells (symbol_line d r) (s
     by_test (inr x) (inl y) = absurd (x.1 (symbol_line-one d r c least y.1))
     by_test (inr x) (inr y) = y.0 ∙ sym x.0
 
--- The module of the fixed square, before and after.
+-- The module of the fixed square is right before the bits are written, and stays so.
 fixed_is_there : (size : SizeRow) (xs : List PlaceOut) (r c : ℕ) → IsRow size → r < size.mapping → c < size.mapping → is_fixed size.mapping r c ≡ true
     → places.mapped_place size xs r c ≡ structure_place size (symbol_line size.region_side r) (symbol_line size.region_side c)
     → places.mapped_place size (with_bits size (places_in_order size.mapping) xs) r c ≡ fixed_place (fixed_is_dark r c)
@@ -145,7 +145,7 @@ fixed_is_there size xs r c row lr lc h e =
     ∙ e ∙ ap (λ x. structure_by (cond x (Some (border_is_dark size (symbol_line d r) (symbol_line d c))) None) (symbol_line d r) (symbol_line d c)) (no_border size r c least)
     ∙ ap fixed_place (same_lines d r c least)
 
--- Nothing, the structure over it, and the bits over that are the modules of a symbol.
+-- Writing the structure over nothing, and the bits over that, gives the modules of a symbol.
 pub modules_are : (size : SizeRow) (xs ys zs : List PlaceOut) → IsRow size → size.side * size.side ≤ length ys → xs ≡ replicate 10816 nothing
     → ((r c : ℕ) → r < size.side → c < size.side → places.place_at size ys r c ≡ structure_place size r c)
     → ((i : ℕ) → size.side * size.side ≤ i → get_or ys i nothing ≡ get_or xs i nothing) → zs ≡ with_bits size (places_in_order size.mapping) ys → AreModulesOf size zs

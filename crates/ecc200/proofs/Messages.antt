@@ -1,4 +1,4 @@
--- Numbers and messages.
+-- Messages and their numbers.
 use Rattle.std.proofs.Common.{◌≡◌, ◌⊎◌, inl, inr, ℕ, ◌<◌, ◌≤◌, List, [], ◌∷◌, length, refl, sym, ◌∙◌, ap, arith}
 use Rattle.std.specs.Prelude.{All}
 use Rattle.std.specs.List.{AllByRecursion}
@@ -14,7 +14,7 @@ use Rattle.dm_symbol.proofs.Exported.{too_long_fits_none}
 use Rattle.dm_words.proofs.Exported.{normal_form_items}
 use Rattle.ecc200.specs.Items.{number_of, numbers_of}
 
--- A number up to 256 is an item's.
+-- A number up to 256 is that of an item.
 item_there : (number : ℕ) → number ≤ 256 → (item : Item) × IsItem item × (number_of item ≡ number)
 item_there number few = by_case (cases_lt number 256)
   where

@@ -28,7 +28,7 @@ from_bool_one false = refl
 pub packed_small : (row i : ℕ) (b : Bool) → row < 2 ^ i → 2 * row + from_bool b < 2 ^ (i + 1)
 packed_small row i b h = omega (arith, pow_next i, from_bool_small b, h)
 
--- A number of 128 bits holds them.
+-- A number of 128 bits has room for them.
 pub packed_fits : (row i : ℕ) (b : Bool) → row < 2 ^ i → i < 127 → Fits w128 (2 * row + from_bool b)
 packed_fits row i b h l =
     let k : 2 ^ (i + 1) < 2 ^ 128 = pow_below (i + 1) 128 (omega arith) in
@@ -47,7 +47,7 @@ dark_next row c b =
     let d : 2 ^ (c + 1) ≡ 2 * 2 ^ c = pow_next c ∙ mul_comm (2 ^ c) 2 in
     ap (λ x. nat_eq (x % 2) 1) (ap (λ x. (2 * row + from_bool b) / x) d ∙ sym (div-div-eq-div-mul (2 * row + from_bool b) 2 (2 ^ c)) ∙ ap (λ x. x / 2 ^ c) e)
 
--- One more module, from the right.
+-- One more module is packed, from the right.
 pub packed_more : (modules : List ℕ) (i row : ℕ) → i < length modules
     → ((c : ℕ) → c < i → is_dark_in row c ≡ is_dark (get_or modules (length modules - i + c) 0))
     → (c : ℕ) → c < i + 1

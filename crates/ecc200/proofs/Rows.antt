@@ -16,7 +16,7 @@ module_from_bool false = refl
 pub behind_more : {X : Type 0} (xs ys : List X) (k n : ℕ) → drop k xs ≡ drop k ys → drop (k + n) xs ≡ drop (k + n) ys
 behind_more xs ys k n h = sym (drop-drop n k xs) ∙ ap (λ zs. drop n zs) h ∙ drop-drop n k ys
 
--- One more module of a row that begins at a place.
+-- One more module is written in a row that begins at a place.
 pub row_more : (init all : List ℕ) (cells : List Bool) (start column v : ℕ) → start + column < length all → column < length cells
     → v ≡ module_of (get_or cells column false) → take (start + column) all ≡ take start init ++ map module_of (take column cells)
     → take (start + (column + 1)) (set all (start + column) v) ≡ take start init ++ map module_of (take (column + 1) cells)
@@ -36,7 +36,7 @@ row_behind init all start column v h =
     let next : start + (column + 1) ≡ start + column + 1 = omega arith in
     drop-set-lt (start + (column + 1)) all (start + column) v (omega arith) ∙ ap (λ k. drop k all) next ∙ behind_more all init (start + column) 1 h ∙ ap (λ k. drop k init) (sym next)
 
--- One more row of a grid: the rows so far, and what lies behind them.
+-- One more row of a grid is written, after the rows so far and before what lies behind them.
 pub rows_more : (init all new : List ℕ) (rows : List (List Bool)) (row side : ℕ)
     → new ≡ take (row * side) all ++ map module_of (get_or rows row []) ++ drop ((row + 1) * side) all
     → length (get_or rows row []) ≡ side → (row + 1) * side ≤ length all → row < length rows

@@ -1,4 +1,4 @@
--- Sides of symbols.
+-- The sides of symbols, and what fits the arrays of the header.
 use Rattle.std.proofs.Common.{◌≡◌, ℕ, ◌*◌, ◌<◌, ◌≤◌, length, Option, Some, None, refl, arith, rules}
 use Rattle.std.specs.Prelude.{IsNone}
 use Rattle.std.proofs.Math.Nat.{mul-le-mul}
@@ -16,7 +16,7 @@ none_above_in side (Some s) e above =
 pub none_above : (side : ℕ) → largest_side < side → IsNone (row_with_side side)
 none_above side above = none_above_in side (row_with_side side) refl above
 
--- The modules of a symbol fit an array of the most.
+-- The modules of a symbol fit an array that holds those of the largest.
 pub modules_fit : (side : ℕ) (size : SizeRow) → row_with_side side ≡ Some size → size.side * size.side ≤ 10816
 modules_fit side size e =
     let row = found_row side size e in
@@ -24,6 +24,6 @@ modules_fit side size e =
     let small : size.side ≤ 104 = omega (arith, fits, row.0) in
     mul-le-mul small small
 
--- The codewords of a symbol fit an array of the most.
+-- The codewords of a symbol fit an array that holds those of the largest.
 pub words_fit : (words : WordsView) → IsWords words → length words.list ≤ 1152
 words_fit words h = omega (arith, h.count, (row_facts words.size h.row).codewords)

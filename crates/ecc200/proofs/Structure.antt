@@ -4,7 +4,7 @@ use Rattle.std.proofs.Math.Nat.{mul-le-mul_right}
 use Rattle.ecc200.specs.declared.places.PlaceOut.{PlaceOut}
 use Rattle.ecc200.specs.Places.{nothing}
 
--- One more module of a row that begins at a place.
+-- One more module is written in a row that begins at a place.
 pub module_put : (places : List PlaceOut) (start column : ℕ) (f : ℕ → PlaceOut) → start + column < length places
     → ((c : ℕ) → c < column → get_or places (start + c) nothing ≡ f c) → (c : ℕ) → c < column + 1 → get_or (set places (start + column) (f column)) (start + c) nothing ≡ f c
 module_put places start column f l h =
@@ -16,7 +16,7 @@ module_put places start column f l h =
 pub module_kept : (init places : List PlaceOut) (i j : ℕ) (x : PlaceOut) → j ≢ i → get_or places j nothing ≡ get_or init j nothing → get_or (set places i x) j nothing ≡ get_or init j nothing
 module_kept init places i j x ne h = get_or-set_other places i j x nothing ne ∙ h
 
--- One more row.
+-- One more row is written.
 pub row_put : (places new : List PlaceOut) (row side : ℕ) (f : ℕ → ℕ → PlaceOut) → ((c : ℕ) → c < side → get_or new (row * side + c) nothing ≡ f row c)
     → ((i : ℕ) → i < row * side → get_or new i nothing ≡ get_or places i nothing)
     → ((r c : ℕ) → r < row → c < side → get_or places (r * side + c) nothing ≡ f r c) → (r c : ℕ) → r < row + 1 → c < side → get_or new (r * side + c) nothing ≡ f r c

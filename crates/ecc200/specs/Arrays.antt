@@ -1,4 +1,4 @@
--- Arrays of which only the first numbers count.
+-- Arrays of a fixed length, of which only the first numbers mean something.
 use Rattle.std.specs.Prelude.{ℕ, ◌-◌, List, ◌++◌, length, replicate}
 
 -- The numbers, followed by zeros: `most` numbers in all.

@@ -16,7 +16,7 @@ fault code value place = record { code = code; value = value; place = place }
 abbrev pub no_fault : Fault
 no_fault = fault 0 0 0
 
--- The modules are not as many as the side times itself.
+-- There are not as many modules as the square of the side.
 abbrev pub shape : Fault
 shape = fault 3 0 0
 
@@ -24,7 +24,7 @@ shape = fault 3 0 0
 abbrev pub no_such_side : ℕ → Fault
 no_such_side side = fault 4 side 0
 
--- The data codewords spell no message; places count them from 1.
+-- The data codewords spell no message. Places count them from 1.
 abbrev pub word_fault : WordFault → Fault
 word_fault (word.Reserved place) = fault 7 0 place
 word_fault (word.LeftOut value place) = fault 8 value place
@@ -34,13 +34,14 @@ word_fault (word.Value place) = fault 11 0 place
 word_fault (word.Length place) = fault 12 0 place
 word_fault (word.Unfinished place) = fault 13 0 place
 
--- A grid is not read: for its border, with the number of wrong modules; for a block, with which one, from 0; or for its data codewords.
+-- A grid is not read: because of its borders, with the number of their wrong modules; because of a block, with its number, from 0; or
+-- because of its data codewords.
 abbrev pub read_fault : ReadFault → Fault
 read_fault (read.Border count) = fault 5 count 0
 read_fault (read.Block block) = fault 6 0 block
 read_fault (read.Words why) = word_fault why
 
--- A message has no normal grid.
+-- A message fits no size.
 abbrev pub too_long : Fault
 too_long = fault 14 0 0
 
@@ -49,10 +50,10 @@ abbrev pub normal_fault : NormalFault → Fault
 normal_fault (normal.Read why) = read_fault why
 normal_fault normal.TooLong = too_long
 
--- This number, at this place, is no item's.
+-- This number, at this place, stands for no item.
 abbrev pub foreign : ℕ → ℕ → Fault
 foreign number place = fault 15 number place
 
--- This number is no profile's.
+-- This number stands for no profile.
 abbrev pub no_such_profile : ℕ → Fault
 no_such_profile number = fault 16 number 0

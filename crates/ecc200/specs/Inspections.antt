@@ -1,4 +1,4 @@
--- What comes out of inspecting.
+-- What the library gives for a grid that is to be inspected.
 use Rattle.std.specs.Prelude.{◌≡◌, ℕ, List, map, length, replicate, Option, Some, None}
 use Rattle.dm_symbol.specs.declared.Inspection.{Inspection}
 use Rattle.dm_symbol.specs.Grid.{GridView}
@@ -9,7 +9,7 @@ use Rattle.ecc200.specs.Arrays.{filled}
 use Rattle.ecc200.specs.Faults.{no_fault}
 use Rattle.ecc200.specs.Modules.{IsGridOf, IsModulesFault}
 
--- A fault, and 0 in all else.
+-- A fault; all else is 0.
 abbrev pub no_inspection : Fault → InspectionOut
 no_inspection why =
     record {
@@ -23,7 +23,7 @@ no_inspection why =
       corrected = replicate 6 0;
     }
 
--- How many places of a block are corrected, or 255 where no codeword is near the block.
+-- How many codewords of a block are corrected, or 255 where the block has more errors than can be corrected.
 abbrev pub count_shown : Option ℕ → ℕ
 count_shown (Some count) = count
 count_shown None = 255
@@ -42,7 +42,7 @@ inspection_shown side inspection =
       corrected = filled 6 (map count_shown inspection.corrected.items);
     }
 
--- What comes out of inspecting these modules: why they make no grid; or the inspection of their grid.
+-- What inspecting these modules gives: why they make no grid, or the inspection of their grid.
 pub data IsInspectAnswer (side : ℕ) (modules : List ℕ) (out : InspectionOut) : Type 0 where
   no_grid : (why : Fault) → IsModulesFault side modules why → out ≡ no_inspection why → IsInspectAnswer side modules out
   inspected : (grid : GridView) (inspection : Inspection) → IsGridOf side modules grid → IsInspection grid inspection

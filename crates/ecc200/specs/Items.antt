@@ -1,4 +1,4 @@
--- Messages as numbers.
+-- Messages as lists of numbers.
 use Rattle.std.specs.Prelude.{ℕ, ◌<◌, ◌≤◌, List, map, length, get_or}
 use Rattle.dm_symbol.specs.declared.Item.{Item}
 use Rattle.dm_symbol.specs.declared.Item.TheVariants.{Byte, Fnc1}
@@ -12,7 +12,7 @@ number_of Fnc1 = 256
 abbrev pub numbers_of : List Item → List ℕ
 numbers_of m = map number_of m
 
--- At this place stands the first of the numbers that is no item's.
+-- The first of the numbers that stands for no item is at this place.
 pub record IsFirstForeign (numbers : List ℕ) (place : ℕ) : Type 0 where
   pub inside : place < length numbers
   pub foreign : 256 < get_or numbers place 0

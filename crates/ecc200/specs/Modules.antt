@@ -1,4 +1,4 @@
--- Grids as numbers, one for each module, row by row from the top.
+-- Grids as lists of numbers, one for each module, row by row from the top.
 use Rattle.std.specs.Prelude.{◌≡◌, ◌≢◌, ℕ, ◌*◌, Bool, not, nat_eq, if◌then◌else◌, List, map, flat_map, length, Some, IsNone}
 use Rattle.dm_symbol.specs.Sizes.{row_with_side}
 use Rattle.dm_symbol.specs.Grid.{GridView, square_of}
@@ -23,7 +23,7 @@ pub record IsGridOf (side : ℕ) (modules : List ℕ) (grid : GridView) : Type 0
   pub size : row_with_side side ≡ Some grid.size
   pub cells : grid.rows ≡ square_of side (map is_dark modules)
 
--- Why modules make no grid: they are not as many as the side times itself; or no size has this side.
+-- Why modules make no grid: there are not as many as the square of the side; or no size has this side.
 pub data IsModulesFault (side : ℕ) (modules : List ℕ) (why : Fault) : Type 0 where
   not_square : length modules ≢ side * side → why ≡ shape → IsModulesFault side modules why
   no_size : length modules ≡ side * side → IsNone (row_with_side side) → why ≡ no_such_side side → IsModulesFault side modules why

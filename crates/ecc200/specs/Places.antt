@@ -1,4 +1,4 @@
--- What each module of a symbol is.
+-- What each module of a symbol is (ISO/IEC 16022, symbol structure and module placement).
 use Rattle.std.specs.Prelude.{◌≡◌, ℕ, ◌+◌, ◌*◌, ◌<◌, ◌≤◌, Bool, true, if◌then◌else◌, List, get_or, replicate, Some, IsNone}
 use Rattle.dm_layout.specs.declared.shape.Cell.{Cell}
 use Rattle.dm_layout.specs.Sizes.{SizeRow, row_with_side}
@@ -9,7 +9,7 @@ use Rattle.ecc200.specs.declared.places.PlaceOut.{PlaceOut}
 use Rattle.ecc200.specs.declared.places.PlacesOut.{PlacesOut}
 use Rattle.ecc200.specs.Faults.{no_fault, no_such_side}
 
--- No module.
+-- Not a module of the symbol.
 abbrev pub nothing : PlaceOut
 nothing = record { codeword = 0; bit = 0; kind = 0 }
 
@@ -29,7 +29,7 @@ fixed_place dark = record { codeword = 0; bit = 0; kind = if dark then 5 else 4 
 abbrev pub place_at : SizeRow → List PlaceOut → ℕ → ℕ → PlaceOut
 place_at size places row column = get_or places (row * size.side + column) nothing
 
--- The module of the symbol to which a cell of the mapping square is moved.
+-- The module of the symbol that a cell of the mapping matrix becomes.
 abbrev pub mapped_place : SizeRow → List PlaceOut → ℕ → ℕ → PlaceOut
 mapped_place size places row column = place_at size places (symbol_line size.region_side row) (symbol_line size.region_side column)
 
@@ -43,11 +43,11 @@ pub record AreModulesOf (size : SizeRow) (places : List PlaceOut) : Type 0 where
       mapped_place size places row column ≡ fixed_place (fixed_is_dark row column)
   pub behind : (i : ℕ) → size.side * size.side ≤ i → get_or places i nothing ≡ nothing
 
--- A fault, and 0 in all else.
+-- A fault; all else is 0.
 abbrev pub no_places : Fault → PlacesOut
 no_places why = record { fault = why; side = 0; places = replicate 10816 nothing }
 
--- What comes out for this side: that no size has it; or the modules of its size.
+-- What is given for this side: that no size has it, or the modules of the size that has it.
 pub data IsPlacesAnswer (side : ℕ) (out : PlacesOut) : Type 0 where
   no_size : IsNone (row_with_side side) → out ≡ no_places (no_such_side side) → IsPlacesAnswer side out
   modules : (size : SizeRow) → row_with_side side ≡ Some size → out.fault ≡ no_fault → out.side ≡ side → AreModulesOf size out.places → IsPlacesAnswer side out

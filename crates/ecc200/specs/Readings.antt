@@ -1,4 +1,4 @@
--- What comes out of reading.
+-- What the library gives for a grid that is to be read.
 use Rattle.std.specs.Prelude.{◌≡◌, ℕ, List, length, replicate, Result, Ok, Err}
 use Rattle.dm_symbol.specs.declared.Reading.{Reading}
 use Rattle.dm_symbol.specs.declared.ReadFault.{ReadFault}
@@ -11,7 +11,7 @@ use Rattle.ecc200.specs.Faults.{no_fault, read_fault}
 use Rattle.ecc200.specs.Items.{numbers_of}
 use Rattle.ecc200.specs.Modules.{IsGridOf, IsModulesFault}
 
--- A fault, and 0 in all else.
+-- A fault; all else is 0.
 abbrev pub no_reading : Fault → ReadingOut
 no_reading why =
     record { fault = why; side = 0; border_faults = 0; block_count = 0; item_count = 0; items = replicate 1632 0; corrected = replicate 6 0 }
@@ -29,12 +29,12 @@ reading_shown side reading =
       corrected = filled 6 reading.corrected.items;
     }
 
--- What comes out for an answer: the reading, or the fault.
+-- What is given for an answer: the reading, or the fault.
 abbrev pub answer_shown : ℕ → Result Reading ReadFault → ReadingOut
 answer_shown side (Ok reading) = reading_shown side reading
 answer_shown side (Err why) = no_reading (read_fault why)
 
--- What comes out of reading these modules: why they make no grid; or the answer of reading to their grid.
+-- What reading these modules gives: why they make no grid, or the answer of reading for their grid.
 pub data IsReadAnswer (side : ℕ) (modules : List ℕ) (limit : ℕ) (out : ReadingOut) : Type 0 where
   no_grid : (why : Fault) → IsModulesFault side modules why → out ≡ no_reading why → IsReadAnswer side modules limit out
   answered : (grid : GridView) (answer : Result Reading ReadFault) → IsGridOf side modules grid → ReadAnswer grid limit answer

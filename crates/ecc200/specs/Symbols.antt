@@ -1,4 +1,4 @@
--- What comes out of writing and of normalising.
+-- What the library gives for a message that is to be written, and for a grid that is to be normalised.
 use Rattle.std.specs.Prelude.{◌≡◌, ℕ, List, nat_eq, if◌then◌else◌, Option, Some, None, get_or, min, replicate, Result, Ok, Err}
 use Rattle.dm_symbol.specs.declared.Item.{Item}
 use Rattle.dm_symbol.specs.declared.Profile.{Profile}
@@ -15,7 +15,7 @@ use Rattle.ecc200.specs.Faults.{no_fault, normal_fault, too_long, foreign, no_su
 use Rattle.ecc200.specs.Items.{IsFirstForeign, numbers_of}
 use Rattle.ecc200.specs.Modules.{IsGridOf, IsModulesFault, modules_of}
 
--- A fault, and 0 in all else.
+-- A fault; all else is 0.
 abbrev pub no_symbol : Fault → SymbolOut
 no_symbol why = record { fault = why; side = 0; modules = replicate 10816 0 }
 
@@ -23,36 +23,36 @@ no_symbol why = record { fault = why; side = 0; modules = replicate 10816 0 }
 abbrev pub symbol_shown : GridView → SymbolOut
 symbol_shown grid = record { fault = no_fault; side = grid.size.side; modules = filled 10816 (modules_of grid) }
 
--- What comes out for an answer: the symbol of the grid, or the fault.
+-- What is given for an answer: the symbol of the grid, or the fault.
 abbrev pub answer_shown : Result GridView Fault → SymbolOut
 answer_shown (Ok grid) = symbol_shown grid
 answer_shown (Err why) = no_symbol why
 
--- The profile of a number: 0 and 1 have one, and no other number.
+-- The profile that a number stands for: 0 stands for `Ascii`, 1 for `Shorter`, and no other number for any.
 abbrev pub profile_of : ℕ → Option Profile
 profile_of number = if nat_eq number 0 then Some Ascii else (if nat_eq number 1 then Some Shorter else None)
 
--- The answer to the numbers of a message under a profile: the first number that is no item's, and its place, or 65535 where that is
--- more; that the message has no normal grid; or its normal grid.
+-- The answer to the numbers of a message under a profile: the first number that stands for no item, with its place, or with 65535 if the
+-- place is more; or that the message fits no size; or its normal grid.
 pub data WrittenAnswer (profile : Profile) (numbers : List ℕ) (answer : Result GridView Fault) : Type 0 where
   no_message : (place : ℕ) → IsFirstForeign numbers place → answer ≡ Err (foreign (get_or numbers place 0) (min place 65535)) → WrittenAnswer profile numbers answer
   no_grid : (m : List Item) → IsMessage m → numbers_of m ≡ numbers → (FitsSomeSize profile m → ⊥) → answer ≡ Err too_long → WrittenAnswer profile numbers answer
   normal : (m : List Item) (grid : GridView) → IsMessage m → numbers_of m ≡ numbers → IsNormalGrid profile m grid → answer ≡ Ok grid → WrittenAnswer profile numbers answer
 
--- The answer to modules under a profile: why they make no grid; why their grid has no normal grid; or its normal grid.
+-- The answer to modules under a profile: why they make no grid; or why their grid has no normal grid; or its normal grid.
 pub data NormalisedAnswer (profile : Profile) (side : ℕ) (modules : List ℕ) (limit : ℕ) (answer : Result GridView Fault) : Type 0 where
   no_grid : (why : Fault) → IsModulesFault side modules why → answer ≡ Err why → NormalisedAnswer profile side modules limit answer
   refused : (grid : GridView) (why : NormalFault) → IsGridOf side modules grid → NormalAnswer profile grid limit (Err why) → answer ≡ Err (normal_fault why)
       → NormalisedAnswer profile side modules limit answer
   normal : (grid n : GridView) → IsGridOf side modules grid → NormalAnswer profile grid limit (Ok n) → answer ≡ Ok n → NormalisedAnswer profile side modules limit answer
 
--- What comes out of writing these numbers: that there is no such profile; or the answer under it.
+-- What writing these numbers gives: that there is no such profile, or the answer under that profile.
 pub data IsWriteAnswer (numbers : List ℕ) (profile : ℕ) (out : SymbolOut) : Type 0 where
   no_profile : profile_of profile ≡ None → out ≡ no_symbol (no_such_profile profile) → IsWriteAnswer numbers profile out
   answered : (p : Profile) (answer : Result GridView Fault) → profile_of profile ≡ Some p → WrittenAnswer p numbers answer
       → out ≡ answer_shown answer → IsWriteAnswer numbers profile out
 
--- What comes out of normalising the grid of these modules: that there is no such profile; or the answer under it.
+-- What normalising the grid of these modules gives: that there is no such profile, or the answer under that profile.
 pub data IsNormalAnswer (side : ℕ) (modules : List ℕ) (limit profile : ℕ) (out : SymbolOut) : Type 0 where
   no_profile : profile_of profile ≡ None → out ≡ no_symbol (no_such_profile profile) → IsNormalAnswer side modules limit profile out
   answered : (p : Profile) (answer : Result GridView Fault) → profile_of profile ≡ Some p → NormalisedAnswer p side modules limit answer

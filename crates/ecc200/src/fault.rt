@@ -4,7 +4,7 @@ ghost use Rattle.ecc200.specs.Faults.{fault, normal_fault, read_fault, word_faul
 
 use dm_symbol::{NormalFault, ReadFault, WordFault};
 
-/// Why there is no answer: a code of the header, and what it says beside it. All three are 0 where there is an answer.
+/// Why there is no answer: a code of the header, and what the header says beside it. All three are 0 if there is an answer.
 #[repr(C)]
 #[derive(Clone, Copy)]
 pub struct Fault {

@@ -8,10 +8,10 @@ use crate::modules::grid_of;
 use dm_layout::MOST_CODEWORDS;
 use dm_symbol::{Inspection, MOST_BLOCKS, inspect};
 
-/// Shown in the place of a number of corrected codewords where no codeword is near the block.
+/// Shown instead of the number of corrected codewords where a block has more errors than can be corrected.
 const BEYOND: u8 = 255;
 
-/// The codewords of a grid, as they stand in it and as they are corrected. Where there is a fault, all else is 0.
+/// The codewords of a grid before and after correction. If there is a fault, all else is 0.
 #[repr(C)]
 #[derive(Drop)]
 pub struct InspectionOut {
@@ -38,7 +38,7 @@ pub extern "C" fn ecc200_inspect(modules: &[u8], side: u16, out: &mut Inspection
     out.fault.code
 }
 
-/// No inspection, but a fault.
+/// Shows a fault in place of an inspection.
 fn show_fault(out: &mut InspectionOut, why: Fault)
     ensures { out.new ≡ no_inspection why }
 {
@@ -52,7 +52,7 @@ fn show_fault(out: &mut InspectionOut, why: Fault)
     out.corrected = [0; MOST_BLOCKS];
 }
 
-/// An inspection at this side.
+/// Shows an inspection of a grid of this side.
 fn show_inspection(out: &mut InspectionOut, side: u16, inspection: &Inspection)
     ensures { out.new ≡ inspection_shown side inspection.now }
 {

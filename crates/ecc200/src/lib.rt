@@ -1,8 +1,8 @@
 //! Data Matrix ECC 200 (ISO/IEC 16022, square sizes) for C and for whatever calls C: `library/ecc200.h` declares these functions and is
 //! their manual.
 //!
-//! Each is total, takes no memory but its stack, keeps nothing between calls, and writes all of `out` and nothing else. What
-//! comes out is said in `specs/`, over the definitions of `dm_symbol`: `Readings`, `Symbols`, `Inspections`, `Places`, `Sizes`.
+//! Each is total, takes no memory but its stack, keeps nothing between calls, and writes all of `out` and nothing else. What they
+//! give is defined in `specs/`, on the definitions of `dm_symbol`: `Readings`, `Symbols`, `Inspections`, `Places`, `Sizes`.
 #![tactic(auto)]
 
 mod fault;

@@ -5,10 +5,10 @@ ghost use Rattle.ecc200.specs.Items.{IsFirstForeign, number_of, numbers_of};
 
 use dm_symbol::{Item, MOST_ITEMS, Message};
 
-/// FNC1.
+/// The number of FNC1.
 const FNC1: u16 = 256;
 
-/// Where the first of these numbers stands that is no item.
+/// The place of the first of these numbers that stands for no item.
 pub(crate) fn first_foreign(numbers: &[u16]) -> Option<usize>
     ensures some { IfSome result (λ place. IsFirstForeign numbers.now place) }
     ensures none { IfNone result (All (λ number. number ≤ 256) numbers.now) }
@@ -27,7 +27,7 @@ pub(crate) fn message_of(numbers: &[u16]) -> Message
     for number in numbers {
         let _room = message.push(item_of(*number));
     }
-    // That its bytes are 0 to 255 is known from this.
+    // That its bytes are 0 to 255 is known from this call.
     let _items = message.items();
     message
 }

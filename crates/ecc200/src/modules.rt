@@ -31,7 +31,7 @@ pub(crate) fn grid_of(modules: &[u8], side: u16) -> Result<Grid, Fault>
     }
 }
 
-/// A row of modules as one number: the module of column `c` is the bit of weight 2^c, 1 for dark.
+/// A row of modules as one number: the module of a column is the bit whose weight is 2 to the power of that column, 1 for dark.
 fn packed(modules: &[u8]) -> u128
     requires { length modules.now ≤ 127 }
     ensures { (column : ℕ) → column < length modules.now → is_dark_in result column ≡ is_dark (get_or modules.now column 0) }

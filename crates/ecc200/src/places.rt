@@ -31,7 +31,7 @@ const FIXED_LIGHT: u8 = 4;
 
 const FIXED_DARK: u8 = 5;
 
-/// What each module of a symbol is, row by row from the top. Where there is a fault, all else is 0.
+/// What each module of a symbol is, row by row from the top. If there is a fault, all else is 0.
 #[repr(C)]
 #[derive(Drop)]
 pub struct PlacesOut {
@@ -62,7 +62,7 @@ pub extern "C" fn ecc200_places(side: u16, out: &mut PlacesOut) -> u16
     out.fault.code
 }
 
-/// Makes each the place of no module.
+/// Makes each of them the place of no module.
 fn clear(places: &mut [PlaceOut])
     ensures { places.new ≡ replicate (length places.old) nothing }
 {
@@ -75,7 +75,7 @@ fn clear(places: &mut [PlaceOut])
     }
 }
 
-/// Writes the modules of the borders, and the others as if they all were of the fixed square.
+/// Writes the modules of the borders, and all others as if they were modules of the fixed square.
 fn put_structure(places: &mut [PlaceOut], size: Size)
     requires { size.side * size.side ≤ length places.old }
     ensures put { (row column : ℕ) → row < size.side → column < size.side → place_at size places.new row column ≡ structure_place size row column }
@@ -100,7 +100,7 @@ fn put_structure_row(places: &mut [PlaceOut], size: Size, row: u16)
     }
 }
 
-/// A module of a border, or else of the fixed square, on whose diagonal the dark ones lie.
+/// A module of a border, or else one of the fixed square, whose dark modules lie on its diagonal.
 fn structure_place(size: Size, row: u16, column: u16) -> PlaceOut
     ensures { result ≡ structure_place size row column }
 {

@@ -9,7 +9,7 @@ use crate::message::put_message;
 use crate::modules::grid_of;
 use dm_symbol::{MOST_BLOCKS, MOST_ITEMS, Reading, read_to, usual_limit};
 
-/// What a grid says, and how much of it was wrong. Where there is a fault, all else is 0.
+/// What a grid says, and how much of it was wrong. If there is a fault, all else is 0.
 #[repr(C)]
 #[derive(Drop)]
 pub struct ReadingOut {
@@ -54,7 +54,7 @@ pub extern "C" fn ecc200_usual_limit(side: u16) -> u16
     usual_limit(side)
 }
 
-/// No reading, but a fault.
+/// Shows a fault in place of a reading.
 fn show_fault(out: &mut ReadingOut, why: Fault)
     ensures { out.new ≡ no_reading why }
 {
@@ -67,7 +67,7 @@ fn show_fault(out: &mut ReadingOut, why: Fault)
     out.corrected = [0; MOST_BLOCKS];
 }
 
-/// A reading at this side.
+/// Shows a reading of a grid of this side.
 fn show_reading(out: &mut ReadingOut, side: u16, reading: &Reading)
     ensures { out.new ≡ reading_shown side reading.now }
 {

@@ -8,7 +8,7 @@ use crate::message::{first_foreign, message_of};
 use crate::modules::{MOST_MODULES, grid_of, put_modules};
 use dm_symbol::{Grid, MOST_ITEMS, Profile, Reading, TooLong, light_grid, normal_to, write_to};
 
-/// A symbol: the first `side * side` modules, row by row from the top, 1 for dark. Where there is a fault, all else is 0.
+/// A symbol: the first `side * side` modules, row by row from the top, 1 for dark. If there is a fault, all else is 0.
 #[repr(C)]
 #[derive(Drop)]
 pub struct SymbolOut {
@@ -61,7 +61,7 @@ pub extern "C" fn ecc200_normal(
     out.fault.code
 }
 
-/// The profile of a number.
+/// The profile that a number stands for.
 fn profile_of(number: u16) -> Option<Profile>
     ensures { result ≡ profile_of number }
 {
@@ -82,7 +82,7 @@ fn written(items: &[u16], profile: Profile, grid: &mut Grid) -> Result<(), Fault
     }
 }
 
-/// The same where each number is an item's.
+/// The same where each number stands for an item.
 fn written_message(items: &[u16], profile: Profile, grid: &mut Grid) -> Result<(), Fault>
     requires { All (λ item. item ≤ 256) items.now }
     ensures { WrittenAnswer profile items.now (outcome result grid.new) }
@@ -118,7 +118,7 @@ fn normalised(
     }
 }
 
-/// No symbol, but a fault.
+/// Shows a fault in place of a symbol.
 fn show_fault(out: &mut SymbolOut, why: Fault)
     ensures { out.new ≡ no_symbol why }
 {
@@ -127,7 +127,7 @@ fn show_fault(out: &mut SymbolOut, why: Fault)
     out.modules = [0; MOST_MODULES];
 }
 
-/// The symbol of a grid.
+/// Shows the symbol of a grid.
 fn show_grid(out: &mut SymbolOut, grid: &Grid)
     ensures { out.new ≡ symbol_shown grid.now }
 {

@@ -7,7 +7,7 @@ use Rattle.dm_layout.specs.Modules.{border_colour}
 use Rattle.ecc200.specs.declared.places.PlaceOut.{PlaceOut}
 use Rattle.ecc200.specs.Places.{bit_place, border_place, fixed_place}
 
--- A module by the colour that the border has there, or else, where there is no border, one of the fixed square.
+-- A module of a border, by its colour; or, where no border is, a module of the fixed square.
 abbrev pub structure_by : Option Bool → ℕ → ℕ → PlaceOut
 structure_by (Some dark) row column = border_place dark
 structure_by None row column = fixed_place (nat_eq row column)

@@ -9,7 +9,7 @@ use Rattle.dm_symbol.proofs.SymbolBlocks.{only_block}
 use Rattle.dm_symbol.proofs.Below.{block_lengths}
 use Rattle.dm_symbol.proofs.correction.corrected_block.Goals as goal
 
--- What is near a word, or that nothing is, also holds of an equal word.
+-- What is near a word, or that nothing is near it, is also true of an equal word.
 near_or_none : {A E : Type 0} (r : Result A E) (word : A → List ℕ) (k l : ℕ) (w v : List ℕ) → k ≡ l → w ≡ v
     → MatchResult r (λ a. IsNear k w (word a)) (λ _. (c : List ℕ) → IsNear k w c → ⊥) → MatchResult r (λ a. IsNear l v (word a)) (λ _. HasNear l v → ⊥)
 near_or_none (Ok a) word k l w v ek ew h = subst (λ x. IsNear x v (word a)) ek (subst (λ x. IsNear k x (word a)) ew h)

@@ -7,12 +7,12 @@ use Rattle.dm_symbol.specs.Inspection.{IsMended}
 use Rattle.dm_symbol.proofs.SizeFacts.{blocks_of_size}
 use Rattle.dm_symbol.proofs.inspection.mend.Goals as goal
 
--- the count that is added stands at the end
+-- The count that is added comes last.
 at_end : (counts : List (Option ℕ)) (b : ℕ) (r : Option ℕ) → length counts ≡ b → get_or (counts ++ r ∷ []) b None ≡ r
 at_end counts b r e =
     get_or_push counts r None b e
 
--- one more block is mended, and the others stay
+-- One more block is mended, and the others stay.
 mended_more : (k : ℕ) (old before after : ℕ → List ℕ) (counts : List (Option ℕ)) (b : ℕ) (r : Option ℕ) → length counts ≡ b
     → ((a : ℕ) → a < b → IsMended k (old a) (before a) (get_or counts a None)) → ((a : ℕ) → a < b → after a ≡ before a) → before b ≡ old b
     → IsMended k (before b) (after b) r → (a : ℕ) → a < b + 1 → IsMended k (old a) (after a) (get_or (counts ++ r ∷ []) a None)

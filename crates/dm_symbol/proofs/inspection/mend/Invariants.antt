@@ -5,7 +5,7 @@ use Rattle.dm_symbol.specs.Blocks.{AreWordsOf, block_at}
 use Rattle.dm_symbol.specs.Inspection.{IsMended}
 use Rattle.dm_symbol.proofs.inspection.mend.Given as goal
 
--- the blocks before b are mended, and the others are as they were
+-- The blocks before b are mended, and the others are as they were.
 abbrev pub invariant-loop-b : goal.invariant-loop-b
 invariant-loop-b l = record {
   size : l.words.size ≡ l.initial.words.size;

@@ -4,7 +4,7 @@ use Rattle.dm_layout.specs.Sizes.{block_check}
 use Rattle.dm_symbol.specs.Blocks.{AreWordsOf, block_at}
 use Rattle.dm_symbol.proofs.reading.correct_blocks.Given as goal
 
--- the blocks before b are corrected and counted, and the others are as they were
+-- The blocks before b are corrected and counted, and the others are as they were.
 abbrev pub invariant-loop-b : goal.invariant-loop-b
 invariant-loop-b l = record {
   size : l.words.size ≡ l.initial.words.size;

@@ -4,7 +4,7 @@ use Rattle.dm_layout.specs.Sizes.{block_check}
 use Rattle.dm_symbol.specs.Blocks.{block_at, data_part}
 use Rattle.dm_symbol.proofs.writing.completed.Given as goal
 
--- the blocks before b are codewords
+-- The blocks before b are codewords of their Reed-Solomon code.
 abbrev pub invariant-loop-b : goal.invariant-loop-b
 invariant-loop-b l = record {
   size : l.words.size ≡ l.fn.size;
