@@ -28,7 +28,7 @@ wrapped_cell n r c up left =
       | false ↦ elim (nat_lt c left) [ true ↦ At (r + 4 - (up + (n + 4) % 8)) (c + n - left) | false ↦ At (r - up) (c - left) ]
     ]
 
--- The anchor of a standard shape, at row r, column c, is its lower right cell.
+-- The standard shape at row r, column c has its anchor there, at its lower right cell.
 abbrev pub standard : ℕ → ℕ → ℕ → List Cell
 standard n r c =
     wrapped_cell n r c 2 2 ∷ wrapped_cell n r c 2 1 ∷ wrapped_cell n r c 1 2 ∷ wrapped_cell n r c 1 1
@@ -63,11 +63,11 @@ is_anchor n r c = nat_lt r n && nat_lt c n && nat_eq ((5 * r + c) % 8) 4 && not 
 abbrev pub shape_at : ℕ → ℕ → ℕ → List Shape
 shape_at n r c = elim (is_anchor n r c) [ true ↦ Standard r c ∷ [] | false ↦ [] ]
 
--- This is the standard shape in column c whose anchor has the sum s = r + c and an even row, if there is one.
+-- This is the standard shape of sum s = r + c whose anchor lies in column c and in an even row, if there is one.
 abbrev pub in_even_row : ℕ → ℕ → ℕ → List Shape
 in_even_row n s c = elim (nat_le c s && nat_eq ((s - c) % 2) 0) [ true ↦ shape_at n (s - c) c | false ↦ [] ]
 
--- This is the standard shape in row r whose anchor has the sum s = r + c, if that row is odd and there is one.
+-- This is the standard shape of sum s = r + c whose anchor lies in row r, if that row is odd and there is one.
 abbrev pub in_odd_row : ℕ → ℕ → ℕ → List Shape
 in_odd_row n s r = elim (nat_le r s && nat_eq (r % 2) 1) [ true ↦ shape_at n r (s - r) | false ↦ [] ]
 
