@@ -21,12 +21,12 @@ use Rattle.dm_tool.proofs.Pieces.{rest_length}
 use Rattle.dm_tool.proofs.RecordSteps.{or_cases}
 use Rattle.dm_tool.proofs.KeptRows.{number_more, number_put, number_small}
 
--- the number of a line is the mask of its dark cells
+-- The number of a line is the mask of its dark cells.
 pub number_is_mask : (line : List ℕ) → number_of line ≡ mask_l (map is_dark line)
 number_is_mask [] = refl
 number_is_mask (b ∷ line) = ap (λ (n : ℕ). digit_of b + 2 * n) (number_is_mask line)
 
--- the low bits of the number of a line are the number of its front
+-- The lowest n bits of the number of a line are the number of its first n characters.
 pub front_number : (n : ℕ) (line : List ℕ) → n ≤ length line → number_of line % 2 ^ n ≡ number_of (take n line)
 front_number n line le =
     let long : length (take n line) ≡ n = length-take-le n line le in
@@ -35,22 +35,23 @@ front_number n line le =
     ∙ ap (λ (k : ℕ). number_of (drop n line) * 2 ^ k + number_of (take n line)) long in
     ap (λ (k : ℕ). k % 2 ^ n) parts ∙ mod-mul-add (number_of (drop n line)) (2 ^ n) (number_of (take n line)) (subst (λ (k : ℕ). number_of (take n line) < 2 ^ k) long (number_small (take n line)))
 
--- they are what a mask leaves
+-- A mask of the lowest n bits leaves, of the number of a line, the number of its first n characters.
 pub masked_front : (n : ℕ) (line : List ℕ) → n ≤ length line → bit_and (number_of line) (2 ^ n - 1) ≡ number_of (take n line)
 masked_front n line le = and_mask (number_of line) n ∙ front_number n line le
 
--- a character that differs from 1 in the lowest bit at most
+-- A character is near if it differs from 1 in the lowest bit at most.
 abbrev pub is_near : ℕ → Bool
 is_near b = bit_or b 1 == 49
 
--- it is a cell
+-- A near character is a cell.
 abbrev cell_if_near : ℕ → Bool
 cell_if_near b = not (is_near b) || not (is_foreign b)
 
+-- Each near byte is a cell: a test of all bytes, computed by the checker.
 all_bytes : list_all cell_if_near (range_with_len 0 256) ≡ true
 all_bytes = refl
 
--- a test that all numbers of a run from 0 pass is passed by each
+-- A test that all numbers below a bound pass is passed by each of them.
 pub holds_at : (p : ℕ → Bool) (n : ℕ) → list_all p (range_with_len 0 n) ≡ true → (b : ℕ) → b < n → p b ≡ true
 holds_at p n all b l = by_test (p b) refl
   where
@@ -61,15 +62,17 @@ holds_at p n all b l = by_test (p b) refl
         let none : list_all p (range_with_len 0 n) ≡ false = list_all_at p (range_with_len 0 n) b 0 (omega (arith, length-range_with_len 0 n)) (ap p here ∙ e) in
         let never : false ≡ true = sym none ∙ all in cc
 
+-- A near character that passes the test isn't foreign.
 cell_by : (near foreign : Bool) → (not near || not foreign) ≡ true → near ≡ true → foreign ≡ false
 cell_by true true e n = sym e
 cell_by true false e n = refl
 cell_by false foreign e n = cc
 
+-- A near byte isn't foreign.
 near_cell : (b : ℕ) → b < 256 → is_near b ≡ true → is_foreign b ≡ false
 near_cell b l e = cell_by (is_near b) (is_foreign b) (holds_at cell_if_near 256 all_bytes b l) e
 
--- the front of such characters is cells
+-- The near characters at the front of a list are cells.
 pub front_cells : (xs : List ℕ) → Each1 (Fits w8) xs → list_any is_foreign (take (prefix_len is_near xs) xs) ≡ false
 front_cells [] fits = refl
 front_cells (b ∷ xs) fits = by_test (is_near b) refl (front_cells xs fits.1)
@@ -81,7 +84,7 @@ front_cells (b ∷ xs) fits = by_test (is_near b) refl (front_cells xs fits.1)
         ap (λ (n : ℕ). list_any is_foreign (take n (b ∷ xs))) more ∙ rw (near_cell b fits.0.fits e) rest
     by_test false e rest = let none : prefix_len is_near (b ∷ xs) ≡ 0 = rw e refl in ap (λ (n : ℕ). list_any is_foreign (take n (b ∷ xs))) none
 
--- cells are no LF
+-- Cells are no LF.
 pub cells_no_lf : (more : List ℕ) → list_any is_foreign more ≡ false → HasNoLf more
 cells_no_lf [] e = tt
 cells_no_lf (b ∷ more) e =
@@ -90,18 +93,19 @@ cells_no_lf (b ∷ more) e =
 
 -- ---- the front of a text
 
--- it is no longer than a block
+-- The near characters at the front of a block are at most 32.
 pub front_short : (text : List ℕ) (n : ℕ) → 32 ≤ length text → n ≡ prefix_len is_near (chunk 0 32 text) → n ≤ 32
 front_short text n long e = omega (arith, e, prefix_len-le-length is_near (chunk 0 32 text), length-chunk 0 32 text long)
 
--- so many low bits are within 64
+-- A power of 2 with an exponent of at most 32 fits in 64 bits.
 pub mask_within : (n : ℕ) → n ≤ 32 → 1 * 2 ^ n % 2 ^ 64 ≡ 2 ^ n
 mask_within n le = ap (λ (k : ℕ). k % 2 ^ 64) (one-mul (2 ^ n)) ∙ mod-eq_of_lt (omega (arith, pow_mono le))
 
+-- A power of 2 with an exponent of at most 32, in 64 bits, is at least 1.
 pub mask_is : (n : ℕ) → n ≤ 32 → 1 ≤ 1 * 2 ^ n % 2 ^ 64
 mask_is n le = rw (mask_within n le) (pow_pos n)
 
--- the cells at the front of a text are taken
+-- The bits and the count that are taken are those of the cells at the front of the text.
 pub front_is : (text : List ℕ) (n bits front : ℕ) → 32 ≤ length text → n ≡ prefix_len is_near (chunk 0 32 text) → bits ≡ mask_l (map is_dark (chunk 0 32 text))
     → front ≡ bit_and bits (1 * 2 ^ n % 2 ^ 64 - 1) → n ≢ 0 → ((i : ℕ) → Fits w8 (get_or text i 0))
     → IsFrontOf text (let f : Front = record { bits = front; count = n } in f)
@@ -122,12 +126,12 @@ front_is text n bits front long count is masked some bytes =
       };
     }
 
--- cells are some characters
+-- Cells are those of at least one character.
 pub cells_some : (characters : List ℕ) (f : Front) → AreCells characters f → characters ≢ []
 cells_some [] f cells none = absurd (omega (arith, cells.some, cells.count_is))
 cells_some (b ∷ characters) f cells none = cc
 
--- cells, and others after them
+-- Cells, and others after them, joined, are those of the characters of both.
 pub joined_cells : (xs ys : List ℕ) (f g : Front) → AreCells xs f → AreCells ys g → f.count + g.count ≤ 128
     → AreCells (xs ++ ys) (let h : Front = record { bits = bit_or f.bits (g.bits * 2 ^ f.count % 2 ^ 128); count = f.count + g.count } in h)
 joined_cells xs ys f g a b room =
@@ -145,7 +149,7 @@ joined_cells xs ys f g a b room =
       cells = list_any-append is_foreign xs ys ∙ rw (a.cells, b.cells) refl;
     }
 
--- the cells at the front of a text, and those at the front of the rest
+-- The cells at the front of a text, joined with those at the front of the rest, are cells at the front of the text.
 pub front_longer : (text : List ℕ) (at : ℕ) (f g h : Front) → IsFrontOf text f → f.count ≡ at → IsFrontOf (take (length text - at) (drop at text)) g
     → ((xs ys : List ℕ) → AreCells xs f → AreCells ys g → AreCells (xs ++ ys) h) → IsFrontOf text h × (h.count ≡ f.count + g.count)
 front_longer text at f g h a e b both =

@@ -23,7 +23,7 @@ use Rattle.dm_tool.proofs.RecordSteps.{by_tests, same_cells, count_new, last_new
 
 -- ---- a line as a number
 
--- a digit is 0 or 1
+-- The digit of a character is 0 or 1.
 digit_small : (b : ℕ) → digit_of b < 2
 digit_small b = by_test (is_dark b)
   where
@@ -31,17 +31,17 @@ digit_small b = by_test (is_dark b)
     by_test true = omega arith
     by_test false = omega arith
 
--- each weight is twice the one before it
+-- Each weight is twice the one before it.
 doubled : (n : ℕ) → 2 ^ suc n ≡ 2 * 2 ^ n
 doubled n = omega arith
 
--- the number of a line has no bit from its length on
+-- The number of a line has no bit from the line's length on.
 pub number_small : (line : List ℕ) → number_of line < 2 ^ length line
 number_small [] = omega arith
 number_small (b ∷ line) =
     let weight : 2 ^ length (b ∷ line) ≡ 2 * 2 ^ length line = doubled (length line) in omega (arith, digit_small b, number_small line, weight)
 
--- more characters have the next weights
+-- In the number of a line that becomes longer, the further characters have the weights that follow.
 pub number_more : (line more : List ℕ) → number_of (line ++ more) ≡ number_of more * 2 ^ length line + number_of line
 number_more [] more = omega arith
 number_more (x ∷ line) more =
@@ -49,11 +49,11 @@ number_more (x ∷ line) more =
     ap (λ (w : ℕ). number_of more * w) (doubled (length line)) ∙ mul_left_comm (number_of more) 2 (2 ^ length line) in
     omega (arith, number_more line more, weight)
 
--- so they are put by bits
+-- The number of further characters, shifted to their columns, is put into the number of the line by bits.
 pub number_put : (line more : List ℕ) → bit_or (number_of line) (number_of more * 2 ^ length line) ≡ number_of (line ++ more)
 number_put line more = or_shifted_r (number_of more) (length line) (number_of line) (number_small line) ∙ sym (number_more line more)
 
--- the first cell is the lowest digit
+-- The first cell of a row is its lowest bit.
 lowest : (b n : ℕ) → is_dark_in (digit_of b + 2 * n) 0 ≡ is_dark b
 lowest b n = by_test (is_dark b)
   where
@@ -61,35 +61,36 @@ lowest b n = by_test (is_dark b)
     by_test true = let e : (1 + 2 * n) / 2 ^ 0 % 2 ≡ 1 = omega arith in ap (λ (k : ℕ). nat_eq k 1) e
     by_test false = let e : (0 + 2 * n) / 2 ^ 0 % 2 ≡ 0 = omega arith in ap (λ (k : ℕ). nat_eq k 1) e
 
--- the others are those of the rest
+-- The other cells of a row are those of the number above its lowest bit.
 higher : (b n c : ℕ) → is_dark_in (digit_of b + 2 * n) (suc c) ≡ is_dark_in n c
 higher b n c =
     let half : (digit_of b + 2 * n) / 2 ≡ n = omega (arith, digit_small b) in
     ap (λ (k : ℕ). nat_eq (k % 2) 1)
     (ap (λ (w : ℕ). (digit_of b + 2 * n) / w) (doubled c) ∙ sym (div-div-eq-div-mul (digit_of b + 2 * n) 2 (2 ^ c)) ∙ ap (λ (k : ℕ). k / 2 ^ c) half)
 
--- a cell of the number of a line is its character
+-- A cell in the number of a line is dark exactly where its character is 1.
 cell_is : (line : List ℕ) (c : ℕ) → c < length line → get_or (map is_dark line) c false ≡ is_dark_in (number_of line) c
 cell_is [] c l = absurd (omega arith)
 cell_is (b ∷ line) zero l = sym (lowest b (number_of line))
 cell_is (b ∷ line) (suc c) l = cell_is line c (omega (arith, l)) ∙ sym (higher b (number_of line) c)
 
--- the cells of the number of a line are its characters
+-- The cells in the number of a line are those of its characters.
 pub cells_are : (line : List ℕ) → map is_dark line ≡ cells_in (length line) (number_of line)
 cells_are line = fill_by_all (is_dark_in (number_of line)) (map is_dark line) (length line) false (length-map line is_dark) (cell_is line)
 
 -- ---- the rows of lines
 
+-- Where neither the failing of a first test nor the passing of a second holds, the first passes and the second fails.
 same_length : (a b : Bool) → (not a || b) ≡ false → (a ≡ true) × (b ≡ false)
 same_length true b e = (refl, e)
 same_length false b e = cc
 
--- a row before the others
+-- Equal rows stay equal when a line of the right length comes before them.
 row_before : (w : ℕ) (m : List ℕ) (rows others : List (List Bool)) → (length m == w) ≡ true → rows ≡ others → cells_in w (number_of m) ∷ rows ≡ map is_dark m ∷ others
 row_before w m rows others e same =
     ap (λ k. cells_in k (number_of m) ∷ rows) (sym (eqb-true (length m) w e)) ∙ ap (λ k. k ∷ rows) (sym (cells_are m)) ∙ ap (λ k. map is_dark m ∷ k) same
 
--- lines that don't differ are seen again in their numbers
+-- The rows of lines that don't differ in length are found again in their numbers.
 rows_again : (w : ℕ) (lines : List (List ℕ)) (rest : List ℕ) → differ w lines ≡ false
     → rows_in w (last_length (lines ++ last_line rest)) (map number_of (lines ++ last_line rest)) ≡ rows_of (lines ++ last_line rest)
 rows_again w [] [] d = refl
@@ -99,11 +100,11 @@ rows_again w (m ∷ []) (x ∷ r) d = row_before w m _ _ (same_length (length m 
 rows_again w (m ∷ n ∷ lines) rest d =
     let both = same_length (length m == w) (differ w (n ∷ lines)) d in row_before w m _ _ both.0 (rows_again w (n ∷ lines) rest both.1)
 
--- as many lines are kept as there are
+-- As many lines are kept as there are.
 pub counted : (t : Rows) (lines : List (List ℕ)) (rest : List ℕ) → HoldsLines t lines rest → line_count t ≡ length (lines ++ last_line rest)
 counted t lines rest h = ap length h.rows_are ∙ length-map (lines ++ last_line rest) number_of
 
--- what is kept of lines is their contents
+-- What is kept of lines are their contents.
 pub seen_is : (t : Rows) (lines : List (List ℕ)) (rest : List ℕ) → HoldsLines t lines rest → Cells (line_count t) t.first t.last (rows_seen t) ≡ contents_of lines rest
 seen_is t lines rest h =
     same_cells _ _ _ _ _ _ _ _ (counted t lines rest h) h.first_is h.last_is (rows t.differs refl)
@@ -122,12 +123,15 @@ seen_is t lines rest h =
 
 -- ---- lines that aren't too large
 
+-- A number that isn't above the largest side is at most that side.
 few : (n : ℕ) → nat_lt largest_side n ≡ false → n ≤ largest_side
 few n e = ltb-false largest_side n e
 
+-- The lines and a further one are not too many, and the further one isn't too long.
 abbrev pub Small : List (List ℕ) → List ℕ → Type 0
 Small lines line = (length lines + 1 ≤ largest_side) × (length line ≤ largest_side)
 
+-- Lines that are held with a rest are, with the rest, not too many, and the rest isn't too long.
 pub with_line : (t : Rows) (lines : List (List ℕ)) (x : ℕ) (r : List ℕ) → HoldsLines t lines (x ∷ r) → Small lines (x ∷ r)
 with_line t lines x r h =
     let tests : (nat_lt largest_side (length lines + 1) || (list_any long lines || long (x ∷ r))) ≡ false = rw (count_new lines (x ∷ r), any_last long lines (x ∷ r)) at h.small in
@@ -135,6 +139,7 @@ with_line t lines x r h =
     let more = or_cases (list_any long lines) (long (x ∷ r)) parts.1 in
     (few (length lines + 1) parts.0, few (length (x ∷ r)) more.1)
 
+-- Lines that are held without a rest are not too many, and as many are kept.
 pub without_line : (t : Rows) (lines : List (List ℕ)) → HoldsLines t lines [] → (length lines ≤ largest_side) × (line_count t ≡ length lines)
 without_line t lines h =
     let small : is_large lines ≡ false = rw (append-nil lines) at h.small in
@@ -143,20 +148,22 @@ without_line t lines h =
 
 -- ---- more characters
 
--- lines that aren't too large, and one more
+-- Lines that aren't too large become so by a further line if they are then too many or if that one is too long.
 large_line : (lines : List (List ℕ)) (line : List ℕ) → is_large lines ≡ false → is_large (lines ++ line ∷ []) ≡ (nat_lt largest_side (length lines + 1) || long line)
 large_line lines line e =
     let parts = or_cases (nat_lt largest_side (length lines)) (list_any long lines) e in
     rw (count_new lines line, any_last long lines line, parts.1) refl
 
+-- One of two tests passes if the second does.
 or_true : (a : Bool) → (a || true) ≡ true
 or_true true = refl
 or_true false = refl
 
+-- One of two tests passes if the first does.
 true_or : (a b : Bool) → a ≡ true → (a || b) ≡ true
 true_or a b e = rw e refl
 
--- no room for a new line
+-- Where as many lines are kept as the largest side, a new one makes them too large.
 pub begin_full : (t : Rows) (lines : List (List ℕ)) (more : List ℕ) → HoldsLines t lines [] → line_count t ≡ largest_side → 0 < length more
     → is_large (lines ++ last_line more) ≡ true
 begin_full t lines [] h full some = absurd (omega arith)
@@ -165,24 +172,27 @@ begin_full t lines (y ∷ ys) h full some =
     large_line lines (y ∷ ys) (rw (append-nil lines) at h.small)
     ∙ true_or (nat_lt largest_side (length lines + 1)) (long (y ∷ ys)) (lt-ltb largest_side (length lines + 1) (omega (arith, known.1, full)))
 
--- no room for a line that is too long
+-- A new line that is longer than the largest side makes the lines too large.
 pub begin_long : (t : Rows) (lines : List (List ℕ)) (more : List ℕ) → HoldsLines t lines [] → largest_side < length more → is_large (lines ++ last_line more) ≡ true
 begin_long t lines [] h full = absurd (omega arith)
 begin_long t lines (y ∷ ys) h full =
     large_line lines (y ∷ ys) (rw (append-nil lines) at h.small)
     ∙ or_right (nat_lt largest_side (length lines + 1)) (long (y ∷ ys)) (lt-ltb largest_side (length (y ∷ ys)) full)
 
+-- Where each of two tests fails, neither passes.
 false_both : (a b : Bool) → a ≡ false → b ≡ false → (a || b) ≡ false
 false_both a b e f = rw (e, f) refl
 
+-- Where there are no lines, none differs in length.
 differ_none : (lines : List (List ℕ)) (f g : ℕ) → length lines ≡ 0 → differ f lines ≡ differ g lines
 differ_none [] f g e = refl
 differ_none (l ∷ lines) f g e = absurd (omega arith)
 
+-- A number that is at most the largest side isn't above it.
 le_test : (m : ℕ) → m ≤ largest_side → nat_lt largest_side m ≡ false
 le_test m le = le-ltb largest_side m le
 
--- a new line
+-- Where there is room for a new line, the rows with its number are those of the lines with it.
 pub begin_done : (t s : Rows) (lines : List (List ℕ)) (more : List ℕ) → HoldsLines t lines [] → list_any is_foreign more ≡ false → 0 < length more
     → length more ≤ largest_side → line_count t ≢ largest_side → s.rows.items ≡ t.rows.items ++ number_of more ∷ []
     → (line_count t ≡ 0 → s.first ≡ length more) → (line_count t ≢ 0 → s.first ≡ t.first) → s.last ≡ length more → s.differs ≡ t.differs
@@ -213,17 +223,17 @@ begin_done t s lines (y ∷ ys) h cells some few room rows first_zero first_some
     same_differ true e c = differ_none lines t.first s.first (eqb-true (length lines) 0 e)
     same_differ false e c = ap (λ k. differ k lines) (sym (first_some (λ z. eqb-false (length lines) 0 e (sym c ∙ z))))
 
--- what is known of lines that are kept, and a last one
+-- Lines that, with a last one, aren't too large are not too many, and none of them is too long.
 with_last : (lines : List (List ℕ)) (line : List ℕ) → is_large (lines ++ line ∷ []) ≡ false → (nat_lt largest_side (length lines + 1) ≡ false) × (list_any long lines ≡ false)
 with_last lines line e =
     let tests : (nat_lt largest_side (length lines + 1) || (list_any long lines || long line)) ≡ false = rw (count_new lines line, any_last long lines line) at e in
     let parts = or_cases (nat_lt largest_side (length lines + 1)) (list_any long lines || long line) tests in (parts.0, (or_cases (list_any long lines) (long line) parts.1).0)
 
--- in a longer last line only its length is a new test
+-- When the last line becomes longer, only its length decides whether the lines are too large.
 large_longer : (lines : List (List ℕ)) (line longer : List ℕ) → is_large (lines ++ line ∷ []) ≡ false → is_large (lines ++ longer ∷ []) ≡ long longer
 large_longer lines line longer e = let parts = with_last lines line e in rw (count_new lines longer, any_last long lines longer, parts.0, parts.1) refl
 
--- no room in the last line
+-- Where there is no room in the last line, further characters make the lines too large.
 pub lengthen_full : (t : Rows) (lines : List (List ℕ)) (x : ℕ) (r more : List ℕ) → HoldsLines t lines (x ∷ r) → largest_side < t.last + length more
     → is_large (lines ++ last_line ((x ∷ r) ++ more)) ≡ true
 lengthen_full t lines x r more h full =
@@ -231,11 +241,11 @@ lengthen_full t lines x r more h full =
     large_longer lines (x ∷ r) ((x ∷ r) ++ more) h.small
     ∙ lt-ltb largest_side (length ((x ∷ r) ++ more)) (omega (arith, full, lasts, length-append (x ∷ r) more))
 
--- the rows with these bits more in the last one
+-- The rows have these bits added in the last of them.
 abbrev pub with_bits : Rows → ℕ → List ℕ
 with_bits t bits = set t.rows.items (line_count t - 1) (bit_or (get_or t.rows.items (line_count t - 1) 0) bits)
 
--- it is what a write through the slice leaves
+-- A write to the last row through the slice leaves the rows with these bits added.
 pub written : (t : Rows) (count bits : ℕ) (rows : List ℕ) → rows ≡ t.rows.items → count ≡ line_count t
     → refill (line_count t) t.rows.items (slice_set rows (count - 1) (bit_or (slice_index_or rows (count - 1) 0) bits)) ≡ with_bits t bits
 written t count bits rows e f = rw (e, f) (whole t.rows.items (with_bits t bits) (length-set t.rows.items (line_count t - 1) _))
@@ -243,7 +253,7 @@ written t count bits rows e f = rw (e, f) (whole t.rows.items (with_bits t bits)
     whole : (xs ys : List ℕ) → length ys ≡ length xs → refill (length xs) xs ys ≡ ys
     whole xs ys same = ap (λ n. take n (ys ++ drop (length ys) xs)) (sym same) ∙ take-append_seam ys (drop (length ys) xs)
 
--- the shift loses no bit
+-- Shifting the number of further characters to their columns loses no bit.
 pub shifted : (t : Rows) (lines : List (List ℕ)) (x : ℕ) (r more : List ℕ) (bits : ℕ) → HoldsLines t lines (x ∷ r) → t.last + length more ≤ largest_side
     → bits ≡ number_of more → bits * 2 ^ t.last % 2 ^ 128 ≡ number_of more * 2 ^ t.last
 shifted t lines x r more bits h room e =
@@ -253,7 +263,7 @@ shifted t lines x r more bits h room e =
     let small : number_of more * 2 ^ length line < 2 ^ 128 = omega (arith, number_more line more, number_small (line ++ more), pow_mono long) in
     ap (λ (k : ℕ). k * 2 ^ t.last % 2 ^ 128) e ∙ rw lasts (mod-eq_of_lt small)
 
--- they are those of the longer line
+-- The rows with the further characters' bits added are those of the lines with the last one longer.
 with_bits_are : (t : Rows) (lines : List (List ℕ)) (x : ℕ) (r more : List ℕ) → HoldsLines t lines (x ∷ r)
     → with_bits t (number_of more * 2 ^ t.last) ≡ map number_of (lines ++ ((x ∷ r) ++ more) ∷ [])
 with_bits_are t lines x r more h =
@@ -267,7 +277,8 @@ with_bits_are t lines x r more h =
     put_last [] line more = ap (λ n. n ∷ []) (number_put line more)
     put_last (l ∷ lines) line more = ap (λ k. number_of l ∷ k) (put_last lines line more)
 
--- more characters in the last line
+-- Where there is room in the last line, the rows with further characters
+-- are those of the lines with the last one longer.
 pub lengthen_done : (t s : Rows) (lines : List (List ℕ)) (x : ℕ) (r more : List ℕ) → HoldsLines t lines (x ∷ r) → list_any is_foreign more ≡ false
     → t.last + length more ≤ largest_side → s.rows.items ≡ with_bits t (number_of more * 2 ^ t.last) → (line_count t ≡ 1 → s.first ≡ t.last + length more)
     → (line_count t ≢ 1 → s.first ≡ t.first) → s.last ≡ t.last + length more → s.differs ≡ t.differs → HoldsLines s lines ((x ∷ r) ++ more)
@@ -301,7 +312,7 @@ lengthen_done t s lines x r more h cells room rows first_one first_other last di
     same_differ true e c = differ_none lines t.first s.first (eqb-true (length lines) 0 e)
     same_differ false e c = let some : length lines ≢ 0 = eqb-false (length lines) 0 e in ap (λ k. differ k lines) (sym (first_other (λ z. some (omega (arith, c, z)))))
 
--- the last line ends
+-- When the last line ends, the rows are those of the lines with it.
 pub end_holds : (t s : Rows) (lines : List (List ℕ)) (x : ℕ) (r : List ℕ) → HoldsLines t lines (x ∷ r) → s.rows ≡ t.rows → s.first ≡ t.first
     → s.last ≡ t.last → (t.last ≢ t.first → s.differs ≡ true) → (t.last ≡ t.first → s.differs ≡ t.differs) → HoldsLines s (lines ++ (x ∷ r) ∷ []) []
 end_holds t s lines x r h rows first last other same =
@@ -324,41 +335,45 @@ end_holds t s lines x r h rows first last other same =
 
 -- ---- where a new line begins
 
+-- Where a record has ended or has no line, a new line begins: there is no rest.
 pub begins : (t : Rows) (lines : List (List ℕ)) (rest : List ℕ) (e : Bool) → HoldsLines t lines rest → e ≡ is_ended lines rest → (e ≡ true) ⊎ (line_count t ≡ 0) → rest ≡ []
 begins t lines [] e h is why = refl
 begins t lines (x ∷ r) e h is (inl e1) = let never : true ≡ false = sym e1 ∙ is in cc
 begins t lines (x ∷ r) e h is (inr none) = (zero_lines lines (x ∷ r) (sym (counted t lines (x ∷ r) h) ∙ none)).1
 
+-- Where a record has lines and hasn't ended, its last line goes on: there is a rest.
 pub continues : (t : Rows) (lines : List (List ℕ)) (rest : List ℕ) (e : Bool) → HoldsLines t lines rest → e ≡ is_ended lines rest → e ≡ false → line_count t ≢ 0
     → (x : ℕ) × (r : List ℕ) × (rest ≡ x ∷ r)
 continues t lines (x ∷ r) e h is never some = (x, r, refl)
 continues t [] [] e h is never some = absurd (some (counted t [] [] h))
 continues t (l ∷ lines) [] e h is never some = let both : true ≡ false = sym is ∙ never in cc
 
--- a rest that isn't empty
+-- A rest that isn't empty can end as a line.
 pub some_rest : (t s : Rows) (lines : List (List ℕ)) (rest : List ℕ) → HoldsLines t lines rest → rest ≢ []
     → ((x : ℕ) (r : List ℕ) → HoldsLines t lines (x ∷ r) → HoldsLines s (lines ++ (x ∷ r) ∷ []) []) → HoldsLines s (lines ++ rest ∷ []) []
 some_rest t s lines [] h n f = absurd (n refl)
 some_rest t s lines (x ∷ r) h n f = f x r h
 
--- what stands open is kept: with no rest, or with one
+-- The rows are those of some lines and of a rest, which is empty or not.
 abbrev pub Held : Rows → Bool → Type 0
 Held t e = (lines : List (List ℕ)) × (rest : List ℕ) × HoldsLines t lines rest × (e ≡ is_ended lines rest)
 
+-- Where a record has ended or has no line, the rows are those of its lines alone.
 pub begun : (t : Rows) (e : Bool) → Held t e → (e ≡ true) ⊎ (line_count t ≡ 0) → (lines : List (List ℕ)) × HoldsLines t lines []
 begun t e held why = (held.0, subst (HoldsLines t held.0) (begins t held.0 held.1 e held.2 held.3 why) held.2)
 
+-- Where a record has lines and hasn't ended, the rows are those of its lines and a rest that isn't empty.
 pub lengthened : (t : Rows) (e : Bool) → Held t e → e ≡ false → line_count t ≢ 0 → (lines : List (List ℕ)) × (x : ℕ) × (rest : List ℕ) × HoldsLines t lines (x ∷ rest)
 lengthened t e held never some =
     let r = continues t held.0 held.1 e held.2 held.3 never some in (held.0, r.0, r.1, subst (HoldsLines t held.0) r.2 held.2)
 
 -- ---- whole lines
 
--- no line more
+-- No bytes are no whole lines.
 pub ends_none : (t : Rows) (lines : List (List ℕ)) → HoldsLines t lines [] → EndsLines t lines []
 ends_none t lines h = record { more = []; bytes_are = refl; full = tt; held = subst (λ (l : List (List ℕ)). HoldsLines t l []) (sym (append-nil lines)) h }
 
--- a line more
+-- Whole lines and one more, with its LF, are whole lines.
 pub ends_more : (t u : Rows) (lines : List (List ℕ)) (bytes line : List ℕ) → (e : EndsLines t lines bytes) → line ≢ [] → HasNoLf line
     → HoldsLines u ((lines ++ e.more) ++ line ∷ []) [] → EndsLines u lines (bytes ++ (line ++ lf ∷ []))
 ends_more t u lines bytes line e some no_lf held = record {
@@ -368,7 +383,7 @@ ends_more t u lines bytes line e some no_lf held = record {
   held = subst (λ (l : List (List ℕ)). HoldsLines u l []) (append_assoc lines e.more (line ∷ [])) held;
 }
 
--- the last byte is LF where there is a line
+-- Lines without a rest have ended with LF exactly if there are some.
 pub lines_end : (t : Rows) (lines : List (List ℕ)) (none : Bool) → HoldsLines t lines [] → (IsTrue none ↔ (line_count t ≡ 0)) → not none ≡ is_ended lines []
 lines_end t [] true h by = refl
 lines_end t [] false h by = let never : false ≡ true = by.1 (counted t [] [] h) in cc

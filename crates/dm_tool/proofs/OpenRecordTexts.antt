@@ -7,7 +7,7 @@ use Rattle.dm_tool.specs.RecordFacts.{RecordFacts, AreRecordFacts, contents_of, 
 use Rattle.dm_tool.proofs.Texts.{no_lf_append}
 use Rattle.dm_tool.proofs.RecordSteps.{character_facts, character_is, end_is, end_step, no_lines, nothing_lines}
 
--- no record
+-- The empty text has the facts of no lines.
 pub none_open : AreRecordFacts [] (facts_of_record [] [])
 none_open = record {
   lines = [];
@@ -16,12 +16,12 @@ none_open = record {
   facts_are = refl;
 }
 
--- what stands before what is more
+-- A byte after a text comes after the last of its parts.
 more_of : (text blank a rest : List ℕ) (b : ℕ) → text ≡ blank ++ (a ++ rest) → text ++ b ∷ [] ≡ blank ++ (a ++ (rest ++ b ∷ []))
 more_of text blank a rest b e =
     ap (λ l. l ++ b ∷ []) e ∙ append_assoc blank (a ++ rest) (b ∷ []) ∙ ap (λ l. blank ++ l) (append_assoc a rest (b ∷ []))
 
--- a character more
+-- A character that isn't LF makes the rest of the open record longer.
 pub grown_character : (text : List ℕ) (f g : RecordFacts) (lines : List (List ℕ)) (rest : List ℕ) (b : ℕ) → AreRecordFacts text f → b ≢ lf
     → f ≡ facts_of_record lines rest → g ≡ facts_of_record lines (rest ++ b ∷ []) → AreRecordFacts (text ++ b ∷ []) g
 grown_character text f g lines rest b known n e h =
@@ -39,7 +39,7 @@ grown_character text f g lines rest b known n e h =
       facts_are = h ∙ character_is lines rest b ∙ ap (λ k. character_facts k b) (sym e ∙ known.facts_are) ∙ sym (character_is known.lines known.rest b);
     }
 
--- more characters
+-- Characters that aren't LF make the rest of the open record longer.
 pub grown_characters : (text : List ℕ) (f g : RecordFacts) (lines : List (List ℕ)) (rest more : List ℕ) → AreRecordFacts text f → HasNoLf more
     → f ≡ facts_of_record lines rest → g ≡ facts_of_record lines (rest ++ more) → AreRecordFacts (text ++ more) g
 grown_characters text f g lines rest [] known n e h =
@@ -51,16 +51,16 @@ grown_characters text f g lines rest (b ∷ more) known n e h =
     (grown_characters (text ++ b ∷ []) (facts_of_record lines (rest ++ b ∷ [])) g lines (rest ++ b ∷ []) more one n.1 refl
     (h ∙ ap (facts_of_record lines) (sym (append_assoc rest (b ∷ []) more))))
 
--- the bytes of lines and one more
+-- Lines and one more, each followed by LF, are the lines followed by LF and then that line followed by LF.
 pub ended_more : (lines : List (List ℕ)) (line : List ℕ) → ended (lines ++ line ∷ []) ≡ ended lines ++ (line ++ lf ∷ [])
 ended_more lines line = flat_map-append (λ l. l ++ lf ∷ []) lines (line ∷ []) ∙ ap (λ l. ended lines ++ l) (append-nil (line ++ lf ∷ []))
 
--- lines that aren't empty and one more
+-- Full lines and one more full line are full lines.
 pub full_more : (lines : List (List ℕ)) (line : List ℕ) → AreFullLines lines → line ≢ [] → HasNoLf line → AreFullLines (lines ++ line ∷ [])
 full_more [] line h n k = ((n, k), tt)
 full_more (l ∷ lines) line h n k = (h.0, full_more lines line h.1 n k)
 
--- lines that stand with nothing before an LF
+-- An LF after a text whose facts are those of lines and a rest makes the rest a line.
 by_rest : (text : List ℕ) (f g : RecordFacts) (lines : List (List ℕ)) (x : ℕ) (r : List ℕ) (theirs : List (List ℕ)) (rest : List ℕ)
     → IsOpenRecord text theirs rest → f ≡ facts_of_record theirs rest → f ≡ facts_of_record lines (x ∷ r)
     → g ≡ facts_of_record (lines ++ (x ∷ r) ∷ []) [] → AreRecordFacts (text ++ lf ∷ []) g
@@ -83,12 +83,12 @@ by_rest text f g lines x r theirs (y ∷ s) old known e h = record {
       h ∙ end_is lines x r ∙ ap (λ k. let f : RecordFacts = record { ended = true; contents = end_step k.contents } in f) (sym e ∙ known) ∙ sym (end_is theirs y s);
 }
 
--- an LF more, after a line
+-- An LF after a line that is begun ends this line.
 pub grown_end : (text : List ℕ) (f g : RecordFacts) (lines : List (List ℕ)) (x : ℕ) (r : List ℕ) → AreRecordFacts text f
     → f ≡ facts_of_record lines (x ∷ r) → g ≡ facts_of_record (lines ++ (x ∷ r) ∷ []) [] → AreRecordFacts (text ++ lf ∷ []) g
 grown_end text f g lines x r known e h = by_rest text f g lines x r known.lines known.rest known.open_record known.facts_are e h
 
--- whole lines more
+-- Full lines, each followed by LF, after a text whose open record has no rest are further lines of that record.
 pub grown_lines : (text : List ℕ) (f : RecordFacts) (lines more : List (List ℕ)) → AreRecordFacts text f → f ≡ facts_of_record lines [] → AreFullLines more
     → AreRecordFacts (text ++ ended more) (facts_of_record (lines ++ more) [])
 grown_lines text f lines [] known e full =
@@ -104,11 +104,12 @@ grown_lines text f lines ((x ∷ r) ∷ more) known e full =
     subst (λ (l : List ℕ). AreRecordFacts l (facts_of_record (lines ++ (x ∷ r) ∷ more) [])) bytes
     (subst (λ (l : List (List ℕ)). AreRecordFacts (((text ++ x ∷ r) ++ lf ∷ []) ++ ended more) (facts_of_record l [])) (append_assoc lines ((x ∷ r) ∷ []) more) others)
 
+-- Bytes that are all LF stay so with one LF more.
 lfs_more : (blank : List ℕ) → AreLfs blank → AreLfs (blank ++ lf ∷ [])
 lfs_more [] h = (refl, tt)
 lfs_more (b ∷ blank) h = (h.0, lfs_more blank h.1)
 
--- an LF more, before all lines
+-- An LF before all lines of a record changes none of the facts.
 pub grown_blank : (text : List ℕ) (f : RecordFacts) → AreRecordFacts text f → no_lines f.contents ≡ true → AreRecordFacts (text ++ lf ∷ []) f
 grown_blank text f known none =
     let old = known.open_record in

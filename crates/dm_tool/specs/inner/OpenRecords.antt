@@ -10,44 +10,44 @@ use Rattle.dm_tool.specs.Texts.{ended, last_line}
 use Rattle.dm_tool.specs.Records.{AreFullLines, IsClosedRecord, has_foreign, is_foreign, is_large}
 use Rattle.dm_tool.specs.RecordFacts.{AreRecordFacts, RecordContents, RecordFacts, Foreign, Large, Cells, contents_of, facts_of_record, differ, first_length, last_length, is_nothing}
 
--- A character is a dark cell.
+-- A character is a dark cell if it is 1, which is 49.
 abbrev pub is_dark : ℕ → Bool
 is_dark b = b == 49
 
--- The digit of a character: 1 for a dark cell, 0 for a light one.
+-- The digit of a character is 1 for a dark cell and 0 for a light one.
 abbrev pub digit_of : ℕ → ℕ
 digit_of b = if is_dark b then 1 else 0
 
--- The number of a line: the digit of column c, counted from 0 at the left, has the weight 2^c.
+-- A line is kept as a number, in which the digit of column c, counted from 0 at the left, has the weight 2^c.
 abbrev pub number_of : List ℕ → ℕ
 number_of [] = 0
 number_of (b ∷ line) = digit_of b + 2 * number_of line
 
--- So many cells of a row that is a number, from the left.
+-- The first `width` cells of a row that is a number are read from it, from the left.
 abbrev pub cells_in : ℕ → ℕ → List Bool
 cells_in width row = map (is_dark_in row) (range_with_len 0 width)
 
--- The cells of rows: so many in each, but in the last one so many as are given for it.
+-- Rows of cells are read from numbers, `width` cells from each, but `last` cells from the last of them.
 abbrev pub rows_in : ℕ → ℕ → List ℕ → List (List Bool)
 rows_in width last [] = []
 rows_in width last (row ∷ []) = cells_in last row ∷ []
 rows_in width last (row ∷ next ∷ rows) = cells_in width row ∷ rows_in width last (next ∷ rows)
 
--- How many lines are kept.
+-- As many lines are kept as there are numbers.
 abbrev pub line_count : Rows → ℕ
 line_count t = length t.rows.items
 
--- The rows of cells, unless a line that is ended differs from the first.
+-- The rows of cells are seen unless a line that is ended differs in length from the first.
 abbrev pub rows_seen : Rows → Option (List (List Bool))
 rows_seen t = if t.differs then None else Some (rows_in t.first t.last t.rows.items)
 
--- The contents that are kept.
+-- The contents that are kept are seen as contents of a record.
 abbrev pub contents_seen : Contents → RecordContents
 contents_seen kept.Foreign = Foreign
 contents_seen kept.Large = Large
 contents_seen (kept.Cells t) = Cells (line_count t) t.first t.last (rows_seen t)
 
--- The rows are those of these lines and this rest, which are few, short and of 0 and 1 alone.
+-- The rows are kept of these lines and this rest, which are few, short and of 0 and 1 alone.
 pub record HoldsLines (t : Rows) (lines : List (List ℕ)) (rest : List ℕ) : Type 0 where
   pub rows_are : t.rows.items ≡ map number_of (lines ++ last_line rest)
   pub first_is : t.first ≡ first_length (lines ++ last_line rest)
@@ -64,7 +64,7 @@ pub record AreCells (characters : List ℕ) (front : Front) : Type 0 where
   pub few : front.count ≤ 128
   pub cells : list_any is_foreign characters ≡ false
 
--- The cells are those of the characters at the front of a text.
+-- The cells are those of the first characters of a text.
 pub record IsFrontOf (text : List ℕ) (front : Front) : Type 0 where
   pub within : front.count ≤ length text
   pub cells : AreCells (take front.count text) front
@@ -73,13 +73,13 @@ pub record IsFrontOf (text : List ℕ) (front : Front) : Type 0 where
 abbrev pub is_ended : List (List ℕ) → List ℕ → Bool
 is_ended lines rest = is_nothing rest && not (is_nothing lines)
 
--- The contents are those of lines and a rest.
+-- The contents are kept of these lines and this rest.
 abbrev pub AreContents : Contents → List (List ℕ) → List ℕ → Type 0
 AreContents kept.Foreign lines rest = contents_of lines rest ≡ Foreign
 AreContents kept.Large lines rest = contents_of lines rest ≡ Large
 AreContents (kept.Cells t) lines rest = HoldsLines t lines rest
 
--- A record is kept: there are lines and a rest that it is of.
+-- A record is kept: its contents are those of some lines and a rest, and it says whether LF came last.
 pub record IsRecordState (ended : Bool) (contents : Contents) : Type 0 where
   pub lines : List (List ℕ)
   pub rest : List ℕ
@@ -93,12 +93,12 @@ pub record EndsLines (t : Rows) (lines : List (List ℕ)) (bytes : List ℕ) : T
   pub full : AreFullLines more
   pub held : HoldsLines t (lines ++ more) []
 
--- Where there was room the rows are those of the lines and the rest, and else these are too many or too long.
+-- Where there was room, the rows are kept of the lines and the rest; otherwise these are too many or too long.
 abbrev pub Continues : Bool → Rows → List (List ℕ) → List ℕ → Type 0
 Continues true t lines rest = HoldsLines t lines rest
 Continues false t lines rest = is_large (lines ++ last_line rest) ≡ true
 
--- A text in which this record stands open, and the same text with the byte that closes it.
+-- A record stands open in a text, and the text with one more byte closes it.
 pub record EndsAt (before after : List ℕ) (facts : RecordFacts) : Type 0 where
   pub still_open : AreRecordFacts before facts
   pub lines : List (List ℕ)

@@ -13,12 +13,12 @@ not_not : (b : Bool) → not (not b) ≡ b
 not_not true = refl
 not_not false = refl
 
--- the lowest bit that is set, or 32, is how many characters stand before the first other one
+-- The number of the lowest bit that is set, or 32 if none is, is that of the characters before the first other one.
 lanes : (xs : List ℕ) → length xs ≡ 32
     → cond (eqb (mask_l (map other xs)) 0) 32 (count_trailing_zeros 64 (mask_l (map other xs))) ≡ prefix_len (λ b. eqb (bit_or b 1) 49) xs
 lanes xs long = first_set_mask_l other xs 32 long (omega arith) ∙ (λ i. prefix_len (λ b. not_not (eqb (bit_or b 1) 49) i) xs)
 
--- where a bit is set
+-- Where some bit is set, the number of the lowest one is that of its trailing zeros.
 some_set : (m : ℕ) → m ≢ 0 → count_trailing_zeros 64 m ≡ cond (eqb m 0) 32 (count_trailing_zeros 64 m)
 some_set m some = go (eqb m 0) refl
   where
