@@ -8,13 +8,13 @@ ghost use Rattle.dm_tool.specs.inner.OpenRecords.{AreCells, IsFrontOf, is_dark};
 
 use std::simd::prelude::*;
 
-/// So many characters are compared together: with LF a whole line of the smaller sizes.
+/// This many characters are compared together: with its LF, a whole line of the smaller sizes.
 const BLOCK: usize = 32;
 
-/// So many blocks may make a front: with LF a whole line of the largest size.
+/// This many blocks can make a front: with its LF, a whole line of the largest size.
 const MOST_BLOCKS: usize = 4;
 
-/// Some cells of a row, as characters 0 and 1 that follow on one another.
+/// Some cells of a row: characters 0 and 1 that follow one another.
 #[derive(Clone, Copy)]
 pub(crate) struct Front {
     /// The cell of the character `c`, counted from 0, is the bit of weight 2^c, 1 for dark.
@@ -35,8 +35,8 @@ impl Front {
         }
     }
 
-    /// The cells at the front of a text: those before the first other byte, or 128, or fewer near the end of the text. None where the
-    /// first byte is no cell, or where fewer than 32 bytes have come.
+    /// The cells at the front of a text: those before the first other byte, but at most 128, and fewer near the end
+    /// of the text. None where the first byte is no cell, or where fewer than 32 bytes have come.
     pub(crate) fn of_text(text: &[u8]) -> Option<Front>
         ensures { IfSome result (λ front. IsFrontOf text.now front) }
     {
@@ -74,7 +74,7 @@ impl Front {
         })
     }
 
-    /// These cells, and others after them.
+    /// These cells, with others after them.
     fn joined(self, next: Front) -> Front
         requires room { self.count + next.count ≤ 128 }
         requires some { (more : List ℕ) × AreCells more next }
@@ -95,7 +95,7 @@ fn dark_bits(block: u8x32) -> u64
     block.simd_eq(u8x32::splat(b'1')).to_bitmask()
 }
 
-/// How many characters 0 and 1 stand at the front of a block. They are the two that differ from 1 in the lowest bit at most.
+/// How many characters 0 and 1 stand at the front of a block. These two differ from 1 in the lowest bit at most.
 #[inline]
 fn front_count(block: u8x32) -> u32
     ensures { result ≡ prefix_len (λ b. bit_or b 1 == 49) block }

@@ -13,10 +13,10 @@ use crate::text::LF;
 use dm_symbol::Grid;
 use std::marker::Model;
 
-/// Why a record is no grid. Of several faults the first is given, over the whole record.
+/// Why a record is no grid. Of several faults in a record the first in this order is given.
 #[derive(Clone, Copy, Debug, PartialEq, Eq)]
 pub enum RecordFault {
-    /// A byte other than 0, 1 and LF stands in it.
+    /// A byte other than 0, 1 and LF stands in the record.
     Character,
     /// A line is longer than the largest side, or there are more lines than that.
     Large,
@@ -34,7 +34,7 @@ enum Contents {
     Cells(Rows),
 }
 
-/// A record whose end has not come, or none.
+/// A record whose end has not come yet, or none.
 #[derive(Drop)]
 pub(crate) struct OpenRecord {
     /// Its last byte is LF.
@@ -64,7 +64,7 @@ impl OpenRecord {
         }
     }
 
-    /// One more byte; whether it closes the record, which then stays as it is.
+    /// Takes one more byte, and says whether it closes the record, which then stays as it is.
     pub(crate) fn push(&mut self, byte: u8) -> bool
         ensures open { OnFalse result ((text : List ℕ) → AreRecordFacts text self.old → AreRecordFacts (text ++ byte ∷ []) self.new) }
         ensures same { OnTrue result (self.new ≡ self.old) }
@@ -82,8 +82,8 @@ impl OpenRecord {
         false
     }
 
-    /// More bytes, up to and with the first one that closes the record: how many stand before it, where one
-    /// does. The record is then as it was before that byte.
+    /// Takes more bytes, up to and with the first one that closes the record. Where one does, says how many stand
+    /// before it; the record is then as it was before that byte.
     pub(crate) fn take(&mut self, bytes: &[u8]) -> Option<usize>
         ensures open { IfNone result ((text : List ℕ) → AreRecordFacts text self.old → AreRecordFacts (text ++ bytes.now) self.new) }
         ensures within { IfSome result (λ end. end < length bytes.now) }
@@ -104,8 +104,8 @@ impl OpenRecord {
         None
     }
 
-    /// Takes whole lines at the front of some bytes, each with its LF at once: how many bytes they are. Where a line stands open, or the
-    /// record can be no grid any more, it takes none.
+    /// Takes the whole lines at the front of some bytes, each together with its LF, and says how many bytes they are.
+    /// Where a line stands open, or the record can't be a grid any more, it takes none.
     fn take_lines(&mut self, bytes: &[u8]) -> usize
         ensures within { result ≤ length bytes.now }
         ensures grown { (text : List ℕ) → AreRecordFacts text self.old → AreRecordFacts (text ++ take result bytes.now) self.new }
@@ -120,8 +120,8 @@ impl OpenRecord {
         0
     }
 
-    /// Takes cells at the front of some bytes together, and says how many. Where a foreign character stands in the record already it
-    /// takes none, since no cell changes anything then.
+    /// Takes the cells at the front of some bytes together, and says how many they are. Where a foreign character
+    /// already stands in the record it takes none, since cells change nothing then.
     fn take_cells(&mut self, bytes: &[u8]) -> usize
         ensures within { result ≤ length bytes.now }
         ensures grown { (text : List ℕ) → AreRecordFacts text self.old → AreRecordFacts (text ++ take result bytes.now) self.new }
@@ -136,7 +136,7 @@ impl OpenRecord {
         usize::from(front.count)
     }
 
-    /// Cells, in a new line where the last line is ended.
+    /// Takes cells, into a new line where the last line has ended.
     fn push_cells(&mut self, front: Front)
         requires { (characters : List ℕ) × AreCells characters front }
         ensures { (text characters : List ℕ) → AreRecordFacts text self.old → AreCells characters front → AreRecordFacts (text ++ characters) self.new }
@@ -150,7 +150,7 @@ impl OpenRecord {
         }
     }
 
-    /// A byte that is no LF.
+    /// Takes a byte that isn't LF.
     pub(crate) fn push_character(&mut self, byte: u8)
         requires { byte ≢ 10 }
         ensures { (text : List ℕ) → AreRecordFacts text self.old → AreRecordFacts (text ++ byte ∷ []) self.new }
@@ -163,7 +163,7 @@ impl OpenRecord {
         self.push_cells(Front::of_character(byte));
     }
 
-    /// An LF after a line, or before all lines.
+    /// Takes an LF after a line, or before all lines.
     fn end_line(&mut self)
         requires { self.old.ended ≡ false }
         ensures { (text : List ℕ) → AreRecordFacts text self.old → AreRecordFacts (text ++ 10 ∷ []) self.new }
@@ -191,7 +191,7 @@ impl OpenRecord {
         }
     }
 
-    /// The record ends, and none is open: its grid in a place that is handed in, or why it is none.
+    /// Ends the record, so that none is open: gives its grid, in a place that is handed in, or why it is none.
     pub(crate) fn close_to(&mut self, grid: &mut Grid) -> Result<(), RecordFault>
         ensures answer { (lines : List (List ℕ)) (rest : List ℕ) → self.old ≡ facts_of_record lines rest
             → outcome result grid.new ≡ record_of (lines ++ last_line rest) }
@@ -214,7 +214,7 @@ impl OpenRecord {
         }
     }
 
-    /// No record is open any more.
+    /// Clears the record, so that none is open.
     fn clear(&mut self)
         ensures { AreRecordFacts [] self.new }
     {

@@ -23,7 +23,7 @@ pub(crate) struct Rows {
     first: u16,
     /// How long the last line is.
     last: u16,
-    /// A line that is ended differs in length from the first.
+    /// Whether a line that has ended differs in length from the first.
     differs: bool,
 }
 
@@ -47,7 +47,8 @@ impl Rows {
         self.rows.is_empty()
     }
 
-    /// More cells, in a new line where the last line is ended; false where the lines are too many or too long then.
+    /// Takes more cells, into a new line where the last line has ended; false
+    /// where the lines are then too many or too long.
     pub(crate) fn push(&mut self, front: Front, ended: bool) -> bool
         requires cells { (characters : List ℕ) × AreCells characters front }
         requires lines { (lines : List (List ℕ)) × (rest : List ℕ) × HoldsLines self.old lines rest × (ended ≡ is_ended lines rest) }
@@ -61,7 +62,7 @@ impl Rows {
         }
     }
 
-    /// Cells in a new line; false where the lines are too many or too long then, and nothing changes.
+    /// Takes cells into a new line; false where the lines are then too many or too long, and nothing changes.
     fn begin_line(&mut self, front: Front) -> bool
         requires cells { (characters : List ℕ) × AreCells characters front }
         requires lines { (lines : List (List ℕ)) × HoldsLines self.old lines [] }
@@ -83,7 +84,7 @@ impl Rows {
         true
     }
 
-    /// More cells in the last line; false where it is too long then.
+    /// Takes more cells into the last line; false where it is then too long.
     fn lengthen_line(&mut self, front: Front) -> bool
         requires cells { (characters : List ℕ) × AreCells characters front }
         requires lines { (lines : List (List ℕ)) × (x : ℕ) × (rest : List ℕ) × HoldsLines self.old lines (x ∷ rest) }
@@ -103,7 +104,8 @@ impl Rows {
         true
     }
 
-    /// Takes the whole lines at the front of some bytes, each with its LF, as far as there is room for them: how many bytes they are.
+    /// Takes the whole lines at the front of some bytes, each with its LF, as
+    /// far as there is room for them, and says how many bytes they are.
     pub(crate) fn take_lines(&mut self, bytes: &[u8]) -> usize
         requires { (lines : List (List ℕ)) × HoldsLines self.old lines [] }
         ensures within { result ≤ length bytes.now }
@@ -120,7 +122,7 @@ impl Rows {
         at
     }
 
-    /// A whole line; false where the lines are too many or too long with it, and then nothing changes.
+    /// Takes a whole line; false where the lines are then too many or too long, and nothing changes.
     fn push_line(&mut self, line: Front) -> bool
         requires cells { (characters : List ℕ) × AreCells characters line }
         requires lines { (lines : List (List ℕ)) × HoldsLines self.old lines [] }
@@ -135,7 +137,7 @@ impl Rows {
         true
     }
 
-    /// The last line ends.
+    /// Ends the last line.
     pub(crate) fn end_line(&mut self)
         ensures { (lines : List (List ℕ)) (rest : List ℕ) → HoldsLines self.old lines rest → rest ≢ [] → HoldsLines self.new (lines ++ rest ∷ []) [] }
     {
@@ -159,7 +161,7 @@ impl Rows {
         }
     }
 
-    /// There is no line any more.
+    /// Clears the lines.
     pub(crate) fn clear(&mut self)
         ensures { HoldsLines self.new [] [] }
     {
