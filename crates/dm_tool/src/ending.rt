@@ -4,6 +4,21 @@ ghost use Rattle.dm_tool.specs.Endings.{IsEndingOf, IsEndingOfCall};
 
 use crate::task::{CallFault, RunFault, Tally};
 
+/// The line where a read failed.
+pub(crate) const READ_FAILED: &str = "dm_tool: read failed";
+
+/// The line where a write failed.
+pub(crate) const WRITE_FAILED: &str = "dm_tool: write failed";
+
+/// The line where there was more input than is read.
+pub(crate) const TOO_MUCH_INPUT: &str = "dm_tool: too much input";
+
+/// The line that shows how the program is called.
+pub(crate) const USAGE: &str = "dm_tool: usage: dm_tool read|check [--border N] | normal [--border N] [--shorter] | write [--shorter] | table";
+
+/// The line where memory was refused.
+pub(crate) const NO_MEMORY: &str = "dm_tool: no memory";
+
 /// The exit status after a run, and the line for standard error without its LF, empty where there
 /// is none.
 ///
@@ -14,9 +29,9 @@ pub fn ending(outcome: &Result<Tally, RunFault>) -> (u8, &'static str)
     match outcome {
         Ok(tally) if tally.refused == 0 => (0, ""),
         Ok(_) => (1, ""),
-        Err(RunFault::Read) => (3, "dm_tool: read failed"),
-        Err(RunFault::Write) => (3, "dm_tool: write failed"),
-        Err(RunFault::TooMuchInput) => (3, "dm_tool: too much input"),
+        Err(RunFault::Read) => (3, READ_FAILED),
+        Err(RunFault::Write) => (3, WRITE_FAILED),
+        Err(RunFault::TooMuchInput) => (3, TOO_MUCH_INPUT),
     }
 }
 
@@ -27,10 +42,7 @@ pub(crate) fn call_ending(fault: CallFault) -> (u8, &'static str)
     ensures { IsEndingOfCall fault result.0 result.1.now }
 {
     match fault {
-        CallFault::Usage => (
-            2,
-            "dm_tool: usage: dm_tool read|check [--border N] | normal [--border N] [--shorter] | write [--shorter] | table",
-        ),
-        CallFault::Memory => (3, "dm_tool: no memory"),
+        CallFault::Usage => (2, USAGE),
+        CallFault::Memory => (3, NO_MEMORY),
     }
 }

@@ -1,5 +1,6 @@
 //! What the program is asked to do, and what came of it.
 
+use crate::ending::{NO_MEMORY, READ_FAILED, TOO_MUCH_INPUT, USAGE, WRITE_FAILED};
 use dm_symbol::Profile;
 use thiserror::Error;
 
@@ -31,13 +32,13 @@ pub struct Tally {
 #[derive(Clone, Copy, Debug, PartialEq, Eq, Error)]
 pub enum RunFault {
     /// A read of the source failed.
-    #[error("dm_tool: read failed")]
+    #[error("{line}", line = READ_FAILED)]
     Read,
     /// A write or flush of the sink failed.
-    #[error("dm_tool: write failed")]
+    #[error("{line}", line = WRITE_FAILED)]
     Write,
     /// The source has more bytes than were to be read.
-    #[error("dm_tool: too much input")]
+    #[error("{line}", line = TOO_MUCH_INPUT)]
     TooMuchInput,
 }
 
@@ -45,9 +46,9 @@ pub enum RunFault {
 #[derive(Clone, Copy, Debug, PartialEq, Eq, Error)]
 pub enum CallFault {
     /// It isn't one that the program knows.
-    #[error("dm_tool: usage: dm_tool read|check [--border N] | normal [--border N] [--shorter] | write [--shorter] | table")]
+    #[error("{line}", line = USAGE)]
     Usage,
     /// There was no memory to parse it.
-    #[error("dm_tool: no memory")]
+    #[error("{line}", line = NO_MEMORY)]
     Memory,
 }
