@@ -157,6 +157,3 @@ fn differences(word: &[u8], other: &[u8]) -> u8
     }
     count
 }
-
-#[cfg(test)]
-mod tests;

@@ -48,6 +48,3 @@ fn divide(rest: &mut [u8; ROOM], count: usize, k: usize)
         add_scaled(&mut rest[place + 1..place + 1 + width], first, taps);
     }
 }
-
-#[cfg(test)]
-mod tests;

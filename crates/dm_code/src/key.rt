@@ -33,6 +33,3 @@ pub trait KeySolver {
         ensures least { IfSome result (λ key. IsLeastPair s.now t key.locator.items key.evaluator.items) }
         ensures none { IfNone result (NoPair s.now t) };
 }
-
-#[cfg(test)]
-mod tests;

@@ -39,6 +39,3 @@ pub use key::{Key, KeySolver};
 pub use limits::{LONGEST_WORD, MOST_COEFFICIENTS, MOST_ERRORS};
 pub use quick::Quick;
 pub use syndrome::syndromes;
-
-#[cfg(test)]
-mod samples;

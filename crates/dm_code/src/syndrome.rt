@@ -110,6 +110,3 @@ fn value_by_sixteens(front: Simd<u8, 16>, word: &[u8], exponent: u16) -> Gf
     }
     value_at(&lanes.to_array(), Gf::power_of_two(exponent))
 }
-
-#[cfg(test)]
-mod tests;

@@ -40,6 +40,3 @@ pub fn put_block(words: &mut Words, b: usize, list: &[u8])
         words.put(i * blocks + b, *word);
     }
 }
-
-#[cfg(test)]
-mod tests;

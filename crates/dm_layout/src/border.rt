@@ -146,6 +146,3 @@ pub(crate) fn draw_borders(grid: &mut Grid, size: Size)
         grid.set_cell(side - 2, side - 2, true);
     }
 }
-
-#[cfg(test)]
-mod tests;

@@ -84,6 +84,3 @@ impl Iterator for Cells {
         })
     }
 }
-
-#[cfg(test)]
-mod tests;

@@ -228,6 +228,3 @@ impl Eq for Grid {
 
     ghost laws = { grids_equiv };
 }
-
-#[cfg(test)]
-mod tests;

@@ -213,6 +213,3 @@ impl Size {
         self.limit
     }
 }
-
-#[cfg(test)]
-mod tests;

@@ -23,6 +23,3 @@ pub use normalising::{NormalFault, normal, normal_as, normal_to};
 pub use place::light_grid;
 pub use reading::{ReadFault, Reading, read, read_to};
 pub use writing::{write, write_as, write_to};
-
-#[cfg(test)]
-mod tests;

@@ -19,8 +19,6 @@ mod normal_form;
 mod pad;
 mod profile;
 mod reading;
-#[cfg(test)]
-mod tests;
 
 pub use dm_layout::MOST_DATA;
 pub use fault::{TooLong, WordFault};

@@ -88,6 +88,3 @@ impl Gf {
         LOGS[usize::from(self.0)]
     }
 }
-
-#[cfg(test)]
-mod tests;

@@ -34,6 +34,3 @@ pub fn taps(k: usize) -> &'static [u8; 80]
 {
     &TAP_ROWS[k]
 }
-
-#[cfg(test)]
-mod tests;

@@ -96,6 +96,3 @@ pub fn add_scaled(sum: &mut [u8], c: u8, list: &[u8])
         next.copy_to_slice(&mut sum[at..]);
     }
 }
-
-#[cfg(test)]
-mod tests;

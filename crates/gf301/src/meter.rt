@@ -39,6 +39,3 @@ impl Meter {
         a.inverse()
     }
 }
-
-#[cfg(test)]
-mod tests;

@@ -48,6 +48,3 @@ pub fn product_at(p: &[u8], q: &[u8], place: usize) -> Gf
     }
     sum
 }
-
-#[cfg(test)]
-mod tests;

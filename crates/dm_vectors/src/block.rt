@@ -1,0 +1,7 @@
+//! One Reed-Solomon block, and damage within its limit, at it and beyond it: `dm_code`.
+
+mod check_codewords;
+mod correction;
+mod samples;
+mod solvers;
+mod syndromes;

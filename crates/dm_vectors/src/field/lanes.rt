@@ -1,0 +1,35 @@
+//! Tests of the field in lanes.
+
+use gf301::{add_scaled, lanes_mul, power_row, powers, scaled};
+use std::simd::prelude::*;
+
+#[test]
+fn powers_and_products_of_sixteen_lanes(rt: HostRuntime) {
+    for (a, b, product) in [(66, 62, 122), (251, 111, 20), (0, 7, 0), (255, 1, 255)] {
+        let products = lanes_mul(u8x16::splat(a), u8x16::splat(b));
+        assert!(rt; products.to_array() == [product; 16], "{a} times {b}");
+    }
+    let first = [
+        1, 2, 4, 8, 16, 32, 64, 128, 45, 90, 180, 69, 138, 57, 114, 228,
+    ];
+    assert!(rt; powers(0) == first);
+    assert!(rt; powers(255) == first);
+    // 2^i times 2^(100 + i): another product in each lane
+    let products = lanes_mul(u8x16::from_array(first), u8x16::from_array(powers(100)));
+    assert!(rt;
+        products.to_array()
+            == [
+                106, 133, 78, 21, 84, 125, 217, 19, 76, 29, 116, 253, 131, 86, 117, 249
+            ]
+    );
+}
+
+#[test]
+fn multiples_of_sixteen_lanes_and_of_lists(rt: HostRuntime) {
+    assert!(rt; scaled(66, u8x16::splat(62)).to_array() == [122; 16]);
+    assert!(rt; scaled(251, u8x16::splat(111)).to_array() == [20; 16]);
+    assert!(rt; scaled(2, power_row(1, 0)).to_array() == powers(1));
+    let mut sum = [1; 32];
+    add_scaled(&mut sum, 66, &[62; 40]);
+    assert!(rt; sum == [1 ^ 122; 32]);
+}

@@ -1,0 +1,343 @@
+//! Codewords and the messages that they spell, or the faults with which they are refused: `dm_words`.
+
+ghost use Rattle.std.specs.Prelude.{◌≤◌};
+
+use arrayvec::ArrayVec;
+use dm_layout::Size;
+use dm_words::*;
+use std::test::*;
+
+mod shorter;
+
+/// Whether the codewords spell these items.
+fn spells(words: &[u8], items: &[Item]) -> bool {
+    if words.len() > MOST_DATA {
+        return false;
+    }
+    match message_of(words) {
+        Ok(message) => message.items() == items,
+        Err(_) => false,
+    }
+}
+
+/// Whether the codewords spell these bytes.
+fn spells_bytes(words: &[u8], bytes: &[u8]) -> bool {
+    if words.len() > MOST_DATA {
+        return false;
+    }
+    let Ok(message) = message_of(words) else {
+        return false;
+    };
+    let items = message.items();
+    items.len() == bytes.len()
+        && items
+            .iter()
+            .zip(bytes)
+            .all(|(item, byte)| *item == Item::Byte(*byte))
+}
+
+/// Whether the codewords are refused with this fault.
+fn is_refused(words: &[u8], fault: WordFault) -> bool {
+    words.len() <= MOST_DATA && message_of(words) == Err(fault)
+}
+
+/// Data codewords and the bytes that they spell.
+static SPELLED: [(&[u8], &[u8]); 46] = [
+    (&[], b""),
+    (&[1, 128], b"\x00\x7F"),
+    (&[130, 229], b"0099"),
+    (&[235, 128], b"\xFF"),
+    (&[129, 0, 255], b""),
+    (&[142, 52, 129], b"123"),
+    (&[230, 91, 11], b"AIM"),
+    (&[239, 91, 11], b"aim"),
+    (&[230, 91, 11, 91, 11, 91, 11, 66], b"AIMAIMAIMA"),
+    (&[230, 90, 241], b"AI"),
+    (&[230, 91, 11, 254, 66], b"AIMA"),
+    (&[230, 10, 255], b"\xC1"),
+    (&[230, 250, 0], b"ZZZ"),
+    (&[239, 12, 183], b"Aa"),
+    (&[230, 12, 183], b"aA"),
+    (&[230, 10, 254], b"\xB9"),
+    (&[230, 254, 66], b"A"),
+    (&[238, 0, 43], b"\r*>"),
+    (&[238, 91, 11, 254, 66], b"AIMA"),
+    (&[230], b""),
+    (&[230, 254], b""),
+    (&[230, 129], b""),
+    (&[230, 91], b"Z"),
+    (&[230, 91, 11, 91], b"AIMZ"),
+    (&[230, 91, 11, 230], b"AIM"),
+    (&[231, 45, 65], b"\x80"),
+    (&[231, 44, 65], b"\x80"),
+    (&[66, 231, 193], b"A"),
+    (&[231, 44], b""),
+    (&[142, 164, 186], b"123456"),
+    (&[66, 129, 70], b"A"),
+    (&[129, 175, 70], b""),
+    (&[66, 74, 78], b"AIM"),
+    (&[235, 66, 129], b"\xC1"),
+    (&[230, 19, 110], b" 09"),
+    (&[239, 19, 110], b" 09"),
+    (&[238, 19, 110], b" 09"),
+    (&[239, 93, 192], b"azz"),
+    (&[238, 93, 192], b"AZZ"),
+    (&[230, 0, 1, 194, 60], b"\x00\x1F  "),
+    (&[239, 0, 1, 194, 60], b"\x00\x1F  "),
+    (&[230, 6, 66, 87, 184, 9, 138, 137, 195], b"!/:@[_"),
+    (&[239, 6, 66, 87, 184, 9, 138, 137, 195], b"!/:@[_"),
+    (&[239, 10, 244], b"\xA0"),
+    (&[230, 12, 131, 194, 60], b"`\x7F  "),
+    (&[239, 12, 131, 6, 171, 16, 187, 194, 60], b"`AZ{\x7F  "),
+];
+
+#[test]
+fn reads_messages(rt: HostRuntime) {
+    for (words, bytes) in SPELLED {
+        assert!(rt; spells_bytes(words, bytes));
+    }
+    assert!(rt; spells(&[230, 10, 135], &[Item::Fnc1, Item::Byte(b'A')]));
+    assert!(rt; spells(&[239, 10, 124], &[Item::Fnc1, Item::Byte(b' ')]));
+    assert!(rt;
+        spells(
+            &[49, 232, 50],
+            &[Item::Byte(b'0'), Item::Fnc1, Item::Byte(b'1')]
+        )
+    );
+}
+
+/// Data codewords and the fault with which they are refused.
+static REFUSED: [(&[u8], WordFault); 46] = [
+    (&[66, 0], WordFault::Reserved(2)),
+    (&[242], WordFault::Reserved(1)),
+    (&[240, 66, 129], WordFault::LeftOut(240, 1)),
+    (&[235], WordFault::Unfinished(1)),
+    (&[66, 66, 235], WordFault::Unfinished(3)),
+    (&[235, 130, 129], WordFault::UpperShift(1)),
+    (&[230, 250, 1], WordFault::Triplet(2)),
+    (&[230, 0, 0], WordFault::Triplet(2)),
+    (&[230, 87, 199, 0, 0], WordFault::Triplet(4)),
+    (&[238, 0, 0], WordFault::Triplet(2)),
+    (&[230, 10, 161], WordFault::Value(2)),
+    (&[230, 10, 161, 0, 0], WordFault::Value(2)),
+    (&[230, 10, 242, 169, 60], WordFault::UpperShift(2)),
+    (&[230, 87, 199], WordFault::Unfinished(2)),
+    (&[230, 10, 241], WordFault::Unfinished(2)),
+    (&[239, 235], WordFault::Unfinished(2)),
+    (&[231, 47, 65], WordFault::Length(1)),
+    (&[66, 66, 231], WordFault::Length(3)),
+    (&[230, 91, 11, 231], WordFault::Length(4)),
+    (&[231], WordFault::Length(1)),
+    (&[231, 45], WordFault::Length(1)),
+    (&[233], WordFault::LeftOut(233, 1)),
+    (&[234], WordFault::LeftOut(234, 1)),
+    (&[236], WordFault::LeftOut(236, 1)),
+    (&[237], WordFault::LeftOut(237, 1)),
+    (&[241], WordFault::LeftOut(241, 1)),
+    (&[230, 5, 4], WordFault::Value(2)),
+    (&[239, 5, 4], WordFault::Value(2)),
+    (&[230, 10, 204], WordFault::Value(2)),
+    (&[230, 11, 28], WordFault::Value(2)),
+    (&[230, 11, 68], WordFault::Value(2)),
+    (&[239, 10, 164], WordFault::Value(2)),
+    (&[239, 10, 204], WordFault::Value(2)),
+    (&[239, 11, 28], WordFault::Value(2)),
+    (&[239, 11, 68], WordFault::Value(2)),
+    (&[230, 17, 132], WordFault::Value(2)),
+    (&[239, 17, 132], WordFault::Value(2)),
+    (&[230, 10, 242, 187, 252], WordFault::UpperShift(2)),
+    (&[230, 19, 58, 187, 199], WordFault::UpperShift(4)),
+    (&[230, 10, 242, 175, 124], WordFault::Value(4)),
+    (&[231, 37], WordFault::Length(1)),
+    (&[231, 38], WordFault::Length(1)),
+    (&[231, 38, 193], WordFault::Length(1)),
+    (&[231, 38, 194, 92], WordFault::Length(1)),
+    (&[231, 39, 193, 92], WordFault::Length(1)),
+    (&[66, 255], WordFault::Reserved(2)),
+];
+
+#[test]
+fn refuses_what_spells_no_message(rt: HostRuntime) {
+    for (words, fault) in REFUSED {
+        assert!(rt; is_refused(words, fault));
+    }
+    for codeword in 242..256u16 {
+        assert!(rt; is_refused(&[codeword as u8], WordFault::Reserved(1)));
+    }
+}
+
+/// Whether the ASCII codewords of these items, with pads up to the size of this side, are these.
+fn writes(items: &[Item], side: u16, expected: &[u8]) -> bool {
+    let Some(size) = Size::of_side(side) else {
+        return false;
+    };
+    let mut message = Message::new();
+    for item in items {
+        if message.push(*item).is_err() {
+            return false;
+        }
+    }
+    let Ok(words) = ascii_words(&message) else {
+        return false;
+    };
+    words.len() <= size.data_count() as usize
+        && padded(words.as_slice(), size).as_slice() == expected
+}
+
+#[test]
+fn writes_ascii(rt: HostRuntime) {
+    let rows: [(&[Item], &[u8]); 6] = [
+        (&[], &[129, 175, 70]),
+        (&[Item::Byte(b'A')], &[66, 129, 70]),
+        (&[Item::Byte(193)], &[235, 66, 129]),
+        (&[Item::Byte(128)], &[235, 1, 129]),
+        (&[Item::Byte(255)], &[235, 128, 129]),
+        (
+            &[Item::Byte(b'1'), Item::Byte(b'2'), Item::Byte(b'3')],
+            &[142, 52, 129],
+        ),
+    ];
+    for (items, words) in rows {
+        assert!(rt; writes(items, 10, words));
+    }
+    assert!(rt;
+        writes(
+            &[Item::Fnc1, Item::Byte(b'0'), Item::Byte(b'1')],
+            10,
+            &[232, 131, 129]
+        )
+    );
+    assert!(rt;
+        writes(
+            &[Item::Byte(b'0'), Item::Fnc1, Item::Byte(b'1')],
+            10,
+            &[49, 232, 50]
+        )
+    );
+    assert!(rt;
+        writes(
+            &[Item::Byte(b'1'), Item::Byte(b'2')],
+            12,
+            &[142, 129, 70, 220, 115]
+        )
+    );
+}
+
+#[test]
+fn fills_a_message(rt: HostRuntime) {
+    let mut digits = Message::new();
+    for _ in 0..MOST_ITEMS {
+        assert!(rt; digits.push(Item::Byte(b'7')).is_ok());
+    }
+    assert!(rt; digits.push(Item::Fnc1) == Err(Item::Fnc1));
+    assert!(rt; digits.items().len() == MOST_ITEMS);
+    let Ok(words) = ascii_words(&digits) else {
+        assert!(rt; false);
+        return;
+    };
+    assert!(rt; words.as_slice() == [207; 816].as_slice());
+    assert!(rt; message_of(words.as_slice()) == Ok(digits));
+}
+
+#[test]
+fn letters_take_a_codeword_each(rt: HostRuntime) {
+    for count in [204, 205, 816, 817] {
+        let mut letters = Message::new();
+        for _ in 0..count {
+            assert!(rt; letters.push(Item::Byte(b'A')).is_ok());
+        }
+        match ascii_words(&letters) {
+            Ok(words) => {
+                assert!(rt; count <= 816);
+                assert!(rt; words.len() == count);
+                assert!(rt; words.as_slice().iter().all(|word| *word == 66));
+            }
+            Err(TooLong) => assert!(rt; count == 817),
+        }
+    }
+}
+
+/// The codeword of a Base 256 value at a place.
+fn randomised(value: u8, place: u16) -> u8 {
+    ((value as u32 + (149 * place as u32) % 255 + 1) % 256) as u8
+}
+
+#[test]
+fn fills_a_segment(rt: HostRuntime) {
+    let mut words = [231u8; 204];
+    words[1] = randomised(202, 2);
+    for place in 3..205u16 {
+        words[place as usize - 1] = randomised(255, place);
+    }
+    assert!(rt; spells_bytes(&words, &[255; 202]));
+}
+
+/// A segment whose length takes two codewords, with pads behind it.
+#[test]
+fn a_length_of_two_codewords(rt: HostRuntime) {
+    let mut list = [231u8; 253];
+    list[1] = 38;
+    list[2] = 193;
+    for place in 4..254u16 {
+        list[place as usize - 1] = randomised(0, place);
+    }
+    assert!(rt; list[3] == 87);
+    let size = Size::of_side(64).expect(&rt, "side 64");
+    assert!(rt; size.data_count() == 280);
+    let words = padded(&list, size);
+    assert!(rt; words.as_slice()[253] == 129);
+    assert!(rt; spells_bytes(&words, &[0; 250]));
+    list[2] = 187;
+    let words = padded(&list, size);
+    assert!(rt; is_refused(&words, WordFault::Length(1)));
+}
+
+/// The largest symbol as one segment, and lengths that pass its end.
+#[test]
+fn the_longest_segment(rt: HostRuntime) {
+    let mut bytes = [0u8; 813];
+    let mut words = [231u8; 816];
+    for place in 4..817u16 {
+        bytes[place as usize - 4] = (place % 256) as u8;
+        words[place as usize - 1] = randomised((place % 256) as u8, place);
+    }
+    words[1] = 40;
+    words[2] = 0;
+    assert!(rt; spells_bytes(&words, &bytes));
+    words[2] = 1;
+    assert!(rt; is_refused(&words, WordFault::Length(1)));
+    words[1] = 41;
+    words[2] = 193;
+    assert!(rt; is_refused(&words, WordFault::Length(1)));
+}
+
+/// One place after the other holds what was written and read last, whatever stood there before.
+#[test]
+fn writes_and_reads_in_places(rt: HostRuntime) {
+    let mut words = ArrayVec::new();
+    let mut message = Message::new();
+    let mut read = Message::new();
+    for (text, expected) in [
+        (b"123456".as_slice(), [142, 164, 186, 129, 115].as_slice()),
+        (b"\x80\x80\x80", &[231, 47, 65, 215, 108]),
+        (b"A", &[66, 129, 70, 220, 115]),
+    ] {
+        message.clear();
+        for byte in text {
+            assert!(rt; message.push(Item::Byte(*byte)).is_ok());
+        }
+        assert!(rt; normal_words_to(Profile::Shorter, &message, &mut words).is_ok());
+        let size = Size::of_side(12).expect(&rt, "side 12");
+        assert!(rt; words.len() <= usize::from(size.data_count()));
+        add_pads(&mut words, size);
+        assert!(rt; words.as_slice() == expected);
+        assert!(rt; words.len() <= MOST_DATA);
+        assert!(rt; message_to(&words, &mut read).is_ok());
+        assert!(rt; read == message);
+    }
+    assert!(rt; message_to(&[240], &mut read) == Err(WordFault::LeftOut(240, 1)));
+    assert!(rt; normal_words_to(Profile::Ascii, &message, &mut words).is_ok());
+    assert!(rt; words.as_slice() == [66].as_slice());
+    assert!(rt; normal_words_to(Profile::Shorter, &message, &mut words).is_ok());
+    assert!(rt; words.as_slice() == [66].as_slice());
+}
