@@ -3,13 +3,13 @@ use Rattle.std.proofs.Common.{◌≡◌, ◌⊎◌, inl, inr, ℕ, zero, suc, �
 use Rattle.std.specs.Prelude.{max}
 use Rattle.std.specs.Int.{bit_at}
 use Rattle.std.specs.Int.RustNames.{bit_or}
-use Rattle.std.specs.Int.Bits.{or_shifted_r}
+use lib.Bits.{bit_and}
 use Rattle.std.proofs.Math.Bool.{or-false}
-use Rattle.std.proofs.Math.Nat.{mod-eq_of_lt, mul-le-mul_right, mul-le-mul}
+use Rattle.std.proofs.Math.Nat.{mod-eq_of_lt, mul-le-mul_right, div-div-eq-div-mul, div-mul-le_self, lt_of_mul-lt-mul_right}
 use Rattle.std.proofs.Math.Pow.{pow_pos, pow_mono}
 use Rattle.std.proofs.lemmas.Bool.{eqb-true, eqb-false, cases_lt}
-use Rattle.std.proofs.lemmas.Nat.{pow-add, mul-add-lt, div-mul-add, mod-mul-add, pow_below, or_lt}
-use Rattle.std.proofs.lemmas.Nat.Bits.{bit_at_cat_low, bit_at_cat_high, bit_at-lt, bit_at_or, bit_at_above}
+use Rattle.std.proofs.lemmas.Nat.{pow-add, mul-add-lt, div-mul-add, mod-mul-add, mod_below, div-add-mod', pow_below, or_lt, and_mask, and_le_l}
+use Rattle.std.proofs.lemmas.Nat.Bits.{bit_at_cat_low, bit_at_cat_high, bit_at-lt, bit_at-zero, bit_at_or, bit_at_above}
 use Rattle.dm_layout.specs.Sizes.{SizeRow}
 use Rattle.dm_layout.specs.Border.{symbol_line}
 use Rattle.dm_layout.specs.Grid.{is_dark_in, cell_at, kept_grid, IsKept}
@@ -134,28 +134,180 @@ module _ (inner d a outer : ℕ) (least : 8 ≤ d) (small : d < 128) (old : IsOu
           never i (inr z) r m = omega (arith, z, r, m)
 
 -- one more region
-pub out_more : (inner outer d a n : ℕ) → 8 ≤ d → a < n → n * d ≤ 96 → IsOut inner d a outer → IsOut inner d (a + 1) (bit_or outer (piece_of inner d a * 2 ^ (a * (d + 2) + 1) % 2 ^ 128))
+out_more : (inner outer d a n : ℕ) → 8 ≤ d → a < n → n * d ≤ 96 → IsOut inner d a outer → IsOut inner d (a + 1) (piece_of inner d a * 2 ^ (a * (d + 2) + 1) + outer)
 out_more inner outer d a n least l fits old =
     let k : ℕ = a * (d + 2) + 1 in
     let p : ℕ = piece_of inner d a in
     let m : (a + 1) * d ≤ n * d = mul-le-mul_right d (omega (arith, l)) in
     let t : (a + 1) * d ≡ a * d + d = omega arith in
     let small : d < 128 = omega (arith, m, t, fits) in
-    let eight_n : (a + 1) * 8 ≤ (a + 1) * d = mul-le-mul (omega arith) least in
-    let w : (a + 1) * (d + 2) ≡ (a + 1) * d + 2 * a + 2 = omega arith in
-    let u : (a + 1) * (d + 2) < 128 = omega (arith, w, m, fits, eight_n) in
     let ps = piece_small inner d a small in
     let nk = narrow_k inner d a outer least small old in
     let sum_small : p * 2 ^ k + outer < 2 ^ k * 2 ^ d = mul-add-lt p (2 ^ k) outer (2 ^ d) ps nk in
     let s2 : p * 2 ^ k + outer < 2 ^ (k + d) = subst (λ (i : ℕ). p * 2 ^ k + outer < i) (sym (pow-add 2 k d)) sum_small in
-    let kd : k + d ≤ (a + 1) * (d + 2) = omega arith in
-    let s3 : 2 ^ (k + d) ≤ 2 ^ ((a + 1) * (d + 2)) = pow_mono kd in
-    let s4 : 2 ^ ((a + 1) * (d + 2)) < 2 ^ 128 = pow_below ((a + 1) * (d + 2)) 128 u in
-    let f : p * 2 ^ k < 2 ^ 128 = omega (arith, s2, s3, s4) in
-    let e : bit_or outer (p * 2 ^ k % 2 ^ 128) ≡ p * 2 ^ k + outer = ap (bit_or outer) (mod-eq_of_lt f) ∙ or_shifted_r p k outer nk in
-    let nn : p * 2 ^ k + outer < 2 ^ ((a + 1) * (d + 2)) = omega (arith, s2, s3) in
+    let s3 : 2 ^ (k + d) ≤ 2 ^ ((a + 1) * (d + 2)) = pow_mono (omega arith) in
     record {
-      narrow = subst (λ (i : ℕ). i < 2 ^ ((a + 1) * (d + 2))) (sym e) nn;
-      mapped = λ c lc. ap (λ (i : ℕ). is_dark_in i (symbol_line d c)) e ∙ whole_mapped inner d a outer least small old c lc;
-      border = λ j x. ap (λ (i : ℕ). is_dark_in i j) e ∙ whole_border inner d a outer least small old j x;
+      narrow = omega (arith, s2, s3);
+      mapped = whole_mapped inner d a outer least small old;
+      border = whole_border inner d a outer least small old;
     }
+
+-- ---- a row whose borders are opened one after the other
+
+-- the first regions stand between their borders, and the rest of the row behind them
+pub record IsOpened (inner d a outer : ℕ) : Type 0 where
+  pub out : ℕ
+  pub is : IsOut inner d a out
+  pub sum : outer ≡ inner / 2 ^ (a * d) * 2 ^ (a * (d + 2) + 1) + out
+
+-- before the first region
+pub opened_first : (inner d n : ℕ) → n ≤ 96 → inner < 2 ^ n → IsOpened inner d 0 (inner * 2 % 2 ^ 128)
+opened_first inner d n most narrow =
+    let z : 0 * d ≡ 0 = omega arith in
+    let y : 0 * (d + 2) + 1 ≡ 1 = omega arith in
+    let o : inner / 1 ≡ inner = omega arith in
+    let e : inner * 2 ≡ inner * 2 + 0 = omega arith in
+    let m : 2 ^ n ≤ 2 ^ 96 = pow_mono most in
+    record {
+      out = 0;
+      is = record {
+        narrow = pow_pos (0 * (d + 2));
+        mapped = λ c l. absurd (omega (arith, l, z));
+        border = λ j e. ap (λ (i : ℕ). nat_eq i 1) (bit_at-zero j);
+      };
+      sum =
+          mod-eq_of_lt (omega (arith, m, narrow)) ∙ e ∙ ap (λ (i : ℕ). i * 2 + 0) (sym o) ∙ ap (λ (i : ℕ). inner / 2 ^ i * 2 + 0) (sym z) ∙ ap (λ (i : ℕ). inner / 2 ^ (0 * d) * 2 ^ i + 0) (sym y);
+    }
+
+-- what opens one more border: it takes no more than there is, it fits, and the next region stands between its borders
+pub record IsNext (inner d a outer left : ℕ) : Type 0 where
+  pub part : left ≤ outer
+  pub fits : left + (outer - left) * 4 % 2 ^ 128 < 2 ^ 128
+  pub next : IsOpened inner d (a + 1) (left + (outer - left) * 4 % 2 ^ 128)
+
+-- a number in three parts
+in_parts : (x y p d w outer out : ℕ) → x ≡ y * d + p → outer ≡ x * w + out → outer ≡ y * (w * d) + (p * w + out)
+in_parts x y p d w outer out e f = f ∙ ap (λ (i : ℕ). i * w + out) e ∙ same
+  where
+    same : (y * d + p) * w + out ≡ y * (w * d) + (p * w + out)
+    same = omega arith
+
+module _ (inner d a n outer front : ℕ) (least : 8 ≤ d) (few : n ≤ 4) (l : a + 1 < n) (most : n * d ≤ 96) (narrow : inner < 2 ^ (n * d)) (old : IsOpened inner d a outer) (is : front ≡ 2 ^ (a * (d + 2) + 1 + d) - 1) where
+  abbrev x : ℕ
+  x = inner / 2 ^ (a * d)
+
+  abbrev y : ℕ
+  y = x / 2 ^ d
+
+  abbrev q : ℕ
+  q = a * (d + 2) + 1
+
+  abbrev low : ℕ
+  low = x % 2 ^ d * 2 ^ q + old.out
+
+  wide : (a + 1) * d ≤ 96
+  wide = let m : (a + 1) * d ≤ n * d = mul-le-mul_right d (omega (arith, l)) in omega (arith, m, most)
+
+  small_d : d < 128
+  small_d = let w = wide in let t : (a + 1) * d ≡ a * d + d = omega arith in omega (arith, w, t)
+
+  low_small : low < 2 ^ (q + d)
+  low_small =
+      let nk = narrow_k inner d a old.out least small_d old.is in
+      let p = pow_pos d in
+      let r : x % 2 ^ d < 2 ^ d = mod_below x (2 ^ d) p in
+      subst (λ (i : ℕ). low < i) (sym (pow-add 2 q d)) (mul-add-lt (x % 2 ^ d) (2 ^ q) old.out (2 ^ d) r nk)
+
+  form : outer ≡ y * 2 ^ (q + d) + low
+  form = in_parts x y (x % 2 ^ d) (2 ^ d) (2 ^ q) outer old.out (sym (div-add-mod' x (2 ^ d))) old.sum ∙ ap (λ (i : ℕ). y * i + low) (sym (pow-add 2 q d))
+
+  left_is : bit_and outer front ≡ low
+  left_is = ap (bit_and outer) is ∙ and_mask outer (q + d) ∙ ap (λ (i : ℕ). i % 2 ^ (q + d)) form ∙ mod-mul-add y (2 ^ (q + d)) low low_small
+
+  y_is : y ≡ inner / 2 ^ ((a + 1) * d)
+  y_is =
+      let t : a * d + d ≡ (a + 1) * d = omega arith in
+      div-div-eq-div-mul inner (2 ^ (a * d)) (2 ^ d) ∙ ap (λ (i : ℕ). inner / i) (sym (pow-add 2 (a * d) d)) ∙ ap (λ (i : ℕ). inner / 2 ^ i) t
+
+  -- the rest, moved by two columns more
+  moved : (outer - bit_and outer front) * 4 ≡ y * 2 ^ ((a + 1) * (d + 2) + 1)
+  moved =
+      let t : q + d + 2 ≡ (a + 1) * (d + 2) + 1 = omega arith in
+      let r : outer - low ≡ y * 2 ^ (q + d) = rest outer low (y * 2 ^ (q + d)) form in
+      ap (λ (i : ℕ). (outer - i) * 4) left_is ∙ ap (λ (i : ℕ). i * 4) r ∙ four y (2 ^ (q + d)) ∙ ap (λ (i : ℕ). y * i) (sym (pow-add 2 (q + d) 2)) ∙ ap (λ (i : ℕ). y * 2 ^ i) t
+    where
+      rest : (o k t : ℕ) → o ≡ t + k → o - k ≡ t
+      rest o k t e = omega (arith, e)
+
+      four : (u v : ℕ) → u * v * 4 ≡ u * (v * 4)
+      four u v = omega arith
+
+  moved_small : y * 2 ^ ((a + 1) * (d + 2) + 1) < 2 ^ 120
+  moved_small =
+      let e : (a + 1) * d + (2 * a + 3) ≡ (a + 1) * (d + 2) + 1 = omega arith in
+      let u : y * 2 ^ ((a + 1) * d) ≤ inner = subst (λ (i : ℕ). i * 2 ^ ((a + 1) * d) ≤ inner) (sym y_is) (div-mul-le_self inner (2 ^ ((a + 1) * d))) in
+      let v : y * 2 ^ ((a + 1) * d) < 2 ^ (n * d) = omega (arith, u, narrow) in
+      let m = mul-add-lt (y * 2 ^ ((a + 1) * d)) (2 ^ (2 * a + 3)) 0 (2 ^ (n * d)) v (pow_pos (2 * a + 3)) in
+      let b : 2 ^ (2 * a + 3 + n * d) < 2 ^ 120 = pow_below (2 * a + 3 + n * d) 120 (omega (arith, most, l, few)) in
+      let g : 2 ^ (2 * a + 3) * 2 ^ (n * d) ≡ 2 ^ (2 * a + 3 + n * d) = sym (pow-add 2 (2 * a + 3) (n * d)) in
+      let h : y * 2 ^ ((a + 1) * (d + 2) + 1) ≡ y * 2 ^ ((a + 1) * d) * 2 ^ (2 * a + 3) =
+      ap (λ (i : ℕ). y * 2 ^ i) (sym e) ∙ ap (λ (i : ℕ). y * i) (pow-add 2 ((a + 1) * d) (2 * a + 3)) ∙ three y (2 ^ ((a + 1) * d)) (2 ^ (2 * a + 3)) in
+      below (y * 2 ^ ((a + 1) * (d + 2) + 1)) (y * 2 ^ ((a + 1) * d) * 2 ^ (2 * a + 3)) (2 ^ (2 * a + 3) * 2 ^ (n * d)) (2 ^ (2 * a + 3 + n * d)) (2 ^ 120) h m g b
+    where
+      three : (u v w : ℕ) → u * (v * w) ≡ u * v * w
+      three u v w = omega arith
+
+      below : (u v w t z : ℕ) → u ≡ v → v + 0 < w → w ≡ t → t < z → u < z
+      below u v w t z e f g h = omega (arith, e, f, g, h)
+
+  -- one more border is opened
+  pub opened_more : IsNext inner d a outer (bit_and outer front)
+  opened_more =
+      let s = moved_small in
+      let e = left_is in
+      let t : (outer - bit_and outer front) * 4 % 2 ^ 128 ≡ y * 2 ^ ((a + 1) * (d + 2) + 1) = ap (λ (i : ℕ). i % 2 ^ 128) moved ∙ mod-eq_of_lt (omega (arith, s)) in
+      let b : 2 ^ (q + d) < 2 ^ 120 = pow_below (q + d) 120 (let w = wide in omega (arith, w, l, few)) in
+      let ls = low_small in
+      record {
+        part = and_le_l outer front;
+        fits = below (bit_and outer front) low ((outer - bit_and outer front) * 4 % 2 ^ 128) (y * 2 ^ ((a + 1) * (d + 2) + 1)) (2 ^ (q + d)) e t ls b s;
+        next = record {
+          out = piece_of inner d a * 2 ^ q + old.out;
+          is = out_more inner old.out d a n least (omega (arith, l)) most old.is;
+          sum =
+              ap (λ (i : ℕ). i + (outer - bit_and outer front) * 4 % 2 ^ 128) left_is
+              ∙ ap (λ (i : ℕ). low + i) (t ∙ ap (λ (i : ℕ). i * 2 ^ ((a + 1) * (d + 2) + 1)) y_is)
+              ∙ ap (λ (i : ℕ). x % i * 2 ^ q + old.out + inner / 2 ^ ((a + 1) * d) * 2 ^ ((a + 1) * (d + 2) + 1)) (sym (weight d small_d))
+              ∙ turned (piece_of inner d a * 2 ^ q + old.out) (inner / 2 ^ ((a + 1) * d) * 2 ^ ((a + 1) * (d + 2) + 1));
+        };
+      }
+    where
+      below : (u v w t z : ℕ) → u ≡ v → w ≡ t → v < z → z < 2 ^ 120 → t < 2 ^ 120 → u + w < 2 ^ 128
+      below u v w t z e f g h k = omega (arith, e, f, g, h, k)
+
+      turned : (u v : ℕ) → u + v ≡ v + u
+      turned u v = omega arith
+
+-- all borders are opened
+pub opened_all : (inner d a n outer : ℕ) → 8 ≤ d → n ≡ a + 1 → n * d ≤ 96 → inner < 2 ^ (n * d) → IsOpened inner d a outer → IsOut inner d n outer
+opened_all inner d a n outer least en most narrow old =
+    let p0 = pow_pos (a * d) in
+    let x : ℕ = inner / 2 ^ (a * d) in
+    let t : n * d ≡ a * d + d = ap (λ (i : ℕ). i * d) en ∙ more in
+    let small : d < 128 = omega (arith, t, most) in
+    let m : x * 2 ^ (a * d) ≤ inner = div-mul-le_self inner (2 ^ (a * d)) in
+    let w : 2 ^ (n * d) ≡ 2 ^ d * 2 ^ (a * d) = ap (λ (i : ℕ). 2 ^ i) t ∙ pow-add 2 (a * d) d ∙ turned (2 ^ (a * d)) (2 ^ d) in
+    let lx : x < 2 ^ d = lt_of_mul-lt-mul_right (2 ^ (a * d)) (below (x * 2 ^ (a * d)) inner (2 ^ (n * d)) (2 ^ d * 2 ^ (a * d)) m narrow w) in
+    let px : x ≡ piece_of inner d a = sym (ap (λ (i : ℕ). x % i) (weight d small) ∙ mod-eq_of_lt lx) in
+    let e : outer ≡ piece_of inner d a * 2 ^ (a * (d + 2) + 1) + old.out = old.sum ∙ ap (λ (i : ℕ). i * 2 ^ (a * (d + 2) + 1) + old.out) px in
+    let l : a < n = omega (arith, en) in
+    subst (λ (i : ℕ). IsOut inner d i outer) (sym en) (subst (λ (i : ℕ). IsOut inner d (a + 1) i) (sym e) (out_more inner old.out d a n least l most old.is))
+  where
+    more : (a + 1) * d ≡ a * d + d
+    more = omega arith
+
+    turned : (u v : ℕ) → u * v ≡ v * u
+    turned u v = omega arith
+
+    below : (u v w t : ℕ) → u ≤ v → v < w → w ≡ t → u < t
+    below u v w t e f g = omega (arith, e, f, g)

@@ -41,7 +41,7 @@ found_row side s h =
 -- The numbers of a row pass a test of how they are related.
 abbrev pub row_test : SizeRow → Bool
 row_test s =
-    nat_le 1 (regions_across s) && nat_le 8 s.region_side && nat_eq (s.region_side % 2) 0
+    nat_le 1 (regions_across s) && nat_le (regions_across s) 4 && nat_le 8 s.region_side && nat_eq (s.region_side % 2) 0
     && nat_eq s.side (regions_across s * (s.region_side + 2)) && nat_eq s.mapping (regions_across s * s.region_side)
     && nat_le s.side largest_side && nat_le 1 s.blocks && nat_le (codeword_count s) most_codewords
     && nat_eq (s.blocks * block_length s) (codeword_count s) && nat_eq (s.blocks * block_data s) s.data_count
@@ -50,6 +50,7 @@ row_test s =
 -- The numbers of a size are related in these ways.
 pub record RowFacts (s : SizeRow) : Type 0 where
   pub across : 1 ≤ regions_across s
+  pub few : regions_across s ≤ 4
   pub least : 8 ≤ s.region_side
   pub even : s.region_side % 2 ≡ 0
   pub side : s.side ≡ regions_across s * (s.region_side + 2)
@@ -86,9 +87,11 @@ row_facts s h =
     let d = and_parts _ (nat_eq s.mapping (regions_across s * s.region_side)) e.0 in
     let c = and_parts _ (nat_eq s.side (regions_across s * (s.region_side + 2))) d.0 in
     let b = and_parts _ (nat_eq (s.region_side % 2) 0) c.0 in
-    let a = and_parts (nat_le 1 (regions_across s)) (nat_le 8 s.region_side) b.0 in
+    let a = and_parts (nat_le 1 (regions_across s) && nat_le (regions_across s) 4) (nat_le 8 s.region_side) b.0 in
+    let across = and_parts (nat_le 1 (regions_across s)) (nat_le (regions_across s) 4) a.0 in
     record {
-      across = leb-true _ _ a.0;
+      across = leb-true _ _ across.0;
+      few = leb-true _ _ across.1;
       least = leb-true _ _ a.1;
       even = eqb-true _ _ b.1;
       side = eqb-true _ _ c.1;

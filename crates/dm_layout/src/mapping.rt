@@ -1,6 +1,6 @@
 //! The mapping square as rows of bits, and the codewords in it.
 
-ghost use Rattle.std.specs.Prelude.{◌≡◌, ◌⊎◌, ℕ, ◌+◌, ◌*◌, ◌%◌, ◌^◌, ◌<◌, ◌≤◌, ◌&&◌, ◌||◌, nat_eq, false, true, get_or};
+ghost use Rattle.std.specs.Prelude.{◌≡◌, ◌⊎◌, ℕ, ◌+◌, ◌-◌, ◌*◌, ◌%◌, ◌^◌, ◌<◌, ◌≤◌, ◌&&◌, ◌||◌, nat_eq, false, true, get_or};
 ghost use Rattle.dm_layout.specs.Border.{mapped_cell, symbol_line, is_border, border_is_dark, is_fixed, is_fixed_dark};
 ghost use Rattle.dm_layout.specs.Grid.{IsGrid, cell_at, is_dark_in};
 ghost use Rattle.dm_layout.specs.Placement.{IsPlace};
@@ -32,18 +32,39 @@ pub(crate) fn paint(words: &Words, rows: &mut [u128; WIDENED])
     lay_slots(rows, &slots, mapping);
 }
 
-/// The row of the symbol in which a row of the mapping square lies between the borders of `across` regions.
-fn outer_row(inner: u128, region_side: u16, across: u16) -> u128
-    requires least { 8 ≤ region_side }
+/// The most regions that stand side by side, without the last one.
+const MOST_BEFORE_LAST: usize = 3;
+
+/// For each of `across` regions but the last, as bits: the columns of a row of the symbol left of the region's right border.
+fn fronts(region_side: u16, across: u16) -> [u128; MOST_BEFORE_LAST]
+    requires some { 1 ≤ across }
+    requires few { across ≤ 4 }
     requires fits { across * region_side ≤ largest_mapping }
+    ensures { (region : ℕ) → region + 1 < across → get_or result region 0 ≡ 2 ^ (region * (region_side + 2) + 1 + region_side) - 1 }
+{
+    let mut fronts = [0; MOST_BEFORE_LAST];
+    for region in 0..across - 1 {
+        fronts[region as usize] = (1 << (region * (region_side + 2) + 1 + region_side)) - 1;
+    }
+    fronts
+}
+
+/// The row of the symbol in which a row of the mapping square lies between the borders of `across` regions: after each region but the
+/// last, what lies to the right is moved by two columns.
+fn outer_row(inner: u128, region_side: u16, across: u16, fronts: &[u128; MOST_BEFORE_LAST]) -> u128
+    requires least { 8 ≤ region_side }
+    requires some { 1 ≤ across }
+    requires few { across ≤ 4 }
+    requires fits { across * region_side ≤ largest_mapping }
+    requires fronts { (region : ℕ) → region + 1 < across → get_or fronts.now region 0 ≡ 2 ^ (region * (region_side + 2) + 1 + region_side) - 1 }
     ensures mapped { (column : ℕ) → column < across * region_side → is_dark_in result (symbol_line region_side column) ≡ is_dark_in inner column }
     ensures border { (column : ℕ) → ((column % (region_side + 2) ≡ 0) ⊎ (column % (region_side + 2) ≡ region_side + 1)) → is_dark_in result column ≡ false }
     ensures width { result < 2 ^ (across * (region_side + 2)) }
 {
-    let mut outer = 0;
-    for region in 0..across {
-        let part = (inner >> (region * region_side)) % (1 << region_side);
-        outer |= part << (region * (region_side + 2) + 1);
+    let mut outer = (inner % (1 << (across * region_side))) << 1;
+    for region in 0..across - 1 {
+        let left = outer & fronts[region as usize];
+        outer = left + ((outer - left) << 2);
     }
     outer
 }
@@ -58,6 +79,7 @@ pub(crate) fn draw_rows(grid: &mut Grid, size: Size, rows: &[u128; WIDENED])
     let region_side = size.region_side();
     let mapping = size.mapping();
     let across = mapping / region_side;
+    let fronts = fronts(region_side, across);
     draw_borders(grid, size);
     let mut region = 0;
     let mut until = region_side;
@@ -66,7 +88,7 @@ pub(crate) fn draw_rows(grid: &mut Grid, size: Size, rows: &[u128; WIDENED])
             region += 1;
             until += region_side;
         }
-        let cells = outer_row(rows[line as usize + 2] >> 4, region_side, across);
+        let cells = outer_row(rows[line as usize + 2] >> 4, region_side, across, &fronts);
         grid.darken(line + 2 * region + 1, cells);
     }
 }
