@@ -100,6 +100,25 @@ cut_more inner row d a n least l fits narrow so_far =
       so_far = λ c lc. ap (λ (i : ℕ). is_dark_in i c) x.is_sum ∙ one_more inner row d a least small narrow so_far c lc;
     }
 
+-- the first region
+pub cut_first : (row d n : ℕ) → 8 ≤ d → 1 ≤ n → n * d ≤ 96 → IsCut row d 1 (row / 2 ^ 1 % (1 * 2 ^ d % 2 ^ 128))
+cut_first row d n least some fits =
+    let m : 1 * d ≤ n * d = mul-le-mul_right d some in
+    let small : d < 128 = omega (arith, m, fits) in
+    let z : 1 * d ≡ d = omega arith in
+    let w : row / 2 ^ 1 % (1 * 2 ^ d % 2 ^ 128) < 2 ^ d = below (row / 2 ^ 1) (1 * 2 ^ d % 2 ^ 128) (2 ^ d) (weight d small) (pow_pos d) in
+    record {
+      narrow = subst (λ (i : ℕ). row / 2 ^ 1 % (1 * 2 ^ d % 2 ^ 128) < 2 ^ i) (sym z) w;
+      so_far = λ c lc.
+          let l : c < d = omega arith in
+          let q : c / d ≡ 0 = ap (λ (i : ℕ). i / d) (omega arith) ∙ div-mul-add 0 d c l in
+          let line : 1 + c ≡ symbol_line d c = omega (arith, q) in
+          front_cell (row / 2 ^ 1) d c small l ∙ ap (λ (i : ℕ). nat_eq i 1) (moved_bit row 1 c) ∙ ap (is_dark_in row) line;
+    }
+  where
+    below : (x m n : ℕ) → m ≡ n → 0 < n → x % m < n
+    below x m n e p = omega arith
+
 -- ---- the loops
 
 -- one more line of a grid

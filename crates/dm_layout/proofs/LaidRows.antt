@@ -82,7 +82,7 @@ part_of bits first low count c = nat_le first c && (nat_lt ((c - first) % 8) cou
 -- masked bits that are moved to the left
 pub part_up : (bits : ℕ → Bool) (mask x low count s c : ℕ) → ((i : ℕ) → i < 128 → is_dark_in mask i ≡ nat_lt (i % 8) count) → ((i : ℕ) → i < 128 → is_dark_in x i ≡ bits i) → low + count ≤ 8 → 2 ≤ s → c < 128 →
     is_dark_in (bit_and (x / 2 ^ low) mask * 2 ^ s % 2 ^ 128) c ≡ part_of bits s low count c
-part_up bits mask x low count s c masked same fits two l = masked_up mask count (x / 2 ^ low) s c masked l ∙ by_column (cases_lt c s)
+part_up bits mask x low count s c masked same fits two l = masked_up 128 mask count (x / 2 ^ low) s c masked l ∙ by_column (cases_lt c s)
   where
     swapped : (a b d : Bool) → (b ≡ true → a ≡ d) → (a && b) ≡ (b && d)
     swapped true true d h = h refl

@@ -53,12 +53,12 @@ pub low_bit : (x n c : ℕ) → c < n → is_dark_in (x % 2 ^ n) c ≡ is_dark_i
 low_bit x n c l =
     ap (λ (i : ℕ). nat_eq i 1) (sym (bit_at_cat_low (x / 2 ^ n) n (x % 2 ^ n) c l)) ∙ ap (λ (i : ℕ). is_dark_in i c) (div-add-mod' x (2 ^ n))
 
--- a row that is moved to the left and then to the right by 4
-pub moved_both : (x s c : ℕ) → c < 124 → s ≤ c + 4 → is_dark_in (x * 2 ^ s % 2 ^ 128 / 16) c ≡ is_dark_in x (c + 4 - s)
-moved_both x s c l h =
+-- a row of some width that is moved to the left and then to the right by 4
+pub moved_both : (width x s c : ℕ) → c + 4 < width → s ≤ c + 4 → is_dark_in (x * 2 ^ s % 2 ^ width / 16) c ≡ is_dark_in x (c + 4 - s)
+moved_both width x s c l h =
     let e : 4 + c ≡ s + (c + 4 - s) = omega arith in
-    ap (λ (i : ℕ). nat_eq i 1) (moved_bit (x * 2 ^ s % 2 ^ 128) 4 c)
-    ∙ low_bit (x * 2 ^ s) 128 (4 + c) (omega arith)
+    ap (λ (i : ℕ). nat_eq i 1) (moved_bit (x * 2 ^ s % 2 ^ width) 4 c)
+    ∙ low_bit (x * 2 ^ s) width (4 + c) (omega arith)
     ∙ ap (is_dark_in (x * 2 ^ s)) e
     ∙ bit_up x s (c + 4 - s)
 
@@ -107,36 +107,26 @@ same_region row region d until r u e lo hi ne er eu =
     record { ends = omega (arith, a, e, eu); begun = omega (arith, b, lo); within = omega (arith, hi, ne, eu) }
 
 -- one more row of the square
-pub moved_more : (n row x : ℕ) (look : ℕ → ℕ → Bool) (rows : List ℕ) → n ≤ 96 → row + 2 < length rows → x < 2 ^ n → ((c : ℕ) → c < n → is_dark_in x c ≡ look row c) →
+pub moved_more : (n row x : ℕ) (look : ℕ → ℕ → Bool) (rows : List ℕ) → row + 2 < length rows → x < 2 ^ n → ((c : ℕ) → c < n → is_dark_in x c ≡ look row c) →
     ((r c : ℕ) → r < row → c < n → look_in rows (r + 2) (c + 4) ≡ look r c) → ((r c : ℕ) → c < 4 → look_in rows r c ≡ false) → ((r c : ℕ) → n + 4 ≤ c → look_in rows r c ≡ false) →
-    ((r c : ℕ) → r < row + 1 → c < n → look_in (set rows (row + 2) (x * 16 % 2 ^ 128)) (r + 2) (c + 4) ≡ look r c)
-    × ((r c : ℕ) → c < 4 → look_in (set rows (row + 2) (x * 16 % 2 ^ 128)) r c ≡ false)
-    × ((r c : ℕ) → n + 4 ≤ c → look_in (set rows (row + 2) (x * 16 % 2 ^ 128)) r c ≡ false)
-moved_more n row x look rows most l narrow cells inside left right = (
+    ((r c : ℕ) → r < row + 1 → c < n → look_in (set rows (row + 2) (x * 16)) (r + 2) (c + 4) ≡ look r c)
+    × ((r c : ℕ) → c < 4 → look_in (set rows (row + 2) (x * 16)) r c ≡ false)
+    × ((r c : ℕ) → n + 4 ≤ c → look_in (set rows (row + 2) (x * 16)) r c ≡ false)
+moved_more n row x look rows l narrow cells inside left right = (
   λ r c lr lc.
-      look_set (λ b. b ≡ look r c) rows (row + 2) y (r + 2) (c + 4) l
+      look_set (λ b. b ≡ look r c) rows (row + 2) (x * 16) (r + 2) (c + 4) l
       (λ e.
       let er : row ≡ r = omega arith in
       let four : c + 4 ≡ 4 + c = omega arith in
-      ap (is_dark_in y) four ∙ low_bit (x * 16) 128 (4 + c) (omega arith) ∙ bit_up x 4 c ∙ cells c lc ∙ ap (λ (i : ℕ). look i c) er)
+      ap (is_dark_in (x * 16)) four ∙ bit_up x 4 c ∙ cells c lc ∙ ap (λ (i : ℕ). look i c) er)
       (λ ne. inside r c (omega arith) lc),
+  λ r c lc. look_set (λ b. b ≡ false) rows (row + 2) (x * 16) r c l (λ e. none_up x 4 c lc) (λ ne. left r c lc),
   λ r c lc.
-      look_set (λ b. b ≡ false) rows (row + 2) y r c l (λ e. low_bit (x * 16) 128 c (omega arith) ∙ none_up x 4 c lc) (λ ne. left r c lc),
-  λ r c lc.
-      look_set (λ b. b ≡ false) rows (row + 2) y r c l (λ e. ap (λ (i : ℕ). nat_eq i 1) (bit_at_above y (n + 4) c small lc)) (λ ne. right r c lc),
+      look_set (λ b. b ≡ false) rows (row + 2) (x * 16) r c l (λ e. ap (λ (i : ℕ). nat_eq i 1) (bit_at_above (x * 16) (n + 4) c small lc)) (λ ne. right r c lc),
 )
   where
-    y : ℕ
-    y = x * 16 % 2 ^ 128
-
-    small : x * 16 % 2 ^ 128 < 2 ^ (n + 4)
-    small =
-        let p : 2 ^ (n + 4) ≡ 2 ^ n * 2 ^ 4 = pow-add 2 n 4 in
-        let m : x * 16 % 2 ^ 128 ≤ x * 16 = by_mod (x * 16) (2 ^ 128) (pow_pos 128) in
-        omega (arith, p, m, narrow)
-      where
-        by_mod : (a b : ℕ) → 0 < b → a % b ≤ a
-        by_mod a b h = omega arith
+    small : x * 16 < 2 ^ (n + 4)
+    small = let p : 2 ^ (n + 4) ≡ 2 ^ n * 2 ^ 4 = pow-add 2 n 4 in omega (arith, p, narrow)
 
 -- ---- the columns left of the square
 
@@ -195,16 +185,16 @@ wrap_more olds rows n shift row least small inside width so_far r c =
 
 -- ---- the rows above the square
 
--- a row of those above
-pub row_above : (rows : List ℕ) (n shift r c : ℕ) → 8 ≤ n → 2 < length rows → r < 2 → c < 124 → shift ≤ c + 4 →
-    look_in (set (set rows 0 (get_or rows n 0 * 2 ^ shift % 2 ^ 128 / 16)) 1 (get_or (set rows 0 (get_or rows n 0 * 2 ^ shift % 2 ^ 128 / 16)) (n + 1) 0 * 2 ^ shift % 2 ^ 128 / 16)) r c ≡ look_in rows (r + n) (c + 4 - shift)
-row_above rows n shift r c least long l lc h = by_row (nat_eq r 0) refl
+-- a row of those above, where two rows of some width are put
+pub row_above : (width : ℕ) (rows : List ℕ) (n shift r c : ℕ) → 8 ≤ n → 2 < length rows → r < 2 → c + 4 < width → shift ≤ c + 4 →
+    look_in (set (set rows 0 (get_or rows n 0 * 2 ^ shift % 2 ^ width / 16)) 1 (get_or (set rows 0 (get_or rows n 0 * 2 ^ shift % 2 ^ width / 16)) (n + 1) 0 * 2 ^ shift % 2 ^ width / 16)) r c ≡ look_in rows (r + n) (c + 4 - shift)
+row_above width rows n shift r c least long l lc h = by_row (nat_eq r 0) refl
   where
     x : ℕ
-    x = get_or rows n 0 * 2 ^ shift % 2 ^ 128 / 16
+    x = get_or rows n 0 * 2 ^ shift % 2 ^ width / 16
 
     y : ℕ
-    y = get_or (set rows 0 x) (n + 1) 0 * 2 ^ shift % 2 ^ 128 / 16
+    y = get_or (set rows 0 x) (n + 1) 0 * 2 ^ shift % 2 ^ width / 16
 
     length_set : length (set rows 0 x) ≡ length rows
     length_set = simp Rattle.std.proofs.lemmas.List.length-set
@@ -216,7 +206,7 @@ row_above rows n shift r c least long l lc h = by_row (nat_eq r 0) refl
         let s : n ≡ r + n = omega (arith, er) in
         ap (λ (i : ℕ). look_in (set (set rows 0 x) 1 y) i c) er
         ∙ ap (λ (i : ℕ). is_dark_in i c) (get_or-set_other (set rows 0 x) 1 0 y 0 ne ∙ get_or-set_same rows 0 x 0 (omega arith))
-        ∙ moved_both (get_or rows n 0) shift c lc h
+        ∙ moved_both width (get_or rows n 0) shift c lc h
         ∙ ap (λ (i : ℕ). look_in rows i (c + 4 - shift)) s
     by_row false e =
         let nz : r ≢ 0 = eqb-false r 0 e in
@@ -225,18 +215,18 @@ row_above rows n shift r c least long l lc h = by_row (nat_eq r 0) refl
         let s : n + 1 ≡ r + n = omega (arith, er) in
         ap (λ (i : ℕ). look_in (set (set rows 0 x) 1 y) i c) er
         ∙ ap (λ (i : ℕ). is_dark_in i c) (get_or-set_same (set rows 0 x) 1 y 0 (omega (arith, length_set)))
-        ∙ moved_both (get_or (set rows 0 x) (n + 1) 0) shift c lc h
+        ∙ moved_both width (get_or (set rows 0 x) (n + 1) 0) shift c lc h
         ∙ ap (λ (i : ℕ). is_dark_in i (c + 4 - shift)) (get_or-set_other rows 0 (n + 1) x 0 ne)
         ∙ ap (λ (i : ℕ). look_in rows i (c + 4 - shift)) s
 
 -- ---- all together
 
 -- the square with columns to its left and rows above
-pub is_widened : (n : ℕ) (look : ℕ → ℕ → Bool) (olds mids news : List ℕ) → 8 ≤ n → n ≤ 96 → IsMoved n look olds →
+pub is_widened : (n : ℕ) (look : ℕ → ℕ → Bool) (olds mids news : List ℕ) → 8 ≤ n → IsMoved n look olds →
     ((r c : ℕ) → look_in mids r c ≡ wrapped_left olds n ((n + 4) % 8) (n + 2) r c) →
-    ((r c : ℕ) → r < 2 → c < 124 → (n + 4) % 8 ≤ c + 4 → look_in news r c ≡ look_in mids (r + n) (c + 4 - (n + 4) % 8)) →
+    ((r c : ℕ) → r < 2 → c < n + 4 → (n + 4) % 8 ≤ c + 4 → look_in news r c ≡ look_in mids (r + n) (c + 4 - (n + 4) % 8)) →
     ((r c : ℕ) → 2 ≤ r → look_in news r c ≡ look_in mids r c) → IsWidened n look news
-is_widened n look olds mids news least most moved wrapped above others = record {
+is_widened n look olds mids news least moved wrapped above others = record {
   inside = λ r c lr lc. others (r + 2) (c + 4) (omega arith) ∙ mid_inside r c lr lc;
   left = λ r c lo hi lc ls li. others r c lo ∙ mid_left r c lo hi lc ls li;
   above = λ r c lr lc ls li.

@@ -8,6 +8,7 @@
 //! defined in `specs/`; [`laws`] states what holds of these definitions. No call allocates memory.
 #![tactic(auto)]
 
+mod bit_rows;
 mod blocks;
 mod border;
 mod cells;

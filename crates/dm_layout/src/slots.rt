@@ -2,16 +2,15 @@
 //!
 //! The anchors of a row stand every eighth column, so that the codewords of a row are the bytes of one number.
 
-ghost use Rattle.std.specs.Prelude.{◌≡◌, ℕ, ◌+◌, ◌*◌, ◌/◌, ◌%◌, ◌<◌, ◌≤◌, ◌&&◌, ◌||◌, nat_le, nat_lt, get_or, List, []};
-ghost use Rattle.dm_layout.specs.Grid.{is_dark_in};
+ghost use Rattle.std.specs.Prelude.{◌≡◌, ◌+◌, ◌%◌, ◌≤◌, length};
 ghost use Rattle.dm_layout.specs.Placement.{cells_of};
-ghost use Rattle.dm_layout.specs.inner.Slots.{is_joined, reversed_bits, word_in, order_of, slot_byte, HasSlots};
+ghost use Rattle.dm_layout.specs.inner.Slots.{reversed_bits, word_in, order_of, slot_word, AreJoined, HasSlot};
 ghost use Rattle.dm_layout.specs.inner.Walking.{CellsInside, largest_mapping};
 ghost use Rattle.dm_layout.specs.declared.shape.Shape.TheVariants.{Corner1, Corner2};
 
+use crate::bit_rows::BitRows;
 use crate::order_rows::*;
 use crate::shape::{Cell, LARGEST_MAPPING, Shape};
-use crate::widened::WIDENED;
 
 /// The lowest two bits of each byte.
 pub(crate) const TWO: u128 = 0x0303_0303_0303_0303_0303_0303_0303_0303;
@@ -19,12 +18,8 @@ pub(crate) const TWO: u128 = 0x0303_0303_0303_0303_0303_0303_0303_0303;
 /// The lowest three bits of each byte.
 pub(crate) const THREE: u128 = 0x0707_0707_0707_0707_0707_0707_0707_0707;
 
-/// For each row of the mapping square the codewords of its anchors, in two numbers of eight, and behind them all that of a corner; each
-/// has its bits in the opposite order.
-pub(crate) type Slots = [u64; SLOTS];
-
-/// How many such numbers there are.
-pub(crate) const SLOTS: usize = 2 * (LARGEST_MAPPING + 1);
+/// The slot of a corner's codeword.
+const CORNER: u16 = 16 * LARGEST_MAPPING as u16;
 
 /// Each byte with its bits in the opposite order.
 static REVERSED: [u8; 256] = [
@@ -50,31 +45,26 @@ pub(crate) fn reversed(byte: u8) -> u8
     REVERSED[byte as usize]
 }
 
-/// The codewords of the anchors in a row, from its three rows.
-fn joined(first: u128, second: u128, third: u128) -> u128
-    ensures { (c : ℕ) → c < 128 → is_dark_in result c ≡ is_joined first second third c }
-{
-    (first & TWO) | (second & THREE) << 2 | (third & THREE) << 5
-}
-
 /// The codeword in these cells.
-fn word_of_cells(rows: &[u128; WIDENED], cells: &[Cell; 8]) -> u8
-    requires { CellsInside largest_mapping cells.now }
-    ensures { result ≡ word_in rows.now cells.now }
+fn word_of_cells<R: BitRows>(rows: &R, cells: &[Cell; 8]) -> u8
+    requires room { length (R.numbers rows.now) ≡ R.most + 6 }
+    requires inside { CellsInside R.most cells.now }
+    ensures { result ≡ word_in (R.numbers rows.now) cells.now }
 {
     let mut word: u16 = 0;
     for cell in cells {
-        word = 2 * word + ((rows[cell.row as usize + 2] >> (cell.column + 4)) % 2) as u16;
+        word = 2 * word + rows.bit(cell.row as usize + 2, cell.column + 4);
     }
     word as u8
 }
 
-/// The codeword of the corner, where there is one.
-fn corner_word(rows: &[u128; WIDENED], mapping: u16) -> u8
+/// The codeword of the corner, where there is one, in widened rows.
+pub(crate) fn corner_word<R: BitRows>(rows: &R, mapping: u16) -> u8
+    requires room { length (R.numbers rows.now) ≡ R.most + 6 }
     requires low { 8 ≤ mapping }
-    requires small { mapping ≤ largest_mapping }
-    ensures first { mapping % 8 ≡ 4 → result ≡ word_in rows.now (cells_of mapping Corner1) }
-    ensures second { mapping % 8 ≡ 6 → result ≡ word_in rows.now (cells_of mapping Corner2) }
+    requires small { mapping ≤ R.most }
+    ensures first { mapping % 8 ≡ 4 → result ≡ word_in (R.numbers rows.now) (cells_of mapping Corner1) }
+    ensures second { mapping % 8 ≡ 6 → result ≡ word_in (R.numbers rows.now) (cells_of mapping Corner2) }
 {
     if mapping % 8 == 4 {
         word_of_cells(rows, &Shape::Corner1.cells(mapping))
@@ -85,31 +75,30 @@ fn corner_word(rows: &[u128; WIDENED], mapping: u16) -> u8
     }
 }
 
-/// Puts the codewords in widened rows into their slots.
-pub(crate) fn fill_slots(slots: &mut Slots, rows: &[u128; WIDENED], mapping: u16)
-    requires low { 8 ≤ mapping }
-    requires small { mapping ≤ largest_mapping }
-    ensures { HasSlots mapping rows.now slots.new }
+/// Makes each of the widened rows the codewords of its anchors; each has its bits in the opposite order.
+pub(crate) fn join_rows<R: BitRows>(rows: &mut R, mapping: u16)
+    requires room { length (R.numbers rows.old) ≡ R.most + 6 }
+    requires small { mapping ≤ R.most }
+    ensures room { length (R.numbers rows.new) ≡ R.most + 6 }
+    ensures joined { AreJoined mapping (R.numbers rows.old) (R.numbers rows.new) }
 {
-    for row in 0..mapping as usize {
-        let first = (4 + 3 * row) % 8 + 2;
-        let codewords = joined(
-            rows[row] >> first,
-            rows[row + 1] >> first,
-            rows[row + 2] >> first,
-        );
-        slots[2 * row] = (codewords % (1 << 64)) as u64;
-        slots[2 * row + 1] = (codewords >> 64) as u64;
+    for row in 0..mapping {
+        rows.join(row as usize, (4 + 3 * row) % 8 + 2);
     }
-    slots[2 * LARGEST_MAPPING] = u64::from(reversed(corner_word(rows, mapping)));
 }
 
-/// The codeword of a slot.
-pub(crate) fn codeword(slots: &Slots, slot: u16) -> u8
-    requires { slot < 16 * (largest_mapping + 1) }
-    ensures { result ≡ reversed_bits (slot_byte slots.now slot) }
+/// The codeword of a slot, from joined rows and the codeword of the corner.
+#[inline(always)]
+pub(crate) fn codeword<R: BitRows>(rows: &R, corner: u8, slot: u16) -> u8
+    requires room { length (R.numbers rows.now) ≡ R.most + 6 }
+    requires slot { HasSlot R.most slot }
+    ensures { result ≡ slot_word (R.numbers rows.now) corner slot }
 {
-    reversed(((slots[(slot / 8) as usize] >> (8 * (slot % 8))) % 256) as u8)
+    if slot == CORNER {
+        corner
+    } else {
+        reversed(rows.byte((slot / 16) as usize, slot % 16))
+    }
 }
 
 /// The slots of the codewords in order.

@@ -1,10 +1,9 @@
 -- The codewords of the anchors of a row as the bytes of one number, with their bits in the opposite order, and where each codeword stands.
 -- The anchors of row r have columns that leave (3r + 4) mod 8 when divided by 8.
-use Rattle.std.specs.Prelude.{◌≡◌, ℕ, ◌+◌, ◌-◌, ◌*◌, ◌/◌, ◌%◌, ◌^◌, ◌<◌, Bool, true, false, ◌&&◌, ◌||◌, nat_eq, nat_le, nat_lt, List, [], ◌∷◌, get_or, if◌then◌else◌}
+use Rattle.std.specs.Prelude.{◌≡◌, ◌⊎◌, ℕ, ◌+◌, ◌-◌, ◌*◌, ◌/◌, ◌%◌, ◌^◌, ◌<◌, Bool, ◌&&◌, ◌||◌, nat_eq, nat_le, nat_lt, List, [], ◌∷◌, get_or, if◌then◌else◌}
 use Rattle.std.specs.Int.{bit_at}
 use Rattle.dm_layout.specs.Grid.{is_dark_in}
 use Rattle.dm_layout.specs.inner.Reading.{look_in}
-use Rattle.dm_layout.specs.Placement.{cells_of}
 use Rattle.dm_layout.specs.declared.shape.Cell.{Cell}
 use Rattle.dm_layout.specs.declared.shape.Shape.{Shape}
 use Rattle.dm_layout.specs.declared.shape.Shape.TheVariants.{Standard, Corner1, Corner2, Corner3, Corner4}
@@ -32,25 +31,23 @@ is_joined a b d c =
 abbrev pub first_column : ℕ → ℕ
 first_column r = (4 + 3 * r) % 8 + 2
 
--- a byte of a row's two numbers, each of eight bytes
-abbrev pub row_byte : ℕ → ℕ → ℕ → ℕ
-row_byte low high k = elim (nat_lt k 8) [ true ↦ low / 2 ^ (8 * k) % 256 | false ↦ high / 2 ^ (8 * (k - 8)) % 256 ]
+-- the bytes of this number are the codewords whose anchors lie in row r of the mapping square of side n, from widened rows
+pub record IsJoined (n : ℕ) (rows : List ℕ) (r x : ℕ) : Type 0 where
+  pub first : (k t : ℕ) → 8 * k < n → t < 2 → is_dark_in (x / 2 ^ (8 * k) % 256) t ≡ look_in rows r (first_column r + (8 * k + t))
+  pub second : (k t : ℕ) → 8 * k < n → t < 3 → is_dark_in (x / 2 ^ (8 * k) % 256) (2 + t) ≡ look_in rows (r + 1) (first_column r + (8 * k + t))
+  pub third : (k t : ℕ) → 8 * k < n → t < 3 → is_dark_in (x / 2 ^ (8 * k) % 256) (5 + t) ≡ look_in rows (r + 2) (first_column r + (8 * k + t))
 
--- the byte in a slot
-abbrev pub slot_byte : List ℕ → ℕ → ℕ
-slot_byte slots x = get_or slots (x / 8) 0 / 2 ^ (8 * (x % 8)) % 256
+-- these numbers are so for every row of the square
+abbrev pub AreJoined : ℕ → List ℕ → List ℕ → Type 0
+AreJoined n rows news = (r : ℕ) → r < n → IsJoined n rows r (get_or news r 0)
 
--- these two numbers are the codewords whose anchors lie in row r, from widened rows
-pub record AreSlots (rows : List ℕ) (r low high : ℕ) : Type 0 where
-  pub first : (k t : ℕ) → k < 16 → t < 2 → is_dark_in (row_byte low high k) t ≡ look_in rows r (first_column r + (8 * k + t))
-  pub second : (k t : ℕ) → k < 16 → t < 3 → is_dark_in (row_byte low high k) (2 + t) ≡ look_in rows (r + 1) (first_column r + (8 * k + t))
-  pub third : (k t : ℕ) → k < 16 → t < 3 → is_dark_in (row_byte low high k) (5 + t) ≡ look_in rows (r + 2) (first_column r + (8 * k + t))
+-- the slot of a corner, or one in the rows of a mapping square of at most this side
+abbrev pub HasSlot : ℕ → ℕ → Type 0
+HasSlot most x = (x ≡ 1536) ⊎ ((x / 16 < most) × (8 * (x % 16) < most))
 
--- for each row of the mapping square of side n its codewords, and behind all of them that of a corner
-pub record HasSlots (n : ℕ) (rows slots : List ℕ) : Type 0 where
-  pub anchors : (r : ℕ) → r < n → AreSlots rows r (get_or slots (2 * r) 0) (get_or slots (2 * r + 1) 0)
-  pub corner1 : n % 8 ≡ 4 → reversed_bits (slot_byte slots 1536) ≡ word_in rows (cells_of n Corner1)
-  pub corner2 : n % 8 ≡ 6 → reversed_bits (slot_byte slots 1536) ≡ word_in rows (cells_of n Corner2)
+-- the codeword in a slot, from joined rows and the codeword of a corner
+abbrev pub slot_word : List ℕ → ℕ → ℕ → ℕ
+slot_word rows corner x = if nat_eq x 1536 then corner else reversed_bits (get_or rows (x / 16) 0 / 2 ^ (8 * (x % 16)) % 256)
 
 -- the slot of a shape's codeword: 16 for each row, and an eighth of the anchor's column; the last one for a corner
 abbrev pub slot_of : Shape → ℕ

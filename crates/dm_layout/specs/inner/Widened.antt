@@ -13,5 +13,5 @@ pub record IsMoved (n : ℕ) (look : ℕ → ℕ → Bool) (rows : List ℕ) : T
 pub record IsWidened (n : ℕ) (look : ℕ → ℕ → Bool) (rows : List ℕ) : Type 0 where
   pub inside : (r c : ℕ) → r < n → c < n → look_in rows (r + 2) (c + 4) ≡ look r c
   pub left : (r c : ℕ) → 2 ≤ r → r < n + 2 → c < 4 → (n + 4) % 8 ≤ r + 2 → r + 2 - (n + 4) % 8 < n → look_in rows r c ≡ look (r + 2 - (n + 4) % 8) (n + c - 4)
-  pub above : (r c : ℕ) → r < 2 → c < 124 → (n + 4) % 8 ≤ c → c - (n + 4) % 8 < n → look_in rows r c ≡ look (r + n - 2) (c - (n + 4) % 8)
+  pub above : (r c : ℕ) → r < 2 → c < n + 4 → (n + 4) % 8 ≤ c → c - (n + 4) % 8 < n → look_in rows r c ≡ look (r + n - 2) (c - (n + 4) % 8)
   pub above_left : (r c : ℕ) → r < 2 → c < (n + 4) % 8 → (n + 4) % 8 ≤ c + 4 → r + n + 2 - (n + 4) % 8 < n → look_in rows r c ≡ look (r + n + 2 - (n + 4) % 8) (n + c - (n + 4) % 8)

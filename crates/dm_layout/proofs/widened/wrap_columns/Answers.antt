@@ -1,12 +1,23 @@
-use Rattle.std.proofs.Common.{◌∙◌, ◌+◌, arith}
+use Rattle.std.proofs.Common.{◌≡◌, ◌∙◌, ℕ, ◌+◌, ◌-◌, ◌&&◌, ◌||◌, nat_le, nat_lt, List, length, ap, arith}
 use Rattle.std.proofs.lemmas.List.{length-set}
+use Rattle.dm_layout.specs.inner.Reading.{look_in}
 use Rattle.dm_layout.proofs.WidenedRows.{wrap_more}
 use Rattle.dm_layout.proofs.widened.wrap_columns.Goals as goal
 
 pub loop-row-preserved : goal.loop-row-preserved
-loop-row-preserved c = record {
-  count = length-set c.loop-row.rows (c.loop-row.row + 2) _ ∙ c.loop-row.invariant.count;
-  so_far =
-      wrap_more c.args.rows.now c.loop-row.rows c.args.mapping c.args.shift c.loop-row.row c.requires.least c.requires.shift
-      (omega (arith, c.loop-row.invariant.count, c.loop-row-test.true, c.requires.most)) c.requires.width c.loop-row.invariant.so_far;
-}
+loop-row-preserved g c =
+    let olds = g.R.BitRows.numbers c.args.rows.now in
+    let rows = g.R.BitRows.numbers c.loop-row.rows in
+    record {
+      count = ap length c.wrap_left.ensures ∙ length-set rows (c.loop-row.row + 2) _ ∙ c.loop-row.invariant.count;
+      so_far = λ r q.
+          ap (λ (xs : List ℕ). look_in xs r q) c.wrap_left.ensures
+          ∙ wrap_more olds rows c.args.mapping c.args.shift c.loop-row.row c.requires.least c.requires.shift (omega (arith, c.loop-row.invariant.count, c.loop-row-test.true, c.requires.most)) c.requires.width
+          c.loop-row.invariant.so_far r q;
+    }
+
+pub returns-clause-wrapped : goal.returns-clause-wrapped
+returns-clause-wrapped g c = λ r q.
+    let olds = g.R.BitRows.numbers c.args.rows.now in
+    let e : c.loop-row.row ≡ c.args.mapping = omega (arith, c.loop-row-test.false, c.loop-row.auto.row-end) in
+    c.loop-row.invariant.so_far r q ∙ ap (λ (i : ℕ). look_in olds r q || ((nat_le 2 r && nat_lt r (i + 2)) && look_in olds (r + 4 - c.args.shift) (c.args.mapping + q))) e
