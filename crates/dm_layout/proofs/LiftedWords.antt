@@ -1,14 +1,16 @@
 -- That the codewords of widened rows, read slot by slot, are those of the grid.
-use Rattle.std.proofs.Common.{◌≡◌, ◌≢◌, ℕ, ◌+◌, ◌-◌, ◌*◌, ◌/◌, ◌%◌, ◌^◌, ◌<◌, ◌≤◌, Bool, true, false, ◌&&◌, if◌then◌else◌, nat_eq, nat_lt, List, [], ◌∷◌, map, get_or, refl, sym, ◌∙◌, ap, arith}
+use Rattle.std.proofs.Common.{◌≡◌, ℕ, ◌+◌, ◌-◌, ◌*◌, ◌/◌, ◌%◌, ◌^◌, ◌<◌, ◌≤◌, Bool, true, false, ◌&&◌, nat_eq, nat_lt, List, [], ◌∷◌, map, get_or, refl, sym, ◌∙◌, ap, arith}
 use Rattle.std.specs.List.{list_all}
-use Rattle.std.proofs.lemmas.Bool.{and_parts, ltb-true, ltb-false, eqb-true, ne_eqb}
+use Rattle.std.specs.Prelude.{min}
+use Rattle.std.proofs.Math.Nat.{min-eq_left}
+use Rattle.std.proofs.lemmas.Bool.{and_parts, ltb-true, ltb-false, eqb-true}
 use Rattle.dm_layout.specs.declared.shape.Cell.{Cell}
 use Rattle.dm_layout.specs.declared.shape.Shape.{Shape}
 use Rattle.dm_layout.specs.declared.shape.Shape.TheVariants.{Standard, Corner1, Corner2, Corner3, Corner4}
 use Rattle.dm_layout.specs.Grid.{is_dark_in}
 use Rattle.dm_layout.specs.Placement.{At, wrapped_cell, standard, cells_of}
 use Rattle.dm_layout.specs.inner.Reading.{look_in}
-use Rattle.dm_layout.specs.inner.Slots.{bits_in, word_in, reversed_bits, first_column, slot_of, slot_word, IsJoined, AreJoined}
+use Rattle.dm_layout.specs.inner.Slots.{bits_in, reversed_bits, first_column, slot_of, slot_byte, IsJoined, HasSlots}
 use Rattle.dm_layout.specs.inner.Walking.{CellsInside}
 use Rattle.dm_layout.specs.inner.Widened.{IsWidened}
 use Rattle.dm_layout.proofs.Bits.{digit, digit-has, number_of, sum_of_digits}
@@ -39,15 +41,6 @@ all_inside n (x ∷ xs) h =
     let both = and_parts (nat_lt x.row n && nat_lt x.column n) (inside_test n xs) h in
     let here = and_parts (nat_lt x.row n) (nat_lt x.column n) both.0 in
     (ltb-true x.row n here.0, ltb-true x.column n here.1, all_inside n xs both.1)
-
--- the cells of a corner lie in a square that is no smaller
-pub corner1_inside : (n most : ℕ) → 8 ≤ n → n ≤ most → CellsInside most (cells_of n Corner1)
-corner1_inside n most least l =
-    (omega arith, omega arith, (omega arith, omega arith, (omega arith, omega arith, (omega arith, omega arith, (omega arith, omega arith, (omega arith, omega arith, (omega arith, omega arith, (omega arith, omega arith, tt))))))))
-
-pub corner2_inside : (n most : ℕ) → 8 ≤ n → n ≤ most → CellsInside most (cells_of n Corner2)
-corner2_inside n most least l =
-    (omega arith, omega arith, (omega arith, omega arith, (omega arith, omega arith, (omega arith, omega arith, (omega arith, omega arith, (omega arith, omega arith, (omega arith, omega arith, (omega arith, omega arith, tt))))))))
 
 -- ---- a cell of a standard shape in widened rows
 
@@ -141,39 +134,39 @@ module _ (n : ℕ) (look : ℕ → ℕ → Bool) (rows : List ℕ) (least : 8 �
       ap (λ (d : ℕ). bits_in rows (2 * a + d) xs) (sym (digit-has (get_or rows (x.row + 2) 0) (2 ^ (x.column + 4))) ∙ ap digit (wide.inside x.row x.column h.0 h.1))
       ∙ plain_bits (2 * a + digit (look x.row x.column)) xs h.2
 
-  module _ (news : List ℕ) (corner : ℕ) (joined : AreJoined n rows news) (first : n % 8 ≡ 4 → corner ≡ word_in rows (cells_of n Corner1)) (second : n % 8 ≡ 6 → corner ≡ word_in rows (cells_of n Corner2)) where
-    -- the codeword of an anchor stands in its byte
-    in_byte : (r k : ℕ) → r < n → k < 16 → slot_word news corner (16 * r + k) ≡ reversed_bits (get_or news r 0 / 2 ^ (8 * k) % 256)
-    in_byte r k l lk =
+  module _ (last : ℕ) (news : List ℕ) (within : n ≤ last) (slots : HasSlots n last rows news) where
+    -- the byte of an anchor stands in its row
+    in_row : (r k : ℕ) → r < n → k < 16 → slot_byte last news (16 * r + k) ≡ get_or news r 0 / 2 ^ (8 * k) % 256
+    in_row r k l lk =
         let q : (16 * r + k) / 16 ≡ r = omega arith in
         let p : (16 * r + k) % 16 ≡ k = omega arith in
-        let ne : 16 * r + k ≢ 1536 = omega (arith, most) in
-        ap (λ (t : Bool). if t then corner else reversed_bits (get_or news ((16 * r + k) / 16) 0 / 2 ^ (8 * ((16 * r + k) % 16)) % 256)) (ne_eqb (16 * r + k) 1536 ne)
-        ∙ ap (λ (i : ℕ). reversed_bits (get_or news i 0 / 2 ^ (8 * ((16 * r + k) % 16)) % 256)) q
-        ∙ ap (λ (i : ℕ). reversed_bits (get_or news r 0 / 2 ^ (8 * i) % 256)) p
+        let m : min r last ≡ r = min-eq_left (omega arith) in
+        ap (λ (i : ℕ). get_or news (min i last) 0 / 2 ^ (8 * ((16 * r + k) % 16)) % 256) q
+        ∙ ap (λ (i : ℕ). get_or news i 0 / 2 ^ (8 * ((16 * r + k) % 16)) % 256) m
+        ∙ ap (λ (i : ℕ). get_or news r 0 / 2 ^ (8 * i) % 256) p
 
     -- the codeword of a shape stands in its slot
-    shape_word : (s : Shape) → fits_test n s ≡ true → slot_word news corner (slot_of s) ≡ word_of look (cells_of n s)
+    shape_word : (s : Shape) → fits_test n s ≡ true → reversed_bits (slot_byte last news (slot_of s)) ≡ word_of look (cells_of n s)
     shape_word (Standard r c) fits =
         let both = and_parts (kind_test n (Standard r c)) (inside_test n (standard n r c)) fits in
         let kind = and_parts (nat_lt r n && nat_lt c n) (nat_eq ((5 * r + c) % 8) 4) both.0 in
         let here = and_parts (nat_lt r n) (nat_lt c n) kind.0 in
         let lr = ltb-true r n here.0 in
         let lc = ltb-true c n here.1 in
-        in_byte r (c / 8) lr (omega (arith, lc, most))
-        ∙ standard_word r c (get_or news r 0) lr lc (eqb-true ((5 * r + c) % 8) 4 kind.1) (all_inside n (standard n r c) both.1) (joined r lr)
+        ap reversed_bits (in_row r (c / 8) lr (omega (arith, lc, most)))
+        ∙ standard_word r c (get_or news r 0) lr lc (eqb-true ((5 * r + c) % 8) 4 kind.1) (all_inside n (standard n r c) both.1) (slots.anchors r lr)
     shape_word Corner1 fits =
         let both = and_parts (kind_test n Corner1) (inside_test n (cells_of n Corner1)) fits in
-        first (eqb-true (n % 8) 4 both.0) ∙ plain_bits 0 (cells_of n Corner1) (all_inside n (cells_of n Corner1) both.1)
+        slots.corner1 (eqb-true (n % 8) 4 both.0) ∙ plain_bits 0 (cells_of n Corner1) (all_inside n (cells_of n Corner1) both.1)
     shape_word Corner2 fits =
         let both = and_parts (kind_test n Corner2) (inside_test n (cells_of n Corner2)) fits in
-        second (eqb-true (n % 8) 6 both.0) ∙ plain_bits 0 (cells_of n Corner2) (all_inside n (cells_of n Corner2) both.1)
+        slots.corner2 (eqb-true (n % 8) 6 both.0) ∙ plain_bits 0 (cells_of n Corner2) (all_inside n (cells_of n Corner2) both.1)
     shape_word Corner3 fits = cc
     shape_word Corner4 fits = cc
 
     -- so do all
-    pub slot_words : (ss : List Shape) → list_all (fits_test n) ss ≡ true → map (slot_word news corner) (map slot_of ss) ≡ map (λ sh. word_of look (cells_of n sh)) ss
+    pub slot_words : (ss : List Shape) → list_all (fits_test n) ss ≡ true → map (λ x. reversed_bits (slot_byte last news x)) (map slot_of ss) ≡ map (λ sh. word_of look (cells_of n sh)) ss
     slot_words [] fits = refl
     slot_words (s ∷ ss) fits =
         let both = and_parts (fits_test n s) (list_all (fits_test n) ss) fits in
-        ap (λ (w : ℕ). w ∷ map (slot_word news corner) (map slot_of ss)) (shape_word s both.0) ∙ ap (λ (ws : List ℕ). word_of look (cells_of n s) ∷ ws) (slot_words ss both.1)
+        ap (λ (w : ℕ). w ∷ map (λ x. reversed_bits (slot_byte last news x)) (map slot_of ss)) (shape_word s both.0) ∙ ap (λ (ws : List ℕ). word_of look (cells_of n s) ∷ ws) (slot_words ss both.1)

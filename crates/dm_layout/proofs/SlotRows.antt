@@ -1,5 +1,5 @@
 -- The codewords of a row as the bytes of one number.
-use Rattle.std.proofs.Common.{◌≡◌, ◌≢◌, ◌⊎◌, inl, inr, ℕ, zero, suc, ◌+◌, ◌-◌, ◌*◌, ◌/◌, ◌%◌, ◌^◌, ◌<◌, ◌≤◌, Bool, true, false, ◌&&◌, ◌||◌, nat_eq, nat_le, nat_lt, List, [], ◌∷◌, length, get_or, set, refl, sym, ◌∙◌, ap, arith, subst, below_more, get_or-set_other}
+use Rattle.std.proofs.Common.{◌≡◌, ◌≢◌, ◌⊎◌, inl, inr, ℕ, zero, suc, ◌+◌, ◌-◌, ◌*◌, ◌/◌, ◌%◌, ◌^◌, ◌<◌, ◌≤◌, Bool, true, false, ◌&&◌, ◌||◌, nat_eq, nat_le, nat_lt, List, [], ◌∷◌, length, get_or, set, refl, sym, ◌∙◌, ap, arith, subst, below_more, get_or-set_same, get_or-set_other}
 use lib.Bits.{bit_and}
 use Rattle.std.proofs.Math.Bool.{or-false}
 use Rattle.std.specs.Bool.{beq}
@@ -16,7 +16,10 @@ use Rattle.dm_layout.specs.declared.slots.TheConstants.{REVERSED}
 use Rattle.dm_layout.proofs.BorderMasks.{beq-true}
 use Rattle.dm_layout.proofs.Ranges.{all_below}
 use Rattle.dm_layout.proofs.OuterRows.{or_dark}
-use Rattle.dm_layout.specs.inner.Slots.{IsJoined, first_column}
+use Rattle.dm_layout.specs.Placement.{cells_of}
+use Rattle.dm_layout.specs.declared.shape.Shape.TheVariants.{Corner1, Corner2}
+use Rattle.dm_layout.specs.inner.Slots.{IsJoined, AreJoined, HasSlots, first_column, slot_byte, word_in}
+use Rattle.std.proofs.Math.Nat.{min-eq_right}
 use Rattle.dm_layout.proofs.InnerRows.{moved_bit}
 use Rattle.dm_layout.proofs.WidenedRows.{bit_up, none_up, low_bit}
 
@@ -233,3 +236,24 @@ join_more n width olds rows news row wide is bits so_far = record {
   where
     other : (r : ℕ) → r ≢ row → get_or news r 0 ≡ get_or rows r 0
     other r ne = ap (λ (xs : List ℕ). get_or xs r 0) is ∙ get_or-set_other rows row r (get_or news row 0) 0 ne
+
+-- joined rows, beside which the codeword of a corner is put
+pub corner_beside : (n last : ℕ) (rows joined news : List ℕ) (b w : ℕ) → n ≤ last → last ≤ 96 → last < length joined → news ≡ set joined last b → b < 256 → b ≡ reversed_bits w → w < 256 → AreJoined n rows joined →
+    (n % 8 ≡ 4 → w ≡ word_in rows (cells_of n Corner1)) → (n % 8 ≡ 6 → w ≡ word_in rows (cells_of n Corner2)) → HasSlots n last rows news
+corner_beside n last rows joined news b w within most room is fits e small anchors first second = record {
+  anchors = λ r l.
+      let ne : r ≢ last = omega arith in
+      subst (λ (x : ℕ). IsJoined n rows r x) (sym (ap (λ (xs : List ℕ). get_or xs r 0) is ∙ get_or-set_other joined last r b 0 ne)) (anchors r l);
+  corner1 = λ h. corner ∙ first h;
+  corner2 = λ h. corner ∙ second h;
+}
+  where
+    corner : reversed_bits (slot_byte last news 1536) ≡ w
+    corner =
+        let m : min 96 last ≡ last = min-eq_right most in
+        let z : b / 1 % 256 ≡ b = omega arith in
+        ap (λ (i : ℕ). reversed_bits (get_or news i 0 / 1 % 256)) m
+        ∙ ap (λ (xs : List ℕ). reversed_bits (get_or xs last 0 / 1 % 256)) is
+        ∙ ap (λ (x : ℕ). reversed_bits (x / 1 % 256)) (get_or-set_same joined last b 0 room)
+        ∙ ap reversed_bits (z ∙ e)
+        ∙ reversed_twice w small

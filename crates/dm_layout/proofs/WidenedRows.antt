@@ -106,24 +106,28 @@ same_region row region d until r u e lo hi ne er eu =
     let b = ap (λ (i : ℕ). i * d) er in
     record { ends = omega (arith, a, e, eu); begun = omega (arith, b, lo); within = omega (arith, hi, ne, eu) }
 
+-- none of the rows of the square, where nothing is dark
+pub moved_none : (n row : ℕ) (look : ℕ → ℕ → Bool) (rows : List ℕ) → row ≡ 0 → ((r c : ℕ) → look_in rows r c ≡ false) → IsMoved n row look rows
+moved_none n row look rows e light = record {
+  inside = λ r c l lc. absurd (omega arith);
+  left = λ r c l. light r c;
+  right = λ r c l. light r c;
+}
+
 -- one more row of the square
-pub moved_more : (n row x : ℕ) (look : ℕ → ℕ → Bool) (rows : List ℕ) → row + 2 < length rows → x < 2 ^ n → ((c : ℕ) → c < n → is_dark_in x c ≡ look row c) →
-    ((r c : ℕ) → r < row → c < n → look_in rows (r + 2) (c + 4) ≡ look r c) → ((r c : ℕ) → c < 4 → look_in rows r c ≡ false) → ((r c : ℕ) → n + 4 ≤ c → look_in rows r c ≡ false) →
-    ((r c : ℕ) → r < row + 1 → c < n → look_in (set rows (row + 2) (x * 16)) (r + 2) (c + 4) ≡ look r c)
-    × ((r c : ℕ) → c < 4 → look_in (set rows (row + 2) (x * 16)) r c ≡ false)
-    × ((r c : ℕ) → n + 4 ≤ c → look_in (set rows (row + 2) (x * 16)) r c ≡ false)
-moved_more n row x look rows l narrow cells inside left right = (
-  λ r c lr lc.
+pub moved_more : (n row x : ℕ) (look : ℕ → ℕ → Bool) (rows news : List ℕ) → row + 2 < length rows → x < 2 ^ n → ((c : ℕ) → c < n → is_dark_in x c ≡ look row c) → news ≡ set rows (row + 2) (x * 16) → IsMoved n row look rows → IsMoved n (row + 1) look news
+moved_more n row x look rows news l narrow cells is moved = subst (IsMoved n (row + 1) look) (sym is) (record {
+  inside = λ r c lr lc.
       look_set (λ b. b ≡ look r c) rows (row + 2) (x * 16) (r + 2) (c + 4) l
       (λ e.
       let er : row ≡ r = omega arith in
       let four : c + 4 ≡ 4 + c = omega arith in
       ap (is_dark_in (x * 16)) four ∙ bit_up x 4 c ∙ cells c lc ∙ ap (λ (i : ℕ). look i c) er)
-      (λ ne. inside r c (omega arith) lc),
-  λ r c lc. look_set (λ b. b ≡ false) rows (row + 2) (x * 16) r c l (λ e. none_up x 4 c lc) (λ ne. left r c lc),
-  λ r c lc.
-      look_set (λ b. b ≡ false) rows (row + 2) (x * 16) r c l (λ e. ap (λ (i : ℕ). nat_eq i 1) (bit_at_above (x * 16) (n + 4) c small lc)) (λ ne. right r c lc),
-)
+      (λ ne. moved.inside r c (omega arith) lc);
+  left = λ r c lc. look_set (λ b. b ≡ false) rows (row + 2) (x * 16) r c l (λ e. none_up x 4 c lc) (λ ne. moved.left r c lc);
+  right = λ r c lc.
+      look_set (λ b. b ≡ false) rows (row + 2) (x * 16) r c l (λ e. ap (λ (i : ℕ). nat_eq i 1) (bit_at_above (x * 16) (n + 4) c small lc)) (λ ne. moved.right r c lc);
+})
   where
     small : x * 16 < 2 ^ (n + 4)
     small = let p : 2 ^ (n + 4) ≡ 2 ^ n * 2 ^ 4 = pow-add 2 n 4 in omega (arith, p, narrow)
@@ -222,7 +226,7 @@ row_above width rows n shift r c least long l lc h = by_row (nat_eq r 0) refl
 -- ---- all together
 
 -- the square with columns to its left and rows above
-pub is_widened : (n : ℕ) (look : ℕ → ℕ → Bool) (olds mids news : List ℕ) → 8 ≤ n → IsMoved n look olds →
+pub is_widened : (n : ℕ) (look : ℕ → ℕ → Bool) (olds mids news : List ℕ) → 8 ≤ n → IsMoved n n look olds →
     ((r c : ℕ) → look_in mids r c ≡ wrapped_left olds n ((n + 4) % 8) (n + 2) r c) →
     ((r c : ℕ) → r < 2 → c < n + 4 → (n + 4) % 8 ≤ c + 4 → look_in news r c ≡ look_in mids (r + n) (c + 4 - (n + 4) % 8)) →
     ((r c : ℕ) → 2 ≤ r → look_in news r c ≡ look_in mids r c) → IsWidened n look news

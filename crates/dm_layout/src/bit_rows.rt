@@ -7,8 +7,9 @@ ghost use Rattle.std.specs.Prelude.{◌≡◌, ℕ, ◌+◌, ◌*◌, ◌/◌, �
 ghost use Rattle.std.specs.Int.{bit_at};
 ghost use Rattle.std.proofs.Common.{rules};
 ghost use Rattle.dm_layout.specs.Grid.{is_dark_in};
-ghost use Rattle.dm_layout.specs.inner.Slots.{is_joined};
+ghost use Rattle.dm_layout.specs.inner.Slots.{is_joined, slot_byte, HasSlot};
 
+use crate::shape::LARGEST_MAPPING;
 use crate::slots::{THREE, TWO};
 use crate::widened::WIDENED;
 
@@ -37,6 +38,9 @@ pub(crate) trait BitRows: Sized + Drop {
 
     // How many bits a row has.
     ghost width: { ℕ };
+
+    // The row that keeps the codeword of a corner once the rows are joined.
+    ghost last: { ℕ };
 
     // The numbers.
     ghost numbers: { Self → List ℕ };
@@ -74,11 +78,16 @@ pub(crate) trait BitRows: Sized + Drop {
         ensures joined { (c : ℕ) → c < width → is_dark_in (get_or (numbers self.new) row 0) c
             ≡ is_joined (get_or (numbers self.old) row 0 / 2 ^ column) (get_or (numbers self.old) (row + 1) 0 / 2 ^ column) (get_or (numbers self.old) (row + 2) 0 / 2 ^ column) c };
 
-    /// A byte of a row, counted from 0.
-    fn byte(&self, row: usize, place: u16) -> u8
-        requires row { row < length (numbers self.now) }
-        requires place { 8 * place < most }
-        ensures { result ≡ get_or (numbers self.now) row 0 / 2 ^ (8 * place) % 256 };
+    /// Puts the codeword of a corner, with its bits in the opposite order.
+    fn put_corner(&mut self, byte: u8)
+        requires { length (numbers self.old) ≡ most + 6 }
+        ensures { numbers self.new ≡ set (numbers self.old) last byte };
+
+    /// The byte of a slot, in joined rows.
+    fn byte(&self, slot: u16) -> u8
+        requires room { length (numbers self.now) ≡ most + 6 }
+        requires slot { HasSlot most slot }
+        ensures { result ≡ slot_byte last (numbers self.now) slot };
 
     /// A bit of a row.
     fn bit(&self, row: usize, column: u16) -> u16
@@ -86,9 +95,7 @@ pub(crate) trait BitRows: Sized + Drop {
         requires column { column < most + 4 }
         ensures { result ≡ bit_at (get_or (numbers self.now) row 0) column };
 
-    ghost small: { most ≤ 96 };
-
-    ghost wide: { most + 16 ≤ width };
+    ghost fits: { (most ≤ last) × (last ≤ 96) × (last < most + 6) × (most + 16 ≤ width) };
 }
 
 impl BitRows for NarrowRows {
@@ -96,11 +103,11 @@ impl BitRows for NarrowRows {
 
     ghost width = { 64 };
 
+    ghost last = { 53 };
+
     ghost numbers = { λ rows. rows };
 
-    ghost small = { Prim.search rules };
-
-    ghost wide = { Prim.search rules };
+    ghost fits = { Prim.search rules };
 
     #[inline(always)]
     fn light() -> NarrowRows {
@@ -130,8 +137,14 @@ impl BitRows for NarrowRows {
     }
 
     #[inline(always)]
-    fn byte(&self, row: usize, place: u16) -> u8 {
-        ((self[row] >> (8 * place)) % 256) as u8
+    fn put_corner(&mut self, byte: u8) {
+        self[NARROW_WIDENED - 1] = u64::from(byte);
+    }
+
+    #[inline(always)]
+    fn byte(&self, slot: u16) -> u8 {
+        let row = (slot / 16).min(NARROW_WIDENED as u16 - 1) as usize;
+        ((self[row] >> (8 * (slot % 16))) % 256) as u8
     }
 
     #[inline(always)]
@@ -145,11 +158,11 @@ impl BitRows for WideRows {
 
     ghost width = { 128 };
 
+    ghost last = { 96 };
+
     ghost numbers = { λ rows. rows };
 
-    ghost small = { Prim.search rules };
-
-    ghost wide = { Prim.search rules };
+    ghost fits = { Prim.search rules };
 
     #[inline(always)]
     fn light() -> WideRows {
@@ -179,8 +192,13 @@ impl BitRows for WideRows {
     }
 
     #[inline(always)]
-    fn byte(&self, row: usize, place: u16) -> u8 {
-        ((self[row] >> (8 * place)) % 256) as u8
+    fn put_corner(&mut self, byte: u8) {
+        self[LARGEST_MAPPING] = u128::from(byte);
+    }
+
+    #[inline(always)]
+    fn byte(&self, slot: u16) -> u8 {
+        ((self[(slot / 16) as usize] >> (8 * (slot % 16))) % 256) as u8
     }
 
     #[inline(always)]

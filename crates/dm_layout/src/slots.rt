@@ -4,22 +4,19 @@
 
 ghost use Rattle.std.specs.Prelude.{◌≡◌, ◌+◌, ◌%◌, ◌≤◌, length};
 ghost use Rattle.dm_layout.specs.Placement.{cells_of};
-ghost use Rattle.dm_layout.specs.inner.Slots.{reversed_bits, word_in, order_of, slot_word, AreJoined, HasSlot};
+ghost use Rattle.dm_layout.specs.inner.Slots.{reversed_bits, word_in, order_of, slot_byte, AreJoined, HasSlot, HasSlots};
 ghost use Rattle.dm_layout.specs.inner.Walking.{CellsInside, largest_mapping};
 ghost use Rattle.dm_layout.specs.declared.shape.Shape.TheVariants.{Corner1, Corner2};
 
 use crate::bit_rows::BitRows;
 use crate::order_rows::*;
-use crate::shape::{Cell, LARGEST_MAPPING, Shape};
+use crate::shape::{Cell, Shape};
 
 /// The lowest two bits of each byte.
 pub(crate) const TWO: u128 = 0x0303_0303_0303_0303_0303_0303_0303_0303;
 
 /// The lowest three bits of each byte.
 pub(crate) const THREE: u128 = 0x0707_0707_0707_0707_0707_0707_0707_0707;
-
-/// The slot of a corner's codeword.
-const CORNER: u16 = 16 * LARGEST_MAPPING as u16;
 
 /// Each byte with its bits in the opposite order.
 static REVERSED: [u8; 256] = [
@@ -59,7 +56,8 @@ fn word_of_cells<R: BitRows>(rows: &R, cells: &[Cell; 8]) -> u8
 }
 
 /// The codeword of the corner, where there is one, in widened rows.
-pub(crate) fn corner_word<R: BitRows>(rows: &R, mapping: u16) -> u8
+#[inline(always)]
+fn corner_word<R: BitRows>(rows: &R, mapping: u16) -> u8
     requires room { length (R.numbers rows.now) ≡ R.most + 6 }
     requires low { 8 ≤ mapping }
     requires small { mapping ≤ R.most }
@@ -76,7 +74,7 @@ pub(crate) fn corner_word<R: BitRows>(rows: &R, mapping: u16) -> u8
 }
 
 /// Makes each of the widened rows the codewords of its anchors; each has its bits in the opposite order.
-pub(crate) fn join_rows<R: BitRows>(rows: &mut R, mapping: u16)
+fn join_anchors<R: BitRows>(rows: &mut R, mapping: u16)
     requires room { length (R.numbers rows.old) ≡ R.most + 6 }
     requires small { mapping ≤ R.most }
     ensures room { length (R.numbers rows.new) ≡ R.most + 6 }
@@ -87,18 +85,27 @@ pub(crate) fn join_rows<R: BitRows>(rows: &mut R, mapping: u16)
     }
 }
 
-/// The codeword of a slot, from joined rows and the codeword of the corner.
+/// Puts the codewords in widened rows into their slots.
+pub(crate) fn join_rows<R: BitRows>(rows: &mut R, mapping: u16)
+    requires room { length (R.numbers rows.old) ≡ R.most + 6 }
+    requires low { 8 ≤ mapping }
+    requires small { mapping ≤ R.most }
+    ensures room { length (R.numbers rows.new) ≡ R.most + 6 }
+    ensures slots { HasSlots mapping R.last (R.numbers rows.old) (R.numbers rows.new) }
+{
+    let corner = corner_word(rows, mapping);
+    join_anchors(rows, mapping);
+    rows.put_corner(reversed(corner));
+}
+
+/// The codeword of a slot, from joined rows.
 #[inline(always)]
-pub(crate) fn codeword<R: BitRows>(rows: &R, corner: u8, slot: u16) -> u8
+pub(crate) fn codeword<R: BitRows>(rows: &R, slot: u16) -> u8
     requires room { length (R.numbers rows.now) ≡ R.most + 6 }
     requires slot { HasSlot R.most slot }
-    ensures { result ≡ slot_word (R.numbers rows.now) corner slot }
+    ensures { result ≡ reversed_bits (slot_byte R.last (R.numbers rows.now) slot) }
 {
-    if slot == CORNER {
-        corner
-    } else {
-        reversed(rows.byte((slot / 16) as usize, slot % 16))
-    }
+    reversed(rows.byte(slot))
 }
 
 /// The slots of the codewords in order.

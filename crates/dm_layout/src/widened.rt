@@ -6,6 +6,7 @@
 ghost use Rattle.std.specs.Prelude.{◌≡◌, ℕ, ◌+◌, ◌-◌, ◌*◌, ◌%◌, ◌^◌, ◌<◌, ◌≤◌, ◌&&◌, ◌||◌, nat_le, nat_lt, false, length, replicate};
 ghost use Rattle.dm_layout.specs.Border.{mapped_cell, symbol_line};
 ghost use Rattle.dm_layout.specs.Grid.{is_dark_in};
+ghost use Rattle.dm_layout.specs.Sizes.{regions_across};
 ghost use Rattle.dm_layout.specs.inner.Reading.{look_in};
 ghost use Rattle.dm_layout.specs.inner.Walking.{largest_mapping};
 ghost use Rattle.dm_layout.specs.inner.Widened.{IsMoved, IsWidened};
@@ -34,26 +35,36 @@ fn inner_row(row: u128, region_side: u16, across: u16) -> u128
     inner
 }
 
+/// Puts the rows of the mapping square that lie in one row of regions, counted from 0 at the top.
+#[inline(always)]
+fn move_regions<R: BitRows>(grid: &Grid, rows: &mut R, region: u16)
+    requires room { length (R.numbers rows.old) ≡ R.most + 6 }
+    requires fits { grid.now.size.mapping ≤ R.most }
+    requires region { region < regions_across grid.now.size }
+    requires above { IsMoved grid.now.size.mapping (region * grid.now.size.region_side) (mapped_cell grid.now) (R.numbers rows.old) }
+    ensures room { length (R.numbers rows.new) ≡ R.most + 6 }
+    ensures moved { IsMoved grid.now.size.mapping ((region + 1) * grid.now.size.region_side) (mapped_cell grid.now) (R.numbers rows.new) }
+{
+    let size = grid.size();
+    let region_side = size.region_side();
+    let across = size.mapping() / region_side;
+    let first = region * region_side;
+    for row in first..first + region_side {
+        let outer = grid.row(row + 2 * region + 1);
+        rows.put(row as usize + 2, inner_row(outer, region_side, across));
+    }
+}
+
 /// Makes rows without a dark cell those of the mapping square of a grid, with nothing around it.
 fn move_rows<R: BitRows>(grid: &Grid, rows: &mut R)
     requires light { R.numbers rows.old ≡ replicate (R.most + 6) 0 }
     requires fits { grid.now.size.mapping ≤ R.most }
     ensures room { length (R.numbers rows.new) ≡ R.most + 6 }
-    ensures moved { IsMoved grid.now.size.mapping (mapped_cell grid.now) (R.numbers rows.new) }
+    ensures moved { IsMoved grid.now.size.mapping grid.now.size.mapping (mapped_cell grid.now) (R.numbers rows.new) }
 {
     let size = grid.size();
-    let region_side = size.region_side();
-    let mapping = size.mapping();
-    let across = mapping / region_side;
-    let mut region = 0;
-    let mut until = region_side;
-    for row in 0..mapping {
-        if row == until {
-            region += 1;
-            until += region_side;
-        }
-        let outer = grid.row(row + 2 * region + 1);
-        rows.put(row as usize + 2, inner_row(outer, region_side, across));
+    for region in 0..size.mapping() / size.region_side() {
+        move_regions(grid, rows, region);
     }
 }
 

@@ -1,9 +1,10 @@
 -- The codewords of the anchors of a row as the bytes of one number, with their bits in the opposite order, and where each codeword stands.
 -- The anchors of row r have columns that leave (3r + 4) mod 8 when divided by 8.
-use Rattle.std.specs.Prelude.{◌≡◌, ◌⊎◌, ℕ, ◌+◌, ◌-◌, ◌*◌, ◌/◌, ◌%◌, ◌^◌, ◌<◌, Bool, ◌&&◌, ◌||◌, nat_eq, nat_le, nat_lt, List, [], ◌∷◌, get_or, if◌then◌else◌}
+use Rattle.std.specs.Prelude.{◌≡◌, ◌⊎◌, ℕ, ◌+◌, ◌-◌, ◌*◌, ◌/◌, ◌%◌, ◌^◌, ◌<◌, Bool, ◌&&◌, ◌||◌, nat_eq, nat_le, nat_lt, min, List, [], ◌∷◌, get_or, if◌then◌else◌}
 use Rattle.std.specs.Int.{bit_at}
 use Rattle.dm_layout.specs.Grid.{is_dark_in}
 use Rattle.dm_layout.specs.inner.Reading.{look_in}
+use Rattle.dm_layout.specs.Placement.{cells_of}
 use Rattle.dm_layout.specs.declared.shape.Cell.{Cell}
 use Rattle.dm_layout.specs.declared.shape.Shape.{Shape}
 use Rattle.dm_layout.specs.declared.shape.Shape.TheVariants.{Standard, Corner1, Corner2, Corner3, Corner4}
@@ -45,9 +46,15 @@ AreJoined n rows news = (r : ℕ) → r < n → IsJoined n rows r (get_or news r
 abbrev pub HasSlot : ℕ → ℕ → Type 0
 HasSlot most x = (x ≡ 1536) ⊎ ((x / 16 < most) × (8 * (x % 16) < most))
 
--- the codeword in a slot, from joined rows and the codeword of a corner
-abbrev pub slot_word : List ℕ → ℕ → ℕ → ℕ
-slot_word rows corner x = if nat_eq x 1536 then corner else reversed_bits (get_or rows (x / 16) 0 / 2 ^ (8 * (x % 16)) % 256)
+-- the byte of a slot, from joined rows, of which the last one has the codeword of a corner
+abbrev pub slot_byte : ℕ → List ℕ → ℕ → ℕ
+slot_byte last rows x = get_or rows (min (x / 16) last) 0 / 2 ^ (8 * (x % 16)) % 256
+
+-- the codewords of widened rows of the mapping square of side n stand in their slots
+pub record HasSlots (n last : ℕ) (rows news : List ℕ) : Type 0 where
+  pub anchors : AreJoined n rows news
+  pub corner1 : n % 8 ≡ 4 → reversed_bits (slot_byte last news 1536) ≡ word_in rows (cells_of n Corner1)
+  pub corner2 : n % 8 ≡ 6 → reversed_bits (slot_byte last news 1536) ≡ word_in rows (cells_of n Corner2)
 
 -- the slot of a shape's codeword: 16 for each row, and an eighth of the anchor's column; the last one for a corner
 abbrev pub slot_of : Shape → ℕ

@@ -3,9 +3,9 @@
 use Rattle.std.specs.Prelude.{◌≡◌, ℕ, ◌+◌, ◌-◌, ◌%◌, ◌<◌, ◌≤◌, Bool, false, List}
 use Rattle.dm_layout.specs.inner.Reading.{look_in}
 
--- the square is there, with nothing to its left and to its right
-pub record IsMoved (n : ℕ) (look : ℕ → ℕ → Bool) (rows : List ℕ) : Type 0 where
-  pub inside : (r c : ℕ) → r < n → c < n → look_in rows (r + 2) (c + 4) ≡ look r c
+-- the rows of the square above one of them are there, with nothing to their left and to their right
+pub record IsMoved (n row : ℕ) (look : ℕ → ℕ → Bool) (rows : List ℕ) : Type 0 where
+  pub inside : (r c : ℕ) → r < row → c < n → look_in rows (r + 2) (c + 4) ≡ look r c
   pub left : (r c : ℕ) → c < 4 → look_in rows r c ≡ false
   pub right : (r c : ℕ) → n + 4 ≤ c → look_in rows r c ≡ false
 

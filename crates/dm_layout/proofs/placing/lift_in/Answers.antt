@@ -4,7 +4,7 @@ use Rattle.std.proofs.lemmas.List.{length-map, take_all}
 use Rattle.dm_layout.specs.Sizes.{SizeRow, codeword_count}
 use Rattle.dm_layout.specs.Border.{mapped_cell}
 use Rattle.dm_layout.specs.Placement.{shapes, cells_of}
-use Rattle.dm_layout.specs.inner.Slots.{order_of, slot_word, slot_of}
+use Rattle.dm_layout.specs.inner.Slots.{order_of, reversed_bits, slot_byte, slot_of}
 use Rattle.dm_layout.specs.inner.Widened.{IsWidened}
 use Rattle.dm_layout.specs.Words.{WordsView}
 use Rattle.dm_layout.proofs.LiftedWords.{slot_words, fits_test}
@@ -12,6 +12,10 @@ use Rattle.dm_layout.proofs.PlacementRows.{side_at_row}
 use Rattle.dm_layout.proofs.SlotOrder.{order_at_row, slot_in_rows, slot_count, read_more}
 use Rattle.dm_layout.proofs.Reading.{one_list, held, gathered_all, word_of}
 use Rattle.dm_layout.proofs.placing.lift_in.Goals as goal
+
+-- the codeword of a slot
+abbrev word_by : ℕ → List ℕ → ℕ → ℕ
+word_by last rows x = reversed_bits (slot_byte last rows x)
 
 pub codeword-requires-clause-slot : goal.codeword-requires-clause-slot
 codeword-requires-clause-slot g c =
@@ -28,7 +32,7 @@ put-requires g c =
 
 pub loop-i-preserved : goal.loop-i-preserved
 loop-i-preserved g c =
-    let f = slot_word (g.R.BitRows.numbers c.join_rows.new.rows) c.corner_word-corner.result in
+    let f = word_by g.R.BitRows.last (g.R.BitRows.numbers c.join_rows.new.rows) in
     let k = ap length c.order-slot-items.ensures in
     let n = slot_count c.size-size.result c.mapping-mapping.result c.order-slot-items.result.now c.mapping-mapping.ensures.row c.mapping-mapping.ensures.value c.order-slot-items.ensures in
     let e = ap codeword_count (c.loop-i.invariant.size ∙ sym c.size-size.ensures.value) in
@@ -47,7 +51,7 @@ returns-clause-holds g c =
     let n : ℕ = c.args.grid.now.size.mapping in
     let m : ℕ = c.mapping-mapping.result in
     let row = c.mapping-mapping.ensures.row in
-    let f = slot_word (g.R.BitRows.numbers c.join_rows.new.rows) c.corner_word-corner.result in
+    let f = word_by g.R.BitRows.last (g.R.BitRows.numbers c.join_rows.new.rows) in
     let em : m ≡ n = c.mapping-mapping.ensures.value ∙ ap (λ (s : SizeRow). s.mapping) c.size-size.ensures.value in
     let order = order_at_row c.size-size.result row in
     let es : c.size-size.result.mapping ≡ n = ap (λ (s : SizeRow). s.mapping) c.size-size.ensures.value in
@@ -59,8 +63,8 @@ returns-clause-holds g c =
     let wide : IsWidened m (mapped_cell c.args.grid.now) rows = subst (λ (i : ℕ). IsWidened i (mapped_cell c.args.grid.now) rows) (sym em) c.widen.ensures.widened in
     let words =
     slot_words m (mapped_cell c.args.grid.now) rows (omega (arith, c.mapping-mapping.ensures.least, c.mapping-mapping.ensures.value)) (side_at_row c.size-size.result m row c.mapping-mapping.ensures.value)
-    (omega (arith, c.mapping-mapping.ensures.even, c.mapping-mapping.ensures.value)) wide (g.R.BitRows.numbers c.join_rows.new.rows) c.corner_word-corner.result c.join_rows.ensures.joined c.corner_word-corner.ensures.first
-    c.corner_word-corner.ensures.second (shapes m) (subst (λ (i : ℕ). list_all (fits_test i) (shapes i) ≡ true) (sym c.mapping-mapping.ensures.value) order.fits) in
+    (omega (arith, c.mapping-mapping.ensures.even, c.mapping-mapping.ensures.value)) wide g.R.BitRows.last (g.R.BitRows.numbers c.join_rows.new.rows) (omega (arith, em, c.requires, g.met.R.BitRows.fits.0)) c.join_rows.ensures.slots (shapes m)
+    (subst (λ (i : ℕ). list_all (fits_test i) (shapes i) ≡ true) (sym c.mapping-mapping.ensures.value) order.fits) in
     held c.args.grid.now c.loop-i.words c.size-size.ensures.grid c.loop-i.invariant.words c.loop-i.invariant.size
     (sym (take_all c.loop-i.i c.loop-i.words.list (omega (arith, c.loop-i.invariant.words.count, count, ec, c.loop-i-test.false)))
     ∙ c.loop-i.invariant.so_far

@@ -1,5 +1,5 @@
 use Rattle.std.proofs.Common.{◌≡◌, map, take}
-use Rattle.dm_layout.specs.inner.Slots.{order_of, slot_word}
+use Rattle.dm_layout.specs.inner.Slots.{order_of, reversed_bits, slot_byte}
 use Rattle.dm_layout.specs.Words.{IsWords}
 use Rattle.dm_layout.proofs.placing.lift_in.Given as goal
 
@@ -7,5 +7,5 @@ abbrev pub invariant-loop-i : goal.invariant-loop-i
 invariant-loop-i g l = record {
   words : IsWords l.words;
   size : l.words.size ≡ l.grid.size;
-  so_far : take l.i l.words.list ≡ take l.i (map (slot_word (g.R.BitRows.numbers l.rows) l.corner) (order_of l.mapping));
+  so_far : take l.i l.words.list ≡ take l.i (map (λ x. reversed_bits (slot_byte g.R.BitRows.last (g.R.BitRows.numbers l.rows) x)) (order_of l.mapping));
 }

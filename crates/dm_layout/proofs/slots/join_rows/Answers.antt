@@ -1,14 +1,14 @@
 use Rattle.std.proofs.Common.{◌∙◌, length, ap, arith}
 use Rattle.std.proofs.lemmas.List.{length-set}
-use Rattle.dm_layout.proofs.SlotRows.{join_more}
+use Rattle.dm_layout.proofs.SlotRows.{corner_beside}
 use Rattle.dm_layout.proofs.slots.join_rows.Goals as goal
 
-pub loop-row-preserved : goal.loop-row-preserved
-loop-row-preserved g c =
-    let rows = g.R.BitRows.numbers c.loop-row.rows in
-    record {
-      count = ap length c.join.ensures.others ∙ length-set rows c.loop-row.row _ ∙ c.loop-row.invariant.count;
-      so_far =
-          join_more c.args.mapping g.R.BitRows.width (g.R.BitRows.numbers c.args.rows.now) rows (g.R.BitRows.numbers c.join.new.self) c.loop-row.row (omega (arith, c.requires.small, g.met.R.BitRows.wide)) c.join.ensures.others
-          c.join.ensures.joined c.loop-row.invariant.so_far;
-    }
+pub returns-clause-room : goal.returns-clause-room
+returns-clause-room g c = ap length c.put_corner.ensures ∙ length-set (g.R.BitRows.numbers c.join_anchors.new.rows) g.R.BitRows.last _ ∙ c.join_anchors.ensures.room
+
+pub returns-clause-slots : goal.returns-clause-slots
+returns-clause-slots g c =
+    let fits = g.met.R.BitRows.fits in
+    corner_beside c.args.mapping g.R.BitRows.last (g.R.BitRows.numbers c.args.rows.now) (g.R.BitRows.numbers c.join_anchors.new.rows) (g.R.BitRows.numbers c.put_corner.new.self) c.reversed.result c.corner_word-corner.result
+    (omega (arith, fits.0, c.requires.small)) fits.1 (omega (arith, fits.2, c.join_anchors.ensures.room)) c.put_corner.ensures c.reversed.type_inv c.reversed.ensures c.corner_word-corner.type_inv c.join_anchors.ensures.joined
+    c.corner_word-corner.ensures.first c.corner_word-corner.ensures.second

@@ -18,5 +18,5 @@ returns-clause-widened g c =
     let rows = g.R.BitRows.numbers in
     subst (λ (m : ℕ). IsWidened m (mapped_cell c.args.grid.now) (rows c.wrap_rows.new.rows)) e
     (is_widened c.mapping-mapping.result (mapped_cell c.args.grid.now) (rows c.move_rows.new.rows) (rows c.wrap_columns.new.rows) (rows c.wrap_rows.new.rows) (omega (arith, c.mapping-mapping.ensures.least, c.mapping-mapping.ensures.value))
-    (subst (λ (m : ℕ). IsMoved m (mapped_cell c.args.grid.now) (rows c.move_rows.new.rows)) (sym e) c.move_rows.ensures.moved)
+    (subst (λ (m : ℕ). IsMoved m m (mapped_cell c.args.grid.now) (rows c.move_rows.new.rows)) (sym e) c.move_rows.ensures.moved)
     c.wrap_columns.ensures.wrapped c.wrap_rows.ensures.above c.wrap_rows.ensures.others)

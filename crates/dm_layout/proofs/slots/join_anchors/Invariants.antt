@@ -1,6 +1,6 @@
 use Rattle.std.proofs.Common.{◌≡◌, ◌+◌, length}
 use Rattle.dm_layout.proofs.SlotRows.{AreSoFar}
-use Rattle.dm_layout.proofs.slots.join_rows.Given as goal
+use Rattle.dm_layout.proofs.slots.join_anchors.Given as goal
 
 abbrev pub invariant-loop-row : goal.invariant-loop-row
 invariant-loop-row g l = record {
