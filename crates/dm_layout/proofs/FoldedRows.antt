@@ -41,18 +41,19 @@ folded_or n f g r c =
 
 -- ---- pictures that are the same
 
-lowered_same : (n : ℕ) (f g : ℕ → ℕ → Bool) (r c : ℕ) → c < 100 → ((i j : ℕ) → j < 128 → f i j ≡ g i j) → lowered n f r c ≡ lowered n g r c
-lowered_same n f g r c l same =
+lowered_same : (n width : ℕ) (f g : ℕ → ℕ → Bool) (r c : ℕ) → c + 4 ≤ width → ((i j : ℕ) → j < width → f i j ≡ g i j) → lowered n f r c ≡ lowered n g r c
+lowered_same n width f g r c l same =
+    let s : (n + 4) % 8 < 8 = omega arith in
     ap (λ (b : Bool). b || (nat_le n r && nat_lt r (n + 2)) && (nat_le 4 (c + (n + 4) % 8) && f (r - n) (c + (n + 4) % 8 - 4))) (same r c (omega arith))
-    ∙ ap (λ (b : Bool). g r c || (nat_le n r && nat_lt r (n + 2)) && (nat_le 4 (c + (n + 4) % 8) && b)) (same (r - n) (c + (n + 4) % 8 - 4) (omega arith))
+    ∙ ap (λ (b : Bool). g r c || (nat_le n r && nat_lt r (n + 2)) && (nat_le 4 (c + (n + 4) % 8) && b)) (same (r - n) (c + (n + 4) % 8 - 4) (omega (arith, s, l)))
 
--- only columns below 128 are folded
-pub folded_same : (n : ℕ) (f g : ℕ → ℕ → Bool) (r c : ℕ) → c < 96 → ((i j : ℕ) → j < 128 → f i j ≡ g i j) → folded n f r c ≡ folded n g r c
-folded_same n f g r c l same =
+-- only columns up to eight beyond the square are folded
+pub folded_same : (n width : ℕ) (f g : ℕ → ℕ → Bool) (r c : ℕ) → c < n → n + 8 ≤ width → ((i j : ℕ) → j < width → f i j ≡ g i j) → folded n f r c ≡ folded n g r c
+folded_same n width f g r c l fits same =
     let t : Bool = nat_le (n - 4) c in
     let u : Bool = nat_le 6 (r + (n + 4) % 8) && nat_lt (r + (n + 4) % 8 - 2) (n + 2) in
-    ap (λ (b : Bool). b || t && (u && lowered n f (r + (n + 4) % 8 - 2) (c + 4 - n))) (lowered_same n f g (r + 2) (c + 4) (omega arith) same)
-    ∙ ap (λ (b : Bool). lowered n g (r + 2) (c + 4) || t && (u && b)) (lowered_same n f g (r + (n + 4) % 8 - 2) (c + 4 - n) (omega arith) same)
+    ap (λ (b : Bool). b || t && (u && lowered n f (r + (n + 4) % 8 - 2) (c + 4 - n))) (lowered_same n width f g (r + 2) (c + 4) (omega arith) same)
+    ∙ ap (λ (b : Bool). lowered n g (r + 2) (c + 4) || t && (u && b)) (lowered_same n width f g (r + (n + 4) % 8 - 2) (c + 4 - n) (omega arith) same)
 
 -- nothing, folded
 pub folded_none : (n r c : ℕ) → folded n (λ i j. false) r c ≡ false

@@ -4,19 +4,23 @@ use Rattle.std.specs.Prelude.{Decides}
 use Rattle.std.specs.Int.RustNames.{bit_or}
 use Rattle.std.specs.List.{list_all, range_with_len}
 use Rattle.std.proofs.Math.Bool.{and-or_distrib_left, or_assoc, or-false, and-true, and-false}
-use Rattle.std.proofs.lemmas.Bool.{true≢false, agree_below, agree_below_at, cases_eq}
-use Rattle.std.proofs.lemmas.Bool.Decides.{Decides-and, Decides-or, Decides-like, Decides-eqb, Decides-ltb, same_from_decides}
+use Rattle.std.proofs.Math.Nat.{mod-eq_of_lt}
+use Rattle.std.proofs.Math.Pow.{pow_pos, pow_mono}
+use Rattle.std.proofs.lemmas.Nat.{pow-add, mul-add-lt}
+use Rattle.std.proofs.lemmas.Nat.Bits.{bit_at_above}
+use Rattle.std.proofs.lemmas.Bool.{true≢false, agree_below, agree_below_at, cases_eq, cases_lt, lt-leb, le-leb, ltb-true, ne_eqb}
+use Rattle.std.proofs.lemmas.Bool.Decides.{Decides-and, Decides-or, Decides-like, Decides-eqb, Decides-ltb, Decides-at, same_from_decides}
 use Rattle.dm_layout.specs.declared.shape.Cell.{Cell}
 use Rattle.dm_layout.specs.Grid.{is_dark_in}
 use Rattle.dm_layout.specs.Placement.{At, wrapped_cell, standard}
 use Rattle.dm_layout.specs.inner.Laying.{by_anchors, scattered, folded}
-use Rattle.dm_layout.specs.inner.Reading.{marks_in}
+use Rattle.dm_layout.specs.inner.Reading.{look_in, marks_in}
 use Rattle.dm_layout.specs.inner.Slots.{first_column, reversed_bits}
 use Rattle.dm_layout.proofs.FoldedRows.{IsCell, one_cell, decides_le, decides_cell, folded_or, folded_same, folded_none, folded_cell}
 use Rattle.dm_layout.proofs.OuterRows.{or_dark}
 use Rattle.dm_layout.proofs.Ranges.{all_below}
 use Rattle.dm_layout.proofs.SlotRows.{reversed_twice}
-use Rattle.dm_layout.proofs.WidenedRows.{put_over, low_bit}
+use Rattle.dm_layout.proofs.WidenedRows.{put_over, low_bit, bit_up, none_up}
 
 -- ---- the cells of a byte, of which the lowest bit comes first
 
@@ -46,18 +50,14 @@ pub marks_reversed : (w : ℕ) (xs : List Cell) (r c : ℕ) → w < 256 → leng
 marks_reversed w xs r c l h = marks_alike (reversed_bits w) w 0 xs r c (λ t lt. reversed_bit w t l lt) (omega arith)
 
 -- and the other way round
-pub marks_turned : (y : ℕ) (xs : List Cell) (r c : ℕ) → length xs ≤ 8 → marks_low y 0 xs r c ≡ marks_in (reversed_bits y) 0 xs r c
-marks_turned y xs r c h = marks_alike y (reversed_bits y) 0 xs r c turned (omega arith)
+pub marks_turned : (y : ℕ) (xs : List Cell) (r c : ℕ) → length xs ≤ 8 → marks_low y 0 xs r c ≡ marks_in (reversed_bits (y % 256)) 0 xs r c
+marks_turned y xs r c h = marks_alike y (reversed_bits (y % 256)) 0 xs r c turned (omega arith)
   where
-    low : reversed_bits y ≡ reversed_bits (y % 256)
-    low = omega arith
-
-    turned : (t : ℕ) → t < 8 → is_dark_in y t ≡ nat_eq (reversed_bits y / 2 ^ (8 - (t + 1)) % 2) 1
+    turned : (t : ℕ) → t < 8 → is_dark_in y t ≡ nat_eq (reversed_bits (y % 256) / 2 ^ (8 - (t + 1)) % 2) 1
     turned t l =
         sym (low_bit y 8 t l)
         ∙ ap (λ (i : ℕ). is_dark_in i t) (sym (reversed_twice (y % 256) (omega arith)))
         ∙ reversed_bit (reversed_bits (y % 256)) t (omega arith) l
-        ∙ ap (λ (i : ℕ). nat_eq (i / 2 ^ (8 - (t + 1)) % 2) 1) (sym low)
 
 -- a bit of either byte
 either_bit : (p a b x y : Bool) → (p && (a || b) || (x || y)) ≡ ((p && a || x) || (p && b || y))
@@ -130,67 +130,96 @@ run_below y k i b m d r c =
 
 -- ---- one more codeword
 
--- what a byte in a slot adds
+-- a byte that is moved to the left, in a number of some width
+pub byte_up : (y s width c : ℕ) → y < 256 → s + 8 ≤ width → is_dark_in (y * 2 ^ s % 2 ^ width) c ≡ (nat_le s c && is_dark_in y (c - s))
+byte_up y s width c small fits = ap (λ (i : ℕ). is_dark_in i c) (mod-eq_of_lt below) ∙ by_column (cases_lt c s)
+  where
+    below : y * 2 ^ s < 2 ^ width
+    below =
+        let a = mul-add-lt y (2 ^ s) 0 256 small (pow_pos s) in
+        let b : 2 ^ (s + 8) ≡ 2 ^ s * 2 ^ 8 = pow-add 2 s 8 in
+        let d : 2 ^ (s + 8) ≤ 2 ^ width = pow_mono fits in
+        omega (arith, a, b, d)
+
+    by_column : (c < s) ⊎ (s ≤ c) → is_dark_in (y * 2 ^ s) c ≡ (nat_le s c && is_dark_in y (c - s))
+    by_column (inl h) = none_up y s c h ∙ ap (λ (t : Bool). t && is_dark_in y (c - s)) (sym (lt-leb s c h))
+    by_column (inr h) =
+        let e : c ≡ s + (c - s) = omega (arith, h) in
+        ap (is_dark_in (y * 2 ^ s)) e ∙ bit_up y s (c - s) ∙ ap (λ (t : Bool). t && is_dark_in y (c - s)) (sym (le-leb s c h))
+
+-- a byte has eight bits
+byte_bits : (y t : ℕ) → y < 256 → is_dark_in y t ≡ true → t < 8
+byte_bits y t small e = by_place (cases_lt t 8)
+  where
+    by_place : (t < 8) ⊎ (8 ≤ t) → t < 8
+    by_place (inl h) = h
+    by_place (inr h) = absurd (true≢false (sym e ∙ ap (λ (i : ℕ). nat_eq i 1) (bit_at_above y 8 t small h)))
+
+-- what a number in a row of slots adds
 abbrev added : ℕ → ℕ → ℕ → ℕ → ℕ → ℕ → ℕ → Bool
-added n s y q low count c =
-    nat_lt q n
-    && (nat_le (first_column q) c
-    && (nat_lt ((c - first_column q) % 8) count && (nat_eq (16 * q + (c - first_column q + low) / 8) s && is_dark_in y ((c - first_column q + low) % 8))))
+added n s x q low count c = nat_lt q n && (nat_le (first_column q) c && (nat_lt ((c - first_column q) % 8) count && (nat_eq q s && is_dark_in x (c - first_column q + low))))
 
--- the same, as numbers
-abbrev IsAdded : ℕ → ℕ → ℕ → ℕ → ℕ → ℕ → ℕ → Type 0
-IsAdded n s y q low count c =
-    (q < n)
-    × ((first_column q ≤ c)
-    × (((c - first_column q) % 8 < count) × ((16 * q + (c - first_column q + low) / 8 ≡ s) × (is_dark_in y ((c - first_column q + low) % 8) ≡ true))))
-
-decides_added : (n s y q low count c : ℕ) → Decides (added n s y q low count c) (IsAdded n s y q low count c)
-decides_added n s y q low count c =
-    Decides-and _ _ (Decides-ltb q n)
-    (Decides-and _ _ (decides_le (first_column q) c)
-    (Decides-and _ _ (Decides-ltb ((c - first_column q) % 8) count)
-    (Decides-and _ _ (Decides-eqb (16 * q + (c - first_column q + low) / 8) s) (itself (is_dark_in y ((c - first_column q + low) % 8))))))
-
-anchors_or : (n s y q low count c : ℕ) (slots : List ℕ) → s < length slots →
-    by_anchors n (set slots s (bit_or (get_or slots s 0) y)) q low count c ≡ (by_anchors n slots q low count c || added n s y q low count c)
-anchors_or n s y q low count c slots l =
+anchors_or : (n s x q low count c : ℕ) (slots : List ℕ) → s < length slots →
+    by_anchors n (set slots s (bit_or (get_or slots s 0) x)) q low count c ≡ (by_anchors n slots q low count c || added n s x q low count c)
+anchors_or n s x q low count c slots l =
     let j : ℕ = c - first_column q + low in
     let t1 : Bool = nat_lt q n in
     let t2 : Bool = nat_le (first_column q) c in
     let t3 : Bool = nat_lt ((c - first_column q) % 8) count in
-    let old : Bool = is_dark_in (get_or slots (16 * q + j / 8) 0) (j % 8) in
-    let new : Bool = nat_eq (16 * q + j / 8) s && is_dark_in y (j % 8) in
-    ap (λ (b : Bool). t1 && (t2 && (t3 && b))) (put_over slots s y (16 * q + j / 8) (j % 8) l)
+    let old : Bool = look_in slots q j in
+    let new : Bool = nat_eq q s && is_dark_in x j in
+    ap (λ (b : Bool). t1 && (t2 && (t3 && b))) (put_over slots s x q j l)
     ∙ ap (λ (b : Bool). t1 && (t2 && b)) (and-or_distrib_left t3 old new)
     ∙ ap (λ (b : Bool). t1 && b) (and-or_distrib_left t2 (t3 && old) (t3 && new))
     ∙ and-or_distrib_left t1 (t2 && (t3 && old)) (t2 && (t3 && new))
 
+-- the same for a byte, as numbers
+abbrev IsAdded : ℕ → ℕ → ℕ → ℕ → ℕ → ℕ → ℕ → ℕ → Type 0
+IsAdded n i y s q low count c =
+    (q < n) × ((first_column q ≤ c) × (((c - first_column q) % 8 < count) × ((q ≡ i) × ((s ≤ c - first_column q + low) × (is_dark_in y (c - first_column q + low - s) ≡ true)))))
+
+decides_added : (n i y s width q low count c : ℕ) → y < 256 → s + 8 ≤ width → Decides (added n i (y * 2 ^ s % 2 ^ width) q low count c) (IsAdded n i y s q low count c)
+decides_added n i y s width q low count c small fits =
+    Decides-and _ _ (Decides-ltb q n)
+    (Decides-and _ _ (decides_le (first_column q) c)
+    (Decides-and _ _ (Decides-ltb ((c - first_column q) % 8) count)
+    (Decides-and _ _ (Decides-eqb q i)
+    (Decides-at _ _ (byte_up y s width (c - first_column q + low) small fits)
+    (Decides-and _ _ (decides_le s (c - first_column q + low)) (itself (is_dark_in y (c - first_column q + low - s))))))))
+
 -- a byte in the slot of an anchor adds cells beside the anchor
-added_run : (n i j y q low count c : ℕ) → i < n → j < 128 → c < 128 → (5 * i + j) % 8 ≡ 4 → low + count ≤ 8 →
-    added n (16 * i + j / 8) y q low count c ≡ marks_low y low (cells_run i (j + 2) count) q c
-added_run n i j y q low count c li lj lc anchor small =
-    same_from_decides (added n (16 * i + j / 8) y q low count c) _
-    (Decides-like (added n (16 * i + j / 8) y q low count c) to from (decides_added n (16 * i + j / 8) y q low count c))
+added_run : (n i j y width q low count c : ℕ) → i < n → (5 * i + j) % 8 ≡ 4 → y < 256 → 8 * (j / 8) + 8 ≤ width → low + count ≤ 8 →
+    added n i (y * 2 ^ (8 * (j / 8)) % 2 ^ width) q low count c ≡ marks_low y low (cells_run i (j + 2) count) q c
+added_run n i j y width q low count c li anchor small fits low_count =
+    same_from_decides (added n i (y * 2 ^ (8 * (j / 8)) % 2 ^ width) q low count c) _
+    (Decides-like (added n i (y * 2 ^ (8 * (j / 8)) % 2 ^ width) q low count c) to from (decides_added n i y (8 * (j / 8)) width q low count c small fits))
     (decides_run y low i (j + 2) count q c)
   where
-    to : IsAdded n (16 * i + j / 8) y q low count c → InRun y low i (j + 2) count q c
-    to (lq, (lf, (lt, (es, d)))) =
-        let eq : q ≡ i = omega arith in
-        let e : (c - first_column q + low) % 8 ≡ c - (j + 2) + low = omega arith in
+    to : IsAdded n i y (8 * (j / 8)) q low count c → InRun y low i (j + 2) count q c
+    to (lq, (lf, (lt, (eq, (ls, d))))) =
+        let h = byte_bits y (c - first_column q + low - 8 * (j / 8)) small d in
+        let e : c - first_column q + low - 8 * (j / 8) ≡ c - (j + 2) + low = omega arith in
         (eq, omega arith, omega arith, subst (λ (t : ℕ). is_dark_in y t ≡ true) e d)
 
-    from : InRun y low i (j + 2) count q c → IsAdded n (16 * i + j / 8) y q low count c
+    from : InRun y low i (j + 2) count q c → IsAdded n i y (8 * (j / 8)) q low count c
     from (eq, lo, hi, d) =
-        let e : c - (j + 2) + low ≡ (c - first_column q + low) % 8 = omega arith in
-        (omega arith, (omega arith, (omega arith, (omega arith, subst (λ (t : ℕ). is_dark_in y t ≡ true) e d))))
+        let e : c - (j + 2) + low ≡ c - first_column q + low - 8 * (j / 8) = omega arith in
+        (omega arith, (omega arith, (omega arith, (eq, (omega arith, subst (λ (t : ℕ). is_dark_in y t ≡ true) e d)))))
 
--- a byte behind all rows adds nothing
-added_none : (n s y q low count c : ℕ) → n ≤ 96 → 1536 ≤ s → c < 128 → low + count ≤ 8 → added n s y q low count c ≡ false
-added_none n s y q low count c most far lc small =
-    same_from_decides (added n s y q low count c) false (Decides-like (added n s y q low count c) to absurd (decides_added n s y q low count c)) (λ e. true≢false (sym e), absurd)
+-- a number behind all rows adds nothing
+added_none : (n s x q low count c : ℕ) → n ≤ s → added n s x q low count c ≡ false
+added_none n s x q low count c far = by_row (nat_lt q n) refl
   where
-    to : IsAdded n s y q low count c → ⊥
-    to (lq, (lf, (lt, (es, d)))) = omega arith
+    none : (a b : Bool) → (a && (b && false)) ≡ false
+    none true b = and-false b
+    none false b = refl
+
+    by_row : (t : Bool) → nat_lt q n ≡ t → (t && (nat_le (first_column q) c && (nat_lt ((c - first_column q) % 8) count && (nat_eq q s && is_dark_in x (c - first_column q + low))))) ≡ false
+    by_row false e = refl
+    by_row true e =
+        let l = ltb-true q n e in
+        ap (λ (t : Bool). nat_le (first_column q) c && (nat_lt ((c - first_column q) % 8) count && (t && is_dark_in x (c - first_column q + low)))) (ne_eqb q s (λ f. omega (arith, f, l, far)))
+        ∙ none (nat_le (first_column q) c) (nat_lt ((c - first_column q) % 8) count)
 
 -- the cells of a standard shape in widened rows
 abbrev pub wide_cells : ℕ → ℕ → List Cell
@@ -206,11 +235,11 @@ three_added false false true false true z = refl
 three_added false false true false false z = refl
 three_added false false false x y z = refl
 
-module _ (n y : ℕ) (slots : List ℕ) where
+module _ (n : ℕ) (slots : List ℕ) where
   -- a byte in the slot of an anchor scatters the cells of the anchor's shape
-  pub scattered_shape : (i j r c : ℕ) → i < n → j < 128 → c < 128 → (5 * i + j) % 8 ≡ 4 → 16 * i + j / 8 < length slots →
-      scattered n (set slots (16 * i + j / 8) (bit_or (get_or slots (16 * i + j / 8) 0) y)) r c ≡ (scattered n slots r c || marks_low y 0 (wide_cells i j) r c)
-  scattered_shape i j r c li lj lc anchor l =
+  pub scattered_shape : (i j y width r c : ℕ) → i < n → (5 * i + j) % 8 ≡ 4 → y < 256 → 8 * (j / 8) + 8 ≤ width → i < length slots →
+      scattered n (set slots i (bit_or (get_or slots i 0) (y * 2 ^ (8 * (j / 8)) % 2 ^ width))) r c ≡ (scattered n slots r c || marks_low y 0 (wide_cells i j) r c)
+  scattered_shape i j y width r c li anchor small fits l =
       ap (λ (b : Bool). b || ((nat_le 1 r && by_anchors n news (r - 1) 2 3 c) || (nat_le 2 r && by_anchors n news (r - 2) 5 3 c))) (in_row r 0 2 (omega arith))
       ∙ ap (λ (b : Bool). (by_anchors n slots r 0 2 c || marks_low y 0 first r c) || (b || (nat_le 2 r && by_anchors n news (r - 2) 5 3 c))) (in_lower 1 2 3 (omega arith))
       ∙ ap (λ (b : Bool). (by_anchors n slots r 0 2 c || marks_low y 0 first r c) || (((nat_le 1 r && by_anchors n slots (r - 1) 2 3 c) || marks_low y 2 second r c) || b)) (in_lower 2 5 3 (omega arith))
@@ -218,8 +247,11 @@ module _ (n y : ℕ) (slots : List ℕ) where
       ∙ ap (λ (b : Bool). scattered n slots r c || (marks_low y 0 first r c || b)) (sym (marks_append y 2 second third r c))
       ∙ ap (λ (b : Bool). scattered n slots r c || b) (sym (marks_append y 0 first (second ++ third) r c))
     where
+      x : ℕ
+      x = y * 2 ^ (8 * (j / 8)) % 2 ^ width
+
       news : List ℕ
-      news = set slots (16 * i + j / 8) (bit_or (get_or slots (16 * i + j / 8) 0) y)
+      news = set slots i (bit_or (get_or slots i 0) x)
 
       first : List Cell
       first = cells_run i (j + 2) 2
@@ -231,30 +263,30 @@ module _ (n y : ℕ) (slots : List ℕ) where
       third = cells_run (i + 2) (j + 2) 3
 
       in_row : (q low count : ℕ) → low + count ≤ 8 → by_anchors n news q low count c ≡ (by_anchors n slots q low count c || marks_low y low (cells_run i (j + 2) count) q c)
-      in_row q low count small =
-          anchors_or n (16 * i + j / 8) y q low count c slots l ∙ ap (λ (b : Bool). by_anchors n slots q low count c || b) (added_run n i j y q low count c li lj lc anchor small)
+      in_row q low count low_count =
+          anchors_or n i x q low count c slots l ∙ ap (λ (b : Bool). by_anchors n slots q low count c || b) (added_run n i j y width q low count c li anchor small fits low_count)
 
       in_lower : (d low count : ℕ) → low + count ≤ 8 →
           (nat_le d r && by_anchors n news (r - d) low count c) ≡ ((nat_le d r && by_anchors n slots (r - d) low count c) || marks_low y low (cells_run (i + d) (j + 2) count) r c)
-      in_lower d low count small =
-          ap (λ (b : Bool). nat_le d r && b) (in_row (r - d) low count small)
+      in_lower d low count low_count =
+          ap (λ (b : Bool). nat_le d r && b) (in_row (r - d) low count low_count)
           ∙ and-or_distrib_left (nat_le d r) (by_anchors n slots (r - d) low count c) (marks_low y low (cells_run i (j + 2) count) (r - d) c)
           ∙ ap (λ (b : Bool). (nat_le d r && by_anchors n slots (r - d) low count c) || b) (run_below y low i (j + 2) count d r c)
 
-  -- a byte behind all rows scatters nothing
-  pub scattered_corner : (s r c : ℕ) → n ≤ 96 → 1536 ≤ s → c < 128 → s < length slots → scattered n (set slots s (bit_or (get_or slots s 0) y)) r c ≡ scattered n slots r c
-  scattered_corner s r c most far lc l =
-      ap (λ (b : Bool). b || ((nat_le 1 r && by_anchors n news (r - 1) 2 3 c) || (nat_le 2 r && by_anchors n news (r - 2) 5 3 c))) (same r 0 2 (omega arith))
-      ∙ ap (λ (b : Bool). by_anchors n slots r 0 2 c || ((nat_le 1 r && b) || (nat_le 2 r && by_anchors n news (r - 2) 5 3 c))) (same (r - 1) 2 3 (omega arith))
-      ∙ ap (λ (b : Bool). by_anchors n slots r 0 2 c || ((nat_le 1 r && by_anchors n slots (r - 1) 2 3 c) || (nat_le 2 r && b))) (same (r - 2) 5 3 (omega arith))
+  -- a number behind all rows scatters nothing
+  pub scattered_corner : (s x r c : ℕ) → n ≤ s → s < length slots → scattered n (set slots s (bit_or (get_or slots s 0) x)) r c ≡ scattered n slots r c
+  scattered_corner s x r c far l =
+      ap (λ (b : Bool). b || ((nat_le 1 r && by_anchors n news (r - 1) 2 3 c) || (nat_le 2 r && by_anchors n news (r - 2) 5 3 c))) (same r 0 2)
+      ∙ ap (λ (b : Bool). by_anchors n slots r 0 2 c || ((nat_le 1 r && b) || (nat_le 2 r && by_anchors n news (r - 2) 5 3 c))) (same (r - 1) 2 3)
+      ∙ ap (λ (b : Bool). by_anchors n slots r 0 2 c || ((nat_le 1 r && by_anchors n slots (r - 1) 2 3 c) || (nat_le 2 r && b))) (same (r - 2) 5 3)
     where
       news : List ℕ
-      news = set slots s (bit_or (get_or slots s 0) y)
+      news = set slots s (bit_or (get_or slots s 0) x)
 
-      same : (q low count : ℕ) → low + count ≤ 8 → by_anchors n news q low count c ≡ by_anchors n slots q low count c
-      same q low count small =
-          anchors_or n s y q low count c slots l
-          ∙ ap (λ (b : Bool). by_anchors n slots q low count c || b) (added_none n s y q low count c most far lc small)
+      same : (q low count : ℕ) → by_anchors n news q low count c ≡ by_anchors n slots q low count c
+      same q low count =
+          anchors_or n s x q low count c slots l
+          ∙ ap (λ (b : Bool). by_anchors n slots q low count c || b) (added_none n s x q low count c far)
           ∙ or-false (by_anchors n slots q low count c)
 
 -- ---- folded cells
@@ -267,11 +299,11 @@ AreFolded n r c (x ∷ xs) [] = ⊥
 AreFolded n r c (x ∷ xs) (z ∷ zs) = (folded n (one_cell x.row x.column) r c ≡ one_cell z.row z.column r c) × AreFolded n r c xs zs
 
 -- a picture that a bit shows or hides
-folded_and : (n : ℕ) (f : ℕ → ℕ → Bool) (d : Bool) (r c : ℕ) → c < 96 → folded n (λ i j. f i j && d) r c ≡ (folded n f r c && d)
-folded_and n f true r c l = folded_same n (λ i j. f i j && true) f r c l (λ i j _. and-true (f i j)) ∙ sym (and-true (folded n f r c))
-folded_and n f false r c l = folded_same n (λ i j. f i j && false) (λ i j. false) r c l (λ i j _. and-false (f i j)) ∙ folded_none n r c ∙ sym (and-false (folded n f r c))
+folded_and : (n : ℕ) (f : ℕ → ℕ → Bool) (d : Bool) (r c : ℕ) → c < n → folded n (λ i j. f i j && d) r c ≡ (folded n f r c && d)
+folded_and n f true r c l = folded_same n (n + 8) (λ i j. f i j && true) f r c l (omega arith) (λ i j _. and-true (f i j)) ∙ sym (and-true (folded n f r c))
+folded_and n f false r c l = folded_same n (n + 8) (λ i j. f i j && false) (λ i j. false) r c l (omega arith) (λ i j _. and-false (f i j)) ∙ folded_none n r c ∙ sym (and-false (folded n f r c))
 
-pub folded_marks : (n y k r c : ℕ) (xs zs : List Cell) → c < 96 → AreFolded n r c xs zs → folded n (marks_low y k xs) r c ≡ marks_low y k zs r c
+pub folded_marks : (n y k r c : ℕ) (xs zs : List Cell) → c < n → AreFolded n r c xs zs → folded n (marks_low y k xs) r c ≡ marks_low y k zs r c
 folded_marks n y k r c [] [] l h = folded_none n r c
 folded_marks n y k r c [] (z ∷ zs) l h = absurd h
 folded_marks n y k r c (x ∷ xs) [] l h = absurd h

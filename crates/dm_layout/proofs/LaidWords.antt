@@ -1,7 +1,9 @@
 -- That the codewords in slots, scattered and folded, lie at their places.
-use Rattle.std.proofs.Common.{◌≡◌, ◌≢◌, ℕ, zero, suc, ◌+◌, ◌-◌, ◌*◌, ◌/◌, ◌%◌, ◌<◌, ◌≤◌, Bool, true, false, ◌&&◌, ◌||◌, nat_eq, nat_le, nat_lt, List, [], ◌∷◌, map, length, get_or, set, drop, replicate, refl, sym, ◌∙◌, ap, arith, get_or-set_same, get_or-set_other, drop-cons, drop_of_length-le}
+use Rattle.std.proofs.Common.{◌≡◌, ◌≢◌, ℕ, zero, suc, ◌+◌, ◌-◌, ◌*◌, ◌/◌, ◌%◌, ◌^◌, ◌<◌, ◌≤◌, min, Bool, true, false, ◌&&◌, ◌||◌, nat_eq, nat_le, nat_lt, List, [], ◌∷◌, map, length, get_or, set, drop, replicate, refl, sym, ◌∙◌, ap, arith, get_or-set_same, get_or-set_other, drop-cons, drop_of_length-le}
 use Rattle.std.specs.Int.RustNames.{bit_or}
 use Rattle.std.specs.List.{list_all}
+use Rattle.std.proofs.Math.Nat.{mod-eq_of_lt}
+use Rattle.std.proofs.Math.Pow.{pow_mono}
 use Rattle.std.proofs.Math.Bool.{or_assoc, or-false, and-false}
 use Rattle.std.proofs.lemmas.Bool.{and_parts, ltb-true, eqb-true}
 use Rattle.std.proofs.lemmas.List.{get_or-map}
@@ -11,7 +13,7 @@ use Rattle.dm_layout.specs.declared.shape.Shape.{Shape}
 use Rattle.dm_layout.specs.declared.shape.Shape.TheVariants.{Standard, Corner1, Corner2, Corner3, Corner4}
 use Rattle.dm_layout.specs.Grid.{is_dark_in}
 use Rattle.dm_layout.specs.Placement.{standard, cells_of, shapes, places_from, places_in_order}
-use Rattle.dm_layout.specs.inner.Laying.{by_anchors, scattered, folded, corner_marks}
+use Rattle.dm_layout.specs.inner.Laying.{by_anchors, scattered, folded, corner_marks, with_byte}
 use Rattle.dm_layout.specs.inner.Reading.{marks_in}
 use Rattle.dm_layout.specs.inner.Slots.{first_column, reversed_bits, slot_of}
 use Rattle.dm_layout.proofs.FoldedRows.{folded_or, folded_same, folded_none}
@@ -23,9 +25,9 @@ use Rattle.dm_layout.proofs.Painting.{marks, marks_word, light_at}
 abbrev pub corner_cells : ℕ → List Cell
 corner_cells n = elim (nat_eq (n % 8) 4) [ true ↦ cells_of n Corner1 | false ↦ elim (nat_eq (n % 8) 6) [ true ↦ cells_of n Corner2 | false ↦ [] ] ]
 
--- the square with all that is in the slots
-abbrev pub laid_slots : ℕ → List ℕ → ℕ → ℕ → Bool
-laid_slots n slots r c = folded n (scattered n slots) r c || marks_low (get_or slots 1536 0) 0 (corner_cells n) r c
+-- the square with all that is in the slots, of which row `last` is that of a corner
+abbrev pub laid_slots : ℕ → ℕ → List ℕ → ℕ → ℕ → Bool
+laid_slots n last slots r c = folded n (scattered n slots) r c || marks_low (get_or slots last 0) 0 (corner_cells n) r c
 
 -- what is added on the left or on the right
 add_left : (a b x : Bool) → ((a || x) || b) ≡ ((a || b) || x)
@@ -35,42 +37,68 @@ add_left false true false = refl
 add_left false false true = refl
 add_left false false false = refl
 
-module _ (n y : ℕ) (slots : List ℕ) (least : 8 ≤ n) (most : n ≤ 96) (even : n % 2 ≡ 0) (room : 1536 < length slots) where
-  -- one more codeword of a standard shape
-  put_standard : (i j r c : ℕ) → i < n → j < n → (5 * i + j) % 8 ≡ 4 → r < n → c < n →
-      laid_slots n (set slots (16 * i + j / 8) (bit_or (get_or slots (16 * i + j / 8) 0) y)) r c ≡ (laid_slots n slots r c || marks_low y 0 (standard n i j) r c)
-  put_standard i j r c li lj anchor lr lc =
-      let other : 1536 ≢ s = omega arith in
-      let all = folded_same n (scattered n news) (λ u v. scattered n slots u v || marks_low y 0 (wide_cells i j) u v) r c (omega arith) (λ u v l. scattered_shape n y slots i j u v li (omega arith) l anchor (omega arith)) in
-      ap (λ (x : ℕ). folded n (scattered n news) r c || marks_low x 0 (corner_cells n) r c) (get_or-set_other slots s 1536 (bit_or (get_or slots s 0) y) 0 other)
-      ∙ ap (λ (b : Bool). b || corner) (all ∙ folded_or n (scattered n slots) (marks_low y 0 (wide_cells i j)) r c)
-      ∙ ap (λ (b : Bool). (folded n (scattered n slots) r c || b) || corner) (folded_marks n y 0 r c (wide_cells i j) (standard n i j) (omega arith) (wide_folded n i j r c least even li lj anchor lr lc))
-      ∙ add_left (folded n (scattered n slots) r c) corner (marks_low y 0 (standard n i j) r c)
-    where
-      s : ℕ
-      s = 16 * i + j / 8
+-- the slots have room for a mapping square
+pub record AreRoom (n width last : ℕ) : Type 0 where
+  pub least : 8 ≤ n
+  pub fits : n + 16 ≤ width
+  pub most : n ≤ last
+  pub last_most : last ≤ 96
 
-      news : List ℕ
-      news = set slots s (bit_or (get_or slots s 0) y)
-
-      corner : Bool
-      corner = marks_low (get_or slots 1536 0) 0 (corner_cells n) r c
+module _ (n width last y : ℕ) (slots : List ℕ) (room : AreRoom n width last) (even : n % 2 ≡ 0) (inside : last < length slots) (small : y < 256) where
+  -- a byte in the slot of an anchor
+  anchor_byte : (i j : ℕ) → i < n → j < n → with_byte width last slots (16 * i + j / 8) y ≡ set slots i (bit_or (get_or slots i 0) (y * 2 ^ (8 * (j / 8)) % 2 ^ width))
+  anchor_byte i j li lj =
+      let row : min ((16 * i + j / 8) / 16) last ≡ i = omega (arith, li, lj, room.most, room.last_most) in
+      let place : (16 * i + j / 8) % 16 ≡ j / 8 = omega (arith, lj, room.most, room.last_most) in
+      ap (λ (k : ℕ). set slots k (bit_or (get_or slots k 0) (y * 2 ^ (8 * ((16 * i + j / 8) % 16)) % 2 ^ width))) row
+      ∙ ap (λ (k : ℕ). set slots i (bit_or (get_or slots i 0) (y * 2 ^ (8 * k) % 2 ^ width))) place
 
   -- or of a corner
-  put_corner : (xs : List Cell) (r c : ℕ) → c < n → corner_cells n ≡ xs → laid_slots n (set slots 1536 (bit_or (get_or slots 1536 0) y)) r c ≡ (laid_slots n slots r c || marks_low y 0 xs r c)
-  put_corner xs r c lc e =
-      ap (λ (b : Bool). b || marks_low (get_or news 1536 0) 0 (corner_cells n) r c) (folded_same n (scattered n news) (scattered n slots) r c (omega arith) (λ u v l. scattered_corner n y slots 1536 u v most (omega arith) l room))
-      ∙ ap (λ (x : ℕ). folded n (scattered n slots) r c || marks_low x 0 (corner_cells n) r c) (get_or-set_same slots 1536 (bit_or (get_or slots 1536 0) y) 0 room)
-      ∙ ap (λ (b : Bool). folded n (scattered n slots) r c || b) (marks_or (get_or slots 1536 0) y 0 (corner_cells n) r c)
-      ∙ sym (or_assoc (folded n (scattered n slots) r c) (marks_low (get_or slots 1536 0) 0 (corner_cells n) r c) (marks_low y 0 (corner_cells n) r c))
-      ∙ ap (λ (cs : List Cell). laid_slots n slots r c || marks_low y 0 cs r c) e
+  corner_byte : with_byte width last slots 1536 y ≡ set slots last (bit_or (get_or slots last 0) y)
+  corner_byte =
+      let row : min (1536 / 16) last ≡ last = omega (arith, room.last_most) in
+      let wide : 8 ≤ width = omega (arith, room.fits) in
+      let eight : 2 ^ 8 ≤ 2 ^ width = pow_mono wide in
+      let same : y * 1 ≡ y = omega arith in
+      ap (λ (k : ℕ). set slots k (bit_or (get_or slots k 0) (y * 1 % 2 ^ width))) row
+      ∙ ap (λ (x : ℕ). set slots last (bit_or (get_or slots last 0) (x % 2 ^ width))) same
+      ∙ ap (λ (x : ℕ). set slots last (bit_or (get_or slots last 0) x)) (mod-eq_of_lt (omega (arith, small, eight)))
+
+  -- one more codeword of a standard shape
+  put_standard : (i j r c : ℕ) → i < n → j < n → (5 * i + j) % 8 ≡ 4 → r < n → c < n →
+      laid_slots n last (with_byte width last slots (16 * i + j / 8) y) r c ≡ (laid_slots n last slots r c || marks_low y 0 (standard n i j) r c)
+  put_standard i j r c li lj anchor lr lc =
+      let other : last ≢ i = omega (arith, li, room.most) in
+      let all =
+      folded_same n width (scattered n news) (λ u v. scattered n slots u v || marks_low y 0 (wide_cells i j) u v) r c lc (omega (arith, room.fits))
+      (λ u v _. scattered_shape n slots i j y width u v li anchor small (omega (arith, lj, room.fits)) (omega (arith, li, room.most, inside))) in
+      ap (λ (xs : List ℕ). laid_slots n last xs r c) (anchor_byte i j li lj)
+      ∙ ap (λ (x : ℕ). folded n (scattered n news) r c || marks_low x 0 (corner_cells n) r c) (get_or-set_other slots i last (bit_or (get_or slots i 0) (y * 2 ^ (8 * (j / 8)) % 2 ^ width)) 0 other)
+      ∙ ap (λ (b : Bool). b || corner) (all ∙ folded_or n (scattered n slots) (marks_low y 0 (wide_cells i j)) r c)
+      ∙ ap (λ (b : Bool). (folded n (scattered n slots) r c || b) || corner) (folded_marks n y 0 r c (wide_cells i j) (standard n i j) lc (wide_folded n i j r c room.least even li lj anchor lr lc))
+      ∙ add_left (folded n (scattered n slots) r c) corner (marks_low y 0 (standard n i j) r c)
     where
       news : List ℕ
-      news = set slots 1536 (bit_or (get_or slots 1536 0) y)
+      news = set slots i (bit_or (get_or slots i 0) (y * 2 ^ (8 * (j / 8)) % 2 ^ width))
+
+      corner : Bool
+      corner = marks_low (get_or slots last 0) 0 (corner_cells n) r c
+
+  -- or of a corner
+  put_corner : (xs : List Cell) (r c : ℕ) → c < n → corner_cells n ≡ xs → laid_slots n last (with_byte width last slots 1536 y) r c ≡ (laid_slots n last slots r c || marks_low y 0 xs r c)
+  put_corner xs r c lc e =
+      ap (λ (ss : List ℕ). laid_slots n last ss r c) corner_byte
+      ∙ ap (λ (b : Bool). b || marks_low (get_or news last 0) 0 (corner_cells n) r c) (folded_same n width (scattered n news) (scattered n slots) r c lc (omega (arith, room.fits)) (λ u v _. scattered_corner n slots last y u v room.most inside))
+      ∙ ap (λ (x : ℕ). folded n (scattered n slots) r c || marks_low x 0 (corner_cells n) r c) (get_or-set_same slots last (bit_or (get_or slots last 0) y) 0 inside)
+      ∙ ap (λ (b : Bool). folded n (scattered n slots) r c || b) (marks_or (get_or slots last 0) y 0 (corner_cells n) r c)
+      ∙ sym (or_assoc (folded n (scattered n slots) r c) (marks_low (get_or slots last 0) 0 (corner_cells n) r c) (marks_low y 0 (corner_cells n) r c))
+      ∙ ap (λ (cs : List Cell). laid_slots n last slots r c || marks_low y 0 cs r c) e
+    where
+      news : List ℕ
+      news = set slots last (bit_or (get_or slots last 0) y)
 
   -- or of any shape that fits
-  put_low : (s : Shape) (r c : ℕ) → fits_test n s ≡ true → r < n → c < n →
-      laid_slots n (set slots (slot_of s) (bit_or (get_or slots (slot_of s) 0) y)) r c ≡ (laid_slots n slots r c || marks_low y 0 (cells_of n s) r c)
+  put_low : (s : Shape) (r c : ℕ) → fits_test n s ≡ true → r < n → c < n → laid_slots n last (with_byte width last slots (slot_of s) y) r c ≡ (laid_slots n last slots r c || marks_low y 0 (cells_of n s) r c)
   put_low (Standard i j) r c fits lr lc =
       let both = and_parts (kind_test n (Standard i j)) (inside_test n (standard n i j)) fits in
       let kind = and_parts (nat_lt i n && nat_lt j n) (nat_eq ((5 * i + j) % 8) 4) both.0 in
@@ -95,19 +123,23 @@ eight_cells n Corner2 = refl
 eight_cells n Corner3 = refl
 eight_cells n Corner4 = refl
 
+-- a byte with its bits in the opposite order is a byte
+reversed_small : (w : ℕ) → reversed_bits w < 256
+reversed_small w = omega arith
+
 -- one more codeword in its slot lies in the cells of its shape
-pub slot_put : (n w : ℕ) (slots : List ℕ) (s : Shape) (r c : ℕ) → 8 ≤ n → n ≤ 96 → n % 2 ≡ 0 → 1536 < length slots → w < 256 → fits_test n s ≡ true → r < n → c < n →
-    laid_slots n (set slots (slot_of s) (bit_or (get_or slots (slot_of s) 0) (reversed_bits w))) r c ≡ (laid_slots n slots r c || marks_in w 0 (cells_of n s) r c)
-slot_put n w slots s r c least most even room small fits lr lc =
+slot_put : (n width last w : ℕ) (slots : List ℕ) (s : Shape) (r c : ℕ) → AreRoom n width last → n % 2 ≡ 0 → last < length slots → w < 256 → fits_test n s ≡ true → r < n → c < n →
+    laid_slots n last (with_byte width last slots (slot_of s) (reversed_bits w)) r c ≡ (laid_slots n last slots r c || marks_in w 0 (cells_of n s) r c)
+slot_put n width last w slots s r c room even inside small fits lr lc =
     let k = eight_cells n s in
-    put_low n (reversed_bits w) slots least most even room s r c fits lr lc ∙ ap (λ (b : Bool). laid_slots n slots r c || b) (marks_reversed w (cells_of n s) r c small (omega arith))
+    put_low n width last (reversed_bits w) slots room even inside (reversed_small w) s r c fits lr lc ∙ ap (λ (b : Bool). laid_slots n last slots r c || b) (marks_reversed w (cells_of n s) r c small (omega arith))
 
 -- ---- all codewords
 
 -- the square with what is in the slots, and the places of the codewords from i on, is that of all codewords
-abbrev pub AreLaid : ℕ → List ℕ → List ℕ → ℕ → Type 0
-AreLaid n words slots i =
-    (r c : ℕ) → r < n → c < n → (laid_slots n slots r c || marks words (places_from n i (drop i (shapes n))) r c) ≡ marks words (places_in_order n) r c
+abbrev pub AreLaid : ℕ → ℕ → List ℕ → List ℕ → ℕ → Type 0
+AreLaid n last words slots i =
+    (r c : ℕ) → r < n → c < n → (laid_slots n last slots r c || marks words (places_from n i (drop i (shapes n))) r c) ≡ marks words (places_in_order n) r c
 
 -- a shape of a list that fits
 fits_here : (n i : ℕ) (ss : List Shape) → list_all (fits_test n) ss ≡ true → i < length ss → fits_test n (get_or ss i Corner1) ≡ true
@@ -116,21 +148,21 @@ fits_here n zero (s ∷ ss) h l = (and_parts (fits_test n s) (list_all (fits_tes
 fits_here n (suc i) (s ∷ ss) h l = fits_here n i ss (and_parts (fits_test n s) (list_all (fits_test n) ss) h).1 (omega arith)
 
 -- one more
-pub laid_more : (n i x y : ℕ) (words slots : List ℕ) → 8 ≤ n → n ≤ 96 → n % 2 ≡ 0 → 1536 < length slots → get_or words i 0 < 256 → list_all (fits_test n) (shapes n) ≡ true → i < length (shapes n) →
-    x ≡ get_or (map slot_of (shapes n)) i 0 → y ≡ reversed_bits (get_or words i 0) → AreLaid n words slots i → AreLaid n words (set slots x (bit_or (get_or slots x 0) y)) (i + 1)
-laid_more n i x y words slots least most even room small fits l ex ey so_far r c lr lc =
+pub laid_more : (n width last i x y : ℕ) (words slots : List ℕ) → AreRoom n width last → n % 2 ≡ 0 → last < length slots → get_or words i 0 < 256 → list_all (fits_test n) (shapes n) ≡ true → i < length (shapes n) →
+    x ≡ get_or (map slot_of (shapes n)) i 0 → y ≡ reversed_bits (get_or words i 0) → AreLaid n last words slots i → AreLaid n last words (with_byte width last slots x y) (i + 1)
+laid_more n width last i x y words slots room even inside small fits l ex ey so_far r c lr lc =
     let s : Shape = get_or (shapes n) i Corner1 in
     let w : ℕ = get_or words i 0 in
     let next : suc i ≡ i + 1 = omega arith in
     let rest : List Place = places_from n (suc i) (drop (suc i) (shapes n)) in
     let at : x ≡ slot_of s = ex ∙ get_or-map slot_of (shapes n) i Corner1 0 l in
-    ap (λ (j : ℕ). laid_slots n (set slots x (bit_or (get_or slots x 0) y)) r c || marks words (places_from n j (drop j (shapes n))) r c) (sym next)
-    ∙ ap (λ (j : ℕ). laid_slots n (set slots j (bit_or (get_or slots j 0) y)) r c || marks words rest r c) at
-    ∙ ap (λ (j : ℕ). laid_slots n (set slots (slot_of s) (bit_or (get_or slots (slot_of s) 0) j)) r c || marks words rest r c) ey
-    ∙ ap (λ (b : Bool). b || marks words rest r c) (slot_put n w slots s r c least most even room small (fits_here n i (shapes n) fits l) lr lc)
-    ∙ or_assoc (laid_slots n slots r c) (marks_in w 0 (cells_of n s) r c) (marks words rest r c)
-    ∙ ap (λ (b : Bool). laid_slots n slots r c || b) (sym (marks_word words i 0 (cells_of n s) rest r c))
-    ∙ ap (λ (ss : List Shape). laid_slots n slots r c || marks words (places_from n i ss) r c) (sym (drop-cons (shapes n) i Corner1 l))
+    ap (λ (j : ℕ). laid_slots n last (with_byte width last slots x y) r c || marks words (places_from n j (drop j (shapes n))) r c) (sym next)
+    ∙ ap (λ (j : ℕ). laid_slots n last (with_byte width last slots j y) r c || marks words rest r c) at
+    ∙ ap (λ (j : ℕ). laid_slots n last (with_byte width last slots (slot_of s) j) r c || marks words rest r c) ey
+    ∙ ap (λ (b : Bool). b || marks words rest r c) (slot_put n width last w slots s r c room even inside small (fits_here n i (shapes n) fits l) lr lc)
+    ∙ or_assoc (laid_slots n last slots r c) (marks_in w 0 (cells_of n s) r c) (marks words rest r c)
+    ∙ ap (λ (b : Bool). laid_slots n last slots r c || b) (sym (marks_word words i 0 (cells_of n s) rest r c))
+    ∙ ap (λ (ss : List Shape). laid_slots n last slots r c || marks words (places_from n i ss) r c) (sym (drop-cons (shapes n) i Corner1 l))
     ∙ so_far r c lr lc
 
 -- slots of zeros scatter nothing
@@ -152,7 +184,7 @@ scattered_none n m r c =
 
     none : (q low count : ℕ) → by_anchors n zeros q low count c ≡ false
     none q low count =
-        ap (λ (b : Bool). nat_lt q n && (nat_le (first_column q) c && (nat_lt ((c - first_column q) % 8) count && b))) (light_at m (16 * q + (c - first_column q + low) / 8) ((c - first_column q + low) % 8))
+        ap (λ (b : Bool). nat_lt q n && (nat_le (first_column q) c && (nat_lt ((c - first_column q) % 8) count && b))) (light_at m q (c - first_column q + low))
         ∙ guarded (nat_lt q n) (nat_le (first_column q) c) (nat_lt ((c - first_column q) % 8) count)
 
 -- nor does a corner's slot
@@ -164,32 +196,33 @@ marks_none y k (x ∷ xs) r c dark =
     ∙ marks_none y (suc k) xs r c dark
 
 -- before the first
-pub laid_first : (n : ℕ) (words : List ℕ) → n ≤ 96 → AreLaid n words (replicate 1552 0) 0
+pub laid_first : (n last m : ℕ) (words slots : List ℕ) → slots ≡ replicate m 0 → AreLaid n last words slots 0
 unfolding places_in_order
-laid_first n words most r c lr lc =
-    ap (λ (b : Bool). (b || marks_low (get_or (replicate 1552 0) 1536 0) 0 (corner_cells n) r c) || marks words (places_from n 0 (shapes n)) r c)
-    (folded_same n (scattered n (replicate 1552 0)) (λ i j. false) r c (omega arith) (λ i j _. scattered_none n 1552 i j) ∙ folded_none n r c)
-    ∙ ap (λ (b : Bool). b || marks words (places_from n 0 (shapes n)) r c) (marks_none (get_or (replicate 1552 0) 1536 0) 0 (corner_cells n) r c (light_at 1552 1536))
+laid_first n last m words slots e r c lr lc =
+    ap (λ (ss : List ℕ). laid_slots n last ss r c || marks words (places_from n 0 (shapes n)) r c) e
+    ∙ ap (λ (b : Bool). (b || marks_low (get_or (replicate m 0) last 0) 0 (corner_cells n) r c) || marks words (places_from n 0 (shapes n)) r c)
+    (folded_same n (n + 8) (scattered n (replicate m 0)) (λ i j. false) r c lc (omega arith) (λ i j _. scattered_none n m i j) ∙ folded_none n r c)
+    ∙ ap (λ (b : Bool). b || marks words (places_from n 0 (shapes n)) r c) (marks_none (get_or (replicate m 0) last 0) 0 (corner_cells n) r c (light_at m last))
 
 -- the corner of a side
-corner_same : (n y r c : ℕ) → marks_low y 0 (corner_cells n) r c ≡ corner_marks n (reversed_bits y) r c
+corner_same : (n y r c : ℕ) → marks_low y 0 (corner_cells n) r c ≡ corner_marks n (reversed_bits (y % 256)) r c
 corner_same n y r c = by (nat_eq (n % 8) 4) (nat_eq (n % 8) 6) refl refl
   where
     here : Bool → Bool → List Cell
     here t u = elim t as (λ _. List Cell) [ true ↦ cells_of n Corner1 | false ↦ elim u as (λ _. List Cell) [ true ↦ cells_of n Corner2 | false ↦ [] ] ]
 
     by : (t u : Bool) → nat_eq (n % 8) 4 ≡ t → nat_eq (n % 8) 6 ≡ u →
-        marks_low y 0 (here t u) r c ≡ ((t && marks_in (reversed_bits y) 0 (cells_of n Corner1) r c) || (u && marks_in (reversed_bits y) 0 (cells_of n Corner2) r c))
+        marks_low y 0 (here t u) r c ≡ ((t && marks_in (reversed_bits (y % 256)) 0 (cells_of n Corner1) r c) || (u && marks_in (reversed_bits (y % 256)) 0 (cells_of n Corner2) r c))
     by true true e f = let a = eqb-true (n % 8) 4 e in let b = eqb-true (n % 8) 6 f in absurd (omega arith)
     by true false e f = marks_turned y (cells_of n Corner1) r c (omega arith) ∙ sym (or-false _)
     by false true e f = marks_turned y (cells_of n Corner2) r c (omega arith)
     by false false e f = refl
 
 -- after the last
-pub laid_all : (n i : ℕ) (words slots : List ℕ) → length (shapes n) ≤ i → AreLaid n words slots i →
-    (r c : ℕ) → r < n → c < n → (folded n (scattered n slots) r c || corner_marks n (reversed_bits (get_or slots 1536 0)) r c) ≡ marks words (places_in_order n) r c
-laid_all n i words slots l laid r c lr lc =
-    ap (λ (b : Bool). folded n (scattered n slots) r c || b) (sym (corner_same n (get_or slots 1536 0) r c))
-    ∙ sym (or-false (laid_slots n slots r c))
-    ∙ ap (λ (ss : List Shape). laid_slots n slots r c || marks words (places_from n i ss) r c) (sym (drop_of_length-le (shapes n) l))
+pub laid_all : (n last i : ℕ) (words slots : List ℕ) → length (shapes n) ≤ i → AreLaid n last words slots i →
+    (r c : ℕ) → r < n → c < n → (folded n (scattered n slots) r c || corner_marks n (reversed_bits (get_or slots last 0 % 256)) r c) ≡ marks words (places_in_order n) r c
+laid_all n last i words slots l laid r c lr lc =
+    ap (λ (b : Bool). folded n (scattered n slots) r c || b) (sym (corner_same n (get_or slots last 0) r c))
+    ∙ sym (or-false (laid_slots n last slots r c))
+    ∙ ap (λ (ss : List Shape). laid_slots n last slots r c || marks words (places_from n i ss) r c) (sym (drop_of_length-le (shapes n) l))
     ∙ laid r c lr lc

@@ -35,8 +35,8 @@ lt_same a b x y f g = by_place (cases_lt a b)
 -- ---- the rows above the square
 
 -- a bit of a row that is moved to the left by 4 and then to the right
-moved_back : (x s c : ℕ) → c + s < 128 → is_dark_in (x * 16 % 2 ^ 128 / 2 ^ s) c ≡ (nat_le 4 (c + s) && is_dark_in x (c + s - 4))
-moved_back x s c l = ap (λ (i : ℕ). nat_eq i 1) (moved_bit (x * 16 % 2 ^ 128) s c) ∙ low_bit (x * 16) 128 (s + c) (omega arith) ∙ by_column (cases_lt (c + s) 4)
+moved_back : (width x s c : ℕ) → c + s < width → is_dark_in (x * 16 % 2 ^ width / 2 ^ s) c ≡ (nat_le 4 (c + s) && is_dark_in x (c + s - 4))
+moved_back width x s c l = ap (λ (i : ℕ). nat_eq i 1) (moved_bit (x * 16 % 2 ^ width) s c) ∙ low_bit (x * 16) width (s + c) (omega arith) ∙ by_column (cases_lt (c + s) 4)
   where
     by_column : (c + s < 4) ⊎ (4 ≤ c + s) → is_dark_in (x * 16) (s + c) ≡ (nat_le 4 (c + s) && is_dark_in x (c + s - 4))
     by_column (inl h) = none_up x 4 (s + c) (omega (arith, h)) ∙ ap (λ (t : Bool). t && is_dark_in x (c + s - 4)) (sym (lt-leb 4 (c + s) h))
@@ -45,19 +45,19 @@ moved_back x s c l = ap (λ (i : ℕ). nat_eq i 1) (moved_bit (x * 16 % 2 ^ 128)
         ap (is_dark_in (x * 16)) e ∙ bit_up x 4 (c + s - 4) ∙ ap (λ (t : Bool). t && is_dark_in x (c + s - 4)) (sym (le-leb 4 (c + s) h))
 
 -- two rows that are laid over the last two
-pub lowered_rows : (rows : List ℕ) (n shift r c : ℕ) → 8 ≤ n → n + 1 < length rows → shift ≡ (n + 4) % 8 → c < 100 →
-    look_in (set (set rows n (bit_or (get_or rows n 0) (get_or rows 0 0 * 16 % 2 ^ 128 / 2 ^ shift))) (n + 1) (bit_or (get_or (set rows n (bit_or (get_or rows n 0) (get_or rows 0 0 * 16 % 2 ^ 128 / 2 ^ shift))) (n + 1) 0) (get_or (set rows n (bit_or (get_or rows n 0) (get_or rows 0 0 * 16 % 2 ^ 128 / 2 ^ shift))) 1 0 * 16 % 2 ^ 128 / 2 ^ shift))) r c ≡ lowered n (look_in rows) r c
-lowered_rows rows n shift r c least fits es l =
-    put_over mids (n + 1) (get_or mids 1 0 * 16 % 2 ^ 128 / 2 ^ shift) r c (omega (arith, fits, length-set rows n (bit_or (get_or rows n 0) x)))
-    ∙ ap (λ (t : Bool). t || (nat_eq r (n + 1) && is_dark_in (get_or mids 1 0 * 16 % 2 ^ 128 / 2 ^ shift) c)) (put_over rows n x r c (omega (arith, fits)))
-    ∙ ap (λ (t : Bool). (look_in rows r c || (nat_eq r n && t)) || (nat_eq r (n + 1) && is_dark_in (get_or mids 1 0 * 16 % 2 ^ 128 / 2 ^ shift) c)) (moved_back (get_or rows 0 0) shift c (omega (arith, es, l)))
-    ∙ ap (λ (i : ℕ). (look_in rows r c || (nat_eq r n && back 0 shift)) || (nat_eq r (n + 1) && is_dark_in (i * 16 % 2 ^ 128 / 2 ^ shift) c)) (get_or-set_other rows n 1 (bit_or (get_or rows n 0) x) 0 other)
-    ∙ ap (λ (t : Bool). (look_in rows r c || (nat_eq r n && back 0 shift)) || (nat_eq r (n + 1) && t)) (moved_back (get_or rows 1 0) shift c (omega (arith, es, l)))
+pub lowered_rows : (width : ℕ) (rows : List ℕ) (n shift r c : ℕ) → 8 ≤ n → n + 1 < length rows → shift ≡ (n + 4) % 8 → c + 8 ≤ width →
+    look_in (set (set rows n (bit_or (get_or rows n 0) (get_or rows 0 0 * 16 % 2 ^ width / 2 ^ shift))) (n + 1) (bit_or (get_or (set rows n (bit_or (get_or rows n 0) (get_or rows 0 0 * 16 % 2 ^ width / 2 ^ shift))) (n + 1) 0) (get_or (set rows n (bit_or (get_or rows n 0) (get_or rows 0 0 * 16 % 2 ^ width / 2 ^ shift))) 1 0 * 16 % 2 ^ width / 2 ^ shift))) r c ≡ lowered n (look_in rows) r c
+lowered_rows width rows n shift r c least fits es l =
+    put_over mids (n + 1) (get_or mids 1 0 * 16 % 2 ^ width / 2 ^ shift) r c (omega (arith, fits, length-set rows n (bit_or (get_or rows n 0) x)))
+    ∙ ap (λ (t : Bool). t || (nat_eq r (n + 1) && is_dark_in (get_or mids 1 0 * 16 % 2 ^ width / 2 ^ shift) c)) (put_over rows n x r c (omega (arith, fits)))
+    ∙ ap (λ (t : Bool). (look_in rows r c || (nat_eq r n && t)) || (nat_eq r (n + 1) && is_dark_in (get_or mids 1 0 * 16 % 2 ^ width / 2 ^ shift) c)) (moved_back width (get_or rows 0 0) shift c (omega (arith, es, l)))
+    ∙ ap (λ (i : ℕ). (look_in rows r c || (nat_eq r n && back 0 shift)) || (nat_eq r (n + 1) && is_dark_in (i * 16 % 2 ^ width / 2 ^ shift) c)) (get_or-set_other rows n 1 (bit_or (get_or rows n 0) x) 0 other)
+    ∙ ap (λ (t : Bool). (look_in rows r c || (nat_eq r n && back 0 shift)) || (nat_eq r (n + 1) && t)) (moved_back width (get_or rows 1 0) shift c (omega (arith, es, l)))
     ∙ ap (λ (s : ℕ). (look_in rows r c || (nat_eq r n && back 0 s)) || (nat_eq r (n + 1) && back 1 s)) es
     ∙ by_row (cases_lt r n) (cases_lt r (n + 2))
   where
     x : ℕ
-    x = get_or rows 0 0 * 16 % 2 ^ 128 / 2 ^ shift
+    x = get_or rows 0 0 * 16 % 2 ^ width / 2 ^ shift
 
     mids : List ℕ
     mids = set rows n (bit_or (get_or rows n 0) x)
@@ -124,17 +124,17 @@ lowered_rows rows n shift r c least fits es l =
 -- ---- the columns left of the square
 
 -- the lowest four bits of a row, moved to the left
-lowest_up : (x n c : ℕ) → n ≤ 96 → is_dark_in (x % 16 * 2 ^ n % 2 ^ 128) c ≡ ((nat_le n c && nat_lt c (n + 4)) && is_dark_in x (c - n))
-lowest_up x n c most = ap (λ (i : ℕ). is_dark_in i c) (mod-eq_of_lt fits) ∙ by_column (cases_lt c n) (cases_lt c (n + 4))
+lowest_up : (width x n c : ℕ) → n + 4 < width → is_dark_in (x % 16 * 2 ^ n % 2 ^ width) c ≡ ((nat_le n c && nat_lt c (n + 4)) && is_dark_in x (c - n))
+lowest_up width x n c most = ap (λ (i : ℕ). is_dark_in i c) (mod-eq_of_lt fits) ∙ by_column (cases_lt c n) (cases_lt c (n + 4))
   where
     small : x % 16 < 2 ^ 4
     small = omega arith
 
-    fits : x % 16 * 2 ^ n < 2 ^ 128
+    fits : x % 16 * 2 ^ n < 2 ^ width
     fits =
         let a = mul-add-lt (x % 16) (2 ^ n) 0 (2 ^ 4) small (pow_pos n) in
         let b : 2 ^ (n + 4) ≡ 2 ^ n * 2 ^ 4 = pow-add 2 n 4 in
-        let d : 2 ^ (n + 4) < 2 ^ 128 = pow_below (n + 4) 128 (omega (arith, most)) in
+        let d : 2 ^ (n + 4) < 2 ^ width = pow_below (n + 4) width (omega (arith, most)) in
         omega (arith, a, b, d)
 
     by_column : (c < n) ⊎ (n ≤ c) → (c < n + 4) ⊎ (n + 4 ≤ c) → is_dark_in (x % 16 * 2 ^ n) c ≡ ((nat_le n c && nat_lt c (n + 4)) && is_dark_in x (c - n))
@@ -170,11 +170,11 @@ moved_none rows n shift r c = sym (ap (λ (t : Bool). look_in rows r c || ((nat_
     nothing false false = refl
 
 -- one more row
-pub move_more : (olds rows : List ℕ) (n shift row : ℕ) → 8 ≤ n → n ≤ 96 → shift ≤ 7 → 4 ≤ row → row + 4 - shift < length rows → ((r c : ℕ) → look_in rows r c ≡ moved_down olds n shift row r c) →
-    (r c : ℕ) → look_in (set rows (row + 4 - shift) (bit_or (get_or rows (row + 4 - shift) 0) (get_or rows row 0 % 16 * 2 ^ n % 2 ^ 128))) r c ≡ moved_down olds n shift (row + 1) r c
-move_more olds rows n shift row least most small from inside so_far r c =
-    put_over rows q (get_or rows row 0 % 16 * 2 ^ n % 2 ^ 128) r c inside
-    ∙ ap (λ (t : Bool). look_in rows r c || (nat_eq r q && t)) (lowest_up (get_or rows row 0) n c most ∙ near (nat_le n c && nat_lt c (n + 4)) refl)
+pub move_more : (width : ℕ) (olds rows : List ℕ) (n shift row : ℕ) → 8 ≤ n → n + 4 < width → shift ≤ 7 → 4 ≤ row → row + 4 - shift < length rows → ((r c : ℕ) → look_in rows r c ≡ moved_down olds n shift row r c) →
+    (r c : ℕ) → look_in (set rows (row + 4 - shift) (bit_or (get_or rows (row + 4 - shift) 0) (get_or rows row 0 % 16 * 2 ^ n % 2 ^ width))) r c ≡ moved_down olds n shift (row + 1) r c
+move_more width olds rows n shift row least most small from inside so_far r c =
+    put_over rows q (get_or rows row 0 % 16 * 2 ^ n % 2 ^ width) r c inside
+    ∙ ap (λ (t : Bool). look_in rows r c || (nat_eq r q && t)) (lowest_up width (get_or rows row 0) n c most ∙ near (nat_le n c && nat_lt c (n + 4)) refl)
     ∙ ap (λ (t : Bool). t || (nat_eq r q && (here && look_in olds row (c - n)))) (so_far r c)
     ∙ by_row (nat_eq r q) refl
   where
@@ -222,9 +222,9 @@ move_more olds rows n shift row least most small from inside so_far r c =
 -- ---- both
 
 -- the rows are folded
-pub is_folded : (n shift : ℕ) (olds mids news : List ℕ) → 8 ≤ n → n ≤ 96 → shift ≡ (n + 4) % 8 → ((r c : ℕ) → c < 100 → look_in mids r c ≡ lowered n (look_in olds) r c) → ((r c : ℕ) → look_in news r c ≡ moved_down mids n shift (n + 2) r c) →
+pub is_folded : (width n shift : ℕ) (olds mids news : List ℕ) → 8 ≤ n → n + 12 ≤ width → shift ≡ (n + 4) % 8 → ((r c : ℕ) → c + 8 ≤ width → look_in mids r c ≡ lowered n (look_in olds) r c) → ((r c : ℕ) → look_in news r c ≡ moved_down mids n shift (n + 2) r c) →
     (r c : ℕ) → r < n → c < n → look_in news (r + 2) (c + 4) ≡ folded n (look_in olds) r c
-is_folded n shift olds mids news least most es low down r c lr lc =
+is_folded width n shift olds mids news least most es low down r c lr lc =
     down (r + 2) (c + 4)
     ∙ ap (λ (s : ℕ). moved_down mids n s (n + 2) (r + 2) (c + 4)) es
     ∙ ap (λ (t : Bool). t || ((nat_le n (c + 4) && nat_lt (c + 4) (n + 4)) && ((nat_le 8 (r + 2 + s) && nat_lt (r + 2 + s) (n + 2 + 4)) && look_in mids (r + 2 + s - 4) (c + 4 - n)))) (low (r + 2) (c + 4) (omega (arith, lc, most)))

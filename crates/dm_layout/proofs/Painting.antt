@@ -1,10 +1,12 @@
 -- Rows of the mapping square in which the bits of codewords are put at their places.
-use Rattle.std.proofs.Common.{◌≡◌, ℕ, zero, suc, ◌+◌, ◌-◌, ◌*◌, ◌/◌, ◌%◌, ◌^◌, ◌<◌, Bool, true, false, ◌&&◌, ◌||◌, cond, nat_eq, List, [], ◌∷◌, ◌++◌, length, get_or, set, drop, replicate, refl, sym, ◌∙◌, ap, arith, subst, eq-eqb, get_or-set_other, get_or-set_same}
+use Rattle.std.proofs.Common.{◌≡◌, ◌⊎◌, inl, inr, ℕ, zero, suc, ◌+◌, ◌-◌, ◌*◌, ◌/◌, ◌%◌, ◌^◌, ◌<◌, ◌≤◌, Bool, true, false, ◌&&◌, ◌||◌, nat_eq, List, [], ◌∷◌, ◌++◌, length, get_or, set, drop, replicate, refl, sym, ◌∙◌, ap, arith, subst, eq-eqb}
 use Rattle.std.specs.Int.RustNames.{bit_or}
-use Rattle.std.specs.Int.Bits.{or_zero_r}
-use Rattle.std.proofs.Math.Bool.{or_assoc, or-false, false-or}
-use Rattle.std.proofs.lemmas.Bool.{eqb-true, eqb-false, ne_eqb}
-use Rattle.std.proofs.lemmas.Nat.Bits.{bit_at-zero}
+use Rattle.std.proofs.Math.Bool.{or_assoc, false-or, and_assoc, and-true, and-false}
+use Rattle.std.proofs.Math.Nat.{mod-eq_of_lt}
+use Rattle.std.proofs.Math.Pow.{pow_pos}
+use Rattle.std.proofs.lemmas.Bool.{eqb-true, eqb-false, ne_eqb, cases_lt}
+use Rattle.std.proofs.lemmas.Nat.{pow_below}
+use Rattle.std.proofs.lemmas.Nat.Bits.{bit_at-zero, bit_at_above}
 use Rattle.dm_layout.specs.declared.shape.Cell.{Cell}
 use Rattle.dm_layout.specs.declared.cells.Place.{Place}
 use Rattle.dm_layout.specs.Border.{is_fixed}
@@ -12,44 +14,38 @@ use Rattle.dm_layout.specs.Grid.{is_dark_in}
 use Rattle.dm_layout.specs.Holds.{bit_of}
 use Rattle.dm_layout.specs.Placement.{At, IsPlace, EachCellOnce, bits_from, places_in_order}
 use Rattle.dm_layout.specs.inner.Reading.{look_in, marks_in}
-use Rattle.dm_layout.proofs.PackedRows.{darkened_cell}
 use Rattle.dm_layout.proofs.PlaceOrder.{ArePlaces, all_are_places, one_bit, none_fixed, place_at, lies_in, length-places_in_order}
+use Rattle.dm_layout.proofs.WidenedRows.{put_over, bit_up, none_up}
 
 -- ---- one bit
 
--- a row in which a bit is put
-row_put : (row col d c : ℕ) → col < 128 → d < 2 → is_dark_in (bit_or row (d * 2 ^ col % 2 ^ 128)) c ≡ (is_dark_in row c || (nat_eq c col && nat_eq d 1))
-row_put row col zero c l small =
-    let e : 0 * 2 ^ col % 2 ^ 128 ≡ 0 = omega arith in
-    ap (λ (i : ℕ). is_dark_in (bit_or row i) c) e ∙ ap (λ (i : ℕ). is_dark_in i c) (or_zero_r row) ∙ nothing (is_dark_in row c) (nat_eq c col)
+-- a bit that is moved to the left, in a number of some width
+bit_moved : (width col d c : ℕ) → col < width → d < 2 → is_dark_in (d * 2 ^ col % 2 ^ width) c ≡ (nat_eq c col && nat_eq d 1)
+bit_moved width col zero c l small =
+    let p = pow_pos width in
+    let e : 0 * 2 ^ col % 2 ^ width ≡ 0 = omega (arith, p) in
+    ap (λ (i : ℕ). is_dark_in i c) e ∙ ap (λ (i : ℕ). nat_eq i 1) (bit_at-zero c) ∙ sym (and-false (nat_eq c col))
+bit_moved width col (suc zero) c l small =
+    let p = pow_below col width l in
+    let e : 1 * 2 ^ col % 2 ^ width ≡ 1 * 2 ^ col = mod-eq_of_lt (omega (arith, p)) in
+    ap (λ (i : ℕ). is_dark_in i c) e ∙ by_column (cases_lt c col) ∙ sym (and-true (nat_eq c col))
   where
-    nothing : (a b : Bool) → a ≡ (a || (b && false))
-    nothing true b = refl
-    nothing false true = refl
-    nothing false false = refl
-row_put row col (suc zero) c l small = darkened_cell row col c l ∙ shown (nat_eq c col) (is_dark_in row c)
-  where
-    shown : (t a : Bool) → cond t true a ≡ (a || (t && true))
-    shown true true = refl
-    shown true false = refl
-    shown false true = refl
-    shown false false = refl
-row_put row col (suc (suc d)) c l small = absurd (omega arith)
+    by_column : (c < col) ⊎ (col ≤ c) → is_dark_in (1 * 2 ^ col) c ≡ nat_eq c col
+    by_column (inl h) = none_up 1 col c h ∙ sym (ne_eqb c col (λ e. omega (arith, e, h)))
+    by_column (inr h) = let e : c ≡ col + (c - col) = omega (arith, h) in ap (is_dark_in (1 * 2 ^ col)) e ∙ bit_up 1 col (c - col) ∙ one (c - col) refl
+      where
+        one : (t : ℕ) → t ≡ c - col → is_dark_in 1 t ≡ nat_eq c col
+        one zero e = sym (eq-eqb c col (omega (arith, e, h)))
+        one (suc t) e = ap (λ (i : ℕ). nat_eq i 1) (bit_at_above 1 1 (suc t) (omega arith) (omega arith)) ∙ sym (ne_eqb c col (λ f. omega (arith, e, f)))
+bit_moved width col (suc (suc d)) c l small = absurd (omega arith)
 
 -- rows in which a bit is put
-pub bit_put : (rows : List ℕ) (q col d r c : ℕ) → q < length rows → col < 128 → d < 2 →
-    look_in (set rows q (bit_or (get_or rows q 0) (d * 2 ^ col % 2 ^ 128))) r c ≡ (look_in rows r c || (nat_eq r q && nat_eq c col && nat_eq d 1))
-bit_put rows q col d r c l lc ld = by_row (nat_eq r q) refl
-  where
-    x : ℕ
-    x = bit_or (get_or rows q 0) (d * 2 ^ col % 2 ^ 128)
-
-    by_row : (t : Bool) → nat_eq r q ≡ t → look_in (set rows q x) r c ≡ (look_in rows r c || (t && nat_eq c col && nat_eq d 1))
-    by_row true e =
-        let er = eqb-true r q e in
-        ap (λ (i : ℕ). look_in (set rows q x) i c) er ∙ ap (λ (i : ℕ). is_dark_in i c) (get_or-set_same rows q x 0 l) ∙ row_put (get_or rows q 0) col d c lc ld
-        ∙ ap (λ (i : ℕ). look_in rows i c || (nat_eq c col && nat_eq d 1)) (sym er)
-    by_row false e = ap (λ (i : ℕ). is_dark_in i c) (get_or-set_other rows q r x 0 (eqb-false r q e)) ∙ sym (or-false (look_in rows r c))
+pub bit_put : (width : ℕ) (rows : List ℕ) (q col d r c : ℕ) → q < length rows → col < width → d < 2 →
+    look_in (set rows q (bit_or (get_or rows q 0) (d * 2 ^ col % 2 ^ width))) r c ≡ (look_in rows r c || (nat_eq r q && nat_eq c col && nat_eq d 1))
+bit_put width rows q col d r c l lc ld =
+    put_over rows q (d * 2 ^ col % 2 ^ width) r c l
+    ∙ ap (λ (b : Bool). look_in rows r c || (nat_eq r q && b)) (bit_moved width col d c lc ld)
+    ∙ ap (λ (b : Bool). look_in rows r c || b) (sym (and_assoc (nat_eq r q) (nat_eq c col) (nat_eq d 1)))
 
 -- ---- one codeword, cell by cell
 
@@ -62,10 +58,10 @@ same_sum a b k = by_test (nat_eq a b) refl
     by_test false e = let f = eqb-false a b e in ne_eqb (a + k) (b + k) (λ g. omega (arith, f, g))
 
 -- one more bit is put at its cell, in widened rows
-pub cell_put : (rows olds : List ℕ) (word i d : ℕ) (cells : List Cell) (x : Cell) (rest : List Cell) → drop i cells ≡ x ∷ rest → rest ≡ drop (i + 1) cells → x.row + 2 < length rows → x.column + 4 < 128 → i < 8 → d ≡ word / 2 ^ (7 - i) % 2 →
+pub cell_put : (width : ℕ) (rows olds : List ℕ) (word i d : ℕ) (cells : List Cell) (x : Cell) (rest : List Cell) → drop i cells ≡ x ∷ rest → rest ≡ drop (i + 1) cells → x.row + 2 < length rows → x.column + 4 < width → i < 8 → d ≡ word / 2 ^ (7 - i) % 2 →
     ((r c : ℕ) → (look_in rows (r + 2) (c + 4) || marks_in word i (drop i cells) r c) ≡ (look_in olds (r + 2) (c + 4) || marks_in word 0 cells r c)) →
-    (r c : ℕ) → (look_in (set rows (x.row + 2) (bit_or (get_or rows (x.row + 2) 0) (d * 2 ^ (x.column + 4) % 2 ^ 128))) (r + 2) (c + 4) || marks_in word (i + 1) (drop (i + 1) cells) r c) ≡ (look_in olds (r + 2) (c + 4) || marks_in word 0 cells r c)
-cell_put rows olds word i d cells x rest e f lr lc li ed so_far r c =
+    (r c : ℕ) → (look_in (set rows (x.row + 2) (bit_or (get_or rows (x.row + 2) 0) (d * 2 ^ (x.column + 4) % 2 ^ width))) (r + 2) (c + 4) || marks_in word (i + 1) (drop (i + 1) cells) r c) ≡ (look_in olds (r + 2) (c + 4) || marks_in word 0 cells r c)
+cell_put width rows olds word i d cells x rest e f lr lc li ed so_far r c =
     let k : 7 - i ≡ 8 - (i + 1) = omega arith in
     let j : suc i ≡ i + 1 = omega arith in
     let dd : d ≡ word / 2 ^ (8 - (i + 1)) % 2 = ed ∙ ap (λ (m : ℕ). word / 2 ^ m % 2) k in
@@ -73,7 +69,7 @@ cell_put rows olds word i d cells x rest e f lr lc li ed so_far r c =
     let h : Bool = nat_eq r x.row && nat_eq c x.column && nat_eq d 1 in
     let old : Bool = look_in rows (r + 2) (c + 4) in
     ap (λ (b : Bool). b || marks_in word (i + 1) (drop (i + 1) cells) r c)
-    (bit_put rows (x.row + 2) (x.column + 4) d (r + 2) (c + 4) lr lc ld
+    (bit_put width rows (x.row + 2) (x.column + 4) d (r + 2) (c + 4) lr lc ld
     ∙ ap (λ (b : Bool). old || (b && nat_eq (c + 4) (x.column + 4) && nat_eq d 1)) (same_sum r x.row 2)
     ∙ ap (λ (b : Bool). old || (nat_eq r x.row && b && nat_eq d 1)) (same_sum c x.column 4))
     ∙ or_assoc old h (marks_in word (i + 1) (drop (i + 1) cells) r c)

@@ -7,6 +7,8 @@ ghost use Rattle.std.specs.Prelude.{◌≡◌, ℕ, ◌+◌, ◌*◌, ◌/◌, �
 ghost use Rattle.std.specs.Int.{bit_at};
 ghost use Rattle.std.proofs.Common.{rules};
 ghost use Rattle.dm_layout.specs.Grid.{is_dark_in};
+ghost use Rattle.dm_layout.specs.inner.Laying.{with_byte, with_scattered};
+ghost use Rattle.dm_layout.specs.inner.Reading.{look_in};
 ghost use Rattle.dm_layout.specs.inner.Slots.{is_joined, slot_byte, HasSlot};
 
 use crate::shape::LARGEST_MAPPING;
@@ -39,7 +41,7 @@ pub(crate) trait BitRows: Sized + Drop {
     // How many bits a row has.
     ghost width: { ℕ };
 
-    // The row that keeps the codeword of a corner once the rows are joined.
+    // The row that keeps the codeword of a corner once the codewords stand in their slots.
     ghost last: { ℕ };
 
     // The numbers.
@@ -94,6 +96,50 @@ pub(crate) trait BitRows: Sized + Drop {
         requires row { row < length (numbers self.now) }
         requires column { column < most + 4 }
         ensures { result ≡ bit_at (get_or (numbers self.now) row 0) column };
+
+    /// Adds a byte to its slot: in the row of its anchor, or in the last one.
+    fn add_byte(&mut self, slot: u16, byte: u8)
+        requires room { length (numbers self.old) ≡ most + 6 }
+        requires slot { HasSlot most slot }
+        ensures { numbers self.new ≡ with_byte width last (numbers self.old) slot byte };
+
+    /// The byte in the slot of a corner.
+    fn corner(&self) -> u8
+        requires { length (numbers self.now) ≡ most + 6 }
+        ensures { result ≡ get_or (numbers self.now) last 0 % 256 };
+
+    /// Lays the codewords of a row of slots over widened rows, where they begin at this column.
+    fn scatter(&mut self, slots: &Self, row: usize, column: u16)
+        requires row { row + 2 < length (numbers self.old) }
+        requires slots { row < length (numbers slots.now) }
+        requires column { column ≤ 9 }
+        ensures room { length (numbers self.new) ≡ length (numbers self.old) }
+        ensures cells { (r c : ℕ) → c < width → look_in (numbers self.new) r c ≡ with_scattered (look_in (numbers self.old) r c) (numbers slots.now) row column r c };
+
+    /// Lays over a row another one, 4 - shift columns further to the right.
+    fn lower(&mut self, row: usize, from: usize, shift: u16)
+        requires row { row < length (numbers self.old) }
+        requires from { from < length (numbers self.old) }
+        requires shift { shift ≤ 6 }
+        ensures { numbers self.new ≡ set (numbers self.old) row (bit_or (get_or (numbers self.old) row 0) (get_or (numbers self.old) from 0 * 16 % 2 ^ width / 2 ^ shift)) };
+
+    /// Lays over a row, from a column on, the four leftmost columns of another row.
+    fn move_left_end(&mut self, row: usize, from: usize, column: u16)
+        requires row { row < length (numbers self.old) }
+        requires from { from < length (numbers self.old) }
+        requires column { column ≤ most }
+        ensures { numbers self.new ≡ set (numbers self.old) row (bit_or (get_or (numbers self.old) row 0) (get_or (numbers self.old) from 0 % 16 * 2 ^ column % 2 ^ width)) };
+
+    /// Makes a cell dark if the bit is 1.
+    fn put_bit(&mut self, row: usize, column: u16, bit: u8)
+        requires row { row < length (numbers self.old) }
+        requires column { column < most + 4 }
+        ensures { numbers self.new ≡ set (numbers self.old) row (bit_or (get_or (numbers self.old) row 0) (bit * 2 ^ column % 2 ^ width)) };
+
+    /// A row without its four leftmost columns.
+    fn inner(&self, row: usize) -> u128
+        requires { row < length (numbers self.now) }
+        ensures { result ≡ get_or (numbers self.now) row 0 / 2 ^ 4 };
 
     ghost fits: { (most ≤ last) × (last ≤ 96) × (last < most + 6) × (most + 16 ≤ width) };
 }
@@ -151,6 +197,45 @@ impl BitRows for NarrowRows {
     fn bit(&self, row: usize, column: u16) -> u16 {
         ((self[row] >> column) % 2) as u16
     }
+
+    #[inline(always)]
+    fn add_byte(&mut self, slot: u16, byte: u8) {
+        let row = ((slot / 16) as usize).min(NARROW_WIDENED - 1);
+        self[row] |= u64::from(byte) << (8 * (slot % 16));
+    }
+
+    #[inline(always)]
+    fn corner(&self) -> u8 {
+        (self[NARROW_WIDENED - 1] % 256) as u8
+    }
+
+    #[inline(always)]
+    fn scatter(&mut self, slots: &NarrowRows, row: usize, column: u16) {
+        let codewords = slots[row];
+        self[row] |= (codewords & NARROW_TWO) << column;
+        self[row + 1] |= ((codewords >> 2) & NARROW_THREE) << column;
+        self[row + 2] |= ((codewords >> 5) & NARROW_THREE) << column;
+    }
+
+    #[inline(always)]
+    fn lower(&mut self, row: usize, from: usize, shift: u16) {
+        self[row] |= (self[from] << 4) >> shift;
+    }
+
+    #[inline(always)]
+    fn move_left_end(&mut self, row: usize, from: usize, column: u16) {
+        self[row] |= (self[from] % 16) << column;
+    }
+
+    #[inline(always)]
+    fn put_bit(&mut self, row: usize, column: u16, bit: u8) {
+        self[row] |= u64::from(bit) << column;
+    }
+
+    #[inline(always)]
+    fn inner(&self, row: usize) -> u128 {
+        u128::from(self[row] >> 4)
+    }
 }
 
 impl BitRows for WideRows {
@@ -204,5 +289,44 @@ impl BitRows for WideRows {
     #[inline(always)]
     fn bit(&self, row: usize, column: u16) -> u16 {
         ((self[row] >> column) % 2) as u16
+    }
+
+    #[inline(always)]
+    fn add_byte(&mut self, slot: u16, byte: u8) {
+        let row = ((slot / 16) as usize).min(LARGEST_MAPPING);
+        self[row] |= u128::from(byte) << (8 * (slot % 16));
+    }
+
+    #[inline(always)]
+    fn corner(&self) -> u8 {
+        (self[LARGEST_MAPPING] % 256) as u8
+    }
+
+    #[inline(always)]
+    fn scatter(&mut self, slots: &WideRows, row: usize, column: u16) {
+        let codewords = slots[row];
+        self[row] |= (codewords & TWO) << column;
+        self[row + 1] |= ((codewords >> 2) & THREE) << column;
+        self[row + 2] |= ((codewords >> 5) & THREE) << column;
+    }
+
+    #[inline(always)]
+    fn lower(&mut self, row: usize, from: usize, shift: u16) {
+        self[row] |= (self[from] << 4) >> shift;
+    }
+
+    #[inline(always)]
+    fn move_left_end(&mut self, row: usize, from: usize, column: u16) {
+        self[row] |= (self[from] % 16) << column;
+    }
+
+    #[inline(always)]
+    fn put_bit(&mut self, row: usize, column: u16, bit: u8) {
+        self[row] |= u128::from(bit) << column;
+    }
+
+    #[inline(always)]
+    fn inner(&self, row: usize) -> u128 {
+        self[row] >> 4
     }
 }

@@ -1,6 +1,6 @@
 //! The mapping square as rows of bits, and the codewords in it.
 
-ghost use Rattle.std.specs.Prelude.{◌≡◌, ◌⊎◌, ℕ, ◌+◌, ◌-◌, ◌*◌, ◌%◌, ◌^◌, ◌<◌, ◌≤◌, ◌&&◌, ◌||◌, nat_eq, false, true, get_or};
+ghost use Rattle.std.specs.Prelude.{◌≡◌, ◌⊎◌, ℕ, ◌+◌, ◌-◌, ◌*◌, ◌%◌, ◌^◌, ◌<◌, ◌≤◌, ◌&&◌, ◌||◌, nat_eq, false, true, get_or, length, replicate};
 ghost use Rattle.dm_layout.specs.Border.{mapped_cell, symbol_line, is_border, border_is_dark, is_fixed, is_fixed_dark};
 ghost use Rattle.dm_layout.specs.Grid.{IsGrid, cell_at, is_dark_in};
 ghost use Rattle.dm_layout.specs.Placement.{IsPlace};
@@ -9,25 +9,27 @@ ghost use Rattle.dm_layout.specs.Holds.{bit_of};
 ghost use Rattle.dm_layout.specs.declared.shape.Cell.{Cell};
 ghost use Rattle.dm_layout.specs.inner.Walking.{largest_mapping};
 
+use crate::bit_rows::BitRows;
 use crate::border::draw_borders;
 use crate::grid::Grid;
-use crate::laying::{LAID_SLOTS, lay_slots};
+use crate::laying::lay_slots;
 use crate::size::Size;
 use crate::slots::{order, reversed};
-use crate::widened::WIDENED;
 use crate::words::Words;
 
 /// Makes widened rows without a dark cell those of the mapping square with the codewords, and nothing else dark in it.
-pub(crate) fn paint(words: &Words, rows: &mut [u128; WIDENED])
-    requires { (r c : ℕ) → look_in rows.old r c ≡ false }
-    ensures bits { (w b : ℕ) (cell : Cell) → IsPlace words.now.size.mapping w b cell → look_in rows.new (cell.row + 2) (cell.column + 4) ≡ bit_of words.now.list w b }
-    ensures fixed { (r c : ℕ) → r < words.now.size.mapping → c < words.now.size.mapping → is_fixed words.now.size.mapping r c ≡ true → look_in rows.new (r + 2) (c + 4) ≡ false }
+pub(crate) fn paint<R: BitRows>(words: &Words, rows: &mut R)
+    requires light { R.numbers rows.old ≡ replicate (R.most + 6) 0 }
+    requires fits { words.now.size.mapping ≤ R.most }
+    ensures room { length (R.numbers rows.new) ≡ R.most + 6 }
+    ensures bits { (w b : ℕ) (cell : Cell) → IsPlace words.now.size.mapping w b cell → look_in (R.numbers rows.new) (cell.row + 2) (cell.column + 4) ≡ bit_of words.now.list w b }
+    ensures fixed { (r c : ℕ) → r < words.now.size.mapping → c < words.now.size.mapping → is_fixed words.now.size.mapping r c ≡ true → look_in (R.numbers rows.new) (r + 2) (c + 4) ≡ false }
 {
     let mapping = words.size().mapping();
     let list = words.list();
-    let mut slots = [0; LAID_SLOTS];
+    let mut slots = R::light();
     for (i, slot) in order(mapping).iter().enumerate() {
-        slots[*slot as usize] |= reversed(list[i]);
+        slots.add_byte(*slot, reversed(list[i]));
     }
     lay_slots(rows, &slots, mapping);
 }
@@ -70,11 +72,13 @@ fn outer_row(inner: u128, region_side: u16, across: u16, fronts: &[u128; MOST_BE
 }
 
 /// Makes it the grid with these rows of the mapping square, correct borders and the fixed square.
-pub(crate) fn draw_rows(grid: &mut Grid, size: Size, rows: &[u128; WIDENED])
+pub(crate) fn draw_rows<R: BitRows>(grid: &mut Grid, size: Size, rows: &R)
+    requires room { length (R.numbers rows.now) ≡ R.most + 6 }
+    requires fits { size.mapping ≤ R.most }
     ensures size { grid.new.size ≡ size }
     ensures grid { IsGrid grid.new }
     ensures border { (u v : ℕ) → u < size.side → v < size.side → is_border size u v ≡ true → cell_at grid.new u v ≡ border_is_dark size u v }
-    ensures mapped { (r c : ℕ) → r < size.mapping → c < size.mapping → mapped_cell grid.new r c ≡ (is_fixed_dark size.mapping r c || look_in rows.now (r + 2) (c + 4)) }
+    ensures mapped { (r c : ℕ) → r < size.mapping → c < size.mapping → mapped_cell grid.new r c ≡ (is_fixed_dark size.mapping r c || look_in (R.numbers rows.now) (r + 2) (c + 4)) }
 {
     let region_side = size.region_side();
     let mapping = size.mapping();
@@ -88,7 +92,7 @@ pub(crate) fn draw_rows(grid: &mut Grid, size: Size, rows: &[u128; WIDENED])
             region += 1;
             until += region_side;
         }
-        let cells = outer_row(rows[line as usize + 2] >> 4, region_side, across, &fronts);
+        let cells = outer_row(rows.inner(line as usize + 2), region_side, across, &fronts);
         grid.darken(line + 2 * region + 1, cells);
     }
 }

@@ -1,19 +1,26 @@
 -- Codewords laid by the rows of their anchors: their bits are scattered from slots into widened rows, which are then folded back into the square.
--- Slot 16 r + k has, with its bits in the opposite order, the codeword of the k-th anchor of row r; the last slot has that of a corner.
-use Rattle.std.specs.Prelude.{ℕ, ◌+◌, ◌-◌, ◌*◌, ◌/◌, ◌%◌, Bool, ◌&&◌, ◌||◌, nat_eq, nat_le, nat_lt, List, get_or}
-use Rattle.dm_layout.specs.Grid.{is_dark_in}
+-- Byte k of row r of the slots has, with its bits in the opposite order, the codeword of the k-th anchor of row r; the last row has that of a corner.
+use Rattle.std.specs.Prelude.{ℕ, ◌+◌, ◌-◌, ◌*◌, ◌/◌, ◌%◌, ◌^◌, Bool, ◌&&◌, ◌||◌, nat_eq, nat_le, nat_lt, min, List, get_or, set, bit_or}
 use Rattle.dm_layout.specs.Placement.{cells_of}
 use Rattle.dm_layout.specs.declared.shape.Shape.TheVariants.{Corner1, Corner2}
-use Rattle.dm_layout.specs.inner.Reading.{marks_in}
+use Rattle.dm_layout.specs.inner.Reading.{look_in, marks_in}
 use Rattle.dm_layout.specs.inner.Slots.{first_column}
 
--- bit j of the codewords whose anchors lie in row r: eight for each
-abbrev pub slot_bit : List ℕ → ℕ → ℕ → Bool
-slot_bit slots r j = is_dark_in (get_or slots (16 * r + j / 8) 0) (j % 8)
+-- whether so many bits of each byte of a row, from bit `low` on, darken column c, where the bytes begin at column `first`
+abbrev pub part_of : List ℕ → ℕ → ℕ → ℕ → ℕ → ℕ → Bool
+part_of slots r first low count c = nat_le first c && (nat_lt ((c - first) % 8) count && look_in slots r (c - first + low))
+
+-- whether a cell of widened rows is dark once a row of slots is laid over them, from column `first` on, if it was as `old` says
+abbrev pub with_scattered : Bool → List ℕ → ℕ → ℕ → ℕ → ℕ → Bool
+with_scattered old slots row first r c = ((old || (nat_eq r row && part_of slots row first 0 2 c)) || (nat_eq r (row + 1) && part_of slots row first 2 3 c)) || (nat_eq r (row + 2) && part_of slots row first 5 3 c)
 
 -- whether the codewords whose anchors lie in row r darken column c of a widened row by those of their bits that begin with `low`, `count` of each eight
 abbrev pub by_anchors : ℕ → List ℕ → ℕ → ℕ → ℕ → ℕ → Bool
-by_anchors n slots r low count c = nat_lt r n && (nat_le (first_column r) c && (nat_lt ((c - first_column r) % 8) count && slot_bit slots r (c - first_column r + low)))
+by_anchors n slots r low count c = nat_lt r n && part_of slots r (first_column r) low count c
+
+-- the rows of slots, numbers of some width, with one more byte in its slot, which is that of an anchor, or of a corner, in row `last`
+abbrev pub with_byte : ℕ → ℕ → List ℕ → ℕ → ℕ → List ℕ
+with_byte width last slots x y = set slots (min (x / 16) last) (bit_or (get_or slots (min (x / 16) last) 0) (y * 2 ^ (8 * (x % 16)) % 2 ^ width))
 
 -- the widened rows of the codewords: two bits of each lie in the row of its anchor, which is two rows above the anchor's row in the square, three in the next row, and three in that after it
 abbrev pub scattered : ℕ → List ℕ → ℕ → ℕ → Bool

@@ -2,5 +2,8 @@ use Rattle.std.proofs.Common.{◌+◌, ◌%◌, arith}
 use Rattle.dm_layout.proofs.MovedRows.{is_folded}
 use Rattle.dm_layout.proofs.laying.fold.Goals as goal
 
-pub returns : goal.returns
-returns c = is_folded c.args.mapping ((c.args.mapping + 4) % 8) c.args.rows.now c.lower_rows.new.rows c.move_columns.new.rows c.requires.least c.requires.most (omega arith) c.lower_rows.ensures c.move_columns.ensures
+pub returns-clause-cells : goal.returns-clause-cells
+returns-clause-cells g c =
+    let rows = g.R.BitRows.numbers in
+    is_folded g.R.BitRows.width c.args.mapping ((c.args.mapping + 4) % 8) (rows c.args.rows.now) (rows c.lower_rows.new.rows) (rows c.move_columns.new.rows) c.requires.least (omega (arith, c.requires.most, g.met.R.BitRows.fits)) (omega arith)
+    c.lower_rows.ensures.cells c.move_columns.ensures.cells

@@ -1,22 +1,32 @@
-use Rattle.std.proofs.Common.{◌≡◌, ℕ, ◌+◌, ◌∙◌, ap, arith}
-use Rattle.std.proofs.lemmas.List.{length-set}
-use Rattle.dm_layout.specs.inner.Laying.{scattered}
+use Rattle.std.proofs.Common.{◌≡◌, ℕ, ◌+◌, ◌∙◌, Bool, List, length, ap, arith}
+use Rattle.std.proofs.lemmas.List.{length-replicate}
+use Rattle.dm_layout.specs.inner.Laying.{scattered, with_scattered}
+use Rattle.dm_layout.specs.inner.Reading.{look_in}
+use Rattle.dm_layout.specs.inner.Slots.{first_column}
 use Rattle.dm_layout.proofs.LaidRows.{scattered_none, scatter_more}
+use Rattle.dm_layout.proofs.Painting.{light_at}
 use Rattle.dm_layout.proofs.laying.scatter.Goals as goal
 
 pub loop-row-init : goal.loop-row-init
-loop-row-init c = record { count = c.told-rows; so_far = λ r q l. scattered_none c.args.rows.now c.args.slots.now c.requires.light r q }
+loop-row-init g c = record {
+  count = ap length c.requires.light ∙ length-replicate (g.R.BitRows.most + 6) 0;
+  so_far = λ r q l.
+      scattered_none (g.R.BitRows.numbers c.args.rows.now) (g.R.BitRows.numbers c.args.slots.now) (λ i j. ap (λ (rows : List ℕ). look_in rows i j) c.requires.light ∙ light_at (g.R.BitRows.most + 6) i j) r q;
+}
 
 pub loop-row-preserved : goal.loop-row-preserved
-loop-row-preserved c =
+loop-row-preserved g c =
+    let slots = g.R.BitRows.numbers c.args.slots.now in
     let row : ℕ = c.loop-row.row in
-    let i = c.loop-row.invariant in
     record {
-      count = length-set _ (row + 2) _ ∙ length-set _ (row + 1) _ ∙ length-set c.loop-row.rows row _ ∙ i.count;
-      so_far = scatter_more c.loop-row.rows c.args.slots.now row c.row_of_slots-codewords.result (omega (arith, i.count, c.loop-row-test.true, c.requires.most)) c.row_of_slots-codewords.ensures i.so_far;
+      count = c.scatter.ensures.room ∙ c.loop-row.invariant.count;
+      so_far = λ r q l.
+          c.scatter.ensures.cells r q l
+          ∙ ap (λ (b : Bool). with_scattered b slots row (first_column row) r q) (c.loop-row.invariant.so_far r q l)
+          ∙ scatter_more slots row r q;
     }
 
-pub returns : goal.returns
-returns c = λ r q l.
+pub returns-clause-cells : goal.returns-clause-cells
+returns-clause-cells g c = λ r q l.
     let e : c.loop-row.row ≡ c.args.mapping = omega (arith, c.loop-row-test.false, c.loop-row.auto.row-end) in
-    c.loop-row.invariant.so_far r q l ∙ ap (λ (i : ℕ). scattered i c.args.slots.now r q) e
+    c.loop-row.invariant.so_far r q l ∙ ap (λ (i : ℕ). scattered i (g.R.BitRows.numbers c.args.slots.now) r q) e

@@ -1,10 +1,10 @@
-use Rattle.std.proofs.Common.{◌≡◌, ℕ, ◌<◌, length}
+use Rattle.std.proofs.Common.{◌≡◌, ℕ, ◌+◌, ◌<◌, length}
 use Rattle.dm_layout.specs.inner.Laying.{scattered}
 use Rattle.dm_layout.specs.inner.Reading.{look_in}
 use Rattle.dm_layout.proofs.laying.scatter.Given as goal
 
 abbrev pub invariant-loop-row : goal.invariant-loop-row
-invariant-loop-row l = record {
-  count : length l.rows ≡ 102;
-  so_far : (r c : ℕ) → c < 128 → look_in l.rows r c ≡ scattered l.row l.slots r c;
+invariant-loop-row g l = record {
+  count : length (g.R.BitRows.numbers l.rows) ≡ g.R.BitRows.most + 6;
+  so_far : (r c : ℕ) → c < g.R.BitRows.width → look_in (g.R.BitRows.numbers l.rows) r c ≡ scattered l.row (g.R.BitRows.numbers l.slots) r c;
 }
