@@ -17,17 +17,17 @@ use Rattle.dm_layout.proofs.PackedRows.{weight, front_cell}
 
 -- ---- the bits of a row that is moved to the right
 
--- a bit of a row that is moved to the right
+-- Bit c of a row that is moved to the right by s columns is bit s + c of the row.
 pub moved_bit : (x s c : ℕ) → bit_at (x / 2 ^ s) c ≡ bit_at x (s + c)
 moved_bit x s c = ap (λ (i : ℕ). i % 2) (div-div-eq-div-mul x (2 ^ s) (2 ^ c) ∙ ap (λ (i : ℕ). x / i) (sym (pow-add 2 s c)))
 
 -- ---- a row without its borders, region by region
 
--- the part of a row in one region
+-- The part of a row of the symbol that lies in one data region.
 abbrev pub part_of : ℕ → ℕ → ℕ → ℕ
 part_of row d a = row / 2 ^ (a * (d + 2) + 1) % (1 * 2 ^ d % 2 ^ 128)
 
--- such a part has no more bits than the region has columns
+-- The part of a row in a data region has no more bits than the region has columns.
 part_small : (row d a : ℕ) → d < 128 → part_of row d a < 2 ^ d
 part_small row d a l =
     let w = weight d l in
@@ -37,12 +37,12 @@ part_small row d a l =
     ap_lt : (x m n : ℕ) → m ≡ n → 0 < n → x % m < n
     ap_lt x m n e p = omega arith
 
--- the row with one more region
+-- Putting the part of one more region after the row so far adds its number, and the row stays within the regions.
 pub record IsMore (inner row d a : ℕ) : Type 0 where
   pub is_sum : bit_or inner (part_of row d a * 2 ^ (a * d) % 2 ^ 128) ≡ part_of row d a * 2 ^ (a * d) + inner
   pub narrow : part_of row d a * 2 ^ (a * d) + inner < 2 ^ ((a + 1) * d)
 
--- one more part is put to the left of those before it, where nothing stands yet
+-- The part of one more region is put to the left of those before it, where nothing stands yet.
 is_more : (inner row d a : ℕ) → d < 128 → (a + 1) * d ≤ 96 → inner < 2 ^ (a * d) → IsMore inner row d a
 is_more inner row d a small fits narrow =
     let k : ℕ = a * d in
@@ -59,12 +59,13 @@ is_more inner row d a small fits narrow =
       narrow = n;
     }
 
--- the inner row of the first regions: it ends with them, and its cells are those of the row between their borders
+-- The inner row ends with the first regions, and its cells are those of the row between their borders.
 pub record IsCut (row d a inner : ℕ) : Type 0 where
   pub narrow : inner < 2 ^ (a * d)
   pub so_far : (c : ℕ) → c < a * d → is_dark_in inner c ≡ is_dark_in row (symbol_line d c)
 
--- its cells, with one more region
+-- With the part of one more region put after them, the cells of an inner
+-- row are those of the row between the borders.
 one_more : (inner row d a : ℕ) → 8 ≤ d → d < 128 → inner < 2 ^ (a * d) → ((c : ℕ) → c < a * d → is_dark_in inner c ≡ is_dark_in row (symbol_line d c)) →
     (c : ℕ) → c < (a + 1) * d → is_dark_in (part_of row d a * 2 ^ (a * d) + inner) c ≡ is_dark_in row (symbol_line d c)
 one_more inner row d a least small narrow so_far c l = by_part (below (nat_lt c (a * d)) refl)
@@ -87,7 +88,7 @@ one_more inner row d a least small narrow so_far c l = by_part (below (nat_lt c 
         ∙ ap (λ (i : ℕ). nat_eq i 1) (moved_bit row s j)
         ∙ ap (is_dark_in row) line
 
--- one more region
+-- An inner row of some regions, with the part of the next one put after them, is one of one region more.
 pub cut_more : (inner row d a n : ℕ) → 8 ≤ d → a < n → n * d ≤ 96 → inner < 2 ^ (a * d) → ((c : ℕ) → c < a * d → is_dark_in inner c ≡ is_dark_in row (symbol_line d c)) →
     IsCut row d (a + 1) (bit_or inner (part_of row d a * 2 ^ (a * d) % 2 ^ 128))
 cut_more inner row d a n least l fits narrow so_far =
@@ -121,7 +122,7 @@ cut_first row d n least some fits =
 
 -- ---- the loops
 
--- one more line of a grid
+-- A row of the symbol without its borders is a row of the mapping square.
 pub one_line : (grid : GridView) (size : SizeRow) (m d row outer x : ℕ) → IsGrid grid → size ≡ grid.size → m ≡ size.mapping → d ≡ size.region_side → row < m →
     ((c : ℕ) → c < grid.size.side → is_dark_in outer c ≡ cell_at grid (symbol_line d row) c) →
     ((c : ℕ) → c < m / d * d → is_dark_in x c ≡ is_dark_in outer (symbol_line d c)) → (c : ℕ) → c < grid.size.mapping → is_dark_in x c ≡ mapped_cell grid row c

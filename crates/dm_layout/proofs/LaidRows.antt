@@ -15,7 +15,7 @@ use Rattle.dm_layout.proofs.WidenedRows.{put_over}
 
 -- ---- one row of slots is scattered
 
--- masked bits that are moved to the left
+-- Masked bits of a number, moved to the left, darken the columns that its part darkens.
 part_up : (slots : List ℕ) (q width mask low count s c : ℕ) → ((i : ℕ) → i < width → is_dark_in mask i ≡ nat_lt (i % 8) count) → c < width →
     is_dark_in (bit_and (get_or slots q 0 / 2 ^ low) mask * 2 ^ s % 2 ^ width) c ≡ part_of slots q s low count c
 part_up slots q width mask low count s c masked l =
@@ -26,7 +26,7 @@ part_up slots q width mask low count s c masked l =
     ∙ ap (λ (i : ℕ). nat_le s c && (look_in slots q i && t)) z
     ∙ ap (λ (b : Bool). nat_le s c && b) (and_comm (look_in slots q (c - s + low)) t)
 
--- the rows with one more row of slots, its parts masked and moved to the left
+-- The rows with one more row of slots, whose parts are laid over three of them.
 abbrev pub with_row : ℕ → ℕ → ℕ → List ℕ → ℕ → ℕ → ℕ → List ℕ
 with_row width two three rows row x s =
     let a : List ℕ = set rows row (bit_or (get_or rows row 0) (bit_and x two * 2 ^ s % 2 ^ width)) in
@@ -65,7 +65,7 @@ row_scattered width two three masked rows slots row s r c fits l =
     whole : x ≡ x / 2 ^ 0
     whole = let o : x / 1 ≡ x = omega arith in sym o
 
--- a row that is one of those so far, or the next
+-- A row lies among the first n + 1 exactly if it lies among the first n or is the next.
 pub one_further : (up n r : ℕ) (part : ℕ → Bool) → (nat_le up r && (nat_lt (r - up) (n + 1) && part (r - up))) ≡ ((nat_le up r && (nat_lt (r - up) n && part (r - up))) || (nat_eq r (n + up) && part n))
 one_further up n r part = by_place (cases_lt r up)
   where
@@ -102,7 +102,7 @@ one_further up n r part = by_place (cases_lt r up)
         ∙ sym (ap (λ (b : Bool). (b && (nat_lt (r - up) n && part (r - up))) || (nat_eq r (n + up) && part n)) (lt-leb up r h) ∙ ap (λ (b : Bool). b && part n) (ne_eqb r (n + up) (λ e. omega (arith, e, h))))
     by_place (inr h) = by_row h (cases_lt (r - up) n)
 
--- three rows that are laid over three parts
+-- Three parts laid over three rows may be grouped row by row.
 all_six : (a b d x y z : Bool) → (((a || (b || d)) || x) || y) || z ≡ ((a || x) || ((b || y) || (d || z)))
 all_six true b d x y z = refl
 all_six false true d true y z = refl
@@ -113,7 +113,7 @@ all_six false false true false false z = refl
 all_six false false false true y z = refl
 all_six false false false false y z = refl
 
--- nothing is scattered before the first row
+-- Before the first row of slots nothing is scattered.
 pub scattered_none : (rows slots : List ℕ) → ((r c : ℕ) → look_in rows r c ≡ false) → (r c : ℕ) → look_in rows r c ≡ scattered 0 slots r c
 scattered_none rows slots light r c =
     light r c
@@ -131,7 +131,7 @@ scattered_none rows slots light r c =
     none false true = refl
     none false false = refl
 
--- one more row of slots
+-- Laying the three parts of one more row of slots over the rows scatters that row too.
 pub scatter_more : (slots : List ℕ) (row r c : ℕ) → with_scattered (scattered row slots r c) slots row (first_column row) r c ≡ scattered (row + 1) slots r c
 scatter_more slots row r c =
     all_six (by_anchors row slots r 0 2 c) (nat_le 1 r && by_anchors row slots (r - 1) 2 3 c) (nat_le 2 r && by_anchors row slots (r - 2) 5 3 c) (nat_eq r row && here 0 2) (nat_eq r (row + 1) && here 2 3) (nat_eq r (row + 2) && here 5 3)

@@ -24,12 +24,13 @@ use Rattle.dm_layout.proofs.WidenedRows.{put_over, low_bit, bit_up, none_up}
 
 -- ---- the cells of a byte, of which the lowest bit comes first
 
--- whether one of these cells, for the bits of a byte from bit k on, lies at a row and a column and its bit is 1
+-- One of these cells, for the bits of a byte from bit k on, lies at this row and column, and its bit is 1.
 abbrev pub marks_low : ℕ → ℕ → List Cell → ℕ → ℕ → Bool
 marks_low y k [] r c = false
 marks_low y k (x ∷ rest) r c = (nat_eq r x.row && nat_eq c x.column && is_dark_in y k) || marks_low y (suc k) rest r c
 
--- a bit of a byte with its bits in the opposite order
+-- A test of all bytes, computed by the checker: each bit of a reversed
+-- byte is that of the byte in the opposite order.
 reversed_test : list_all (λ x. agree_below (is_dark_in (reversed_bits x)) (λ k. nat_eq (x / 2 ^ (8 - (k + 1)) % 2) 1) 8) (range_with_len 0 256) ≡ true
 reversed_test = refl
 
@@ -38,18 +39,18 @@ reversed_bit x k l lk =
     agree_below_at (is_dark_in (reversed_bits x)) (λ k. nat_eq (x / 2 ^ (8 - (k + 1)) % 2) 1) 8 k
     (all_below (λ x. agree_below (is_dark_in (reversed_bits x)) (λ k. nat_eq (x / 2 ^ (8 - (k + 1)) % 2) 1) 8) 256 x reversed_test l) lk
 
--- if its bits are those of a codeword, they are the cells of the codeword
+-- A byte whose bits are those of a codeword in the opposite order marks the cells that the codeword marks.
 marks_alike : (y w k : ℕ) (xs : List Cell) (r c : ℕ) → ((t : ℕ) → t < 8 → is_dark_in y t ≡ nat_eq (w / 2 ^ (8 - (t + 1)) % 2) 1) → k + length xs ≤ 8 → marks_low y k xs r c ≡ marks_in w k xs r c
 marks_alike y w k [] r c same h = refl
 marks_alike y w k (x ∷ rest) r c same h =
     ap (λ (b : Bool). (nat_eq r x.row && nat_eq c x.column && b) || marks_low y (suc k) rest r c) (same k (omega arith))
     ∙ ap (λ (b : Bool). (nat_eq r x.row && nat_eq c x.column && nat_eq (w / 2 ^ (8 - (k + 1)) % 2) 1) || b) (marks_alike y w (suc k) rest r c same (omega arith))
 
--- those of a codeword with its bits in the opposite order are
+-- A codeword with its bits in the opposite order marks the cells that the codeword marks.
 pub marks_reversed : (w : ℕ) (xs : List Cell) (r c : ℕ) → w < 256 → length xs ≤ 8 → marks_low (reversed_bits w) 0 xs r c ≡ marks_in w 0 xs r c
 marks_reversed w xs r c l h = marks_alike (reversed_bits w) w 0 xs r c (λ t lt. reversed_bit w t l lt) (omega arith)
 
--- and the other way round
+-- A byte marks the cells that a codeword of its bits in the opposite order marks.
 pub marks_turned : (y : ℕ) (xs : List Cell) (r c : ℕ) → length xs ≤ 8 → marks_low y 0 xs r c ≡ marks_in (reversed_bits (y % 256)) 0 xs r c
 marks_turned y xs r c h = marks_alike y (reversed_bits (y % 256)) 0 xs r c turned (omega arith)
   where
@@ -59,7 +60,7 @@ marks_turned y xs r c h = marks_alike y (reversed_bits (y % 256)) 0 xs r c turne
         ∙ ap (λ (i : ℕ). is_dark_in i t) (sym (reversed_twice (y % 256) (omega arith)))
         ∙ reversed_bit (reversed_bits (y % 256)) t (omega arith) l
 
--- a bit of either byte
+-- A cell is marked by one of two bits exactly if it is marked by one or by the other.
 either_bit : (p a b x y : Bool) → (p && (a || b) || (x || y)) ≡ ((p && a || x) || (p && b || y))
 either_bit true true b x y = refl
 either_bit true false true true y = refl
@@ -67,7 +68,7 @@ either_bit true false true false y = refl
 either_bit true false false x y = refl
 either_bit false a b x y = refl
 
--- two bytes together
+-- Two bytes together mark the cells that one of them marks.
 pub marks_or : (y z k : ℕ) (xs : List Cell) (r c : ℕ) → marks_low (bit_or y z) k xs r c ≡ (marks_low y k xs r c || marks_low z k xs r c)
 marks_or y z k [] r c = refl
 marks_or y z k (x ∷ rest) r c =
@@ -75,7 +76,7 @@ marks_or y z k (x ∷ rest) r c =
     ∙ ap (λ (b : Bool). (nat_eq r x.row && nat_eq c x.column && (is_dark_in y k || is_dark_in z k)) || b) (marks_or y z (suc k) rest r c)
     ∙ either_bit (nat_eq r x.row && nat_eq c x.column) (is_dark_in y k) (is_dark_in z k) (marks_low y (suc k) rest r c) (marks_low z (suc k) rest r c)
 
--- cells, and then more
+-- Cells followed by others are marked by the bits of a byte that belong to each.
 marks_append : (y k : ℕ) (xs ys : List Cell) (r c : ℕ) → marks_low y k (xs ++ ys) r c ≡ (marks_low y k xs r c || marks_low y (k + length xs) ys r c)
 marks_append y k [] ys r c = let e : k ≡ k + 0 = omega arith in ap (λ (i : ℕ). marks_low y i ys r c) e
 marks_append y k (x ∷ xs) ys r c =
@@ -86,12 +87,12 @@ marks_append y k (x ∷ xs) ys r c =
 
 -- ---- cells in a row
 
--- so many cells of a row, from a column on
+-- So many cells of a row follow one another from a column on.
 abbrev pub cells_run : ℕ → ℕ → ℕ → List Cell
 cells_run i b zero = []
 cells_run i b (suc m) = At i b ∷ cells_run i (b + 1) m
 
--- the cell is one of these, and its bit is 1
+-- The cell is one of these in the row, and its bit is 1.
 abbrev InRun : ℕ → ℕ → ℕ → ℕ → ℕ → ℕ → ℕ → Type 0
 InRun y k i b m r c = (r ≡ i) × (b ≤ c) × (c < b + m) × (is_dark_in y (c - b + k) ≡ true)
 
@@ -115,7 +116,7 @@ decides_run y k i b (suc m) r c =
         by (inl ec) = let e : c - b + k ≡ k = omega arith in inl ((er, ec), subst (λ (t : ℕ). is_dark_in y t ≡ true) e d)
         by (inr ne) = let e : c - b + k ≡ c - (b + 1) + suc k = omega arith in inr (er, omega arith, omega arith, subst (λ (t : ℕ). is_dark_in y t ≡ true) e d)
 
--- further down
+-- Cells that follow one another are marked alike d rows further down.
 run_below : (y k i b m d r c : ℕ) → (nat_le d r && marks_low y k (cells_run i b m) (r - d) c) ≡ marks_low y k (cells_run (i + d) b m) r c
 run_below y k i b m d r c =
     same_from_decides (nat_le d r && marks_low y k (cells_run i b m) (r - d) c) _
@@ -155,7 +156,7 @@ byte_bits y t small e = by_place (cases_lt t 8)
     by_place (inl h) = h
     by_place (inr h) = absurd (true≢false (sym e ∙ ap (λ (i : ℕ). nat_eq i 1) (bit_at_above y 8 t small h)))
 
--- what a number in a row of slots adds
+-- A byte in a slot darkens this column by its bits from `low` on, `count` of them.
 abbrev added : ℕ → ℕ → ℕ → ℕ → ℕ → ℕ → ℕ → Bool
 added n s x q low count c = nat_lt q n && (nat_le (first_column q) c && (nat_lt ((c - first_column q) % 8) count && (nat_eq q s && is_dark_in x (c - first_column q + low))))
 
@@ -173,7 +174,7 @@ anchors_or n s x q low count c slots l =
     ∙ ap (λ (b : Bool). t1 && b) (and-or_distrib_left t2 (t3 && old) (t3 && new))
     ∙ and-or_distrib_left t1 (t2 && (t3 && old)) (t2 && (t3 && new))
 
--- the same for a byte, as numbers
+-- A byte in a slot darkens this column: the same test, as equations of numbers.
 abbrev IsAdded : ℕ → ℕ → ℕ → ℕ → ℕ → ℕ → ℕ → ℕ → Type 0
 IsAdded n i y s q low count c =
     (q < n) × ((first_column q ≤ c) × (((c - first_column q) % 8 < count) × ((q ≡ i) × ((s ≤ c - first_column q + low) × (is_dark_in y (c - first_column q + low - s) ≡ true)))))
@@ -187,7 +188,7 @@ decides_added n i y s width q low count c small fits =
     (Decides-at _ _ (byte_up y s width (c - first_column q + low) small fits)
     (Decides-and _ _ (decides_le s (c - first_column q + low)) (itself (is_dark_in y (c - first_column q + low - s))))))))
 
--- a byte in the slot of an anchor adds cells beside the anchor
+-- A byte in the slot of an anchor darkens the cells of its shape beside the anchor.
 added_run : (n i j y width q low count c : ℕ) → i < n → (5 * i + j) % 8 ≡ 4 → y < 256 → 8 * (j / 8) + 8 ≤ width → low + count ≤ 8 →
     added n i (y * 2 ^ (8 * (j / 8)) % 2 ^ width) q low count c ≡ marks_low y low (cells_run i (j + 2) count) q c
 added_run n i j y width q low count c li anchor small fits low_count =
@@ -206,7 +207,7 @@ added_run n i j y width q low count c li anchor small fits low_count =
         let e : c - (j + 2) + low ≡ c - first_column q + low - 8 * (j / 8) = omega arith in
         (omega arith, (omega arith, (omega arith, (eq, (omega arith, subst (λ (t : ℕ). is_dark_in y t ≡ true) e d)))))
 
--- a number behind all rows adds nothing
+-- A byte in a slot behind all rows darkens nothing.
 added_none : (n s x q low count c : ℕ) → n ≤ s → added n s x q low count c ≡ false
 added_none n s x q low count c far = by_row (nat_lt q n) refl
   where
@@ -221,11 +222,11 @@ added_none n s x q low count c far = by_row (nat_lt q n) refl
         ap (λ (t : Bool). nat_le (first_column q) c && (nat_lt ((c - first_column q) % 8) count && (t && is_dark_in x (c - first_column q + low)))) (ne_eqb q s (λ f. omega (arith, f, l, far)))
         ∙ none (nat_le (first_column q) c) (nat_lt ((c - first_column q) % 8) count)
 
--- the cells of a standard shape in widened rows
+-- The cells of a standard shape in widened rows.
 abbrev pub wide_cells : ℕ → ℕ → List Cell
 wide_cells i j = cells_run i (j + 2) 2 ++ cells_run (i + 1) (j + 2) 3 ++ cells_run (i + 2) (j + 2) 3
 
--- three rows, to each of which something is added
+-- Where something is added to each of three rows, the rows together get all of it.
 three_added : (a b d x y z : Bool) → ((a || x) || ((b || y) || (d || z))) ≡ ((a || (b || d)) || (x || (y || z)))
 three_added true b d x y z = refl
 three_added false true d true y z = refl
@@ -236,7 +237,7 @@ three_added false false true false false z = refl
 three_added false false false x y z = refl
 
 module _ (n : ℕ) (slots : List ℕ) where
-  -- a byte in the slot of an anchor scatters the cells of the anchor's shape
+  -- A byte in the slot of an anchor scatters to the cells of the anchor's shape.
   pub scattered_shape : (i j y width r c : ℕ) → i < n → (5 * i + j) % 8 ≡ 4 → y < 256 → 8 * (j / 8) + 8 ≤ width → i < length slots →
       scattered n (set slots i (bit_or (get_or slots i 0) (y * 2 ^ (8 * (j / 8)) % 2 ^ width))) r c ≡ (scattered n slots r c || marks_low y 0 (wide_cells i j) r c)
   scattered_shape i j y width r c li anchor small fits l =
@@ -273,7 +274,7 @@ module _ (n : ℕ) (slots : List ℕ) where
           ∙ and-or_distrib_left (nat_le d r) (by_anchors n slots (r - d) low count c) (marks_low y low (cells_run i (j + 2) count) (r - d) c)
           ∙ ap (λ (b : Bool). (nat_le d r && by_anchors n slots (r - d) low count c) || b) (run_below y low i (j + 2) count d r c)
 
-  -- a number behind all rows scatters nothing
+  -- A byte in a slot behind all rows scatters to no cell.
   pub scattered_corner : (s x r c : ℕ) → n ≤ s → s < length slots → scattered n (set slots s (bit_or (get_or slots s 0) x)) r c ≡ scattered n slots r c
   scattered_corner s x r c far l =
       ap (λ (b : Bool). b || ((nat_le 1 r && by_anchors n news (r - 1) 2 3 c) || (nat_le 2 r && by_anchors n news (r - 2) 5 3 c))) (same r 0 2)
@@ -291,14 +292,14 @@ module _ (n : ℕ) (slots : List ℕ) where
 
 -- ---- folded cells
 
--- each of these cells is folded to one of those
+-- Each of these cells is folded to the one of those that stands in its place.
 abbrev AreFolded : ℕ → ℕ → ℕ → List Cell → List Cell → Type 0
 AreFolded n r c [] [] = Unit {0}
 AreFolded n r c [] (z ∷ zs) = ⊥
 AreFolded n r c (x ∷ xs) [] = ⊥
 AreFolded n r c (x ∷ xs) (z ∷ zs) = (folded n (one_cell x.row x.column) r c ≡ one_cell z.row z.column r c) × AreFolded n r c xs zs
 
--- a picture that a bit shows or hides
+-- A picture that a bit shows or hides is folded alike.
 folded_and : (n : ℕ) (f : ℕ → ℕ → Bool) (d : Bool) (r c : ℕ) → c < n → folded n (λ i j. f i j && d) r c ≡ (folded n f r c && d)
 folded_and n f true r c l = folded_same n (n + 8) (λ i j. f i j && true) f r c l (omega arith) (λ i j _. and-true (f i j)) ∙ sym (and-true (folded n f r c))
 folded_and n f false r c l = folded_same n (n + 8) (λ i j. f i j && false) (λ i j. false) r c l (omega arith) (λ i j _. and-false (f i j)) ∙ folded_none n r c ∙ sym (and-false (folded n f r c))
@@ -313,7 +314,7 @@ folded_marks n y k r c (x ∷ xs) (z ∷ zs) l h =
     ∙ ap (λ (b : Bool). (b && is_dark_in y k) || folded n (marks_low y (suc k) xs) r c) h.0
     ∙ ap (λ (b : Bool). (one_cell z.row z.column r c && is_dark_in y k) || b) (folded_marks n y (suc k) r c xs zs l h.1)
 
--- those of a standard shape to where it wraps
+-- The cells of a standard shape in widened rows are folded to where the shape wraps.
 pub wide_folded : (n i j r c : ℕ) → 8 ≤ n → n % 2 ≡ 0 → i < n → j < n → (5 * i + j) % 8 ≡ 4 → r < n → c < n → AreFolded n r c (wide_cells i j) (standard n i j)
 wide_folded n i j r c least even li lj anchor lr lc = (
   at 2 2 i (j + 2) (omega arith) (omega arith) (omega arith) (omega arith),

@@ -21,15 +21,15 @@ use Rattle.dm_layout.proofs.LaidSlots.{marks_low, marks_reversed, marks_turned, 
 use Rattle.dm_layout.proofs.LiftedWords.{kind_test, inside_test, fits_test}
 use Rattle.dm_layout.proofs.Painting.{marks, marks_word, light_at}
 
--- the cells of the corner that belongs to a side
+-- The cells of the corner that belongs to a mapping square of this side, if one does.
 abbrev pub corner_cells : ℕ → List Cell
 corner_cells n = elim (nat_eq (n % 8) 4) [ true ↦ cells_of n Corner1 | false ↦ elim (nat_eq (n % 8) 6) [ true ↦ cells_of n Corner2 | false ↦ [] ] ]
 
--- the square with all that is in the slots, of which row `last` is that of a corner
+-- The square with all that is in the slots.
 abbrev pub laid_slots : ℕ → ℕ → List ℕ → ℕ → ℕ → Bool
 laid_slots n last slots r c = folded n (scattered n slots) r c || marks_low (get_or slots last 0) 0 (corner_cells n) r c
 
--- what is added on the left or on the right
+-- It doesn't matter on which side something is added.
 add_left : (a b x : Bool) → ((a || x) || b) ≡ ((a || b) || x)
 add_left true b x = refl
 add_left false true true = refl
@@ -64,7 +64,7 @@ module _ (n width last y : ℕ) (slots : List ℕ) (room : AreRoom n width last)
       ∙ ap (λ (x : ℕ). set slots last (bit_or (get_or slots last 0) (x % 2 ^ width))) same
       ∙ ap (λ (x : ℕ). set slots last (bit_or (get_or slots last 0) x)) (mod-eq_of_lt (omega (arith, small, eight)))
 
-  -- one more codeword of a standard shape
+  -- One more byte in the slot of an anchor marks the cells of the anchor's standard shape.
   put_standard : (i j r c : ℕ) → i < n → j < n → (5 * i + j) % 8 ≡ 4 → r < n → c < n →
       laid_slots n last (with_byte width last slots (16 * i + j / 8) y) r c ≡ (laid_slots n last slots r c || marks_low y 0 (standard n i j) r c)
   put_standard i j r c li lj anchor lr lc =
@@ -84,7 +84,7 @@ module _ (n width last y : ℕ) (slots : List ℕ) (room : AreRoom n width last)
       corner : Bool
       corner = marks_low (get_or slots last 0) 0 (corner_cells n) r c
 
-  -- or of a corner
+  -- One more byte in the slot of the corner marks the cells of the corner.
   put_corner : (xs : List Cell) (r c : ℕ) → c < n → corner_cells n ≡ xs → laid_slots n last (with_byte width last slots 1536 y) r c ≡ (laid_slots n last slots r c || marks_low y 0 xs r c)
   put_corner xs r c lc e =
       ap (λ (ss : List ℕ). laid_slots n last ss r c) corner_byte
@@ -97,7 +97,7 @@ module _ (n width last y : ℕ) (slots : List ℕ) (room : AreRoom n width last)
       news : List ℕ
       news = set slots last (bit_or (get_or slots last 0) y)
 
-  -- or of any shape that fits
+  -- One more byte in the slot of a shape that fits marks the cells of the shape.
   put_low : (s : Shape) (r c : ℕ) → fits_test n s ≡ true → r < n → c < n → laid_slots n last (with_byte width last slots (slot_of s) y) r c ≡ (laid_slots n last slots r c || marks_low y 0 (cells_of n s) r c)
   put_low (Standard i j) r c fits lr lc =
       let both = and_parts (kind_test n (Standard i j)) (inside_test n (standard n i j)) fits in
@@ -115,7 +115,7 @@ module _ (n width last y : ℕ) (slots : List ℕ) (room : AreRoom n width last)
   put_low Corner3 r c fits lr lc = cc
   put_low Corner4 r c fits lr lc = cc
 
--- a shape has eight cells
+-- A shape has eight cells.
 eight_cells : (n : ℕ) (s : Shape) → length (cells_of n s) ≡ 8
 eight_cells n (Standard r c) = refl
 eight_cells n Corner1 = refl
@@ -127,7 +127,7 @@ eight_cells n Corner4 = refl
 reversed_small : (w : ℕ) → reversed_bits w < 256
 reversed_small w = omega arith
 
--- one more codeword in its slot lies in the cells of its shape
+-- One more codeword in its slot marks the cells of its shape.
 slot_put : (n width last w : ℕ) (slots : List ℕ) (s : Shape) (r c : ℕ) → AreRoom n width last → n % 2 ≡ 0 → last < length slots → w < 256 → fits_test n s ≡ true → r < n → c < n →
     laid_slots n last (with_byte width last slots (slot_of s) (reversed_bits w)) r c ≡ (laid_slots n last slots r c || marks_in w 0 (cells_of n s) r c)
 slot_put n width last w slots s r c room even inside small fits lr lc =
@@ -136,18 +136,18 @@ slot_put n width last w slots s r c room even inside small fits lr lc =
 
 -- ---- all codewords
 
--- the square with what is in the slots, and the places of the codewords from i on, is that of all codewords
+-- The square with what is in the slots, and with the codewords from number i on, is that of all codewords.
 abbrev pub AreLaid : ℕ → ℕ → List ℕ → List ℕ → ℕ → Type 0
 AreLaid n last words slots i =
     (r c : ℕ) → r < n → c < n → (laid_slots n last slots r c || marks words (places_from n i (drop i (shapes n))) r c) ≡ marks words (places_in_order n) r c
 
--- a shape of a list that fits
+-- Each shape of a list in which all fit fits.
 fits_here : (n i : ℕ) (ss : List Shape) → list_all (fits_test n) ss ≡ true → i < length ss → fits_test n (get_or ss i Corner1) ≡ true
 fits_here n i [] h l = absurd (omega arith)
 fits_here n zero (s ∷ ss) h l = (and_parts (fits_test n s) (list_all (fits_test n) ss) h).0
 fits_here n (suc i) (s ∷ ss) h l = fits_here n i ss (and_parts (fits_test n s) (list_all (fits_test n) ss) h).1 (omega arith)
 
--- one more
+-- When the next codeword is put into its slot, the square is still that of all codewords.
 pub laid_more : (n width last i x y : ℕ) (words slots : List ℕ) → AreRoom n width last → n % 2 ≡ 0 → last < length slots → get_or words i 0 < 256 → list_all (fits_test n) (shapes n) ≡ true → i < length (shapes n) →
     x ≡ get_or (map slot_of (shapes n)) i 0 → y ≡ reversed_bits (get_or words i 0) → AreLaid n last words slots i → AreLaid n last words (with_byte width last slots x y) (i + 1)
 laid_more n width last i x y words slots room even inside small fits l ex ey so_far r c lr lc =
@@ -165,7 +165,7 @@ laid_more n width last i x y words slots room even inside small fits l ex ey so_
     ∙ ap (λ (ss : List Shape). laid_slots n last slots r c || marks words (places_from n i ss) r c) (sym (drop-cons (shapes n) i Corner1 l))
     ∙ so_far r c lr lc
 
--- slots of zeros scatter nothing
+-- Slots of zeros scatter to no cell.
 scattered_none : (n m r c : ℕ) → scattered n (replicate m 0) r c ≡ false
 scattered_none n m r c =
     ap (λ (b : Bool). b || ((nat_le 1 r && by_anchors n zeros (r - 1) 2 3 c) || (nat_le 2 r && by_anchors n zeros (r - 2) 5 3 c))) (none r 0 2)
@@ -187,7 +187,7 @@ scattered_none n m r c =
         ap (λ (b : Bool). nat_lt q n && (nat_le (first_column q) c && (nat_lt ((c - first_column q) % 8) count && b))) (light_at m q (c - first_column q + low))
         ∙ guarded (nat_lt q n) (nat_le (first_column q) c) (nat_lt ((c - first_column q) % 8) count)
 
--- nor does a corner's slot
+-- A byte without bits marks no cell.
 marks_none : (y k : ℕ) (xs : List Cell) (r c : ℕ) → ((t : ℕ) → is_dark_in y t ≡ false) → marks_low y k xs r c ≡ false
 marks_none y k [] r c dark = refl
 marks_none y k (x ∷ xs) r c dark =
@@ -195,7 +195,7 @@ marks_none y k (x ∷ xs) r c dark =
     ∙ ap (λ (b : Bool). b || marks_low y (suc k) xs r c) (and-false (nat_eq r x.row && nat_eq c x.column))
     ∙ marks_none y (suc k) xs r c dark
 
--- before the first
+-- With slots of zeros and all codewords still to come, the square is that of all codewords.
 pub laid_first : (n last m : ℕ) (words slots : List ℕ) → slots ≡ replicate m 0 → AreLaid n last words slots 0
 unfolding places_in_order
 laid_first n last m words slots e r c lr lc =
@@ -204,7 +204,7 @@ laid_first n last m words slots e r c lr lc =
     (folded_same n (n + 8) (scattered n (replicate m 0)) (λ i j. false) r c lc (omega arith) (λ i j _. scattered_none n m i j) ∙ folded_none n r c)
     ∙ ap (λ (b : Bool). b || marks words (places_from n 0 (shapes n)) r c) (marks_none (get_or (replicate m 0) last 0) 0 (corner_cells n) r c (light_at m last))
 
--- the corner of a side
+-- The byte in the slot of the corner marks what the codeword of the corner does.
 corner_same : (n y r c : ℕ) → marks_low y 0 (corner_cells n) r c ≡ corner_marks n (reversed_bits (y % 256)) r c
 corner_same n y r c = by (nat_eq (n % 8) 4) (nat_eq (n % 8) 6) refl refl
   where
@@ -218,7 +218,7 @@ corner_same n y r c = by (nat_eq (n % 8) 4) (nat_eq (n % 8) 6) refl refl
     by false true e f = marks_turned y (cells_of n Corner2) r c (omega arith)
     by false false e f = refl
 
--- after the last
+-- Once the last codeword is in its slot, the scattered and folded slots are the square of all codewords.
 pub laid_all : (n last i : ℕ) (words slots : List ℕ) → length (shapes n) ≤ i → AreLaid n last words slots i →
     (r c : ℕ) → r < n → c < n → (folded n (scattered n slots) r c || corner_marks n (reversed_bits (get_or slots last 0 % 256)) r c) ≡ marks words (places_in_order n) r c
 laid_all n last i words slots l laid r c lr lc =

@@ -18,12 +18,12 @@ use Rattle.dm_layout.proofs.Reading.{word_of}
 
 -- ---- which shapes there are
 
--- every one of these cells lies in the square
+-- All of these cells lie in the square.
 abbrev pub inside_test : ℕ → List Cell → Bool
 inside_test n [] = true
 inside_test n (x ∷ rest) = (nat_lt x.row n && nat_lt x.column n) && inside_test n rest
 
--- the anchor of a standard shape lies in the square, in a column of its row's anchors; a corner belongs to the side
+-- The anchor of a standard shape lies in the square, in a column of its row's anchors; a corner belongs to the side.
 abbrev pub kind_test : ℕ → Shape → Bool
 kind_test n (Standard r c) = (nat_lt r n && nat_lt c n) && nat_eq ((5 * r + c) % 8) 4
 kind_test n Corner1 = nat_eq (n % 8) 4
@@ -31,7 +31,7 @@ kind_test n Corner2 = nat_eq (n % 8) 6
 kind_test n Corner3 = false
 kind_test n Corner4 = false
 
--- the two together
+-- A shape fits if it is of a kind that the square has, and its cells lie in the square.
 abbrev pub fits_test : ℕ → Shape → Bool
 fits_test n s = kind_test n s && inside_test n (cells_of n s)
 
@@ -44,7 +44,7 @@ all_inside n (x ∷ xs) h =
 
 -- ---- a cell of a standard shape in widened rows
 
--- the cell by the three tests of its wrapping
+-- The cell where a cell of a shape wraps, by the three tests of its wrapping.
 abbrev pub cell_by : ℕ → ℕ → ℕ → ℕ → ℕ → Bool → Bool → Bool → Cell
 cell_by n r c up left t u v =
     elim t [
@@ -56,7 +56,7 @@ cell_by n r c up left t u v =
     ]
 
 module _ (n : ℕ) (look : ℕ → ℕ → Bool) (rows : List ℕ) (least : 8 ≤ n) (most : n ≤ 96) (even : n % 2 ≡ 0) (wide : IsWidened n look rows) where
-  -- two places that are the same
+  -- Places whose rows and columns agree look the same.
   same_look : (f : ℕ → ℕ → Bool) (a b x y : ℕ) → a ≡ x → b ≡ y → f a b ≡ f x y
   same_look f a b x y p q = ap (λ (i : ℕ). f i b) p ∙ ap (f x) q
 
@@ -86,7 +86,7 @@ module _ (n : ℕ) (look : ℕ → ℕ → Bool) (rows : List ℕ) (least : 8 �
       wide.above_left (r + 2 - up) (c + 4 - left) (omega (arith, a, lu)) (omega (arith, b, ll)) (omega (arith, s, ll)) (omega (arith, ir, a, lu, s))
       ∙ same_look look _ _ _ _ (omega (arith, a, lu, s, least)) (omega (arith, b, ll, s, least))
 
-  -- a cell of a standard shape
+  -- A cell of a standard shape in widened rows has the colour of the cell where it wraps.
   wide_at : (r c up left : ℕ) → r < n → c < n → (5 * r + c) % 8 ≡ 4 → up ≤ 2 → left ≤ 2 → (wrapped_cell n r c up left).row < n → (wrapped_cell n r c up left).column < n →
       look_in rows (r + 2 - up) (c + 4 - left) ≡ look (wrapped_cell n r c up left).row (wrapped_cell n r c up left).column
   wide_at r c up left lr lc anchor lu ll ir ic =
@@ -94,11 +94,11 @@ module _ (n : ℕ) (look : ℕ → ℕ → Bool) (rows : List ℕ) (least : 8 �
 
   -- ---- a codeword
 
-  -- a digit of a byte, by its colour
+  -- A digit of a byte is 1 or 0 as its cell is dark or light.
   digit_of : (y t : ℕ) (b : Bool) → is_dark_in y t ≡ b → y / 2 ^ t % 2 ≡ digit b
   digit_of y t b e = sym (digit-has y (2 ^ t)) ∙ ap digit e
 
-  -- eight digits in the opposite order
+  -- A byte with its bits in the opposite order is the number of its eight digits, the lowest first.
   eight_reversed : (y : ℕ) (b1 b2 b3 b4 b5 b6 b7 b8 : Bool) → is_dark_in y 0 ≡ b1 → is_dark_in y 1 ≡ b2 → is_dark_in y 2 ≡ b3 → is_dark_in y 3 ≡ b4 → is_dark_in y 4 ≡ b5 → is_dark_in y 5 ≡ b6 → is_dark_in y 6 ≡ b7 → is_dark_in y 7 ≡ b8 →
       reversed_bits y ≡ number_of 0 (b1 ∷ b2 ∷ b3 ∷ b4 ∷ b5 ∷ b6 ∷ b7 ∷ b8 ∷ [])
   eight_reversed y b1 b2 b3 b4 b5 b6 b7 b8 e1 e2 e3 e4 e5 e6 e7 e8 =
@@ -110,7 +110,7 @@ module _ (n : ℕ) (look : ℕ → ℕ → Bool) (rows : List ℕ) (least : 8 �
           128 * x1 + 64 * x2 + 32 * x3 + 16 * x4 + 8 * x5 + 4 * x6 + 2 * x7 + x8 ≡ 128 * d1 + 64 * d2 + 32 * d3 + 16 * d4 + 8 * d5 + 4 * d6 + 2 * d7 + d8
       summed x1 x2 x3 x4 x5 x6 x7 x8 d1 d2 d3 d4 d5 d6 d7 d8 p1 p2 p3 p4 p5 p6 p7 p8 = omega arith
 
-  -- the codeword of a standard shape, from its byte
+  -- The byte of an anchor, with its bits in the opposite order, is the codeword of the anchor's standard shape.
   standard_word : (r c x : ℕ) → r < n → c < n → (5 * r + c) % 8 ≡ 4 → CellsInside n (standard n r c) → IsJoined n rows r x →
       reversed_bits (x / 2 ^ (8 * (c / 8)) % 256) ≡ word_of look (standard n r c)
   standard_word r c x lr lc anchor inside slots =
@@ -127,7 +127,7 @@ module _ (n : ℕ) (look : ℕ → ℕ → Bool) (rows : List ℕ) (least : 8 �
       (slots.third k 1 lk (omega arith) ∙ same_look (look_in rows) _ _ (r + 2 - 0) (c + 4 - 1) (omega arith) (omega (arith, base)) ∙ wide_at r c 0 1 lr lc anchor (omega arith) (omega arith) inside.2.2.2.2.2.2.0 inside.2.2.2.2.2.2.1)
       (slots.third k 2 lk (omega arith) ∙ same_look (look_in rows) _ _ (r + 2 - 0) (c + 4 - 0) (omega arith) (omega (arith, base)) ∙ wide_at r c 0 0 lr lc anchor (omega arith) (omega arith) inside.2.2.2.2.2.2.2.0 inside.2.2.2.2.2.2.2.1)
 
-  -- cells that wrap nowhere
+  -- Cells that don't wrap have, in widened rows, the bits that they have in the square.
   plain_bits : (a : ℕ) (xs : List Cell) → CellsInside n xs → bits_in rows a xs ≡ number_of a (map (λ x. look x.row x.column) xs)
   plain_bits a [] h = refl
   plain_bits a (x ∷ xs) h =
@@ -135,7 +135,7 @@ module _ (n : ℕ) (look : ℕ → ℕ → Bool) (rows : List ℕ) (least : 8 �
       ∙ plain_bits (2 * a + digit (look x.row x.column)) xs h.2
 
   module _ (last : ℕ) (news : List ℕ) (within : n ≤ last) (slots : HasSlots n last rows news) where
-    -- the byte of an anchor stands in its row
+    -- The byte of an anchor stands in the row of that anchor.
     in_row : (r k : ℕ) → r < n → k < 16 → slot_byte last news (16 * r + k) ≡ get_or news r 0 / 2 ^ (8 * k) % 256
     in_row r k l lk =
         let q : (16 * r + k) / 16 ≡ r = omega arith in
@@ -145,7 +145,7 @@ module _ (n : ℕ) (look : ℕ → ℕ → Bool) (rows : List ℕ) (least : 8 �
         ∙ ap (λ (i : ℕ). get_or news i 0 / 2 ^ (8 * ((16 * r + k) % 16)) % 256) m
         ∙ ap (λ (i : ℕ). get_or news r 0 / 2 ^ (8 * i) % 256) p
 
-    -- the codeword of a shape stands in its slot
+    -- The codeword of a shape stands in its slot.
     shape_word : (s : Shape) → fits_test n s ≡ true → reversed_bits (slot_byte last news (slot_of s)) ≡ word_of look (cells_of n s)
     shape_word (Standard r c) fits =
         let both = and_parts (kind_test n (Standard r c)) (inside_test n (standard n r c)) fits in
@@ -164,7 +164,7 @@ module _ (n : ℕ) (look : ℕ → ℕ → Bool) (rows : List ℕ) (least : 8 �
     shape_word Corner3 fits = cc
     shape_word Corner4 fits = cc
 
-    -- so do all
+    -- The codewords of all shapes stand in their slots.
     pub slot_words : (ss : List Shape) → list_all (fits_test n) ss ≡ true → map (λ x. reversed_bits (slot_byte last news x)) (map slot_of ss) ≡ map (λ sh. word_of look (cells_of n sh)) ss
     slot_words [] fits = refl
     slot_words (s ∷ ss) fits =

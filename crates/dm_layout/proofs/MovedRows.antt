@@ -16,7 +16,7 @@ use Rattle.dm_layout.proofs.WidenedRows.{put_over, bit_up, none_up, low_bit}
 
 -- ---- tests that agree
 
--- two bounds that hold together
+-- Two bounds that follow from one another have the same test.
 le_same : (a b x y : ℕ) → (a ≤ b → x ≤ y) → (b < a → y < x) → nat_le a b ≡ nat_le x y
 le_same a b x y f g = by_place (cases_lt b a)
   where
@@ -24,7 +24,7 @@ le_same a b x y f g = by_place (cases_lt b a)
     by_place (inl h) = lt-leb a b h ∙ sym (lt-leb x y (g h))
     by_place (inr h) = le-leb a b h ∙ sym (le-leb x y (f h))
 
--- or strict ones
+-- Two strict bounds that follow from one another have the same test.
 lt_same : (a b x y : ℕ) → (a < b → x < y) → (b ≤ a → y ≤ x) → nat_lt a b ≡ nat_lt x y
 lt_same a b x y f g = by_place (cases_lt a b)
   where
@@ -34,7 +34,8 @@ lt_same a b x y f g = by_place (cases_lt a b)
 
 -- ---- the rows above the square
 
--- a bit of a row that is moved to the left by 4 and then to the right
+-- A row that is moved to the left by 4 columns and then to the right by s
+-- has its bit c + s - 4 at column c, if there is one.
 moved_back : (width x s c : ℕ) → c + s < width → is_dark_in (x * 16 % 2 ^ width / 2 ^ s) c ≡ (nat_le 4 (c + s) && is_dark_in x (c + s - 4))
 moved_back width x s c l = ap (λ (i : ℕ). nat_eq i 1) (moved_bit (x * 16 % 2 ^ width) s c) ∙ low_bit (x * 16) width (s + c) (omega arith) ∙ by_column (cases_lt (c + s) 4)
   where
@@ -44,7 +45,7 @@ moved_back width x s c l = ap (λ (i : ℕ). nat_eq i 1) (moved_bit (x * 16 % 2 
         let e : s + c ≡ 4 + (c + s - 4) = omega (arith, h) in
         ap (is_dark_in (x * 16)) e ∙ bit_up x 4 (c + s - 4) ∙ ap (λ (t : Bool). t && is_dark_in x (c + s - 4)) (sym (le-leb 4 (c + s) h))
 
--- two rows that are laid over the last two
+-- The two rows above the square, moved, are laid over its last two rows.
 pub lowered_rows : (width : ℕ) (rows : List ℕ) (n shift r c : ℕ) → 8 ≤ n → n + 1 < length rows → shift ≡ (n + 4) % 8 → c + 8 ≤ width →
     look_in (set (set rows n (bit_or (get_or rows n 0) (get_or rows 0 0 * 16 % 2 ^ width / 2 ^ shift))) (n + 1) (bit_or (get_or (set rows n (bit_or (get_or rows n 0) (get_or rows 0 0 * 16 % 2 ^ width / 2 ^ shift))) (n + 1) 0) (get_or (set rows n (bit_or (get_or rows n 0) (get_or rows 0 0 * 16 % 2 ^ width / 2 ^ shift))) 1 0 * 16 % 2 ^ width / 2 ^ shift))) r c ≡ lowered n (look_in rows) r c
 lowered_rows width rows n shift r c least fits es l =
@@ -123,7 +124,7 @@ lowered_rows width rows n shift r c least fits es l =
 
 -- ---- the columns left of the square
 
--- the lowest four bits of a row, moved to the left
+-- The lowest four bits of a row, moved to the left by n columns, are its columns from n on.
 lowest_up : (width x n c : ℕ) → n + 4 < width → is_dark_in (x % 16 * 2 ^ n % 2 ^ width) c ≡ ((nat_le n c && nat_lt c (n + 4)) && is_dark_in x (c - n))
 lowest_up width x n c most = ap (λ (i : ℕ). is_dark_in i c) (mod-eq_of_lt fits) ∙ by_column (cases_lt c n) (cases_lt c (n + 4))
   where
@@ -148,11 +149,11 @@ lowest_up width x n c most = ap (λ (i : ℕ). is_dark_in i c) (mod-eq_of_lt fit
         ap (is_dark_in (x % 16 * 2 ^ n)) e ∙ bit_up (x % 16) n (c - n) ∙ ap (λ (i : ℕ). nat_eq i 1) (bit_at_above (x % 16) 4 (c - n) small (omega (arith, k)))
         ∙ sym (ap (λ (t : Bool). (t && nat_lt c (n + 4)) && is_dark_in x (c - n)) (le-leb n c h) ∙ ap (λ (t : Bool). t && is_dark_in x (c - n)) (le-ltb c (n + 4) k))
 
--- the rows into which the columns of the rows above `until` are moved
+-- The rows into which the columns left of the square, of the rows above `until`, are moved.
 abbrev pub moved_down : List ℕ → ℕ → ℕ → ℕ → ℕ → ℕ → Bool
 moved_down rows n shift until r c = look_in rows r c || ((nat_le n c && nat_lt c (n + 4)) && ((nat_le 8 (r + shift) && nat_lt (r + shift) (until + 4)) && look_in rows (r + shift - 4) (c - n)))
 
--- nothing is moved before row 4
+-- Before row 4 no columns are moved.
 pub moved_none : (rows : List ℕ) (n shift r c : ℕ) → look_in rows r c ≡ moved_down rows n shift 4 r c
 moved_none rows n shift r c = sym (ap (λ (t : Bool). look_in rows r c || ((nat_le n c && nat_lt c (n + 4)) && (t && look_in rows (r + shift - 4) (c - n)))) (never (cases_lt (r + shift) 8)) ∙ nothing (look_in rows r c) (nat_le n c && nat_lt c (n + 4)))
   where
@@ -169,7 +170,7 @@ moved_none rows n shift r c = sym (ap (λ (t : Bool). look_in rows r c || ((nat_
     nothing false true = refl
     nothing false false = refl
 
--- one more row
+-- When the columns of one more row are moved, those of the rows above the next are moved.
 pub move_more : (width : ℕ) (olds rows : List ℕ) (n shift row : ℕ) → 8 ≤ n → n + 4 < width → shift ≤ 7 → 4 ≤ row → row + 4 - shift < length rows → ((r c : ℕ) → look_in rows r c ≡ moved_down olds n shift row r c) →
     (r c : ℕ) → look_in (set rows (row + 4 - shift) (bit_or (get_or rows (row + 4 - shift) 0) (get_or rows row 0 % 16 * 2 ^ n % 2 ^ width))) r c ≡ moved_down olds n shift (row + 1) r c
 move_more width olds rows n shift row least most small from inside so_far r c =
@@ -184,7 +185,7 @@ move_more width olds rows n shift row least most small from inside so_far r c =
     here : Bool
     here = nat_le n c && nat_lt c (n + 4)
 
-    -- the lowest columns are those of before
+    -- The columns left of the square in this row are still those of before.
     near : (t : Bool) → (nat_le n c && nat_lt c (n + 4)) ≡ t → (t && look_in rows row (c - n)) ≡ (t && look_in olds row (c - n))
     near false e = refl
     near true e =
@@ -221,7 +222,7 @@ move_more width olds rows n shift row least most small from inside so_far r c =
 
 -- ---- both
 
--- the rows are folded
+-- Rows that are lowered and then moved are folded.
 pub is_folded : (width n shift : ℕ) (olds mids news : List ℕ) → 8 ≤ n → n + 12 ≤ width → shift ≡ (n + 4) % 8 → ((r c : ℕ) → c + 8 ≤ width → look_in mids r c ≡ lowered n (look_in olds) r c) → ((r c : ℕ) → look_in news r c ≡ moved_down mids n shift (n + 2) r c) →
     (r c : ℕ) → r < n → c < n → look_in news (r + 2) (c + 4) ≡ folded n (look_in olds) r c
 is_folded width n shift olds mids news least most es low down r c lr lc =

@@ -19,7 +19,7 @@ use Rattle.dm_layout.proofs.SymbolLines.{symbol_line-form, region_below}
 
 -- ---- rows in which cells are made dark
 
--- the greater of two digits is 1 where one of them is
+-- The greater of two binary digits is 1 exactly if one of them is.
 max_one : (x y : ℕ) → x < 2 → y < 2 → nat_eq (max x y) 1 ≡ (nat_eq x 1 || nat_eq y 1)
 max_one zero zero lx ly = refl
 max_one zero (suc zero) lx ly = refl
@@ -29,16 +29,17 @@ max_one (suc (suc x)) y lx ly = absurd (omega arith)
 max_one zero (suc (suc y)) lx ly = absurd (omega arith)
 max_one (suc zero) (suc (suc y)) lx ly = absurd (omega arith)
 
--- a cell of one row over another is dark where it is in one of them
+-- A cell of one row laid over another is dark exactly if it is dark in one of them.
 pub or_dark : (a b c : ℕ) → is_dark_in (bit_or a b) c ≡ (is_dark_in a c || is_dark_in b c)
 or_dark a b c = ap (λ (i : ℕ). nat_eq i 1) (bit_at_or a b c) ∙ max_one (bit_at a c) (bit_at b c) (bit_at-lt a c) (bit_at-lt b c)
 
--- a row of a kept grid may be laid over by one of no more columns
+-- A kept grid stays one when a row of no more columns than its side is laid over one of its rows.
 pub kept_or : (size : SizeRow) (rows : List ℕ) (row cells : ℕ) → IsKept size rows → row < size.side → cells < 2 ^ size.side → IsKept size (set rows row (bit_or (get_or rows row 0) cells))
 kept_or size rows row cells kept l narrow =
     kept_set size rows row (bit_or (get_or rows row 0) cells) kept l (or_lt size.side (get_or rows row 0) cells (kept_narrow size rows row kept l) narrow)
 
--- its cells are then dark where they were or are in that row
+-- When a row is laid over a row of a kept grid, the cells are dark that
+-- were, and those of that row that are dark in the one laid over it.
 pub cell_or : (size : SizeRow) (rows : List ℕ) (row cells : ℕ) → IsKept size rows → row < size.side → (r c : ℕ) → r < size.side → c < size.side →
     cell_at (kept_grid size (set rows row (bit_or (get_or rows row 0) cells))) r c ≡ (cell_at (kept_grid size rows) r c || (nat_eq r row && is_dark_in cells c))
 cell_or size rows row cells kept l r c lr lc =
@@ -60,18 +61,19 @@ cell_or size rows row cells kept l r c lr lc =
 
 -- ---- a row between borders, region by region
 
--- the part of an inner row in one region
+-- The part of a row of the mapping square that lies in one data region.
 abbrev pub piece_of : ℕ → ℕ → ℕ → ℕ
 piece_of inner d a = inner / 2 ^ (a * d) % (1 * 2 ^ d % 2 ^ 128)
 
--- such a part has no more bits than the region has columns
+-- The part of a row in a data region has no more bits than the region has columns.
 piece_small : (inner d a : ℕ) → d < 128 → piece_of inner d a < 2 ^ d
 piece_small inner d a l = by_mod (inner / 2 ^ (a * d)) (1 * 2 ^ d % 2 ^ 128) (2 ^ d) (weight d l) (pow_pos d)
   where
     by_mod : (x m n : ℕ) → m ≡ n → 0 < n → x % m < n
     by_mod x m n e p = omega arith
 
--- the outer row of the first regions: it ends with them, has their cells between the borders, and no cell of a border is dark
+-- The outer row ends with the first regions, has their cells between the
+-- borders, and none of its border cells is dark.
 pub record IsOut (inner d a outer : ℕ) : Type 0 where
   pub narrow : outer < 2 ^ (a * (d + 2))
   pub mapped : (c : ℕ) → c < a * d → is_dark_in outer (symbol_line d c) ≡ is_dark_in inner c
@@ -133,7 +135,7 @@ module _ (inner d a outer : ℕ) (least : 8 ≤ d) (small : d < 128) (old : IsOu
           never i (inl z) r m = omega (arith, z, r)
           never i (inr z) r m = omega (arith, z, r, m)
 
--- one more region
+-- An outer row of some regions, with the part of the next region put after its border, is one of one region more.
 out_more : (inner outer d a n : ℕ) → 8 ≤ d → a < n → n * d ≤ 96 → IsOut inner d a outer → IsOut inner d (a + 1) (piece_of inner d a * 2 ^ (a * (d + 2) + 1) + outer)
 out_more inner outer d a n least l fits old =
     let k : ℕ = a * (d + 2) + 1 in
@@ -154,13 +156,13 @@ out_more inner outer d a n least l fits old =
 
 -- ---- a row whose borders are opened one after the other
 
--- the first regions stand between their borders, and the rest of the row behind them
+-- The first regions stand between their borders, and the rest of the row follows them.
 pub record IsOpened (inner d a outer : ℕ) : Type 0 where
   pub out : ℕ
   pub is : IsOut inner d a out
   pub sum : outer ≡ inner / 2 ^ (a * d) * 2 ^ (a * (d + 2) + 1) + out
 
--- before the first region
+-- Moved by one column, a row stands with its first region after a border, and none of its borders is opened yet.
 pub opened_first : (inner d n : ℕ) → n ≤ 96 → inner < 2 ^ n → IsOpened inner d 0 (inner * 2 % 2 ^ 128)
 opened_first inner d n most narrow =
     let z : 0 * d ≡ 0 = omega arith in
@@ -179,13 +181,14 @@ opened_first inner d n most narrow =
           mod-eq_of_lt (omega (arith, m, narrow)) ∙ e ∙ ap (λ (i : ℕ). i * 2 + 0) (sym o) ∙ ap (λ (i : ℕ). inner / 2 ^ i * 2 + 0) (sym z) ∙ ap (λ (i : ℕ). inner / 2 ^ (0 * d) * 2 ^ i + 0) (sym y);
     }
 
--- what opens one more border: it takes no more than there is, it fits, and the next region stands between its borders
+-- Opening one more border takes no more than there is, fits in the row,
+-- and lets the next region stand between its borders.
 pub record IsNext (inner d a outer left : ℕ) : Type 0 where
   pub part : left ≤ outer
   pub fits : left + (outer - left) * 4 % 2 ^ 128 < 2 ^ 128
   pub next : IsOpened inner d (a + 1) (left + (outer - left) * 4 % 2 ^ 128)
 
--- a number in three parts
+-- A number in three parts is the sum of each part times its weight.
 in_parts : (x y p d w outer out : ℕ) → x ≡ y * d + p → outer ≡ x * w + out → outer ≡ y * (w * d) + (p * w + out)
 in_parts x y p d w outer out e f = f ∙ ap (λ (i : ℕ). i * w + out) e ∙ same
   where
@@ -229,7 +232,7 @@ module _ (inner d a n outer front : ℕ) (least : 8 ≤ d) (few : n ≤ 4) (l : 
       let t : a * d + d ≡ (a + 1) * d = omega arith in
       div-div-eq-div-mul inner (2 ^ (a * d)) (2 ^ d) ∙ ap (λ (i : ℕ). inner / i) (sym (pow-add 2 (a * d) d)) ∙ ap (λ (i : ℕ). inner / 2 ^ i) t
 
-  -- the rest, moved by two columns more
+  -- The rest of the row is moved by two columns more.
   moved : (outer - bit_and outer front) * 4 ≡ y * 2 ^ ((a + 1) * (d + 2) + 1)
   moved =
       let t : q + d + 2 ≡ (a + 1) * (d + 2) + 1 = omega arith in
@@ -260,7 +263,7 @@ module _ (inner d a n outer front : ℕ) (least : 8 ≤ d) (few : n ≤ 4) (l : 
       below : (u v w t z : ℕ) → u ≡ v → v + 0 < w → w ≡ t → t < z → u < z
       below u v w t z e f g h = omega (arith, e, f, g, h)
 
-  -- one more border is opened
+  -- One more border is opened.
   pub opened_more : IsNext inner d a outer (bit_and outer front)
   opened_more =
       let s = moved_small in
@@ -288,7 +291,7 @@ module _ (inner d a n outer front : ℕ) (least : 8 ≤ d) (few : n ≤ 4) (l : 
       turned : (u v : ℕ) → u + v ≡ v + u
       turned u v = omega arith
 
--- all borders are opened
+-- Once the borders of all regions but the last are opened, the row is the outer row of all regions.
 pub opened_all : (inner d a n outer : ℕ) → 8 ≤ d → n ≡ a + 1 → n * d ≤ 96 → inner < 2 ^ (n * d) → IsOpened inner d a outer → IsOut inner d n outer
 opened_all inner d a n outer least en most narrow old =
     let p0 = pow_pos (a * d) in

@@ -39,7 +39,7 @@ bit_moved width col (suc zero) c l small =
         one (suc t) e = ap (λ (i : ℕ). nat_eq i 1) (bit_at_above 1 1 (suc t) (omega arith) (omega arith)) ∙ sym (ne_eqb c col (λ f. omega (arith, e, f)))
 bit_moved width col (suc (suc d)) c l small = absurd (omega arith)
 
--- rows in which a bit is put
+-- Rows in which a bit is put at a cell are dark where they were, and at that cell if the bit is 1.
 pub bit_put : (width : ℕ) (rows : List ℕ) (q col d r c : ℕ) → q < length rows → col < width → d < 2 →
     look_in (set rows q (bit_or (get_or rows q 0) (d * 2 ^ col % 2 ^ width))) r c ≡ (look_in rows r c || (nat_eq r q && nat_eq c col && nat_eq d 1))
 bit_put width rows q col d r c l lc ld =
@@ -49,7 +49,7 @@ bit_put width rows q col d r c l lc ld =
 
 -- ---- one codeword, cell by cell
 
--- numbers that are greater by as many are equal where they are
+-- Two numbers are equal exactly if they are with the same number added to both.
 same_sum : (a b k : ℕ) → nat_eq (a + k) (b + k) ≡ nat_eq a b
 same_sum a b k = by_test (nat_eq a b) refl
   where
@@ -57,7 +57,8 @@ same_sum a b k = by_test (nat_eq a b) refl
     by_test true e = let f = eqb-true a b e in eq-eqb (a + k) (b + k) (omega (arith, f))
     by_test false e = let f = eqb-false a b e in ne_eqb (a + k) (b + k) (λ g. omega (arith, f, g))
 
--- one more bit is put at its cell, in widened rows
+-- When the next bit of a codeword is put at its cell in widened rows,
+-- these and the bits still to come mark what they did.
 pub cell_put : (width : ℕ) (rows olds : List ℕ) (word i d : ℕ) (cells : List Cell) (x : Cell) (rest : List Cell) → drop i cells ≡ x ∷ rest → rest ≡ drop (i + 1) cells → x.row + 2 < length rows → x.column + 4 < width → i < 8 → d ≡ word / 2 ^ (7 - i) % 2 →
     ((r c : ℕ) → (look_in rows (r + 2) (c + 4) || marks_in word i (drop i cells) r c) ≡ (look_in olds (r + 2) (c + 4) || marks_in word 0 cells r c)) →
     (r c : ℕ) → (look_in (set rows (x.row + 2) (bit_or (get_or rows (x.row + 2) 0) (d * 2 ^ (x.column + 4) % 2 ^ width))) (r + 2) (c + 4) || marks_in word (i + 1) (drop (i + 1) cells) r c) ≡ (look_in olds (r + 2) (c + 4) || marks_in word 0 cells r c)
@@ -81,19 +82,19 @@ cell_put width rows olds word i d cells x rest e f lr lc li ed so_far r c =
 
 -- ---- all codewords
 
--- whether one of these places lies at a row and a column and its bit is 1
+-- One of these places lies at this row and column, and its bit is 1.
 abbrev pub marks : List ℕ → List Place → ℕ → ℕ → Bool
 marks words [] r c = false
 marks words (p ∷ rest) r c = (nat_eq r p.row && nat_eq c p.column && bit_of words p.word p.bit) || marks words rest r c
 
--- the places of a codeword and then others mark what the codeword marks in its cells, and what the others mark
+-- The places of a codeword, followed by others, mark what the codeword marks in its cells and what the others mark.
 pub marks_word : (words : List ℕ) (w k : ℕ) (xs : List Cell) (rest : List Place) (r c : ℕ) → marks words (bits_from w k xs ++ rest) r c ≡ (marks_in (get_or words w 0) k xs r c || marks words rest r c)
 marks_word words w k [] rest r c = sym (false-or (marks words rest r c))
 marks_word words w k (x ∷ xs) rest r c =
     let h : Bool = nat_eq r x.row && nat_eq c x.column && bit_of words w (k + 1) in
     ap (λ (b : Bool). h || b) (marks_word words w (suc k) xs rest r c) ∙ sym (or_assoc h (marks_in (get_or words w 0) (suc k) xs r c) (marks words rest r c))
 
--- rows of zeros are light
+-- A row of zeros has no dark cell.
 pub light_at : (n r c : ℕ) → is_dark_in (get_or (replicate n 0) r 0) c ≡ false
 light_at zero r c = ap (λ (i : ℕ). nat_eq i 1) (bit_at-zero c)
 light_at (suc n) zero c = ap (λ (i : ℕ). nat_eq i 1) (bit_at-zero c)
@@ -101,22 +102,22 @@ light_at (suc n) (suc r) c = light_at n r c
 
 -- ---- what is marked
 
--- three tests fail together where the third fails as soon as the others pass
+-- Three tests don't all pass if the third fails whenever the other two pass.
 head_false : (a b d : Bool) → (a ≡ true → b ≡ true → d ≡ false) → (a && b && d) ≡ false
 head_false false b d h = refl
 head_false true false d h = refl
 head_false true true d h = h refl refl
 
--- neither of two
+-- Where each of two tests fails, neither passes.
 both_false : (a b : Bool) → a ≡ false → b ≡ false → (a || b) ≡ false
 both_false a b e f = ap (λ (x : Bool). x || b) e ∙ false-or b ∙ f
 
--- a place at the row and the column is a place of that cell
+-- A place whose row and column are those of a cell is a place of that cell.
 same_place : (n r c : ℕ) (p : Place) → nat_eq r p.row ≡ true → nat_eq c p.column ≡ true → IsPlace n p.word p.bit (At p.row p.column) → IsPlace n p.word p.bit (At r c)
 same_place n r c p e f h =
     subst (λ (j : ℕ). IsPlace n p.word p.bit (At r j)) (sym (eqb-true c p.column f)) (subst (λ (i : ℕ). IsPlace n p.word p.bit (At i p.column)) (sym (eqb-true r p.row e)) h)
 
--- a cell whose bit is 0 is not marked
+-- A cell whose bit is 0 isn't marked.
 marks_none : (n : ℕ) (words : List ℕ) (r c w b : ℕ) (ps : List Place) → EachCellOnce n → IsPlace n w b (At r c) → bit_of words w b ≡ false → ArePlaces n ps → marks words ps r c ≡ false
 marks_none n words r c w b [] law place e are = refl
 marks_none n words r c w b (p ∷ rest) law place e are =
@@ -126,7 +127,7 @@ marks_none n words r c w b (p ∷ rest) law place e are =
     ap (λ (i : ℕ). bit_of words i p.bit) one.0 ∙ ap (bit_of words w) one.1 ∙ e))
     (marks_none n words r c w b rest law place e are.1)
 
--- nor is a cell of the fixed square
+-- A cell of the fixed square isn't marked.
 marks_fixed : (n : ℕ) (words : List ℕ) (r c : ℕ) (ps : List Place) → EachCellOnce n → is_fixed n r c ≡ true → ArePlaces n ps → marks words ps r c ≡ false
 marks_fixed n words r c [] law e are = refl
 marks_fixed n words r c (p ∷ rest) law e are =
@@ -134,19 +135,19 @@ marks_fixed n words r c (p ∷ rest) law e are =
     (head_false (nat_eq r p.row) (nat_eq c p.column) (bit_of words p.word p.bit) (λ x y. absurd (none_fixed n r c p.word p.bit law e (same_place n r c p x y are.0))))
     (marks_fixed n words r c rest law e are.1)
 
--- or what is true
+-- One of two tests passes if the second does.
 or_true : (a : Bool) → (a || true) ≡ true
 or_true true = refl
 or_true false = refl
 
--- three tests that pass, or more
+-- Where three tests pass, they pass together, or something else does.
 three_true : (a b d x : Bool) → a ≡ true → b ≡ true → d ≡ true → ((a && b && d) || x) ≡ true
 three_true true true true x e f g = refl
 three_true true true false x e f g = cc
 three_true true false d x e f g = cc
 three_true false b d x e f g = cc
 
--- a cell is marked by the place at which its bit is 1
+-- A cell is marked by its place if its bit there is 1.
 marks_some : (words : List ℕ) (r c w b : ℕ) (ps : List Place) (i : ℕ) (d : Place) → i < length ps → get_or ps i d ≡ lies_in w b (At r c) → bit_of words w b ≡ true → marks words ps r c ≡ true
 marks_some words r c w b [] i d l e f = absurd (omega arith)
 marks_some words r c w b (p ∷ rest) zero d l e f =
@@ -156,7 +157,7 @@ marks_some words r c w b (p ∷ rest) (suc i) d l e f =
     let h : Bool = nat_eq r p.row && nat_eq c p.column && bit_of words p.word p.bit in
     ap (λ (x : Bool). h || x) (marks_some words r c w b rest i d (omega arith) e f) ∙ or_true h
 
--- at its place each bit
+-- The places of all bits mark the cell of a bit exactly if the bit is 1.
 pub marks_bit : (n : ℕ) (words : List ℕ) (w b : ℕ) (cell : Cell) → EachCellOnce n → IsPlace n w b cell → marks words (places_in_order n) cell.row cell.column ≡ bit_of words w b
 marks_bit n words w b cell law p = by_bit (bit_of words w b) refl
   where
@@ -169,6 +170,6 @@ marks_bit n words w b cell law p = by_bit (bit_of words w b) refl
         let k : 8 * w + (b - 1) < length (places_in_order n) = omega (arith, length-places_in_order n, p.word_in) in
         marks_some words cell.row cell.column w b (places_in_order n) (8 * w + (b - 1)) d k (place_at n w b d p.word_in lo hi ∙ ap (lies_in w b) p.there) e
 
--- and nothing in the fixed square
+-- The places of all bits mark nothing in the fixed square.
 pub marks_no_fixed : (n : ℕ) (words : List ℕ) (r c : ℕ) → EachCellOnce n → is_fixed n r c ≡ true → marks words (places_in_order n) r c ≡ false
 marks_no_fixed n words r c law e = marks_fixed n words r c (places_in_order n) law e (all_are_places n)

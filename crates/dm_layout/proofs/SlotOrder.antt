@@ -16,7 +16,7 @@ use Rattle.dm_layout.proofs.PlacementRows.{at_row, count_at_row}
 use Rattle.dm_layout.proofs.TestedSlots as slotted
 use Rattle.dm_layout.proofs.TestedSlots.{slots_test}
 
--- the slots of a size are those of its shapes
+-- The slots of a size are those of its shapes, they lie in the rows, and the shapes fit.
 pub record IsOrder (n : ℕ) : Type 0 where
   pub slots : order_of n ≡ map slot_of (shapes n)
   pub within : list_all (λ x. nat_lt x 1552) (order_of n) ≡ true
@@ -29,7 +29,7 @@ order_at_row s row =
     let both = and_parts (pointwise nat_eq (order_of n) (map slot_of (shapes n))) (list_all (λ x. nat_lt x 1552) (order_of n)) all.0 in
     record { slots = same_text (order_of n) (map slot_of (shapes n)) (sym both.0); within = both.1; fits = all.1 }
 
--- each slot lies in the rows
+-- Each slot lies in the rows.
 slot_within : (xs : List ℕ) (i : ℕ) → list_all (λ x. nat_lt x 1552) xs ≡ true → i < length xs → get_or xs i 0 < 1552
 slot_within [] i h l = absurd (omega arith)
 slot_within (x ∷ xs) zero h l = ltb-true x 1552 (and_parts (nat_lt x 1552) (list_all (λ x. nat_lt x 1552) xs) h).0
@@ -43,7 +43,7 @@ slot_here s m i xs row e f l =
     let h = ap (λ (ys : List ℕ). get_or ys i 0) g in
     omega (arith, b, h)
 
--- the slot of a shape that fits lies in the rows
+-- The slot of a shape that fits lies in the rows.
 slot_fits : (n most : ℕ) (s : Shape) → n ≤ most → n ≤ 96 → fits_test n s ≡ true → HasSlot most (slot_of s)
 slot_fits n most (Standard r c) l small fits =
     let both = and_parts (kind_test n (Standard r c)) (inside_test n (cells_of n (Standard r c))) fits in
@@ -69,11 +69,11 @@ slot_in_rows s m most i xs row e l small f li =
     let k = ap length g in
     subst (λ (ys : List ℕ). HasSlot most (get_or ys i 0)) (sym g) (slots_fit s.mapping most i (shapes s.mapping) (omega (arith, e, l)) (omega (arith, e, small)) order.fits (omega (arith, k, li)))
 
--- there are as many slots as codewords
+-- There are as many slots as codewords.
 pub slot_count : (s : SizeRow) (m : ℕ) (xs : List ℕ) → IsRow s → m ≡ s.mapping → xs ≡ order_of m → length xs ≡ codeword_count s
 slot_count s m xs row e f = ap length (f ∙ ap order_of e ∙ (order_at_row s row).slots) ∙ length-map (shapes s.mapping) slot_of ∙ count_at_row s row
 
--- one more codeword is read
+-- When the codeword of the next slot is read, the first i + 1 codewords are those of the slots.
 pub read_more : (f : ℕ → ℕ) (list slots : List ℕ) (i x : ℕ) → i < length list → i < length slots → x ≡ f (get_or slots i 0) → take i list ≡ take i (map f slots) → take (i + 1) (set list i x) ≡ take (i + 1) (map f slots)
 read_more f list slots i x l k e h =
     let m = length-map slots f in

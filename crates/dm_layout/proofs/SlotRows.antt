@@ -26,12 +26,12 @@ use Rattle.dm_layout.proofs.WidenedRows.{bit_up, none_up, low_bit}
 
 -- ---- bytes with their bits in the opposite order
 
--- the numbers of a list are those of a function from a place on
+-- The numbers of the list are those of a function from place n on.
 unfoldable table_test : (ℕ → ℕ) → ℕ → List ℕ → Bool
 table_test f n [] = true
 table_test f n (y ∷ ys) = nat_eq y (f n) && table_test f (suc n) ys
 
--- so each place holds its number
+-- Where a list passes the test of its numbers, each place holds its own.
 table_at : (f : ℕ → ℕ) (n i : ℕ) (t : List ℕ) → table_test f n t ≡ true → i < length t → get_or t i 0 ≡ f (n + i)
 unfolding table_test
 table_at f n i [] h l = absurd (omega arith)
@@ -47,13 +47,13 @@ reversed_test = refl
 reversed_length : length REVERSED ≡ 256
 reversed_length = refl
 
--- the table of reversed bytes
+-- The table has each byte with its bits in the opposite order.
 pub reversed_in_table : (x : ℕ) → x < 256 → get_or REVERSED x 0 ≡ reversed_bits x
 reversed_in_table x l =
     let z : 0 + x ≡ x = omega arith in
     table_at reversed_bits 0 x REVERSED reversed_test (omega (arith, reversed_length, l)) ∙ ap reversed_bits z
 
--- reversed twice it is the byte again
+-- A test of all bytes, computed by the checker: reversed twice, each is itself again.
 twice_test : list_all (λ x. nat_eq (reversed_bits (reversed_bits x)) x) (range_with_len 0 256) ≡ true
 twice_test = refl
 
@@ -63,7 +63,7 @@ reversed_twice x l =
 
 -- ---- three rows in one
 
--- the smaller of two digits is 1 where both are
+-- The smaller of two binary digits is 1 exactly if both are.
 min_one : (x y : ℕ) → x < 2 → y < 2 → nat_eq (min x y) 1 ≡ (nat_eq x 1 && nat_eq y 1)
 min_one zero zero lx ly = refl
 min_one zero (suc zero) lx ly = refl
@@ -73,15 +73,16 @@ min_one (suc (suc x)) y lx ly = absurd (omega arith)
 min_one zero (suc (suc y)) lx ly = absurd (omega arith)
 min_one (suc zero) (suc (suc y)) lx ly = absurd (omega arith)
 
--- a cell of a masked row
+-- A cell of a masked row is dark exactly if it is dark in the row and in the mask.
 pub and_dark : (a b c : ℕ) → is_dark_in (bit_and a b) c ≡ (is_dark_in a c && is_dark_in b c)
 and_dark a b c = ap (λ (i : ℕ). nat_eq i 1) (bit_at_and a b c) ∙ min_one (bit_at a c) (bit_at b c) (bit_at-lt a c) (bit_at-lt b c)
 
--- the lowest two and three bits of each byte
+-- A test of 128 columns, computed by the checker: the masks have the
+-- lowest two and the lowest three bits of each byte.
 masks : list_all (λ c. beq (is_dark_in 4003321963775746628980877734491390723 c) (nat_lt (c % 8) 2) && beq (is_dark_in 9341084582143408800955381380479911687 c) (nat_lt (c % 8) 3)) (range_with_len 0 128) ≡ true
 masks = refl
 
--- what the test says of a column
+-- The masks of sixteen bytes have the lowest two and the lowest three bits of each byte.
 pub masks_at : (c : ℕ) → c < 128 → (is_dark_in 4003321963775746628980877734491390723 c ≡ nat_lt (c % 8) 2) × (is_dark_in 9341084582143408800955381380479911687 c ≡ nat_lt (c % 8) 3)
 masks_at c l =
     let both =
@@ -89,7 +90,8 @@ masks_at c l =
     (all_below (λ c. beq (is_dark_in 4003321963775746628980877734491390723 c) (nat_lt (c % 8) 2) && beq (is_dark_in 9341084582143408800955381380479911687 c) (nat_lt (c % 8) 3)) 128 c masks l) in
     (beq-true _ _ both.0, beq-true _ _ both.1)
 
--- the same of eight bytes
+-- A test of 64 columns, computed by the checker: the masks have the
+-- lowest two and the lowest three bits of each byte.
 narrow_masks : list_all (λ c. beq (is_dark_in 217020518514230019 c) (nat_lt (c % 8) 2) && beq (is_dark_in 506381209866536711 c) (nat_lt (c % 8) 3)) (range_with_len 0 64) ≡ true
 narrow_masks = refl
 
@@ -100,7 +102,7 @@ narrow_masks_at c l =
     (all_below (λ c. beq (is_dark_in 217020518514230019 c) (nat_lt (c % 8) 2) && beq (is_dark_in 506381209866536711 c) (nat_lt (c % 8) 3)) 64 c narrow_masks l) in
     (beq-true _ _ both.0, beq-true _ _ both.1)
 
--- a masked row, moved to the left in a number of some width
+-- A masked row, moved to the left, is dark where the row is at the lowest three bits of a byte.
 pub masked_up : (width mask count b s c : ℕ) → ((i : ℕ) → i < width → is_dark_in mask i ≡ nat_lt (i % 8) count) → c < width →
     is_dark_in (bit_and b mask * 2 ^ s % 2 ^ width) c ≡ (nat_le s c && (is_dark_in b (c - s) && nat_lt ((c - s) % 8) count))
 masked_up width mask count b s c masked l = low_bit (x * 2 ^ s) width c l ∙ by_column (cases_lt c s)
@@ -118,7 +120,7 @@ masked_up width mask count b s c masked l = low_bit (x * 2 ^ s) width c l ∙ by
 
 -- in numbers of some width, with masks of the lowest two and three bits of each byte
 module _ (width two three : ℕ) (masked : (c : ℕ) → c < width → (is_dark_in two c ≡ nat_lt (c % 8) 2) × (is_dark_in three c ≡ nat_lt (c % 8) 3)) where
-  -- the three together
+  -- Three masked rows, each moved to its place in the bytes, are joined in one.
   pub joined_in : (a b d c : ℕ) → c < width → is_dark_in (bit_or (bit_or (bit_and a two) (bit_and b three * 4 % 2 ^ width)) (bit_and d three * 32 % 2 ^ width)) c ≡ is_joined a b d c
   joined_in a b d c l =
       or_dark (bit_or (bit_and a two) (bit_and b three * 4 % 2 ^ width)) (bit_and d three * 32 % 2 ^ width) c
@@ -128,19 +130,19 @@ module _ (width two three : ℕ) (masked : (c : ℕ) → c < width → (is_dark_
       ∙ ap (λ (t : Bool). ((is_dark_in a c && nat_lt (c % 8) 2) || t) || is_dark_in (bit_and d three * 32 % 2 ^ width) c) (masked_up width three 3 b 2 c (λ i h. (masked i h).1) l)
       ∙ ap (λ (t : Bool). ((is_dark_in a c && nat_lt (c % 8) 2) || (nat_le 2 c && (is_dark_in b (c - 2) && nat_lt ((c - 2) % 8) 3))) || t) (masked_up width three 3 d 5 c (λ i h. (masked i h).1) l)
 
--- in numbers of 128 bits
+-- Three masked rows of 128 bits, each moved to its place in the bytes, are joined in one.
 pub joined_bit : (a b d c : ℕ) → c < 128 →
     is_dark_in (bit_or (bit_or (bit_and a 4003321963775746628980877734491390723) (bit_and b 9341084582143408800955381380479911687 * 4 % 2 ^ 128)) (bit_and d 9341084582143408800955381380479911687 * 32 % 2 ^ 128)) c ≡ is_joined a b d c
 joined_bit = joined_in 128 4003321963775746628980877734491390723 9341084582143408800955381380479911687 masks_at
 
--- and of 64
+-- Three masked rows of 64 bits, each moved to its place in the bytes, are joined in one.
 pub narrow_joined_bit : (a b d c : ℕ) → c < 64 →
     is_dark_in (bit_or (bit_or (bit_and a 217020518514230019) (bit_and b 506381209866536711 * 4 % 2 ^ 64)) (bit_and d 506381209866536711 * 32 % 2 ^ 64)) c ≡ is_joined a b d c
 narrow_joined_bit = joined_in 64 217020518514230019 506381209866536711 narrow_masks_at
 
 -- ---- the bytes of a row
 
--- a part that does not reach the bit
+-- A part that doesn't reach a bit adds nothing to it.
 other_row : (x : Bool) (c s : ℕ) → (s ≤ c → 3 ≤ (c - s) % 8) → (nat_le s c && (x && nat_lt ((c - s) % 8) 3)) ≡ false
 other_row x c s far = by_column (cases_lt c s)
   where
@@ -153,7 +155,7 @@ other_row x c s far = by_column (cases_lt c s)
     by_column (inl h) = ap (λ (t : Bool). t && (x && nat_lt ((c - s) % 8) 3)) (lt-leb s c h)
     by_column (inr h) = ap (λ (t : Bool). nat_le s c && (x && t)) (le-ltb ((c - s) % 8) 3 (far h)) ∙ nothing (nat_le s c) x
 
--- the part that does
+-- The part that reaches a bit gives it its own.
 this_row : (x : Bool) (c s : ℕ) → s ≤ c → (c - s) % 8 < 3 → (nat_le s c && (x && nat_lt ((c - s) % 8) 3)) ≡ x
 this_row x c s h l = ap (λ (t : Bool). t && (x && nat_lt ((c - s) % 8) 3)) (le-leb s c h) ∙ ap (λ (t : Bool). x && t) (lt-ltb ((c - s) % 8) 3 l) ∙ alone x
   where
@@ -161,7 +163,7 @@ this_row x c s h l = ap (λ (t : Bool). t && (x && nat_lt ((c - s) % 8) 3)) (le-
     alone true = refl
     alone false = refl
 
--- one of three parts
+-- Of three parts, the two that are false add nothing to the first.
 only_first : (x a b : Bool) → a ≡ false → b ≡ false → (((x && true) || a) || b) ≡ x
 only_first true a b e f = refl
 only_first false a b e f = cc
@@ -172,7 +174,7 @@ only_second x y a b e f g = ap (λ (t : Bool). (t || y) || b) e ∙ ap (λ (t : 
 only_third : (x y a b : Bool) → a ≡ false → b ≡ false → y ≡ x → ((a || b) || y) ≡ x
 only_third x y a b e f g = ap (λ (t : Bool). (t || b) || y) e ∙ ap (λ (t : Bool). t || y) f ∙ g
 
--- no bit where the test of its place fails
+-- Where the test of a bit's place fails there is no bit.
 masked_off : (x : Bool) (c : ℕ) → 2 ≤ c % 8 → (x && nat_lt (c % 8) 2) ≡ false
 masked_off x c l = ap (λ (t : Bool). x && t) (le-ltb (c % 8) 2 l) ∙ nothing x
   where
@@ -180,7 +182,7 @@ masked_off x c l = ap (λ (t : Bool). x && t) (le-ltb (c % 8) 2 l) ∙ nothing x
     nothing true = refl
     nothing false = refl
 
--- the bytes of three rows in one, as a number of some width, are the codewords of a row
+-- The bytes of three rows that are joined in one are the codewords of the anchors of a row.
 pub are_joined : (n width : ℕ) (rows : List ℕ) (r x : ℕ) → n + 8 ≤ width →
     ((c : ℕ) → c < width → is_dark_in x c ≡ is_joined (get_or rows r 0 / 2 ^ first_column r) (get_or rows (r + 1) 0 / 2 ^ first_column r) (get_or rows (r + 2) 0 / 2 ^ first_column r) c) →
     IsJoined n rows r x
@@ -215,12 +217,12 @@ are_joined n width rows r x wide bits = record {
     byte : (k t : ℕ) → t < 8 → is_dark_in (x / 2 ^ (8 * k) % 256) t ≡ is_dark_in x (8 * k + t)
     byte k t h = low_bit (x / 2 ^ (8 * k)) 8 t h ∙ ap (λ (i : ℕ). nat_eq i 1) (moved_bit x (8 * k) t)
 
--- rows of which the first ones are joined
+-- The rows above `row` are joined, and the others are as before.
 pub record AreSoFar (n : ℕ) (olds rows : List ℕ) (row : ℕ) : Type 0 where
   pub done : (r : ℕ) → r < row → IsJoined n olds r (get_or rows r 0)
   pub rest : (r : ℕ) → row ≤ r → get_or rows r 0 ≡ get_or olds r 0
 
--- one more
+-- When one more row is joined, the rows above the next are joined.
 pub join_more : (n width : ℕ) (olds rows news : List ℕ) (row : ℕ) → n + 8 ≤ width → news ≡ set rows row (get_or news row 0) →
     ((c : ℕ) → c < width → is_dark_in (get_or news row 0) c ≡ is_joined (get_or rows row 0 / 2 ^ first_column row) (get_or rows (row + 1) 0 / 2 ^ first_column row) (get_or rows (row + 2) 0 / 2 ^ first_column row) c) →
     AreSoFar n olds rows row → AreSoFar n olds news (row + 1)
@@ -238,7 +240,7 @@ join_more n width olds rows news row wide is bits so_far = record {
     other : (r : ℕ) → r ≢ row → get_or news r 0 ≡ get_or rows r 0
     other r ne = ap (λ (xs : List ℕ). get_or xs r 0) is ∙ get_or-set_other rows row r (get_or news row 0) 0 ne
 
--- joined rows, beside which the codeword of a corner is put
+-- Joined rows, with the codeword of a corner put behind them, have the slots of all codewords.
 pub corner_beside : (n last : ℕ) (rows joined news : List ℕ) (b w : ℕ) → n ≤ last → last ≤ 96 → last < length joined → news ≡ set joined last b → b < 256 → b ≡ reversed_bits w → w < 256 → AreJoined n rows joined →
     (n % 8 ≡ 4 → w ≡ word_in rows (cells_of n Corner1)) → (n % 8 ≡ 6 → w ≡ word_in rows (cells_of n Corner2)) → HasSlots n last rows news
 corner_beside n last rows joined news b w within most room is fits e small anchors first second = record {
@@ -261,13 +263,13 @@ corner_beside n last rows joined news b w within most room is fits e small ancho
 
 -- ---- a byte of a number
 
--- a byte, by its place among those from place i on
+-- A byte stands at its place among those from place i on.
 byte_from : (i k x j : ℕ) → j < k → get_or (bytes_low_first i k x) j 0 ≡ byte_at (i + j) x
 byte_from i zero x j l = absurd (omega arith)
 byte_from i (suc k) x zero l = let z : i ≡ i + 0 = omega arith in ap (λ (q : ℕ). byte_at q x) z
 byte_from i (suc k) x (suc j) l = let z : suc i + j ≡ i + suc j = omega arith in byte_from (suc i) k x j (omega arith) ∙ ap (λ (q : ℕ). byte_at q x) z
 
--- powers of 256
+-- A power of 256 is a power of 2 with eight times the exponent.
 power : (i : ℕ) → 256 ^ i ≡ 2 ^ (8 * i)
 power zero = refl
 power (suc i) =
@@ -278,11 +280,11 @@ byte_is : (i x : ℕ) → byte_at i x ≡ x / 2 ^ (8 * i) % 256
 byte_is zero x = let z : x ≡ x / 1 = omega arith in ap (λ (q : ℕ). q % 256) z
 byte_is (suc i) x = ap (λ (q : ℕ). x / q % 256) (power (suc i))
 
--- the bytes of a number of 128 bits
+-- The bytes of a number of 128 bits are its digits of eight bits.
 pub byte_of_wide : (x j : ℕ) → j < 16 → get_or (to_le_bytes w128 x) j 0 ≡ x / 2 ^ (8 * j) % 256
 byte_of_wide x j l = let z : 0 + j ≡ j = omega arith in byte_from 0 16 x j l ∙ ap (λ (q : ℕ). byte_at q x) z ∙ byte_is j x
 
--- a slot lies in no row behind that of a corner
+-- A slot lies in no row behind that of the corner.
 pub row_of_slot : (most last x : ℕ) → most ≤ last → last ≡ 96 → HasSlot most x → min (x / 16) last ≡ x / 16
 row_of_slot most last x l e (inl is) = min-eq_left (omega (arith, is))
 row_of_slot most last x l e (inr within) = let h = within.0 in min-eq_left (omega (arith, h))

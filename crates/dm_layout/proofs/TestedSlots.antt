@@ -8,7 +8,7 @@ use Rattle.dm_layout.specs.Sizes.{size_table}
 use Rattle.dm_layout.specs.inner.Slots.{order_of, slot_of}
 use Rattle.dm_layout.proofs.LiftedWords.{fits_test}
 
--- the slots are those of the shapes and lie in the rows, and the shapes fit
+-- The slots are those of the shapes, they lie in the rows, and the shapes fit.
 abbrev pub slots_test : ℕ → Bool
 slots_test n = (pointwise nat_eq (order_of n) (map slot_of (shapes n)) && list_all (λ x. nat_lt x 1552) (order_of n)) && list_all (fits_test n) (shapes n)
 

@@ -80,7 +80,7 @@ impl Grid {
     }
 
     /// Becomes the grid of these rows, as [`Grid::of_rows`] makes it. Where that gives a fault, it stays as it is.
-    pub fn become_rows(&mut self, side: u16, rows: &[u128]) -> Result<(), GridFault>
+    pub fn set_rows(&mut self, side: u16, rows: &[u128]) -> Result<(), GridFault>
         ensures not_square { (result ≡ Err GridFault.NotSquare) ↔ (length rows.now ≢ side) }
         ensures no_such_size { (result ≡ Err GridFault.NoSuchSize) ↔ ((length rows.now ≡ side) × IsNone (row_with_side side)) }
         ensures size { OnOk result (row_with_side side ≡ Some self.new.size) }

@@ -13,7 +13,7 @@ use arrayvec::ArrayVec;
 use dm_symbol::{Grid, LARGEST_SIDE};
 
 /// Lines of the characters 0 and 1, of which the last one may be open, no more and no longer than the
-/// largest side. They are kept as rows of cells, as [`Grid::become_rows`] takes them.
+/// largest side. They are kept as rows of cells, as [`Grid::set_rows`] takes them.
 #[derive(Drop)]
 pub(crate) struct Rows {
     /// A number for each line, in which the cell of column `c`, counted from 0 at the left, is the bit of
@@ -155,7 +155,7 @@ impl Rows {
         if self.differs || self.last != side || usize::from(side) != self.rows.len() {
             return Err(RecordFault::NotSquare);
         }
-        match grid.become_rows(side, self.rows.as_slice()) {
+        match grid.set_rows(side, self.rows.as_slice()) {
             Ok(()) => Ok(()),
             Err(_) => Err(RecordFault::NoSuchSize(side)),
         }

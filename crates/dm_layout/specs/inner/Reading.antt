@@ -3,11 +3,11 @@ use Rattle.std.specs.Prelude.{ℕ, suc, ◌+◌, ◌-◌, ◌/◌, ◌%◌, ◌^
 use Rattle.dm_layout.specs.Grid.{is_dark_in}
 use Rattle.dm_layout.specs.declared.shape.Cell.{Cell}
 
--- the colour of a cell
+-- The cell at a row and a column of rows that are numbers is the bit of its column.
 abbrev pub look_in : List ℕ → ℕ → ℕ → Bool
 look_in rows r c = is_dark_in (get_or rows r 0) c
 
--- whether one of these cells, for the bits from k + 1 on of a codeword, lies at a row and a column and its bit is 1
+-- One of these cells, for the bits of a codeword from bit k + 1 on, lies at this row and column, and its bit is 1.
 abbrev pub marks_in : ℕ → ℕ → List Cell → ℕ → ℕ → Bool
 marks_in word k [] r c = false
 marks_in word k (x ∷ rest) r c = (nat_eq r x.row && nat_eq c x.column && nat_eq (word / 2 ^ (8 - (k + 1)) % 2) 1) || marks_in word (suc k) rest r c

@@ -10,53 +10,56 @@ use Rattle.dm_layout.specs.declared.shape.Shape.{Shape}
 use Rattle.dm_layout.specs.declared.shape.Shape.TheVariants.{Standard, Corner1, Corner2, Corner3, Corner4}
 use Rattle.dm_layout.specs.declared.order_rows.TheConstants.{ORDER_8, ORDER_10, ORDER_12, ORDER_14, ORDER_16, ORDER_18, ORDER_20, ORDER_22, ORDER_24, ORDER_28, ORDER_32, ORDER_36, ORDER_40, ORDER_44, ORDER_48, ORDER_56, ORDER_64, ORDER_72, ORDER_80, ORDER_88, ORDER_96}
 
--- the number that begins with a and goes on with the bits of these cells, in widened rows
+-- A number goes on with the bits of these cells, in widened rows.
 abbrev pub bits_in : List ℕ → ℕ → List Cell → ℕ
 bits_in rows a [] = a
 bits_in rows a (x ∷ rest) = bits_in rows (2 * a + bit_at (get_or rows (x.row + 2) 0) (x.column + 4)) rest
 
--- the number of the bits of these cells
+-- These cells, in widened rows, have the bits of this codeword.
 abbrev pub word_in : List ℕ → List Cell → ℕ
 word_in rows cells = bits_in rows 0 cells
 
--- a byte with its bits in the opposite order
+-- A reversed byte has its bits in the opposite order.
 abbrev pub reversed_bits : ℕ → ℕ
 reversed_bits x = 128 * (x % 2) + 64 * (x / 2 % 2) + 32 * (x / 4 % 2) + 16 * (x / 8 % 2) + 8 * (x / 16 % 2) + 4 * (x / 32 % 2) + 2 * (x / 64 % 2) + x / 128 % 2
 
--- a bit of the codewords of a row: the lowest two of a byte are of the first of three rows, the next three of the second, the highest three of the third
+-- Three rows are joined in one: of each byte the lowest two bits are those of the first row, the next three those of
+-- the second, and the highest three those of the third.
 abbrev pub is_joined : ℕ → ℕ → ℕ → ℕ → Bool
 is_joined a b d c =
     ((is_dark_in a c && nat_lt (c % 8) 2) || (nat_le 2 c && (is_dark_in b (c - 2) && nat_lt ((c - 2) % 8) 3))) || (nat_le 5 c && (is_dark_in d (c - 5) && nat_lt ((c - 5) % 8) 3))
 
--- the column of widened rows at which the codewords of a row begin
+-- The codewords whose anchors lie in row r begin at this column of the widened rows.
 abbrev pub first_column : ℕ → ℕ
 first_column r = (4 + 3 * r) % 8 + 2
 
--- the bytes of this number are the codewords whose anchors lie in row r of the mapping square of side n, from widened rows
+-- The bytes of this number are the codewords whose anchors lie in row r of the mapping square of side n, with their
+-- bits in the opposite order, as widened rows have them.
 pub record IsJoined (n : ℕ) (rows : List ℕ) (r x : ℕ) : Type 0 where
   pub first : (k t : ℕ) → 8 * k < n → t < 2 → is_dark_in (x / 2 ^ (8 * k) % 256) t ≡ look_in rows r (first_column r + (8 * k + t))
   pub second : (k t : ℕ) → 8 * k < n → t < 3 → is_dark_in (x / 2 ^ (8 * k) % 256) (2 + t) ≡ look_in rows (r + 1) (first_column r + (8 * k + t))
   pub third : (k t : ℕ) → 8 * k < n → t < 3 → is_dark_in (x / 2 ^ (8 * k) % 256) (5 + t) ≡ look_in rows (r + 2) (first_column r + (8 * k + t))
 
--- these numbers are so for every row of the square
+-- Each row of the square is joined in its number.
 abbrev pub AreJoined : ℕ → List ℕ → List ℕ → Type 0
 AreJoined n rows news = (r : ℕ) → r < n → IsJoined n rows r (get_or news r 0)
 
--- the slot of a corner, or one in the rows of a mapping square of at most this side
+-- A slot is that of a corner, or lies in the rows of a mapping square of at most this side.
 abbrev pub HasSlot : ℕ → ℕ → Type 0
 HasSlot most x = (x ≡ 1536) ⊎ ((x / 16 < most) × (8 * (x % 16) < most))
 
--- the byte of a slot, from joined rows, of which the last one has the codeword of a corner
+-- A slot has its byte in the joined row to which it belongs; that of a corner stands in the row behind all others.
 abbrev pub slot_byte : ℕ → List ℕ → ℕ → ℕ
 slot_byte last rows x = get_or rows (min (x / 16) last) 0 / 2 ^ (8 * (x % 16)) % 256
 
--- the codewords of widened rows of the mapping square of side n stand in their slots
+-- The codewords of the mapping square of side n stand in their slots, as widened rows have them.
 pub record HasSlots (n last : ℕ) (rows news : List ℕ) : Type 0 where
   pub anchors : AreJoined n rows news
   pub corner1 : n % 8 ≡ 4 → reversed_bits (slot_byte last news 1536) ≡ word_in rows (cells_of n Corner1)
   pub corner2 : n % 8 ≡ 6 → reversed_bits (slot_byte last news 1536) ≡ word_in rows (cells_of n Corner2)
 
--- the slot of a shape's codeword: 16 for each row, and an eighth of the anchor's column; the last one for a corner
+-- The codeword of a standard shape has slot 16 r + c div 8, r and c being the row and the column of its anchor, and
+-- that of a corner slot 1536, behind all others.
 abbrev pub slot_of : Shape → ℕ
 slot_of (Standard r c) = 16 * r + c / 8
 slot_of Corner1 = 1536
@@ -64,7 +67,7 @@ slot_of Corner2 = 1536
 slot_of Corner3 = 1536
 slot_of Corner4 = 1536
 
--- the slots of the codewords in order, by the side of the mapping square
+-- The slots of a mapping square of this side come in the order of its codewords.
 abbrev pub order_of : ℕ → List ℕ
 order_of n =
     if nat_eq n 8 then ORDER_8 else (

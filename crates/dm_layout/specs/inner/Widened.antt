@@ -3,13 +3,14 @@
 use Rattle.std.specs.Prelude.{◌≡◌, ℕ, ◌+◌, ◌-◌, ◌%◌, ◌<◌, ◌≤◌, Bool, false, List}
 use Rattle.dm_layout.specs.inner.Reading.{look_in}
 
--- the rows of the square above one of them are there, with nothing to their left and to their right
+-- The rows of the square above this one are in the widened rows, with nothing to their left or to their right.
 pub record IsMoved (n row : ℕ) (look : ℕ → ℕ → Bool) (rows : List ℕ) : Type 0 where
   pub inside : (r c : ℕ) → r < row → c < n → look_in rows (r + 2) (c + 4) ≡ look r c
   pub left : (r c : ℕ) → c < 4 → look_in rows r c ≡ false
   pub right : (r c : ℕ) → n + 4 ≤ c → look_in rows r c ≡ false
 
--- around it stand the cells to which shapes wrap: to the left the last columns, 4 - ((n + 4) mod 8) rows below; above the last rows, as many columns to the left
+-- Around the square stand the cells to which shapes wrap: to its left the last columns, 4 - ((n + 4) mod 8) rows
+-- below; above it the last rows, as many columns to the left.
 pub record IsWidened (n : ℕ) (look : ℕ → ℕ → Bool) (rows : List ℕ) : Type 0 where
   pub inside : (r c : ℕ) → r < n → c < n → look_in rows (r + 2) (c + 4) ≡ look r c
   pub left : (r c : ℕ) → 2 ≤ r → r < n + 2 → c < 4 → (n + 4) % 8 ≤ r + 2 → r + 2 - (n + 4) % 8 < n → look_in rows r c ≡ look (r + 2 - (n + 4) % 8) (n + c - 4)

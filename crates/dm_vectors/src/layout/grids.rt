@@ -32,3 +32,15 @@ fn rows_as_numbers(rt: HostRuntime) {
     assert!(rt; Grid::of_rows(10, &rows[..9]) == Err(GridFault::NotSquare));
     assert!(rt; Grid::of_rows(11, &rows) == Err(GridFault::NoSuchSize));
 }
+
+#[test]
+fn one_place_for_all_grids(rt: HostRuntime) {
+    let mut grid = Grid::of_rows(12, &[u128::MAX; 12]).expect(&rt, "side 12");
+    let dark = Grid::of_rows(12, &[u128::MAX; 12]).expect(&rt, "side 12");
+    assert!(rt; grid.set_rows(10, &[0; 9]) == Err(GridFault::NotSquare));
+    assert!(rt; grid.set_rows(11, &[0; 11]) == Err(GridFault::NoSuchSize));
+    assert!(rt; grid == dark);
+    assert!(rt; grid.set_rows(10, &[0; 10]).is_ok());
+    let light = Grid::new(10, &[false; 100]).expect(&rt, "side 10");
+    assert!(rt; grid == light);
+}

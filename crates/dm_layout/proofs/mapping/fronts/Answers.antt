@@ -4,7 +4,7 @@ use Rattle.std.proofs.lemmas.List.{length-set}
 use Rattle.dm_layout.proofs.PackedRows.{weight}
 use Rattle.dm_layout.proofs.mapping.fronts.Goals as goal
 
--- a region but the last ends within the row
+-- Each region but the last ends within the row.
 inside : (region across d : ℕ) → region + 1 < across → across ≤ 4 → across * d ≤ 96 → region * (d + 2) + 1 + d < 128
 inside region across d l few fits = let m : (region + 1) * d ≤ across * d = mul-le-mul_right d (omega (arith, l)) in omega (arith, m, few, fits, l)
 

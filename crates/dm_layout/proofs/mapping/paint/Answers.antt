@@ -12,7 +12,7 @@ use Rattle.dm_layout.proofs.PlacementRows.{side_at_row, count_at_row, once_at_ro
 use Rattle.dm_layout.proofs.SlotOrder.{order_at_row, slot_in_rows, slot_count}
 use Rattle.dm_layout.proofs.mapping.paint.Goals as goal
 
--- as many shapes as slots
+-- There are as many shapes as slots.
 shape_count : (s : SizeRow) (m : ℕ) (xs : List ℕ) → IsRow s → m ≡ s.mapping → xs ≡ order_of m → length (shapes m) ≡ length xs
 shape_count s m xs row e f = ap (λ (i : ℕ). length (shapes i)) e ∙ count_at_row s row ∙ sym (slot_count s m xs row e f)
 
@@ -70,7 +70,7 @@ lay_slots-requires-clause-most g c =
     let em = c.mapping-mapping.ensures.value ∙ ap (λ (s : SizeRow). s.mapping) c.size.ensures.value in
     omega (arith, em, c.requires.fits)
 
--- what all codewords darken
+-- The painted rows are dark where the codewords' bits are 1.
 painted : (g : _) (c : goal.After-drop-slots g) (r q : ℕ) → r < c.args.words.now.size.mapping → q < c.args.words.now.size.mapping →
     look_in (g.R.BitRows.numbers c.lay_slots.new.rows) (r + 2) (q + 4) ≡ marks c.args.words.now.list (places_in_order c.args.words.now.size.mapping) r q
 painted g c r q lr lq =

@@ -13,7 +13,7 @@ use Rattle.dm_layout.proofs.SlotOrder.{order_at_row, slot_in_rows, slot_count, r
 use Rattle.dm_layout.proofs.Reading.{one_list, held, gathered_all, word_of}
 use Rattle.dm_layout.proofs.placing.lift_in.Goals as goal
 
--- the codeword of a slot
+-- The codeword in a slot.
 abbrev word_by : ℕ → List ℕ → ℕ → ℕ
 word_by last rows x = reversed_bits (slot_byte last rows x)
 

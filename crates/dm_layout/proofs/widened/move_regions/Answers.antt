@@ -11,13 +11,13 @@ use Rattle.dm_layout.proofs.DrawnRows.{regions_cover}
 use Rattle.dm_layout.proofs.WidenedRows.{line_here, moved_more}
 use Rattle.dm_layout.proofs.widened.move_regions.Goals as goal
 
--- the regions cover the mapping square
+-- A row that is no wider than its regions is no wider than the mapping square.
 narrow_in : (s : SizeRow) (m d n x : ℕ) → IsRow s → m ≡ s.mapping → d ≡ s.region_side → m ≡ n → x < 2 ^ (m / d * d) → x < 2 ^ n
 narrow_in s m d n x row em ed e l =
     let w : m / d * d ≡ n = ap (λ (i : ℕ). i / d * d) em ∙ ap (λ (i : ℕ). s.mapping / i * i) ed ∙ regions_cover s row ∙ sym em ∙ e in
     subst (λ (i : ℕ). x < 2 ^ i) w l
 
--- the rows of a row of regions lie in the square
+-- The rows of a row of regions lie in the mapping square.
 row_inside : (s size : SizeRow) (row region d m : ℕ) → IsRow s → s ≡ size → m ≡ s.mapping → d ≡ s.region_side → region < regions_across size → row < region * d + d → row < m
 row_inside s size row region d m h e em ed l lr =
     let across = ap regions_across e in

@@ -3,7 +3,7 @@ use Rattle.dm_layout.specs.inner.Reading.{look_in}
 use Rattle.dm_layout.proofs.WidenedRows.{row_above}
 use Rattle.dm_layout.proofs.widened.wrap_rows.Goals as goal
 
--- the rows with two of them put, one after the other
+-- These are the rows with two of them put, one after the other.
 both_put : (width n shift : ℕ) (olds mids news : List ℕ) → mids ≡ set olds 0 (get_or olds n 0 * 2 ^ shift % 2 ^ width / 16) → news ≡ set mids 1 (get_or mids (n + 1) 0 * 2 ^ shift % 2 ^ width / 16) →
     news ≡ set (set olds 0 (get_or olds n 0 * 2 ^ shift % 2 ^ width / 16)) 1 (get_or (set olds 0 (get_or olds n 0 * 2 ^ shift % 2 ^ width / 16)) (n + 1) 0 * 2 ^ shift % 2 ^ width / 16)
 both_put width n shift olds mids news first second = second ∙ ap (λ (xs : List ℕ). set xs 1 (get_or xs (n + 1) 0 * 2 ^ shift % 2 ^ width / 16)) first

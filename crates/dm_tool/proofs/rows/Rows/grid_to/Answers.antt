@@ -12,7 +12,7 @@ returns-then-self c lines rest h = not_square c.args.self.now lines rest h (λ d
 
 pub returns-in-Ok : goal.returns-in-Ok
 returns-in-Ok c lines rest h =
-    is_grid c.args.self.now lines rest c.as_slice.result.now c.become_rows.new.self h c.if-self.false c.if-self-side.false
+    is_grid c.args.self.now lines rest c.as_slice.result.now c.set_rows.new.self h c.if-self.false c.if-self-side.false
     (sym c.from.ensures ∙ c.if-from-len.false ∙ c.len.ensures.value) c.as_slice.ensures.value c.in-Ok.ensures.size c.in-Ok.ensures.cells
 
 pub returns-in-Err : goal.returns-in-Err
