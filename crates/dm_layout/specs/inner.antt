@@ -4,3 +4,4 @@ pub mod Widened
 pub mod Slots
 pub mod BorderMasks
 pub mod Laying
+pub mod Drawing

@@ -4,6 +4,8 @@ ghost use Rattle.std.specs.Prelude.{◌≡◌, ◌⊎◌, ℕ, ◌+◌, ◌-◌,
 ghost use Rattle.dm_layout.specs.Border.{mapped_cell, symbol_line, is_border, border_is_dark, is_fixed, is_fixed_dark};
 ghost use Rattle.dm_layout.specs.Grid.{IsGrid, cell_at, is_dark_in};
 ghost use Rattle.dm_layout.specs.Placement.{IsPlace};
+ghost use Rattle.dm_layout.specs.Sizes.{regions_across};
+ghost use Rattle.dm_layout.specs.inner.Drawing.{IsDrawn};
 ghost use Rattle.dm_layout.specs.inner.Reading.{look_in};
 ghost use Rattle.dm_layout.specs.Holds.{bit_of};
 ghost use Rattle.dm_layout.specs.declared.shape.Cell.{Cell};
@@ -71,6 +73,25 @@ fn outer_row(inner: u128, region_side: u16, across: u16, fronts: &[u128; MOST_BE
     outer
 }
 
+/// Puts the rows of the mapping square that lie in one row of regions, counted from 0 at the top, into a grid with right borders.
+#[inline(always)]
+fn draw_regions<R: BitRows>(grid: &mut Grid, size: Size, rows: &R, fronts: &[u128; MOST_BEFORE_LAST], region: u16)
+    requires room { length (R.numbers rows.now) ≡ R.most + 6 }
+    requires fits { size.mapping ≤ R.most }
+    requires region { region < regions_across size }
+    requires fronts { (before : ℕ) → before + 1 < regions_across size → get_or fronts.now before 0 ≡ 2 ^ (before * (size.region_side + 2) + 1 + size.region_side) - 1 }
+    requires above { IsDrawn size (λ r c. look_in (R.numbers rows.now) (r + 2) (c + 4)) (region * size.region_side) grid.old }
+    ensures { IsDrawn size (λ r c. look_in (R.numbers rows.now) (r + 2) (c + 4)) ((region + 1) * size.region_side) grid.new }
+{
+    let region_side = size.region_side();
+    let across = size.mapping() / region_side;
+    let first = region * region_side;
+    for line in first..first + region_side {
+        let cells = outer_row(rows.inner(line as usize + 2), region_side, across, fronts);
+        grid.darken(line + 2 * region + 1, cells);
+    }
+}
+
 /// Makes it the grid with these rows of the mapping square, correct borders and the fixed square.
 pub(crate) fn draw_rows<R: BitRows>(grid: &mut Grid, size: Size, rows: &R)
     requires room { length (R.numbers rows.now) ≡ R.most + 6 }
@@ -81,18 +102,10 @@ pub(crate) fn draw_rows<R: BitRows>(grid: &mut Grid, size: Size, rows: &R)
     ensures mapped { (r c : ℕ) → r < size.mapping → c < size.mapping → mapped_cell grid.new r c ≡ (is_fixed_dark size.mapping r c || look_in (R.numbers rows.now) (r + 2) (c + 4)) }
 {
     let region_side = size.region_side();
-    let mapping = size.mapping();
-    let across = mapping / region_side;
+    let across = size.mapping() / region_side;
     let fronts = fronts(region_side, across);
     draw_borders(grid, size);
-    let mut region = 0;
-    let mut until = region_side;
-    for line in 0..mapping {
-        if line == until {
-            region += 1;
-            until += region_side;
-        }
-        let cells = outer_row(rows.inner(line as usize + 2), region_side, across, &fronts);
-        grid.darken(line + 2 * region + 1, cells);
+    for region in 0..across {
+        draw_regions(grid, size, rows, &fronts, region);
     }
 }
