@@ -20,7 +20,7 @@ use Rattle.dm_layout.proofs.PlacementRows.{once_at_row}
 use Rattle.dm_layout.proofs.SymbolLines.{symbol_line-one, symbol_line-mod, mapping_line-symbol_line, lies_inside, no_border}
 use Rattle.dm_layout.proofs.TableRows.{row_facts}
 
--- before the first
+-- The empty grid is one in which no row of the mapping square is drawn.
 pub drawn_first : (size : SizeRow) (look : ℕ → ℕ → Bool) (grid : GridView) → IsRow size → grid ≡ empty_grid size → IsDrawn size look 0 grid
 drawn_first size look grid row e =
     let d : ℕ = size.region_side in
@@ -40,7 +40,7 @@ drawn_first size look grid row e =
           ∙ ap (λ (t : Bool). is_fixed_dark n r c || (t && look r c)) (sym (le-ltb r 0 (omega arith)));
     }
 
--- a cell of a border in a row that is no border's lies in a column that is
+-- A border cell in a row that is neither first nor last in its region's square lies in a column that is.
 edge_column : (p q r s : Bool) → (p || q || r || s) ≡ true → q ≡ false → r ≡ false → (p ≡ true) ⊎ (s ≡ true)
 edge_column true q r s h e f = inl refl
 edge_column false q r true h e f = inr refl
@@ -48,20 +48,20 @@ edge_column false false false false h e f = cc
 edge_column false true r false h e f = cc
 edge_column false false true false h e f = cc
 
--- or what is not dark
+-- What isn't dark adds nothing.
 nothing_more : (a t : Bool) → (a || (t && false)) ≡ a
 nothing_more true t = refl
 nothing_more false true = refl
 nothing_more false false = refl
 
--- a row that is drawn shows its cells from then on
+-- A row that is drawn shows its cells from then on.
 line_again : (f l : Bool) → ((f || (false && l)) || (true && l)) ≡ (f || (true && l))
 line_again true true = refl
 line_again true false = refl
 line_again false true = refl
 line_again false false = refl
 
--- one more row
+-- When the next row of the mapping square is drawn, the rows above the one after it are drawn.
 pub drawn_more : (size : SizeRow) (look : ℕ → ℕ → Bool) (line x cells : ℕ) (grid next : GridView) → IsRow size → IsDrawn size look line grid → line < size.mapping → x ≡ symbol_line size.region_side line →
     next.size ≡ grid.size → IsGrid next → ((r c : ℕ) → r < grid.size.side → c < grid.size.side → cell_at next r c ≡ (cell_at grid r c || (nat_eq r x && is_dark_in cells c))) →
     ((c : ℕ) → c < size.mapping → is_dark_in cells (symbol_line size.region_side c) ≡ look line c) →
@@ -133,7 +133,7 @@ drawn_more size look line x cells grid next row old l ex es g put in_row on_edge
             same_test (inl k) = lt-ltb r line k ∙ sym (lt-ltb r (line + 1) (omega (arith, k)))
             same_test (inr k) = le-ltb r line k ∙ sym (le-ltb r (line + 1) (let ne = e.1 in omega (arith, k, ne)))
 
--- after the last
+-- Once the last row is drawn, each cell of the mapping square shows what was drawn or its colour in the fixed square.
 pub drawn_all : (size : SizeRow) (look : ℕ → ℕ → Bool) (line : ℕ) (grid : GridView) → IsDrawn size look line grid → size.mapping ≤ line → (r c : ℕ) → r < size.mapping → c < size.mapping →
     mapped_cell grid r c ≡ (is_fixed_dark size.mapping r c || look r c)
 drawn_all size look line grid h far r c lr lc =
@@ -143,7 +143,8 @@ drawn_all size look line grid h far r c lr lc =
 
 -- ---- the grid of painted rows
 
--- the codewords are laid in it
+-- A grid with correct borders that shows the bits of codewords at their
+-- places, and nothing else, is one in which they are laid.
 pub laid_by : (words : WordsView) (size : SizeRow) (look : ℕ → ℕ → Bool) (grid : GridView) → IsWords words → size ≡ words.size → grid.size ≡ size → IsGrid grid →
     ((u v : ℕ) → u < size.side → v < size.side → is_border size u v ≡ true → cell_at grid u v ≡ border_is_dark size u v) →
     ((r c : ℕ) → r < size.mapping → c < size.mapping → mapped_cell grid r c ≡ (is_fixed_dark size.mapping r c || look r c)) →
@@ -194,14 +195,14 @@ laid_by words size look grid h es eg g border mapped bits fixed =
 
 -- ---- a row of the symbol, by the size's numbers
 
--- the regions cover the mapping square
+-- The data regions cover the mapping square.
 pub regions_cover : (size : SizeRow) → IsRow size → size.mapping / size.region_side * size.region_side ≡ size.mapping
 regions_cover size row =
     let facts = row_facts size row in
     let p : 0 < size.region_side = omega (arith, facts.least) in
     ap (λ (i : ℕ). i / size.region_side * size.region_side) facts.mapping ∙ ap (λ (i : ℕ). i * size.region_side) (mul-div_cancel (regions_across size) p) ∙ sym facts.mapping
 
--- the cells of an outer row by the numbers of the size
+-- A row of the symbol that is drawn by the size's own numbers shows the row of the mapping square.
 pub in_rows : (size : SizeRow) (m d cells inner : ℕ) → IsRow size → m ≡ size.mapping → d ≡ size.region_side →
     ((c : ℕ) → c < m / d * d → is_dark_in cells (symbol_line d c) ≡ is_dark_in inner c) → (c : ℕ) → c < size.mapping → is_dark_in cells (symbol_line size.region_side c) ≡ is_dark_in inner c
 in_rows size m d cells inner row em ed mapped c l =

@@ -101,7 +101,7 @@ cut_more inner row d a n least l fits narrow so_far =
       so_far = λ c lc. ap (λ (i : ℕ). is_dark_in i c) x.is_sum ∙ one_more inner row d a least small narrow so_far c lc;
     }
 
--- the first region
+-- The cells of the first region are cut from a row by one shift.
 pub cut_first : (row d n : ℕ) → 8 ≤ d → 1 ≤ n → n * d ≤ 96 → IsCut row d 1 (row / 2 ^ 1 % (1 * 2 ^ d % 2 ^ 128))
 cut_first row d n least some fits =
     let m : 1 * d ≤ n * d = mul-le-mul_right d some in

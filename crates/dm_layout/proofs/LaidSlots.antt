@@ -131,7 +131,7 @@ run_below y k i b m d r c =
 
 -- ---- one more codeword
 
--- a byte that is moved to the left, in a number of some width
+-- A byte that is moved to the left, in a number wide enough, has its bits as many columns further on.
 pub byte_up : (y s width c : ℕ) → y < 256 → s + 8 ≤ width → is_dark_in (y * 2 ^ s % 2 ^ width) c ≡ (nat_le s c && is_dark_in y (c - s))
 byte_up y s width c small fits = ap (λ (i : ℕ). is_dark_in i c) (mod-eq_of_lt below) ∙ by_column (cases_lt c s)
   where
@@ -148,7 +148,7 @@ byte_up y s width c small fits = ap (λ (i : ℕ). is_dark_in i c) (mod-eq_of_lt
         let e : c ≡ s + (c - s) = omega (arith, h) in
         ap (is_dark_in (y * 2 ^ s)) e ∙ bit_up y s (c - s) ∙ ap (λ (t : Bool). t && is_dark_in y (c - s)) (sym (le-leb s c h))
 
--- a byte has eight bits
+-- A bit of a byte that is 1 is one of the first eight.
 byte_bits : (y t : ℕ) → y < 256 → is_dark_in y t ≡ true → t < 8
 byte_bits y t small e = by_place (cases_lt t 8)
   where

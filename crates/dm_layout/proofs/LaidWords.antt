@@ -37,7 +37,7 @@ add_left false true false = refl
 add_left false false true = refl
 add_left false false false = refl
 
--- the slots have room for a mapping square
+-- Slots have room for a mapping square if their rows are as many and as wide as it needs.
 pub record AreRoom (n width last : ℕ) : Type 0 where
   pub least : 8 ≤ n
   pub fits : n + 16 ≤ width
@@ -45,7 +45,7 @@ pub record AreRoom (n width last : ℕ) : Type 0 where
   pub last_most : last ≤ 96
 
 module _ (n width last y : ℕ) (slots : List ℕ) (room : AreRoom n width last) (even : n % 2 ≡ 0) (inside : last < length slots) (small : y < 256) where
-  -- a byte in the slot of an anchor
+  -- A byte that is added to the slot of an anchor is laid over the row of the anchor, at its place.
   anchor_byte : (i j : ℕ) → i < n → j < n → with_byte width last slots (16 * i + j / 8) y ≡ set slots i (bit_or (get_or slots i 0) (y * 2 ^ (8 * (j / 8)) % 2 ^ width))
   anchor_byte i j li lj =
       let row : min ((16 * i + j / 8) / 16) last ≡ i = omega (arith, li, lj, room.most, room.last_most) in
@@ -53,7 +53,7 @@ module _ (n width last y : ℕ) (slots : List ℕ) (room : AreRoom n width last)
       ap (λ (k : ℕ). set slots k (bit_or (get_or slots k 0) (y * 2 ^ (8 * ((16 * i + j / 8) % 16)) % 2 ^ width))) row
       ∙ ap (λ (k : ℕ). set slots i (bit_or (get_or slots i 0) (y * 2 ^ (8 * k) % 2 ^ width))) place
 
-  -- or of a corner
+  -- A byte that is added to the slot of a corner is laid over the last row.
   corner_byte : with_byte width last slots 1536 y ≡ set slots last (bit_or (get_or slots last 0) y)
   corner_byte =
       let row : min (1536 / 16) last ≡ last = omega (arith, room.last_most) in
@@ -123,7 +123,7 @@ eight_cells n Corner2 = refl
 eight_cells n Corner3 = refl
 eight_cells n Corner4 = refl
 
--- a byte with its bits in the opposite order is a byte
+-- A byte with its bits in the opposite order is a byte.
 reversed_small : (w : ℕ) → reversed_bits w < 256
 reversed_small w = omega arith
 

@@ -19,7 +19,7 @@ use Rattle.dm_layout.proofs.WidenedRows.{put_over, bit_up, none_up}
 
 -- ---- one bit
 
--- a bit that is moved to the left, in a number of some width
+-- A bit that is moved to the left, in a number wide enough, stands alone in its column.
 bit_moved : (width col d c : ℕ) → col < width → d < 2 → is_dark_in (d * 2 ^ col % 2 ^ width) c ≡ (nat_eq c col && nat_eq d 1)
 bit_moved width col zero c l small =
     let p = pow_pos width in

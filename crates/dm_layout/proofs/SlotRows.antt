@@ -118,7 +118,7 @@ masked_up width mask count b s c masked l = low_bit (x * 2 ^ s) width c l ∙ by
         ∙ ap (λ (t : Bool). is_dark_in b (c - s) && t) (masked (c - s) (omega arith))
         ∙ ap (λ (t : Bool). t && (is_dark_in b (c - s) && nat_lt ((c - s) % 8) count)) (sym (le-leb s c h))
 
--- in numbers of some width, with masks of the lowest two and three bits of each byte
+-- What follows is about numbers of some width, with masks of the lowest two and of the lowest three bits of each byte.
 module _ (width two three : ℕ) (masked : (c : ℕ) → c < width → (is_dark_in two c ≡ nat_lt (c % 8) 2) × (is_dark_in three c ≡ nat_lt (c % 8) 3)) where
   -- Three masked rows, each moved to its place in the bytes, are joined in one.
   pub joined_in : (a b d c : ℕ) → c < width → is_dark_in (bit_or (bit_or (bit_and a two) (bit_and b three * 4 % 2 ^ width)) (bit_and d three * 32 % 2 ^ width)) c ≡ is_joined a b d c

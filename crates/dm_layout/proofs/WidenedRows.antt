@@ -15,7 +15,8 @@ use Rattle.dm_layout.proofs.OuterRows.{or_dark}
 
 -- ---- rows that are laid over others
 
--- a row that is laid over another one
+-- When a row is laid over another one, the cells are dark that were, and
+-- those of that row that are dark in the one laid over it.
 pub put_over : (rows : List ℕ) (q x r c : ℕ) → q < length rows → look_in (set rows q (bit_or (get_or rows q 0) x)) r c ≡ (look_in rows r c || (nat_eq r q && is_dark_in x c))
 put_over rows q x r c l = by_row (nat_eq r q) refl
   where
@@ -31,14 +32,14 @@ put_over rows q x r c l = by_row (nat_eq r q) refl
 
 -- ---- bits of rows that are moved
 
--- a bit of a row that is moved to the left
+-- In a row that is moved to the left by s columns, bit s + c is bit c of the row.
 pub bit_up : (x s c : ℕ) → is_dark_in (x * 2 ^ s) (s + c) ≡ is_dark_in x c
 bit_up x s c =
     let z : x * 2 ^ s ≡ x * 2 ^ s + 0 = omega arith in
     let b : s + c - s ≡ c = omega arith in
     ap (λ (i : ℕ). is_dark_in i (s + c)) z ∙ ap (λ (i : ℕ). nat_eq i 1) (bit_at_cat_high x s 0 (s + c) (pow_pos s) (omega arith)) ∙ ap (is_dark_in x) b
 
--- to its right there is nothing
+-- To the right of a row that is moved to the left there is nothing.
 pub none_up : (x s c : ℕ) → c < s → is_dark_in (x * 2 ^ s) c ≡ false
 none_up x s c l =
     let z : x * 2 ^ s ≡ x * 2 ^ s + 0 = omega arith in
@@ -48,12 +49,13 @@ none_up x s c l =
     zero_bit : (p : ℕ) → 0 < p → 0 / p % 2 ≡ 0
     zero_bit p h = omega arith
 
--- a number of so many bits has those of the whole number
+-- The lowest n bits of a number are its own.
 pub low_bit : (x n c : ℕ) → c < n → is_dark_in (x % 2 ^ n) c ≡ is_dark_in x c
 low_bit x n c l =
     ap (λ (i : ℕ). nat_eq i 1) (sym (bit_at_cat_low (x / 2 ^ n) n (x % 2 ^ n) c l)) ∙ ap (λ (i : ℕ). is_dark_in i c) (div-add-mod' x (2 ^ n))
 
--- a row of some width that is moved to the left and then to the right by 4
+-- A row of some width that is moved to the left by s columns and then to
+-- the right by 4 has its bit c + 4 - s at column c.
 pub moved_both : (width x s c : ℕ) → c + 4 < width → s ≤ c + 4 → is_dark_in (x * 2 ^ s % 2 ^ width / 16) c ≡ is_dark_in x (c + 4 - s)
 moved_both width x s c l h =
     let e : 4 + c ≡ s + (c + 4 - s) = omega arith in
@@ -64,7 +66,7 @@ moved_both width x s c l h =
 
 -- ---- the rows of the square
 
--- what holds of a row that is put among others, and of the others
+-- What holds of a row that is put among others, and of these others, holds of all rows then.
 pub look_set : (P : Bool → Type 0) (rows : List ℕ) (q y r c : ℕ) → q < length rows → (r ≡ q → P (is_dark_in y c)) → (r ≢ q → P (look_in rows r c)) → P (look_in (set rows q y) r c)
 look_set P rows q y r c l here other = by_row (nat_eq r q) refl
   where
@@ -76,7 +78,7 @@ look_set P rows q y r c l here other = by_row (nat_eq r q) refl
         let ne = eqb-false r q e in
         subst P (sym (ap (λ (i : ℕ). is_dark_in i c) (get_or-set_other rows q r y 0 ne))) (other ne)
 
--- the line of the symbol by the region
+-- A row of a region lies in the symbol behind two borders for each region before it, and one more.
 pub line_here : (row region d until : ℕ) → until ≡ (region + 1) * d → region * d ≤ row → row < until → row + 2 * region + 1 ≡ symbol_line d row
 line_here row region d until e lo hi =
     let j : ℕ = row - region * d in
@@ -86,7 +88,7 @@ line_here row region d until e lo hi =
     let q : row / d ≡ region = ap (λ (i : ℕ). i / d) is ∙ div-mul-add region d j lj in
     omega (arith, q)
 
--- none of the rows of the square, where nothing is dark
+-- Where nothing is dark, none of the rows of the square is there yet.
 pub moved_none : (n row : ℕ) (look : ℕ → ℕ → Bool) (rows : List ℕ) → row ≡ 0 → ((r c : ℕ) → look_in rows r c ≡ false) → IsMoved n row look rows
 moved_none n row look rows e light = record {
   inside = λ r c l lc. absurd (omega arith);
@@ -94,7 +96,7 @@ moved_none n row look rows e light = record {
   right = λ r c l. light r c;
 }
 
--- one more row of the square
+-- When one more row of the square is put, the rows above the next are there.
 pub moved_more : (n row x : ℕ) (look : ℕ → ℕ → Bool) (rows news : List ℕ) → row + 2 < length rows → x < 2 ^ n → ((c : ℕ) → c < n → is_dark_in x c ≡ look row c) → news ≡ set rows (row + 2) (x * 16) → IsMoved n row look rows → IsMoved n (row + 1) look news
 moved_more n row x look rows news l narrow cells is moved = subst (IsMoved n (row + 1) look) (sym is) (record {
   inside = λ r c lr lc.
@@ -114,11 +116,11 @@ moved_more n row x look rows news l narrow cells is moved = subst (IsMoved n (ro
 
 -- ---- the columns left of the square
 
--- what is wrapped to the left of the rows above `until`
+-- What is wrapped to the left of the rows above `until`, with what was there before.
 abbrev pub wrapped_left : List ℕ → ℕ → ℕ → ℕ → ℕ → ℕ → Bool
 wrapped_left rows n shift until r c = look_in rows r c || ((nat_le 2 r && nat_lt r until) && look_in rows (r + 4 - shift) (n + c))
 
--- far to the right nothing is added
+-- From column 4 on nothing is added by wrapping.
 nothing_far : (rows : List ℕ) (n shift until r c : ℕ) → ((r c : ℕ) → n + 4 ≤ c → look_in rows r c ≡ false) → 4 ≤ c → wrapped_left rows n shift until r c ≡ look_in rows r c
 nothing_far rows n shift until r c width l =
     ap (λ (b : Bool). look_in rows r c || ((nat_le 2 r && nat_lt r until) && b)) (width (r + 4 - shift) (n + c) (omega arith)) ∙ nothing (look_in rows r c) (nat_le 2 r && nat_lt r until)
@@ -128,7 +130,7 @@ nothing_far rows n shift until r c width l =
     nothing false true = refl
     nothing false false = refl
 
--- one more row
+-- When one more row is wrapped, the rows above the next are wrapped.
 pub wrap_more : (olds rows : List ℕ) (n shift row : ℕ) → 8 ≤ n → shift ≤ 6 → row + 2 < length rows → ((r c : ℕ) → n + 4 ≤ c → look_in olds r c ≡ false) →
     ((r c : ℕ) → look_in rows r c ≡ wrapped_left olds n shift (row + 2) r c) →
     (r c : ℕ) → look_in (set rows (row + 2) (bit_or (get_or rows (row + 2) 0) (get_or rows (row + 6 - shift) 0 / 2 ^ n))) r c ≡ wrapped_left olds n shift (row + 1 + 2) r c
@@ -169,7 +171,7 @@ wrap_more olds rows n shift row least small inside width so_far r c =
 
 -- ---- the rows above the square
 
--- a row of those above, where two rows of some width are put
+-- The two rows above the square are the last rows of the square, moved to where they wrap.
 pub row_above : (width : ℕ) (rows : List ℕ) (n shift r c : ℕ) → 8 ≤ n → 2 < length rows → r < 2 → c + 4 < width → shift ≤ c + 4 →
     look_in (set (set rows 0 (get_or rows n 0 * 2 ^ shift % 2 ^ width / 16)) 1 (get_or (set rows 0 (get_or rows n 0 * 2 ^ shift % 2 ^ width / 16)) (n + 1) 0 * 2 ^ shift % 2 ^ width / 16)) r c ≡ look_in rows (r + n) (c + 4 - shift)
 row_above width rows n shift r c least long l lc h = by_row (nat_eq r 0) refl
@@ -205,7 +207,7 @@ row_above width rows n shift r c least long l lc h = by_row (nat_eq r 0) refl
 
 -- ---- all together
 
--- the square with columns to its left and rows above
+-- Rows with the columns to their left and the rows above them are the widened rows of the square.
 pub is_widened : (n : ℕ) (look : ℕ → ℕ → Bool) (olds mids news : List ℕ) → 8 ≤ n → IsMoved n n look olds →
     ((r c : ℕ) → look_in mids r c ≡ wrapped_left olds n ((n + 4) % 8) (n + 2) r c) →
     ((r c : ℕ) → r < 2 → c < n + 4 → (n + 4) % 8 ≤ c + 4 → look_in news r c ≡ look_in mids (r + n) (c + 4 - (n + 4) % 8)) →

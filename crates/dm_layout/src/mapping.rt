@@ -75,7 +75,13 @@ fn outer_row(inner: u128, region_side: u16, across: u16, fronts: &[u128; MOST_BE
 
 /// Puts the rows of the mapping square that lie in one row of regions, counted from 0 at the top, into a grid with right borders.
 #[inline(always)]
-fn draw_regions<R: BitRows>(grid: &mut Grid, size: Size, rows: &R, fronts: &[u128; MOST_BEFORE_LAST], region: u16)
+fn draw_regions<R: BitRows>(
+    grid: &mut Grid,
+    size: Size,
+    rows: &R,
+    fronts: &[u128; MOST_BEFORE_LAST],
+    region: u16,
+)
     requires room { length (R.numbers rows.now) ≡ R.most + 6 }
     requires fits { size.mapping ≤ R.most }
     requires region { region < regions_across size }

@@ -13,11 +13,11 @@ use Rattle.dm_layout.proofs.TableRows.{row_facts}
 use Rattle.dm_layout.proofs.WidenedRows.{line_here}
 use Rattle.dm_layout.proofs.mapping.draw_regions.Goals as goal
 
--- how many regions stand side by side
+-- The mapping side divided by the side of a region is how many regions stand side by side.
 across_is : (s : SizeRow) (m d : ℕ) → m ≡ s.mapping → d ≡ s.region_side → m / d ≡ regions_across s
 across_is s m d em ed = ap (λ (i : ℕ). i / d) em ∙ ap (λ (i : ℕ). s.mapping / i) ed
 
--- where a row of a row of regions lies in the mapping square, and its line in the symbol
+-- A line of the mapping square lies in a region, and so does its line in the symbol.
 record IsHere (s : SizeRow) (region line : ℕ) : Type 0 where
   inside : line < s.mapping
   line_is : line + 2 * region + 1 ≡ symbol_line s.region_side line
