@@ -1,5 +1,5 @@
 -- How many bytes are asked for.
-use Rattle.std.proofs.Common.{◌≡◌, ◌≤◌, ◌+◌, ℕ, zero, suc, List, inl, inr, length, max, refl, arith}
+use Rattle.std.proofs.Common.{◌≡◌, ◌≤◌, ◌+◌, ◌++◌, ℕ, zero, suc, List, inl, inr, length, length-append, max, refl, arith}
 use Rattle.std.proofs.lemmas.Bool.{cases_lt, le-ltb, lt-ltb}
 use Rattle.dm_tool.specs.Runs.{most_asked}
 
@@ -26,10 +26,22 @@ next_is_within before zero most e some = absurd (some refl)
 next_is_within before (suc left) most e some = omega (arith, e)
 
 -- After the last read no more bytes were asked for in all than may be.
-pub asked_in_all : {S : Type 0} (Gave : S → S → List ℕ → Type 0) (Asked : S → S → ℕ → Type 0)
+asked_in_all : {S : Type 0} (Gave : S → S → List ℕ → Type 0) (Asked : S → S → ℕ → Type 0)
     → ((a b c : S) (x : List ℕ) (m n most : ℕ) → Gave a b x → Asked a b m → Asked b c n → m ≤ most → length x + n ≤ most → Asked a c most)
     → (a b c : S) (text more : List ℕ) (left most : ℕ) → Gave a b text → Asked a b most → Asked b c (max left 1) → length text + left ≡ most → length text ≤ length more
     → Asked a c (most_asked most (length more))
 asked_in_all Gave Asked joined a b c text more left most gave before last all longer =
     joined a b c text most (max left 1) (most_asked most (length more)) gave before last (most_may_be_asked most (length more))
     (next_may_be_asked (length text) (length more) left most all longer)
+
+-- What the source gave up to the last read, and no more bytes were asked for than may be.
+pub asked_by : {S : Type 0} (Gave : S → S → List ℕ → Type 0) (Asked : S → S → ℕ → Type 0)
+    → ((a b c : S) (x y : List ℕ) → Gave a b x → Gave b c y → Gave a c (x ++ y))
+    → ((a b c : S) (x : List ℕ) (m n most : ℕ) → Gave a b x → Asked a b m → Asked b c n → m ≤ most → length x + n ≤ most → Asked a c most)
+    → (a b c : S) (text more : List ℕ) (left most : ℕ) → Gave a b text → Gave b c more → Asked a b most → Asked b c (max left 1) → length text + left ≡ most
+    → (all : List ℕ) × Gave a c all × Asked a c (most_asked most (length all))
+asked_by Gave Asked gave_joined asked_joined a b c text more left most gave next before last all = (
+  text ++ more,
+  gave_joined a b c text more gave next,
+  asked_in_all Gave Asked asked_joined a b c text (text ++ more) left most gave before last all (omega (arith, length-append text more)),
+)

@@ -369,10 +369,6 @@ lengthened t e held never some =
 
 -- ---- whole lines
 
--- No bytes are no whole lines.
-pub ends_none : (t : Rows) (lines : List (List ℕ)) → HoldsLines t lines [] → EndsLines t lines []
-ends_none t lines h = record { more = []; bytes_are = refl; full = tt; held = subst (λ (l : List (List ℕ)). HoldsLines t l []) (sym (append-nil lines)) h }
-
 -- Whole lines and one more, with its LF, are whole lines.
 pub ends_more : (t u : Rows) (lines : List (List ℕ)) (bytes line : List ℕ) → (e : EndsLines t lines bytes) → line ≢ [] → HasNoLf line
     → HoldsLines u ((lines ++ e.more) ++ line ∷ []) [] → EndsLines u lines (bytes ++ (line ++ lf ∷ []))

@@ -4,7 +4,7 @@ use Rattle.std.specs.List.{list_all, range_with_len, take-map}
 use Rattle.std.specs.Simd.Lanes.{top}
 use Rattle.std.proofs.Math.Nat.{div-div-eq-div-mul}
 use Rattle.std.proofs.lemmas.Bool.{cases_lt, eqb-true, ne_eqb}
-use Rattle.std.proofs.lemmas.List.{get_or_append_left, length-map, length-take-le, map-append, take_all}
+use Rattle.std.proofs.lemmas.List.{get_or_append_left, length-map, map-append, take_all}
 use Rattle.std.proofs.lemmas.List.FromFn.{fill_by_all, get_or-map-range_with_len, length-map-range_with_len, take-map-range_with_len}
 use Rattle.std.proofs.Math.Seq.{get_or-append_right, take-append-add}
 use Rattle.std.proofs.lemmas.Nat.{pow-add, pow_pos}
@@ -103,10 +103,6 @@ cells_long n cells = length-map (cells_in n cells) character_of ∙ length-map-r
 pub row_is : (row : List Bool) (cells width : ℕ) → length row ≡ width → ((column : ℕ) → column < width → is_dark_in cells column ≡ get_or row column false)
     → cells_in width cells ≡ row
 row_is row cells width long each = sym (fill_by_all (is_dark_in cells) row width false long (λ k l. sym (each k l)))
-
--- Of sixteen characters the first few are so many.
-pub few_long : (few cells : ℕ) → few ≤ 16 → length (take few (map character_of (cells_in 16 cells))) ≡ few
-few_long few cells le = length-take-le few (map character_of (cells_in 16 cells)) (omega (arith, cells_long 16 cells))
 
 -- The characters of the first cells of a row, and those of sixteen more, are the characters of all these cells.
 pub sixteen_more : (before : List ℕ) (cells column : ℕ)

@@ -1,5 +1,5 @@
 //! The cells at the front of some text, up to 128 at once.
-ghost use Rattle.std.specs.Prelude.{◌≡◌, ◌==◌, ◌≤◌, ◌+◌, ◌∷◌, ◌++◌, [], ℕ, false, map, List, IfSome};
+ghost use Rattle.std.specs.Prelude.{◌≡◌, ◌==◌, ◌≤◌, ◌+◌, ◌∷◌, ◌++◌, [], ℕ, false, map, not, List, IfSome};
 ghost use Rattle.std.specs.Simd.Lanes.{mask_l};
 ghost use Rattle.std.specs.List.{prefix_len};
 ghost use Rattle.std.specs.Int.Bits.{bit_or};
@@ -95,14 +95,22 @@ fn dark_bits(block: u8x32) -> u64
     block.simd_eq(u8x32::splat(b'1')).to_bitmask()
 }
 
-/// How many characters 0 and 1 stand at the front of a block. These two differ from 1 in the lowest bit at most.
+/// The other characters of a block: 0 for 0 and 1, which are the two that differ from 1 in the lowest bit at most.
+#[inline]
+fn other_bits(block: u8x32) -> u64
+    ensures { result ≡ mask_l (map (λ b. not (bit_or b 1 == 49)) block) }
+{
+    (block | u8x32::splat(1))
+        .simd_ne(u8x32::splat(b'1'))
+        .to_bitmask()
+}
+
+/// How many characters 0 and 1 stand at the front of a block.
 #[inline]
 fn front_count(block: u8x32) -> u32
     ensures { result ≡ prefix_len (λ b. bit_or b 1 == 49) block }
 {
-    let others = (block | u8x32::splat(1))
-        .simd_ne(u8x32::splat(b'1'))
-        .to_bitmask();
+    let others = other_bits(block);
     if others == 0 {
         BLOCK as u32
     } else {

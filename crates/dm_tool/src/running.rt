@@ -4,7 +4,7 @@ ghost use Rattle.std.specs.Io.KnownBytes.{Appends};
 ghost use Rattle.dm_tool.specs.Answers.{Answer as AnAnswer, table_text};
 ghost use Rattle.dm_tool.specs.Devices.{AppendsFront, Counts, HasRisen, IsFlushedOnce, IsPassedOn};
 ghost use Rattle.dm_tool.specs.Runs.{IsAnswered, HasWrittenFront, HasWrittenOutSoFar, IsFlushedAtEnd, IsTooMuch, most_asked, tally_of, written};
-ghost use Rattle.dm_tool.specs.inner.AnsweredSoFar.{EndsAnswered, Advances, HasBegunAnswers, HasTakenText};
+ghost use Rattle.dm_tool.specs.inner.AnsweredSoFar.{Advances, AreCounted, HasBegunAnswers, HasBegunLast, HasTakenText, IsLastAnswered};
 
 use crate::answer::{Answer, Places};
 use crate::answering::Answering;
@@ -180,7 +180,7 @@ fn answer_piece<O: Sink>(
     requires room { tally.old.answered + tally.old.refused + length piece.now < 2 ^ 64 }
     ensures ok { OnOk result ((more : List AnAnswer) × Advances answering.old piece.now more answering.new
         × Appends (O.contents sink.old) (O.contents sink.new) (written more)
-        × ((answers : List AnAnswer) → tally.old ≡ tally_of answers → tally.new ≡ tally_of (answers ++ more))) }
+        × AreCounted tally.old tally.new more) }
     ensures sum { OnOk result (tally.new.answered + tally.new.refused ≤ tally.old.answered + tally.old.refused + length piece.now) }
     ensures err { OnErr result (HasBegunAnswers answering.old piece.now (AppendsFront (O.contents sink.old) (O.contents sink.new))) }
     ensures unflushed { O.flushed sink.old sink.new [] }
@@ -210,7 +210,7 @@ fn gather_answer<O: Sink>(
 ) -> Result<(), Failed>
     requires room { tally.old.answered + tally.old.refused + 1 < 2 ^ 64 }
     ensures ok { OnOk result (IsPassedOn (O.contents sink.old) gathered.old.items answer.now.text (O.contents sink.new) gathered.new.items) }
-    ensures tally { OnOk result ((answers : List AnAnswer) → tally.old ≡ tally_of answers → tally.new ≡ tally_of (answers ++ answer.now ∷ [])) }
+    ensures tally { OnOk result (AreCounted tally.old tally.new (answer.now ∷ [])) }
     ensures sum { OnOk result (tally.new.answered + tally.new.refused ≡ tally.old.answered + tally.old.refused + 1) }
     ensures err { OnErr result (AppendsFront (O.contents sink.old) (O.contents sink.new) gathered.old.items) }
     ensures unflushed { O.flushed sink.old sink.new [] }
@@ -235,16 +235,12 @@ fn end<O: Sink>(
 ) -> Result<(), Failed>
     requires stands { HasTakenText answering.old }
     requires room { tally.old.answered + tally.old.refused + 1 < 2 ^ 64 }
-    ensures ok { OnOk result ((last : List AnAnswer) × EndsAnswered answering.old last
-        × Appends (O.contents sink.old) (O.contents sink.new) (written last)
-        × ((answers : List AnAnswer) → tally.old ≡ tally_of answers → tally.new ≡ tally_of (answers ++ last))) }
+    ensures ok { OnOk result (IsLastAnswered answering.old (Appends (O.contents sink.old) (O.contents sink.new)) tally.old tally.new) }
     ensures flushed { OnOk result (O.is_pending sink.new ≡ false) }
-    ensures err { OnErr result ((last : List AnAnswer) × EndsAnswered answering.old last
-        × AppendsFront (O.contents sink.old) (O.contents sink.new) (written last)) }
+    ensures err { OnErr result (HasBegunLast answering.old (AppendsFront (O.contents sink.old) (O.contents sink.new))) }
     ensures held { OnOk result (IsFlushedOnce (O.flushed sink.old sink.new) (O.contents sink.old) (O.contents sink.new)) }
     ensures late { OnErr result (O.flushed sink.old sink.new [] ⊎ (IsFlushedOnce (O.flushed sink.old sink.new) (O.contents sink.old) (O.contents sink.new)
-        × ((last : List AnAnswer) × EndsAnswered answering.old last × Appends (O.contents sink.old) (O.contents sink.new) (written last)
-        × ((answers : List AnAnswer) → tally.old ≡ tally_of answers → tally.new ≡ tally_of (answers ++ last))))) }
+        × IsLastAnswered answering.old (Appends (O.contents sink.old) (O.contents sink.new)) tally.old tally.new)) }
     ensures count { Counts (O.failed sink.old) (O.failed sink.new) result }
 {
     match put_last(answering, sink, tally, places, answer) {
@@ -263,11 +259,8 @@ fn put_last<O: Sink>(
 ) -> Result<(), Failed>
     requires stands { HasTakenText answering.old }
     requires room { tally.old.answered + tally.old.refused + 1 < 2 ^ 64 }
-    ensures ok { OnOk result ((last : List AnAnswer) × EndsAnswered answering.old last
-        × Appends (O.contents sink.old) (O.contents sink.new) (written last)
-        × ((answers : List AnAnswer) → tally.old ≡ tally_of answers → tally.new ≡ tally_of (answers ++ last))) }
-    ensures err { OnErr result ((last : List AnAnswer) × EndsAnswered answering.old last
-        × AppendsFront (O.contents sink.old) (O.contents sink.new) (written last)) }
+    ensures ok { OnOk result (IsLastAnswered answering.old (Appends (O.contents sink.old) (O.contents sink.new)) tally.old tally.new) }
+    ensures err { OnErr result (HasBegunLast answering.old (AppendsFront (O.contents sink.old) (O.contents sink.new))) }
     ensures unflushed { O.flushed sink.old sink.new [] }
     ensures count { Counts (O.failed sink.old) (O.failed sink.new) result }
 {
@@ -282,7 +275,7 @@ fn put_last<O: Sink>(
 fn put_answer<O: Sink>(sink: &mut O, tally: &mut Tally, answer: &Answer) -> Result<(), Failed>
     requires room { tally.old.answered + tally.old.refused + 1 < 2 ^ 64 }
     ensures ok { OnOk result (Appends (O.contents sink.old) (O.contents sink.new) answer.now.text) }
-    ensures tally { OnOk result ((answers : List AnAnswer) → tally.old ≡ tally_of answers → tally.new ≡ tally_of (answers ++ answer.now ∷ [])) }
+    ensures tally { OnOk result (AreCounted tally.old tally.new (answer.now ∷ [])) }
     ensures sum { OnOk result (tally.new.answered + tally.new.refused ≡ tally.old.answered + tally.old.refused + 1) }
     ensures err { OnErr result (AppendsFront (O.contents sink.old) (O.contents sink.new) answer.now.text) }
     ensures unflushed { O.flushed sink.old sink.new [] }

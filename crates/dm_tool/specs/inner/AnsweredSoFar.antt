@@ -2,12 +2,13 @@
 use Rattle.std.specs.Prelude.{◌≡◌, ℕ, List, ◌++◌}
 use Rattle.dm_tool.specs.declared.task.Task.{Task}
 use Rattle.dm_tool.specs.declared.task.Task.TheVariants.{Write}
+use Rattle.dm_tool.specs.declared.task.Tally.{Tally}
 use Rattle.dm_tool.specs.declared.answering.Answering.{Answering}
 use Rattle.dm_tool.specs.declared.answering.Answering.TheVariants.{Records, Lines}
 use Rattle.dm_tool.specs.RecordFeeds.{RecordAnswer, AreRecordsOfText}
 use Rattle.dm_tool.specs.LineFeeds.{LineAnswer, AreOfText}
 use Rattle.dm_tool.specs.Answers.{Answer, AnswersRecords, IsRecordAnswer, IsWriteAnswer}
-use Rattle.dm_tool.specs.Runs.{AreAllAnswers, AreClosedAnswers, AreMatched, written}
+use Rattle.dm_tool.specs.Runs.{AreAllAnswers, AreClosedAnswers, AreMatched, tally_of, written}
 
 -- After a text, these are the answers to what is closed within it, and the state holds what stands open.
 abbrev pub IsAnsweredSoFar : Task → Answering → List ℕ → List Answer → Type 0
@@ -33,3 +34,15 @@ EndsAnswered old last = (task : Task) (text : List ℕ) (answers : List Answer) 
 abbrev pub HasBegunAnswers : Answering → List ℕ → (List ℕ → Type 0) → Type 0
 HasBegunAnswers old piece TookFront = (task : Task) (text : List ℕ) (answers : List Answer) → IsAnsweredSoFar task old text answers
     → (more : List Answer) × AreClosedAnswers task (text ++ piece) (answers ++ more) × TookFront (written more)
+
+-- The tally counts further answers.
+abbrev pub AreCounted : Tally → Tally → List Answer → Type 0
+AreCounted before after more = (answers : List Answer) → before ≡ tally_of answers → after ≡ tally_of (answers ++ more)
+
+-- The sink took what is written for the record or line that the end of the text closes, if it closes one, and the tally counts it.
+abbrev pub IsLastAnswered : Answering → (List ℕ → Type 0) → Tally → Tally → Type 0
+IsLastAnswered old Took before after = (last : List Answer) × EndsAnswered old last × Took (written last) × AreCounted before after last
+
+-- The sink took a beginning of what is written for the record or line that the end of the text closes, if it closes one.
+abbrev pub HasBegunLast : Answering → (List ℕ → Type 0) → Type 0
+HasBegunLast old TookFront = (last : List Answer) × EndsAnswered old last × TookFront (written last)

@@ -1,4 +1,4 @@
-use Rattle.std.proofs.Common.{◌≡◌, ◌∙◌, ◌+◌, ◌/◌, ◌^◌, ◌≤◌, ◌++◌, bit_and, ℕ, List, ap, length, length-append, map, take, arith}
+use Rattle.std.proofs.Common.{◌≡◌, ◌∙◌, ◌+◌, ◌/◌, ◌^◌, ◌++◌, bit_and, ℕ, List, ap, length, length-append, map, take, arith}
 use Rattle.dm_tool.specs.Answers.{character_of}
 use Rattle.dm_tool.specs.inner.OpenRecords.{cells_in}
 use Rattle.dm_tool.proofs.PrintedCells.{cells_long, first_cells, sixteen_more}

@@ -2,7 +2,7 @@ use Rattle.std.proofs.Common.{◌≡◌, ◌≤◌, ◌+◌, ◌-◌, ◌∙◌,
 use Rattle.std.specs.Io.KnownBytes.{Appends}
 use Rattle.dm_tool.specs.Devices.{AppendsFront, IsFlushedOnce}
 use Rattle.dm_tool.specs.Runs.{most_asked, written}
-use Rattle.dm_tool.proofs.Asks.{asked_in_all, next_is_within}
+use Rattle.dm_tool.proofs.Asks.{asked_by, next_is_within}
 use Rattle.dm_tool.proofs.Flushes.{flushed_later, table_flushed, text_flushed}
 use Rattle.dm_tool.proofs.KnownBytes.{appends_none, appends_then, front_then}
 use Rattle.dm_tool.proofs.Outcomes.{all_answered, broken_after, broken_before, done_so_far, table_answered, table_broken, too_much, written_append}
@@ -155,52 +155,32 @@ returns-in_default-clause-asked g c = (
 pub returns-in-Ok-end-clause-asked : goal.returns-in-Ok-end-clause-asked
 returns-in-Ok-end-clause-asked g c =
     let s = c.pieces.invariant.so_far in
-    let gave = g.met.I.Source.gave_joined c.args.source.now c.pieces.source c.next_piece.new.source s.0 _ s.2 c.in-Ok-eq0.ensures.bytes in (
-      s.0,
-      no_more (g.I.Source.gave c.args.source.now c.next_piece.new.source) s.0 c.next_piece.new.place c.in-Ok-eq0.field-0 c.in-Ok-eq0.field-0-test gave,
-      asked_in_all g.I.Source.gave g.I.Source.asked g.met.I.Source.asked_joined c.args.source.now c.pieces.source c.next_piece.new.source s.0 s.0 c.pieces.left c.args.most s.2
-          c.pieces.invariant.asked c.next_piece.ensures.asked s.3 (omega arith),
-    )
+    asked_by g.I.Source.gave g.I.Source.asked g.met.I.Source.gave_joined g.met.I.Source.asked_joined c.args.source.now c.pieces.source c.next_piece.new.source s.0 _ c.pieces.left
+    c.args.most s.2 c.in-Ok-eq0.ensures.bytes c.pieces.invariant.asked c.next_piece.ensures.asked s.3
 
 pub returns-in-Err-end-clause-asked : goal.returns-in-Err-end-clause-asked
 returns-in-Err-end-clause-asked g c =
     let s = c.pieces.invariant.so_far in
-    let gave = g.met.I.Source.gave_joined c.args.source.now c.pieces.source c.next_piece.new.source s.0 _ s.2 c.in-Ok-eq0.ensures.bytes in (
-      s.0,
-      no_more (g.I.Source.gave c.args.source.now c.next_piece.new.source) s.0 c.next_piece.new.place c.in-Ok-eq0.field-0 c.in-Ok-eq0.field-0-test gave,
-      asked_in_all g.I.Source.gave g.I.Source.asked g.met.I.Source.asked_joined c.args.source.now c.pieces.source c.next_piece.new.source s.0 s.0 c.pieces.left c.args.most s.2
-          c.pieces.invariant.asked c.next_piece.ensures.asked s.3 (omega arith),
-    )
+    asked_by g.I.Source.gave g.I.Source.asked g.met.I.Source.gave_joined g.met.I.Source.asked_joined c.args.source.now c.pieces.source c.next_piece.new.source s.0 _ c.pieces.left
+    c.args.most s.2 c.in-Ok-eq0.ensures.bytes c.pieces.invariant.asked c.next_piece.ensures.asked s.3
 
 pub returns-in-Err-clause-asked : goal.returns-in-Err-clause-asked
 returns-in-Err-clause-asked g c =
     let s = c.pieces.invariant.so_far in
-    let gave = g.met.I.Source.gave_joined c.args.source.now c.pieces.source c.next_piece.new.source s.0 [] s.2 c.in-Err.ensures.bytes in (
-      s.0,
-      rw append-nil at gave,
-      asked_in_all g.I.Source.gave g.I.Source.asked g.met.I.Source.asked_joined c.args.source.now c.pieces.source c.next_piece.new.source s.0 s.0 c.pieces.left c.args.most s.2
-          c.pieces.invariant.asked c.next_piece.ensures.asked s.3 (omega arith),
-    )
+    asked_by g.I.Source.gave g.I.Source.asked g.met.I.Source.gave_joined g.met.I.Source.asked_joined c.args.source.now c.pieces.source c.next_piece.new.source s.0 _ c.pieces.left
+    c.args.most s.2 c.in-Err.ensures.bytes c.pieces.invariant.asked c.next_piece.ensures.asked s.3
 
 pub returns-then-left-eq0-clause-asked : goal.returns-then-left-eq0-clause-asked
 returns-then-left-eq0-clause-asked g c =
     let s = c.pieces.invariant.so_far in
-    let text = s.0 ++ take c.in-Ok.count c.next_piece.new.place in (
-      text,
-      g.met.I.Source.gave_joined c.args.source.now c.pieces.source c.next_piece.new.source s.0 _ s.2 c.in-Ok.ensures.bytes,
-      asked_in_all g.I.Source.gave g.I.Source.asked g.met.I.Source.asked_joined c.args.source.now c.pieces.source c.next_piece.new.source s.0 text c.pieces.left c.args.most s.2
-          c.pieces.invariant.asked c.next_piece.ensures.asked s.3 (omega (arith, length-append s.0 (take c.in-Ok.count c.next_piece.new.place))),
-    )
+    asked_by g.I.Source.gave g.I.Source.asked g.met.I.Source.gave_joined g.met.I.Source.asked_joined c.args.source.now c.pieces.source c.next_piece.new.source s.0 _ c.pieces.left
+    c.args.most s.2 c.in-Ok.ensures.bytes c.pieces.invariant.asked c.next_piece.ensures.asked s.3
 
 pub returns-in-Err-answer_piece-clause-asked : goal.returns-in-Err-answer_piece-clause-asked
 returns-in-Err-answer_piece-clause-asked g c =
     let s = c.pieces.invariant.so_far in
-    let text = s.0 ++ take c.in-Ok.count c.next_piece.new.place in (
-      text,
-      g.met.I.Source.gave_joined c.args.source.now c.pieces.source c.next_piece.new.source s.0 _ s.2 c.in-Ok.ensures.bytes,
-      asked_in_all g.I.Source.gave g.I.Source.asked g.met.I.Source.asked_joined c.args.source.now c.pieces.source c.next_piece.new.source s.0 text c.pieces.left c.args.most s.2
-          c.pieces.invariant.asked c.next_piece.ensures.asked s.3 (omega (arith, length-append s.0 (take c.in-Ok.count c.next_piece.new.place))),
-    )
+    asked_by g.I.Source.gave g.I.Source.asked g.met.I.Source.gave_joined g.met.I.Source.asked_joined c.args.source.now c.pieces.source c.next_piece.new.source s.0 _ c.pieces.left
+    c.args.most s.2 c.in-Ok.ensures.bytes c.pieces.invariant.asked c.next_piece.ensures.asked s.3
 
 pub returns-in-Ok-end-clause-flushed_last : goal.returns-in-Ok-end-clause-flushed_last
 returns-in-Ok-end-clause-flushed_last g c =
