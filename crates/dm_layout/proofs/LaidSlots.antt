@@ -131,17 +131,18 @@ run_below y k i b m d r c =
 
 -- ---- one more codeword
 
+-- A byte that is moved to the left, in a number wide enough, loses no bit.
+pub byte_fits : (y s width : ℕ) → y < 256 → s + 8 ≤ width → y * 2 ^ s % 2 ^ width ≡ y * 2 ^ s
+byte_fits y s width small fits =
+    let a = mul-add-lt y (2 ^ s) 0 256 small (pow_pos s) in
+    let b : 2 ^ (s + 8) ≡ 2 ^ s * 2 ^ 8 = pow-add 2 s 8 in
+    let d : 2 ^ (s + 8) ≤ 2 ^ width = pow_mono fits in
+    mod-eq_of_lt (omega (arith, a, b, d))
+
 -- A byte that is moved to the left, in a number wide enough, has its bits as many columns further on.
 pub byte_up : (y s width c : ℕ) → y < 256 → s + 8 ≤ width → is_dark_in (y * 2 ^ s % 2 ^ width) c ≡ (nat_le s c && is_dark_in y (c - s))
-byte_up y s width c small fits = ap (λ (i : ℕ). is_dark_in i c) (mod-eq_of_lt below) ∙ by_column (cases_lt c s)
+byte_up y s width c small fits = ap (λ (i : ℕ). is_dark_in i c) (byte_fits y s width small fits) ∙ by_column (cases_lt c s)
   where
-    below : y * 2 ^ s < 2 ^ width
-    below =
-        let a = mul-add-lt y (2 ^ s) 0 256 small (pow_pos s) in
-        let b : 2 ^ (s + 8) ≡ 2 ^ s * 2 ^ 8 = pow-add 2 s 8 in
-        let d : 2 ^ (s + 8) ≤ 2 ^ width = pow_mono fits in
-        omega (arith, a, b, d)
-
     by_column : (c < s) ⊎ (s ≤ c) → is_dark_in (y * 2 ^ s) c ≡ (nat_le s c && is_dark_in y (c - s))
     by_column (inl h) = none_up y s c h ∙ ap (λ (t : Bool). t && is_dark_in y (c - s)) (sym (lt-leb s c h))
     by_column (inr h) =

@@ -293,8 +293,13 @@ impl BitRows for WideRows {
 
     #[inline(always)]
     fn add_byte(&mut self, slot: u16, byte: u8) {
-        let row = ((slot / 16) as usize).min(LARGEST_MAPPING);
-        self[row] |= u128::from(byte) << (8 * (slot % 16));
+        let row = (slot / 16) as usize;
+        let place = slot % 16;
+        if place < 8 {
+            self[row] |= u128::from(u64::from(byte) << (8 * place));
+        } else {
+            self[row] |= u128::from(u64::from(byte) << (8 * (place - 8))) << 64;
+        }
     }
 
     #[inline(always)]
