@@ -7,17 +7,17 @@ use Rattle.dm_layout.proofs.LaidSlots.{byte_fits}
 use Rattle.dm_layout.proofs.SlotRows.{row_of_slot}
 use Rattle.dm_layout.proofs.bit_rows.WideRowsBitRows.add_byte.Goals as goal
 
--- a number that is the moved byte is laid over its row
+-- A number that is the moved byte is laid over the row of its slot.
 laid_over : (rows : List ℕ) (x y z : ℕ) → HasSlot 96 x → z ≡ y * 2 ^ (8 * (x % 16)) % 2 ^ 128 → set rows (x / 16) (bit_or (get_or rows (x / 16) 0) z) ≡ with_byte 128 96 rows x y
 laid_over rows x y z h e =
     ap (λ (i : ℕ). set rows (x / 16) (bit_or (get_or rows (x / 16) 0) i)) e
     ∙ ap (λ (row : ℕ). set rows row (bit_or (get_or rows row 0) (y * 2 ^ (8 * (x % 16)) % 2 ^ 128))) (sym (row_of_slot 96 96 x (omega arith) refl h))
 
--- a byte in the lower half
+-- A byte in the lower half of a row is moved within 64 bits.
 in_low : (y s : ℕ) → y < 256 → s + 8 ≤ 64 → y * 2 ^ s % 2 ^ 64 ≡ y * 2 ^ s % 2 ^ 128
 in_low y s small l = byte_fits y s 64 small l ∙ sym (byte_fits y s 128 small (omega arith))
 
--- and one in the upper half
+-- A byte in the upper half of a row is moved within 64 bits, and then by 64 more.
 in_high : (y s t : ℕ) → y < 256 → s + 8 ≤ 64 → t ≡ s + 64 → y * 2 ^ s % 2 ^ 64 * 2 ^ 64 % 2 ^ 128 ≡ y * 2 ^ t % 2 ^ 128
 in_high y s t small l e =
     let p : 2 ^ (s + 64) ≡ 2 ^ s * 2 ^ 64 = pow-add 2 s 64 in
