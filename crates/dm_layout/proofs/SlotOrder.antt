@@ -29,20 +29,6 @@ order_at_row s row =
     let both = and_parts (pointwise nat_eq (order_of n) (map slot_of (shapes n))) (list_all (λ x. nat_lt x 1552) (order_of n)) all.0 in
     record { slots = same_text (order_of n) (map slot_of (shapes n)) (sym both.0); within = both.1; fits = all.1 }
 
--- Each slot lies in the rows.
-slot_within : (xs : List ℕ) (i : ℕ) → list_all (λ x. nat_lt x 1552) xs ≡ true → i < length xs → get_or xs i 0 < 1552
-slot_within [] i h l = absurd (omega arith)
-slot_within (x ∷ xs) zero h l = ltb-true x 1552 (and_parts (nat_lt x 1552) (list_all (λ x. nat_lt x 1552) xs) h).0
-slot_within (x ∷ xs) (suc i) h l = slot_within xs i (and_parts (nat_lt x 1552) (list_all (λ x. nat_lt x 1552) xs) h).1 (omega arith)
-
-pub slot_here : (s : SizeRow) (m i : ℕ) (xs : List ℕ) → IsRow s → m ≡ s.mapping → xs ≡ order_of m → i < length xs → get_or xs i 0 < 1552
-slot_here s m i xs row e f l =
-    let g = f ∙ ap order_of e in
-    let k = ap length g in
-    let b = slot_within (order_of s.mapping) i (order_at_row s row).within (omega (arith, k, l)) in
-    let h = ap (λ (ys : List ℕ). get_or ys i 0) g in
-    omega (arith, b, h)
-
 -- The slot of a shape that fits lies in the rows.
 slot_fits : (n most : ℕ) (s : Shape) → n ≤ most → n ≤ 96 → fits_test n s ≡ true → HasSlot most (slot_of s)
 slot_fits n most (Standard r c) l small fits =

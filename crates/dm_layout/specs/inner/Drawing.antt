@@ -4,7 +4,7 @@ use Rattle.dm_layout.specs.Sizes.{SizeRow}
 use Rattle.dm_layout.specs.Grid.{GridView, IsGrid, cell_at}
 use Rattle.dm_layout.specs.Border.{symbol_line, is_border, border_is_dark, is_fixed_dark}
 
--- the grid in which the rows above `line` are put
+-- In a grid that is drawn as far as `line`, the rows above it are put between right borders.
 pub record IsDrawn (size : SizeRow) (look : ℕ → ℕ → Bool) (line : ℕ) (grid : GridView) : Type 0 where
   pub same_size : grid.size ≡ size
   pub square : IsGrid grid

@@ -6,11 +6,11 @@ use Rattle.dm_layout.specs.declared.shape.Shape.TheVariants.{Corner1, Corner2}
 use Rattle.dm_layout.specs.inner.Reading.{look_in, marks_in}
 use Rattle.dm_layout.specs.inner.Slots.{first_column}
 
--- whether so many bits of each byte of a row, from bit `low` on, darken column c, where the bytes begin at column `first`
+-- So many bits of each byte of a row, from bit `low` on, darken column c if the bytes begin at column `first`.
 abbrev pub part_of : List ℕ → ℕ → ℕ → ℕ → ℕ → ℕ → Bool
 part_of slots r first low count c = nat_le first c && (nat_lt ((c - first) % 8) count && look_in slots r (c - first + low))
 
--- whether a cell of widened rows is dark once a row of slots is laid over them, from column `first` on, if it was as `old` says
+-- A cell of widened rows that was as `old` says is dark once a row of slots is laid over them, from column `first` on.
 abbrev pub with_scattered : Bool → List ℕ → ℕ → ℕ → ℕ → ℕ → Bool
 with_scattered old slots row first r c = ((old || (nat_eq r row && part_of slots row first 0 2 c)) || (nat_eq r (row + 1) && part_of slots row first 2 3 c)) || (nat_eq r (row + 2) && part_of slots row first 5 3 c)
 
@@ -19,7 +19,7 @@ with_scattered old slots row first r c = ((old || (nat_eq r row && part_of slots
 abbrev pub by_anchors : ℕ → List ℕ → ℕ → ℕ → ℕ → ℕ → Bool
 by_anchors n slots r low count c = nat_lt r n && part_of slots r (first_column r) low count c
 
--- the rows of slots, numbers of some width, with one more byte in its slot, which is that of an anchor, or of a corner, in row `last`
+-- In rows of slots, numbers of some width, one more byte is laid over its slot, which is that of an anchor or, in row `last`, that of a corner.
 abbrev pub with_byte : ℕ → ℕ → List ℕ → ℕ → ℕ → List ℕ
 with_byte width last slots x y = set slots (min (x / 16) last) (bit_or (get_or slots (min (x / 16) last) 0) (y * 2 ^ (8 * (x % 16)) % 2 ^ width))
 
@@ -33,8 +33,8 @@ scattered n slots r c =
 abbrev pub lowered : ℕ → (ℕ → ℕ → Bool) → ℕ → ℕ → Bool
 lowered n look r c = look r c || ((nat_le n r && nat_lt r (n + 2)) && (nat_le 4 (c + (n + 4) % 8) && look (r - n) (c + (n + 4) % 8 - 4)))
 
--- Once the rows above the square are laid over it, so are the four columns to its left over its last four columns, 4
--- - ((n + 4) mod 8) rows further down; none of these lies above row 4.
+-- Once the rows above the square are laid over it, so are the four columns to its left over its last four columns,
+-- 4 - ((n + 4) mod 8) rows further down; none of these lies above row 4.
 abbrev pub folded : ℕ → (ℕ → ℕ → Bool) → ℕ → ℕ → Bool
 folded n look r c =
     lowered n look (r + 2) (c + 4)
