@@ -21,6 +21,7 @@ pub record IsOrder (n : ℕ) : Type 0 where
   pub slots : order_of n ≡ map slot_of (shapes n)
   pub fits : list_all (fits_test n) (shapes n) ≡ true
 
+-- Each size of the table has its slots in the order of its shapes.
 pub order_at_row : (s : SizeRow) → IsRow s → IsOrder s.mapping
 order_at_row s row =
     let n : ℕ = s.mapping in
@@ -41,11 +42,13 @@ slot_fits n most Corner2 l small fits = inl refl
 slot_fits n most Corner3 l small fits = inl refl
 slot_fits n most Corner4 l small fits = inl refl
 
+-- The slots of shapes that fit lie in the rows.
 slots_fit : (n most i : ℕ) (ss : List Shape) → n ≤ most → n ≤ 96 → list_all (fits_test n) ss ≡ true → i < length (map slot_of ss) → HasSlot most (get_or (map slot_of ss) i 0)
 slots_fit n most i [] l small fits li = absurd (omega arith)
 slots_fit n most zero (s ∷ ss) l small fits li = slot_fits n most s l small (and_parts (fits_test n s) (list_all (fits_test n) ss) fits).0
 slots_fit n most (suc i) (s ∷ ss) l small fits li = slots_fit n most i ss l small (and_parts (fits_test n s) (list_all (fits_test n) ss) fits).1 (omega arith)
 
+-- Each slot of a size of the table lies in the rows.
 pub slot_in_rows : (s : SizeRow) (m most i : ℕ) (xs : List ℕ) → IsRow s → m ≡ s.mapping → m ≤ most → m ≤ 96 → xs ≡ order_of m → i < length xs → HasSlot most (get_or xs i 0)
 slot_in_rows s m most i xs row e l small f li =
     let order = order_at_row s row in

@@ -4,7 +4,7 @@ use lib.Bits.{bit_and}
 use Rattle.std.proofs.Math.Bool.{or-false}
 use Rattle.std.specs.Bool.{beq}
 use Rattle.std.specs.Prelude.{min}
-use Rattle.std.specs.Int.{bit_at, byte_at, bytes_low_first, to_le_bytes, w128}
+use Rattle.std.specs.Int.{bit_at}
 use Rattle.std.specs.Int.RustNames.{bit_or}
 use Rattle.std.specs.List.{list_all, range_with_len}
 use Rattle.std.proofs.lemmas.Bool.{eqb-true, and_parts, lt-ltb, le-ltb, le-leb, lt-leb, cases_lt}
@@ -19,8 +19,7 @@ use Rattle.dm_layout.proofs.OuterRows.{or_dark}
 use Rattle.dm_layout.specs.Placement.{cells_of}
 use Rattle.dm_layout.specs.declared.shape.Shape.TheVariants.{Corner1, Corner2}
 use Rattle.dm_layout.specs.inner.Slots.{IsJoined, AreJoined, HasSlot, HasSlots, first_column, slot_byte, word_in}
-use Rattle.std.proofs.Math.Nat.{min-eq_left, min-eq_right, pow-suc}
-use Rattle.std.proofs.lemmas.Nat.{pow-add}
+use Rattle.std.proofs.Math.Nat.{min-eq_left, min-eq_right}
 use Rattle.dm_layout.proofs.InnerRows.{moved_bit}
 use Rattle.dm_layout.proofs.WidenedRows.{bit_up, none_up, low_bit}
 
@@ -260,29 +259,6 @@ corner_beside n last rows joined news b w within most room is fits e small ancho
         ∙ ap (λ (x : ℕ). reversed_bits (x / 1 % 256)) (get_or-set_same joined last b 0 room)
         ∙ ap reversed_bits (z ∙ e)
         ∙ reversed_twice w small
-
--- ---- a byte of a number
-
--- A byte stands at its place among those from place i on.
-byte_from : (i k x j : ℕ) → j < k → get_or (bytes_low_first i k x) j 0 ≡ byte_at (i + j) x
-byte_from i zero x j l = absurd (omega arith)
-byte_from i (suc k) x zero l = let z : i ≡ i + 0 = omega arith in ap (λ (q : ℕ). byte_at q x) z
-byte_from i (suc k) x (suc j) l = let z : suc i + j ≡ i + suc j = omega arith in byte_from (suc i) k x j (omega arith) ∙ ap (λ (q : ℕ). byte_at q x) z
-
--- A power of 256 is a power of 2 with eight times the exponent.
-power : (i : ℕ) → 256 ^ i ≡ 2 ^ (8 * i)
-power zero = refl
-power (suc i) =
-    let e : 8 * i + 8 ≡ 8 * suc i = omega arith in
-    pow-suc 256 i ∙ ap (λ (q : ℕ). q * 256) (power i) ∙ sym (pow-add 2 (8 * i) 8) ∙ ap (λ (q : ℕ). 2 ^ q) e
-
-byte_is : (i x : ℕ) → byte_at i x ≡ x / 2 ^ (8 * i) % 256
-byte_is zero x = let z : x ≡ x / 1 = omega arith in ap (λ (q : ℕ). q % 256) z
-byte_is (suc i) x = ap (λ (q : ℕ). x / q % 256) (power (suc i))
-
--- The bytes of a number of 128 bits are its digits of eight bits.
-pub byte_of_wide : (x j : ℕ) → j < 16 → get_or (to_le_bytes w128 x) j 0 ≡ x / 2 ^ (8 * j) % 256
-byte_of_wide x j l = let z : 0 + j ≡ j = omega arith in byte_from 0 16 x j l ∙ ap (λ (q : ℕ). byte_at q x) z ∙ byte_is j x
 
 -- A slot lies in no row behind that of the corner.
 pub row_of_slot : (most last x : ℕ) → most ≤ last → last ≡ 96 → HasSlot most x → min (x / 16) last ≡ x / 16

@@ -283,7 +283,7 @@ impl BitRows for WideRows {
 
     #[inline(always)]
     fn byte(&self, slot: u16) -> u8 {
-        self[(slot / 16) as usize].to_le_bytes()[(slot % 16) as usize]
+        ((self[(slot / 16) as usize] >> (8 * (slot % 16))) % 256) as u8
     }
 
     #[inline(always)]
