@@ -1,10 +1,8 @@
 # What people run by hand. `make test` is the merge gate.
 PREFIX ?= /usr/local
 TOOL := crates/dm_tool/out/dm_tool
-# The crates below the program, lowest first, and the program; not the one that has tests and nothing else.
-CRATES := $(filter-out dm_vectors,$(shell sed -n 's/^\([a-z0-9_]*\):.*/\1/p' crates.txt))
-# What builds the library; after `rt ci`, over what that has proved.
-RT_LIB := $(if $(AFTER_CI),../../library/build,rt lib)
+# The crates below the program, lowest first, and the program.
+CRATES := $(shell sed -n 's/^\([a-z0-9_]*\):.*/\1/p' crates.txt)
 # They test what no contract mentions. Each ends with a line 'N passed, M failed', and with status 1 if something failed.
 SCRIPTS := tests/definitions tests/program tests/library tests/marks/run tests/scale tests/page/run
 
@@ -29,7 +27,7 @@ build:
 library:
 	@mkdir -p library/out
 	@echo "Proving the library; what the toolchain says goes to library/out/build.log."
-	@cd crates/ecc200 && $(RT_LIB) > ../../library/out/build.log 2>&1 < /dev/null || { tail -n 5 ../../library/out/build.log; exit 1; }
+	@cd crates/ecc200 && rt lib > ../../library/out/build.log 2>&1 < /dev/null || { tail -n 5 ../../library/out/build.log; exit 1; }
 	@cp crates/ecc200/out/libecc200.a library/out/
 	@$(CC) -shared -o library/out/libecc200.so -Wl,-soname,libecc200.so.1 -Wl,--whole-archive library/out/libecc200.a -Wl,--no-whole-archive
 	@echo "The library is library/out/libecc200.a and library/out/libecc200.so; its manual is library/ecc200.h."
@@ -43,7 +41,7 @@ try:
 # The merge gate: every proof from scratch, the edits that must fail and the crates' tests, then the scripts.
 test:
 	rt ci
-	@$(MAKE) --no-print-directory --keep-going AFTER_CI=1 $(SCRIPTS)
+	@$(MAKE) --no-print-directory --keep-going $(SCRIPTS)
 
 $(SCRIPTS):
 	$@
