@@ -34,7 +34,7 @@ fn of_many(rt: &impl Abort, byte: u8, count: u16) -> Message {
 /// The size with this side.
 fn size_of(rt: &impl Abort, side: u16) -> Size {
     let Some(size) = Size::of_side(side) else {
-        panic!(rt; "no size has the side {side}");
+        panic!(rt; "no size");
     };
     size
 }
@@ -46,28 +46,37 @@ fn grid_of(rt: &impl Abort, side: u16, list: &[u8]) -> Grid {
     lay(&Words::new(size, list))
 }
 
+/// The codewords of this size that begin with these data codewords; the check codewords are 0.
+fn without_checks(rt: &impl Abort, size: Size, data_words: &[u8]) -> Words {
+    assert!(rt; data_words.len() == usize::from(size.data_count()));
+    let mut list = [0; MOST_CODEWORDS];
+    for (into, word) in list.iter_mut().zip(data_words) {
+        *into = *word;
+    }
+    Words::new(
+        size,
+        &list[..(size.data_count() + size.check_count()) as usize],
+    )
+}
+
+/// Puts the check codewords of block `b` behind its data codewords.
+fn complete_block(rt: &impl Abort, words: &mut Words, b: usize) {
+    let size = words.size();
+    assert!(rt; b < usize::from(size.blocks()));
+    let mut codewords = block(words, b);
+    codewords.truncate(usize::from(size.block_data()));
+    let checks = encode(&codewords, usize::from(size.block_check()));
+    assert!(rt; codewords.try_extend_from_slice(checks.as_slice()).is_ok());
+    assert!(rt; codewords.len() == usize::from(size.block_data() + size.block_check()));
+    put_block(words, b, &codewords);
+}
+
 /// The grid with these data codewords and the check codewords that belong to them.
 fn completed_grid(rt: &impl Abort, side: u16, data_words: &[u8]) -> Grid {
     let size = size_of(rt, side);
-    assert!(rt; data_words.len() == usize::from(size.data_count()));
-    let mut list = [0; MOST_CODEWORDS];
-    for (place, word) in data_words.iter().enumerate() {
-        assert!(rt; place < MOST_CODEWORDS);
-        list[place] = *word;
-    }
-    let count = usize::from(size.data_count() + size.check_count());
-    assert!(rt; count <= MOST_CODEWORDS);
-    let mut words = Words::new(size, &list[..count]);
+    let mut words = without_checks(rt, size, data_words);
     for b in 0..usize::from(size.blocks()) {
-        let size = words.size();
-        assert!(rt; b < usize::from(size.blocks()));
-        let mut codewords = block(&words, b);
-        codewords.truncate(usize::from(size.block_data()));
-        for check in encode(&codewords, usize::from(size.block_check())).as_slice() {
-            assert!(rt; codewords.try_push(*check).is_ok());
-        }
-        assert!(rt; codewords.len() == usize::from(size.block_data() + size.block_check()));
-        put_block(&mut words, b, &codewords);
+        complete_block(rt, &mut words, b);
     }
     lay(&words)
 }
@@ -111,11 +120,41 @@ fn is_grid<E>(answer: &Result<Grid, E>, grid: &Grid) -> bool {
 /// Whether the message has exactly these bytes.
 fn has_bytes(message: &Message, text: &[u8]) -> bool {
     let items = message.items();
-    items.len() == text.len()
-        && items
-            .iter()
-            .zip(text)
-            .all(|(item, byte)| *item == Item::Byte(*byte))
+    if items.len() != text.len() {
+        return false;
+    }
+    for (item, byte) in items.iter().zip(text) {
+        if *item != Item::Byte(*byte) {
+            return false;
+        }
+    }
+    true
+}
+
+/// Whether these are the grid's data codewords.
+fn has_data(grid: &Grid, data_words: &[u8]) -> bool {
+    lift(grid).data_part() == data_words
+}
+
+/// Whether the answer is a grid of this side with these data codewords.
+fn is_of<E>(answer: &Result<Grid, E>, side: u16, data_words: &[u8]) -> bool {
+    match answer {
+        Ok(grid) => grid.size().side() == side && has_data(grid, data_words),
+        Err(_) => false,
+    }
+}
+
+/// Whether the answer is a grid of this side whose data codewords are all this one.
+fn is_filled<E>(answer: &Result<Grid, E>, side: u16, word: u8) -> bool {
+    let Ok(grid) = answer else {
+        return false;
+    };
+    for found in lift(grid).data_part() {
+        if *found != word {
+            return false;
+        }
+    }
+    grid.size().side() == side
 }
 
 /// Whether the answer is these bytes, with these numbers of corrected codewords and of border faults.
@@ -135,116 +174,130 @@ fn says(
     }
 }
 
+/// Texts, the codewords of their normal grids, and the cells of these.
+static NORMAL_GRIDS: [(&[u8], &[u8], &str); 3] = [
+    (
+        b"123456",
+        &DIGITS,
+        "1010101010110010110111000001001100011101110000100010000011111110110000111101100110011101001111111111",
+    ),
+    (
+        b"A",
+        &[66, 129, 70, 138, 234, 82, 82, 95],
+        "1010101010110110001110001101001001101011100101000010010010111101001100110011110111000010001111111111",
+    ),
+    (
+        b"",
+        &[129, 175, 70, 33, 1, 170, 139, 55],
+        "1010101010110110100111010000101111000101101000100011101000011001011010101011110111100000001111111111",
+    ),
+];
+
+/// The text's normal grid has these codewords and these cells, and says the text.
+fn assert_normal_grid(rt: &impl Abort, text: &[u8], words: &[u8], cells: &str) {
+    let grid = drawn(rt, 10, cells);
+    assert!(rt; is_grid(&write(&of_bytes(rt, text)), &grid));
+    assert!(rt; lift(&grid).list() == words);
+    assert!(rt; says(&read(&grid, 0), text, &[0], 0));
+}
+
 #[test]
 fn writes_normal_grids(rt: HostRuntime) {
-    let rows: [(&[u8], [u8; 8], &str); 3] = [
-        (
-            b"123456",
-            DIGITS,
-            "1010101010110010110111000001001100011101110000100010000011111110110000111101100110011101001111111111",
-        ),
-        (
-            b"A",
-            [66, 129, 70, 138, 234, 82, 82, 95],
-            "1010101010110110001110001101001001101011100101000010010010111101001100110011110111000010001111111111",
-        ),
-        (
-            b"",
-            [129, 175, 70, 33, 1, 170, 139, 55],
-            "1010101010110110100111010000101111000101101000100011101000011001011010101011110111100000001111111111",
-        ),
-    ];
-    for (text, words, cells) in rows {
-        let grid = drawn(&rt, 10, cells);
-        let answer = write(&of_bytes(&rt, text));
-        assert!(rt; is_grid(&answer, &grid));
-        assert!(rt; lift(&grid).list() == words.as_slice());
-        assert!(rt; says(&read(&grid, 0), text, &[0], 0));
+    for (text, words, cells) in NORMAL_GRIDS {
+        assert_normal_grid(&rt, text, words, cells);
     }
+}
+
+/// Messages, and their ASCII codewords at side 10.
+static ASCII: [(&[Item], &[u8]); 4] = [
+    (
+        &[Item::Fnc1, Item::Byte(b'0'), Item::Byte(b'1')],
+        &[232, 131, 129],
+    ),
+    (
+        &[Item::Byte(b'0'), Item::Fnc1, Item::Byte(b'1')],
+        &[49, 232, 50],
+    ),
+    (
+        &[Item::Byte(b'1'), Item::Byte(b'2'), Item::Byte(b'3')],
+        &[142, 52, 129],
+    ),
+    (&[Item::Byte(255)], &[235, 128, 129]),
+];
+
+/// The message of these items.
+fn of_items(rt: &impl Abort, items: &[Item]) -> Message {
+    let mut message = Message::new();
+    for item in items {
+        assert!(rt; message.push(*item).is_ok());
+    }
+    message
 }
 
 #[test]
 fn writes_ascii(rt: HostRuntime) {
-    let rows: [(&[Item], [u8; 3]); 4] = [
-        (
-            &[Item::Fnc1, Item::Byte(b'0'), Item::Byte(b'1')],
-            [232, 131, 129],
-        ),
-        (
-            &[Item::Byte(b'0'), Item::Fnc1, Item::Byte(b'1')],
-            [49, 232, 50],
-        ),
-        (
-            &[Item::Byte(b'1'), Item::Byte(b'2'), Item::Byte(b'3')],
-            [142, 52, 129],
-        ),
-        (&[Item::Byte(255)], [235, 128, 129]),
-    ];
-    for (items, words) in rows {
-        let mut message = Message::new();
-        for item in items {
-            assert!(rt; message.push(*item).is_ok());
-        }
-        let Ok(grid) = write(&message) else {
-            panic!(rt; "too long");
-        };
-        assert!(rt; lift(&grid).data_part() == words.as_slice());
+    for (items, words) in ASCII {
+        assert!(rt; is_of(&write(&of_items(&rt, items)), 10, words));
     }
 }
 
-/// For each size a message that just fills it, and one that just doesn't fit.
+/// A message that just fills this size, and one that just doesn't fit.
+fn assert_fills(rt: &impl Abort, size: Size) {
+    let (side, count) = (size.side(), size.data_count());
+    assert!(rt; is_filled(&write(&of_many(rt, b'A', count)), side, 66));
+    match write(&of_many(rt, b'A', count.saturating_add(1))) {
+        Ok(grid) => assert!(rt; grid.size().side() > side),
+        Err(TooLong) => assert!(rt; side == 104),
+    }
+}
+
 #[test]
 fn writes_every_size(rt: HostRuntime) {
     for size in table() {
-        let Ok(full) = write(&of_many(&rt, b'A', size.data_count())) else {
-            panic!(rt; "too long");
-        };
-        assert!(rt; full.size().side() == size.side());
-        assert!(rt; lift(&full).data_part().iter().all(|word| *word == 66));
-        let more = write(&of_many(&rt, b'A', size.data_count() + 1));
-        match more {
-            Ok(grid) => assert!(rt; grid.size().side() > size.side()),
-            Err(TooLong) => assert!(rt; size.side() == 104),
-        }
+        assert_fills(&rt, size);
     }
     for (count, side) in [(408, 52), (1632, 104)] {
-        let Ok(digits) = write(&of_many(&rt, b'7', count)) else {
-            panic!(rt; "too long");
-        };
-        assert!(rt; digits.size().side() == side);
-        assert!(rt; lift(&digits).data_part().iter().all(|word| *word == 207));
+        assert!(rt; is_filled(&write(&of_many(&rt, b'7', count)), side, 207));
     }
     assert!(rt; write(&of_many(&rt, b'A', 817)).is_err());
-    assert!(rt; usual_limit(10) == 2);
-    assert!(rt; usual_limit(52) == 13);
-    assert!(rt; usual_limit(104) == 26);
 }
 
 #[test]
-fn reads_runs_and_normalises(rt: HostRuntime) {
+fn usual_limits_of_border_faults(rt: HostRuntime) {
+    for (side, limit) in [(10, 2), (52, 13), (104, 26)] {
+        assert!(rt; usual_limit(side) == limit);
+    }
+}
+
+#[test]
+fn reads_runs(rt: HostRuntime) {
     let c40 = grid_of(&rt, 10, &[230, 91, 11, 40, 130, 30, 228, 188]);
     assert!(rt; says(&read(&c40, 2), b"AIM", &[0], 0));
-    assert!(rt;
-        says(
-            &read(&completed_grid(&rt, 10, &[239, 91, 11]), 2),
-            b"aim",
-            &[0],
-            0
-        )
-    );
+    let text = completed_grid(&rt, 10, &[239, 91, 11]);
+    assert!(rt; says(&read(&text, 2), b"aim", &[0], 0));
+}
+
+#[test]
+fn normalises_a_run(rt: HostRuntime) {
+    let c40 = grid_of(&rt, 10, &[230, 91, 11, 40, 130, 30, 228, 188]);
     let once = grid_of(&rt, 10, &[66, 74, 78, 60, 104, 105, 21, 207]);
     assert!(rt; is_grid(&normal(&c40, 2), &once));
     assert!(rt; is_grid(&normal(&once, 0), &once));
     assert!(rt; says(&read(&once, 2), b"AIM", &[0], 0));
-    for (data_words, normal_words) in [
-        ([231, 45, 65], [235, 1, 129]),
-        ([231, 44, 65], [235, 1, 129]),
-        ([230, 10, 255], [235, 66, 129]),
-    ] {
-        let Ok(grid) = normal(&completed_grid(&rt, 10, &data_words), 2) else {
-            panic!(rt; "refused");
-        };
-        assert!(rt; lift(&grid).data_part() == normal_words.as_slice());
+}
+
+/// Data codewords at side 10, and those of the normal grid.
+static NORMALISED: [([u8; 3], [u8; 3]); 3] = [
+    ([231, 45, 65], [235, 1, 129]),
+    ([231, 44, 65], [235, 1, 129]),
+    ([230, 10, 255], [235, 66, 129]),
+];
+
+#[test]
+fn normalises_bytes_above_127(rt: HostRuntime) {
+    for (data_words, normal_words) in NORMALISED {
+        let grid = completed_grid(&rt, 10, &data_words);
+        assert!(rt; is_of(&normal(&grid, 2), 10, &normal_words));
     }
 }
 
@@ -252,79 +305,127 @@ fn reads_runs_and_normalises(rt: HostRuntime) {
 #[test]
 fn normalises_to_the_smallest_size(rt: HostRuntime) {
     let large = completed_grid(&rt, 12, &[66, 129, 70, 220, 115]);
-    assert!(rt;
-        is_grid(
-            &normal(&large, 3),
-            &grid_of(&rt, 10, &[66, 129, 70, 138, 234, 82, 82, 95])
-        )
-    );
+    let small = grid_of(&rt, 10, &[66, 129, 70, 138, 234, 82, 82, 95]);
+    assert!(rt; is_grid(&normal(&large, 3), &small));
 }
+
+/// The cells of `123456` with ten border faults.
+static FAULTY: &str =
+    "1010101010110010110111000001001100011101110000100010000011111110110000111101100110011101000000000000";
 
 #[test]
 fn compares_the_border_with_the_limit(rt: HostRuntime) {
-    let grid = drawn(
-        &rt,
-        10,
-        "1010101010110010110111000001001100011101110000100010000011111110110000111101100110011101000000000000",
-    );
-    assert!(rt; read(&grid, 2) == Err(ReadFault::Border(10)));
-    assert!(rt; read(&grid, 9) == Err(ReadFault::Border(10)));
+    let grid = drawn(&rt, 10, FAULTY);
+    for limit in [2, 9] {
+        assert!(rt; read(&grid, limit) == Err(ReadFault::Border(10)));
+    }
     assert!(rt; says(&read(&grid, 10), b"123456", &[0], 10));
     assert!(rt; normal(&grid, 2).err() == Some(NormalFault::Read(ReadFault::Border(10))));
+}
+
+/// The grid of side 12 with its fixed square turned over.
+fn with_square_turned(rt: &impl Abort, grid: &Grid) -> Grid {
+    let mut cells: ArrayVec<bool, 144> = ArrayVec::new();
+    for place in 0..144u16 {
+        let (row, column) = (place / 12, place % 12);
+        let turned = (row == 9 || row == 10) && (column == 9 || column == 10);
+        assert!(rt; grid.size().side() == 12);
+        assert!(rt; cells.try_push(grid.cell(row, column) != turned).is_ok());
+    }
+    let Ok(turned) = Grid::new(12, &cells) else {
+        panic!(rt; "no grid");
+    };
+    turned
 }
 
 /// The fixed square is not looked at.
 #[test]
 fn ignores_the_fixed_square(rt: HostRuntime) {
     let zeros = grid_of(&rt, 12, &[0; 12]);
-    let mut cells: ArrayVec<bool, 2704> = ArrayVec::new();
-    for row in 0..12u16 {
-        for column in 0..12u16 {
-            let turned = (row == 9 || row == 10) && (column == 9 || column == 10);
-            assert!(rt; zeros.size().side() == 12);
-            assert!(rt; cells.try_push(zeros.cell(row, column) != turned).is_ok());
-        }
-    }
-    let Ok(turned) = Grid::new(12, &cells) else {
-        panic!(rt; "no grid");
-    };
+    let turned = with_square_turned(&rt, &zeros);
     assert!(rt; !same(&zeros, &turned));
-    assert!(rt; read(&zeros, 3) == Err(ReadFault::Words(WordFault::Reserved(1))));
-    assert!(rt; read(&turned, 3) == Err(ReadFault::Words(WordFault::Reserved(1))));
+    for grid in [&zeros, &turned] {
+        assert!(rt; read(grid, 3) == Err(ReadFault::Words(WordFault::Reserved(1))));
+    }
+}
+
+/// Places for answers, which hold whatever was answered last.
+#[derive(Drop)]
+struct Places {
+    reading: Reading,
+    grid: Grid,
+    normal_grid: Grid,
+}
+
+/// The places hold the grid of this message, what it says, and its normal grid, which is the same.
+fn assert_answers(rt: &impl Abort, places: &mut Places, profile: Profile, message: &Message) {
+    assert!(rt; write_to(profile, message, &mut places.grid).is_ok());
+    assert!(rt; is_grid(&write_as(profile, message), &places.grid));
+    assert!(rt; read_to(&places.grid, 0, &mut places.reading) == Ok(()));
+    assert!(rt; places.reading.message == *message);
+    assert!(rt; places.reading.corrected.len() == usize::from(places.grid.size().blocks()));
+    assert_normal_answer(rt, places, profile, message);
+}
+
+/// The places hold the normal grid of a grid that is normal, and what it says.
+fn assert_normal_answer(rt: &impl Abort, places: &mut Places, profile: Profile, message: &Message) {
+    let answer = normal_to(
+        profile,
+        &places.grid,
+        0,
+        &mut places.reading,
+        &mut places.normal_grid,
+    );
+    assert!(rt; answer.is_ok());
+    assert!(rt; same(&places.normal_grid, &places.grid));
+    assert!(rt; places.reading.message == *message);
+}
+
+/// Codewords that are refused, with places that hold earlier answers.
+fn assert_refusals(rt: &impl Abort, places: &mut Places) {
+    let wrong = grid_of(rt, 12, &[0; 12]);
+    let fault = ReadFault::Words(WordFault::Reserved(1));
+    assert!(rt; read_to(&wrong, 0, &mut places.reading) == Err(fault));
+    let answer = normal_to(
+        Profile::Ascii,
+        &wrong,
+        0,
+        &mut places.reading,
+        &mut places.grid,
+    );
+    assert!(rt; answer == Err(NormalFault::Read(fault)));
+}
+
+/// A message that is too long for ASCII alone, with places that hold earlier answers.
+fn assert_too_long(rt: &impl Abort, places: &mut Places) {
+    let long = of_many(rt, 200, 409);
+    assert!(rt; write_to(Profile::Ascii, &long, &mut places.grid).is_err());
+    assert!(rt; write_to(Profile::Shorter, &long, &mut places.grid).is_ok());
+    let answer = normal_to(
+        Profile::Ascii,
+        &places.grid,
+        0,
+        &mut places.reading,
+        &mut places.normal_grid,
+    );
+    assert!(rt; answer == Err(NormalFault::TooLong));
 }
 
 /// One place after the other holds the answer to the last grid or message, whatever stood there before.
 #[test]
 fn answers_in_places(rt: HostRuntime) {
-    let mut reading = Reading::new();
-    let mut grid = light_grid();
-    let mut normal_grid = light_grid();
-    assert!(rt; grid.size().side() == 10);
+    let mut places = Places {
+        reading: Reading::new(),
+        grid: light_grid(),
+        normal_grid: light_grid(),
+    };
+    assert!(rt; places.grid.size().side() == 10);
     for count in [90, 3, 0, 40] {
         let message = of_many(&rt, 200, count);
         for profile in [Profile::Ascii, Profile::Shorter] {
-            assert!(rt; write_to(profile, &message, &mut grid).is_ok());
-            assert!(rt; is_grid(&write_as(profile, &message), &grid));
-            assert!(rt; read_to(&grid, 0, &mut reading) == Ok(()));
-            assert!(rt; reading.message == message);
-            assert!(rt; reading.corrected.len() == usize::from(grid.size().blocks()));
-            assert!(rt; normal_to(profile, &grid, 0, &mut reading, &mut normal_grid).is_ok());
-            assert!(rt; same(&normal_grid, &grid));
-            assert!(rt; reading.message == message);
+            assert_answers(&rt, &mut places, profile, &message);
         }
     }
-    let wrong = grid_of(&rt, 12, &[0; 12]);
-    let fault = ReadFault::Words(WordFault::Reserved(1));
-    assert!(rt; read_to(&wrong, 0, &mut reading) == Err(fault));
-    assert!(rt;
-        normal_to(Profile::Ascii, &wrong, 0, &mut reading, &mut grid)
-            == Err(NormalFault::Read(fault))
-    );
-    let long = of_many(&rt, 200, 409);
-    assert!(rt; write_to(Profile::Ascii, &long, &mut grid).is_err());
-    assert!(rt; write_to(Profile::Shorter, &long, &mut grid).is_ok());
-    assert!(rt;
-        normal_to(Profile::Ascii, &grid, 0, &mut reading, &mut normal_grid)
-            == Err(NormalFault::TooLong)
-    );
+    assert_refusals(&rt, &mut places);
+    assert_too_long(&rt, &mut places);
 }

@@ -3,8 +3,9 @@
 ghost use Rattle.std.specs.Prelude.{◌≤◌};
 
 use arrayvec::ArrayVec;
-use dm_layout::Size;
+use dm_layout::{MOST_CODEWORDS, Size};
 use dm_words::*;
+use std::process::Abort;
 use std::test::*;
 
 mod shorter;
@@ -20,20 +21,28 @@ fn spells(words: &[u8], items: &[Item]) -> bool {
     }
 }
 
+/// Whether the items are these bytes.
+fn are_bytes(items: &[Item], bytes: &[u8]) -> bool {
+    if items.len() != bytes.len() {
+        return false;
+    }
+    for (item, byte) in items.iter().zip(bytes) {
+        if *item != Item::Byte(*byte) {
+            return false;
+        }
+    }
+    true
+}
+
 /// Whether the codewords spell these bytes.
 fn spells_bytes(words: &[u8], bytes: &[u8]) -> bool {
     if words.len() > MOST_DATA {
         return false;
     }
-    let Ok(message) = message_of(words) else {
-        return false;
-    };
-    let items = message.items();
-    items.len() == bytes.len()
-        && items
-            .iter()
-            .zip(bytes)
-            .all(|(item, byte)| *item == Item::Byte(*byte))
+    match message_of(words) {
+        Ok(message) => are_bytes(message.items(), bytes),
+        Err(_) => false,
+    }
 }
 
 /// Whether the codewords are refused with this fault.
@@ -96,14 +105,23 @@ fn reads_messages(rt: HostRuntime) {
     for (words, bytes) in SPELLED {
         assert!(rt; spells_bytes(words, bytes));
     }
-    assert!(rt; spells(&[230, 10, 135], &[Item::Fnc1, Item::Byte(b'A')]));
-    assert!(rt; spells(&[239, 10, 124], &[Item::Fnc1, Item::Byte(b' ')]));
-    assert!(rt;
-        spells(
-            &[49, 232, 50],
-            &[Item::Byte(b'0'), Item::Fnc1, Item::Byte(b'1')]
-        )
-    );
+}
+
+/// Data codewords and the items that they spell.
+static SPELLED_WITH_FNC1: [(&[u8], &[Item]); 3] = [
+    (&[230, 10, 135], &[Item::Fnc1, Item::Byte(b'A')]),
+    (&[239, 10, 124], &[Item::Fnc1, Item::Byte(b' ')]),
+    (
+        &[49, 232, 50],
+        &[Item::Byte(b'0'), Item::Fnc1, Item::Byte(b'1')],
+    ),
+];
+
+#[test]
+fn reads_fnc1(rt: HostRuntime) {
+    for (words, items) in SPELLED_WITH_FNC1 {
+        assert!(rt; spells(words, items));
+    }
 }
 
 /// Data codewords and the fault with which they are refused.
@@ -161,100 +179,118 @@ fn refuses_what_spells_no_message(rt: HostRuntime) {
     for (words, fault) in REFUSED {
         assert!(rt; is_refused(words, fault));
     }
-    for codeword in 242..256u16 {
-        assert!(rt; is_refused(&[codeword as u8], WordFault::Reserved(1)));
+}
+
+#[test]
+fn refuses_reserved_codewords(rt: HostRuntime) {
+    for codeword in 242..=255u8 {
+        assert!(rt; is_refused(&[codeword], WordFault::Reserved(1)));
+    }
+}
+
+/// The message of these items, as far as there is room.
+fn message_with(items: &[Item]) -> Option<Message> {
+    let mut message = Message::new();
+    for item in items {
+        if message.push(*item).is_err() {
+            return None;
+        }
+    }
+    Some(message)
+}
+
+/// Whether the codewords, with pads up to the size of this side, are these.
+fn is_padded(words: &[u8], side: u16, expected: &[u8]) -> bool {
+    match Size::of_side(side) {
+        Some(size) => {
+            words.len() <= usize::from(size.data_count())
+                && padded(words, size).as_slice() == expected
+        }
+        None => false,
     }
 }
 
 /// Whether the ASCII codewords of these items, with pads up to the size of this side, are these.
 fn writes(items: &[Item], side: u16, expected: &[u8]) -> bool {
-    let Some(size) = Size::of_side(side) else {
+    let Some(message) = message_with(items) else {
         return false;
     };
-    let mut message = Message::new();
-    for item in items {
-        if message.push(*item).is_err() {
-            return false;
-        }
+    match ascii_words(&message) {
+        Ok(words) => is_padded(words.as_slice(), side, expected),
+        Err(_) => false,
     }
-    let Ok(words) = ascii_words(&message) else {
-        return false;
-    };
-    words.len() <= size.data_count() as usize
-        && padded(words.as_slice(), size).as_slice() == expected
 }
+
+/// Items, the side of a symbol, and its data codewords in ASCII.
+static WRITTEN: [(&[Item], u16, &[u8]); 9] = [
+    (&[], 10, &[129, 175, 70]),
+    (&[Item::Byte(b'A')], 10, &[66, 129, 70]),
+    (&[Item::Byte(193)], 10, &[235, 66, 129]),
+    (&[Item::Byte(128)], 10, &[235, 1, 129]),
+    (&[Item::Byte(255)], 10, &[235, 128, 129]),
+    (
+        &[Item::Byte(b'1'), Item::Byte(b'2'), Item::Byte(b'3')],
+        10,
+        &[142, 52, 129],
+    ),
+    (
+        &[Item::Fnc1, Item::Byte(b'0'), Item::Byte(b'1')],
+        10,
+        &[232, 131, 129],
+    ),
+    (
+        &[Item::Byte(b'0'), Item::Fnc1, Item::Byte(b'1')],
+        10,
+        &[49, 232, 50],
+    ),
+    (
+        &[Item::Byte(b'1'), Item::Byte(b'2')],
+        12,
+        &[142, 129, 70, 220, 115],
+    ),
+];
 
 #[test]
 fn writes_ascii(rt: HostRuntime) {
-    let rows: [(&[Item], &[u8]); 6] = [
-        (&[], &[129, 175, 70]),
-        (&[Item::Byte(b'A')], &[66, 129, 70]),
-        (&[Item::Byte(193)], &[235, 66, 129]),
-        (&[Item::Byte(128)], &[235, 1, 129]),
-        (&[Item::Byte(255)], &[235, 128, 129]),
-        (
-            &[Item::Byte(b'1'), Item::Byte(b'2'), Item::Byte(b'3')],
-            &[142, 52, 129],
-        ),
-    ];
-    for (items, words) in rows {
-        assert!(rt; writes(items, 10, words));
+    for (items, side, words) in WRITTEN {
+        assert!(rt; writes(items, side, words));
     }
-    assert!(rt;
-        writes(
-            &[Item::Fnc1, Item::Byte(b'0'), Item::Byte(b'1')],
-            10,
-            &[232, 131, 129]
-        )
-    );
-    assert!(rt;
-        writes(
-            &[Item::Byte(b'0'), Item::Fnc1, Item::Byte(b'1')],
-            10,
-            &[49, 232, 50]
-        )
-    );
-    assert!(rt;
-        writes(
-            &[Item::Byte(b'1'), Item::Byte(b'2')],
-            12,
-            &[142, 129, 70, 220, 115]
-        )
-    );
+}
+
+/// The message of one byte so many times.
+fn of_many(rt: &impl Abort, byte: u8, count: usize) -> Message {
+    let mut message = Message::new();
+    for _ in 0..count {
+        assert!(rt; message.push(Item::Byte(byte)).is_ok());
+    }
+    message
 }
 
 #[test]
 fn fills_a_message(rt: HostRuntime) {
-    let mut digits = Message::new();
-    for _ in 0..MOST_ITEMS {
-        assert!(rt; digits.push(Item::Byte(b'7')).is_ok());
-    }
+    let mut digits = of_many(&rt, b'7', MOST_ITEMS);
     assert!(rt; digits.push(Item::Fnc1) == Err(Item::Fnc1));
     assert!(rt; digits.items().len() == MOST_ITEMS);
-    let Ok(words) = ascii_words(&digits) else {
-        assert!(rt; false);
-        return;
-    };
-    assert!(rt; words.as_slice() == [207; 816].as_slice());
-    assert!(rt; message_of(words.as_slice()) == Ok(digits));
+    let words = [207; 816];
+    assert!(rt; is_written(&digits, &words));
+    assert!(rt; message_of(&words) == Ok(digits));
+}
+
+/// Whether the ASCII codewords of the message are these.
+fn is_written(message: &Message, expected: &[u8]) -> bool {
+    match ascii_words(message) {
+        Ok(words) => words.as_slice() == expected,
+        Err(_) => false,
+    }
 }
 
 #[test]
 fn letters_take_a_codeword_each(rt: HostRuntime) {
-    for count in [204, 205, 816, 817] {
-        let mut letters = Message::new();
-        for _ in 0..count {
-            assert!(rt; letters.push(Item::Byte(b'A')).is_ok());
-        }
-        match ascii_words(&letters) {
-            Ok(words) => {
-                assert!(rt; count <= 816);
-                assert!(rt; words.len() == count);
-                assert!(rt; words.as_slice().iter().all(|word| *word == 66));
-            }
-            Err(TooLong) => assert!(rt; count == 817),
-        }
+    for count in [204, 205, 816] {
+        assert!(rt; count <= 816);
+        assert!(rt; is_written(&of_many(&rt, b'A', count), &[66; 816][..count]));
     }
+    assert!(rt; ascii_words(&of_many(&rt, b'A', 817)).is_err());
 }
 
 /// The codeword of a Base 256 value at a place.
@@ -272,72 +308,124 @@ fn fills_a_segment(rt: HostRuntime) {
     assert!(rt; spells_bytes(&words, &[255; 202]));
 }
 
-/// A segment whose length takes two codewords, with pads behind it.
-#[test]
-fn a_length_of_two_codewords(rt: HostRuntime) {
-    let mut list = [231u8; 253];
+/// A segment of so many bytes 0, whose length takes two codewords.
+fn two_length_codewords() -> [u8; 253] {
+    let mut list = [231; 253];
     list[1] = 38;
     list[2] = 193;
     for place in 4..254u16 {
         list[place as usize - 1] = randomised(0, place);
     }
-    assert!(rt; list[3] == 87);
-    let size = Size::of_side(64).expect(&rt, "side 64");
-    assert!(rt; size.data_count() == 280);
-    let words = padded(&list, size);
-    assert!(rt; words.as_slice()[253] == 129);
-    assert!(rt; spells_bytes(&words, &[0; 250]));
-    list[2] = 187;
-    let words = padded(&list, size);
-    assert!(rt; is_refused(&words, WordFault::Length(1)));
+    list
 }
 
-/// The largest symbol as one segment, and lengths that pass its end.
+/// The codewords with pads up to the size of side 64.
+fn padded_to_64(rt: &impl Abort, list: &[u8; 253]) -> [u8; 280] {
+    let size = Size::of_side(64).expect(rt, "side 64");
+    assert!(rt; size.data_count() == 280);
+    let mut filled = [0; 280];
+    for (into, word) in filled.iter_mut().zip(padded(list, size)) {
+        *into = word;
+    }
+    filled
+}
+
+/// A segment whose length takes two codewords, with pads behind it.
 #[test]
-fn the_longest_segment(rt: HostRuntime) {
-    let mut bytes = [0u8; 813];
-    let mut words = [231u8; 816];
+fn a_length_of_two_codewords(rt: HostRuntime) {
+    let mut list = two_length_codewords();
+    assert!(rt; list[3] == 87);
+    let words = padded_to_64(&rt, &list);
+    assert!(rt; words[253] == 129);
+    assert!(rt; spells_bytes(&words, &[0; 250]));
+    list[2] = 187;
+    assert!(rt; is_refused(&padded_to_64(&rt, &list), WordFault::Length(1)));
+}
+
+/// A segment of 813 bytes, each of which is the low byte of its place; its length codewords are these.
+fn longest_segment(first: u8, second: u8) -> [u8; 816] {
+    let mut words = [231; 816];
     for place in 4..817u16 {
-        bytes[place as usize - 4] = (place % 256) as u8;
         words[place as usize - 1] = randomised((place % 256) as u8, place);
     }
-    words[1] = 40;
-    words[2] = 0;
-    assert!(rt; spells_bytes(&words, &bytes));
-    words[2] = 1;
-    assert!(rt; is_refused(&words, WordFault::Length(1)));
-    words[1] = 41;
-    words[2] = 193;
-    assert!(rt; is_refused(&words, WordFault::Length(1)));
+    words[1] = first;
+    words[2] = second;
+    words
+}
+
+/// The largest symbol as one segment.
+#[test]
+fn the_longest_segment(rt: HostRuntime) {
+    let mut bytes = [0; 813];
+    for (index, byte) in bytes.iter_mut().enumerate() {
+        *byte = ((index + 4) % 256) as u8;
+    }
+    assert!(rt; spells_bytes(&longest_segment(40, 0), &bytes));
+}
+
+/// Lengths that pass the end of the largest symbol.
+#[test]
+fn refuses_segments_past_the_end(rt: HostRuntime) {
+    for (first, second) in [(40, 1), (41, 193)] {
+        assert!(rt; is_refused(&longest_segment(first, second), WordFault::Length(1)));
+    }
+}
+
+/// Places for codewords and messages, which hold whatever was written and read last.
+#[derive(Drop)]
+struct Places {
+    words: ArrayVec<u8, MOST_CODEWORDS>,
+    message: Message,
+    read: Message,
+}
+
+/// Texts, and their data codewords in the shorter form at side 12.
+static SHORTER: [(&[u8], &[u8]); 3] = [
+    (b"123456", &[142, 164, 186, 129, 115]),
+    (b"\x80\x80\x80", &[231, 47, 65, 215, 108]),
+    (b"A", &[66, 129, 70, 220, 115]),
+];
+
+/// The message in its place becomes this text.
+fn take_text(rt: &impl Abort, message: &mut Message, text: &[u8]) {
+    message.clear();
+    for byte in text {
+        assert!(rt; message.push(Item::Byte(*byte)).is_ok());
+    }
+}
+
+/// Appends pads up to the size of side 12.
+fn add_pads_to_12(rt: &impl Abort, words: &mut ArrayVec<u8, MOST_CODEWORDS>) {
+    let size = Size::of_side(12).expect(rt, "side 12");
+    assert!(rt; words.len() <= usize::from(size.data_count()));
+    add_pads(words, size);
+}
+
+/// The places hold the codewords of the text, and the message that these spell.
+fn assert_written_and_read(rt: &impl Abort, places: &mut Places, text: &[u8], expected: &[u8]) {
+    take_text(rt, &mut places.message, text);
+    assert!(rt; normal_words_to(Profile::Shorter, &places.message, &mut places.words).is_ok());
+    add_pads_to_12(rt, &mut places.words);
+    assert!(rt; places.words.as_slice() == expected);
+    assert!(rt; places.words.len() <= MOST_DATA);
+    assert!(rt; message_to(&places.words, &mut places.read).is_ok());
+    assert!(rt; places.read == places.message);
 }
 
 /// One place after the other holds what was written and read last, whatever stood there before.
 #[test]
 fn writes_and_reads_in_places(rt: HostRuntime) {
-    let mut words = ArrayVec::new();
-    let mut message = Message::new();
-    let mut read = Message::new();
-    for (text, expected) in [
-        (b"123456".as_slice(), [142, 164, 186, 129, 115].as_slice()),
-        (b"\x80\x80\x80", &[231, 47, 65, 215, 108]),
-        (b"A", &[66, 129, 70, 220, 115]),
-    ] {
-        message.clear();
-        for byte in text {
-            assert!(rt; message.push(Item::Byte(*byte)).is_ok());
-        }
-        assert!(rt; normal_words_to(Profile::Shorter, &message, &mut words).is_ok());
-        let size = Size::of_side(12).expect(&rt, "side 12");
-        assert!(rt; words.len() <= usize::from(size.data_count()));
-        add_pads(&mut words, size);
-        assert!(rt; words.as_slice() == expected);
-        assert!(rt; words.len() <= MOST_DATA);
-        assert!(rt; message_to(&words, &mut read).is_ok());
-        assert!(rt; read == message);
+    let mut places = Places {
+        words: ArrayVec::new(),
+        message: Message::new(),
+        read: Message::new(),
+    };
+    for (text, expected) in SHORTER {
+        assert_written_and_read(&rt, &mut places, text, expected);
     }
-    assert!(rt; message_to(&[240], &mut read) == Err(WordFault::LeftOut(240, 1)));
-    assert!(rt; normal_words_to(Profile::Ascii, &message, &mut words).is_ok());
-    assert!(rt; words.as_slice() == [66].as_slice());
-    assert!(rt; normal_words_to(Profile::Shorter, &message, &mut words).is_ok());
-    assert!(rt; words.as_slice() == [66].as_slice());
+    assert!(rt; message_to(&[240], &mut places.read) == Err(WordFault::LeftOut(240, 1)));
+    for profile in [Profile::Ascii, Profile::Shorter] {
+        assert!(rt; normal_words_to(profile, &places.message, &mut places.words).is_ok());
+        assert!(rt; places.words.as_slice() == [66].as_slice());
+    }
 }

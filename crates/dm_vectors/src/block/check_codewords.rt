@@ -1,13 +1,13 @@
 //! Tests of check codewords.
 
-ghost use Rattle.std.specs.Prelude.{◌≤◌};
+ghost use Rattle.std.specs.Prelude.{◌≤◌, length};
 
 use super::samples::{BLOCKS, pseudorandom};
 use dm_code::encode;
 use gf301::{generator, times};
 
 /// Blocks of the symbol of side 10: data codewords, and their five check codewords.
-const SIDE_10: [([u8; 3], [u8; 5]); 5] = [
+static SIDE_10: [([u8; 3], [u8; 5]); 5] = [
     ([142, 164, 186], [114, 25, 5, 88, 102]),
     ([66, 129, 70], [138, 234, 82, 82, 95]),
     ([129, 175, 70], [33, 1, 170, 139, 55]),
@@ -53,14 +53,23 @@ fn divided(front: &[u8], k: usize) -> [u8; 255]
     rest
 }
 
+/// Whether the check codewords of these data codewords are what long division leaves.
+fn are_what_is_left(front: &[u8], k: usize) -> bool
+    requires some { 1 ≤ k }
+    requires most { k ≤ 68 }
+    requires data { length front.now ≤ 187 }
+{
+    let rest = divided(front, k);
+    let count = front.len();
+    encode(front, k).as_slice() == &rest[count..count + k]
+}
+
 #[test]
 fn check_codewords_are_what_long_division_leaves(rt: HostRuntime) {
-    for (count, k) in BLOCKS {
-        assert!(rt; 1 <= k && k <= 68 && count <= 187);
-        for list in [[255; 255], pseudorandom(7, 19), pseudorandom(200, 3)] {
-            let front = &list[..count];
-            let rest = divided(front, k);
-            assert!(rt; encode(front, k).as_slice() == &rest[count..count + k]);
+    for list in [[255; 255], pseudorandom(7, 19), pseudorandom(200, 3)] {
+        for (count, k) in BLOCKS {
+            assert!(rt; 1 <= k && k <= 68 && count <= 187);
+            assert!(rt; are_what_is_left(&list[..count], k));
         }
     }
 }

@@ -1,6 +1,6 @@
 //! Tests of correction within the limit, at it and beyond it, with both solvers.
 
-ghost use Rattle.std.specs.Prelude.{◌<◌, ◌≤◌, length};
+ghost use Rattle.std.specs.Prelude.{◌+◌, ◌<◌, ◌≤◌, length};
 
 use super::samples::{BLOCKS, WORD, codeword, with_errors};
 use dm_code::{Elimination, KeySolver, Quick, correct};
@@ -53,20 +53,28 @@ fn two_errors_with_five_checks_are_corrected_and_three_refused(rt: HostRuntime) 
     assert!(rt; is_refused(&[0, 0, 0, 114, 25, 5, 88, 102], 5));
 }
 
+/// Whether a codeword of `count` data codewords is corrected with as many wrong codewords as can be, at every `step`th place from the
+/// place `first` on.
+fn is_corrected_at_the_limit(count: usize, k: usize, first: usize, step: usize) -> bool
+    requires checks { 0 < k }
+    requires most { k ≤ 68 }
+    requires data { 0 < count }
+    requires long { count + k ≤ 255 }
+    requires step { 0 < step }
+{
+    let word = codeword(count, k);
+    let damaged = with_errors(word, first, step, k / 2);
+    is_corrected(&damaged[..count + k], &word[..count + k], k, k / 2)
+}
+
 /// As many wrong codewords as each block corrects: at the first places, at the last, and at every second one.
 #[test]
 fn blocks_are_corrected_to_their_limit(rt: HostRuntime) {
     for (count, k) in BLOCKS {
         assert!(rt; 1 <= k && k <= 68 && 0 < count && count <= 255 - k);
-        let word = codeword(count, k);
-        let limit = k / 2;
-        for (first, step) in [(0, 1), (count + k - limit, 1), (0, 2)] {
-            let damaged = with_errors(word, first, step, limit);
-            assert!(rt;
-                is_corrected(&damaged[..count + k], &word[..count + k], k, limit),
-                "{k} checks, from place {first}, step {step}"
-            );
-        }
+        assert!(rt; is_corrected_at_the_limit(count, k, 0, 1));
+        assert!(rt; is_corrected_at_the_limit(count, k, count + k - k / 2, 1));
+        assert!(rt; is_corrected_at_the_limit(count, k, 0, 2));
     }
 }
 
@@ -77,7 +85,7 @@ fn each_single_error_is_corrected(rt: HostRuntime) {
         for error in 1..=255u8 {
             let mut damaged = WORD;
             damaged[place] ^= error;
-            assert!(rt; is_corrected(&damaged, &WORD, 5, 1), "{error} at {place}");
+            assert!(rt; is_corrected(&damaged, &WORD, 5, 1));
         }
     }
 }
@@ -90,7 +98,7 @@ fn errors_at_each_two_places_are_corrected(rt: HostRuntime) {
                 let mut damaged = WORD;
                 damaged[i] ^= 1;
                 damaged[j] ^= 255;
-                assert!(rt; is_corrected(&damaged, &WORD, 5, 2), "{i} and {j}");
+                assert!(rt; is_corrected(&damaged, &WORD, 5, 2));
             }
         }
     }
@@ -106,29 +114,53 @@ fn errors_at_each_three_places_with_five_checks_are_refused(rt: HostRuntime) {
                 damaged[i] ^= 255;
                 damaged[j] ^= 255;
                 damaged[m] ^= 255;
-                assert!(rt; is_refused(&damaged, 5), "{i}, {j} and {m}");
+                assert!(rt; is_refused(&damaged, 5));
             }
         }
     }
 }
 
+/// Whether the codeword with seven checks is refused with the codewords turned over whose bits these places have.
+fn is_refused_with(word: &[u8; 255], places: u16) -> bool {
+    let mut damaged = *word;
+    for (i, codeword) in damaged.iter_mut().enumerate() {
+        if i < 12 && (places >> i) % 2 == 1 {
+            *codeword ^= 255;
+        }
+    }
+    is_refused(&damaged[..12], 7)
+}
+
 #[test]
 fn errors_at_each_four_places_with_seven_checks_are_refused(rt: HostRuntime) {
     let word = codeword(5, 7);
-    for a in 0..12 {
-        for b in 0..a {
-            for c in 0..b {
-                for d in 0..c {
-                    let mut damaged = word;
-                    damaged[a] ^= 255;
-                    damaged[b] ^= 255;
-                    damaged[c] ^= 255;
-                    damaged[d] ^= 255;
-                    assert!(rt; is_refused(&damaged[..12], 7), "{a}, {b}, {c} and {d}");
-                }
-            }
+    for places in 0..4096u16 {
+        if places.count_ones() == 4 {
+            assert!(rt; is_refused_with(&word, places));
         }
     }
+}
+
+/// The generator polynomial, behind zeros, at the places up to `count` + k.
+fn generator_word(count: usize, k: usize) -> [u8; 255]
+    requires some { 1 ≤ k }
+    requires most { k ≤ 68 }
+    requires data { 0 < count }
+{
+    let mut word = [0; 255];
+    for (place, a) in word.iter_mut().skip(count - 1).zip(generator(k).as_slice()) {
+        *place = *a;
+    }
+    word
+}
+
+/// The word with zeros at so many places, from the place `first` on.
+fn with_zeros(word: [u8; 255], first: usize, count: usize) -> [u8; 255] {
+    let mut damaged = word;
+    for place in damaged.iter_mut().skip(first).take(count) {
+        *place = 0;
+    }
+    damaged
 }
 
 /// A word that is one place more than the limit away from the word of zeros is corrected to another codeword, the
@@ -138,16 +170,9 @@ fn a_word_nearer_to_another_codeword_is_corrected_to_that(rt: HostRuntime) {
     for (count, k) in BLOCKS {
         if k % 2 == 0 {
             assert!(rt; 1 <= k && k <= 68 && 0 < count && count <= 255 - k);
-            let mut word = [0; 255];
-            for (place, a) in word.iter_mut().skip(count - 1).zip(generator(k).as_slice()) {
-                *place = *a;
-            }
-            let mut damaged = word;
-            for place in damaged.iter_mut().skip(count + k / 2).take(k / 2) {
-                *place = 0;
-            }
-            let (damaged, word) = (&damaged[..count + k], &word[..count + k]);
-            assert!(rt; is_corrected(damaged, word, k, k / 2), "{k} checks");
+            let word = generator_word(count, k);
+            let damaged = with_zeros(word, count + k / 2, k / 2);
+            assert!(rt; is_corrected(&damaged[..count + k], &word[..count + k], k, k / 2));
         }
     }
 }
@@ -155,13 +180,9 @@ fn a_word_nearer_to_another_codeword_is_corrected_to_that(rt: HostRuntime) {
 /// The blocks of a symbol whose cells are all dark but for its borders: their codewords are all 255.
 #[test]
 fn blocks_of_dark_symbols_are_answered_alike(rt: HostRuntime) {
-    let dark = [255; 255];
     for (count, k) in BLOCKS {
         assert!(rt; 1 <= k && k <= 68 && 0 < count && count <= 255 - k);
-        let word = &dark[..count + k];
-        assert!(rt;
-            correct(&Quick, word, k) == correct(&Elimination, word, k),
-            "{k} checks"
-        );
+        let word = &[255; 255][..count + k];
+        assert!(rt; correct(&Quick, word, k) == correct(&Elimination, word, k));
     }
 }

@@ -8,7 +8,7 @@ use dm_code::encode;
 pub(super) const WORD: [u8; 8] = [142, 164, 186, 114, 25, 5, 88, 102];
 
 /// How many data and check codewords a block has, for each square symbol of side 10 to 104.
-pub(super) const BLOCKS: [(usize, usize); 21] = [
+pub(super) static BLOCKS: [(usize, usize); 21] = [
     (3, 5),
     (5, 7),
     (8, 10),

@@ -1,6 +1,6 @@
 //! Tests of the solvers of the key equation.
 
-ghost use Rattle.std.specs.Prelude.{◌*◌, ◌≤◌, length};
+ghost use Rattle.std.specs.Prelude.{◌*◌, ◌<◌, ◌≤◌, length};
 
 use super::samples::{BLOCKS, WORD, codeword, with_errors};
 use dm_code::{Elimination, KeySolver, Quick, correct, syndromes};
@@ -81,55 +81,75 @@ fn are_alike(word: &[u8], k: usize) -> bool
     alike && is_counted(&s, t)
 }
 
+/// Syndromes, limits, and the pair that solves the key equation.
+static PAIRS: [(&[u8], usize, &[u8], &[u8]); 5] = [
+    (&[0; 68], 34, &[1], &[]),
+    (&[], 0, &[1], &[]),
+    // an error of value 3 at the place with the locator 2: the syndromes are 3 * 2, 3 * 4, 3 * 8, 3 * 16 and 3 * 32
+    (&[6, 12, 24, 48], 2, &[1, 2], &[6]),
+    (&[6, 12, 24, 48, 96], 2, &[1, 2], &[6]),
+    (&[6, 12, 24, 48, 96], 1, &[1, 2], &[6]),
+];
+
 #[test]
-fn least_pairs_and_lists_without_a_pair(rt: HostRuntime) {
-    let zeros = [0; 68];
-    let pairs: [(&[u8], usize, &[u8], &[u8]); 5] = [
-        (&zeros, 34, &[1], &[]),
-        (&[], 0, &[1], &[]),
-        // an error of value 3 at the place with the locator 2: the syndromes are 3 * 2, 3 * 4, 3 * 8, 3 * 16 and 3 * 32
-        (&[6, 12, 24, 48], 2, &[1, 2], &[6]),
-        (&[6, 12, 24, 48, 96], 2, &[1, 2], &[6]),
-        (&[6, 12, 24, 48, 96], 1, &[1, 2], &[6]),
-    ];
-    for (s, t, locator, evaluator) in pairs {
+fn least_pairs(rt: HostRuntime) {
+    for (s, t, locator, evaluator) in PAIRS {
         assert!(rt; s.len() <= 68 && 2 * t <= s.len());
-        assert!(rt; have_key(s, t, locator, evaluator), "{s:?} within {t}");
+        assert!(rt; have_key(s, t, locator, evaluator));
     }
-    let none: [(&[u8], usize); 4] = [
-        (&[0, 0, 0, 1], 2),
-        (&[1], 0),
-        (&[6, 12, 24, 49], 2),
-        (&[6, 12], 0),
-    ];
-    for (s, t) in none {
+}
+
+/// Syndromes and limits with no pair.
+static NO_PAIRS: [(&[u8], usize); 4] = [
+    (&[0, 0, 0, 1], 2),
+    (&[1], 0),
+    (&[6, 12, 24, 49], 2),
+    (&[6, 12], 0),
+];
+
+#[test]
+fn lists_without_a_pair(rt: HostRuntime) {
+    for (s, t) in NO_PAIRS {
         assert!(rt; s.len() <= 68 && 2 * t <= s.len());
-        assert!(rt; have_no_key(s, t), "{s:?} within {t}");
+        assert!(rt; have_no_key(s, t));
     }
+}
+
+/// Whether both solvers answer the same, and correct alike, for a word with five checks.
+fn are_alike_with_five(word: &[u8; 8]) -> bool {
+    are_alike(word, 5) && correct(&Quick, word, 5) == correct(&Elimination, word, 5)
+}
+
+#[test]
+fn both_solvers_answer_alike_at_side_10(rt: HostRuntime) {
+    assert!(rt; are_alike_with_five(&WORD));
+    assert!(rt; are_alike_with_five(&[0, 0, 186, 114, 25, 5, 88, 102]));
+    assert!(rt; are_alike_with_five(&[0, 0, 0, 114, 25, 5, 88, 102]));
+}
+
+/// Whether both solvers answer alike for a codeword with one error, with as many as can be corrected, and with one more, at every `step`th
+/// place from the place `first` on.
+fn are_alike_from(word: [u8; 255], length: usize, k: usize, first: usize, step: usize) -> bool
+    requires most { k ≤ 68 }
+    requires long { length ≤ 255 }
+    requires step { 0 < step }
+{
+    for changed in [1, k / 2, k / 2 + 1] {
+        if !are_alike(&with_errors(word, first, step, changed)[..length], k) {
+            return false;
+        }
+    }
+    true
 }
 
 #[test]
 fn both_solvers_answer_alike(rt: HostRuntime) {
-    for damaged in [
-        WORD,
-        [0, 0, 186, 114, 25, 5, 88, 102],
-        [0, 0, 0, 114, 25, 5, 88, 102],
-    ] {
-        assert!(rt; are_alike(&damaged, 5), "{damaged:?}");
-        assert!(rt; correct(&Quick, &damaged, 5) == correct(&Elimination, &damaged, 5));
-    }
     for (count, k) in BLOCKS {
         assert!(rt; 1 <= k && k <= 68 && 0 < count && count <= 255 - k);
         let word = codeword(count, k);
-        let limit = k / 2;
-        for (first, step) in [(0, 1), (count + k - limit, 1), (0, 2)] {
-            for changed in [1, limit, limit + 1] {
-                let damaged = with_errors(word, first, step, changed);
-                assert!(rt;
-                    are_alike(&damaged[..count + k], k),
-                    "{k} checks, {changed} from place {first}, step {step}"
-                );
-            }
-        }
+        let length = count + k;
+        assert!(rt; are_alike_from(word, length, k, 0, 1));
+        assert!(rt; are_alike_from(word, length, k, length - k / 2, 1));
+        assert!(rt; are_alike_from(word, length, k, 0, 2));
     }
 }

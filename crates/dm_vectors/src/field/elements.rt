@@ -2,36 +2,52 @@
 
 use gf301::Gf;
 
+/// Exponents, and the powers of 2.
+static POWERS: [(u16, u8); 9] = [
+    (0, 1),
+    (1, 2),
+    (8, 45),
+    (15, 228),
+    (28, 23),
+    (254, 150),
+    (255, 1),
+    (510, 1),
+    (65535, 1),
+];
+
 #[test]
-fn powers_products_inverses_and_logarithms(rt: HostRuntime) {
-    for (e, power) in [
-        (0, 1),
-        (1, 2),
-        (8, 45),
-        (15, 228),
-        (28, 23),
-        (254, 150),
-        (255, 1),
-        (510, 1),
-        (65535, 1),
-    ] {
-        assert!(rt; Gf::power_of_two(e) == Gf(power), "2 to the power {e}");
+fn powers_of_two(rt: HostRuntime) {
+    for (e, power) in POWERS {
+        assert!(rt; Gf::power_of_two(e) == Gf(power));
     }
-    for (a, b, product) in [
-        (66, 62, 122),
-        (251, 111, 20),
-        (150, 2, 1),
-        (0, 7, 0),
-        (7, 0, 0),
-        (1, 9, 9),
-    ] {
-        assert!(rt; Gf(a).mul(Gf(b)) == Gf(product), "{a} times {b}");
+}
+
+/// Factors, and their products.
+static PRODUCTS: [(u8, u8, u8); 6] = [
+    (66, 62, 122),
+    (251, 111, 20),
+    (150, 2, 1),
+    (0, 7, 0),
+    (7, 0, 0),
+    (1, 9, 9),
+];
+
+#[test]
+fn sums_and_products(rt: HostRuntime) {
+    for (a, b, product) in PRODUCTS {
+        assert!(rt; Gf(a).mul(Gf(b)) == Gf(product));
     }
     assert!(rt; Gf(66).add(Gf(62)) == Gf(124));
-    assert!(rt; Gf(1).inverse() == Gf(1));
-    assert!(rt; Gf(2).inverse() == Gf(150));
-    assert!(rt; Gf(23).inverse() == Gf::power_of_two(227));
-    assert!(rt; Gf(1).log() == 0);
-    assert!(rt; Gf(45).log() == 8);
-    assert!(rt; Gf(150).log() == 254);
+}
+
+#[test]
+fn inverses_and_logarithms(rt: HostRuntime) {
+    for (a, inverse) in [(1, 1), (2, 150), (23, Gf::power_of_two(227).0)] {
+        assert!(rt; a != 0);
+        assert!(rt; Gf(a).inverse() == Gf(inverse));
+    }
+    for (a, log) in [(1, 0), (45, 8), (150, 254)] {
+        assert!(rt; a != 0);
+        assert!(rt; Gf(a).log() == log);
+    }
 }

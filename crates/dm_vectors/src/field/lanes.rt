@@ -3,25 +3,33 @@
 use gf301::{add_scaled, lanes_mul, power_row, powers, scaled};
 use std::simd::prelude::*;
 
+/// Factors, and their products.
+static PRODUCTS: [(u8, u8, u8); 4] = [(66, 62, 122), (251, 111, 20), (0, 7, 0), (255, 1, 255)];
+
 #[test]
-fn powers_and_products_of_sixteen_lanes(rt: HostRuntime) {
-    for (a, b, product) in [(66, 62, 122), (251, 111, 20), (0, 7, 0), (255, 1, 255)] {
+fn products_of_sixteen_lanes(rt: HostRuntime) {
+    for (a, b, product) in PRODUCTS {
         let products = lanes_mul(u8x16::splat(a), u8x16::splat(b));
-        assert!(rt; products.to_array() == [product; 16], "{a} times {b}");
+        assert!(rt; products.to_array() == [product; 16]);
     }
-    let first = [
-        1, 2, 4, 8, 16, 32, 64, 128, 45, 90, 180, 69, 138, 57, 114, 228,
-    ];
-    assert!(rt; powers(0) == first);
-    assert!(rt; powers(255) == first);
-    // 2^i times 2^(100 + i): another product in each lane
-    let products = lanes_mul(u8x16::from_array(first), u8x16::from_array(powers(100)));
-    assert!(rt;
-        products.to_array()
-            == [
-                106, 133, 78, 21, 84, 125, 217, 19, 76, 29, 116, 253, 131, 86, 117, 249
-            ]
-    );
+}
+
+/// The powers of 2 from the exponents 0 and 255 on.
+static FIRST: [u8; 16] = [
+    1, 2, 4, 8, 16, 32, 64, 128, 45, 90, 180, 69, 138, 57, 114, 228,
+];
+
+/// 2^i times 2^(100 + i): another product in each lane.
+static MIXED: [u8; 16] = [
+    106, 133, 78, 21, 84, 125, 217, 19, 76, 29, 116, 253, 131, 86, 117, 249,
+];
+
+#[test]
+fn powers_of_sixteen_lanes(rt: HostRuntime) {
+    assert!(rt; powers(0) == FIRST);
+    assert!(rt; powers(255) == FIRST);
+    let products = lanes_mul(u8x16::from_array(FIRST), u8x16::from_array(powers(100)));
+    assert!(rt; products.to_array() == MIXED);
 }
 
 #[test]

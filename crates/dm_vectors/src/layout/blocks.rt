@@ -2,24 +2,40 @@
 
 use dm_layout::{MOST_CODEWORDS, Size, Words, block, put_block};
 
-#[test]
-fn two_blocks_take_turns(rt: HostRuntime) {
-    let mut list = [0; 288];
+/// Codewords of the size, each of which is the rest of its place by 251.
+fn counted(size: Size) -> Words {
+    let mut list = [0; MOST_CODEWORDS];
     for (place, word) in list.iter_mut().enumerate() {
         *word = (place % 251) as u8;
     }
+    Words::new(
+        size,
+        &list[..(size.data_count() + size.check_count()) as usize],
+    )
+}
+
+/// Whether the block is every `step`th of such codewords, from the place `first` on.
+fn takes_turns(dealt: &[u8], first: usize, step: usize) -> bool {
+    let mut place = first;
+    for word in dealt {
+        if *word as usize != place % 251 {
+            return false;
+        }
+        place = place.saturating_add(step);
+    }
+    true
+}
+
+#[test]
+fn two_blocks_take_turns(rt: HostRuntime) {
     let size = Size::of_side(52).expect(&rt, "side 52");
-    assert!(rt; size.data_count() + size.check_count() == 288);
-    assert!(rt; size.blocks() == 2);
-    let words = Words::new(size, &list);
+    let words = counted(size);
     assert!(rt; words.list().len() == 288);
     assert!(rt; words.data_part().len() == 204);
-
+    assert!(rt; words.size().blocks() == 2);
     let odd = block(&words, 1);
     assert!(rt; odd.len() == 144);
-    for (step, word) in odd.as_slice().iter().enumerate() {
-        assert!(rt; *word as usize == (2 * step + 1) % 251);
-    }
+    assert!(rt; takes_turns(&odd, 1, 2));
 }
 
 #[test]
@@ -35,20 +51,14 @@ fn a_block_is_put_beside_the_other(rt: HostRuntime) {
 
 #[test]
 fn six_blocks_take_turns(rt: HostRuntime) {
-    let mut list = [0; MOST_CODEWORDS];
-    for (place, word) in list.iter_mut().enumerate() {
-        *word = (place % 251) as u8;
-    }
     let size = Size::of_side(104).expect(&rt, "side 104");
-    assert!(rt; size.data_count() + size.check_count() == 1152);
-    assert!(rt; size.blocks() == 6);
-    let words = Words::new(size, &list);
+    let words = counted(size);
+    assert!(rt; words.list().len() == 1152);
     assert!(rt; words.data_part().len() == 816);
-    for b in 0..6usize {
+    assert!(rt; words.size().blocks() == 6);
+    for b in 0..6 {
         let dealt = block(&words, b);
         assert!(rt; dealt.len() == 192);
-        for (step, word) in dealt.as_slice().iter().enumerate() {
-            assert!(rt; *word as usize == (6 * step + b) % 251);
-        }
+        assert!(rt; takes_turns(&dealt, b, 6));
     }
 }

@@ -3,7 +3,7 @@
 use dm_layout::{Size, table};
 
 /// Side, regions, region side, mapping side, data, check, blocks, limit, as the standard's table has them.
-const ROWS: [[u16; 8]; 21] = [
+static ROWS: [[u16; 8]; 21] = [
     [10, 1, 8, 8, 3, 5, 1, 2],
     [12, 1, 10, 10, 5, 7, 1, 3],
     [14, 1, 12, 12, 8, 10, 1, 5],
@@ -27,39 +27,44 @@ const ROWS: [[u16; 8]; 21] = [
     [104, 16, 24, 96, 816, 336, 6, 28],
 ];
 
+/// Whether the methods of the size give this row.
+fn is_row(size: Size, row: &[u16; 8]) -> bool {
+    size.side() == row[0]
+        && size.regions() == row[1]
+        && size.region_side() == row[2]
+        && size.mapping() == row[3]
+        && size.data_count() == row[4]
+        && size.check_count() == row[5]
+        && size.blocks() == row[6]
+        && size.limit() == row[7]
+}
+
 #[test]
 fn every_row_is_that_of_the_standard(rt: HostRuntime) {
     for (size, row) in table().iter().zip(ROWS.iter()) {
-        let methods = [
-            size.side(),
-            size.regions(),
-            size.region_side(),
-            size.mapping(),
-            size.data_count(),
-            size.check_count(),
-            size.blocks(),
-            size.limit(),
-        ];
-        assert!(rt; methods == *row);
+        assert!(rt; is_row(*size, row));
         assert!(rt; Size::of_side(row[0]) == Some(*size));
     }
 }
 
+/// How many data codewords, and the side of the smallest size that holds them.
+static SIDES: [(u16, u16); 10] = [
+    (0, 10),
+    (3, 10),
+    (4, 12),
+    (62, 32),
+    (63, 36),
+    (174, 48),
+    (175, 52),
+    (204, 52),
+    (205, 64),
+    (816, 104),
+];
+
 #[test]
 fn the_smallest_size_that_holds_the_words(rt: HostRuntime) {
-    for (count, side) in [
-        (0, 10),
-        (3, 10),
-        (4, 12),
-        (62, 32),
-        (63, 36),
-        (174, 48),
-        (175, 52),
-        (204, 52),
-        (205, 64),
-        (816, 104),
-    ] {
-        assert!(rt; Size::for_words(count).map(|size| size.side()) == Some(side));
+    for (count, side) in SIDES {
+        assert!(rt; Size::for_words(count) == Size::of_side(side));
     }
     assert!(rt; Size::for_words(817).is_none());
     assert!(rt; Size::of_side(11).is_none());

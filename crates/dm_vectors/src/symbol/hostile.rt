@@ -18,17 +18,19 @@ fn plain(rt: &impl Abort, side: u16, dark: bool) -> Grid {
     grid
 }
 
+/// Whether a right border is dark at this row and column of its region, of this side.
+fn is_dark(row: u16, column: u16, square: u16) -> bool {
+    let last = square.saturating_sub(1);
+    column == 0 || row == last || (row == 0 && column % 2 == 0) || (column == last && row % 2 == 1)
+}
+
 /// The grid with a right border and all other cells light.
 fn empty(rt: &impl Abort, size: Size) -> Grid {
     let square = size.region_side() + 2;
     let mut cells: ArrayVec<bool, MOST_CELLS> = ArrayVec::new();
     for row in 0..size.side() {
         for column in 0..size.side() {
-            let (r, c) = (row % square, column % square);
-            let dark = c == 0
-                || r == square - 1
-                || (r == 0 && c % 2 == 0)
-                || (c == square - 1 && r % 2 == 1);
+            let dark = is_dark(row % square, column % square, square);
             assert!(rt; cells.try_push(dark).is_ok());
         }
     }
@@ -38,73 +40,136 @@ fn empty(rt: &impl Abort, size: Size) -> Grid {
     grid
 }
 
-#[test]
-fn corrects_one_or_two_codewords(rt: HostRuntime) {
-    for i in 0..8 {
-        for change in 1..256u16 {
-            let mut words = DIGITS;
-            words[i] ^= change as u8;
-            assert!(rt; says(&read(&grid_of(&rt, 10, &words), 2), b"123456", &[1], 0));
+/// The codewords of `123456` with these changes.
+fn changed(changes: &[(usize, u8)]) -> [u8; 8] {
+    let mut words = DIGITS;
+    for (place, change) in changes {
+        if let Some(word) = words.get_mut(*place) {
+            *word ^= *change;
         }
-        for j in 0..i {
-            for (a, b) in [(1, 255), (255, 1)] {
-                let mut words = DIGITS;
-                words[i] ^= a;
-                words[j] ^= b;
-                assert!(rt; says(&read(&grid_of(&rt, 10, &words), 2), b"123456", &[2], 0));
-            }
+    }
+    words
+}
+
+/// The codewords of `123456` with these changes are read as it, with so many codewords corrected.
+fn assert_read(rt: &impl Abort, changes: &[(usize, u8)], corrected: u8) {
+    let grid = grid_of(rt, 10, &changed(changes));
+    assert!(rt; says(&read(&grid, 2), b"123456", &[corrected], 0));
+}
+
+#[test]
+fn corrects_each_one_codeword(rt: HostRuntime) {
+    for i in 0..8 {
+        for change in 1..=255u8 {
+            assert_read(&rt, &[(i, change)], 1);
         }
     }
 }
 
 #[test]
-fn refuses_three_or_four_codewords(rt: HostRuntime) {
+fn corrects_each_two_codewords(rt: HostRuntime) {
+    for i in 0..8 {
+        for j in 0..i {
+            assert_read(&rt, &[(i, 1), (j, 255)], 2);
+            assert_read(&rt, &[(i, 255), (j, 1)], 2);
+        }
+    }
+}
+
+/// These codewords are refused for their block.
+fn assert_refused(rt: &impl Abort, side: u16, words: &[u8], limit: u16) {
+    assert!(rt; read(&grid_of(rt, side, words), limit) == Err(ReadFault::Block(0)));
+}
+
+#[test]
+fn refuses_each_three_codewords(rt: HostRuntime) {
     for i in 0..8 {
         for j in 0..i {
             for k in 0..j {
-                let mut words = DIGITS;
-                words[i] ^= 255;
-                words[j] ^= 255;
-                words[k] ^= 255;
-                assert!(rt; read(&grid_of(&rt, 10, &words), 2) == Err(ReadFault::Block(0)));
+                let words = changed(&[(i, 255), (j, 255), (k, 255)]);
+                assert_refused(&rt, 10, &words, 2);
             }
-        }
-    }
-    let right = completed_grid(&rt, 12, &[66, 129, 70, 220, 115]);
-    for places in 0..4096u16 {
-        if places.count_ones() == 4 {
-            let mut list: ArrayVec<u8, 12> = ArrayVec::new();
-            for (i, word) in lift(&right).list().iter().enumerate() {
-                let wrong = i < 12 && (places >> i) % 2 == 1;
-                assert!(rt;
-                    list.try_push(if wrong { *word ^ 255 } else { *word })
-                        .is_ok()
-                );
-            }
-            assert!(rt; read(&grid_of(&rt, 12, &list), 3) == Err(ReadFault::Block(0)));
         }
     }
 }
 
+/// The codewords with those turned over whose bits these places have.
+fn turned_over(words: &[u8; 12], places: u16) -> [u8; 12] {
+    let mut turned = *words;
+    for (i, word) in turned.iter_mut().enumerate() {
+        if i < 12 && (places >> i) % 2 == 1 {
+            *word ^= 255;
+        }
+    }
+    turned
+}
+
+/// A word of the symbol of side 12, data and then checks.
+fn word_of_side_12(rt: &impl Abort) -> [u8; 12] {
+    let right = completed_grid(rt, 12, &[66, 129, 70, 220, 115]);
+    let mut words = [0; 12];
+    for (into, word) in words.iter_mut().zip(lift(&right).list()) {
+        *into = *word;
+    }
+    words
+}
+
+#[test]
+fn refuses_each_four_codewords_of_side_12(rt: HostRuntime) {
+    let right = word_of_side_12(&rt);
+    for places in 0..4096u16 {
+        if places.count_ones() == 4 {
+            assert_refused(&rt, 12, &turned_over(&right, places), 3);
+        }
+    }
+}
+
+/// Sides, whether all cells are dark, and how many cells of the border are then wrong.
+static PLAIN: [(u16, bool, u16); 6] = [
+    (10, false, 27),
+    (10, true, 9),
+    (52, false, 300),
+    (52, true, 100),
+    (104, false, 1200),
+    (104, true, 400),
+];
+
 #[test]
 fn refuses_plain_grids(rt: HostRuntime) {
-    for (side, dark, count) in [
-        (10, false, 27),
-        (10, true, 9),
-        (52, false, 300),
-        (52, true, 100),
-        (104, false, 1200),
-        (104, true, 400),
-    ] {
-        assert!(rt;
-            read(&plain(&rt, side, dark), usual_limit(side)) == Err(ReadFault::Border(count))
-        );
+    for (side, dark, count) in PLAIN {
+        let answer = read(&plain(&rt, side, dark), usual_limit(side));
+        assert!(rt; answer == Err(ReadFault::Border(count)));
     }
+}
+
+#[test]
+fn refuses_empty_grids(rt: HostRuntime) {
     for size in table() {
-        assert!(rt;
-            read(&empty(&rt, size), usual_limit(size.side()))
-                == Err(ReadFault::Words(WordFault::Reserved(1)))
-        );
+        let answer = read(&empty(&rt, size), usual_limit(size.side()));
+        assert!(rt; answer == Err(ReadFault::Words(WordFault::Reserved(1))));
+    }
+}
+
+/// The grid of side 10 with two cells turned over.
+fn with_two_turned(rt: &impl Abort, right: &Grid, i: u16, j: u16) -> Grid {
+    assert!(rt; right.size().side() == 10);
+    let mut cells: ArrayVec<bool, 100> = ArrayVec::new();
+    for place in 0..100u16 {
+        let turned = place == i || place == j;
+        let cell = right.cell(place / 10, place % 10);
+        assert!(rt; cells.try_push(cell != turned).is_ok());
+    }
+    let Ok(grid) = Grid::new(10, &cells) else {
+        panic!(rt; "no grid");
+    };
+    grid
+}
+
+/// Whether the answer is a reading of these bytes.
+fn reads_as(answer: &Result<Reading, ReadFault>, text: &[u8]) -> bool {
+    match answer {
+        Ok(reading) => has_bytes(&reading.message, text),
+        Err(_) => false,
     }
 }
 
@@ -112,25 +177,10 @@ fn refuses_plain_grids(rt: HostRuntime) {
 #[test]
 fn reads_with_two_cells_turned(rt: HostRuntime) {
     let right = grid_of(&rt, 10, &DIGITS);
-    assert!(rt; right.size().side() == 10);
-    for i in 0..100u16 {
+    for i in 0..100 {
         for j in 0..i {
-            let mut cells: ArrayVec<bool, 100> = ArrayVec::new();
-            for place in 0..100u16 {
-                let turned = place == i || place == j;
-                assert!(rt;
-                    cells
-                        .try_push(right.cell(place / 10, place % 10) != turned)
-                        .is_ok()
-                );
-            }
-            let Ok(grid) = Grid::new(10, &cells) else {
-                panic!(rt; "no grid");
-            };
-            let Ok(reading) = read(&grid, 2) else {
-                panic!(rt; "refused with {i} and {j} turned");
-            };
-            assert!(rt; has_bytes(&reading.message, b"123456"));
+            let grid = with_two_turned(&rt, &right, i, j);
+            assert!(rt; reads_as(&read(&grid, 2), b"123456"));
         }
     }
 }

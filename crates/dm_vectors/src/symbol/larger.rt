@@ -18,21 +18,27 @@ pub(super) fn push_pads(rt: &impl Abort, list: &mut ArrayVec<u8, MOST_CODEWORDS>
     }
 }
 
+/// These codewords so many times, and then these.
+fn repeated(
+    rt: &impl Abort,
+    words: &[u8],
+    count: usize,
+    last: &[u8],
+) -> ArrayVec<u8, MOST_CODEWORDS> {
+    let mut list = ArrayVec::new();
+    for _ in 0..count {
+        assert!(rt; list.try_extend_from_slice(words).is_ok());
+    }
+    assert!(rt; list.try_extend_from_slice(last).is_ok());
+    list
+}
+
 /// One digit more than side 52 holds.
 #[test]
 fn writes_the_next_larger_size(rt: HostRuntime) {
-    let Ok(grid) = write(&of_many(&rt, b'7', 409)) else {
-        panic!(rt; "too long");
-    };
-    assert!(rt; grid.size().side() == 64);
-    let mut expected = ArrayVec::<u8, MOST_CODEWORDS>::new();
-    for _ in 0..204 {
-        assert!(rt; expected.try_push(207).is_ok());
-    }
-    assert!(rt; expected.try_push(56).is_ok());
+    let mut expected = repeated(&rt, &[207], 204, &[56]);
     push_pads(&rt, &mut expected, 280);
-    assert!(rt; expected.len() == 280);
-    assert!(rt; lift(&grid).data_part() == expected.as_slice());
+    assert!(rt; is_of(&write(&of_many(&rt, b'7', 409)), 64, &expected));
 }
 
 /// The grid of this side whose data codewords are one segment of Base 256: these length numbers, and then bytes of value 255 to
@@ -53,17 +59,19 @@ pub(super) fn segment_grid(rt: &impl Abort, side: u16, lengths: &[u8]) -> Grid {
 fn normalises_to_a_larger_size(rt: HostRuntime) {
     let grid = segment_grid(&rt, 52, &[202]);
     assert!(rt; says(&read(&grid, 13), &[255; 202], &[0, 0], 0));
-    let Ok(larger) = normal(&grid, 13) else {
-        panic!(rt; "refused");
-    };
-    assert!(rt; larger.size().side() == 80);
-    let mut expected = ArrayVec::<u8, MOST_CODEWORDS>::new();
-    for _ in 0..202 {
-        assert!(rt; expected.try_extend_from_slice(&[235, 128]).is_ok());
-    }
+    let mut expected = repeated(&rt, &[235, 128], 202, &[]);
     push_pads(&rt, &mut expected, 456);
-    assert!(rt; lift(&larger).data_part() == expected.as_slice());
-    assert!(rt; is_grid(&normal(&larger, 20), &larger));
+    let larger = normal(&grid, 13);
+    assert!(rt; is_of(&larger, 80, &expected));
+    assert!(rt; stays(&larger, 20));
+}
+
+/// Whether the answer is a grid that is its own normal grid.
+fn stays(answer: &Result<Grid, NormalFault>, limit: u16) -> bool {
+    match answer {
+        Ok(grid) => is_grid(&normal(grid, limit), grid),
+        Err(_) => false,
+    }
 }
 
 /// The largest symbol with all its data codewords in one segment of Base 256: read, but too long for ASCII.
@@ -74,43 +82,39 @@ fn reads_what_has_no_normal_grid(rt: HostRuntime) {
     assert!(rt; normal(&grid, 26).err() == Some(NormalFault::TooLong));
 }
 
-/// As many wrong codewords in each block as can be corrected, and then one more in the first or the last.
+/// The grid with its first `most` codewords wrong, and the one at the place `more`.
+fn damaged_grid(rt: &impl Abort, grid: &Grid, most: usize, more: usize) -> Grid {
+    let mut list = ArrayVec::<u8, MOST_CODEWORDS>::new();
+    for word in lift(grid).list() {
+        let wrong = list.len() < most || list.len() == more;
+        let word = if wrong { *word ^ 255 } else { *word };
+        assert!(rt; list.try_push(word).is_ok());
+    }
+    grid_of(rt, grid.size().side(), &list)
+}
+
+/// Whether the answer is so many digits 7, with these numbers of corrected codewords.
+fn says_sevens(answer: &Result<Reading, ReadFault>, count: u16, corrected: &[u8]) -> bool {
+    let digits = &[b'7'; 1632][..usize::from(count.min(1632))];
+    says(answer, digits, corrected, 0)
+}
+
+/// So many digits are read with their first `most` codewords wrong, which is as many in each block as can be corrected, and not with one
+/// more in the first or the last block.
+fn assert_limit(rt: &impl Abort, digits: u16, most: usize, corrected: &[u8], last: u8) {
+    let Ok(grid) = write(&of_many(rt, b'7', digits)) else {
+        panic!(rt; "too long");
+    };
+    let right = damaged_grid(rt, &grid, most, 0);
+    assert!(rt; says_sevens(&read(&right, 13), digits, corrected));
+    for b in [0, last] {
+        let wrong = damaged_grid(rt, &grid, most, most.saturating_add(usize::from(b)));
+        assert!(rt; read(&wrong, 13) == Err(ReadFault::Block(b)));
+    }
+}
+
 #[test]
 fn corrects_all_blocks(rt: HostRuntime) {
-    for (side, digits, limit, blocks) in [(52, 408, 21, 2), (104, 1632, 28, 6)] {
-        let Ok(grid) = write(&of_many(&rt, b'7', digits)) else {
-            panic!(rt; "too long");
-        };
-        let most: usize = limit * blocks;
-        for more in [0, most, most + blocks - 1] {
-            let mut list = ArrayVec::<u8, MOST_CODEWORDS>::new();
-            for (place, word) in lift(&grid).list().iter().enumerate() {
-                let wrong = place < most || place == more;
-                assert!(rt;
-                    list.try_push(if wrong { *word ^ 255 } else { *word })
-                        .is_ok()
-                );
-            }
-            let answer = read(&grid_of(&rt, side, &list), 13);
-            if more == 0 {
-                let Ok(reading) = answer else {
-                    panic!(rt; "refused");
-                };
-                let items = reading.message.items();
-                assert!(rt; items.len() == usize::from(digits));
-                assert!(rt; items.iter().all(|item| *item == Item::Byte(b'7')));
-                assert!(rt; reading.corrected.len() == blocks);
-                assert!(rt;
-                    reading
-                        .corrected
-                        .iter()
-                        .all(|count| usize::from(*count) == limit)
-                );
-                assert!(rt; reading.border_faults == 0);
-            } else {
-                let b = (more - most) as u8;
-                assert!(rt; answer == Err(ReadFault::Block(b)));
-            }
-        }
-    }
+    assert_limit(&rt, 408, 2 * 21, &[21; 2], 1);
+    assert_limit(&rt, 1632, 6 * 28, &[28; 6], 5);
 }
