@@ -14,7 +14,8 @@ pub(crate) const WRITE_FAILED: &str = "dm_tool: write failed";
 pub(crate) const TOO_MUCH_INPUT: &str = "dm_tool: too much input";
 
 /// The line that shows how the program is called.
-pub(crate) const USAGE: &str = "dm_tool: usage: dm_tool read|check [--border N] | normal [--border N] [--shorter] | write [--shorter] | table";
+pub(crate) const USAGE: &str =
+    "dm_tool: usage: dm_tool read|check [--border N] | normal [--border N] [--shorter] | write [--shorter] | table";
 
 /// The line where memory was refused.
 pub(crate) const NO_MEMORY: &str = "dm_tool: no memory";
