@@ -23,13 +23,10 @@ build:
 	@echo "The program is $(TOOL). It writes 123456 as"
 	@printf '123456\n' | $(TOOL) write
 
-# Proves the library ecc200 and everything below it, and leaves it as library/out/libecc200.a and libecc200.so.
+# Proves the library ecc200 and what has changed below it, and leaves it as library/out/libecc200.a and libecc200.so.
 library:
-	@mkdir -p library/out
 	@echo "Proving the library; what the toolchain says goes to library/out/build.log."
-	@cd crates/ecc200 && rt lib > ../../library/out/build.log 2>&1 < /dev/null || { tail -n 5 ../../library/out/build.log; exit 1; }
-	@cp crates/ecc200/out/libecc200.a library/out/
-	@$(CC) -shared -o library/out/libecc200.so -Wl,-soname,libecc200.so.1 -Wl,--whole-archive library/out/libecc200.a -Wl,--no-whole-archive
+	@library/build
 	@echo "The library is library/out/libecc200.a and library/out/libecc200.so; its manual is library/ecc200.h."
 
 # Shows the program at work at once. This proves nothing.
@@ -65,6 +62,6 @@ bench:
 
 .PHONY: page
 
-# Builds the page, one file that opens from disk: web/out/mitsubadoor.html. Its library is proved again, for WebAssembly, in a copy.
+# Builds the page, one file that opens from disk: web/out/mitsubadoor.html. Its library is proved for WebAssembly too.
 page:
 	web/build
