@@ -11,9 +11,9 @@ use Rattle.dm_code.proofs.Connections.{Connects, first_is_least, none_connects, 
 use Rattle.dm_code.proofs.Multiples.{both_zero}
 
 -- ---- how long what connects must be
--- What connects more values connects the first ones.
-fewer : (g s : ℕ → ℕ) (e n m : ℕ) → n ≤ m → Connects g s e m → Connects g s e n
-fewer g s e n m h c = record { one = c.one; degree = c.degree; gives = λ i l b. c.gives i l (omega arith) }
+-- What connects more values connects the first of them.
+connects_fewer : (g s : ℕ → ℕ) (e n m : ℕ) → n ≤ m → Connects g s e m → Connects g s e n
+connects_fewer g s e n m h c = record { one = c.one; degree = c.degree; gives = λ i l b. c.gives i l (omega arith) }
 
 -- Where f connects n values and g one more, and their degrees together are at most n, f connects this one as well.
 both_connect : (f g s : ℕ → ℕ) (d e n : ℕ) → Connects f s d n → Connects g s e (suc n) → d + e ≤ n → convolution f s n ≡ 0
@@ -33,36 +33,36 @@ both_connect f g s d e n cf cg h =
     ]) in
     sym a ∙ conv_swap g f s n ∙ b
 
--- So a discrepancy at n bounds the degree of what connects the values up to n and more.
-longer : (f g s : ℕ → ℕ) (d e n m : ℕ) → Connects f s d n → 0 < convolution f s n → n < m → Connects g s e m → suc n ≤ d + e
-longer f g s d e n m cf p h cg =
+-- A locator with a discrepancy at n bounds the degree of each one that connects the values up to n and more.
+discrepancy_bounds : (f g s : ℕ → ℕ) (d e n m : ℕ) → Connects f s d n → 0 < convolution f s n → n < m → Connects g s e m → suc n ≤ d + e
+discrepancy_bounds f g s d e n m cf p h cg =
     elim (cases_lt n (d + e)) [
       | inl a ↦ omega arith
-      | inr b ↦ absurd (let z : convolution f s n ≡ 0 = both_connect f g s d e n cf (fewer g s e (suc n) m (omega arith) cg) b in omega arith)
+      | inr b ↦ absurd (let z : convolution f s n ≡ 0 = both_connect f g s d e n cf (connects_fewer g s e (suc n) m (omega arith) cg) b in omega arith)
     ]
 
 -- ---- series that are moved up
--- f times x^m.
+-- A series is moved up by m when it is multiplied by x^m.
 unfoldable pub moved : ℕ → (ℕ → ℕ) → ℕ → ℕ
 moved zero f i = f i
 moved (suc m) f zero = 0
 moved (suc m) f (suc i) = moved m f i
 
--- It begins with m zeros ..
+-- A series that is moved up by m begins with m zeros.
 moved_before : (m : ℕ) (f : ℕ → ℕ) (i : ℕ) → i < m → moved m f i ≡ 0
 unfolding moved
 moved_before zero f i h = absurd (omega arith)
 moved_before (suc m) f zero h = refl
 moved_before (suc m) f (suc i) h = moved_before m f i (omega arith)
 
--- .. and then has the coefficients of f.
+-- After these zeros it has the coefficients of f.
 moved_at : (m : ℕ) (f : ℕ → ℕ) (i j : ℕ) → m + i ≡ j → moved m f j ≡ f i
 unfolding moved
 moved_at zero f i j h = ap f (let e : j ≡ i = omega arith in e)
 moved_at (suc m) f i zero h = absurd (omega arith)
 moved_at (suc m) f i (suc j) h = moved_at m f i j (omega arith)
 
--- Moved up by one more, so is its product.
+-- If a series is moved up by one more, so is its product with another.
 conv_moved : (m : ℕ) (f s : ℕ → ℕ) (n : ℕ) → convolution (moved (suc m) f) s (suc n) ≡ convolution (moved m f) s n
 unfolding convolution moved
 conv_moved m f s n = ap (λ y. y ⊕ convolution (moved m f) s n) (product_zero_left (s (suc n)))
@@ -73,7 +73,7 @@ unfolding moved
 moved_degree m f d n h zero l = refl
 moved_degree m f d n h (suc i) l = h i (omega arith)
 
--- And so it is with the coefficients of the product.
+-- Where coefficients of the product with f moved up are 0, those of the product with f moved up by one more are 0 one place later.
 moved_gives : (m : ℕ) (f s : ℕ → ℕ) (d n : ℕ) → ((i : ℕ) → suc n ≤ d + i → i < n → convolution (moved m f) s i ≡ 0) → (i : ℕ) → suc (suc n) ≤ d + i → i < suc n
     → convolution (moved (suc m) f) s i ≡ 0
 unfolding convolution moved
@@ -88,7 +88,7 @@ record Corrects (f s : ℕ → ℕ) (d n : ℕ) : Type 0 where
   one : 0 < d → convolution f s n ≡ 1
   gives : 0 < d → (i : ℕ) → suc n ≤ d + i → i < n → convolution f s i ≡ 0
 
--- Moved up by one more, it corrects at the next place.
+-- If what corrects is moved up by one more, it corrects at the next place.
 corrects_next : (m : ℕ) (f s : ℕ → ℕ) (d n : ℕ) → Corrects (moved m f) s d n → Corrects (moved (suc m) f) s d (suc n)
 corrects_next m f s d n c = record {
   degree = moved_degree m f d (suc n) c.degree;
@@ -114,11 +114,11 @@ connects_next l s d n c z = record {
   gives = λ i a b. elim (cases_eq i n) [ inl e ↦ ap (convolution l s) e ∙ z | inr o ↦ c.gives i a (omega arith) ];
 }
 
--- A sum of x and x times 1.
+-- The sum of x and x times 1 is 0.
 both_same : (x a b : ℕ) → x < 256 → a ≡ x → b ≡ 1 → a ⊕ x ⊗ b ≡ 0
 both_same x a b h p q = ap (λ y. y ⊕ x ⊗ b) p ∙ ap (bit_xor x) (ap (λ y. x ⊗ y) q ∙ product_one_right x h) ∙ xor_self x
 
--- With a discrepancy x it is corrected by x times what corrects. Its degree e is then at least n + 1 - d.
+-- A locator with a discrepancy x, plus x times what corrects it, connects the next value too, with each degree e of at least d and n + 1 - d.
 connects_corrected : (l f g s : ℕ → ℕ) (d e n : ℕ) → Connects l s d n → Corrects f s d n → f 0 ≡ 0 → d ≤ e → suc n ≤ d + e → ((i : ℕ) → g i ≡ l i ⊕ convolution l s n ⊗ f i)
     → Connects g s e (suc n)
 connects_corrected l f g s d e n c k z h q same =
@@ -147,14 +147,14 @@ pub record IsSearch (s l e : List ℕ) (y gap d n : ℕ) : Type 0 where
   pub least : (g : ℕ → ℕ) (c : ℕ) → Connects g (coefficient s) c n → d ≤ c
   corrects : Corrects (moved gap (λ i. y ⊗ coefficient e i)) (coefficient s) d n
 
--- What is kept, said of other names of the same values.
+-- What is kept still holds when its values are given other names.
 pub restated : {s l e m f : List ℕ} {y z gap hap d c n k : ℕ} → IsSearch s l e y gap d n → l ≡ m → e ≡ f → y ≡ z → gap ≡ hap → d ≡ c → n ≡ k → IsSearch s m f z hap c k
 restated {s = s} {l = l} {e = e} {f = f} {y = y} {z = z} {gap = gap} {hap = hap} {d = d} {c = c} {k = k} h p q r t u v =
     subst (λ x. IsSearch s x f z hap c k) p
     (subst (λ x. IsSearch s l x z hap c k) q
     (subst (λ x. IsSearch s l e x hap c k) r (subst (λ x. IsSearch s l e y x c k) t (subst (λ x. IsSearch s l e y gap x k) u (subst (λ x. IsSearch s l e y gap d x) v h)))))
 
--- The locator 1 before any value is taken.
+-- Before any value is taken, the locator 1 is kept.
 pub search_start : (s : List ℕ) → IsSearch s (1 ∷ []) (1 ∷ []) 1 1 0 0
 unfolding moved
 search_start s = record {
@@ -171,7 +171,7 @@ search_start s = record {
   };
 }
 
--- The next value, where the locator has no discrepancy.
+-- The next value is taken without a change of the locator where there is no discrepancy.
 pub search_kept : {s l e : List ℕ} {y gap d n : ℕ} → IsSearch s l e y gap d n → convolution (coefficient l) (coefficient s) n ≡ 0 → IsSearch s l e y (suc gap) d (suc n)
 search_kept {s = s} {l = l} {e = e} {y = y} {gap = gap} {d = d} {n = n} h z = record {
   long = h.long;
@@ -179,16 +179,16 @@ search_kept {s = s} {l = l} {e = e} {y = y} {gap = gap} {d = d} {n = n} h z = re
   below = omega (arith, h.below);
   some = omega arith;
   connects = connects_next (coefficient l) (coefficient s) d n h.connects z;
-  least = λ g c k. h.least g c (fewer g (coefficient s) c n (suc n) (omega arith) k);
+  least = λ g c k. h.least g c (connects_fewer g (coefficient s) c n (suc n) (omega arith) k);
   corrects = corrects_next gap (λ i. y ⊗ coefficient e i) (coefficient s) d n h.corrects;
 }
 
--- m is l and x times y times e, moved up by the gap.
+-- The list m is the sum of l and x times y times e, moved up by the gap.
 pub record IsCorrected (l e m : List ℕ) (x y gap : ℕ) : Type 0 where
   pub low : (i : ℕ) → i < gap → coefficient m i ≡ coefficient l i
   pub high : (i : ℕ) → coefficient m (gap + i) ≡ coefficient l (gap + i) ⊕ (x ⊗ y) ⊗ coefficient e i
 
--- So it is at each place.
+-- At each place m is the coefficient of l plus x times that of y times e, moved up by the gap.
 corrected_at : (l e m : List ℕ) (x y gap : ℕ) → IsCorrected l e m x y gap → (i : ℕ) → coefficient m i ≡ coefficient l i ⊕ x ⊗ moved gap (λ j. y ⊗ coefficient e j) i
 corrected_at l e m x y gap h i =
     let f = λ (j : ℕ). y ⊗ coefficient e j in
@@ -209,7 +209,7 @@ search_connects s l e m x y gap d c n h q k a b =
     connects_corrected (coefficient l) f (coefficient m) (coefficient s) d c n h.connects h.corrects (moved_before gap (λ j. y ⊗ coefficient e j) 0 h.some) a b
     (λ i. corrected_at l e m x y gap k i ∙ ap (λ z. coefficient l i ⊕ z ⊗ f i) q)
 
--- The next value with a discrepancy, where the degree stays.
+-- The next value is taken with a correction that leaves the degree as it is.
 pub search_same : {s l e m : List ℕ} {x y gap d n : ℕ} → IsSearch s l e y gap d n → x ≡ convolution (coefficient l) (coefficient s) n → IsCorrected l e m x y gap → length m ≡ d + 1
     → suc n ≤ d + d → IsSearch s m e y (suc gap) d (suc n)
 search_same {s = s} {l = l} {e = e} {m = m} {x = x} {y = y} {gap = gap} {d = d} {n = n} h q k r b = record {
@@ -218,11 +218,11 @@ search_same {s = s} {l = l} {e = e} {m = m} {x = x} {y = y} {gap = gap} {d = d} 
   below = omega (arith, h.below);
   some = omega arith;
   connects = search_connects s l e m x y gap d d n h q k (omega arith) b;
-  least = λ g c k. h.least g c (fewer g (coefficient s) c n (suc n) (omega arith) k);
+  least = λ g c k. h.least g c (connects_fewer g (coefficient s) c n (suc n) (omega arith) k);
   corrects = corrects_next gap (λ i. y ⊗ coefficient e i) (coefficient s) d n h.corrects;
 }
 
--- And where it grows, to c.
+-- The next value is taken with a correction by which the degree grows to c.
 pub search_grown : {s l e m : List ℕ} {x y z gap d c n : ℕ} → IsSearch s l e y gap d n → x ≡ convolution (coefficient l) (coefficient s) n → IsCorrected l e m x y gap → length m ≡ c + 1
     → 0 < x → x ⊗ z ≡ 1 → d ≤ c → d + c ≡ suc n → IsSearch s m l z 1 c (suc n)
 search_grown {s = s} {l = l} {e = e} {m = m} {x = x} {y = y} {z = z} {gap = gap} {d = d} {c = c} {n = n} h q k r p o a b = record {
@@ -232,17 +232,17 @@ search_grown {s = s} {l = l} {e = e} {m = m} {x = x} {y = y} {z = z} {gap = gap}
   some = omega arith;
   connects = search_connects s l e m x y gap d c n h q k a (omega arith);
   least = λ g w k.
-      let t : suc n ≤ d + w = longer (coefficient l) g (coefficient s) d w n (suc n) h.connects (subst (λ v. 0 < v) q p) (omega arith) k in
+      let t : suc n ≤ d + w = discrepancy_bounds (coefficient l) g (coefficient s) d w n (suc n) h.connects (subst (λ v. 0 < v) q p) (omega arith) k in
       omega arith;
   corrects = corrects_next 0 (λ i. z ⊗ coefficient l i) (coefficient s) c n (corrects_grown (coefficient l) (coefficient s) d c n z h.connects b (ap (λ v. v ⊗ z) (sym q) ∙ o));
 }
 
 -- ---- the answers
--- Where the degree would be too large, there is no pair.
+-- Where the degree would grow above t, there is no pair within t.
 pub search_refuses : {s l e : List ℕ} {x y gap d n t : ℕ} → IsSearch s l e y gap d n → x ≡ convolution (coefficient l) (coefficient s) n → 0 < x → n < length s → d + t < suc n → NoPair s t
 search_refuses {s = s} {l = l} {d = d} {n = n} {t = t} h q p b a =
     none_connects s t (λ c k g w.
-    let r : suc n ≤ d + c = longer (coefficient l) g (coefficient s) d c n (length s) h.connects (subst (λ v. 0 < v) q p) b w in
+    let r : suc n ≤ d + c = discrepancy_bounds (coefficient l) g (coefficient s) d c n (length s) h.connects (subst (λ v. 0 < v) q p) b w in
     omega arith)
 
 -- After all values the locator and the coefficients of its product below its degree are the least pair.

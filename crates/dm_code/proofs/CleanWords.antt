@@ -2,6 +2,7 @@
 use Rattle.std.proofs.Common.{◌≡◌, ℕ, zero, suc, ◌/◌, ◌<◌, ◌≤◌, List, [], ◌∷◌, ◌++◌, length, get_or, take, drop, refl, sym, ap, subst, ◌∙◌, arith, All}
 use Rattle.std.proofs.lemmas.Grind.{common_steps}
 use Rattle.gf301.specs.Polynomial.{Bytes}
+use Rattle.gf301.specs.declared.generators.TheConstants.{MOST_CHECKS}
 use Rattle.dm_code.specs.Codeword.{IsCodeword, IsNear, differing, distance}
 use Rattle.dm_code.specs.Syndromes.{syndromes_of}
 use Rattle.dm_code.proofs.Codewords.{codeword_values, codeword_from_values}
@@ -12,25 +13,25 @@ use Rattle.dm_code.proofs.SyndromeLaws.{syndromes_length, syndrome_at}
 abbrev pub AreZero : List ℕ → Type 0
 AreZero s = All (λ a. a ≡ 0) s
 
--- A list that is 0 at each place.
+-- A list that is 0 at each place has zeros alone.
 zero_places : (p : List ℕ) → ((i : ℕ) → i < length p → get_or p i 0 ≡ 0) → AreZero p
 zero_places [] h i d l = absurd (omega arith)
 zero_places (a ∷ p) h zero d l = h 0 (omega arith)
 zero_places (a ∷ p) h (suc i) d l = zero_places p (λ j m. h (suc j) (omega arith)) i d (omega arith)
 
--- With all syndromes 0 the word is a codeword ..
-pub codeword_from_syndromes : (k : ℕ) (w s : List ℕ) → k ≤ 68 → k < length w → length w ≤ 255 → Bytes w → s ≡ syndromes_of w k → AreZero s → IsCodeword k w
+-- A word whose syndromes are all 0 is a codeword.
+pub codeword_from_syndromes : (k : ℕ) (w s : List ℕ) → k ≤ MOST_CHECKS → k < length w → length w ≤ 255 → Bytes w → s ≡ syndromes_of w k → AreZero s → IsCodeword k w
 codeword_from_syndromes k w s a b l h e z =
     let n : length s ≡ k = ap length e ∙ syndromes_length w k in
     codeword_from_values k w (omega arith) l (omega arith) h (λ i q. sym (syndrome_at w k i q) ∙ ap (λ t. get_or t i 0) (sym e) ∙ z i 0 (omega arith))
 
--- .. and the syndromes of a codeword are 0.
+-- The syndromes of a codeword are all 0.
 pub zero_syndromes : (k : ℕ) (w s : List ℕ) → s ≡ syndromes_of w k → IsCodeword k w → AreZero s
 zero_syndromes k w s e c =
     let n : length s ≡ k = ap length e ∙ syndromes_length w k in
     zero_places s (λ i h. ap (λ t. get_or t i 0) e ∙ syndrome_at w k i (omega arith) ∙ codeword_values k w c i (omega arith))
 
--- A word differs from itself nowhere.
+-- A word differs from itself at no place.
 differing_self : (w : List ℕ) (n : ℕ) → differing w w n ≡ 0
 unfolding differing
 differing_self w zero = refl
@@ -50,17 +51,17 @@ near_self k w f e c = record {
   close = subst (λ n. n ≤ k / 2) (sym (distance_self w f e)) (omega arith);
 }
 
--- A list whose places were all written is what was written.
+-- A list whose places were all written is the list that was written.
 refilled : (a b : List ℕ) → length b ≡ length a → take (length a) (b ++ drop (length b) a) ≡ b
 refilled a b h = grind (arith, common_steps)
 
--- What is known once f was written over a, a copy of the word w: f is as long, it is what stands there, and s are its syndromes.
+-- When f was written over a, a copy of the word w, it is as long, it is what stands there, and s are its syndromes.
 pub record IsRewritten (k : ℕ) (w a f s : List ℕ) : Type 0 where
   pub long : length f ≡ length w
   pub word : take (length a) (f ++ drop (length f) a) ≡ f
   pub syndromes : s ≡ syndromes_of f k
 
--- So it is where f is as long as the copy, and where its syndromes t were written over those of w, b: s is what then stands there.
+-- This holds where f is as long as the copy, and where its syndromes t were written over those of w, b, so that s stands there.
 pub rewritten : (k : ℕ) (w a word f b syndromes t s : List ℕ) → a ≡ w → word ≡ a → length f ≡ length word
     → b ≡ syndromes_of w k → syndromes ≡ b → t ≡ syndromes_of f (length syndromes) → s ≡ take (length b) (t ++ drop (length t) b) → IsRewritten k w a f s
 rewritten k w a word f b syndromes t s ae we fl be se te e =

@@ -19,7 +19,7 @@ codeword_values k w c i h =
     ∙ ap (λ y. value c.0 (power (1 + i)) ⊗ y) (generator_root k i h)
     ∙ product_zero_right (value c.0 (power (1 + i)))
 
--- One root more: the quotient has it, and what is left of the quotient is the quotient by the next generator.
+-- If a multiple of the generator has the next root too, the quotient has it, and the word is a multiple of the next generator.
 one_root_more : (k : ℕ) (w q : List ℕ) → suc k < 255 → length w ≤ 255 → suc k ≤ length w → Bytes q → w ≡ times q (generator k)
     → value w (power (suc k)) ≡ 0 → IsCodeword (suc k) w
 one_root_more k w [] hk l hl b e z = absurd (omega (arith, length_times [] (generator k) (omega (arith, generator_length k)), ap length e, generator_length k))
@@ -39,7 +39,7 @@ one_root_more k w (a ∷ p) hk l hl b e z =
           ∙ ap (λ t. times (quotient r a p) t) (sym (generator_is k)),
     )
 
--- What is 0 at each root of the generator is a multiple of it.
+-- A word that is 0 at each root of the generator is a multiple of it.
 pub codeword_from_values : (k : ℕ) (w : List ℕ) → k < 255 → length w ≤ 255 → k ≤ length w → Bytes w → ((i : ℕ) → i < k → value w (power (1 + i)) ≡ 0) → IsCodeword k w
 codeword_from_values zero w hk l hl b v =
     let m : length (times w (generator 0)) + 1 ≡ length w + length (generator 0) = length_times w (generator 0) (omega (arith, generator_length 0)) in

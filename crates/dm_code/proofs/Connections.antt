@@ -5,7 +5,7 @@ use Rattle.std.proofs.lemmas.List.{get_or_past}
 use Rattle.gf301.specs.Polynomial.{Bytes, coefficient, convolution}
 use Rattle.dm_code.specs.KeyEquation.{IsPair, IsLeastPair, IsWithin, NoPair}
 
--- f has the constant term 1 and at most the degree d, and its product with s has no coefficients from d up to n.
+-- The series f has the constant term 1 and at most the degree d, and its product with s has no coefficients from d up to n.
 pub record Connects (f s : ℕ → ℕ) (d n : ℕ) : Type 0 where
   pub one : f 0 ≡ 1
   pub degree : (i : ℕ) → d < i → f i ≡ 0

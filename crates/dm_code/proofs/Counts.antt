@@ -2,20 +2,20 @@
 use Rattle.std.proofs.Common.{◌≡◌, ℕ, zero, suc, ◌+◌, ◌-◌, ◌*◌, ◌≤◌, subst, arith}
 use Rattle.std.proofs.lemmas.Nat.{mul-le}
 
--- One value more adds at most 2 t + 3 products: t + 1 for the discrepancy, and t + 2 for the correction.
+-- One more value adds at most 2 t + 3 products: t + 1 for the discrepancy, and t + 2 for the correction.
 pub step_products : (n t p q : ℕ) → p ≤ n * (2 * t + 3) → q ≤ p + (2 * t + 3) → q ≤ (n + 1) * (2 * t + 3)
 step_products n t p q h l = omega arith
 
 -- A number is at most its square.
-square : (n : ℕ) → n ≤ n * n
-square zero = omega arith
-square (suc n) = omega arith
+below_square : (n : ℕ) → n ≤ n * n
+below_square zero = omega arith
+below_square (suc n) = omega arith
 
--- With u more values than 2 t, and the products of the evaluator, they are at most 4 times the square of the number of values.
+-- With u more values than 2 t, the products, those of the evaluator among them, are at most 4 times the square of the number of values.
 products_over : (t u d p q : ℕ) → d ≤ t → p ≤ (2 * t + u) * (2 * t + 3) → q ≤ p + d * (d + 1) → q ≤ 4 * (2 * t + u) * (2 * t + u)
-products_over t u d p q b l m = omega (arith, mul-le d (d + 1) t (t + 1) b (omega arith), square t, square u)
+products_over t u d p q b l m = omega (arith, mul-le d (d + 1) t (t + 1) b (omega arith), below_square t, below_square u)
 
--- So they are at most 4 k k for k values.
+-- For k values there are at most 4 k k products.
 pub all_products : (k t d p q : ℕ) → 2 * t ≤ k → d ≤ t → p ≤ k * (2 * t + 3) → q ≤ p + d * (d + 1) → q ≤ 4 * k * k
 all_products k t d p q h b l m =
     let e : 2 * t + (k - 2 * t) ≡ k = omega arith in

@@ -9,22 +9,22 @@ use Rattle.dm_code.specs.Codeword.{IsCodeword, IsNear, differs, differing, dista
 use Rattle.dm_code.proofs.Codewords.{codeword_bytes, codeword_values}
 
 -- ---- one place
--- The same numbers count 0.
+-- Two equal numbers count 0.
 pub differs_same : (a b : ℕ) → a ≡ b → differs a b ≡ 0
 differs_same a b e = ap (λ t. cond t 0 1) (eq-eqb a b e)
 
--- Different ones count 1.
+-- Two different numbers count 1.
 pub differs_apart : (a b : ℕ) → (a ≡ b → ⊥) → differs a b ≡ 1
 differs_apart a b n = ap (λ t. cond t 0 1) (ne_eqb a b n)
 
--- A place counts at most 1.
+-- Two numbers count at most 1.
 pub differs_le : (a b : ℕ) → differs a b ≤ 1
 differs_le a b = elim (cases_eq a b) [
   | inl e ↦ omega (arith, differs_same a b e)
   | inr n ↦ omega (arith, differs_apart a b n)
 ]
 
--- Numbers that differ do not both agree with a third.
+-- Two numbers that differ do not both agree with a third.
 differs_triangle : (a b c : ℕ) → differs b c ≤ differs a b + differs a c
 differs_triangle a b c = elim (cases_eq a b) [
   | inl e ↦ let h : differs b c ≡ differs a c = ap (λ x. differs x c) (sym e) in omega arith
@@ -40,7 +40,7 @@ differing_triangle u v w (suc n) =
     let i : differing v w n ≤ differing u v n + differing u w n = differing_triangle u v w n in
     omega (arith, differs_triangle (get_or u n 0) (get_or v n 0) (get_or w n 0))
 
--- m places more add at most m.
+-- Among n + m places two words differ in at most m more than among the first n.
 differing_more : (v w : List ℕ) (n m : ℕ) → differing v w (n + m) ≤ differing v w n + m
 unfolding differing
 differing_more v w n zero =
@@ -69,7 +69,7 @@ distance_after f c d =
     omega arith
 
 -- ---- the places at which two words differ are those at which their sum isn't 0
--- The places counted from the head: the first one and those of the rest.
+-- The places at which two words differ are the first one, if it counts, and those of the rest.
 differing_head : (a b : ℕ) (v w : List ℕ) (n : ℕ) → differing (a ∷ v) (b ∷ w) (suc n) ≡ differs a b + differing v w n
 unfolding differing
 differing_head a b v w zero = omega arith
@@ -83,7 +83,7 @@ unfolding nonzeros
 nonzeros_zero zero e h = refl
 nonzeros_zero (suc a) e h = absurd (omega arith)
 
--- Another one is.
+-- A first number that isn't 0 is counted.
 nonzeros_apart : (a : ℕ) (e : List ℕ) → (a ≡ 0 → ⊥) → nonzeros (a ∷ e) ≡ suc (nonzeros e)
 unfolding nonzeros
 nonzeros_apart zero e h = absurd (h refl)
@@ -106,13 +106,13 @@ distance_nonzeros (a ∷ v) (b ∷ w) h =
     ]
 
 -- ---- codewords
--- Two codewords of one length that differ in at most k places are one.
+-- Two codewords of one length that differ in at most k places are equal.
 pub codewords_one : (k : ℕ) (v w : List ℕ) → IsCodeword k v → IsCodeword k w → length v ≡ length w → length v ≤ 255 → distance v w ≤ k → v ≡ w
 codewords_one k v w cv cw l h d =
     same_from_values v w k l h (codeword_bytes k v cv) (codeword_bytes k w cw) (subst (λ n. n ≤ k) (distance_nonzeros v w l) d)
     (λ i b. codeword_values k v cv i b ∙ sym (codeword_values k w cw i b))
 
--- Two different ones differ in at least k + 1 places.
+-- Two different codewords of one length differ in at least k + 1 places.
 pub codewords_apart : (k : ℕ) (v w : List ℕ) → IsCodeword k v → IsCodeword k w → length v ≡ length w → length v ≤ 255 → v ≢ w → k + 1 ≤ distance v w
 codewords_apart k v w cv cw l h n = elim (cases_lt k (distance v w)) [
   | inl b ↦ omega arith

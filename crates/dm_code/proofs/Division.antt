@@ -10,7 +10,7 @@ use Rattle.gf301.specs.Generator.{generator}
 use Rattle.gf301.proofs.Exported.{product_zero_left, product_zero_right, plus, scale, length_plus, length_scale, value_plus, value_scale, value_shift, get_or-plus, length-values_from, get_or-values_from, generator_length, generator_first}
 use Rattle.dm_code.proofs.Register.{get_or-scaled, tap_value}
 
--- Zeros at the end change no number.
+-- Zeros at the end of a list change none of its numbers.
 get_or-padded : (g : List ℕ) (n i : ℕ) → get_or (g ++ replicate n 0) i 0 ≡ get_or g i 0
 get_or-padded [] zero i = refl
 get_or-padded [] (suc n) zero = refl
@@ -18,11 +18,11 @@ get_or-padded [] (suc n) (suc i) = get_or-padded [] n i
 get_or-padded (a ∷ g) n zero = refl
 get_or-padded (a ∷ g) n (suc i) = get_or-padded g n i
 
--- The m numbers after the first one of a generator, and zeros.
+-- The tail has the m numbers after the first one of a generator, which are 0 past its end.
 tail_of : ℕ → ℕ → List ℕ
 tail_of k m = values_from (λ i. coefficient (generator k) (suc i)) 0 m
 
--- With the 1 before them they are a multiple of the generator.
+-- With the 1 in front of it, the tail is the generator with zeros behind it.
 tail_whole : (k m : ℕ) → k ≤ m → 1 ∷ tail_of k m ≡ generator k ++ replicate (m - k) 0
 unfolding tail_of
 tail_whole k m h =
@@ -30,13 +30,13 @@ tail_whole k m h =
     let tl : length t ≡ m = length-values_from (λ i. coefficient (generator k) (suc i)) 0 m in
     ext_get_or 0 (1 ∷ t) (generator k ++ replicate (m - k) 0)
     (omega (arith, tl, length-append (generator k) (replicate (m - k) 0), generator_length k, length-replicate {A = ℕ} (m - k) 0))
-    (λ i b. at i (omega (arith, tl)) ∙ sym (get_or-padded (generator k) (m - k) i))
+    (λ i b. each_place i (omega (arith, tl)) ∙ sym (get_or-padded (generator k) (m - k) i))
   where
-    at : (i : ℕ) → i < suc m → get_or (1 ∷ values_from (λ i. coefficient (generator k) (suc i)) 0 m) i 0 ≡ get_or (generator k) i 0
-    at zero b = sym (generator_first k)
-    at (suc i) b = get_or-values_from (λ i. coefficient (generator k) (suc i)) 0 m i (omega arith) ∙ ap (λ j. coefficient (generator k) (suc j)) (let e : 0 + i ≡ i = omega arith in e)
+    each_place : (i : ℕ) → i < suc m → get_or (1 ∷ values_from (λ i. coefficient (generator k) (suc i)) 0 m) i 0 ≡ get_or (generator k) i 0
+    each_place zero b = sym (generator_first k)
+    each_place (suc i) b = get_or-values_from (λ i. coefficient (generator k) (suc i)) 0 m i (omega arith) ∙ ap (λ j. coefficient (generator k) (suc j)) (let e : 0 + i ≡ i = omega arith in e)
 
--- So at a root of the generator they are worth the power that stands before them.
+-- At a root of the generator the value of the tail is the power that stands in front of it.
 tail_value : (k m x : ℕ) → k ≤ m → value (generator k) x ≡ 0 → value (tail_of k m) x ≡ raise x m
 unfolding tail_of
 tail_value k m x h z =
@@ -44,7 +44,7 @@ tail_value k m x h z =
     (ap (λ p. value p x) (tail_whole k m h) ∙ value_shift x (m - k) (generator k) ∙ ap (λ y. y ⊗ raise x (m - k)) z ∙ product_zero_left (raise x (m - k)))
     ∙ ap (raise x) (length-values_from (λ i. coefficient (generator k) (suc i)) 0 m)
 
--- A step keeps the value at each root of the generator.
+-- A step of the division keeps the value at each root of the generator.
 division_step : (k m a x : ℕ) (r s : List ℕ) → length r ≡ m → length s ≡ m → k ≤ m
     → ((i : ℕ) → i < m → get_or s i 0 ≡ get_or r i 0 ⊕ a ⊗ coefficient (generator k) (suc i)) → value (generator k) x ≡ 0 → value s x ≡ value (a ∷ r) x
 unfolding tail_of value
@@ -64,17 +64,19 @@ division_step k m a x r s lr ls h each z =
     ∙ ap (bit_xor (value r x)) (value_scale x a t ∙ ap (λ y. a ⊗ y) (tail_value k m x h z ∙ ap (raise x) (sym lr)))
     ∙ xor_comm (value r x) (a ⊗ raise x (length r))
 
--- What is left from a place on, up to m numbers after it.
+-- The m numbers from the place p on, or as many as there are, are what is left.
 abbrev pub left_from : ℕ → ℕ → List ℕ → List ℕ
 left_from m p b = take m (drop p b)
 
+-- If the list is long enough, m numbers are left.
 length-left : (m p : ℕ) (b : List ℕ) → p + m ≤ length b → length (left_from m p b) ≡ m
 length-left m p b h = simp (length-take, length-drop) (omega arith)
 
+-- The number i of what is left from p on stands at p + i.
 pub get_or-left : (m p i : ℕ) (b : List ℕ) → i < m → get_or (left_from m p b) i 0 ≡ get_or b (p + i) 0
 get_or-left m p i b h = get_or-take m (drop p b) i 0 h ∙ get_or-drop p b i 0
 
--- A step at a place p of a list: what follows it loses the multiple of the generator.
+-- After a step at the place p of a list, in which what follows loses the multiple of the generator, what is left has the same value.
 pub divided : (k m p x : ℕ) (b c : List ℕ) → k ≤ m → suc p + m ≤ length b → length c ≡ length b
     → ((i : ℕ) → get_or c (suc p + i) 0 ≡ get_or b (suc p + i) 0 ⊕ get_or b p 0 ⊗ coefficient (generator k) (suc i)) → value (generator k) x ≡ 0
     → value (left_from m (suc p) c) x ≡ value (left_from (suc m) p b) x
@@ -83,13 +85,13 @@ divided k m p x b c h l n each z =
     (λ i o. get_or-left m (suc p) i c o ∙ each i ∙ ap (λ y. y ⊕ get_or b p 0 ⊗ coefficient (generator k) (suc i)) (sym (get_or-left m (suc p) i b o))) z
     ∙ ap (λ u. value (take (suc m) u) x) (sym (drop-cons b p 0 (omega arith)))
 
--- Past its end a generator has no coefficient.
+-- Past the end of the generator its coefficients are 0, and add nothing.
 pub generator_past : (k i : ℕ) → k ≤ i → (a b : ℕ) → b ≡ b ⊕ a ⊗ coefficient (generator k) (suc i)
 generator_past k i h a b =
     sym (ap (λ y. b ⊕ a ⊗ y) (get_or_past (generator k) (suc i) 0 (omega (arith, generator_length k))) ∙ ap (bit_xor b) (product_zero_right a) ∙ xor_zero_r b)
 
 -- ---- before the first step
--- A list followed by zeros, as far as it has n numbers more.
+-- A list that is written over the beginning of zeros is followed by zeros.
 pub padded : (front zs ys : List ℕ) (k : ℕ) → ys ≡ front → ((i : ℕ) → get_or zs i 0 ≡ 0) → length front + k ≤ length zs → take (length front + k) (ys ++ drop (length front) zs) ≡ front ++ replicate k 0
 padded front zs ys k e z h =
     ap (λ u. take (length front + k) (u ++ drop (length front) zs)) e

@@ -8,11 +8,11 @@ use Rattle.std.proofs.Math.Nat.{pos_of_ne-zero, le_refl}
 use lib.Bits.{xor_zero_r}
 use Rattle.gf301.specs.Field.{◌⊕◌, ◌⊗◌, raise, power}
 use Rattle.gf301.specs.Polynomial.{Bytes, value, coefficient, convolution}
-use Rattle.gf301.proofs.Exported.{nonzeros, product_zero_left, product_zero_right, product_comm, product_cancel, raise_below, sum_zero, sum_below, power_injective, weighted, weigh_same, weigh_weighted, length-weighted, bytes_weighted, nonzeros_weighted, distance, bytes_cons, value_below, quotient, length_quotient, bytes_quotient, root_divides, value_times, factor_value, bytes_times, conv_same_right, conv_same_left, conv_below, sums, conv_laid, laid_sums, connects, locate, length-locate, head-locate, zeros-locate, zeros_parts, quotient_more, roots, roots_step, roots_le, zero_step}
+use Rattle.gf301.proofs.Exported.{nonzeros, product_zero_left, product_zero_right, product_comm, product_cancel, raise_below, sum_zero, sum_below, power_injective, weighted, weigh_same, weigh_weighted, length-weighted, bytes_weighted, nonzeros_weighted, zeros_from_sums, bytes_cons, value_below, quotient, length_quotient, bytes_quotient, root_divides, value_times, factor_value, bytes_times, conv_same_right, conv_same_left, conv_below, sums, conv_laid, laid_sums, connects, locate, length-locate, head-locate, zeros-locate, zeros_parts, quotient_more, roots, roots_step, roots_le, zero_step}
 use Rattle.dm_code.specs.KeyEquation.{IsPair}
 use Rattle.dm_code.proofs.First.{first, first_at, first_past, bytes_first}
 
--- The locator of the place i of n.
+-- The locator of the place i of n is 2 to the power of the number of places after it.
 abbrev pub locator_at : ℕ → ℕ → ℕ
 locator_at n i = power (n - suc i)
 
@@ -24,7 +24,7 @@ bytes_locate [] = bytes_cons 1 [] (omega arith) (λ k d h. absurd (omega arith))
 bytes_locate (zero ∷ e) = bytes_locate e
 bytes_locate (suc a ∷ e) = bytes_times (1 ∷ power (length e) ∷ []) (locate e)
 
--- The true locator takes the power sums to a series without coefficients from its degree on.
+-- The product of the true locator and the power sums has no coefficients from its degree on.
 connects_sums : (e g : List ℕ) → length g ≡ suc (nonzeros e) → nonzeros (weighted (value g) e) ≡ 0 → (i : ℕ) → nonzeros e ≤ i → convolution (coefficient g) (sums e) i ≡ 0
 connects_sums e [] l z i h = absurd (omega arith)
 connects_sums e (a ∷ p) l z i h = connects e a p z i (omega arith)
@@ -51,13 +51,13 @@ true_pair e s h =
     }
 
 -- ---- what connects the sums from d on is 0 at each place that isn't 0
--- By the distance law: as many consecutive power sums are 0 as there are errors, so all weights are.
+-- By the distance law all weights are 0 where as many consecutive power sums are 0 as there are errors.
 vanishes_from : (e : List ℕ) (a : ℕ) (p : List ℕ) (d m k : ℕ) → length e ≤ 255 → nonzeros e ≤ m → length p ≤ d → d + m ≤ k
     → ((i : ℕ) → d ≤ i → i < k → convolution (coefficient (a ∷ p)) (sums e) i ≡ 0) → nonzeros (weighted (value (a ∷ p)) e) ≡ 0
 vanishes_from e a p d m k h z q n g =
     let f = value (a ∷ p) in
     let o = d - length p in
-    distance (length (weighted f e)) (weighted f e) m (suc o) refl (let q : length (weighted f e) ≤ 255 = omega (arith, length-weighted f e) in q)
+    zeros_from_sums (length (weighted f e)) (weighted f e) m (suc o) refl (let q : length (weighted f e) ≤ 255 = omega (arith, length-weighted f e) in q)
     (bytes_weighted f e) (let q : nonzeros (weighted f e) ≤ m = omega (arith, nonzeros_weighted f e) in q)
     (λ i l. weigh_weighted (λ x. raise x (suc o + i)) f e
     ∙ weigh_same (λ x. f x ⊗ raise x (suc o + i)) (λ x. raise x (suc (o + i)) ⊗ f x)
@@ -65,7 +65,7 @@ vanishes_from e a p d m k h z q n g =
     ∙ sym (laid_sums e (a ∷ p) (o + i)) ∙ sym (conv_laid a p (sums e) (o + i))
     ∙ ap (convolution (coefficient (a ∷ p)) (sums e)) (let r : length p + (o + i) ≡ d + i = omega arith in r) ∙ g (d + i) (omega arith) (omega arith))
 
--- Where all weights are 0, so is each.
+-- Where a weighted list is zeros, each of its elements is 0.
 weighted_at : (f : ℕ → ℕ) (e : List ℕ) → nonzeros (weighted f e) ≡ 0 → (i : ℕ) → i < length e → get_or e i 0 ⊗ f (locator_at (length e) i) ≡ 0
 unfolding weighted
 weighted_at f [] z i h = absurd (omega arith)
@@ -75,7 +75,7 @@ weighted_at f (a ∷ e) z (suc i) h =
     ap (λ n. get_or e i 0 ⊗ f (power n)) (let r : length (a ∷ e) - suc (suc i) ≡ length e - suc i = omega arith in r)
     ∙ weighted_at f e (zeros_parts (a ⊗ f (power (length e))) (weighted f e) z).1 i (omega arith)
 
--- p is 0 at each place of e that isn't 0.
+-- A polynomial vanishes at the errors where it is 0 at the locator of each place of e that is not 0.
 abbrev pub Vanishes : List ℕ → List ℕ → Type 0
 Vanishes p e = (i : ℕ) → i < length e → 0 < get_or e i 0 → value p (locator_at (length e) i) ≡ 0
 
@@ -90,68 +90,68 @@ pair_vanishes e s l w a p d b h n g q c m i y z =
     product_cancel (get_or e i 0) (value (a ∷ p) (locator_at (length e) i)) z (b i 0 y) (value_below (a ∷ p) (locator_at (length e) i)) (weighted_at (value (a ∷ p)) e v i y)
 
 -- ---- counting roots
--- A value more counts no root less.
+-- One more value does not make the number of roots smaller.
 step_more : (v m : ℕ) → m ≤ roots_step v m
 unfolding roots_step
 step_more zero m = omega arith
 step_more (suc v) m = omega arith
 
--- What is 0 at the errors is 0 at the first, if it is one ..
+-- What vanishes at the errors is 0 at the first place if it is an error.
 vanishes_head : (p e : List ℕ) (a : ℕ) → Vanishes p (a ∷ e) → 0 < a → value p (power (length e)) ≡ 0
 vanishes_head p e a h l = ap (λ n. value p (power n)) (let r : length e ≡ length (a ∷ e) - 1 = omega arith in r) ∙ h 0 (omega arith) l
 
--- .. and at the others.
+-- What vanishes at the errors vanishes at those after the first place.
 vanishes_tail : (p e : List ℕ) (a : ℕ) → Vanishes p (a ∷ e) → Vanishes p e
 vanishes_tail p e a h i l z = ap (λ n. value p (power n)) (let r : length e - suc i ≡ length (a ∷ e) - suc (suc i) = omega arith in r) ∙ h (suc i) (omega arith) z
 
--- There are as many roots as errors, at least.
-counted : (p e : List ℕ) → Vanishes p e → nonzeros e ≤ roots p (length e)
+-- There are at least as many roots as errors.
+roots_counted : (p e : List ℕ) → Vanishes p e → nonzeros e ≤ roots p (length e)
 unfolding nonzeros roots
-counted p [] h = omega arith
-counted p (zero ∷ e) h =
-    let i : nonzeros e ≤ roots p (length e) = counted p e (vanishes_tail p e 0 h) in
+roots_counted p [] h = omega arith
+roots_counted p (zero ∷ e) h =
+    let i : nonzeros e ≤ roots p (length e) = roots_counted p e (vanishes_tail p e 0 h) in
     omega (arith, step_more (value p (power (length e))) (roots p (length e)))
-counted p (suc a ∷ e) h =
-    let i : nonzeros e ≤ roots p (length e) = counted p e (vanishes_tail p e (suc a) h) in
+roots_counted p (suc a ∷ e) h =
+    let i : nonzeros e ≤ roots p (length e) = roots_counted p e (vanishes_tail p e (suc a) h) in
     omega (arith, zero_step (value p (power (length e))) (roots p (length e)) (vanishes_head p e (suc a) h (omega arith)))
 
--- A root more, at a place that is 0.
-counted_more : (p e : List ℕ) (i : ℕ) → Vanishes p e → i < length e → get_or e i 0 ≡ 0 → value p (locator_at (length e) i) ≡ 0 → suc (nonzeros e) ≤ roots p (length e)
+-- With a root at a place without an error, there is at least one root more than errors.
+root_more_counted : (p e : List ℕ) (i : ℕ) → Vanishes p e → i < length e → get_or e i 0 ≡ 0 → value p (locator_at (length e) i) ≡ 0 → suc (nonzeros e) ≤ roots p (length e)
 unfolding nonzeros roots
-counted_more p [] i h l z v = absurd (omega arith)
-counted_more p (zero ∷ e) zero h l z v =
-    let c : nonzeros e ≤ roots p (length e) = counted p e (vanishes_tail p e 0 h) in
+root_more_counted p [] i h l z v = absurd (omega arith)
+root_more_counted p (zero ∷ e) zero h l z v =
+    let c : nonzeros e ≤ roots p (length e) = roots_counted p e (vanishes_tail p e 0 h) in
     omega (arith, zero_step (value p (power (length e))) (roots p (length e)) (ap (λ n. value p (power n)) (let r : length e ≡ length (0 ∷ e) - 1 = omega arith in r) ∙ v))
-counted_more p (suc a ∷ e) zero h l z v = absurd (omega arith)
-counted_more p (zero ∷ e) (suc i) h l z v =
+root_more_counted p (suc a ∷ e) zero h l z v = absurd (omega arith)
+root_more_counted p (zero ∷ e) (suc i) h l z v =
     let c : suc (nonzeros e) ≤ roots p (length e) =
-    counted_more p e i (vanishes_tail p e 0 h) (omega arith) z (ap (λ n. value p (power n)) (let r : length e - suc i ≡ length (0 ∷ e) - suc (suc i) = omega arith in r) ∙ v) in
+    root_more_counted p e i (vanishes_tail p e 0 h) (omega arith) z (ap (λ n. value p (power n)) (let r : length e - suc i ≡ length (0 ∷ e) - suc (suc i) = omega arith in r) ∙ v) in
     omega (arith, step_more (value p (power (length e))) (roots p (length e)))
-counted_more p (suc a ∷ e) (suc i) h l z v =
+root_more_counted p (suc a ∷ e) (suc i) h l z v =
     let c : suc (nonzeros e) ≤ roots p (length e) =
-    counted_more p e i (vanishes_tail p e (suc a) h) (omega arith) z (ap (λ n. value p (power n)) (let r : length e - suc i ≡ length (suc a ∷ e) - suc (suc i) = omega arith in r) ∙ v) in
+    root_more_counted p e i (vanishes_tail p e (suc a) h) (omega arith) z (ap (λ n. value p (power n)) (let r : length e - suc i ≡ length (suc a ∷ e) - suc (suc i) = omega arith in r) ∙ v) in
     omega (arith, zero_step (value p (power (length e))) (roots p (length e)) (vanishes_head p e (suc a) h (omega arith)))
 
--- With no more coefficients than errors, the roots are the places of the errors alone.
+-- With no more coefficients than errors, the locators of the errors are the only roots.
 pub not_root : (e p : List ℕ) (i : ℕ) → length e ≤ 255 → Bytes (1 ∷ p) → length p ≤ nonzeros e → Vanishes (1 ∷ p) e → i < length e → get_or e i 0 ≡ 0 → 0 < value (1 ∷ p) (locator_at (length e) i)
 not_root e p i h b l v q z =
-    pos_of_ne-zero (λ r. absurd (let c : suc (nonzeros e) ≤ roots (1 ∷ p) (length e) = counted_more (1 ∷ p) e i v q z r in omega (arith, roots_le (length e) 1 p h (omega arith) b)))
+    pos_of_ne-zero (λ r. absurd (let c : suc (nonzeros e) ≤ roots (1 ∷ p) (length e) = root_more_counted (1 ∷ p) e i v q z r in omega (arith, roots_le (length e) 1 p h (omega arith) b)))
 
 -- ---- the quotient by a root is 0 at the other places, and not at this one
--- A 0 before bytes.
+-- A 0 in front of a list of bytes makes a list of bytes.
 bytes_more : (p : List ℕ) → Bytes p → Bytes (0 ∷ p)
 bytes_more p b = bytes_cons 0 p (omega arith) b
 
--- The quotient by x - r, times z - r, is the value.
-divided : (p : List ℕ) (r z : ℕ) → Bytes p → r < 256 → z < 256 → value p r ≡ 0 → value (quotient r 0 p) z ⊗ (z ⊕ r) ≡ value p z
+-- The value of the quotient by x - r at z, times z - r, is the value at z.
+quotient_times : (p : List ℕ) (r z : ℕ) → Bytes p → r < 256 → z < 256 → value p r ≡ 0 → value (quotient r 0 p) z ⊗ (z ⊕ r) ≡ value p z
 unfolding value
-divided p r z b h k y =
+quotient_times p r z b h k y =
     ap (λ x. value (quotient r 0 p) z ⊗ x) (sym (factor_value r z h k))
     ∙ sym (value_times z (quotient r 0 p) (1 ∷ r ∷ []) (omega arith))
     ∙ ap (λ t. value t z) (root_divides r 0 p (bytes_more p b) (ap (λ x. x ⊕ value p r) (product_zero_left (raise r (length p))) ∙ y))
     ∙ ap (λ x. x ⊕ value p z) (product_zero_left (raise z (length p)))
 
--- The quotient vanishes at the places of the errors but that of r.
+-- The quotient by x - r vanishes at the errors but the one whose locator is r.
 pub quotient_vanishes : (e p : List ℕ) (i : ℕ) → length e ≤ 255 → Bytes p → Vanishes p e → i < length e → 0 < get_or e i 0
     → (k : ℕ) → k < length e → 0 < get_or e k 0 → (k ≡ i → ⊥) → value (quotient (locator_at (length e) i) 0 p) (locator_at (length e) k) ≡ 0
 quotient_vanishes e p i h b v l z k q y n =
@@ -162,16 +162,16 @@ quotient_vanishes e p i h b v l z k q y n =
     let d : 0 < x ⊕ r =
     pos_of_ne-zero (λ w. n (let m : length e - suc k ≡ length e - suc i = power_injective (length e - suc k) (length e - suc i) (omega arith) (omega arith) (sum_zero x r w) in omega arith)) in
     product_cancel (x ⊕ r) (value (quotient r 0 p) x) d (sum_below x r xb rb) (value_below (quotient r 0 p) x)
-    (product_comm (x ⊕ r) (value (quotient r 0 p) x) ∙ divided p r x b rb xb (v i l z) ∙ v k q y)
+    (product_comm (x ⊕ r) (value (quotient r 0 p) x) ∙ quotient_times p r x b rb xb (v i l z) ∙ v k q y)
 
--- Its first coefficient is 0, and the rest is one by one.
+-- The quotient begins with 0, which may be left out.
 quotient_zero : (r a : ℕ) (p : List ℕ) (x : ℕ) → value (quotient r 0 (a ∷ p)) x ≡ value (quotient r a p) x
 unfolding value quotient
 quotient_zero r a p x =
     ap (λ y. y ⊕ value (quotient r (a ⊕ r ⊗ 0) p) x) (product_zero_left (raise x (length (quotient r (a ⊕ r ⊗ 0) p))))
     ∙ ap (λ y. value (quotient r y p) x) (ap (bit_xor a) (product_zero_right r) ∙ xor_zero_r a)
 
--- With an error, there are errors.
+-- If there is an error at some place, the number of errors is not 0.
 pub nonzeros_positive : (e : List ℕ) (i : ℕ) → i < length e → 0 < get_or e i 0 → 0 < nonzeros e
 unfolding nonzeros
 nonzeros_positive [] i h z = absurd (omega arith)
@@ -179,11 +179,11 @@ nonzeros_positive (suc a ∷ e) i h z = omega arith
 nonzeros_positive (zero ∷ e) zero h z = absurd (omega arith)
 nonzeros_positive (zero ∷ e) (suc i) h z = nonzeros_positive e i (omega arith) z
 
--- A quotient of too small a degree isn't 0 at the last of the errors.
+-- The quotient by the root of an error is not 0 at this root, since its degree is too small to vanish at all errors.
 pub quotient_positive : (e p : List ℕ) (i : ℕ) → length e ≤ 255 → Bytes (1 ∷ p) → length p ≤ nonzeros e → Vanishes (1 ∷ p) e → i < length e → 0 < get_or e i 0
     → 0 < value (quotient (locator_at (length e) i) 0 (1 ∷ p)) (locator_at (length e) i)
 quotient_positive e [] i h b l v q z =
-    absurd (let c : nonzeros e ≤ roots (1 ∷ []) (length e) = counted (1 ∷ []) e v in omega (arith, roots_le (length e) 1 [] h (omega arith) b, nonzeros_positive e i q z))
+    absurd (let c : nonzeros e ≤ roots (1 ∷ []) (length e) = roots_counted (1 ∷ []) e v in omega (arith, roots_le (length e) 1 [] h (omega arith) b, nonzeros_positive e i q z))
 quotient_positive e (a ∷ p) i h b l v q z =
     let r = locator_at (length e) i in
     let t = quotient r 1 (a ∷ p) in
@@ -192,7 +192,7 @@ quotient_positive e (a ∷ p) i h b l v q z =
       | inl s ↦ ap (λ j. value t (locator_at (length e) j)) s ∙ sym (quotient_zero r 1 (a ∷ p) r) ∙ w
       | inr s ↦ sym (quotient_zero r 1 (a ∷ p) (locator_at (length e) k)) ∙ quotient_vanishes e (1 ∷ a ∷ p) i h b v q z k y n s
     ] in
-    let c : nonzeros e ≤ roots t (length e) = counted t e m in
+    let c : nonzeros e ≤ roots t (length e) = roots_counted t e m in
     let s : t ≡ 1 ∷ quotient r (a ⊕ r ⊗ 1) p = quotient_more r 1 a p in
     let u : roots (1 ∷ quotient r (a ⊕ r ⊗ 1) p) (length e) ≤ length (quotient r (a ⊕ r ⊗ 1) p) =
     roots_le (length e) 1 (quotient r (a ⊕ r ⊗ 1) p) h (omega arith) (subst Bytes s (bytes_quotient r 1 (a ∷ p) b)) in

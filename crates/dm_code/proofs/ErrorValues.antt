@@ -3,29 +3,29 @@ use Rattle.std.proofs.Common.{◌≡◌, ℕ, zero, suc, ◌+◌, ◌-◌, ◌<�
 use lib.Bits.{xor_assoc, xor_comm, xor_zero_r}
 use Rattle.gf301.specs.Field.{◌⊕◌, ◌⊗◌, raise, power}
 use Rattle.gf301.specs.Polynomial.{Bytes, value, coefficient, convolution, shift}
-use Rattle.gf301.proofs.Exported.{nonzeros, xor_swap, product_zero_left, product_zero_right, product_comm, product_assoc, product_sum_left, product_sum_right, product_cancels, product_positive, product_one_right, product_below, raise_below, raise_positive, weigh, quotient, length_quotient, value_below, value_push, sums, laid, laid_sums}
+use Rattle.gf301.proofs.Exported.{nonzeros, xor_swap, product_zero_left, product_zero_right, product_comm, product_assoc, product_sum_left, product_sum_right, product_cancels, product_positive, product_one_right, product_below, raise_below, raise_positive, weigh, conv_cons, quotient, length_quotient, quotient_more, value_below, value_push, sums, laid, laid_sums, same_functions}
 use Rattle.dm_code.proofs.First.{first, length-first, first_push, first_same}
 use Rattle.dm_code.proofs.ErrorPlaces.{locator_at, Vanishes, not_root, quotient_vanishes, quotient_positive}
 
--- The value of the first n coefficients, the first one at the highest power.
+-- The value of the first n coefficients of a series is taken with the first one at the highest power.
 abbrev early : (ℕ → ℕ) → ℕ → ℕ → ℕ
 early f n x = value (first f n) x
 
--- Of no coefficients it is 0.
+-- The value of no coefficients is 0.
 early_nothing : (f : ℕ → ℕ) (x : ℕ) → early f 0 x ≡ 0
 unfolding first value
 early_nothing f x = refl
 
--- The first coefficient apart.
+-- The first coefficient may be taken apart from the value.
 early_head : (f : ℕ → ℕ) (n x : ℕ) → early f (suc n) x ≡ f 0 ⊗ raise x n ⊕ early (shift f) n x
 unfolding first value
 early_head f n x = ap (λ m. f 0 ⊗ raise x m ⊕ early (shift f) n x) (length-first (shift f) n)
 
--- The last coefficient apart.
+-- The last coefficient may be taken apart from the value.
 early_push : (f : ℕ → ℕ) (n x : ℕ) → f n < 256 → early f (suc n) x ≡ early f n x ⊗ x ⊕ f n
 early_push f n x h = ap (λ t. value t x) (first_push f n) ∙ value_push (first f n) (f n) x h
 
--- Of a sum it is the sum.
+-- The value of a sum is the sum of the values.
 early_sum : (f g : ℕ → ℕ) (n x : ℕ) → early (λ i. f i ⊕ g i) n x ≡ early f n x ⊕ early g n x
 early_sum f g zero x = early_nothing (λ i. f i ⊕ g i) x ∙ sym (ap (λ y. y ⊕ early g 0 x) (early_nothing f x) ∙ early_nothing g x)
 early_sum f g (suc n) x =
@@ -34,7 +34,7 @@ early_sum f g (suc n) x =
     ∙ xor_swap (f 0 ⊗ raise x n) (g 0 ⊗ raise x n) (early (shift f) n x) (early (shift g) n x)
     ∙ ap (λ y. y ⊕ (g 0 ⊗ raise x n ⊕ early (shift g) n x)) (sym (early_head f n x)) ∙ ap (bit_xor (early f (suc n) x)) (sym (early_head g n x))
 
--- Of a multiple it is the multiple.
+-- The value of a multiple is the multiple of the value.
 early_scale : (c : ℕ) (f : ℕ → ℕ) (n x : ℕ) → early (λ i. c ⊗ f i) n x ≡ c ⊗ early f n x
 early_scale c f zero x = early_nothing (λ i. c ⊗ f i) x ∙ sym (ap (λ y. c ⊗ y) (early_nothing f x) ∙ product_zero_right c)
 early_scale c f (suc n) x =
@@ -42,25 +42,16 @@ early_scale c f (suc n) x =
     ∙ ap (bit_xor (c ⊗ (f 0 ⊗ raise x n))) (early_scale c (shift f) n x)
     ∙ sym (product_sum_right c (f 0 ⊗ raise x n) (early (shift f) n x)) ∙ ap (λ y. c ⊗ y) (sym (early_head f n x))
 
--- Series with the same coefficients are one.
-same_series : {f g : ℕ → ℕ} → ((i : ℕ) → f i ≡ g i) → f ≡ g
-same_series h = λ k i. h i k
-
--- It is the same for the same coefficients.
+-- Series with the same coefficients have the same value.
 early_same : (f g : ℕ → ℕ) (n x : ℕ) → ((i : ℕ) → f i ≡ g i) → early f n x ≡ early g n x
-early_same f g n x h = ap (λ (k : ℕ → ℕ). early k n x) (same_series h)
+early_same f g n x h = ap (λ (k : ℕ → ℕ). early k n x) (same_functions h)
 
--- The product with one coefficient more in front.
-conv_first_two : (b : ℕ) (q : List ℕ) (s : ℕ → ℕ) (i : ℕ) → convolution (coefficient (b ∷ q)) s (suc i) ≡ b ⊗ s (suc i) ⊕ convolution (coefficient q) s i
-unfolding convolution
-conv_first_two b q s i = refl
-
--- Its coefficient at 0.
+-- The coefficient at 0 of a product with a list is the product with its head.
 conv_zero_at : (b : ℕ) (q : List ℕ) (s : ℕ → ℕ) → convolution (coefficient (b ∷ q)) s 0 ≡ b ⊗ s 0
 unfolding convolution
 conv_zero_at b q s = refl
 
--- The head of the left factor.
+-- A product with a list whose head is a sum is the product with one part at the head, plus the multiple by the other.
 conv_head_sum : (a c : ℕ) (p : List ℕ) (s : ℕ → ℕ) (i : ℕ) → convolution (coefficient ((a ⊕ c) ∷ p)) s i ≡ convolution (coefficient (a ∷ p)) s i ⊕ c ⊗ s i
 unfolding convolution
 conv_head_sum a c p s zero = product_sum_left a c (s 0)
@@ -68,25 +59,20 @@ conv_head_sum a c p s (suc i) =
     ap (λ y. y ⊕ convolution (coefficient p) s i) (product_sum_left a c (s (suc i)) ∙ xor_comm (a ⊗ s (suc i)) (c ⊗ s (suc i)))
     ∙ xor_assoc (c ⊗ s (suc i)) (a ⊗ s (suc i)) (convolution (coefficient p) s i) ∙ xor_comm (c ⊗ s (suc i)) (a ⊗ s (suc i) ⊕ convolution (coefficient p) s i)
 
--- One coefficient more laid on the values.
+-- One more coefficient in front, laid on the values, adds its product with the value that belongs to it.
 laid_cons : (b : ℕ) (t : List ℕ) (s : ℕ → ℕ) → laid (b ∷ t) s 0 ≡ b ⊗ s (length t) ⊕ laid t s 0
 unfolding laid
 laid_cons b t s = ap (λ n. b ⊗ s n ⊕ laid t s 0) (let r : length t + 0 ≡ length t = omega arith in r)
 
--- Nothing laid on the values.
+-- The empty list, laid on the values, gives 0.
 laid_nothing : (s : ℕ → ℕ) → laid [] s 0 ≡ 0
 unfolding laid
 laid_nothing s = refl
 
--- Nothing to divide.
+-- The quotient of the empty list is empty.
 quotient_empty : (x b : ℕ) → quotient x b [] ≡ []
 unfolding quotient
 quotient_empty x b = refl
-
--- A step of synthetic division.
-quotient_cons : (x b a : ℕ) (p : List ℕ) → quotient x b (a ∷ p) ≡ b ∷ quotient x (a ⊕ x ⊗ b) p
-unfolding quotient
-quotient_cons x b a p = refl
 
 -- The quotient by x - r laid on the values is the value of the evaluator.
 pub quotient_evaluator : (x b : ℕ) (p : List ℕ) (s : ℕ → ℕ) → laid (quotient x b p) s 0 ≡ value (first (convolution (coefficient (b ∷ p)) s) (length p)) x
@@ -95,7 +81,7 @@ quotient_evaluator x b (a ∷ p) s =
     let m = length p in
     let f = λ (i : ℕ). b ⊗ s i in
     let g = convolution (coefficient (a ∷ p)) s in
-    ap (λ t. laid t s 0) (quotient_cons x b a p) ∙ laid_cons b (quotient x (a ⊕ x ⊗ b) p) s
+    ap (λ t. laid t s 0) (quotient_more x b a p) ∙ laid_cons b (quotient x (a ⊕ x ⊗ b) p) s
     ∙ ap (λ n. b ⊗ s n ⊕ laid (quotient x (a ⊕ x ⊗ b) p) s 0) (length_quotient x (a ⊕ x ⊗ b) p)
     ∙ ap (bit_xor (f m))
     (quotient_evaluator x (a ⊕ x ⊗ b) p s
@@ -105,12 +91,12 @@ quotient_evaluator x b (a ∷ p) s =
     ∙ xor_comm (f m) (early g m x ⊕ x ⊗ early f m x) ∙ xor_assoc (early g m x) (x ⊗ early f m x) (f m)
     ∙ ap (bit_xor (early g m x)) (ap (λ y. y ⊕ f m) (product_comm x (early f m x)) ∙ sym (early_push f m x (product_below b (s m))) ∙ early_head f m x)
     ∙ xor_comm (early g m x) (f 0 ⊗ raise x m ⊕ early (shift f) m x) ∙ xor_assoc (f 0 ⊗ raise x m) (early (shift f) m x) (early g m x)
-    ∙ ap (bit_xor (f 0 ⊗ raise x m)) (sym (early_sum (shift f) g m x) ∙ early_same (λ i. f (suc i) ⊕ g i) (shift (convolution (coefficient (b ∷ a ∷ p)) s)) m x (λ i. sym (conv_first_two b (a ∷ p) s i)))
+    ∙ ap (bit_xor (f 0 ⊗ raise x m)) (sym (early_sum (shift f) g m x) ∙ early_same (λ i. f (suc i) ⊕ g i) (shift (convolution (coefficient (b ∷ a ∷ p)) s)) m x (λ i. sym (conv_cons b (a ∷ p) s i)))
     ∙ ap (λ y. y ⊗ raise x m ⊕ early (shift (convolution (coefficient (b ∷ a ∷ p)) s)) m x) (sym (conv_zero_at b (a ∷ p) s))
     ∙ sym (early_head (convolution (coefficient (b ∷ a ∷ p)) s) m x)
 
 -- ---- a sum of which one place is left
--- A sum of zeros.
+-- A sum is 0 if each place adds 0.
 weigh_none : (f : ℕ → ℕ) (e : List ℕ) → ((k : ℕ) → k < length e → get_or e k 0 ⊗ f (locator_at (length e) k) ≡ 0) → weigh f e ≡ 0
 unfolding weigh
 weigh_none f [] z = refl
@@ -118,7 +104,7 @@ weigh_none f (a ∷ e) z =
     ap (λ y. y ⊕ weigh f e) (ap (λ n. a ⊗ f (power n)) (let r : length e ≡ length (a ∷ e) - 1 = omega arith in r) ∙ z 0 (omega arith))
     ∙ weigh_none f e (λ k l. ap (λ n. get_or e k 0 ⊗ f (power n)) (let r : length e - suc k ≡ length (a ∷ e) - suc (suc k) = omega arith in r) ∙ z (suc k) (omega arith))
 
--- A sum in which one place alone counts.
+-- A sum in which all places but one add 0 is what this place adds.
 weigh_single : (f : ℕ → ℕ) (e : List ℕ) (i : ℕ) → i < length e → ((k : ℕ) → k < length e → (k ≡ i → ⊥) → get_or e k 0 ⊗ f (locator_at (length e) k) ≡ 0) → weigh f e ≡ get_or e i 0 ⊗ f (locator_at (length e) i)
 unfolding weigh
 weigh_single f [] i h z = absurd (omega arith)
@@ -131,26 +117,26 @@ weigh_single f (a ∷ e) (suc i) h z =
     ∙ ap (λ n. get_or e i 0 ⊗ f (power n)) (let r : length e - suc i ≡ length (a ∷ e) - suc (suc i) = omega arith in r)
 
 -- ---- the value of an error
--- y is the value of the error at the locator x: 0 where x is no root of the error locator l, else the value of the
+-- The value y of the error at the locator x is 0 where x is no root of the error locator l, and otherwise the value of the
 -- evaluator w, divided by x times that of l without the root.
 pub record IsErrorValue (l w : List ℕ) (x y : ℕ) : Type 0 where
   pub byte : y < 256
   pub apart : 0 < value l x → y ≡ 0
   pub root : value l x ≡ 0 → 0 < x ⊗ value (quotient x 0 l) x → (x ⊗ value (quotient x 0 l) x) ⊗ y ≡ value (first (coefficient w) (length l - 1)) x
 
--- Laid on the same values, it is the same.
+-- A list gives the same when it is laid on series that agree as far as it reaches.
 laid_same : (p : List ℕ) (s t : ℕ → ℕ) (u : ℕ) → ((i : ℕ) → i < length p + u → s i ≡ t i) → laid p s u ≡ laid p t u
 unfolding laid
 laid_same [] s t u h = refl
 laid_same (a ∷ p) s t u h =
     ap (λ y. a ⊗ y ⊕ laid p s u) (h (length p + u) (omega arith)) ∙ ap (bit_xor (a ⊗ t (length p + u))) (laid_same p s t u (λ i l. h i (omega arith)))
 
--- The power 1 is the element.
+-- The power 1 of an element is the element.
 raise_one : (x : ℕ) → x < 256 → raise x 1 ≡ x
 unfolding raise
 raise_one x h = product_one_right x h
 
--- A number is 0 or more.
+-- A number is 0 or above 0.
 zero_or_positive : (a : ℕ) → (a ≡ 0) ⊎ (0 < a)
 zero_or_positive zero = inl refl
 zero_or_positive (suc a) = inr (omega arith)
@@ -171,7 +157,7 @@ numerator e p s i h b m g v q z =
     ])
     ∙ product_comm (get_or e i 0) (f x) ∙ ap (λ y. (y ⊗ value t x) ⊗ get_or e i 0) (raise_one x (raise_below 2 (length e - suc i)))
 
--- The first 0 of a quotient adds nothing.
+-- The 0 with which a quotient begins adds nothing.
 laid_zero : (x b : ℕ) (p : List ℕ) (s : ℕ → ℕ) → laid (quotient x b p) s 0 ≡ laid (quotient x 0 (b ∷ p)) s 0
 unfolding quotient laid
 laid_zero x b p s =

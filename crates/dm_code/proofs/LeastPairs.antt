@@ -1,84 +1,23 @@
 -- Where there is a pair of the key equation, there is a least one: whether there is a pair within a bound is decided by
 -- going through the lists of bytes, and the first bound with one gives the least pair.
-use Rattle.std.proofs.Common.{◌≡◌, ℕ, zero, suc, ◌<◌, ◌≤◌, List, [], ◌∷◌, length, refl, sym, ap, subst, ◌∙◌, arith, inl, inr, ◌⊎◌}
+use Rattle.std.proofs.Common.{◌≡◌, ℕ, zero, suc, ◌<◌, ◌≤◌, List, length, sym, subst, ◌∙◌, arith, inl, inr, ◌⊎◌}
 use Rattle.std.proofs.lemmas.Bool.{cases_lt, cases_eq}
 use Rattle.std.proofs.lemmas.List.{get_or_past}
 use Rattle.std.proofs.Math.Nat.{le_refl}
 use Rattle.gf301.specs.Polynomial.{Bytes, coefficient, convolution}
-use Rattle.gf301.proofs.Exported.{conv_same_left, conv_below, bytes_head, bytes_tail, bytes_cons}
+use Rattle.gf301.proofs.Exported.{conv_same_left, conv_below}
 use Rattle.dm_code.specs.KeyEquation.{IsPair, IsLeastPair}
+use Rattle.dm_code.proofs.Choices.{Decided, all_decided, any_list}
 use Rattle.dm_code.proofs.First.{first, first_at, first_past, first_whole, bytes_first, length-first}
 use Rattle.dm_code.proofs.Pairs.{byte_at, IsLeastAt, least_from_at}
 
--- A fact holds or doesn't.
-abbrev Decided : Type 0 → Type 0
-Decided A = A ⊎ (A → ⊥)
-
--- ---- searches
--- One of the first n numbers has a property, or none.
-number_found : (P : ℕ → Type 0) → ((i : ℕ) → Decided (P i)) → (n : ℕ) → ((i : ℕ) × (i < n) × P i) ⊎ ((i : ℕ) → i < n → P i → ⊥)
-number_found P h zero = inr (λ i l p. absurd (omega arith))
-number_found P h (suc n) =
-    elim (number_found P h n) [
-      | inl f ↦ inl (let l : f.0 < n = f.1 in (f.0, omega arith, f.2))
-      | inr none ↦ elim (h n) [
-        | inl p ↦ inl (n, omega arith, p)
-        | inr q ↦ inr (λ i l p. elim (cases_lt i n) [ inl b ↦ none i b p | inr b ↦ q (subst P (let e : i ≡ n = omega arith in e) p) ])
-      ]
-    ]
-
--- The first n numbers all have a property, or not.
-all_decided : (P : ℕ → Type 0) → ((i : ℕ) → Decided (P i)) → (n : ℕ) → Decided ((i : ℕ) → i < n → P i)
-all_decided P h zero = inl (λ i l. absurd (omega arith))
-all_decided P h (suc n) =
-    elim (all_decided P h n) [
-      | inr missing ↦ inr (λ all. missing (λ i l. all i (omega arith)))
-      | inl all ↦ elim (h n) [
-        | inr q ↦ inr (λ f. q (f n (omega arith)))
-        | inl p ↦ inl (λ i l. elim (cases_lt i n) [ inl b ↦ all i b | inr b ↦ subst P (let e : n ≡ i = omega arith in e) p ])
-      ]
-    ]
-
--- A list of n bytes has a property ..
-abbrev Found : (List ℕ → Type 0) → ℕ → Type 0
-Found P n = (l : List ℕ) × Bytes l × (length l ≡ n) × P l
-
--- .. or none has.
-abbrev NotFound : (List ℕ → Type 0) → ℕ → Type 0
-NotFound P n = (l : List ℕ) → Bytes l → length l ≡ n → P l → ⊥
-
--- The one list of no bytes hasn't it.
-none_empty : (P : List ℕ → Type 0) → (P [] → ⊥) → NotFound P 0
-none_empty P q [] b e p = q p
-none_empty P q (a ∷ l) b e p = absurd (omega arith)
-
--- With no first byte it is there.
-none_longer : (P : List ℕ → Type 0) (n : ℕ) → ((a : ℕ) → a < 256 → Found (λ l. P (a ∷ l)) n → ⊥) → NotFound P (suc n)
-none_longer P n h [] b e p = absurd (omega arith)
-none_longer P n h (a ∷ l) b e p = h a (bytes_head a l b) (l, bytes_tail a l b, (let q : length l ≡ n = omega arith in q), p)
-
--- One of the lists of n bytes has a property, or none.
-list_found : (n : ℕ) (P : List ℕ → Type 0) → ((l : List ℕ) → Decided (P l)) → Found P n ⊎ NotFound P n
-list_found zero P h =
-    elim (h []) [
-      | inl p ↦ inl ([], (λ k d l. absurd (omega arith)), refl, p)
-      | inr q ↦ inr (none_empty P q)
-    ]
-list_found (suc n) P h =
-    let more = λ (a : ℕ). (let r : Decided (Found (λ l. P (a ∷ l)) n) =
-    elim (list_found n (λ l. P (a ∷ l)) (λ l. h (a ∷ l))) [ inl f ↦ inl f | inr missing ↦ inr (λ f. missing f.0 f.1 f.2 f.3) ] in r) in
-    elim (number_found (λ a. Found (λ l. P (a ∷ l)) n) more 256) [
-      | inl f ↦ inl (let r = f.2 in (f.0 ∷ r.0, bytes_cons f.0 r.0 f.1 r.1, ap suc r.2, r.3))
-      | inr missing ↦ inr (none_longer P n missing)
-    ]
-
 -- ---- a pair within a bound
--- What the locator of a pair within d keeps.
+-- A locator of a pair within d has the constant term 1, and from d on its product with the syndromes has only zeros.
 record Locates (s : List ℕ) (d : ℕ) (l : List ℕ) : Type 0 where
   one : coefficient l 0 ≡ 1
   gives : (i : ℕ) → i < length s → d ≤ i → convolution (coefficient l) (coefficient s) i ≡ 0
 
--- It locates or doesn't.
+-- It is decided whether a list has what the locator of a pair within d has.
 locates_decided : (s : List ℕ) (d : ℕ) (l : List ℕ) → Decided (Locates s d l)
 locates_decided s d l =
     let c = convolution (coefficient l) (coefficient s) in
@@ -93,7 +32,7 @@ locates_decided s d l =
       ]
     ]
 
--- What locates has an evaluator, and so is a pair.
+-- A list that locates has an evaluator, and so is the locator of a pair.
 pair_of : (s : List ℕ) (d : ℕ) (l : List ℕ) → Bytes l → length l ≡ suc d → Locates s d l → IsPair s d l (first (convolution (coefficient l) (coefficient s)) d)
 pair_of s d l b e p =
     let f = convolution (coefficient l) (coefficient s) in
@@ -105,25 +44,30 @@ pair_of s d l b e p =
       equation = λ i h. elim (cases_lt i d) [ inl q ↦ sym (first_at f d i q) | inr q ↦ p.gives i h q ∙ sym (first_past f d i q) ];
     }
 
--- The first coefficients of a pair's locator locate.
-locates : (s g v : List ℕ) (d : ℕ) → IsPair s d g v → Locates s d (first (coefficient g) (suc d))
-locates s g v d p =
+-- The first d + 1 coefficients of the locator of a pair within d locate.
+first_locates : (s g v : List ℕ) (d : ℕ) → IsPair s d g v → Locates s d (first (coefficient g) (suc d))
+first_locates s g v d p =
     let same = first_whole (coefficient g) (suc d) p.within.locator in
     record {
       one = same 0 ∙ p.one;
       gives = λ i h q. conv_same_left (coefficient (first (coefficient g) (suc d))) (coefficient g) (coefficient s) i (λ j a. same j) ∙ p.equation i h ∙ p.within.evaluator i q;
     }
 
--- There is a pair within d or not.
+-- There is a pair within d, or there is none.
 pair_decided : (s : List ℕ) (d : ℕ) → ((l : List ℕ) × (w : List ℕ) × IsPair s d l w) ⊎ ((l w : List ℕ) → IsPair s d l w → ⊥)
 pair_decided s d =
-    elim (list_found (suc d) (Locates s d) (locates_decided s d)) [
-      | inl f ↦ inl (f.0, first (convolution (coefficient f.0) (coefficient s)) d, pair_of s d f.0 f.1 f.2 f.3)
-      | inr missing ↦ inr (λ g v p. missing (first (coefficient g) (suc d)) (bytes_first (coefficient g) (suc d) (byte_at g p.locator_bytes)) (length-first (coefficient g) (suc d)) (locates s g v d p))
+    elim (any_list (suc d) (Locates s d) (λ l b e. locates_decided s d l)) [
+      | inl some ↦ inl (some.list, first (convolution (coefficient some.list) (coefficient s)) d, pair_of s d some.list some.bytes some.long some.holds)
+      | inr none ↦ inr (λ g v p. none (record {
+        list = first (coefficient g) (suc d);
+        bytes = bytes_first (coefficient g) (suc d) (byte_at g p.locator_bytes);
+        long = length-first (coefficient g) (suc d);
+        holds = first_locates s g v d p;
+      }))
     ]
 
 -- ---- the first bound
--- The least pair has one of the first n bounds, or there is no pair within them.
+-- A least pair has one of the first n bounds, or no pair is within any of them.
 first_bound : (s : List ℕ) (t n : ℕ) → n ≤ suc t → ((l : List ℕ) × (w : List ℕ) × (d : ℕ) × IsLeastAt s t l w d) ⊎ ((d : ℕ) → d < n → (l w : List ℕ) → IsPair s d l w → ⊥)
 first_bound s t zero h = inr (λ d b l w p. absurd (omega arith))
 first_bound s t (suc n) h =

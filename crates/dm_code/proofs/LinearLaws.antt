@@ -3,16 +3,17 @@ use Rattle.std.proofs.Common.{◌≡◌, ℕ, zero, suc, ◌+◌, ◌-◌, ◌<�
 use lib.Bits.{xor_self, xor_zero_r}
 use Rattle.gf301.specs.Field.{◌⊕◌, ◌⊗◌}
 use Rattle.gf301.specs.Polynomial.{coefficient}
+use Rattle.dm_code.specs.declared.limits.TheConstants.{MOST_ERRORS, MOST_COEFFICIENTS}
 use Rattle.dm_code.specs.inner.LinearSystem.{dot, row, Solves, Unsolvable}
-use Rattle.gf301.proofs.Exported.{xor_swap, product_sum_left, product_sum_right, product_assoc, product_comm, product_zero_left, product_zero_right, product_one_left, product_one_right, product_one_middle, product_below, sum_below}
+use Rattle.gf301.proofs.Exported.{xor_swap, product_sum_left, product_sum_right, product_assoc, product_comm, product_at_zero, product_zero_right, product_one_left, product_one_right, product_one_middle, product_below, sum_below}
 
--- The rows after a multiple of the pivot row g has been added to each, y being the inverse of its coefficient at c.
+-- The rows are reduced when a multiple of the pivot row g has been added to each, y being the inverse of its coefficient at c.
 pub record Reduced (rows less : List (List ℕ)) (g : ℕ → ℕ) (y c : ℕ) : Type 0 where
   pub one : g c ⊗ y ≡ 1
   pub long : length less ≡ length rows
   pub each : (k : ℕ) → k < length rows → (j : ℕ) → row less k j ≡ row rows k j ⊕ (row rows k c ⊗ y) ⊗ g j
 
--- A sum of rows ..
+-- A sum of rows takes the sum of their products with the unknowns.
 dot_sum : (f g v : ℕ → ℕ) (c n : ℕ) → dot (λ j. f j ⊕ g j) v c n ≡ dot f v c n ⊕ dot g v c n
 unfolding dot
 dot_sum f g v c zero = refl
@@ -21,7 +22,7 @@ dot_sum f g v c (suc n) =
     ∙ ap (bit_xor (f c ⊗ v c ⊕ g c ⊗ v c)) (dot_sum f g v (suc c) n)
     ∙ xor_swap (f c ⊗ v c) (g c ⊗ v c) (dot f v (suc c) n) (dot g v (suc c) n)
 
--- .. and a multiple of a row.
+-- A multiple of a row takes the multiple of its products with the unknowns.
 dot_scale : (x : ℕ) (f v : ℕ → ℕ) (c n : ℕ) → dot (λ j. x ⊗ f j) v c n ≡ x ⊗ dot f v c n
 unfolding dot
 dot_scale x f v c zero = sym (product_zero_right x)
@@ -30,7 +31,7 @@ dot_scale x f v c (suc n) =
     ∙ ap (bit_xor (x ⊗ (f c ⊗ v c))) (dot_scale x f v (suc c) n)
     ∙ sym (product_sum_right x (f c ⊗ v c) (dot f v (suc c) n))
 
--- The same rows and unknowns from c on.
+-- Rows and unknowns that are the same from c on have the same sum of products.
 pub dot_same : (f g v u : ℕ → ℕ) (c n : ℕ) → ((j : ℕ) → c ≤ j → f j ≡ g j) → ((j : ℕ) → c ≤ j → v j ≡ u j) → dot f v c n ≡ dot g u c n
 unfolding dot
 dot_same f g v u c zero h k = refl
@@ -38,27 +39,23 @@ dot_same f g v u c (suc n) h k =
     ap (λ y. y ⊗ v c ⊕ dot f v (suc c) n) (h c (omega arith)) ∙ ap (λ y. g c ⊗ y ⊕ dot f v (suc c) n) (k c (omega arith))
     ∙ ap (bit_xor (g c ⊗ u c)) (dot_same f g v u (suc c) n (λ j l. h j (omega arith)) (λ j l. k j (omega arith)))
 
--- A product that is 0 can be left out.
+-- A first product that is 0 can be left out.
 dot_head : (f v : ℕ → ℕ) (c n : ℕ) → f c ⊗ v c ≡ 0 → dot f v c (suc n) ≡ dot f v (suc c) n
 unfolding dot
 dot_head f v c n e = ap (λ y. y ⊕ dot f v (suc c) n) e
 
--- The sum is a byte.
+-- The sum of products is a byte.
 dot_below : (f v : ℕ → ℕ) (c n : ℕ) → dot f v c n < 256
 unfolding dot
 dot_below f v c zero = omega arith
 dot_below f v c (suc n) = sum_below (f c ⊗ v c) (dot f v (suc c) n) (product_below (f c) (v c)) (dot_below f v (suc c) n)
 
--- A coefficient that is 0 takes no unknown.
-free : (x y : ℕ) → x ≡ 0 → x ⊗ y ≡ 0
-free x y e = ap (λ z. z ⊗ y) e ∙ product_zero_left y
-
--- The first place apart.
+-- The sum over n + 1 places is the first product plus the sum over the n places after it.
 dot_more : (f v : ℕ → ℕ) (c n : ℕ) → dot f v c (suc n) ≡ f c ⊗ v c ⊕ dot f v (suc c) n
 unfolding dot
 dot_more f v c n = refl
 
--- A reduced row has the unknown c no more.
+-- The coefficient of the unknown c in a reduced row is 0.
 reduced_head : (rows less : List (List ℕ)) (g : ℕ → ℕ) (y c : ℕ) → Reduced rows less g y c → (k : ℕ) → k < length rows → (x : ℕ) → row less k c ⊗ x ≡ 0
 reduced_head rows less g y c r k h x =
     let f = row rows k c in
@@ -86,7 +83,7 @@ solves_reduced rows less p y c n v l r s = record {
       ∙ ap (λ x. z ⊗ x) (s.each p l) ∙ product_zero_right z;
 }
 
--- And a solution of the reduced rows gives one of the rows.
+-- A solution of the reduced rows gives one of the rows.
 pub solves_back : (rows less : List (List ℕ)) (p y c n : ℕ) (v u : ℕ → ℕ) → p < length rows → Reduced rows less (row rows p) y c → Solves less (suc c) n v
     → ((j : ℕ) → suc c ≤ j → u j ≡ v j) → u c ≡ y ⊗ dot (row rows p) v (suc c) (suc n) → dot (row rows p) v (suc c) (suc n) < 256 → Solves rows c (suc n) u
 solves_back rows less p y c n v u l r s h e b =
@@ -106,38 +103,38 @@ solves_back rows less p y c n v u l r s h e b =
           ∙ dot_same (row less k) (row less k) u v (suc c) (suc n) (λ j q. refl) h ∙ s.each k (omega (arith, r.long));
     }
 
--- Where the column is 0 in each row, its unknown is free.
+-- Where the column c is 0 in each row, a solution from c on is one from c + 1 on.
 pub solves_later : (rows : List (List ℕ)) (c n : ℕ) (v : ℕ → ℕ) → ((k : ℕ) → k < length rows → row rows k c ≡ 0) → Solves rows c (suc n) v → Solves rows (suc c) n v
 solves_later rows c n v z s = record {
   last = ap v (let e : suc c + n ≡ c + suc n = omega arith in e) ∙ s.last;
-  each = λ k h. sym (dot_head (row rows k) v c (suc n) (free (row rows k c) (v c) (z k h))) ∙ s.each k h;
+  each = λ k h. sym (dot_head (row rows k) v c (suc n) (product_at_zero (row rows k c) (v c) (z k h))) ∙ s.each k h;
 }
 
--- And back: any value of it solves the rows.
+-- Where the column c is 0 in each row, a solution from c + 1 on is one from c on, whatever its unknown c is.
 pub solves_sooner : (rows : List (List ℕ)) (c n : ℕ) (v : ℕ → ℕ) → ((k : ℕ) → k < length rows → row rows k c ≡ 0) → Solves rows (suc c) n v → Solves rows c (suc n) v
 solves_sooner rows c n v z s = record {
   last = ap v (let e : c + suc n ≡ suc c + n = omega arith in e) ∙ s.last;
-  each = λ k h. dot_head (row rows k) v c (suc n) (free (row rows k c) (v c) (z k h)) ∙ s.each k h;
+  each = λ k h. dot_head (row rows k) v c (suc n) (product_at_zero (row rows k c) (v c) (z k h)) ∙ s.each k h;
 }
 
--- The place before, by its number.
+-- The sum over m places from c on is the first product plus the sum from the next place on.
 pub dot_step : (f v : ℕ → ℕ) (c n d m : ℕ) → d ≡ suc c → m ≡ suc n → dot f v c m ≡ f c ⊗ v c ⊕ dot f v d n
 dot_step f v c n d m e q = ap (dot f v c) q ∙ dot_more f v c n ∙ ap (λ x. f c ⊗ v c ⊕ dot f v x n) (sym e)
 
 -- ---- the last column
--- The last unknown, which is 1, alone.
+-- The product with the last unknown, which is 1, is the coefficient times 1.
 last_dot : (f v : ℕ → ℕ) (c : ℕ) → v c ≡ 1 → dot f v c 1 ≡ f c ⊗ 1
 unfolding dot
 last_dot f v c e = xor_zero_r (f c ⊗ v c) ∙ ap (λ x. f c ⊗ x) e
 
--- Rows of zeros are solved ..
+-- Rows that are 0 in the last column are solved by any unknowns of which the last is 1.
 pub solves_last : (rows : List (List ℕ)) (c : ℕ) (v : ℕ → ℕ) → v c ≡ 1 → ((k : ℕ) → k < length rows → row rows k c ≡ 0) → Solves rows c 0 v
 solves_last rows c v e z = record {
   last = ap v (let q : c + 0 ≡ c = omega arith in q) ∙ e;
-  each = λ k h. last_dot (row rows k) v c e ∙ free (row rows k c) 1 (z k h);
+  each = λ k h. last_dot (row rows k) v c e ∙ product_at_zero (row rows k c) 1 (z k h);
 }
 
--- .. and others aren't.
+-- Rows of which one is not 0 in the last column have no solution.
 pub last_pivot : (rows : List (List ℕ)) (c p : ℕ) (v : ℕ → ℕ) → p < length rows → 0 < row rows p c → row rows p c < 256 → Solves rows c 0 v → ⊥
 last_pivot rows c p v h l b s =
     let z : row rows p c ≡ 0 =
@@ -145,44 +142,44 @@ last_pivot rows c p v h l b s =
     omega arith
 
 -- ---- the same with numbers that are equal by arithmetic
--- Equal places and counts.
-at : (rows : List (List ℕ)) (c d m n : ℕ) (v : ℕ → ℕ) → c ≡ d → m ≡ n → Solves rows c m v → Solves rows d n v
-at rows c d m n v e q s = subst (λ x. Solves rows d x v) q (subst (λ x. Solves rows x m v) e s)
+-- A solution is still one when its place and its count are given by other, equal numbers.
+solves_at : (rows : List (List ℕ)) (c d m n : ℕ) (v : ℕ → ℕ) → c ≡ d → m ≡ n → Solves rows c m v → Solves rows d n v
+solves_at rows c d m n v e q s = subst (λ x. Solves rows d x v) q (subst (λ x. Solves rows x m v) e s)
 
--- From the unknowns from c on to those after it ..
-pub column_down : (rows less kept : List (List ℕ)) (p y c : ℕ) (v : ℕ → ℕ) → c < 34 → p < length rows → Reduced rows less (row rows p) y c → kept ≡ less → Solves rows c (34 - c) v → Solves kept (c + 1) (34 - (c + 1)) v
+-- A solution in the unknowns from c on is one of the reduced rows in those after c.
+pub column_down : (rows less kept : List (List ℕ)) (p y c : ℕ) (v : ℕ → ℕ) → c < MOST_ERRORS → p < length rows → Reduced rows less (row rows p) y c → kept ≡ less → Solves rows c (MOST_ERRORS - c) v → Solves kept (c + 1) (MOST_ERRORS - (c + 1)) v
 column_down rows less kept p y c v h l r k s =
-    subst (λ x. Solves x (c + 1) (34 - (c + 1)) v) (sym k)
-    (at less (suc c) (c + 1) (33 - c) (34 - (c + 1)) v (omega arith) (omega arith)
-    (solves_reduced rows less p y c (33 - c) v l r (at rows c c (34 - c) (suc (33 - c)) v refl (omega arith) s)))
+    subst (λ x. Solves x (c + 1) (MOST_ERRORS - (c + 1)) v) (sym k)
+    (solves_at less (suc c) (c + 1) (MOST_ERRORS - suc c) (MOST_ERRORS - (c + 1)) v (omega arith) (omega arith)
+    (solves_reduced rows less p y c (MOST_ERRORS - suc c) v l r (solves_at rows c c (MOST_ERRORS - c) (suc (MOST_ERRORS - suc c)) v refl (omega arith) s)))
 
--- .. and back.
-pub column_up : (rows less kept : List (List ℕ)) (p y c : ℕ) (v u : ℕ → ℕ) → c < 34 → p < length rows → Reduced rows less (row rows p) y c → kept ≡ less → Solves kept (c + 1) (34 - (c + 1)) v
-    → ((j : ℕ) → c < j → u j ≡ v j) → u c ≡ y ⊗ dot (row rows p) v (c + 1) (35 - (c + 1)) → Solves rows c (34 - c) u
+-- A solution of the reduced rows in the unknowns after c gives one of the rows in those from c on.
+pub column_up : (rows less kept : List (List ℕ)) (p y c : ℕ) (v u : ℕ → ℕ) → c < MOST_ERRORS → p < length rows → Reduced rows less (row rows p) y c → kept ≡ less → Solves kept (c + 1) (MOST_ERRORS - (c + 1)) v
+    → ((j : ℕ) → c < j → u j ≡ v j) → u c ≡ y ⊗ dot (row rows p) v (c + 1) (MOST_COEFFICIENTS - (c + 1)) → Solves rows c (MOST_ERRORS - c) u
 column_up rows less kept p y c v u h l r k s o e =
-    let z : dot (row rows p) v (c + 1) (35 - (c + 1)) ≡ dot (row rows p) v (suc c) (suc (33 - c)) =
-    ap (λ x. dot (row rows p) v x (35 - (c + 1))) (let q : c + 1 ≡ suc c = omega arith in q) ∙ ap (dot (row rows p) v (suc c)) (let q : 35 - (c + 1) ≡ suc (33 - c) = omega arith in q) in
-    at rows c c (suc (33 - c)) (34 - c) u refl (omega arith)
-    (solves_back rows less p y c (33 - c) v u l r
-    (at less (c + 1) (suc c) (34 - (c + 1)) (33 - c) v (omega arith) (omega arith) (subst (λ x. Solves x (c + 1) (34 - (c + 1)) v) k s))
-    o (e ∙ ap (λ x. y ⊗ x) z) (dot_below (row rows p) v (suc c) (suc (33 - c))))
+    let z : dot (row rows p) v (c + 1) (MOST_COEFFICIENTS - (c + 1)) ≡ dot (row rows p) v (suc c) (suc (MOST_ERRORS - suc c)) =
+    ap (λ x. dot (row rows p) v x (MOST_COEFFICIENTS - (c + 1))) (let q : c + 1 ≡ suc c = omega arith in q) ∙ ap (dot (row rows p) v (suc c)) (let q : MOST_COEFFICIENTS - (c + 1) ≡ suc (MOST_ERRORS - suc c) = omega arith in q) in
+    solves_at rows c c (suc (MOST_ERRORS - suc c)) (MOST_ERRORS - c) u refl (omega arith)
+    (solves_back rows less p y c (MOST_ERRORS - suc c) v u l r
+    (solves_at less (c + 1) (suc c) (MOST_ERRORS - (c + 1)) (MOST_ERRORS - suc c) v (omega arith) (omega arith) (subst (λ x. Solves x (c + 1) (MOST_ERRORS - (c + 1)) v) k s))
+    o (e ∙ ap (λ x. y ⊗ x) z) (dot_below (row rows p) v (suc c) (suc (MOST_ERRORS - suc c))))
 
--- The same for a column of zeros ..
-pub free_down : (rows : List (List ℕ)) (c : ℕ) (v : ℕ → ℕ) → c < 34 → ((k : ℕ) → k < length rows → row rows k c ≡ 0) → Solves rows c (34 - c) v → Solves rows (c + 1) (34 - (c + 1)) v
-free_down rows c v h z s = at rows (suc c) (c + 1) (33 - c) (34 - (c + 1)) v (omega arith) (omega arith) (solves_later rows c (33 - c) v z (at rows c c (34 - c) (suc (33 - c)) v refl (omega arith) s))
+-- Where the column c is 0 in each row, a solution in the unknowns from c on is one in those after c.
+pub free_down : (rows : List (List ℕ)) (c : ℕ) (v : ℕ → ℕ) → c < MOST_ERRORS → ((k : ℕ) → k < length rows → row rows k c ≡ 0) → Solves rows c (MOST_ERRORS - c) v → Solves rows (c + 1) (MOST_ERRORS - (c + 1)) v
+free_down rows c v h z s = solves_at rows (suc c) (c + 1) (MOST_ERRORS - suc c) (MOST_ERRORS - (c + 1)) v (omega arith) (omega arith) (solves_later rows c (MOST_ERRORS - suc c) v z (solves_at rows c c (MOST_ERRORS - c) (suc (MOST_ERRORS - suc c)) v refl (omega arith) s))
 
--- .. and back.
-pub free_up : (rows : List (List ℕ)) (c : ℕ) (v : ℕ → ℕ) → c < 34 → ((k : ℕ) → k < length rows → row rows k c ≡ 0) → Solves rows (c + 1) (34 - (c + 1)) v → Solves rows c (34 - c) v
-free_up rows c v h z s = at rows c c (suc (33 - c)) (34 - c) v refl (omega arith) (solves_sooner rows c (33 - c) v z (at rows (c + 1) (suc c) (34 - (c + 1)) (33 - c) v (omega arith) (omega arith) s))
+-- Where the column c is 0 in each row, a solution in the unknowns after c is one in those from c on.
+pub free_up : (rows : List (List ℕ)) (c : ℕ) (v : ℕ → ℕ) → c < MOST_ERRORS → ((k : ℕ) → k < length rows → row rows k c ≡ 0) → Solves rows (c + 1) (MOST_ERRORS - (c + 1)) v → Solves rows c (MOST_ERRORS - c) v
+free_up rows c v h z s = solves_at rows c c (suc (MOST_ERRORS - suc c)) (MOST_ERRORS - c) v refl (omega arith) (solves_sooner rows c (MOST_ERRORS - suc c) v z (solves_at rows (c + 1) (suc c) (MOST_ERRORS - (c + 1)) (MOST_ERRORS - suc c) v (omega arith) (omega arith) s))
 
--- So a solution of the unknowns after c is one from c on ..
-pub free_some : (rows : List (List ℕ)) (c : ℕ) (o : Option (List ℕ)) → c < 34 → ((k : ℕ) → k < length rows → row rows k c ≡ 0)
-    → IfSome o (λ v. Solves rows (c + 1) (34 - (c + 1)) (coefficient v)) → IfSome o (λ v. Solves rows c (34 - c) (coefficient v))
+-- Where the column c is 0 in each row, an answer with a solution in the unknowns after c is right for those from c on.
+pub free_some : (rows : List (List ℕ)) (c : ℕ) (o : Option (List ℕ)) → c < MOST_ERRORS → ((k : ℕ) → k < length rows → row rows k c ≡ 0)
+    → IfSome o (λ v. Solves rows (c + 1) (MOST_ERRORS - (c + 1)) (coefficient v)) → IfSome o (λ v. Solves rows c (MOST_ERRORS - c) (coefficient v))
 free_some rows c (Some v) h z m = free_up rows c (coefficient v) h z m
 free_some rows c None h z m = tt
 
--- .. and where those have none, neither have these.
-pub free_none : (rows : List (List ℕ)) (c : ℕ) (o : Option (List ℕ)) → c < 34 → ((k : ℕ) → k < length rows → row rows k c ≡ 0)
-    → IfNone o (Unsolvable rows (c + 1) (34 - (c + 1))) → IfNone o (Unsolvable rows c (34 - c))
+-- Where the column c is 0 in each row, an answer that there is no solution in the unknowns after c is right for those from c on.
+pub free_none : (rows : List (List ℕ)) (c : ℕ) (o : Option (List ℕ)) → c < MOST_ERRORS → ((k : ℕ) → k < length rows → row rows k c ≡ 0)
+    → IfNone o (Unsolvable rows (c + 1) (MOST_ERRORS - (c + 1))) → IfNone o (Unsolvable rows c (MOST_ERRORS - c))
 free_none rows c (Some v) h z m = tt
 free_none rows c None h z m = λ v s. m v (free_down rows c v h z s)

@@ -7,33 +7,33 @@ use Rattle.gf301.specs.Field.{◌⊕◌, ◌⊗◌}
 use Rattle.gf301.proofs.Exported.{product_zero_left, product_zero_right, product_one_left, product_one_right, product_comm, product_inverse, inverse_of, sum_zero, sum_below, product_below, conv_sum_left, conv_scale_left, conv_below, conv_comm, conv_swap, conv_same_right, conv_zero}
 use Rattle.gf301.specs.Polynomial.{shift, convolution, coefficient}
 
--- l and w are a pair for the first k coefficients of s, of length d.
+-- The series l and w are a pair for the first k coefficients of s, of length d.
 pub record IsSeriesPair (l w s : ℕ → ℕ) (d k : ℕ) : Type 0 where
   pub one : l 0 ≡ 1
   pub degree : (i : ℕ) → d < i → l i ≡ 0
   pub short : (i : ℕ) → d ≤ i → w i ≡ 0
   pub gives : (i : ℕ) → i < k → convolution l s i ≡ w i
 
--- A pair of which no pair has a smaller bound.
+-- A pair of series is a least one if no pair has a smaller bound.
 abbrev pub IsLeastSeries : (ℕ → ℕ) → (ℕ → ℕ) → (ℕ → ℕ) → ℕ → ℕ → Type 0
 IsLeastSeries l w s d k = IsSeriesPair l w s d k × ((g v : ℕ → ℕ) (e : ℕ) → IsSeriesPair g v s e k → d ≤ e)
 
--- The product with a sum.
+-- The product with a sum is the sum of the products.
 conv_sum_right : (f g h : ℕ → ℕ) (n : ℕ) → convolution f (λ i. g i ⊕ h i) n ≡ convolution f g n ⊕ convolution f h n
 conv_sum_right f g h n =
     conv_comm f (λ i. g i ⊕ h i) n ∙ conv_sum_left g h f n ∙ ap (λ y. y ⊕ convolution h f n) (conv_comm g f n) ∙ ap (bit_xor (convolution f g n)) (conv_comm h f n)
 
--- The product with a series that begins with 0.
+-- The product with a series that begins with 0 is the product with the rest of it, one place later.
 conv_head : (f g : ℕ → ℕ) (n : ℕ) → f 0 ≡ 0 → convolution f g (suc n) ≡ convolution (shift f) g n
 unfolding convolution
 conv_head f g n e = ap (λ y. y ⊗ g (suc n) ⊕ convolution (shift f) g n) e ∙ ap (λ y. y ⊕ convolution (shift f) g n) (product_zero_left (g (suc n)))
 
--- The first coefficient of a product.
+-- The first coefficient of a product is the product of the first coefficients.
 pub conv_at_zero : (f g : ℕ → ℕ) → convolution f g 0 ≡ f 0 ⊗ g 0
 unfolding convolution
 conv_at_zero f g = refl
 
--- A series that begins with 1 can be divided out.
+-- A series whose product with one that begins with 1 is 0 up to a place is itself 0 up to there.
 unit_zero : (l f : ℕ → ℕ) (k : ℕ) → l 0 ≡ 1 → ((i : ℕ) → f i < 256) → ((i : ℕ) → i < k → convolution l f i ≡ 0) → (i : ℕ) → i < k → f i ≡ 0
 unit_zero l f zero e b h i m = absurd (omega arith)
 unit_zero l f (suc k) e b h zero m = sym (ap (λ y. y ⊗ f 0) e ∙ product_one_left (f 0) (b 0)) ∙ sym (conv_at_zero l f) ∙ h 0 m
@@ -51,17 +51,17 @@ same_equation l w s a b d k p hb e i h =
     ∙ ap (λ y. y ⊕ convolution l b n) (conv_swap l a s n ∙ conv_same_right a (convolution l s) w n (λ j r. p.gives j (omega arith)) ∙ e n)
     ∙ xor_self (convolution l b n)) i h)
 
--- A series that is 0 first and later.
+-- A series that is 0 at the first place and at all later ones is 0 everywhere.
 pub zero_everywhere : (f : ℕ → ℕ) → f 0 ≡ 0 → ((i : ℕ) → f (suc i) ≡ 0) → (i : ℕ) → f i ≡ 0
 zero_everywhere f z h zero = z
 zero_everywhere f z h (suc i) = h i
 
--- Where a * w = l * b, the first coefficients agree ..
+-- Where a * w = l * b, the first coefficient of b is the product of those of a and w.
 pub head_equation : (l w a b : ℕ → ℕ) → l 0 ≡ 1 → b 0 < 256 → ((n : ℕ) → convolution a w n ≡ convolution l b n) → b 0 ≡ a 0 ⊗ w 0
 head_equation l w a b o h e =
     sym (product_one_left (b 0) h) ∙ ap (λ y. y ⊗ b 0) (sym o) ∙ sym (conv_at_zero l b) ∙ sym (e 0) ∙ conv_at_zero a w
 
--- .. and where they are 0, x can be divided out.
+-- Where these first coefficients are 0, x can be divided out of the equation.
 pub shift_equation : (l w a b : ℕ → ℕ) → a 0 ≡ 0 → b 0 ≡ 0 → ((n : ℕ) → convolution a w n ≡ convolution l b n) → (n : ℕ) → convolution (shift a) w n ≡ convolution l (shift b) n
 shift_equation l w a b za zb e n =
     sym (conv_head a w n za) ∙ e (suc n) ∙ conv_comm l b (suc n) ∙ conv_head b l n zb ∙ conv_comm (shift b) l n
@@ -77,7 +77,7 @@ scaled_pair l w s d k c a b p h ha hb da db e = record {
   gives = λ i q. conv_scale_left (inverse_of (a 0)) a s i ∙ ap (λ y. inverse_of (a 0) ⊗ y) (same_equation l w s a b d k p hb e i q);
 }
 
--- What is shorter than the least pair is nothing: first its heads.
+-- A solution of the equation that is shorter than the least pair begins with zeros.
 heads_nothing : (l w s : ℕ → ℕ) (d k : ℕ) → IsLeastSeries l w s d k → (c : ℕ) → c < d → (a b : ℕ → ℕ) → ((i : ℕ) → a i < 256) → ((i : ℕ) → b i < 256)
     → ((i : ℕ) → c < i → a i ≡ 0) → ((i : ℕ) → c ≤ i → b i ≡ 0) → ((n : ℕ) → convolution a w n ≡ convolution l b n) → (a 0 ≡ 0) × (b 0 ≡ 0)
 heads_nothing l w s d k p c h a b ha hb da db e =
@@ -88,7 +88,7 @@ heads_nothing l w s d k p c h a b ha hb da db e =
     ] in
     (z, head_equation l w a b p.0.one (hb 0) e ∙ ap (λ x. x ⊗ w 0) z ∙ product_zero_left (w 0))
 
--- .. then all of it.
+-- A solution of the equation that is shorter than the least pair is 0 everywhere.
 pub nothing_shorter : (l w s : ℕ → ℕ) (d k : ℕ) → IsLeastSeries l w s d k → (c : ℕ) → c < d → (a b : ℕ → ℕ) → ((i : ℕ) → a i < 256) → ((i : ℕ) → b i < 256)
     → ((i : ℕ) → c < i → a i ≡ 0) → ((i : ℕ) → c ≤ i → b i ≡ 0) → ((n : ℕ) → convolution a w n ≡ convolution l b n)
     → ((i : ℕ) → a i ≡ 0) × ((i : ℕ) → b i ≡ 0)
@@ -102,16 +102,16 @@ nothing_shorter l w s d k p (suc c) h a b ha hb da db e =
     (shift_equation l w a b z.0 z.1 e) in
     (zero_everywhere a z.0 r.0, zero_everywhere b z.1 r.1)
 
--- a and b are q times l and w.
+-- The pair (a, b) is a multiple of the pair (l, w): it is (q l, q w) for some q.
 abbrev IsSeriesMultiple : (ℕ → ℕ) → (ℕ → ℕ) → (ℕ → ℕ) → (ℕ → ℕ) → Type 0
 IsSeriesMultiple l w a b = (q : List ℕ) × ((i : ℕ) → a i ≡ convolution (coefficient q) l i) × ((i : ℕ) → b i ≡ convolution (coefficient q) w i)
 
--- Nothing is 0 times them.
+-- Two series of zeros are 0 times any two series.
 no_multiple : (l w a b : ℕ → ℕ) → ((i : ℕ) → a i ≡ 0) → ((i : ℕ) → b i ≡ 0) → IsSeriesMultiple l w a b
 no_multiple l w a b za zb =
     ([], (λ i. za i ∙ sym (conv_zero (coefficient []) l i (λ j m q. product_zero_left (l m)))), (λ i. zb i ∙ sym (conv_zero (coefficient []) w i (λ j m q. product_zero_left (w m)))))
 
--- x more in front of the factor.
+-- A multiple with one more coefficient x in front of the factor is x times the series, plus the other multiple one place later.
 cons_multiple : (x : ℕ) (q : List ℕ) (l a : ℕ → ℕ) → a 0 ≡ x ⊗ l 0 → ((i : ℕ) → a (suc i) ⊕ x ⊗ l (suc i) ≡ convolution (coefficient q) l i) → (i : ℕ) → a i ≡ convolution (coefficient (x ∷ q)) l i
 unfolding convolution
 cons_multiple x q l a z h zero = z
@@ -119,11 +119,11 @@ cons_multiple x q l a z h (suc i) =
     sym (xor_zero_r (a (suc i))) ∙ ap (bit_xor (a (suc i))) (sym (xor_self (x ⊗ l (suc i)))) ∙ sym (xor_assoc (a (suc i)) (x ⊗ l (suc i)) (x ⊗ l (suc i)))
     ∙ ap (λ y. y ⊕ x ⊗ l (suc i)) (h i) ∙ xor_comm (convolution (coefficient q) l i) (x ⊗ l (suc i))
 
--- A sum of zeros.
+-- The sum of 0 and a multiple of 0 is 0.
 pub both_zero : (x a b : ℕ) → a ≡ 0 → b ≡ 0 → a ⊕ x ⊗ b ≡ 0
 both_zero x a b p q = ap (λ y. y ⊕ x ⊗ b) p ∙ ap (λ y. x ⊗ y) q ∙ product_zero_right x
 
--- Less x times the least pair, the equation still holds.
+-- The equation still holds when x times the least pair is taken away from a solution.
 pub less_equation : (l w a b : ℕ → ℕ) (x : ℕ) → ((n : ℕ) → convolution a w n ≡ convolution l b n) → (n : ℕ) → convolution (λ i. a i ⊕ x ⊗ l i) w n ≡ convolution l (λ i. b i ⊕ x ⊗ w i) n
 less_equation l w a b x e n =
     conv_sum_left a (λ i. x ⊗ l i) w n ∙ ap (λ y. y ⊕ convolution (λ i. x ⊗ l i) w n) (e n)
@@ -131,10 +131,10 @@ less_equation l w a b x e n =
     ∙ sym (conv_sum_right l b (λ i. x ⊗ w i) n)
 
 -- What solves the equation with the least pair is a multiple of it: its first coefficient is that of the factor, and the rest is shorter.
-pub multiples : (l w s : ℕ → ℕ) (d k : ℕ) → IsLeastSeries l w s d k → (c : ℕ) (a b : ℕ → ℕ) → ((i : ℕ) → a i < 256) → ((i : ℕ) → b i < 256)
+pub solution_is_multiple : (l w s : ℕ → ℕ) (d k : ℕ) → IsLeastSeries l w s d k → (c : ℕ) (a b : ℕ → ℕ) → ((i : ℕ) → a i < 256) → ((i : ℕ) → b i < 256)
     → ((i : ℕ) → c ≤ i → a i ≡ 0) → ((i : ℕ) → c ≤ suc i → b i ≡ 0) → ((n : ℕ) → convolution a w n ≡ convolution l b n) → IsSeriesMultiple l w a b
-multiples l w s d k p zero a b ha hb da db e = no_multiple l w a b (λ i. da i (omega arith)) (λ i. db i (omega arith))
-multiples l w s d k p (suc c) a b ha hb da db e =
+solution_is_multiple l w s d k p zero a b ha hb da db e = no_multiple l w a b (λ i. da i (omega arith)) (λ i. db i (omega arith))
+solution_is_multiple l w s d k p (suc c) a b ha hb da db e =
     elim (cases_lt c d) [
       | inl h ↦
           let r : ((i : ℕ) → a i ≡ 0) × ((i : ℕ) → b i ≡ 0) =
@@ -148,7 +148,7 @@ multiples l w s d k p (suc c) a b ha hb da db e =
           let hw : b 0 ≡ x ⊗ w 0 = head_equation l w a b p.0.one (hb 0) e in
           let zg : b 0 ⊕ x ⊗ w 0 ≡ 0 = ap (λ y. y ⊕ x ⊗ w 0) hw ∙ xor_self (x ⊗ w 0) in
           let r : IsSeriesMultiple l w (shift f) (shift g) =
-          multiples l w s d k p c (shift f) (shift g)
+          solution_is_multiple l w s d k p c (shift f) (shift g)
           (λ i. sum_below (a (suc i)) (x ⊗ l (suc i)) (ha (suc i)) (product_below x (l (suc i))))
           (λ i. sum_below (b (suc i)) (x ⊗ w (suc i)) (hb (suc i)) (product_below x (w (suc i))))
           (λ i q. both_zero x (a (suc i)) (l (suc i)) (da (suc i) (omega arith)) (p.0.degree (suc i) (omega arith)))

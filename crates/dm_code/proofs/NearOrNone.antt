@@ -30,7 +30,7 @@ is_near_or_not k w c b l room short =
       | inr other ↦ inr (λ near. other (codeword_syndromes k c near.codeword))
     ]
 
--- Some codeword is near, or none is.
+-- Some codeword is near to a word, or none is.
 pub near_or_none : (k : ℕ) (w : List ℕ) → k < length w → length w ≤ 255 → ((c : List ℕ) × IsNear k w c) ⊎ ((c : List ℕ) → IsNear k w c → ⊥)
 near_or_none k w room short =
     elim (any_list (length w) (IsNear k w) (λ c b l. is_near_or_not k w c b l room short)) [

@@ -2,10 +2,10 @@
 -- codeword.
 use Rattle.std.proofs.Common.{◌≡◌, ℕ, suc, ◌+◌, ◌-◌, ◌/◌, ◌<◌, ◌≤◌, List, [], ◌∷◌, length, get_or, sym, ap, subst, ◌∙◌, arith, bit_xor}
 use Rattle.std.proofs.lemmas.List.{ext_get_or}
-use lib.Bits.{xor_assoc, xor_comm, xor_self, xor_zero_r}
+use lib.Bits.{xor_zero_r}
 use Rattle.gf301.specs.Field.{◌⊕◌, raise, power}
 use Rattle.gf301.specs.Polynomial.{Bytes, value, coefficient, convolution}
-use Rattle.gf301.proofs.Exported.{plus, nonzeros, sum_below, weigh, value_weigh, bytes_cons, length_plus, bytes_plus, get_or-plus, value_plus, conv_same_left, sums, locate}
+use Rattle.gf301.proofs.Exported.{plus, nonzeros, sum_below, weigh, value_weigh, xor_twice, length_plus, bytes_plus, get_or-plus, value_plus, conv_same_left, sums, locate}
 use Rattle.dm_code.specs.Codeword.{IsNear}
 use Rattle.dm_code.specs.Syndromes.{syndromes_of}
 use Rattle.dm_code.specs.KeyEquation.{IsLeastPair, NoPair, IsBelow}
@@ -15,11 +15,11 @@ use Rattle.dm_code.proofs.Distance.{distance_nonzeros}
 use Rattle.dm_code.proofs.SyndromeLaws.{syndrome_at}
 use Rattle.dm_code.proofs.Bytes.{bytes_places}
 use Rattle.dm_code.proofs.First.{first}
-use Rattle.dm_code.proofs.Pairs.{wider, pair_within, byte_at, IsLeastAt, least_at}
+use Rattle.dm_code.proofs.Pairs.{within_wider, pair_within, byte_at, IsLeastAt, least_at}
 use Rattle.dm_code.proofs.ErrorPlaces.{locator_at, Vanishes, true_pair, pair_vanishes}
 use Rattle.dm_code.proofs.ErrorValues.{IsErrorValue, error_found}
 
--- s are the syndromes of w.
+-- The list s has the syndromes of the word w.
 abbrev AreSyndromes : List ℕ → List ℕ → Type 0
 AreSyndromes w s = s ≡ syndromes_of w (length s)
 
@@ -36,15 +36,15 @@ syndromes_sums w s c h n i l =
 errors_few : (k : ℕ) (w c : List ℕ) → IsNear k w c → nonzeros (plus w c) ≤ k / 2
 errors_few k w c n = subst (λ m. m ≤ k / 2) (distance_nonzeros w c (sym n.long)) n.close
 
--- Where a codeword is near, there is a pair.
+-- Where a codeword is near, there is a pair of the key equation.
 pub near_pair : (w s c : List ℕ) → AreSyndromes w s → IsNear (length s) w c → NoPair s (length s / 2) → ⊥
 near_pair w s c h n q =
     let e = plus w c in
     let v = first (convolution (coefficient (locate e)) (coefficient s)) (nonzeros e) in
     let p = true_pair e s (syndromes_sums w s c h n) in
-    q (locate e) v (pair_within s (locate e) v (nonzeros e) (length s / 2) p (wider (locate e) v (nonzeros e) (length s / 2) (errors_few (length s) w c n) p.within))
+    q (locate e) v (pair_within s (locate e) v (nonzeros e) (length s / 2) p (within_wider (locate e) v (nonzeros e) (length s / 2) (errors_few (length s) w c n) p.within))
 
--- t is l without the zeros at its end.
+-- The list t is l without the zeros at its end.
 pub record IsTrimmed (l t : List ℕ) : Type 0 where
   pub same : IsSamePolynomial l t
   pub tight : (n : ℕ) → IsBelow n l → length t ≤ n
@@ -68,37 +68,23 @@ trimmed_head : (l t : List ℕ) → IsTrimmed l t → coefficient l 0 ≡ 1 → 
 trimmed_head l [] h o = absurd (let r : 0 ≡ 1 = sym (h.same 0) ∙ o in omega arith)
 trimmed_head l (a ∷ p) h o = (p, ap (λ y. y ∷ p) (sym (h.same 0) ∙ o))
 
--- A list whose coefficients are bytes.
-bytes_coefficients : (p : List ℕ) → ((i : ℕ) → coefficient p i < 256) → Bytes p
-bytes_coefficients [] h = λ k d l. absurd (omega arith)
-bytes_coefficients (a ∷ p) h = bytes_cons a p (h 0) (bytes_coefficients p (λ i. h (suc i)))
-
--- A sum with 0.
-xor_nothing : (a : ℕ) → 0 ⊕ a ≡ a
-xor_nothing a = xor_comm 0 a ∙ xor_zero_r a
-
--- What was added to both can be left out.
+-- Two numbers are equal if their sums with a third number are.
 xor_same : (a b c : ℕ) → a ⊕ b ≡ a ⊕ c → b ≡ c
-xor_same a b c e =
-    sym (ap (λ y. y ⊕ b) (xor_self a)) ∙ xor_assoc a a b ∙ ap (bit_xor a) e ∙ sym (xor_assoc a a c) ∙ ap (λ y. y ⊕ c) (xor_self a)
+xor_same a b c e = sym (xor_twice a b) ∙ ap (bit_xor a) e ∙ xor_twice a c
 
--- f is the word w with the value of the error taken away at each place, as the locator l and the evaluator v give it.
+-- The list f is the word w with the value of the error taken away at each place, as the locator l and the evaluator v give it.
 pub record IsCorrected (l v w f : List ℕ) : Type 0 where
   pub long : length f ≡ length w
   pub each : (i : ℕ) → i < length w → IsErrorValue l v (locator_at (length w) i) (get_or w i 0 ⊕ get_or f i 0)
 
--- What is added twice is gone.
-xor_again : (a b : ℕ) → a ⊕ (a ⊕ b) ≡ b
-xor_again a b = xor_same a (a ⊕ (a ⊕ b)) b (sym (xor_assoc a a (a ⊕ b)) ∙ ap (λ y. y ⊕ (a ⊕ b)) (xor_self a) ∙ xor_nothing (a ⊕ b))
-
--- A corrected word is of bytes.
+-- A corrected word is a list of bytes.
 pub corrected_bytes : (l v w f : List ℕ) → ((i : ℕ) → get_or w i 0 < 256) → IsCorrected l v w f → Bytes f
 corrected_bytes l v w f b m =
     bytes_places f (λ i h.
-    subst (λ z. z < 256) (xor_again (get_or w i 0) (get_or f i 0))
+    subst (λ z. z < 256) (xor_twice (get_or w i 0) (get_or f i 0))
     (sum_below (get_or w i 0) (get_or w i 0 ⊕ get_or f i 0) (b i) (m.each i (omega (arith, m.long))).byte))
 
--- The same for a trimmed locator and its bound.
+-- Where a codeword is near, a word that is corrected by a trimmed locator within a least bound is this codeword.
 corrected_by : (w s c l v p f : List ℕ) (d : ℕ) → 0 < length s → Bytes w → Bytes f → length w ≤ 255 → AreSyndromes w s → IsLeastAt s (length s / 2) l v d → IsTrimmed l (1 ∷ p)
     → IsCorrected (1 ∷ p) v w f → IsNear (length s) w c → f ≡ c
 corrected_by w s c l v p f d kp wb fb h y q t m n =
@@ -109,7 +95,7 @@ corrected_by w s c l v p f d kp wb fb h y q t m n =
     let tp = true_pair e s g in
     let dn : d ≤ nonzeros e = q.least (locate e) (first (convolution (coefficient (locate e)) (coefficient s)) (nonzeros e)) (nonzeros e) tp in
     let pd : suc (length p) ≤ suc d = t.tight (suc d) q.pair.within.locator in
-    let pb : Bytes (1 ∷ p) = bytes_coefficients (1 ∷ p) (λ i. subst (λ x. x < 256) (t.same i) (byte_at l q.pair.locator_bytes i)) in
+    let pb : Bytes (1 ∷ p) = bytes_places (1 ∷ p) (λ i b. subst (λ x. x < 256) (t.same i) (byte_at l q.pair.locator_bytes i)) in
     let cl : nonzeros e ≤ length s / 2 = errors_few (length s) w c n in
     let va : Vanishes (1 ∷ p) e = pair_vanishes e s l v 1 p d eb (omega arith) (omega arith) g q.pair (λ i. sym (t.same i)) (omega arith) in
     ext_get_or 0 f c (m.long ∙ sym n.long) (λ i b.
@@ -121,7 +107,7 @@ corrected_by w s c l v p f d kp wb fb h y q t m n =
     (subst (λ z. IsErrorValue (1 ∷ p) v (power (z - suc i)) (get_or w i 0 ⊕ get_or f i 0)) (sym le) (m.each i iw))
     ∙ get_or-plus w c i (sym n.long)))
 
--- What the least pair corrects is the codeword that is near.
+-- Where a codeword is near, a word that is corrected by the least pair is this codeword.
 pub corrected_near : (w s c l v t f : List ℕ) → 0 < length s → ((i : ℕ) → get_or w i 0 < 256) → length w ≤ 255 → AreSyndromes w s → IsLeastPair s (length s / 2) l v → IsTrimmed l t
     → IsCorrected t v w f → IsNear (length s) w c → f ≡ c
 corrected_near w s c l v t f kp wb h y q r m n =

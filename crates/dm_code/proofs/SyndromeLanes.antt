@@ -12,18 +12,18 @@ use Rattle.gf301.proofs.Exported.{product_comm, product_one_right, product_zero_
 use Rattle.dm_code.proofs.Register.{value_append}
 use Rattle.dm_code.specs.Syndromes.{syndromes_of}
 
--- Before the first codeword each value is 0 ..
+-- Before the first codeword each value is 0.
 pub lanes_start : (xs : List ℕ) (n : ℕ) → length xs ≡ n → replicate n 0 ≡ map (value []) xs
 unfolding value
 lanes_start xs n e = splat_is_map xs n 0 e
 
--- .. and a codeword in front adds its multiple of the power of each element.
+-- A codeword in front adds its multiple of the power of each element.
 lanes_front : (a : ℕ) (p xs : List ℕ) → zip2 bit_xor (map (value p) xs) (map (λ x. a ⊗ x) (map (λ x. raise x (length p)) xs)) ≡ map (value (a ∷ p)) xs
 unfolding value
 lanes_front a p [] = refl
 lanes_front a p (x ∷ xs) = λ i. xor_comm (value p x) (a ⊗ raise x (length p)) i ∷ lanes_front a p xs i
 
--- The codeword before the n last ones, where these are all but i.
+-- The codeword in front of the n last ones of a word adds its multiple of the powers n.
 pub lanes_more : (w xs : List ℕ) (i n : ℕ) → i + suc n ≡ length w
     → zip2 bit_xor (map (value (drop (suc i) w)) xs) (map (λ x. get_or w i 0 ⊗ x) (map (λ x. raise x n) xs)) ≡ map (value (drop i w)) xs
 lanes_more w xs i n e =
@@ -33,7 +33,7 @@ lanes_more w xs i n e =
     ∙ ap (λ t. map (value t) xs) (sym (drop-cons w i 0 (omega arith)))
 
 -- ---- parts of a word
--- Of a part more: what was before is multiplied by the power of the part's length.
+-- With one part more, the values so far are multiplied by the powers of its length, and its values are added.
 pub lanes_part : (p r xs : List ℕ) (n : ℕ) → length r ≡ n → zip2 bit_xor (zip2 (λ x y. x ⊗ y) (map (value p) xs) (map (λ x. raise x n) xs)) (map (value r) xs) ≡ map (value (p ++ r)) xs
 lanes_part p r [] n e = refl
 lanes_part p r (x ∷ xs) n e = λ i. (ap (λ m. value p x ⊗ raise x m ⊕ value r x) (sym e) ∙ sym (value_append p r x)) i ∷ lanes_part p r xs n e i
@@ -45,33 +45,33 @@ drop_whole [] (suc n) h = refl
 drop_whole (a ∷ w) zero h = absurd (omega arith)
 drop_whole (a ∷ w) (suc n) h = drop_whole w n (omega arith)
 
--- Nothing is taken of nothing.
+-- The front of an empty list is the list itself.
 take_none : (m : ℕ) (w : List ℕ) → length w ≡ 0 → take m w ≡ w
 take_none zero [] h = refl
 take_none (suc m) [] h = refl
 take_none m (a ∷ w) h = absurd (omega arith)
 
--- The first n numbers and the m that follow them.
+-- The first n + m numbers are the first n and the m that follow them.
 pub take_parts : (n m : ℕ) (w : List ℕ) → take (n + m) w ≡ take n w ++ take m (drop n w)
 take_parts zero m w = ap (λ j. take j w) (zero-add m)
 take_parts (suc n) m [] = ap (λ j. take j []) (let e : suc n + m ≡ suc (n + m) = omega arith in e) ∙ sym (take_none m [] refl)
 take_parts (suc n) m (a ∷ w) = ap (λ j. take j (a ∷ w)) (let e : suc n + m ≡ suc (n + m) = omega arith in e) ∙ ap (λ t. a ∷ t) (take_parts n m w)
 
 -- ---- powers by squaring
--- Elements are their powers 1.
+-- Each element is its own first power.
 pub first_powers : (xs : List ℕ) → Each1 (Fits w8) xs → xs ≡ map (λ x. raise x (2 ^ 0)) xs
 unfolding raise
 first_powers [] f = refl
 first_powers (x ∷ xs) f = λ i. sym (product_one_right x f.0.fits) i ∷ first_powers xs f.1 i
 
--- Squared, the powers 2^n are the powers 2^(n + 1).
+-- The squares of the powers 2^n are the powers 2^(n + 1).
 pub squares : (xs ys : List ℕ) (n : ℕ) → ys ≡ map (λ x. raise x (2 ^ n)) xs → zip2 (λ x y. x ⊗ y) ys ys ≡ map (λ x. raise x (2 ^ (n + 1))) xs
 squares xs ys n e =
     zip2_of_maps (λ x y. x ⊗ y) (λ x. raise x (2 ^ n)) (λ x. raise x (2 ^ n)) xs e e
     ∙ ap (λ f. map f xs) (λ i x. (sym (raise_add x (2 ^ n) (2 ^ n)) ∙ ap (raise x) (let q : 2 ^ n + 2 ^ n ≡ 2 ^ (n + 1) = omega (arith, pow-succ' 2 n, ap (λ m. 2 ^ m) (let r : n + 1 ≡ suc n = omega arith in r)) in q)) i)
 
 -- ---- sixteen codewords at a time
--- The sum of two lists, lane by lane.
+-- The sum of two lists is taken lane by lane.
 plus_in_lanes : (p q : List ℕ) → zip2 bit_xor p q ≡ plus p q
 unfolding plus
 plus_in_lanes [] q = refl
@@ -88,7 +88,7 @@ joined_value l p r s x n a b e h =
     (value_scale x s l ∙ ap (λ y. s ⊗ y) h ∙ product_comm s (value p x) ∙ ap (λ y. value p x ⊗ y) (e ∙ ap (raise x) (sym b)))
     ∙ sym (value_append p r x)
 
--- What is written at the end of zeros has the value of the whole.
+-- A list written at the end of zeros has the same value as without them.
 pub value_behind_zeros : (m a k : ℕ) (p : List ℕ) (x : ℕ) → a + k ≡ m → length p ≡ k → value (put_mid a k (replicate m 0) p) x ≡ value p x
 value_behind_zeros m a k p x h e =
     let z : drop k (drop a (replicate m 0)) ≡ [] = drop_whole (drop k (drop a (replicate m 0))) 0 (simp (length-drop, length-replicate) (omega arith)) in
@@ -99,13 +99,13 @@ value_behind_zeros m a k p x h e =
     ∙ ap (λ y. y ⊕ value p x) (product_zero_left (raise x (length p)))
 
 -- ---- groups of syndromes
--- What a function makes of the values of another are the values of both.
+-- A function of the values of another one gives the values of both in turn.
 map_values : (g f : ℕ → ℕ) (first n : ℕ) → map g (values_from f first n) ≡ values_from (λ i. g (f i)) first n
 unfolding values_from
 map_values g f first zero = refl
 map_values g f first (suc n) = ap (λ t. g (f first) ∷ t) (map_values g f (suc first) n)
 
--- Values at m places and at the n that follow are those at m + n places.
+-- The values at m places and those at the n places that follow are the values at m + n places.
 append_values : (f : ℕ → ℕ) (first m n : ℕ) → values_from f first m ++ values_from f (first + m) n ≡ values_from f first (m + n)
 unfolding values_from
 append_values f first zero n = ap (λ a. values_from f a n) (add-zero first) ∙ ap (values_from f first) (sym (zero-add n))
@@ -115,7 +115,7 @@ append_values f first (suc m) n =
     ∙ append_values f (suc first) m n)
     ∙ ap (values_from f first) (let e : suc (m + n) ≡ suc m + n = omega arith in e)
 
--- With the values at the next n roots there are n syndromes more.
+-- The values at the next n roots are n more syndromes.
 pub more_syndromes : (w : List ℕ) (m n : ℕ) → syndromes_of w m ++ map (value w) (values_from power (1 + m) n) ≡ syndromes_of w (m + n)
 more_syndromes w m n =
     ap (λ t. syndromes_of w m ++ t) (map_values (value w) power (1 + m) n) ∙ append_values (λ i. value w (power i)) 1 m n

@@ -1,14 +1,14 @@
 -- The list of syndromes: how long it is, what it holds, and one syndrome more.
-use Rattle.std.proofs.Common.{◌≡◌, ℕ, zero, suc, ◌+◌, ◌<◌, ◌≤◌, ◌↔◌, List, [], ◌∷◌, ◌++◌, length, get_or, replicate, sym, ap, ◌∙◌, arith}
+use Rattle.std.proofs.Common.{◌≡◌, ℕ, suc, ◌+◌, ◌<◌, ◌≤◌, ◌↔◌, List, [], ◌∷◌, ◌++◌, length, get_or, replicate, sym, ap, ◌∙◌, arith}
 use Rattle.std.proofs.lemmas.List.{ext_get_or, length-replicate, get_or-replicate}
 use Rattle.gf301.specs.Field.{power}
-use Rattle.gf301.specs.Polynomial.{value, values_from, Bytes}
-use Rattle.gf301.proofs.Exported.{bytes_cons, length-values_from, get_or-values_from, values_from_push, value_below}
+use Rattle.gf301.specs.Polynomial.{value, Bytes}
+use Rattle.gf301.proofs.Exported.{bytes_values_from, length-values_from, get_or-values_from, values_from_push, value_below}
 use Rattle.dm_code.specs.Codeword.{IsCodeword}
 use Rattle.dm_code.specs.Syndromes.{syndromes_of}
 use Rattle.dm_code.proofs.Codewords.{codeword_values, codeword_from_values}
 
--- The value at a power of 2.
+-- The values of a word are taken at the powers of 2.
 values : List ℕ → ℕ → ℕ
 values w i = value w (power i)
 
@@ -22,18 +22,12 @@ pub syndrome_at : (w : List ℕ) (k i : ℕ) → i < k → get_or (syndromes_of 
 unfolding values
 syndrome_at w k i h = get_or-values_from (values w) 1 k i h
 
--- A list of values of a function whose values are bytes.
-bytes_values : (f : ℕ → ℕ) (a n : ℕ) → ((i : ℕ) → f i < 256) → Bytes (values_from f a n)
-unfolding values_from
-bytes_values f a zero h = λ k d l. absurd (omega arith)
-bytes_values f a (suc n) h = bytes_cons (f a) (values_from f (suc a) n) (h a) (bytes_values f (suc a) n h)
-
 -- Syndromes are bytes.
 pub syndromes_bytes : (w : List ℕ) (k : ℕ) → Bytes (syndromes_of w k)
 unfolding values
-syndromes_bytes w k = bytes_values (values w) 1 k (λ i. value_below w (power i))
+syndromes_bytes w k = bytes_values_from (values w) (λ i. value_below w (power i)) 1 k
 
--- A root more gives a syndrome more, at the end.
+-- One root more gives one syndrome more, at the end.
 pub syndromes_push : (w : List ℕ) (n : ℕ) → syndromes_of w (suc n) ≡ syndromes_of w n ++ value w (power (1 + n)) ∷ []
 unfolding values
 syndromes_push w n = values_from_push (values w) 1 n
@@ -51,6 +45,6 @@ codeword_from_syndromes k w b l h e =
     codeword_from_values k w (omega arith) h (omega arith) b
     (λ i m. sym (syndrome_at w k i m) ∙ ap (λ t. get_or t i 0) e ∙ get_or-replicate k i 0 0 m)
 
--- Both: which words of a block are codewords.
+-- A word of a block is a codeword exactly where its syndromes are 0.
 pub no_syndromes : (k : ℕ) (w : List ℕ) → Bytes w → k < length w → length w ≤ 255 → IsCodeword k w ↔ (syndromes_of w k ≡ replicate k 0)
 no_syndromes k w b l h = (codeword_syndromes k w, codeword_from_syndromes k w b l h)

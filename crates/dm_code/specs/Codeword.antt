@@ -8,23 +8,24 @@ use Rattle.gf301.specs.Generator.{generator}
 -- A word is a codeword of k checks where it is a multiple of the generator for k check codewords. The quotient has the
 -- word's length less k.
 abbrev pub IsCodeword : ℕ → List ℕ → Type 0
-IsCodeword k w = (q : List ℕ) × Bytes q × (w ≡ times q (generator k))
+IsCodeword k word = (quotient : List ℕ) × Bytes quotient × (word ≡ times quotient (generator k))
 
--- 0 where two numbers are the same, else 1.
+-- Two numbers count 0 if they are the same, and 1 otherwise.
 abbrev pub differs : ℕ → ℕ → ℕ
 differs a b = if a == b then 0 else 1
 
--- At how many of its first n places a word differs from another.
+-- A word differs from another at this many of its first n places.
 unfoldable pub differing : List ℕ → List ℕ → ℕ → ℕ
-differing w c zero = 0
-differing w c (suc n) = differing w c n + differs (slice_index w n) (slice_index c n)
+differing word other zero = 0
+differing word other (suc n) = differing word other n + differs (slice_index word n) (slice_index other n)
 
--- The distance of two words of one length: the number of places at which they differ.
+-- The distance of two words of one length is the number of places at which they differ.
 abbrev pub distance : List ℕ → List ℕ → ℕ
-distance w c = differing w c (length w)
+distance word other = differing word other (length word)
 
--- c is a codeword of k checks within the correction limit of w: it is as long, and they differ in at most k / 2 places.
-pub record IsNear (k : ℕ) (w c : List ℕ) : Type 0 where
-  pub codeword : IsCodeword k c
-  pub long : length c ≡ length w
-  pub close : distance w c ≤ k / 2
+-- Another word is near to a word where it is a codeword of k checks within the correction limit: it is as long, and they
+-- differ in at most k / 2 places.
+pub record IsNear (k : ℕ) (word other : List ℕ) : Type 0 where
+  pub codeword : IsCodeword k other
+  pub long : length other ≡ length word
+  pub close : distance word other ≤ k / 2

@@ -22,7 +22,7 @@ pub record IsPair (s : List ℕ) (t : ℕ) (l w : List ℕ) : Type 0 where
   pub within : IsWithin t l w
   pub equation : (i : ℕ) → i < length s → convolution (coefficient l) (coefficient s) i ≡ coefficient w i
 
--- The least pair: the larger of deg l and deg w + 1 is at most that of any other pair.
+-- A pair is the least if the larger of deg l and deg w + 1 is at most that of any other pair.
 pub record IsLeastPair (s : List ℕ) (t : ℕ) (l w : List ℕ) : Type 0 where
   pub pair : IsPair s t l w
   pub least : (g v : List ℕ) → IsPair s t g v → (d : ℕ) → IsWithin d g v → IsWithin d l w

@@ -8,11 +8,11 @@ use Rattle.dm_code.specs.KeyEquation.{IsPair, IsLeastPair, IsExact}
 abbrev pub IsSamePolynomial : List ℕ → List ℕ → Type 0
 IsSamePolynomial p q = (i : ℕ) → coefficient p i ≡ coefficient q i
 
--- p is the product of q and l.
+-- The polynomial p is the product of q and l.
 abbrev pub IsProduct : List ℕ → List ℕ → List ℕ → Type 0
 IsProduct p q l = (i : ℕ) → coefficient p i ≡ convolution (coefficient q) (coefficient l) i
 
--- The pair g, v is (q * l, q * w), for some q with q(0) = 1.
+-- The pair (g, v) is (q * l, q * w), for some q with q(0) = 1.
 pub record IsMultiple (l w g v : List ℕ) : Type 0 where
   pub factor : List ℕ
   pub bytes : Bytes factor

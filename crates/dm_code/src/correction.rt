@@ -27,10 +27,10 @@ pub struct Fixed {
 #[derive(Clone, Copy, Debug, PartialEq, Eq)]
 pub struct BeyondLimit;
 
-/// The codeword of k check codewords that differs from the word in at most k div 2 places, and in how many. It is
-/// answered exactly where there is one, and [`BeyondLimit`] exactly where there is none; a word that is a codeword is
-/// answered with itself and 0. The word has k + 1 to [`LONGEST_WORD`] codewords, the data codewords
-/// first, and k is 1 to [`MOST_CHECKS`] (ISO/IEC 16022, error checking and correction).
+/// Returns the codeword of k check codewords that differs from the word in at most k div 2 places, and says in how many. It is
+/// answered exactly where there is one, and [`BeyondLimit`] exactly where there is none; a word that is a codeword is answered
+/// with itself and 0. The word has k + 1 to [`LONGEST_WORD`] codewords, the data codewords first, and k is 1 to [`MOST_CHECKS`]
+/// (ISO/IEC 16022, error checking and correction).
 ///
 /// No such word lies within k div 2 places of two codewords, so there is no choice. A word with more
 /// wrong codewords than that may lie near to another codeword, and is then corrected to it.
@@ -85,8 +85,8 @@ fn correct_errors(word: &mut [u8], syndromes: &mut [u8], key: &Key)
     correct_roots(word, syndromes, locator, &key.evaluator);
 }
 
-/// The same for a locator without zeros at its end. Roots are looked for, and what gives the errors' values is computed, at
-/// sixteen places at once, from the last place on.
+/// Does what [`correct_errors`] does, for a locator without zeros at its end. Roots are looked for, and what gives the errors'
+/// values is computed, at sixteen places at once, from the last place on.
 fn correct_roots(word: &mut [u8], syndromes: &mut [u8], locator: &[u8], evaluator: &[u8])
     requires checks { 0 < length syndromes.old }
     requires long { length word.old ≤ LONGEST_WORD }
@@ -124,7 +124,7 @@ fn correct_roots(word: &mut [u8], syndromes: &mut [u8], locator: &[u8], evaluato
     }
 }
 
-/// A copy of the list.
+/// Copies the list.
 fn copy_of<const N: usize>(list: &[u8]) -> ArrayVec<u8, N>
     requires { length list.now ≤ N }
     ensures { result.items ≡ list.now }
@@ -136,14 +136,14 @@ fn copy_of<const N: usize>(list: &[u8]) -> ArrayVec<u8, N>
     copy
 }
 
-/// Whether every number of the list is 0.
+/// Says whether every number of the list is 0.
 fn are_zero(list: &[u8]) -> bool
     ensures { IsTrue result ↔ All (λ a. a ≡ 0) list.now }
 {
     list.iter().all(|a| *a == 0)
 }
 
-/// The number of places at which two words of one length differ.
+/// Counts the places at which two words of one length differ.
 fn differences(word: &[u8], other: &[u8]) -> u8
     requires same { length other.now ≡ length word.now }
     requires long { length word.now ≤ LONGEST_WORD }

@@ -29,8 +29,8 @@ impl KeySolver for Elimination {
     }
 }
 
-/// The equations for a locator of a degree of at most `degree`: for each place from `degree` on, that the product of the
-/// locator and the syndromes has the coefficient 0 there.
+/// Returns the equations for a locator of a degree of at most `degree`: at each place from `degree` on, the product of the
+/// locator and the syndromes has the coefficient 0.
 fn rows_of(s: &[u8], degree: usize) -> ArrayVec<Row, MOST_CHECKS>
     requires small { degree ≤ MOST_ERRORS }
     requires few { length s.now ≤ MOST_CHECKS }
@@ -45,7 +45,7 @@ fn rows_of(s: &[u8], degree: usize) -> ArrayVec<Row, MOST_CHECKS>
     rows
 }
 
-/// The equation of the place `i + degree`. Its unknowns are the coefficients of the locator, that of x^0 last.
+/// Returns the equation of the place `i + degree`. Its unknowns are the coefficients of the locator, that of x^0 last.
 fn row_of(s: &[u8], degree: usize, i: usize) -> Row
     requires small { degree ≤ MOST_ERRORS }
     requires within { i + degree < length s.now }
@@ -58,7 +58,7 @@ fn row_of(s: &[u8], degree: usize, i: usize) -> Row
     row
 }
 
-/// The pair of a locator that solves the equations.
+/// Returns the pair of a locator that solves the equations.
 fn key_of(s: &[u8], solution: &Row, degree: usize) -> Key
     requires small { degree ≤ MOST_ERRORS }
     requires within { degree ≤ length s.now }
@@ -77,7 +77,7 @@ fn key_of(s: &[u8], solution: &Row, degree: usize) -> Key
     Key { locator, evaluator }
 }
 
-/// The first `count` coefficients of the product of the locator and the syndromes.
+/// Returns the first `count` coefficients of the product of the locator and the syndromes.
 fn evaluator_of(s: &[u8], locator: &[u8], count: usize) -> ArrayVec<u8, MOST_ERRORS>
     requires small { count ≤ MOST_ERRORS }
     requires within { count ≤ length s.now }

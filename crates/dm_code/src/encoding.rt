@@ -12,7 +12,7 @@ use gf301::{MOST_CHECKS, add_scaled, taps};
 /// Room for a word, and behind it for the rest of the last sixteen numbers that a step of the division writes.
 const ROOM: usize = LONGEST_WORD + 17;
 
-/// The k check codewords of the data codewords `front`, k of 1 to [`MOST_CHECKS`], where both together are at most
+/// Returns the k check codewords of the data codewords `front`, k of 1 to [`MOST_CHECKS`], where both together are at most
 /// [`LONGEST_WORD`]: the one list of k codewords that completes `front` to a codeword of k checks.
 pub fn encode(front: &[u8], k: usize) -> ArrayVec<u8, MOST_CHECKS>
     requires some { 1 ≤ k }

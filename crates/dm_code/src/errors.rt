@@ -16,7 +16,7 @@ use arrayvec::ArrayVec;
 use gf301::{Gf, power_row, scaled};
 use std::simd::prelude::*;
 
-/// The list without the zeros at its end.
+/// Returns the list without the zeros at its end.
 pub fn trimmed(list: &[u8]) -> &[u8]
     ensures same { IsSamePolynomial list.now result.now }
     ensures short { length result.now ≤ length list.now }
@@ -31,7 +31,7 @@ pub fn trimmed(list: &[u8]) -> &[u8]
     &list[..size]
 }
 
-/// The values of a polynomial, its highest power first, at the sixteen elements 2^0 to 2^15, and there the sums of its
+/// Returns the values of a polynomial, its highest power first, at the sixteen elements 2^0 to 2^15, and there the sums of its
 /// terms of odd powers.
 pub fn sums(terms: &[u8]) -> (Simd<u8, 16>, Simd<u8, 16>)
     requires { length terms.now ≤ MOST_COEFFICIENTS }
@@ -63,9 +63,9 @@ pub fn step(terms: &mut [u8])
     }
 }
 
-/// The value of the error at a place whose locator is a root of the error locator: the value of the error evaluator there,
-/// divided by the sum of the error locator's terms of odd powers, which is the place's locator times the value of the error
-/// locator without this root. It is 0 where the root is a double one.
+/// Returns the value of the error at a place whose locator is a root of the error locator: the value of the error evaluator
+/// there, divided by the sum of the error locator's terms of odd powers, which is the place's locator times the value of the
+/// error locator without this root. It is 0 where the root is a double one.
 pub fn error_value(numerator: Gf, divisor: Gf) -> Gf
     ensures byte { result.0 < 256 }
     ensures value { 0 < divisor.0 → divisor.0 ⊗ result.0 ≡ numerator.0 }
@@ -77,7 +77,7 @@ pub fn error_value(numerator: Gf, divisor: Gf) -> Gf
     numerator.mul(divisor.inverse())
 }
 
-/// The first `count` coefficients of a list, which are 0 past its end.
+/// Returns the first `count` coefficients of a list, which are 0 past its end.
 pub fn first_coefficients(list: &[u8], count: usize) -> ArrayVec<u8, MOST_ERRORS>
     requires { count ≤ MOST_ERRORS }
     ensures { result.items ≡ values_from (coefficient list.now) 0 count }
@@ -89,7 +89,7 @@ pub fn first_coefficients(list: &[u8], count: usize) -> ArrayVec<u8, MOST_ERRORS
     first
 }
 
-/// The coefficient at place `i`, which is 0 past the end of the list.
+/// Returns the coefficient at place `i`, which is 0 past the end of the list.
 pub fn coefficient_at(list: &[u8], i: usize) -> Gf
     ensures { result.0 ≡ coefficient list.now i }
 {

@@ -25,8 +25,8 @@ pub struct Key {
 /// where there is a pair at all; where 2 t is at most k, its two polynomials are determined, and every pair is a multiple
 /// of it.
 pub trait KeySolver {
-    /// The least pair for the syndromes `s` and the limit `t`, and None where there is no pair at all. There are at most
-    /// [`MOST_CHECKS`] syndromes, and 2 t is at most their number.
+    /// Returns the least pair for the syndromes `s` and the limit `t`, and None where there is no pair at all. There are at
+    /// most [`MOST_CHECKS`] syndromes, and 2 t is at most their number.
     fn solve(&self, s: &[u8], t: usize) -> Option<Key>
         requires few { length s.now ≤ MOST_CHECKS }
         requires half { 2 * t ≤ length s.now }

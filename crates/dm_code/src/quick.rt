@@ -19,9 +19,9 @@ use std::mem::replace;
 pub struct Quick;
 
 impl Quick {
-    /// What [`KeySolver::solve`] answers for the syndromes `s` and the limit `t`, and the products and inversions that were
-    /// made for it: for k syndromes at most 4 k^2 products and k inversions. There are at most [`MOST_CHECKS`]
-    /// syndromes, and 2 t is at most their number.
+    /// Returns what [`KeySolver::solve`] answers for the syndromes `s` and the limit `t`, and the products and inversions that
+    /// were made for it: for k syndromes at most 4 k^2 products and k inversions. There are at most [`MOST_CHECKS`] syndromes,
+    /// and 2 t is at most their number.
     ///
     /// Every product and every inversion goes through the [`Meter`]. So an answer takes a product for each syndrome or more,
     /// also a None takes one where there are syndromes, and a locator of more than one coefficient takes an inversion.
@@ -61,8 +61,8 @@ impl Quick {
 }
 
 impl KeySolver for Quick {
-    /// What [`Quick::solve_counted`] answers, without the counts: the lists of both are those of the least pair with no number
-    /// too many, and so the same ([`crate::laws::exact_least_pair_is_one`]).
+    /// Returns what [`Quick::solve_counted`] answers, without the counts: the lists of both are those of the least pair with no
+    /// number too many, and so the same ([`crate::laws::exact_least_pair_is_one`]).
     fn solve(&self, s: &[u8], t: usize) -> Option<Key>
         requires few { length s.now ≤ MOST_CHECKS }
         requires half { 2 * t ≤ length s.now }
@@ -90,7 +90,7 @@ struct Search {
 }
 
 impl Search {
-    /// The locator 1 before any syndrome, as if it had had the discrepancy 1 just before.
+    /// Begins with the locator 1 before any syndrome, as if it had had the discrepancy 1 just before.
     fn new() -> Search
         ensures locator { result.locator.items ≡ 1 ∷ [] }
         ensures earlier { result.earlier.items ≡ 1 ∷ [] }
@@ -137,7 +137,7 @@ impl Search {
         }
     }
 
-    /// The locator plus `factor` times the earlier one, which is moved up by the gap, with the degree `degree`.
+    /// Returns the locator plus `factor` times the earlier one, which is moved up by the gap, with the degree `degree`.
     fn with_multiple(
         &self,
         factor: Gf,
@@ -168,8 +168,8 @@ impl Search {
     }
 }
 
-/// The evaluator of a locator that has a coefficient for each power up to its degree: the coefficients below that degree of
-/// its product with the syndromes.
+/// Returns the evaluator of a locator that has a coefficient for each power up to its degree: the coefficients below that
+/// degree of its product with the syndromes.
 fn evaluator_of(locator: &[u8], s: &[u8], meter: &mut Meter) -> ArrayVec<u8, MOST_ERRORS>
     requires some { 0 < length locator.now }
     requires small { length locator.now ≤ MOST_COEFFICIENTS }
@@ -188,7 +188,7 @@ fn evaluator_of(locator: &[u8], s: &[u8], meter: &mut Meter) -> ArrayVec<u8, MOS
     evaluator
 }
 
-/// The coefficient of x^n of the product of the locator and the syndromes.
+/// Returns the coefficient of x^n of the product of the locator and the syndromes.
 fn product_at(locator: &[u8], s: &[u8], n: usize, meter: &mut Meter) -> Gf
     requires within { n < length s.now }
     requires room { meter.old.products + length locator.now < 2 ^ 32 }

@@ -10,8 +10,8 @@ use arrayvec::ArrayVec;
 use gf301::{Gf, MOST_CHECKS, lanes_mul, power_row, powers, scaled, value_at};
 use std::simd::prelude::*;
 
-/// The syndromes of a word of a block with k check codewords, k of at most [`MOST_CHECKS`]: its values at 2^1 to 2^k, in this order.
-/// They are all 0 exactly where the word, of more than k and at most 255 codewords, is a codeword of k checks.
+/// Returns the syndromes of a word of a block with k check codewords, k of at most [`MOST_CHECKS`]: its values at 2^1 to 2^k,
+/// in this order. They are all 0 exactly where the word, of more than k and at most 255 codewords, is a codeword of k checks.
 pub fn syndromes(word: &[u8], k: usize) -> ArrayVec<u8, MOST_CHECKS>
     requires { k ≤ MOST_CHECKS }
     ensures values { result.items ≡ syndromes_of word.now k }
@@ -26,7 +26,7 @@ pub fn syndromes(word: &[u8], k: usize) -> ArrayVec<u8, MOST_CHECKS>
     values
 }
 
-/// The first syndromes of a word, 16 for each group: the values at the 16 roots of a group are computed at once.
+/// Returns the first syndromes of a word, 16 for each group: the values at the 16 roots of a group are computed at once.
 fn syndromes_in_groups(word: &[u8], groups: usize) -> ArrayVec<u8, MOST_CHECKS>
     requires { groups ≤ 4 }
     ensures { result.items ≡ syndromes_of word.now (16 * groups) }
@@ -39,8 +39,8 @@ fn syndromes_in_groups(word: &[u8], groups: usize) -> ArrayVec<u8, MOST_CHECKS>
     values
 }
 
-/// The values of a word at the 16 roots from 2 to the power `first` on: those of its first codewords, as many as are left
-/// by parts of 32, and then those of each part in turn, as in Horner's rule.
+/// Returns the values of a word at the 16 roots from 2 to the power `first` on: those of its first codewords, as many as are
+/// left by parts of 32, and then those of each part in turn, as in Horner's rule.
 fn values_from_root(word: &[u8], first: u16) -> Simd<u8, 16>
     requires { first ≤ 65 }
     ensures { result ≡ map (value word.now) (values_from power first 16) }
@@ -55,7 +55,7 @@ fn values_from_root(word: &[u8], first: u16) -> Simd<u8, 16>
     values
 }
 
-/// Each lane to the power 32, by squaring.
+/// Raises each lane to the power 32, by squaring.
 #[inline]
 fn to_the_32(lanes: Simd<u8, 16>) -> Simd<u8, 16>
     ensures { result ≡ map (λ x. raise x 32) lanes }
@@ -67,8 +67,8 @@ fn to_the_32(lanes: Simd<u8, 16>) -> Simd<u8, 16>
     power
 }
 
-/// The values of at most 32 codewords at the 16 roots from 2 to the power `first` on: the sum of the powers of the roots
-/// at each place, times the codeword there.
+/// Returns the values of at most 32 codewords at the 16 roots from 2 to the power `first` on: the sum of the powers of the
+/// roots at each place, times the codeword there.
 #[inline]
 fn values_of_part(part: &[u8], first: u16) -> Simd<u8, 16>
     requires small { length part.now ≤ 32 }
@@ -85,7 +85,7 @@ fn values_of_part(part: &[u8], first: u16) -> Simd<u8, 16>
     values
 }
 
-/// The first codewords of a word, as many as are left by sixteens, in the last lanes; 0 stands in those before them.
+/// Puts the first codewords of a word, as many as are left by sixteens, into the last lanes; 0 stands in those before them.
 fn front_in_lanes(word: &[u8]) -> Simd<u8, 16>
     ensures { (x : ℕ) → value result x ≡ value (take (length word.now % 16) word.now) x }
 {
@@ -95,7 +95,7 @@ fn front_in_lanes(word: &[u8]) -> Simd<u8, 16>
     u8x16::from_array(lanes)
 }
 
-/// The value of a word at 2 to the power `exponent`, by Horner's rule with 16 codewords at a time: the lanes are the
+/// Returns the value of a word at 2 to the power `exponent`, by Horner's rule with 16 codewords at a time: the lanes are the
 /// coefficients of a polynomial with that value, at first of the word's front.
 fn value_by_sixteens(front: Simd<u8, 16>, word: &[u8], exponent: u16) -> Gf
     requires small { exponent ≤ MOST_CHECKS }

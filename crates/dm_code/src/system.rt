@@ -13,7 +13,7 @@ use gf301::{Gf, MOST_CHECKS};
 /// unknown is 1.
 pub type Row = [u8; MOST_COEFFICIENTS];
 
-/// A solution of the rows in the unknowns from the place `first` on, and None where they have none.
+/// Returns a solution of the rows in the unknowns from the place `first` on, and None where they have none.
 pub fn solve(rows: &[Row], first: usize) -> Option<Row>
     requires within { first ≤ MOST_ERRORS }
     requires few { length rows.now ≤ MOST_CHECKS }
@@ -35,7 +35,7 @@ pub fn solve(rows: &[Row], first: usize) -> Option<Row>
     }
 }
 
-/// The solution of the rows in the last unknown alone, which is 1 where no row has it.
+/// Returns the solution of the rows in the last unknown alone, which is 1 where no row has it.
 fn last_unknown(rows: &[Row]) -> Option<Row>
     ensures solution { IfSome result (λ v. Solves rows.now MOST_ERRORS 0 (coefficient v)) }
     ensures none { IfNone result (Unsolvable rows.now MOST_ERRORS 0) }
@@ -50,7 +50,7 @@ fn last_unknown(rows: &[Row]) -> Option<Row>
     }
 }
 
-/// A row in which the coefficient of this unknown isn't 0.
+/// Returns a row in which the coefficient of this unknown isn't 0.
 fn pivot(rows: &[Row], unknown: usize) -> Option<usize>
     requires { unknown < MOST_COEFFICIENTS }
     ensures { MatchOption result ((k : ℕ) → k < length rows.now → row rows.now k unknown ≡ 0) (λ p. (p < length rows.now) × (0 < row rows.now p unknown) × (row rows.now p unknown < 256)) }
@@ -64,8 +64,8 @@ fn pivot(rows: &[Row], unknown: usize) -> Option<usize>
     None
 }
 
-/// The rows less multiples of the pivot row `p`, so that this unknown is left in none of them. `inverse` is the inverse of its
-/// coefficient in the pivot row.
+/// Returns the rows less multiples of the pivot row `p`, so that this unknown is left in none of them. `inverse` is the inverse
+/// of its coefficient in the pivot row.
 fn without(rows: &[Row], p: usize, inverse: Gf, unknown: usize) -> ArrayVec<Row, MOST_CHECKS>
     requires within { unknown < MOST_COEFFICIENTS }
     requires few { length rows.now ≤ MOST_CHECKS }
@@ -80,7 +80,7 @@ fn without(rows: &[Row], p: usize, inverse: Gf, unknown: usize) -> ArrayVec<Row,
     less
 }
 
-/// `f` plus `x` times `g`.
+/// Returns `f` plus `x` times `g`.
 fn with_multiple(f: &Row, x: Gf, g: &Row) -> Row
     ensures { (j : ℕ) → coefficient result j ≡ coefficient f.now j ⊕ x.0 ⊗ coefficient g.now j }
 {
@@ -91,7 +91,7 @@ fn with_multiple(f: &Row, x: Gf, g: &Row) -> Row
     sum
 }
 
-/// The sum of the products of the two rows, place by place, from the place `first` on.
+/// Returns the sum of the products of the two rows, place by place, from the place `first` on.
 fn dot_from(f: &Row, v: &Row, first: usize) -> Gf
     requires { first ≤ MOST_COEFFICIENTS }
     ensures { result.0 ≡ dot (coefficient f.now) (coefficient v.now) first (MOST_COEFFICIENTS - first) }

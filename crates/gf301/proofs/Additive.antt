@@ -14,7 +14,11 @@ xor_swap a b c d =
     ∙ ap (bit_xor a) (sym (xor_assoc b c d) ∙ ap (λ x. x ⊕ d) (xor_comm b c) ∙ xor_assoc c b d)
     ∙ sym (xor_assoc a c (b ⊕ d))
 
--- A test of every number below n.
+-- What is added twice is gone.
+pub xor_twice : (a b : ℕ) → a ⊕ (a ⊕ b) ≡ b
+xor_twice a b = sym (xor_assoc a a b) ∙ ap (λ x. x ⊕ b) (xor_self a) ∙ xor_comm 0 b ∙ xor_zero_r b
+
+-- The test passes at every number below n.
 unfoldable pub all_below : ℕ → (ℕ → Bool) → Bool
 all_below zero f = true
 all_below (suc n) f = f n && all_below n f
@@ -29,15 +33,15 @@ all_below_at (suc n) f e i h =
       | inr r ↦ elim r [ inl l ↦ all_below_at n f (and_parts (f n) (all_below n f) e).1 i l | inr g ↦ absurd (omega arith) ]
     ]
 
--- f takes sums to sums.
+-- The function f takes sums to sums.
 abbrev pub Additive : (ℕ → ℕ) → Type 0
 Additive f = (a b : ℕ) → f (a ⊕ b) ≡ f a ⊕ f b
 
--- Such a function takes 0 to 0.
+-- An additive function takes 0 to 0.
 pub additive_zero : (f : ℕ → ℕ) → Additive f → f 0 ≡ 0
 additive_zero f h = ap f (sym (xor_self 0)) ∙ h 0 0 ∙ xor_self (f 0)
 
--- The digits 0 and 1 times c.
+-- The sum of two digits 0 or 1, without the carry, times c is the sum of the digits times c.
 pub digit_times : (x y c : ℕ) → x < 2 → y < 2 → (x + y) % 2 * c ≡ x * c ⊕ y * c
 digit_times zero zero c hx hy = simp (zero-mul)
 digit_times zero (suc zero) c hx hy = simp (zero-mul, one-mul)

@@ -7,7 +7,7 @@ use Rattle.std.proofs.Math.Nat.{zero-mul, one-mul, mul_comm, add-zero, zero-add,
 use Rattle.gf301.specs.Field.{◌⊕◌, ◌⊗◌, bit, carryless, modulo_301, raise, power}
 use Rattle.gf301.proofs.Additive.{additive_agree, additive_zero, all_below, all_below_at, bit_times, xor_swap}
 
--- Each part of the product takes sums to sums.
+-- The remainder modulo 301 of a sum is the sum of the remainders.
 modulo_sum : (n p q : ℕ) → modulo_301 n (p ⊕ q) ≡ modulo_301 n p ⊕ modulo_301 n q
 unfolding modulo_301
 modulo_sum zero p q = refl
@@ -25,7 +25,7 @@ carryless_sum_left (suc i) a b c =
     ∙ ap (bit_xor (bit a i * (c * 2 ^ i) ⊕ bit b i * (c * 2 ^ i))) (carryless_sum_left i a b c)
     ∙ xor_swap (bit a i * (c * 2 ^ i)) (bit b i * (c * 2 ^ i)) (carryless i a c) (carryless i b c)
 
--- A digit times a shifted sum.
+-- A digit times a shifted sum is the sum of the digit times each shifted part.
 shifted_sum : (d : ℕ) → d < 2 → (a b i : ℕ) → d * ((a ⊕ b) * 2 ^ i) ≡ d * (a * 2 ^ i) ⊕ d * (b * 2 ^ i)
 shifted_sum zero h a b i = simp (zero-mul)
 shifted_sum (suc zero) h a b i =
@@ -33,7 +33,7 @@ shifted_sum (suc zero) h a b i =
     simp one-mul e
 shifted_sum (suc (suc d)) h a b i = absurd (omega arith)
 
--- And a sum on the right.
+-- The product without carries takes a sum on the right to a sum.
 carryless_sum_right : (n a b c : ℕ) → carryless n a (b ⊕ c) ≡ carryless n a b ⊕ carryless n a c
 unfolding carryless
 carryless_sum_right zero a b c = refl
@@ -58,25 +58,26 @@ product_sum_right a b c =
     ∙ ap (modulo_301 7) (carryless_sum_right 8 (a % 256) (b % 256) (c % 256))
     ∙ modulo_sum 7 (carryless 8 (a % 256) (b % 256)) (carryless 8 (a % 256) (c % 256))
 
--- The low byte counts.
-low : (a : ℕ) → a % 256 % 256 ≡ a % 256
-low a = omega arith
+-- The low byte of a low byte is the byte itself.
+low_byte : (a : ℕ) → a % 256 % 256 ≡ a % 256
+low_byte a = omega arith
 
 -- Of the left factor only the low byte counts.
 pub product_low_left : (a b : ℕ) → (a % 256) ⊗ b ≡ a ⊗ b
 unfolding ◌⊗◌
-product_low_left a b = ap (λ x. modulo_301 7 (carryless 8 x (b % 256))) (low a)
+product_low_left a b = ap (λ x. modulo_301 7 (carryless 8 x (b % 256))) (low_byte a)
 
 -- Of the right factor only the low byte counts.
 pub product_low_right : (a b : ℕ) → a ⊗ (b % 256) ≡ a ⊗ b
 unfolding ◌⊗◌
-product_low_right a b = ap (λ x. modulo_301 7 (carryless 8 (a % 256) x)) (low b)
+product_low_right a b = ap (λ x. modulo_301 7 (carryless 8 (a % 256) x)) (low_byte b)
 
 -- A low byte is below 2 ^ 8.
 byte_below : (a : ℕ) → a % 256 < 2 ^ 8
 byte_below a = mod_below a 256 (omega arith)
 
 -- ---- Tests that the checker computes over the powers of 2: 64 to 512 cases each
+-- Two powers of 2 below 2 ^ 8 may be exchanged in a product: 64 cases.
 comm_test : all_below 8 (λ i. all_below 8 (λ j. eqb (2 ^ i ⊗ 2 ^ j) (2 ^ j ⊗ 2 ^ i))) ≡ true
 unfolding all_below ◌⊗◌ carryless modulo_301
 comm_test = refl
@@ -147,7 +148,7 @@ product_assoc a b c =
     ∙ assoc_bytes (a % 256) (b % 256) (c % 256) (byte_below a) (byte_below b) (byte_below c)
     ∙ product_low_left a ((b % 256) ⊗ (c % 256)) ∙ ap (λ x. a ⊗ x) (product_low_left b (c % 256) ∙ product_low_right b c)
 
--- 0 times an element is 0.
+-- The product of 0 and an element is 0.
 pub product_zero_left : (a : ℕ) → 0 ⊗ a ≡ 0
 product_zero_left a = additive_zero (λ x. x ⊗ a) (λ x y. product_sum_left x y a)
 
@@ -155,12 +156,12 @@ product_zero_left a = additive_zero (λ x. x ⊗ a) (λ x y. product_sum_left x 
 pub product_zero_right : (a : ℕ) → a ⊗ 0 ≡ 0
 product_zero_right a = additive_zero (λ x. a ⊗ x) (product_sum_right a)
 
--- 1 is neutral at the powers of 2.
+-- The product of 1 and a power of 2 below 2 ^ 8 is this power.
 one_test : all_below 8 (λ i. eqb (1 ⊗ 2 ^ i) (2 ^ i)) ≡ true
 unfolding all_below ◌⊗◌ carryless modulo_301
 one_test = refl
 
--- 1 times a byte is the byte.
+-- The product of 1 and a byte is the byte.
 pub product_one_left : (a : ℕ) → a < 256 → 1 ⊗ a ≡ a
 product_one_left a h =
     additive_agree (λ x. 1 ⊗ x) (λ x. x) (product_sum_right 1) (λ x y. refl) 8
@@ -170,7 +171,7 @@ product_one_left a h =
 pub product_one_right : (a : ℕ) → a < 256 → a ⊗ 1 ≡ a
 product_one_right a h = product_comm a 1 ∙ product_one_left a h
 
--- A factor 1 inside a product does nothing, of bytes or not.
+-- A factor 1 inside a product may be left out, even where the other factor is no byte.
 pub product_one_middle : (a b : ℕ) → a ⊗ (1 ⊗ b) ≡ a ⊗ b
 product_one_middle a b = ap (λ x. a ⊗ x) (sym (product_low_right 1 b) ∙ product_one_left (b % 256) (byte_below b)) ∙ product_low_right a b
 
@@ -186,14 +187,14 @@ byte_at i j hi hj =
     (all_below_at 8 (λ j. eqb ((2 ^ i ⊗ 2 ^ j) % 256) (2 ^ i ⊗ 2 ^ j))
     (all_below_at 8 (λ i. all_below 8 (λ j. eqb ((2 ^ i ⊗ 2 ^ j) % 256) (2 ^ i ⊗ 2 ^ j))) byte_test i hi) j hj)
 
--- So is that of a power of 2 and a byte.
+-- The product of a power of 2 below 2 ^ 8 and a byte is its own low byte.
 byte_second : (i b : ℕ) → i < 8 → b < 2 ^ 8 → (2 ^ i ⊗ b) % 256 ≡ 2 ^ i ⊗ b
 byte_second i b hi hb =
     additive_agree (λ x. (2 ^ i ⊗ x) % 256) (λ x. 2 ^ i ⊗ x)
     (λ x y. ap (λ z. z % 256) (product_sum_right (2 ^ i) x y) ∙ xor_mod (2 ^ i ⊗ x) (2 ^ i ⊗ y) 8) (product_sum_right (2 ^ i))
     8 (λ j hj. byte_at i j hi hj) b hb
 
--- So is that of two bytes.
+-- The product of two bytes is its own low byte.
 byte_product : (a b : ℕ) → a < 2 ^ 8 → b < 2 ^ 8 → (a ⊗ b) % 256 ≡ a ⊗ b
 byte_product a b ha hb =
     additive_agree (λ x. (x ⊗ b) % 256) (λ x. x ⊗ b)
@@ -211,21 +212,21 @@ pub sum_below : (a b : ℕ) → a < 256 → b < 256 → a ⊕ b < 256
 sum_below a b ha hb = xor_lt 8 a b ha hb
 
 -- ---- Inverses
--- The power 2 ^ (n + 1) - 2 of an element.
+-- This is the power 2 ^ (n + 1) - 2 of an element, by repeated squaring.
 unfoldable pub inverse_power : ℕ → ℕ → ℕ
 inverse_power zero a = 1
 inverse_power (suc n) a = let s = a ⊗ a in s ⊗ inverse_power n s
 
--- The inverse of a byte other than 0: its power 254.
+-- The inverse of a byte other than 0 is its power 254.
 pub inverse_of : ℕ → ℕ
 inverse_of a = inverse_power 7 a
 
--- It is a byte.
+-- The inverse of an element is a byte.
 pub inverse_below : (a : ℕ) → inverse_of a < 256
 unfolding inverse_of inverse_power
 inverse_below a = product_below (a ⊗ a) (inverse_power 6 (a ⊗ a))
 
--- Each byte other than 0 times that power is 1: 255 cases.
+-- Each byte other than 0 times its inverse is 1: 255 cases.
 inverse_test : all_below 255 (λ a. eqb ((a + 1) ⊗ inverse_of (a + 1)) 1) ≡ true
 unfolding all_below ◌⊗◌ carryless modulo_301 inverse_power inverse_of
 inverse_test = refl
@@ -249,7 +250,7 @@ product_cancel a b l ha hb e =
     sym (product_one_right b hb) ∙ ap (λ x. b ⊗ x) (sym (product_inverse a l ha)) ∙ sym (product_assoc b a (inverse_of a))
     ∙ ap (λ x. x ⊗ inverse_of a) (product_comm b a ∙ e) ∙ product_zero_left (inverse_of a)
 
--- A sum is 0 only of equals.
+-- Two numbers whose sum is 0 are equal.
 pub sum_zero : (a b : ℕ) → a ⊕ b ≡ 0 → a ≡ b
 sum_zero a b e = sym (xor_zero_r a) ∙ ap (bit_xor a) (sym (xor_self b)) ∙ sym (xor_assoc a b b) ∙ ap (λ x. x ⊕ b) e
 
@@ -260,6 +261,7 @@ product_cancels a b c l ha hb hc e =
     (product_cancel a (b ⊕ c) l ha (sum_below b c hb hc) (product_sum_right a b c ∙ ap (λ x. x ⊕ a ⊗ c) e ∙ xor_self (a ⊗ c)))
 
 -- ---- Powers
+-- A power of an element is a byte.
 pub raise_below : (x e : ℕ) → raise x e < 256
 unfolding raise
 raise_below x zero = omega arith
@@ -282,12 +284,12 @@ pub raise_swap : (x i j : ℕ) → raise (raise x i) j ≡ raise (raise x j) i
 raise_swap x i j = sym (raise_mul x i j) ∙ ap (raise x) (mul_comm i j) ∙ raise_mul x j i
 
 -- A positive number is not 0.
-lt_ne : {n : ℕ} → 0 < n → n ≡ 0 → ⊥
-lt_ne l e = omega arith
+pub positive_not : {n : ℕ} → 0 < n → n ≡ 0 → ⊥
+positive_not l e = omega arith
 
 -- A product of elements other than 0 is not 0.
 pub product_positive : (a b : ℕ) → 0 < a → a < 256 → 0 < b → b < 256 → 0 < a ⊗ b
-product_positive a b la ha lb hb = pos_of_ne-zero (λ z. lt_ne lb (product_cancel a b la ha hb z))
+product_positive a b la ha lb hb = pos_of_ne-zero (λ z. positive_not lb (product_cancel a b la ha hb z))
 
 -- A power of an element other than 0 is not 0.
 pub raise_positive : (x e : ℕ) → 0 < x → x < 256 → 0 < raise x e
@@ -295,14 +297,14 @@ unfolding raise
 raise_positive x zero l h = omega arith
 raise_positive x (suc e) l h =
     let r : 0 < raise x e = raise_positive x e l h in
-    pos_of_ne-zero (λ z. lt_ne r (product_cancel x (raise x e) l h (raise_below x e) z))
+    pos_of_ne-zero (λ z. positive_not r (product_cancel x (raise x e) l h (raise_below x e) z))
 
 -- The powers of 2 come back to 1 after 255 of them.
 pub power_255 : power 255 ≡ 1
 unfolding raise ◌⊗◌ carryless modulo_301
 power_255 = refl
 
--- And not before.
+-- No power of 2 with an exponent of 1 to 254 is 1: 254 cases.
 power_test : all_below 254 (λ i. not (eqb (power (i + 1)) 1)) ≡ true
 unfolding raise all_below ◌⊗◌ carryless modulo_301
 power_test = refl
@@ -329,7 +331,7 @@ power_apart i j h l e =
     (product_cancel (power i) (power (j - i) ⊕ 1) (raise_positive 2 i (omega arith) (omega arith)) (raise_below 2 i)
     (sum_below (power (j - i)) 1 (raise_below 2 (j - i)) (omega arith)) p))
 
--- Below 255 the power of 2 tells its exponent.
+-- Powers of 2 with different exponents below 255 are different.
 pub power_injective : (i j : ℕ) → i < 255 → j < 255 → power i ≡ power j → i ≡ j
 power_injective i j hi hj e =
     elim (cases_order i j) [ inl s ↦ s | inr r ↦ elim r [ inl l ↦ absurd (power_apart i j l (omega arith) e) | inr g ↦ absurd (power_apart j i g (omega arith) (sym e)) ] ]

@@ -19,19 +19,19 @@ generator_length (suc k) =
     let l : length (times (1 ∷ power (suc k) ∷ []) (generator k)) + 1 ≡ 2 + length (generator k) = length_times (1 ∷ power (suc k) ∷ []) (generator k) (omega arith) in
     omega arith
 
--- The next generator has one factor more.
+-- The generator for k + 1 check codewords is that for k, times x - 2^(k + 1).
 pub generator_is : (k : ℕ) → generator (suc k) ≡ times (1 ∷ power (suc k) ∷ []) (generator k)
 unfolding generator
 generator_is k = refl
 
--- Its value at x has the factor x - 2^(k + 1) more.
+-- The value of the generator for k + 1 check codewords at x is that of the generator for k, times x - 2^(k + 1).
 pub generator_step : (k x : ℕ) → x < 256 → value (generator (suc k)) x ≡ (x ⊕ power (suc k)) ⊗ value (generator k) x
 unfolding generator
 generator_step k x h =
     value_times x (1 ∷ power (suc k) ∷ []) (generator k) (omega (arith, generator_length k))
     ∙ ap (λ y. y ⊗ value (generator k) x) (factor_value (power (suc k)) x (raise_below 2 (suc k)) h)
 
--- 2^1 to 2^k are roots of the generator.
+-- The powers 2^1 to 2^k are roots of the generator.
 pub generator_root : (k i : ℕ) → i < k → value (generator k) (power (1 + i)) ≡ 0
 generator_root zero i h = absurd (omega arith)
 generator_root (suc k) i h =
@@ -49,7 +49,7 @@ pub value_one : (x : ℕ) → value (generator 0) x ≡ 1
 unfolding generator value raise
 value_one x = xor_zero_r (1 ⊗ 1) ∙ product_one_left 1 (omega arith)
 
--- No other power of 2 is a root: none from 2^(k + 1) to 2^255, which is 2^0.
+-- No other power of 2 is a root of the generator: none from 2^(k + 1) to 2^255, which is 2^0.
 pub generator_positive : (k j : ℕ) → k < j → j ≤ 255 → 0 < value (generator k) (power j)
 generator_positive zero j h l = subst (λ y. 0 < y) (sym (value_one (power j))) (omega arith)
 generator_positive (suc k) j h l =
@@ -59,18 +59,18 @@ generator_positive (suc k) j h l =
     (product_positive (power j ⊕ power (suc k)) (value (generator k) (power j)) d (sum_below (power j) (power (suc k)) (raise_below 2 j) (raise_below 2 (suc k)))
     (generator_positive k j (omega arith) l) (value_below (generator k) (power j)))
 
--- Its coefficients are bytes.
+-- The coefficients of the generator are bytes.
 pub bytes_generator : (k : ℕ) → Bytes (generator k)
 unfolding generator
 bytes_generator zero = bytes_cons 1 [] (omega arith) (λ i d h. absurd (omega arith))
 bytes_generator (suc k) = bytes_times (1 ∷ power (suc k) ∷ []) (generator k)
 
--- The first coefficient of a product with x - r.
+-- The first coefficient of a product with x - r is 1 times that of the other factor.
 first_times : (r : ℕ) (g : List ℕ) → 0 < length g → coefficient (times (1 ∷ r ∷ []) g) 0 ≡ 1 ⊗ coefficient g 0
 unfolding convolution
 first_times r g h = get_or-times (1 ∷ r ∷ []) g 0 (omega arith)
 
--- Its first coefficient is 1.
+-- The first coefficient of the generator is 1.
 pub generator_first : (k : ℕ) → coefficient (generator k) 0 ≡ 1
 unfolding generator
 generator_first zero = refl

@@ -15,20 +15,20 @@ flag true = refl
 flag false = refl
 
 -- ---- twice an element
--- A byte shifted up by one, and 45 taken away where its highest bit was 1.
+-- A byte is shifted up by one, and 45 is taken away where its highest bit was 1.
 shifted : ℕ → ℕ
 shifted a = (a + a) % 256 ⊕ cond (leb 128 a) 45 0
 
--- This is its product with 2: 256 cases.
+-- A byte so shifted is its product with 2: 256 cases.
 shifted_test : all_below 256 (λ a. eqb (shifted a) (2 ⊗ a)) ≡ true
 unfolding all_below shifted ◌⊗◌ carryless modulo_301
 shifted_test = refl
 
--- Shifting a byte is multiplying it by 2.
+-- A byte so shifted is its product with 2.
 shifted_is : (a : ℕ) → a < 256 → shifted a ≡ 2 ⊗ a
 shifted_is a h = eqb-true (shifted a) (2 ⊗ a) (all_below_at 256 (λ a. eqb (shifted a) (2 ⊗ a)) shifted_test a h)
 
--- Below 128 nothing is taken away.
+-- Below 128 nothing is taken away, and the product with 2 is the number times 2.
 twice : (a : ℕ) → a < 128 → 2 ⊗ a ≡ a * 2
 unfolding shifted
 twice a h = sym (shifted_is a (omega arith)) ∙ go (leb 128 a) refl
@@ -47,13 +47,13 @@ doubled_lanes (x ∷ xs) (suc n) e h =
     λ i. (ap (λ b. (x + x) % 256 ⊕ cond b 45 0) (flag (leb 128 x)) ∙ shifted_is x h.0.fits) i ∷ doubled_lanes xs n (omega arith) h.1 i
 
 -- ---- one bit of a factor
--- An element times the lowest bit of a number.
+-- The product of an element and a digit is the element where the digit is 1, and 0 where it is 0.
 bit_product : (a d : ℕ) → a < 256 → d < 2 → a ⊗ d ≡ cond (not (eqb d 0)) a 0
 bit_product a zero h l = product_zero_right a
 bit_product a (suc zero) h l = product_one_right a h
 bit_product a (suc (suc d)) h l = absurd (omega arith)
 
--- A product is that with the lowest bit of a factor, and that of the other factor doubled with the rest of its bits.
+-- A product is the sum of that with the lowest bit of a factor and that of the other factor doubled with the rest of the bits.
 halved : (a b : ℕ) → a < 256 → b < 256 → cond (not (eqb (bit_and b 1) 0)) a 0 ⊕ (2 ⊗ a) ⊗ (b / 2) ≡ a ⊗ b
 halved a b h l =
     ap (λ y. y ⊕ (2 ⊗ a) ⊗ (b / 2)) (ap (λ d. cond (not (eqb d 0)) a 0) (and_mask b 1) ∙ sym (bit_product a (b % 2) h (mod_below b 2 (omega arith))))
@@ -70,7 +70,7 @@ first_turn [] (suc n) p = refl
 first_turn (z ∷ zs) zero p = absurd (omega arith)
 first_turn (z ∷ zs) (suc n) p = λ i. z ∷ first_turn zs n (omega arith) i
 
--- Which lanes are odd.
+-- A lane is odd where its lowest bit is 1.
 abbrev pub odd_lanes : ℕ → List ℕ → List Bool
 odd_lanes n rs = map (top 7) (zip2 (λ a b. cond (not (eqb a b)) 255 0) (zip2 bit_and rs (replicate n 1)) (replicate n 0))
 
@@ -88,7 +88,7 @@ turn_lanes (s ∷ ss) (d ∷ ds) (b ∷ rs) (suc n) p q r f g =
     ∙ ap (bit_xor s) (halved d b f.0.fits g.0.fits)) i
     ∷ turn_lanes ss ds rs n (omega arith) (omega arith) (omega arith) f.1 g.1 i
 
--- A turn takes the lowest bit of each lane.
+-- A turn takes the lowest bit away from each lane.
 pub fewer_bits : (m : ℕ) (rs : List ℕ) (n : ℕ) → Each1 (λ b. b < 2 ^ suc m) rs → Each1 (λ b. b < 2 ^ m) (zip2 (λ x y. x / 2 ^ y) rs (replicate n 1))
 fewer_bits m [] n h = tt
 fewer_bits m (b ∷ rs) zero h = tt

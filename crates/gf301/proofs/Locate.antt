@@ -5,20 +5,21 @@ use Rattle.gf301.specs.Field.{◌⊕◌, ◌⊗◌, raise, power}
 use Rattle.gf301.specs.Polynomial.{value, convolution, coefficient, times}
 use Rattle.gf301.proofs.Lists.{nonzeros}
 use Rattle.gf301.proofs.FieldLaws.{product_sum_right, product_comm, product_zero_left, product_zero_right, product_one_left, raise_below, raise_add}
-use Rattle.gf301.proofs.Weights.{weigh, weighted, weigh_sum, weigh_scale, weigh_same, weigh_weighted, weigh_zeros, product_swap}
+use Rattle.gf301.proofs.Weights.{weigh, weighted, weigh_sum, weigh_scale, weigh_same, weigh_weighted, weigh_zeros, product_swap, zeros_parts}
 use Rattle.gf301.proofs.PolyLaws.{value_times, length_times, factor_value, get_or-times}
 use Rattle.gf301.proofs.Series.{conv_cons, conv_single}
 
--- The sums of the powers from 1 on.
+-- The power sum number i of a list is the sum of each element times the power i + 1 of its locator.
 unfoldable pub sums : List ℕ → ℕ → ℕ
 sums e i = weigh (λ x. raise x (suc i)) e
 
--- p, the highest power first, laid on s from the place u.
+-- The list p is laid on the series s from the place u on: its last coefficient is multiplied by s u, the one before it by s (u +
+-- 1), and so on, and the products are added.
 unfoldable pub laid : List ℕ → (ℕ → ℕ) → ℕ → ℕ
 laid [] s u = 0
 laid (a ∷ p) s u = a ⊗ s (length p + u) ⊕ laid p s u
 
--- The coefficients of the product from the degree on.
+-- From the degree of p on, the coefficients of the product of p and s are p laid on s.
 pub conv_laid : (a : ℕ) (p : List ℕ) (s : ℕ → ℕ) (u : ℕ) → convolution (coefficient (a ∷ p)) s (length p + u) ≡ laid (a ∷ p) s u
 unfolding laid
 conv_laid a [] s u = conv_single a s (0 + u) ∙ sym (xor_zero_r (a ⊗ s (0 + u)))
@@ -28,7 +29,7 @@ conv_laid a (b ∷ p) s u =
     ∙ ap (λ n. a ⊗ s n ⊕ convolution (coefficient (b ∷ p)) s (length p + u)) (sym e)
     ∙ ap (bit_xor (a ⊗ s (suc (length p) + u))) (conv_laid b p s u)
 
--- Laid on the sums, p weighs each place by its value there.
+-- Laid on the power sums, p weighs each place by its value at the locator there.
 pub laid_sums : (e p : List ℕ) (u : ℕ) → laid p (sums e) u ≡ weigh (λ x. raise x (suc u) ⊗ value p x) e
 unfolding laid sums value
 laid_sums e [] u = sym (weigh_same (λ x. raise x (suc u) ⊗ 0) (λ x. 0 ⊗ 0) (λ x. product_zero_right (raise x (suc u)) ∙ sym (product_zero_left 0)) e ∙ weigh_scale 0 (λ x. 0) e ∙ product_zero_left (weigh (λ x. 0) e))
@@ -42,6 +43,7 @@ laid_sums e (a ∷ p) u =
     ∙ sym (product_sum_right (raise x (suc u)) (a ⊗ raise x (length p)) (value p x))) e
 
 -- ---- What is 0 at each place that isn't 0 connects the sums
+-- A polynomial that is 0 at the locator of each place that is not 0 has a product with the power sums whose coefficients are 0 from its degree on.
 pub connects : (e : List ℕ) (a : ℕ) (p : List ℕ) → nonzeros (weighted (value (a ∷ p)) e) ≡ 0 → (i : ℕ) → length p ≤ i → convolution (coefficient (a ∷ p)) (sums e) i ≡ 0
 connects e a p z i h =
     let u = i - length p in
@@ -50,17 +52,18 @@ connects e a p z i h =
     ∙ sym (weigh_weighted (λ x. raise x (suc u)) (value (a ∷ p)) e) ∙ weigh_zeros (λ x. raise x (suc u)) (weighted (value (a ∷ p)) e) z
 
 -- ---- The locator of a list: the product of the factors of its places that aren't 0
+-- The locator of a list has the factor x - 2^n for each place that is not 0, n being the number of places after it.
 unfoldable pub locate : List ℕ → List ℕ
 locate [] = 1 ∷ []
 locate (zero ∷ e) = locate e
 locate (suc a ∷ e) = times (1 ∷ power (length e) ∷ []) (locate e)
 
--- The first coefficient of a product with x - r.
+-- The first coefficient of a product with x - r is 1 times that of the other factor.
 head_times : (r b : ℕ) (p : List ℕ) → get_or (times (1 ∷ r ∷ []) (b ∷ p)) 0 0 ≡ 1 ⊗ b
 unfolding convolution
 head_times r b p = get_or-times (1 ∷ r ∷ []) (b ∷ p) 0 (omega arith)
 
--- It is 1 where the first coefficient of the other factor is.
+-- The first coefficient of a product with x - r is 1 where that of the other factor is 1.
 head_product : (r : ℕ) (p : List ℕ) → 0 < length p → get_or p 0 0 ≡ 1 → get_or (times (1 ∷ r ∷ []) p) 0 0 ≡ 1
 head_product r [] l h = absurd (omega arith)
 head_product r (b ∷ p) l h = head_times r b p ∙ ap (λ y. 1 ⊗ y) h ∙ product_one_left 1 (omega arith)
@@ -75,26 +78,20 @@ length-locate (suc a ∷ e) =
     let l : length (times (1 ∷ power (length e) ∷ []) (locate e)) + 1 ≡ 2 + length (locate e) = length_times (1 ∷ power (length e) ∷ []) (locate e) (omega arith) in
     omega arith
 
--- Its first coefficient is 1.
+-- The first coefficient of the locator is 1.
 pub head-locate : (e : List ℕ) → get_or (locate e) 0 0 ≡ 1
 unfolding locate
 head-locate [] = refl
 head-locate (zero ∷ e) = head-locate e
 head-locate (suc a ∷ e) = head_product (power (length e)) (locate e) (omega (arith, length-locate e)) (head-locate e)
 
--- 0 before zeros.
+-- A list of zeros with one more 0 in front is a list of zeros.
 zeros_cons : (a : ℕ) (e : List ℕ) → a ≡ 0 → nonzeros e ≡ 0 → nonzeros (a ∷ e) ≡ 0
 unfolding nonzeros
 zeros_cons zero e h z = z
 zeros_cons (suc a) e h z = absurd (omega arith)
 
--- A list of zeros has a head of 0 and a tail of zeros.
-pub zeros_parts : (a : ℕ) (e : List ℕ) → nonzeros (a ∷ e) ≡ 0 → (a ≡ 0) × (nonzeros e ≡ 0)
-unfolding nonzeros
-zeros_parts zero e h = (refl, h)
-zeros_parts (suc a) e h = absurd (omega arith)
-
--- A weight of 0 at a place stays 0 under a factor.
+-- A list whose weighted list is zeros is still zeros when a factor is added to the weight.
 weighted_factor : (f c : ℕ → ℕ) (e : List ℕ) → nonzeros (weighted f e) ≡ 0 → nonzeros (weighted (λ x. c x ⊗ f x) e) ≡ 0
 unfolding weighted
 weighted_factor f c [] z = z
@@ -104,10 +101,10 @@ weighted_factor f c (a ∷ e) z =
     zeros_cons (a ⊗ (c x ⊗ f x)) (weighted (λ x. c x ⊗ f x) e) (product_swap a (c x) (f x) ∙ ap (λ y. c x ⊗ y) p.0 ∙ product_zero_right (c x)) (weighted_factor f c e p.1)
 
 -- Functions with the same values are equal.
-same_functions : {f g : ℕ → ℕ} → ((i : ℕ) → f i ≡ g i) → f ≡ g
+pub same_functions : {f g : ℕ → ℕ} → ((i : ℕ) → f i ≡ g i) → f ≡ g
 same_functions h = λ k i. h i k
 
--- The locator is 0 at the locator of each place that is not 0.
+-- The locator of a list is 0 at the locator of each place that is not 0.
 pub zeros-locate : (e : List ℕ) → nonzeros (weighted (value (locate e)) e) ≡ 0
 unfolding locate weighted nonzeros
 zeros-locate [] = refl

@@ -9,7 +9,7 @@ use Rattle.gf301.proofs.Lists.{plus, scale, nonzeros}
 use Rattle.gf301.proofs.Series.{conv_below, conv_comm, conv_nothing, conv_cons}
 use Rattle.gf301.proofs.Additive.{xor_swap}
 use Rattle.gf301.proofs.FieldLaws.{product_sum_left, product_sum_right, product_assoc, product_comm, product_zero_left, product_zero_right, product_one_left, product_one_right, product_below, sum_zero, sum_below, raise_add}
-use Rattle.gf301.proofs.Weights.{value_weigh, distance, bytes_head, bytes_tail, bytes_cons}
+use Rattle.gf301.proofs.Weights.{value_weigh, zeros_from_sums, bytes_head, bytes_tail, bytes_cons, zeros_parts}
 
 -- A sum is as long as its parts.
 pub length_plus : (p q : List ℕ) → length p ≡ length q → length (plus p q) ≡ length p
@@ -18,7 +18,7 @@ length_plus [] q h = refl
 length_plus (a ∷ p) [] h = absurd (omega arith)
 length_plus (a ∷ p) (b ∷ q) h = ap suc (length_plus p q (omega arith))
 
--- A multiple is as long.
+-- A multiple of a polynomial is as long as the polynomial.
 pub length_scale : (a : ℕ) (p : List ℕ) → length (scale a p) ≡ length p
 unfolding scale
 length_scale a p = length-map p (λ b. a ⊗ b)
@@ -53,7 +53,7 @@ unfolding value
 value_zeros x zero = refl
 value_zeros x (suc n) = ap (λ y. y ⊕ value (replicate n 0) x) (product_zero_left (raise x (length (replicate n 0)))) ∙ value_zeros x n
 
--- n zeros at the end multiply the value by x to the power n.
+-- With n zeros at the end, the value is multiplied by x to the power n.
 pub value_shift : (x n : ℕ) (p : List ℕ) → value (p ++ replicate n 0) x ≡ value p x ⊗ raise x n
 unfolding value
 value_shift x n [] = value_zeros x n ∙ sym (product_zero_left (raise x n))
@@ -65,7 +65,7 @@ value_shift x n (a ∷ p) =
     ∙ ap (λ y. y ⊕ value p x ⊗ raise x n) (sym (product_assoc a (raise x (length p)) (raise x n)))
     ∙ sym (product_sum_left (a ⊗ raise x (length p)) (value p x) (raise x n))
 
--- A coefficient of a sum.
+-- A coefficient of a sum is the sum of the coefficients.
 pub get_or-plus : (p q : List ℕ) (k : ℕ) → length p ≡ length q → get_or (plus p q) k 0 ≡ get_or p k 0 ⊕ get_or q k 0
 unfolding plus
 get_or-plus [] [] k h = refl
@@ -74,13 +74,13 @@ get_or-plus (a ∷ p) [] k h = absurd (omega arith)
 get_or-plus (a ∷ p) (b ∷ q) zero h = refl
 get_or-plus (a ∷ p) (b ∷ q) (suc k) h = get_or-plus p q k (omega arith)
 
--- A coefficient of zeros.
+-- Each coefficient of a list of zeros is 0.
 get_or-zeros : (n k : ℕ) → ◌≡◌ {A = ℕ} (get_or (replicate n 0) k 0) 0
 get_or-zeros zero k = refl
 get_or-zeros (suc n) zero = refl
 get_or-zeros (suc n) (suc k) = get_or-zeros n k
 
--- A coefficient of a multiple, zeros after it.
+-- A coefficient of a multiple that is followed by zeros is the multiple of the coefficient.
 pub get_or-scale : (a : ℕ) (q : List ℕ) (n k : ℕ) → get_or (scale a q ++ replicate n 0) k 0 ≡ a ⊗ get_or q k 0
 unfolding scale
 get_or-scale a [] n k = get_or-zeros n k ∙ sym (product_zero_right a)
@@ -88,12 +88,13 @@ get_or-scale a (b ∷ q) n zero = refl
 get_or-scale a (b ∷ q) n (suc k) = get_or-scale a q n k
 
 -- ---- The list of a function's values
+-- The list of n values of a function has the length n.
 pub length-values_from : (f : ℕ → ℕ) (first n : ℕ) → length (values_from f first n) ≡ n
 unfolding values_from
 length-values_from f first zero = refl
 length-values_from f first (suc n) = ap suc (length-values_from f (suc first) n)
 
--- The element i is the value at first + i.
+-- The element i of the list is the value at first + i.
 pub get_or-values_from : (f : ℕ → ℕ) (first n i : ℕ) → i < n → get_or (values_from f first n) i 0 ≡ f (first + i)
 unfolding values_from
 get_or-values_from f first zero i h = absurd (omega arith)
@@ -101,7 +102,7 @@ get_or-values_from f first (suc n) zero h = ap f (let e : first ≡ first + 0 = 
 get_or-values_from f first (suc n) (suc i) h =
     get_or-values_from f (suc first) n i (omega arith) ∙ ap f (let e : suc first + i ≡ first + suc i = omega arith in e)
 
--- One value more stands at the end.
+-- With one value more, this value stands at the end of the list.
 pub values_from_push : (f : ℕ → ℕ) (first n : ℕ) → values_from f first (suc n) ≡ values_from f first n ++ f (first + n) ∷ []
 unfolding values_from
 values_from_push f first zero = ap (λ k. f k ∷ []) (let e : first ≡ first + 0 = omega arith in e)
@@ -110,12 +111,13 @@ values_from_push f first (suc n) =
     ∙ ap (λ k. f first ∷ values_from f (suc first) n ++ f k ∷ []) (let e : suc first + n ≡ first + suc n = omega arith in e)
 
 -- Values below 256 make a list of bytes.
-bytes_values_from : (f : ℕ → ℕ) → ((i : ℕ) → f i < 256) → (first n : ℕ) → Bytes (values_from f first n)
+pub bytes_values_from : (f : ℕ → ℕ) → ((i : ℕ) → f i < 256) → (first n : ℕ) → Bytes (values_from f first n)
 unfolding values_from
 bytes_values_from f h first zero = λ k d l. absurd (omega arith)
 bytes_values_from f h first (suc n) = bytes_cons (f first) (values_from f (suc first) n) (h first) (bytes_values_from f h (suc first) n)
 
 -- ---- The product
+-- A product has as many coefficients as its factors together, less one if these have any.
 length_times_is : (p q : List ℕ) → length (times p q) ≡ length p + length q - 1
 unfolding times
 length_times_is p q = length-values_from (convolution (coefficient p) (coefficient q)) 0 (length p + length q - 1)
@@ -124,7 +126,7 @@ length_times_is p q = length-values_from (convolution (coefficient p) (coefficie
 pub length_times : (p q : List ℕ) → 0 < length q → length (times p q) + 1 ≡ length p + length q
 length_times p q h = omega (arith, length_times_is p q)
 
--- A coefficient of a product.
+-- A coefficient of a product is the one of the product of the series of both factors.
 pub get_or-times : (p q : List ℕ) (n : ℕ) → n < length p + length q - 1 → get_or (times p q) n 0 ≡ convolution (coefficient p) (coefficient q) n
 unfolding times
 get_or-times p q n h =
@@ -137,19 +139,19 @@ unfolding times
 bytes_times p q =
     bytes_values_from (convolution (coefficient p) (coefficient q)) (conv_below (coefficient p) (coefficient q)) 0 (length p + length q - 1)
 
--- The product with the empty list is zeros.
+-- The product of the empty list and another is a list of zeros.
 pub times_nothing : (q : List ℕ) → 0 < length q → times [] q ≡ replicate (length q - 1) 0
 times_nothing q h =
     same_number_lists (times [] q) (replicate (length q - 1) 0)
     (length_times_is [] q ∙ (let e : 0 + length q - 1 ≡ length q - 1 = omega arith in e) ∙ sym (length-replicate (length q - 1) 0))
     (λ n l. get_or-times [] q n (omega (arith, length_times_is [] q)) ∙ conv_nothing (coefficient q) n ∙ sym (get_or-zeros (length q - 1) n))
 
--- The first coefficient of a product.
+-- The first coefficient of a product is the product of the first coefficients.
 head_first : (a : ℕ) (p q : List ℕ) → convolution (coefficient (a ∷ p)) (coefficient q) 0 ≡ a ⊗ get_or q 0 0
 unfolding convolution
 head_first a p q = refl
 
--- The places of the product by its head.
+-- At each place the product of a list with the head a is the sum of a times the other factor and the product of the rest.
 head_places : (a : ℕ) (p q : List ℕ) (n : ℕ) → 0 < length q → n < length p + length q
     → convolution (coefficient (a ∷ p)) (coefficient q) n ≡ get_or (scale a q ++ replicate (length p) 0) n 0 ⊕ get_or (0 ∷ times p q) n 0
 head_places a p q zero h l = head_first a p q ∙ sym (get_or-scale a q (length p) 0) ∙ sym (xor_zero_r (get_or (scale a q ++ replicate (length p) 0) 0 0))
@@ -158,7 +160,7 @@ head_places a p q (suc n) h l =
     ∙ ap (λ y. y ⊕ convolution (coefficient p) (coefficient q) n) (sym (get_or-scale a q (length p) (suc n)))
     ∙ ap (bit_xor (get_or (scale a q ++ replicate (length p) 0) (suc n) 0)) (sym (get_or-times p q n (omega arith)))
 
--- The product by the head of its left factor: a x^n + p has (a x^n) q + p q.
+-- The product of a x^n + p and q is the sum of (a x^n) q and p q.
 pub times_head : (a : ℕ) (p q : List ℕ) → 0 < length q → times (a ∷ p) q ≡ plus (scale a q ++ replicate (length p) 0) (0 ∷ times p q)
 times_head a p q h =
     let m = scale a q ++ replicate (length p) 0 in
@@ -183,7 +185,7 @@ value_times x (a ∷ p) q h =
     ∙ ap (λ y. y ⊕ value p x ⊗ value q x) (product_assoc a (value q x) (raise x (length p)) ∙ ap (λ y. a ⊗ y) (product_comm (value q x) (raise x (length p))) ∙ sym (product_assoc a (raise x (length p)) (value q x)))
     ∙ sym (product_sum_left (a ⊗ raise x (length p)) (value p x) (value q x))
 
--- A sum of bytes is of bytes.
+-- The sum of two lists of bytes is a list of bytes.
 pub bytes_plus : (p q : List ℕ) → Bytes p → Bytes q → Bytes (plus p q)
 unfolding plus
 bytes_plus [] q hp hq = λ k d l. absurd (omega arith)
@@ -191,12 +193,12 @@ bytes_plus (a ∷ p) [] hp hq = λ k d l. absurd (omega arith)
 bytes_plus (a ∷ p) (b ∷ q) hp hq =
     bytes_cons (a ⊕ b) (plus p q) (sum_below a b (bytes_head a p hp) (bytes_head b q hq)) (bytes_plus p q (bytes_tail a p hp) (bytes_tail b q hq))
 
--- Zeros are bytes.
+-- A list of zeros is a list of bytes.
 pub bytes_zeros : (n : ℕ) → Bytes (replicate n 0)
 bytes_zeros zero = λ k d l. absurd (omega arith)
 bytes_zeros (suc n) = bytes_cons 0 (replicate n 0) (omega arith) (bytes_zeros n)
 
--- A product of each element, followed by bytes.
+-- A multiple of a list, followed by bytes, is a list of bytes.
 bytes_scale_append : (a : ℕ) (p q : List ℕ) → Bytes q → Bytes (scale a p ++ q)
 unfolding scale
 bytes_scale_append a [] q h = h
@@ -212,11 +214,6 @@ times_comm p q =
     get_or-times p q i l ∙ conv_comm (coefficient p) (coefficient q) i ∙ sym (get_or-times q p i (omega arith)))
 
 -- ---- Two lists of one length are equal where their values agree
-nonzeros_parts : (a : ℕ) (e : List ℕ) → nonzeros (a ∷ e) ≡ 0 → (a ≡ 0) × (nonzeros e ≡ 0)
-unfolding nonzeros
-nonzeros_parts zero e h = (refl, h)
-nonzeros_parts (suc a) e h = absurd (omega arith)
-
 -- Lists of one length whose sum is zeros are equal.
 same_from_sum : (p q : List ℕ) → length p ≡ length q → nonzeros (plus p q) ≡ 0 → p ≡ q
 unfolding plus
@@ -224,22 +221,22 @@ same_from_sum [] [] l h = refl
 same_from_sum [] (b ∷ q) l h = absurd (omega arith)
 same_from_sum (a ∷ p) [] l h = absurd (omega arith)
 same_from_sum (a ∷ p) (b ∷ q) l h =
-    let s : (a ⊕ b ≡ 0) × (nonzeros (plus p q) ≡ 0) = nonzeros_parts (a ⊕ b) (plus p q) h in
+    let s : (a ⊕ b ≡ 0) × (nonzeros (plus p q) ≡ 0) = zeros_parts (a ⊕ b) (plus p q) h in
     ap (λ c. c ∷ p) (sum_zero a b s.0) ∙ ap (λ t. b ∷ t) (same_from_sum p q (omega arith) s.1)
 
--- No more places than there are differ from 0.
+-- At most as many places differ from 0 as the list has.
 nonzeros-le-length : (e : List ℕ) → nonzeros e ≤ length e
 unfolding nonzeros
 nonzeros-le-length [] = omega arith
 nonzeros-le-length (zero ∷ e) = omega (arith, nonzeros-le-length e)
 nonzeros-le-length (suc a ∷ e) = omega (arith, nonzeros-le-length e)
 
--- With values that agree at 2^1 to 2^m, and at most m places that differ.
+-- Two lists of one length that differ in at most m places, and whose values at 2^1 to 2^m agree, are equal.
 pub same_from_values : (p q : List ℕ) (m : ℕ) → length p ≡ length q → length p ≤ 255 → Bytes p → Bytes q → nonzeros (plus p q) ≤ m
     → ((i : ℕ) → i < m → value p (power (1 + i)) ≡ value q (power (1 + i))) → p ≡ q
 same_from_values p q m l h hp hq z v =
     same_from_sum p q l
-    (distance (length p) (plus p q) m 1 (length_plus p q l) h (bytes_plus p q hp hq) z
+    (zeros_from_sums (length p) (plus p q) m 1 (length_plus p q l) h (bytes_plus p q hp hq) z
     (λ i b. sym (value_weigh (1 + i) (plus p q)) ∙ value_plus (power (1 + i)) p q l ∙ ap (λ y. y ⊕ value q (power (1 + i))) (v i b) ∙ xor_self (value q (power (1 + i)))))
 
 -- Lists of one length of at most 255 with the same values are equal.
@@ -265,24 +262,25 @@ value_below [] x = omega arith
 value_below (a ∷ p) x = sum_below (a ⊗ raise x (length p)) (value p x) (product_below a (raise x (length p))) (value_below p x)
 
 -- ---- The factor x - r
+-- The value of x - r at an element is the sum of the element and r.
 pub factor_value : (r x : ℕ) → r < 256 → x < 256 → value (1 ∷ r ∷ []) x ≡ x ⊕ r
 unfolding value raise
 factor_value r x hr hx =
     ap (λ y. y ⊕ (r ⊗ 1 ⊕ 0)) (product_one_left (x ⊗ 1) (product_below x 1) ∙ product_one_right x hx)
     ∙ ap (bit_xor x) (xor_zero_r (r ⊗ 1) ∙ product_one_right r hr)
 
--- Division by x - r, where b is what is carried.
+-- A polynomial is divided by x - r: b is what is carried to its head, and the remainder is left out.
 unfoldable pub quotient : ℕ → ℕ → List ℕ → List ℕ
 quotient r b [] = []
 quotient r b (a ∷ p) = b ∷ quotient r (a ⊕ r ⊗ b) p
 
--- The quotient, before its remainder, is as long as what follows the head.
+-- The quotient, without its remainder, is as long as what follows what is carried.
 pub length_quotient : (r b : ℕ) (p : List ℕ) → length (quotient r b p) ≡ length p
 unfolding quotient
 length_quotient r b [] = refl
 length_quotient r b (a ∷ p) = ap suc (length_quotient r (a ⊕ r ⊗ b) p)
 
--- The division carries the value 0 on.
+-- If the value at r is 0, it is 0 again after a step of the division.
 pub carry : (r b a : ℕ) (p : List ℕ) → value (b ∷ a ∷ p) r ≡ 0 → value ((a ⊕ r ⊗ b) ∷ p) r ≡ 0
 unfolding value raise
 carry r b a p h =
@@ -291,7 +289,7 @@ carry r b a p h =
     ∙ xor_assoc (b ⊗ (r ⊗ raise r (length p))) (a ⊗ raise r (length p)) (value p r)
     ∙ h
 
--- Zeros add nothing.
+-- A list of zeros adds nothing.
 plus_zeros : (n : ℕ) (p : List ℕ) → length p ≡ n → plus (replicate n 0) p ≡ p
 unfolding plus
 plus_zeros zero [] h = refl
@@ -299,13 +297,13 @@ plus_zeros zero (a ∷ p) h = absurd (omega arith)
 plus_zeros (suc n) [] h = absurd (omega arith)
 plus_zeros (suc n) (a ∷ p) h = ap (λ t. a ∷ t) (plus_zeros n p (omega arith))
 
--- What is carried is a byte.
+-- After a step of the division the list is still one of bytes.
 pub bytes_carry : (r b a : ℕ) (p : List ℕ) → Bytes (b ∷ a ∷ p) → Bytes ((a ⊕ r ⊗ b) ∷ p)
 bytes_carry r b a p h =
     let t : Bytes (a ∷ p) = bytes_tail b (a ∷ p) h in
     bytes_cons (a ⊕ r ⊗ b) p (sum_below a (r ⊗ b) (bytes_head a p t) (product_below r b)) (bytes_tail a p t)
 
--- A quotient of bytes is of bytes.
+-- The quotient of a list of bytes is a list of bytes.
 pub bytes_quotient : (r b : ℕ) (p : List ℕ) → Bytes (b ∷ p) → Bytes (quotient r b p)
 unfolding quotient
 bytes_quotient r b [] h = λ k d l. absurd (omega arith)
@@ -329,6 +327,7 @@ root_divides r b (a ∷ p) hb h =
     ∙ ap (λ t. b ∷ a ∷ t) (plus_zeros (length q) p (sym (length_quotient r c p)))
 
 -- ---- A place more, as a loop over a list adds it
+-- With one coefficient more at the end, the value is the one before it times x, plus this coefficient.
 pub value_push : (p : List ℕ) (c x : ℕ) → c < 256 → value (p ++ c ∷ []) x ≡ value p x ⊗ x ⊕ c
 unfolding value raise
 value_push [] c x h = xor_zero_r (c ⊗ 1) ∙ product_one_right c h ∙ ap (λ y. y ⊕ c) (sym (product_zero_left x))

@@ -14,7 +14,7 @@ use Rattle.gf301.proofs.FieldLaws.{raise_add, raise_mul}
 use Rattle.gf301.proofs.PolyLaws.{length-values_from, get_or-values_from}
 use Rattle.gf301.proofs.Tables.{powers_at, power_mod}
 
--- The row of an exponent.
+-- The row of an exponent is the one at this place of the table.
 abbrev pub row : ℕ → List ℕ
 row e = get_or POWER_ROWS e []
 
@@ -23,21 +23,22 @@ rows_test : all_below 35 (λ e. all_below 81 (λ j. eqb (get_or (row e) j 0) (ge
 unfolding all_below
 rows_test = refl
 
--- It holds at each place the power of 2 there.
+-- The row of e holds at the place j the power e * j of 2.
 row_at : (e j : ℕ) → e < 35 → j < 81 → get_or (row e) j 0 ≡ power (e * j)
 row_at e j h l =
     eqb-true _ _ (all_below_at 81 (λ j. eqb (get_or (row e) j 0) (get_or POWERS (e * j % 255) 0)) (all_below_at 35 (λ e. all_below 81 (λ j. eqb (get_or (row e) j 0) (get_or POWERS (e * j % 255) 0))) rows_test e h) j l)
     ∙ powers_at (e * j % 255) (mod_below (e * j) 255 (omega arith)) ∙ power_mod (e * j)
 
+-- Each row has 81 numbers: 35 cases.
 lengths_test : all_below 35 (λ e. eqb (length (row e)) 81) ≡ true
 unfolding all_below
 lengths_test = refl
 
--- It is as long as there are powers.
+-- The row of an exponent has 81 numbers.
 row_length : (e : ℕ) → e < 35 → length (row e) ≡ 81
 row_length e h = eqb-true (length (row e)) 81 (all_below_at 35 (λ e. eqb (length (row e)) 81) lengths_test e h)
 
--- So sixteen of its numbers are powers of powers.
+-- Sixteen numbers of the row of e are the powers e of sixteen powers of 2 in their order.
 row_lanes : (e first : ℕ) → e < 35 → first ≤ 65 → chunk first 16 (row e) ≡ map (λ x. raise x e) (values_from power first 16)
 row_lanes e first h l =
     let n : length (chunk first 16 (row e)) ≡ 16 = length-chunk first 16 (row e) (omega (arith, row_length e h)) in
@@ -50,11 +51,11 @@ row_lanes e first h l =
     ∙ ap (λ x. raise x e) (sym (get_or-values_from power first 16 i lt))
     ∙ sym (get_or-map (λ x. raise x e) (values_from power first 16) i 0 0 (omega (arith, length-values_from power first 16))))
 
--- Read from the part of the row from the first of them on.
+-- These are read from the part of the row that begins with the first of them.
 pub row_read : (e first : ℕ) → e < 35 → first ≤ 65 → take 16 (take (length (row e) - first) (drop first (row e))) ≡ map (λ x. raise x e) (values_from power first 16)
 row_read e first h l = take-take 16 (length (row e) - first) (drop first (row e)) (omega (arith, row_length e h)) ∙ row_lanes e first h l
 
--- The first sixteen powers of 2, times the one with an exponent, are those from it on.
+-- The first sixteen powers of 2, times the one with an exponent, are those from this exponent on.
 pub later_powers : (first : ℕ) → map (λ x. power first ⊗ x) (chunk 0 16 POWERS) ≡ values_from power first 16
 later_powers first =
     let n : length (chunk 0 16 POWERS) ≡ 16 = refl in
@@ -67,16 +68,17 @@ later_powers first =
     ∙ sym (raise_add 2 first i) ∙ sym (get_or-values_from power first 16 i lt))
 
 -- ---- sixteen numbers more of a sum
--- s is the sum of a and c times b at its first numbers, up to the place n, and is a from there on.
+-- The list s is the sum of a and c times b at its first numbers, up to the place n, and is a from there on.
 pub record IsAddedTo (c : ℕ) (a b s : List ℕ) (n : ℕ) : Type 0 where
   pub long : length s ≡ length a
   pub done : (i : ℕ) → i < n → get_or s i 0 ≡ get_or a i 0 ⊕ c ⊗ get_or b i 0
   pub left : (i : ℕ) → n ≤ i → get_or s i 0 ≡ get_or a i 0
 
--- What is stored at sixteen places.
+-- What is stored at the sixteen places from n on is the sum of the numbers of s and c times those of b there.
 abbrev pub stored : ℕ → List ℕ → List ℕ → ℕ → List ℕ
 stored c b s n = zip2 bit_xor (chunk n 16 s) (map (λ x. c ⊗ x) (chunk n 16 b))
 
+-- With these sixteen numbers stored, the sum is done up to sixteen places further.
 pub added_more : (c : ℕ) (a b s : List ℕ) (n : ℕ) → n + 16 ≤ length a → length a ≤ length b → IsAddedTo c a b s n → IsAddedTo c a b (put_chunk n s (stored c b s n)) (n + 16)
 added_more c a b s n h l k =
     let cs : length (chunk n 16 s) ≡ 16 = length-chunk n 16 s (omega (arith, k.long)) in

@@ -16,7 +16,7 @@ use Rattle.gf301.proofs.FieldLaws.{product_sum_right}
 pub places_ok : (js : List ℕ) → length js ≡ 16 → ((k d : ℕ) → k < length js → get_or js k d < 16) → SwzOk w8 16 16 0 js
 places_ok js long small = SwzOk-from_below w8 16 1 16 0 js refl (omega (arith, long)) (Each1-from_get_or (λ j. j < 16) js 0 (λ i l. small i 0 l))
 
--- What is looked up there.
+-- In each lane the number of the table at the place in this lane is looked up.
 pub looked_up : (t js : List ℕ) → length js ≡ 16 → ((k d : ℕ) → k < length js → get_or js k d < 16) → swz_l w8 16 t 0 js ≡ map (λ i. get_or t i 0) js
 looked_up t js long small =
     ext_get_or 0 _ _ (length-swz_l w8 16 t 0 js ∙ sym (length-map js (λ i. get_or t i 0))) (λ i h.
@@ -32,7 +32,7 @@ unfoldable table_test : (ℕ → ℕ) → ℕ → List ℕ → Bool
 table_test f n [] = true
 table_test f n (y ∷ ys) = eqb y (f n) && table_test f (suc n) ys
 
--- So each place holds its number.
+-- A list that passes this test holds at each place the number of the function there.
 table_at : (f : ℕ → ℕ) (n i : ℕ) (t : List ℕ) → table_test f n t ≡ true → i < length t → get_or t i 0 ≡ f (n + i)
 unfolding table_test
 table_at f n i [] h l = absurd (omega arith)
@@ -46,13 +46,16 @@ low_test : table_test (λ n. (n / 16) ⊗ (n % 16)) 0 LOW ≡ true
 unfolding table_test ◌⊗◌ carryless modulo_301
 low_test = refl
 
+-- The table of products with high halves passes the test too.
 high_test : table_test (λ n. (n / 16) ⊗ (n % 16 * 16)) 0 HIGH ≡ true
 unfolding table_test ◌⊗◌ carryless modulo_301
 high_test = refl
 
+-- The table of products with low halves has 4096 numbers.
 low_length : length LOW ≡ 4096
 low_length = refl
 
+-- The table of products with high halves has 4096 numbers.
 high_length : length HIGH ≡ 4096
 high_length = refl
 
@@ -60,6 +63,7 @@ high_length = refl
 place_of : (c n : ℕ) → n < 16 → ((16 * c + n) / 16 ≡ c) × ((16 * c + n) % 16 ≡ n)
 place_of c n h = (omega arith, omega arith)
 
+-- The table of products with low halves holds the product of c and n at the place 16 c + n.
 low_at : (c n : ℕ) → c < 256 → n < 16 → get_or LOW (16 * c + n) 0 ≡ c ⊗ n
 low_at c n h l =
     let p = place_of c n l in
@@ -67,6 +71,7 @@ low_at c n h l =
     ∙ ap (λ m. (m / 16) ⊗ (m % 16)) (let q : 0 + (16 * c + n) ≡ 16 * c + n = omega arith in q)
     ∙ ap (λ m. m ⊗ ((16 * c + n) % 16)) p.0 ∙ ap (λ m. c ⊗ m) p.1
 
+-- The table of products with high halves holds the product of c and 16 n at the place 16 c + n.
 high_at : (c n : ℕ) → c < 256 → n < 16 → get_or HIGH (16 * c + n) 0 ≡ c ⊗ (n * 16)
 high_at c n h l =
     let p = place_of c n l in
@@ -83,14 +88,15 @@ halves_apart c x h l =
     ∙ ap (λ y. c ⊗ y) (xor_comm (x % 16) (x / 16 * 16) ∙ xor_shifted (x / 16) 4 (x % 16) (mod_below x 16 (omega arith)) ∙ shr_split x 4)
 
 -- ---- the tables in lanes
--- The two rows of an element.
+-- The row of an element has its products with the low halves 0 to 15.
 abbrev pub low_row : ℕ → List ℕ
 low_row c = chunk (16 * c) 16 LOW
 
+-- Its other row has its products with the high halves, 0 to 15 times 16.
 abbrev pub high_row : ℕ → List ℕ
 high_row c = chunk (16 * c) 16 HIGH
 
--- The low half by a mask.
+-- The low half may be cut out by a mask.
 pub halves : (c x : ℕ) → c < 256 → x < 256 → get_or (low_row c) (bit_and x 15) 0 ⊕ get_or (high_row c) (x / 16) 0 ≡ c ⊗ x
 halves c x h l =
     ap (λ i. get_or (low_row c) i 0 ⊕ get_or (high_row c) (x / 16) 0) (and_mask x 4)
@@ -98,27 +104,29 @@ halves c x h l =
     ∙ ap (bit_xor (get_or LOW (16 * c + x % 16) 0)) (get_or-chunk (16 * c) 16 HIGH (x / 16) 0 (omega arith))
     ∙ halves_apart c x h l
 
--- In every lane.
+-- In every lane the sum of the two looked-up products is the product.
 pub halves_in_lanes : (c : ℕ) (v : List ℕ) → c < 256 → Each1 (Fits w8) v → map (λ x. get_or (low_row c) (bit_and x 15) 0 ⊕ get_or (high_row c) (x / 16) 0) v ≡ map (λ x. c ⊗ x) v
 halves_in_lanes c [] h f = refl
 halves_in_lanes c (x ∷ xs) h f = λ i. halves c x h f.0.fits i ∷ halves_in_lanes c xs h f.1 i
 
--- The places of the low halves, and of the high ones.
+-- The low half of each lane is a place below 16.
 pub low_places : (v : List ℕ) → length v ≡ 16 → (k d : ℕ) → k < length (zip2 bit_and v (replicate 16 15)) → get_or (zip2 bit_and v (replicate 16 15)) k d < 16
 low_places v long k d h =
     let within : k < length v = omega (arith, long, length-zip2 bit_and v (replicate 16 15) long) in
     omega (arith, ap (λ l. get_or l k d) (zip2_splat bit_and v 16 15 long) ∙ get_or-map (λ x. bit_and x 15) v k 0 d within, and_le_r (get_or v k 0) 15)
 
+-- A number is shifted down by a number of bits.
 abbrev pub down : ℕ → ℕ → ℕ
 down a b = a / 2 ^ b
 
+-- The high half of each lane is a place below 16.
 pub high_places : (v : List ℕ) → length v ≡ 16 → Each1 (Fits w8) v → (k d : ℕ) → k < length (zip2 down v (replicate 16 4)) → get_or (zip2 down v (replicate 16 4)) k d < 16
 high_places v long f k d h =
     let within : k < length v = omega (arith, long, length-zip2 down v (replicate 16 4) long) in
     let byte : get_or v k 0 < 256 = Each1-get_or (λ x. x < 256) v k 0 within (below_from_Fits w8 v f) in
     omega (arith, ap (λ l. get_or l k d) (zip2_splat down v 16 4 long) ∙ get_or-map (λ x. down x 4) v k 0 d within, byte)
 
--- The whole of it.
+-- What `scaled` computes is the product in every lane.
 pub scaled_lanes : (c : ℕ) (v rs ss : List ℕ) → c < 256 → length v ≡ 16 → Each1 (Fits w8) v
     → rs ≡ map (λ i. get_or (low_row c) i 0) (zip2 bit_and v (replicate 16 15)) → ss ≡ map (λ i. get_or (high_row c) i 0) (zip2 down v (replicate 16 4))
     → zip2 bit_xor rs ss ≡ map (λ x. c ⊗ x) v
@@ -128,9 +136,10 @@ scaled_lanes c v rs ss h long f p q =
     (q ∙ ap (map (λ i. get_or (high_row c) i 0)) (zip2_splat down v 16 4 long) ∙ map-map (λ i. get_or (high_row c) i 0) (λ x. x / 16) v)
     ∙ halves_in_lanes c v h f
 
--- A row is read from the part of its table from its place on.
+-- The row of low halves is read from the part of its table that begins at its place.
 pub low_read : (c : ℕ) → c < 256 → take 16 (take (length LOW - 16 * c) (drop (16 * c) LOW)) ≡ low_row c
 low_read c h = take-take 16 (length LOW - 16 * c) (drop (16 * c) LOW) (omega (arith, low_length))
 
+-- The row of high halves is read from the part of its table that begins at its place.
 pub high_read : (c : ℕ) → c < 256 → take 16 (take (length HIGH - 16 * c) (drop (16 * c) HIGH)) ≡ high_row c
 high_read c h = take-take 16 (length HIGH - 16 * c) (drop (16 * c) HIGH) (omega (arith, high_length))

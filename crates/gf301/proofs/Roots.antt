@@ -5,16 +5,17 @@ use Rattle.std.proofs.Math.Nat.{pos_of_ne-zero, le_refl}
 use Rattle.std.proofs.lemmas.Bool.{cases_eq}
 use Rattle.gf301.specs.Field.{◌⊕◌, ◌⊗◌, raise, power}
 use Rattle.gf301.specs.Polynomial.{value, Bytes}
-use Rattle.gf301.proofs.FieldLaws.{product_comm, product_one_right, product_zero_right, product_cancel, sum_zero, sum_below, raise_below, power_apart}
+use Rattle.gf301.proofs.FieldLaws.{positive_not, product_comm, product_one_right, product_zero_right, product_cancel, sum_zero, sum_below, raise_below, power_apart}
 use Rattle.gf301.proofs.Weights.{bytes_head, bytes_tail}
 use Rattle.gf301.proofs.PolyLaws.{carry, bytes_carry, quotient, length_quotient, bytes_quotient, root_divides, value_times, value_below, factor_value}
 
 -- ---- A polynomial whose highest coefficient isn't 0 has no more roots among the powers below n than its degree
+-- A root is counted where a value v is 0.
 unfoldable pub roots_step : ℕ → ℕ → ℕ
 roots_step zero m = suc m
 roots_step (suc v) m = m
 
--- The number of roots among the powers of 2 with exponents below n.
+-- The roots among the powers of 2 with exponents below n are counted.
 unfoldable pub roots : List ℕ → ℕ → ℕ
 roots p zero = 0
 roots p (suc n) = roots_step (value p (power n)) (roots p n)
@@ -30,10 +31,6 @@ pub zero_step : (v m : ℕ) → v ≡ 0 → roots_step v m ≡ suc m
 unfolding roots_step
 zero_step zero m h = refl
 zero_step (suc v) m h = absurd (omega arith)
-
--- A positive number is not 0.
-positive_not : {b : ℕ} → 0 < b → b ≡ 0 → ⊥
-positive_not l e = omega arith
 
 -- Where each root is kept, the number of roots does not fall.
 step_le : (v w m n : ℕ) → (v ≡ 0 → w ≡ 0) → m ≤ n → roots_step v m ≤ roots_step w n
@@ -62,7 +59,7 @@ kept_roots r b a p (suc n) j y e h l z =
     ∙ sym (value_times (power n) (quotient r b (a ∷ p)) (1 ∷ r ∷ []) (omega arith)) ∙ ap (λ t. value t (power n)) (root_divides r b (a ∷ p) y z) ∙ q))
     (kept_roots r b a p n j y e (omega arith) l z)
 
--- The quotient by its head.
+-- The quotient begins with what is carried, and the division goes on with the rest.
 pub quotient_more : (r b a : ℕ) (p : List ℕ) → quotient r b (a ∷ p) ≡ b ∷ quotient r (a ⊕ r ⊗ b) p
 unfolding quotient
 quotient_more r b a p = refl
@@ -72,7 +69,7 @@ no_root : (b x : ℕ) → 0 < b → b < 256 → value (b ∷ []) x ≡ 0 → ⊥
 unfolding value raise
 no_root b x l h z = positive_not l (sym (product_one_right b h) ∙ sym (xor_zero_r (b ⊗ 1)) ∙ z)
 
--- No more roots than the degree.
+-- There are at most as many roots as the degree.
 pub roots_le : (n b : ℕ) (p : List ℕ) → n ≤ 255 → 0 < b → Bytes (b ∷ p) → roots (b ∷ p) n ≤ length p
 unfolding roots
 roots_le zero b p h l y = omega arith
@@ -94,6 +91,7 @@ roots_le (suc n) b (a ∷ p) h l y =
     ]
 
 -- ---- With as many different roots as coefficients, each coefficient is 0
+-- A list of zeros with one more 0 in front is a list of zeros.
 all_zero_cons : (a : ℕ) (p : List ℕ) → a ≡ 0 → All (λ c. c ≡ 0) p → All (λ c. c ≡ 0) (a ∷ p)
 all_zero_cons a p e h zero d l = e
 all_zero_cons a p e h (suc k) d l = h k d (omega arith)

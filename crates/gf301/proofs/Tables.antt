@@ -17,7 +17,7 @@ powers_test : doubling 1 POWERS ≡ true
 unfolding doubling ◌⊗◌ carryless modulo_301
 powers_test = refl
 
--- So each place holds its power.
+-- A list that begins with a power of 2 and doubles holds at each place the power there.
 doubling_at : (ys : List ℕ) (e i : ℕ) → doubling (power e) ys ≡ true → i < length ys → get_or ys i 0 ≡ power (e + i)
 unfolding doubling raise
 doubling_at [] e i h l = absurd (omega arith)
@@ -36,7 +36,7 @@ powers_at i h = doubling_at POWERS 0 i powers_test h ∙ ap power (let q : 0 + i
 log_test : ℕ → Bool
 log_test a = ltb (get_or LOGS a 0) 255 && eqb (get_or POWERS (get_or LOGS a 0) 0) a
 
--- For each of the 255 elements other than 0.
+-- The table of logarithms passes its test for each of the 255 elements other than 0.
 logs_test : all_below 255 (λ a. log_test (a + 1)) ≡ true
 unfolding all_below log_test
 logs_test = refl
@@ -58,7 +58,7 @@ unfolding raise
 raise_one zero = refl
 raise_one (suc n) = product_one_left (raise 1 n) (raise_below 1 n) ∙ raise_one n
 
--- Powers repeat after 255.
+-- The powers of 2 repeat after 255 of them.
 pub power_mod : (e : ℕ) → power (e % 255) ≡ power e
 power_mod e =
     sym (product_one_left (power (e % 255)) (raise_below 2 (e % 255)))

@@ -15,33 +15,34 @@ use Rattle.gf301.proofs.Series.{conv_cons, conv_single}
 use Rattle.gf301.proofs.GeneratorLaws.{generator_length, generator_first, generator_is, bytes_generator}
 use Rattle.gf301.proofs.Tables.{powers_at}
 
--- The coefficients of a row, the first one at the head.
+-- The generator of a row has the coefficient 1 and then those of the row.
 abbrev pub taps_of : ℕ → List ℕ
 taps_of k = 1 ∷ get_or TAP_ROWS k []
 
--- The row for 0 is of zeros ..
+-- The row for 0 has only zeros.
 first_test : all_below 80 (λ i. eqb (get_or (get_or TAP_ROWS 0 []) i 0) 0) ≡ true
 unfolding all_below
 first_test = refl
 
--- .. and each further one is the one before it, times one factor more: 5440 products, at most 9 seconds and 0.7 GB for this whole file.
+-- Each further row is the one before it, times one factor more: 5440 products, at most 9 seconds and 0.7 GB for this whole file.
 rows_test : all_below 68 (λ k. all_below 80 (λ i. eqb (get_or (get_or TAP_ROWS (suc k) []) i 0) (get_or (taps_of k) (suc i) 0 ⊕ get_or POWERS (suc k) 0 ⊗ get_or (taps_of k) i 0))) ≡ true
 unfolding all_below ◌⊗◌ carryless modulo_301
 rows_test = refl
 
+-- A coefficient of the next row is that of this row plus the new root times the one before it.
 row_step : (k i : ℕ) → k < 68 → i < 80 → get_or (taps_of (suc k)) (suc i) 0 ≡ get_or (taps_of k) (suc i) 0 ⊕ power (suc k) ⊗ get_or (taps_of k) i 0
 row_step k i h l =
     eqb-true _ _ (all_below_at 80 (λ i. eqb (get_or (get_or TAP_ROWS (suc k) []) i 0) (get_or (taps_of k) (suc i) 0 ⊕ get_or POWERS (suc k) 0 ⊗ get_or (taps_of k) i 0))
     (all_below_at 68 (λ k. all_below 80 (λ i. eqb (get_or (get_or TAP_ROWS (suc k) []) i 0) (get_or (taps_of k) (suc i) 0 ⊕ get_or POWERS (suc k) 0 ⊗ get_or (taps_of k) i 0))) rows_test k h) i l)
     ∙ ap (λ p. get_or (taps_of k) (suc i) 0 ⊕ p ⊗ get_or (taps_of k) i 0) (powers_at (suc k) (omega arith))
 
--- A product with x - r, coefficient by coefficient.
+-- A coefficient of a product with x - r is that of the other factor plus r times the one before it.
 factor_at : (r i : ℕ) (g : List ℕ) → 0 < length g → suc i < suc (length g) → coefficient (times (1 ∷ r ∷ []) g) (suc i) ≡ 1 ⊗ coefficient g (suc i) ⊕ r ⊗ coefficient g i
 factor_at r i g h l =
     get_or-times (1 ∷ r ∷ []) g (suc i) (omega arith) ∙ conv_cons 1 (r ∷ []) (coefficient g) i
     ∙ ap (bit_xor (1 ⊗ coefficient g (suc i))) (conv_single r (coefficient g) i)
 
--- A coefficient of the next generator.
+-- A coefficient of the next generator is that of this one plus the new root times the one before it.
 generator_at : (k i : ℕ) → coefficient (generator (suc k)) (suc i) ≡ coefficient (generator k) (suc i) ⊕ power (suc k) ⊗ coefficient (generator k) i
 generator_at k i =
     let g = generator k in
@@ -63,7 +64,7 @@ generator_at k i =
           | inr b ↦ omega (arith, get_or_past (generator k) i 0 b)
         ]
 
--- So each row holds the coefficients of its generator.
+-- Each row holds the coefficients of its generator.
 row_is : (k i : ℕ) → k ≤ 68 → i ≤ 80 → get_or (taps_of k) i 0 ≡ coefficient (generator k) i
 row_is k zero h l = sym (generator_first k)
 row_is zero (suc i) h l =
@@ -75,6 +76,6 @@ row_is (suc k) (suc i) h l =
     ∙ ap (λ y. coefficient (generator k) (suc i) ⊕ power (suc k) ⊗ y) (row_is k i (omega arith) (omega arith))
     ∙ sym (generator_at k i)
 
--- The rest of them after the first.
+-- The table holds for k the coefficients of the generator after the first.
 pub taps_at : (k i : ℕ) → k ≤ 68 → i < 80 → get_or (get_or TAP_ROWS k []) i 0 ≡ coefficient (generator k) (suc i)
 taps_at k i h l = row_is k (suc i) h (omega arith)

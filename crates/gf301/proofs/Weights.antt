@@ -8,17 +8,17 @@ use Rattle.gf301.proofs.Additive.{xor_swap}
 use Rattle.gf301.proofs.FieldLaws.{product_sum_left, product_sum_right, product_assoc, product_comm, product_zero_left, product_zero_right, product_below, product_cancel, sum_zero, sum_below, raise_below, raise_positive, raise_swap, power_apart}
 use Rattle.std.proofs.Math.Nat.{pos_of_ne-zero, le_refl}
 
--- The sum of each element times f of its locator.
+-- The elements of a list, each times f of its locator, are added.
 unfoldable pub weigh : (ℕ → ℕ) → List ℕ → ℕ
 weigh f [] = 0
 weigh f (a ∷ e) = a ⊗ f (power (length e)) ⊕ weigh f e
 
--- The list of these products.
+-- The weighted list has each element times f of its locator.
 unfoldable pub weighted : (ℕ → ℕ) → List ℕ → List ℕ
 weighted f [] = []
 weighted f (a ∷ e) = a ⊗ f (power (length e)) ∷ weighted f e
 
--- Weights that are sums give the sum.
+-- Weighing by a sum of two functions is adding what both weigh.
 pub weigh_sum : (f g : ℕ → ℕ) (e : List ℕ) → weigh (λ x. f x ⊕ g x) e ≡ weigh f e ⊕ weigh g e
 unfolding weigh
 weigh_sum f g [] = refl
@@ -31,7 +31,7 @@ weigh_sum f g (a ∷ e) =
 pub product_swap : (a b c : ℕ) → a ⊗ (b ⊗ c) ≡ b ⊗ (a ⊗ c)
 product_swap a b c = sym (product_assoc a b c) ∙ ap (λ x. x ⊗ c) (product_comm a b) ∙ product_assoc b a c
 
--- Weights times c give the sum times c.
+-- Weighing by c times a function is c times what the function weighs.
 pub weigh_scale : (c : ℕ) (f : ℕ → ℕ) (e : List ℕ) → weigh (λ x. c ⊗ f x) e ≡ c ⊗ weigh f e
 unfolding weigh
 weigh_scale c f [] = sym (product_zero_right c)
@@ -69,20 +69,20 @@ value_weigh i [] = refl
 value_weigh i (a ∷ e) =
     ap (λ y. a ⊗ y ⊕ value e (power i)) (raise_swap 2 i (length e)) ∙ ap (bit_xor (a ⊗ raise (power (length e)) i)) (value_weigh i e)
 
--- The head of bytes is a byte.
+-- The head of a list of bytes is a byte.
 pub bytes_head : (a : ℕ) (e : List ℕ) → Bytes (a ∷ e) → a < 256
 bytes_head a e h = h 0 0 (omega arith)
 
--- The tail of bytes is bytes.
+-- The tail of a list of bytes is a list of bytes.
 pub bytes_tail : (a : ℕ) (e : List ℕ) → Bytes (a ∷ e) → Bytes e
 bytes_tail a e h = λ k d l. h (suc k) d (omega arith)
 
--- A byte before bytes.
+-- A byte in front of a list of bytes makes a list of bytes.
 pub bytes_cons : (a : ℕ) (e : List ℕ) → a < 256 → Bytes e → Bytes (a ∷ e)
 bytes_cons a e l h zero d b = l
 bytes_cons a e l h (suc k) d b = h k d (omega arith)
 
--- A weighted list is of bytes.
+-- A weighted list is a list of bytes.
 pub bytes_weighted : (f : ℕ → ℕ) (e : List ℕ) → Bytes (weighted f e)
 unfolding weighted
 bytes_weighted f [] = λ k d l. absurd (omega arith)
@@ -93,6 +93,12 @@ nonzeros_le : (a : ℕ) (e : List ℕ) → nonzeros (a ∷ e) ≤ suc (nonzeros 
 unfolding nonzeros
 nonzeros_le zero e = omega arith
 nonzeros_le (suc a) e = omega arith
+
+-- A list of zeros has a head of 0 and a tail of zeros.
+pub zeros_parts : (a : ℕ) (e : List ℕ) → nonzeros (a ∷ e) ≡ 0 → (a ≡ 0) × (nonzeros e ≡ 0)
+unfolding nonzeros
+zeros_parts zero e h = (refl, h)
+zeros_parts (suc a) e h = absurd (omega arith)
 
 -- Weighing makes no new place that is not 0.
 pub nonzeros_weighted : (f : ℕ → ℕ) (e : List ℕ) → nonzeros (weighted f e) ≤ nonzeros e
@@ -133,23 +139,23 @@ zeros_from_weighted f n h (suc a ∷ e) l b z =
     let w : (0 < f (power (length e))) × (f (power (length e)) < 256) = h (length e) (omega arith) in
     absurd (head_not_zero (suc a ⊗ f (power (length e))) (weighted f e) (λ q. not_zero a (product_cancel (f (power (length e))) (suc a) w.0 w.1 (bytes_head (suc a) e b) (product_comm (f (power (length e))) (suc a) ∙ q))) z)
 
--- A weight that is 0 at the first place leaves it out.
+-- The weight x - 2^n is 0 at the place with n places after it, and so leaves this place out.
 without : ℕ → ℕ → ℕ
 without n x = x ⊕ power n
 
--- A head of 0 leaves the sums of powers as they are.
+-- A head of 0 adds nothing to a sum of powers.
 zero_first : (e : List ℕ) (s i : ℕ) → weigh (λ x. raise x (s + i)) (0 ∷ e) ≡ 0 → weigh (λ x. raise x (s + i)) e ≡ 0
 unfolding weigh
 zero_first e s i h = sym (ap (λ y. y ⊕ weigh (λ x. raise x (s + i)) e) (product_zero_left (raise (power (length e)) (s + i)))) ∙ h
 
--- The weight without the first place, times a power.
+-- The weight `without n` times a power of x is the next power plus 2^n times this power.
 without_raise : (n x s i : ℕ) → without n x ⊗ raise x (s + i) ≡ raise x (s + suc i) ⊕ power n ⊗ raise x (s + i)
 unfolding without raise
 without_raise n x s i =
     product_sum_left x (power n) (raise x (s + i))
     ∙ ap (λ j. raise x j ⊕ power n ⊗ raise x (s + i)) (let e : suc (s + i) ≡ s + suc i = omega arith in e)
 
--- Where a sum is 0, the rest is the part of the head.
+-- Where a sum is 0, the rest weighs as much as the head.
 head_sum : (a : ℕ) (e : List ℕ) (f : ℕ → ℕ) → weigh f (a ∷ e) ≡ 0 → weigh f e ≡ a ⊗ f (power (length e))
 unfolding weigh
 head_sum a e f h = sym (sum_zero (a ⊗ f (power (length e))) (weigh f e) h)
@@ -175,25 +181,26 @@ head_zero a e s h z w =
     product_cancel x a (raise_positive (power (length e)) s (raise_positive 2 (length e) (omega arith) (omega arith)) (raise_below 2 (length e))) (raise_below (power (length e)) s) h
     (product_comm x a ∙ sym (head_sum a e (λ x. raise x s) w) ∙ weigh_zeros (λ x. raise x s) e z)
 
--- That weight is 0 at no later place.
+-- The weight `without n` is 0 at no place after n.
 without_positive : (n : ℕ) → n < 255 → (j : ℕ) → j < n → (0 < without n (power j)) × (without n (power j) < 256)
 unfolding without
 without_positive n h j l =
     (pos_of_ne-zero (λ z. power_apart j n l (omega arith) (sum_zero (power j) (power n) z)), sum_below (power j) (power n) (raise_below 2 j) (raise_below 2 n))
 
--- ---- The law of distance: few places that are not 0, and as many sums of consecutive powers that are 0
-pub distance : (n : ℕ) (e : List ℕ) (m s : ℕ) → length e ≡ n → n ≤ 255 → Bytes e → nonzeros e ≤ m
+-- ---- The law of distance
+-- A list of at most 255 bytes, of which at most m are not 0, is a list of zeros if m consecutive power sums of it are 0.
+pub zeros_from_sums : (n : ℕ) (e : List ℕ) (m s : ℕ) → length e ≡ n → n ≤ 255 → Bytes e → nonzeros e ≤ m
     → ((i : ℕ) → i < m → weigh (λ x. raise x (s + i)) e ≡ 0) → nonzeros e ≡ 0
 unfolding nonzeros
-distance n [] m s l h b z w = refl
-distance zero (a ∷ e) m s l h b z w = absurd (omega arith)
-distance (suc n) (zero ∷ e) m s l h b z w = distance n e m s (omega arith) (omega arith) (bytes_tail 0 e b) z (λ i q. zero_first e s i (w i q))
-distance (suc n) (suc a ∷ e) zero s l h b z w = absurd (omega arith)
-distance (suc n) (suc a ∷ e) (suc m) s l h b z w =
+zeros_from_sums n [] m s l h b z w = refl
+zeros_from_sums zero (a ∷ e) m s l h b z w = absurd (omega arith)
+zeros_from_sums (suc n) (zero ∷ e) m s l h b z w = zeros_from_sums n e m s (omega arith) (omega arith) (bytes_tail 0 e b) z (λ i q. zero_first e s i (w i q))
+zeros_from_sums (suc n) (suc a ∷ e) zero s l h b z w = absurd (omega arith)
+zeros_from_sums (suc n) (suc a ∷ e) (suc m) s l h b z w =
     let k : length e ≡ n = omega arith in
     let c : nonzeros (weighted (without (length e)) e) ≤ m = omega (arith, nonzeros_weighted (without (length e)) e) in
     let r : nonzeros (weighted (without (length e)) e) ≡ 0 =
-    distance n (weighted (without (length e)) e) m s (length-weighted (without (length e)) e ∙ k) (omega arith) (bytes_weighted (without (length e)) e)
+    zeros_from_sums n (weighted (without (length e)) e) m s (length-weighted (without (length e)) e ∙ k) (omega arith) (bytes_weighted (without (length e)) e)
     c (λ i q. eliminate (suc a) e s i (w i (omega arith)) (w (suc i) (omega arith))) in
     let t : nonzeros e ≡ 0 = zeros_from_weighted (without (length e)) (length e) (without_positive (length e) (omega arith)) e (le_refl (length e)) (bytes_tail (suc a) e b) r in
     absurd (not_zero a (head_zero (suc a) e (s + 0) (bytes_head (suc a) e b) t (w 0 (omega arith))))

@@ -3,7 +3,7 @@ use Rattle.std.specs.Prelude.{ℕ, zero, suc, List, [], ◌∷◌}
 use Rattle.gf301.specs.Field.{power}
 use Rattle.gf301.specs.Polynomial.{times}
 
--- The generator for k check codewords, (x - 2^1) (x - 2^2) .. (x - 2^k). A difference of elements is their sum.
+-- The generator for k check codewords is (x - 2^1) (x - 2^2) .. (x - 2^k). A difference of elements is their sum.
 unfoldable pub generator : ℕ → List ℕ
 generator zero = 1 ∷ []
 generator (suc k) = times (1 ∷ power (suc k) ∷ []) (generator k)

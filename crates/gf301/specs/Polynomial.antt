@@ -9,31 +9,31 @@ use Rattle.gf301.specs.Field.{◌⊕◌, ◌⊗◌, raise}
 abbrev pub Bytes : List ℕ → Type 0
 Bytes p = All (λ a. a < 256) p
 
--- The value at x: the sum of each coefficient times its power of x. Of the empty list it is 0.
+-- The value at x is the sum of each coefficient times its power of x; for the empty list it is 0.
 unfoldable pub value : List ℕ → ℕ → ℕ
 value [] x = 0
 value (a ∷ p) x = a ⊗ raise x (length p) ⊕ value p x
 
--- The coefficient at a place of the list, counted from 0 at its head, and 0 past its end.
+-- The coefficients of a list are its numbers, at places counted from 0 at its head; past its end they are 0.
 abbrev pub coefficient : List ℕ → ℕ → ℕ
 coefficient p i = get_or p i 0
 
--- The series without its first coefficient.
+-- A series is shifted by leaving out its first coefficient.
 abbrev pub shift : (ℕ → ℕ) → ℕ → ℕ
 shift f i = f (suc i)
 
--- The coefficient at place n of the product of two series, which are functions from a place to its coefficient: the
+-- The coefficient at place n of the product of two series, which are functions from a place to its coefficient, is the
 -- sum of f j times g (n - j), for each j of 0 to n. Place 0 is the highest power in both, or the lowest in both.
 unfoldable pub convolution : (ℕ → ℕ) → (ℕ → ℕ) → ℕ → ℕ
 convolution f g zero = f 0 ⊗ g 0
 convolution f g (suc n) = f 0 ⊗ g (suc n) ⊕ convolution (shift f) g n
 
--- The values of f at `first` and the places that follow it, `count` in all.
+-- These are the values of f at `first` and the places that follow it, `count` in all.
 unfoldable pub values_from : (ℕ → ℕ) → ℕ → ℕ → List ℕ
 values_from f first zero = []
 values_from f first (suc count) = f first ∷ values_from f (suc first) count
 
--- The product of two polynomials of n and m coefficients: n + m - 1 coefficients (none where both are empty), each the
+-- The product of two polynomials of n and m coefficients has n + m - 1 coefficients (none where both are empty), each the
 -- sum of the products of a coefficient of p and one of q whose places add up to its own.
 unfoldable pub times : List ℕ → List ℕ → List ℕ
 times p q = values_from (convolution (coefficient p) (coefficient q)) 0 (length p + length q - 1)

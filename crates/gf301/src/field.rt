@@ -5,7 +5,7 @@ ghost use Rattle.gf301.specs.Field.{◌⊕◌, ◌⊗◌, power};
 
 use super::product_rows::{HIGH, LOW};
 
-/// 2 to the power e at each place e below 255. The element 2 generates all elements but 0.
+/// The powers of 2: at each place e below 255 stands 2 to the power e. The element 2 generates all elements but 0.
 pub(crate) static POWERS: [u8; 255] = [
     1, 2, 4, 8, 16, 32, 64, 128, 45, 90, 180, 69, 138, 57, 114, 228, 229, 231, 227, 235, 251, 219,
     155, 27, 54, 108, 216, 157, 23, 46, 92, 184, 93, 186, 89, 178, 73, 146, 9, 18, 36, 72, 144, 13,
@@ -22,7 +22,8 @@ pub(crate) static POWERS: [u8; 255] = [
     119, 238, 241, 207, 179, 75, 150,
 ];
 
-/// The logarithm at each element: the e below 255 with 2 to the power e equal to it. 0 has none, and its place is not read.
+/// The logarithms: at each element stands the e below 255 with 2 to the power e equal to it. 0 has none, and its place is not
+/// read.
 static LOGS: [u8; 256] = [
     0, 0, 1, 240, 2, 225, 241, 53, 3, 38, 226, 133, 242, 43, 54, 210, 4, 195, 39, 114, 227, 106,
     134, 28, 243, 140, 44, 23, 55, 118, 211, 234, 5, 219, 196, 96, 40, 222, 115, 103, 228, 78, 107,
@@ -39,20 +40,20 @@ static LOGS: [u8; 256] = [
     111, 20, 93, 122, 177, 150,
 ];
 
-/// An element of the field, a byte. Each byte is one.
+/// An element of the field, which is a byte; each byte is one.
 #[derive(Clone, Copy, Debug, PartialEq, Eq)]
 pub struct Gf(pub u8);
 
 impl Gf {
-    /// The sum of two elements: exclusive or. A difference is the same.
+    /// Adds two elements by exclusive or. Their difference is the same.
     pub fn add(self, other: Gf) -> Gf
         ensures { result.0 ≡ self.0 ⊕ other.0 }
     {
         Gf(self.0 ^ other.0)
     }
 
-    /// The product of two elements: without carries, modulo 301. It is looked up as the sum of this element's products with
-    /// the low and the high four bits of the other one.
+    /// Multiplies two elements, without carries and modulo 301. The product is looked up as the sum of this element's products
+    /// with the low and the high four bits of the other one.
     pub fn mul(self, other: Gf) -> Gf
         ensures { result.0 ≡ self.0 ⊗ other.0 }
     {
@@ -62,7 +63,7 @@ impl Gf {
         Gf(low ^ high)
     }
 
-    /// The element whose product with this one is 1. 0 has none.
+    /// Returns the element whose product with this one is 1. 0 has none.
     pub fn inverse(self) -> Gf
         requires { 0 < self.0 }
         ensures product { self.0 ⊗ result.0 ≡ 1 }
@@ -71,14 +72,14 @@ impl Gf {
         Gf::power_of_two(255 - u16::from(self.log()))
     }
 
-    /// 2 to the power e, for every e. The powers repeat after 255 of them.
+    /// Returns 2 to the power e, for every e. The powers repeat after 255 of them.
     pub fn power_of_two(e: u16) -> Gf
         ensures { result.0 ≡ power e }
     {
         Gf(POWERS[usize::from(e % 255)])
     }
 
-    /// The logarithm to base 2: the one e of 0 to 254 with 2 to the power e equal to this element. 0 has none.
+    /// Returns the logarithm to base 2: the one e of 0 to 254 with 2 to the power e equal to this element. 0 has none.
     pub fn log(self) -> u8
         requires { 0 < self.0 }
         ensures below { result < 255 }

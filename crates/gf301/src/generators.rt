@@ -11,8 +11,8 @@ use super::tap_rows::TAP_ROWS;
 /// The most check codewords of a block, which the square symbols of sides 48 and 96 have.
 pub const MOST_CHECKS: usize = 68;
 
-/// The generator polynomial for k check codewords, k of 1 to [`MOST_CHECKS`]: (x - 2^1) (x - 2^2) .. (x - 2^k), with k + 1
-/// coefficients, of which the first is 1.
+/// Returns the generator polynomial for k check codewords, k of 1 to [`MOST_CHECKS`]: (x - 2^1) (x - 2^2) .. (x - 2^k), with
+/// k + 1 coefficients, of which the first is 1.
 pub fn generator(k: usize) -> Poly
     requires some { 1 ≤ k }
     requires most { k ≤ MOST_CHECKS }
@@ -26,7 +26,8 @@ pub fn generator(k: usize) -> Poly
     product
 }
 
-/// The coefficients of the generator for k check codewords after the first, k of at most [`MOST_CHECKS`], and then zeros.
+/// Returns the coefficients of the generator for k check codewords after the first, k of at most [`MOST_CHECKS`], and then
+/// zeros.
 #[inline]
 pub fn taps(k: usize) -> &'static [u8; 80]
     requires { k ≤ MOST_CHECKS }

@@ -1,18 +1,19 @@
 //! The field in lanes: sixteen elements in one vector, each operation at once in all of them.
 
-ghost use Rattle.std.specs.Prelude.{◌≡◌, ◌≤◌, ◌<◌, ◌%◌, ℕ, length, get_or, map};
+ghost use Rattle.std.specs.Prelude.{◌≡◌, ◌≤◌, ◌<◌, ◌/◌, ◌%◌, ℕ, length, get_or, map};
 ghost use Rattle.std.specs.List.{All};
 ghost use Rattle.std.specs.Simd.Lanes.{zip2};
 ghost use Rattle.gf301.specs.Field.{◌⊕◌, ◌⊗◌, raise, power};
 ghost use Rattle.gf301.specs.Polynomial.{values_from};
 
 use super::field::{Gf, POWERS};
+use super::generators::MOST_CHECKS;
 use super::power_rows::POWER_ROWS;
 use super::product_rows::{HIGH, LOW};
 use std::simd::prelude::*;
 
-/// The sixteen powers of 2 with exponents of `first` to `first` + 15, in this order. `first` is at most 255, after which
-/// the powers repeat.
+/// Returns the sixteen powers of 2 with exponents of `first` to `first` + 15, in this order. `first` is at most 255, after
+/// which the powers repeat.
 pub fn powers(first: u16) -> [u8; 16]
     requires { first ≤ 255 }
     ensures { result ≡ values_from power first 16 }
@@ -20,8 +21,8 @@ pub fn powers(first: u16) -> [u8; 16]
     scaled(Gf::power_of_two(first).0, u8x16::from_slice(&POWERS)).to_array()
 }
 
-/// In each lane the product of the two elements there. It takes no table: `a` is doubled over and over, and the bits of
-/// `b`, from the lowest on, tell which of its multiples are added.
+/// Multiplies the two elements in each lane. It takes no table: `a` is doubled over and over, and the bits of `b`, from the
+/// lowest on, tell which of its multiples are added.
 #[inline]
 pub fn lanes_mul(a: Simd<u8, 16>, b: Simd<u8, 16>) -> Simd<u8, 16>
     ensures { result ≡ zip2 (λ x y. x ⊗ y) a b }
@@ -39,7 +40,7 @@ pub fn lanes_mul(a: Simd<u8, 16>, b: Simd<u8, 16>) -> Simd<u8, 16>
     sum
 }
 
-/// Each lane times 2: its bits move up by one, and where the highest was 1 the field's polynomial 301 is taken away, of
+/// Multiplies each lane by 2: its bits move up by one, and where the highest was 1 the field's polynomial 301 is taken away, of
 /// which 45 lies in the lane.
 #[inline]
 fn doubled(a: Simd<u8, 16>) -> Simd<u8, 16>
@@ -49,8 +50,8 @@ fn doubled(a: Simd<u8, 16>) -> Simd<u8, 16>
     (a + a) ^ carries.select(u8x16::splat(45), u8x16::splat(0))
 }
 
-/// In each lane its product with `c`: the sum of the products of `c` with the low and the high four bits there, which are
-/// looked up.
+/// Multiplies each lane by `c`: the product is the sum of the products of `c` with the low and the high four bits there, which
+/// are looked up.
 #[inline]
 pub fn scaled(c: u8, v: Simd<u8, 16>) -> Simd<u8, 16>
     ensures { result ≡ map (λ x. c ⊗ x) v }
@@ -61,7 +62,7 @@ pub fn scaled(c: u8, v: Simd<u8, 16>) -> Simd<u8, 16>
     low ^ high
 }
 
-/// In each lane the number of the table at the place that stands in this lane, which is below 16.
+/// Looks up in each lane the number of the table at the place that stands in this lane, which is below 16.
 #[inline]
 fn by_table(table: Simd<u8, 16>, places: Simd<u8, 16>) -> Simd<u8, 16>
     requires { All (λ i. i < 16) places }
@@ -70,10 +71,11 @@ fn by_table(table: Simd<u8, 16>, places: Simd<u8, 16>) -> Simd<u8, 16>
     table.swizzle_dyn(places)
 }
 
-/// The sixteen powers of 2 with exponents of `first` to `first` + 15, each to the power e.
+/// Returns the sixteen powers of 2 with exponents of `first` to `first` + 15, each to the power e, which is at most half of
+/// [`MOST_CHECKS`].
 #[inline]
 pub fn power_row(e: usize, first: usize) -> Simd<u8, 16>
-    requires exponent { e < 35 }
+    requires exponent { e ≤ MOST_CHECKS / 2 }
     requires first { first ≤ 65 }
     ensures { result ≡ map (λ x. raise x e) (values_from power first 16) }
 {

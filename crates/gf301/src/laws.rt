@@ -37,8 +37,8 @@ pub fn powers_are_all_elements()
     ensures repeat { (e : ℕ) → power (e % 255) ≡ power e }
 {}
 
-/// Some powers of 2 and some products by number.
-pub fn anchors()
+/// Four powers of 2 and two products are these numbers.
+pub fn powers_and_products_by_number()
     ensures power_8 { power 8 ≡ 45 }
     ensures power_15 { power 15 ≡ 228 }
     ensures power_28 { power 28 ≡ 23 }

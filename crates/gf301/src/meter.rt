@@ -15,7 +15,7 @@ pub struct Meter {
 }
 
 impl Meter {
-    /// The product of two elements. It is counted; fewer than `u32::MAX` products have been before.
+    /// Multiplies two elements, which counts as a product; fewer than `u32::MAX` have been counted before.
     pub fn mul(&mut self, a: Gf, b: Gf) -> Gf
         requires { self.old.products < 2 ^ 32 - 1 }
         ensures product { result.0 ≡ a.0 ⊗ b.0 }
@@ -26,7 +26,8 @@ impl Meter {
         a.mul(b)
     }
 
-    /// The element whose product with `a` is 1; 0 has none. It is counted as an inversion; fewer than `u32::MAX` have been before.
+    /// Returns the element whose product with `a` is 1; 0 has none. This counts as an inversion; fewer than `u32::MAX` have
+    /// been counted before.
     pub fn inverse(&mut self, a: Gf) -> Gf
         requires some { 0 < a.0 }
         requires room { self.old.inversions < 2 ^ 32 - 1 }

@@ -9,7 +9,7 @@ use arrayvec::ArrayVec;
 /// A polynomial of at most 256 coefficients, the highest power first.
 pub type Poly = ArrayVec<u8, 256>;
 
-/// The value of the polynomial `p` at the element `at`. The value of the empty list is 0.
+/// Returns the value of the polynomial `p` at the element `at`. The value of the empty list is 0.
 pub fn value_at(p: &[u8], at: Gf) -> Gf
     ensures { result.0 ≡ value p.now at.0 }
 {
@@ -20,8 +20,8 @@ pub fn value_at(p: &[u8], at: Gf) -> Gf
     sum
 }
 
-/// The product of two polynomials that aren't empty, of n and m coefficients: n + m - 1 coefficients, of which there
-/// is room for 256.
+/// Multiplies two polynomials that aren't empty, of n and m coefficients; the product has n + m - 1 coefficients, of which
+/// there is room for 256.
 pub fn times(p: &[u8], q: &[u8]) -> Poly
     requires left_filled { 0 < length p.now }
     requires right_filled { 0 < length q.now }
@@ -35,8 +35,8 @@ pub fn times(p: &[u8], q: &[u8]) -> Poly
     product
 }
 
-/// A coefficient of the product of two lists: at this place, counted from 0, the sum of the products of the coefficients whose
-/// places add up to it.
+/// Returns the coefficient of the product of two lists at this place, counted from 0: the sum of the products of the
+/// coefficients whose places add up to it.
 pub fn product_at(p: &[u8], q: &[u8], place: usize) -> Gf
     ensures { result.0 ≡ convolution (coefficient p.now) (coefficient q.now) place }
 {

@@ -4,16 +4,16 @@ use Rattle.std.specs.Prelude.{◌≡◌, ℕ, zero, suc, ◌+◌, ◌<◌, List,
 use Rattle.gf301.specs.Field.{◌⊕◌, ◌⊗◌}
 use Rattle.gf301.specs.Polynomial.{coefficient}
 
--- The sum of the products of two series over n places, from the place `first` on.
+-- The products of two series at the n places from `first` on are added.
 unfoldable pub dot : (ℕ → ℕ) → (ℕ → ℕ) → ℕ → ℕ → ℕ
 dot f v first zero = 0
 dot f v first (suc n) = f first ⊗ v first ⊕ dot f v (suc first) n
 
--- The coefficients of row k.
+-- The coefficients of row k are those of the list at this place, and row k is 0 everywhere if there is none.
 abbrev pub row : List (List ℕ) → ℕ → ℕ → ℕ
 row rows k = coefficient (get_or rows k [])
 
--- v solves the rows in the n + 1 unknowns from the place `first` on, of which the last is 1.
+-- A series v solves the rows in the n + 1 unknowns from the place `first` on, of which the last is 1.
 pub record Solves (rows : List (List ℕ)) (first n : ℕ) (v : ℕ → ℕ) : Type 0 where
   pub last : v (first + n) ≡ 1
   pub each : (k : ℕ) → k < length rows → dot (row rows k) v first (suc n) ≡ 0

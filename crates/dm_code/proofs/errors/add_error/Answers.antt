@@ -2,22 +2,19 @@ use Rattle.std.proofs.Common.{◌≡◌, ◌+◌, ◌<◌, ◌≢◌, ℕ, suc, 
 use Rattle.std.proofs.lemmas.Bool.{cases_eq}
 use Rattle.std.proofs.lemmas.List.{get_or-set_same, get_or-set_other}
 use Rattle.gf301.specs.Field.{◌⊕◌, ◌⊗◌, raise}
-use Rattle.gf301.proofs.Exported.{product_assoc, product_comm, product_one_right}
+use Rattle.gf301.proofs.Exported.{product_assoc, product_comm}
+use Rattle.dm_code.proofs.Corrections.{times_power_zero}
 use Rattle.dm_code.proofs.errors.add_error.Goals as goal
 
--- One power more of x.
+-- A power of x times x is the next power.
 times_more : (v x t r i : ℕ) → t ≡ v ⊗ raise x i → r ≡ t ⊗ x → r ≡ v ⊗ raise x (suc i)
 unfolding raise
 times_more v x t r i e q =
     q ∙ ap (λ y. y ⊗ x) e ∙ product_assoc v (raise x i) x ∙ ap (λ y. v ⊗ y) (product_comm (raise x i) x)
 
-none_yet : (v x : ℕ) → v < 256 → v ≡ v ⊗ raise x 0
-unfolding raise
-none_yet v x h = sym (product_one_right v h)
-
 pub loop-i-init : goal.loop-i-init
 loop-i-init c = record {
-  term = none_yet c.args.value.0 c.args.at.0 (omega arith);
+  term = times_power_zero c.args.value.0 c.args.at.0 (omega arith);
   done = λ k h. absurd (omega arith);
   left = λ k h. refl;
 }

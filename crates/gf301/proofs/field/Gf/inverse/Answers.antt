@@ -3,7 +3,7 @@ use Rattle.gf301.specs.Field.{◌⊗◌, power}
 use Rattle.gf301.proofs.FieldLaws.{raise_add, raise_below, power_255, inverse_only}
 use Rattle.gf301.proofs.field.Gf.inverse.Goals as goal
 
--- the product of an element and 2 to the power of 255 less its logarithm
+-- The product of an element and 2 to the power of 255 less its logarithm is 1.
 product_is : (a log r : ℕ) → log < 255 → power log ≡ a → r ≡ power (255 - log) → a ⊗ r ≡ 1
 product_is a log r h e p =
     ap (λ y. a ⊗ y) p ∙ ap (λ y. y ⊗ power (255 - log)) (sym e)

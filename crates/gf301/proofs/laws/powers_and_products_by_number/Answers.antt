@@ -1,6 +1,6 @@
 use Rattle.std.proofs.Common.{refl}
 use Rattle.gf301.specs.Field.{◌⊗◌, carryless, modulo_301, raise}
-use Rattle.gf301.proofs.laws.anchors.Goals as goal
+use Rattle.gf301.proofs.laws.powers_and_products_by_number.Goals as goal
 
 pub returns-clause-power_8 : goal.returns-clause-power_8
 unfolding raise ◌⊗◌ carryless modulo_301
