@@ -1,5 +1,5 @@
 -- What the crates above cite of the proofs of this one: facts of its definitions.
 pub use Rattle.dm_code.proofs.Codewords.{codeword_bytes}
-pub use Rattle.dm_code.proofs.Distance.{codewords_one}
+pub use Rattle.dm_code.proofs.Distance.{codewords_one, differs_apart, differs_le, differs_same, near_one}
 pub use Rattle.dm_code.proofs.Checks.{checks_are_there}
 pub use Rattle.dm_code.proofs.NearOrNone.{near_or_none}

@@ -27,8 +27,8 @@ all_from f from (suc len) h =
     rw (first, rest) refl
 
 -- Where the sum over a range is 0, so is each of its summands.
-sum_at : (f : ℕ → ℕ) (len x : ℕ) → sum_by f (range_with_len 0 len) ≡ 0 → x < len → f x ≡ 0
-sum_at f len x h l =
+pub summands_zero : (f : ℕ → ℕ) (len x : ℕ) → sum_by f (range_with_len 0 len) ≡ 0 → x < len → f x ≡ 0
+summands_zero f len x h l =
     let t : list_all (λ (i : ℕ). nat_eq (f i) 0) (range_with_len 0 len) ≡ true = sym (sum_by-zero f (range_with_len 0 len)) ∙ eq-eqb (sum_by f (range_with_len 0 len)) 0 h in
     eqb-true _ _ (subst (λ (j : ℕ). nat_eq (f j) 0 ≡ true) (zero-add x) (all_at (λ (i : ℕ). nat_eq (f i) 0) 0 len x t l))
 
@@ -74,6 +74,6 @@ no_faults grid h =
 pub bordered_of_no_faults : (grid : GridView) → border_fault_count grid ≡ 0 → IsBordered grid
 bordered_of_no_faults grid h row column lr lc b =
     let r : count_by (is_fault grid row) (range_with_len 0 grid.size.side) ≡ 0 =
-    sum_at (λ (i : ℕ). count_by (is_fault grid i) (range_with_len 0 grid.size.side)) grid.size.side row h lr in
-    let c : cond (is_fault grid row column) 1 0 ≡ 0 = sum_at (λ (j : ℕ). cond (is_fault grid row j) 1 0) grid.size.side column r lc in
+    summands_zero (λ (i : ℕ). count_by (is_fault grid i) (range_with_len 0 grid.size.side)) grid.size.side row h lr in
+    let c : cond (is_fault grid row column) 1 0 ≡ 0 = summands_zero (λ (j : ℕ). cond (is_fault grid row j) 1 0) grid.size.side column r lc in
     fault_none (is_border grid.size row column) (cell_at grid row column) (border_is_dark grid.size row column) c b

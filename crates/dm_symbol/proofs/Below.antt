@@ -16,13 +16,17 @@ use Rattle.dm_words.specs.Spells.{Spells}
 use Rattle.dm_words.specs.Laws.{HasOneAnswer}
 use Rattle.dm_words.specs.Messages.{IsMessage}
 use Rattle.dm_symbol.specs.Blocks.{symbol, AreWordsOf, AreHeld, block_at}
-use Rattle.dm_code.proofs.Exported.{codewords_one, codeword_bytes, near_or_none as near_or_none_of, checks_are_there as checks_are_there_of}
+use Rattle.dm_code.proofs.Exported.{codewords_one, near_one, codeword_bytes, near_or_none as near_or_none_of, checks_are_there as checks_are_there_of}
 use Rattle.dm_layout.proofs.Exported.{every_grid_holds as every_grid_holds_of, laid_somewhere as laid_somewhere_of, blocks_make_words as blocks_make_words_of, word_of_block, length_of_block, one_list, one_laid, once_at_row, count_at_row}
 use Rattle.dm_words.proofs.Exported.{spelled_is_message as spelled_is_message_of, one_answer as one_answer_of, normal_form_codewords as normal_form_codewords_of, normal_form_count as normal_form_count_of, normal_form_spells as normal_form_spells_of}
 
 -- Two codewords of one length and of k check codewords that differ at no more than k places are equal.
 pub codewords_apart : (k : ℕ) (c d : List ℕ) → IsCodeword k c → IsCodeword k d → length c ≡ length d → length c ≤ 255 → distance c d ≤ k → c ≡ d
 codewords_apart = codewords_one
+
+-- At most one codeword is near a block.
+pub near_is_one : (k : ℕ) (block c d : List ℕ) → length block ≤ 255 → IsNear k block c → IsNear k block d → c ≡ d
+near_is_one = near_one
 
 -- The numbers of a codeword are bytes.
 pub codewords_are_bytes : (k : ℕ) (w : List ℕ) → IsCodeword k w → All (λ a. a < 256) w
@@ -46,7 +50,7 @@ block_places size words h b i hb hi = word_of_block (symbol size words) b i h hb
 pub block_lengths : (size : SizeRow) (words : List ℕ) → AreWordsOf size words → (b : ℕ) → b < size.blocks → length (block_at size words b) ≡ block_length size
 block_lengths size words h b hb = length_of_block (symbol size words) b h hb
 
--- The codewords of a symbol whose blocks are these.
+-- A symbol has codewords whose blocks are these.
 pub record HasBlocks (size : SizeRow) (blocks : ℕ → List ℕ) : Type 0 where
   pub list : List ℕ
   pub of_size : AreWordsOf size list
@@ -93,7 +97,7 @@ pub normal_form_spells : (p : Profile) (m : List Item) (count : ℕ) → IsMessa
     → Spells (padded (normal_form p m) count) m
 normal_form_spells = normal_form_spells_of
 
--- With pads up to a count it has so many codewords.
+-- The normal form with pads up to a count has that many codewords, each of 0 to 255.
 pub normal_form_words_are : (p : Profile) (m : List Item) (count : ℕ) → IsMessage m → length (normal_form p m) ≤ count
     → (length (padded (normal_form p m) count) ≡ count) × All (λ w. w < 256) (padded (normal_form p m) count)
 normal_form_words_are p m count h fits = (normal_form_count_of p m count fits, normal_form_codewords_of p m count h)

@@ -32,14 +32,14 @@ block_bytes size words h b hb =
     omega (arith, mul-add-lt i size.blocks b (block_length size) within hb, mul_comm size.blocks (block_length size), f.words_dealt, h.count) in
     subst (λ w. w < 256) (sym (block_places size words h b i hb within)) (All-get_or (λ w. w < 256) words (i * size.blocks + b) 0 inside h.bytes))
 
--- The data codewords of a block, and check codewords that make them a codeword.
+-- The list is the data codewords of a block, and check codewords that make them a codeword.
 record IsCompletion (size : SizeRow) (words : List ℕ) (b : ℕ) (list : List ℕ) : Type 0 where
   pub checks : List ℕ
   pub whole : list ≡ take (block_data size) (block_at size words b) ++ checks
   pub long : length list ≡ block_length size
   pub codeword : IsCodeword (block_check size) list
 
--- How many data codewords a block has.
+-- A block has this many data codewords.
 front_length : (size : SizeRow) (words : List ℕ) → AreWordsOf size words → (b : ℕ) → b < size.blocks
     → length (take (block_data size) (block_at size words b)) ≡ block_data size
 front_length size words h b hb =
@@ -57,7 +57,7 @@ completion size words h b hb =
       record { checks = made.0; whole = refl; long = omega (arith, length-append front made.0, long, made.1, f.length); codeword = made.2 },
     )
 
--- Codewords of a symbol with these data codewords, each block a codeword.
+-- A symbol has codewords with these data codewords, of which each block is a codeword.
 pub record HasChecks (size : SizeRow) (data_words : List ℕ) : Type 0 where
   pub list : List ℕ
   pub of_size : AreWordsOf size list

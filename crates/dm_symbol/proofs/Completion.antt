@@ -28,7 +28,7 @@ data_stays size u v hu hv same =
     let hi : i < block_data size = div_below j size.blocks (block_data size) f.some_blocks (omega (arith, within, f.data_dealt, mul_comm size.blocks (block_data size))) in
     get_or-take D v j 0 within ∙ place_in_block size v hv j here ∙ same b i hb hi ∙ sym (place_in_block size u hu j here) ∙ sym (get_or-take D u j 0 within))
 
--- A block gets new check codewords: the data codewords of the symbol stay.
+-- Where a block gets new check codewords, the data codewords of the symbol stay.
 pub completion_keeps_data : (size : SizeRow) (u v checks : List ℕ) (b : ℕ) → AreWordsOf size u → AreWordsOf size v → b < size.blocks
     → block_at size v b ≡ take (block_data size) (block_at size u b) ++ checks
     → ((a : ℕ) → a < size.blocks → a ≢ b → block_at size v a ≡ block_at size u a) → data_part size v ≡ data_part size u

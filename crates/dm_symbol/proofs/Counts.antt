@@ -1,11 +1,11 @@
 -- Counts of the cells of a square.
-use Rattle.std.proofs.Common.{◌≡◌, ℕ, zero, suc, ◌+◌, ◌<◌, ◌≤◌, Bool, true, false, not, ◌&&◌, cond, eqb, List, get_or, inl, inr, refl, sym, subst, ◌∙◌, zero-add, arith}
+use Rattle.std.proofs.Common.{◌≡◌, ℕ, zero, suc, ◌+◌, ◌<◌, ◌≤◌, Bool, true, false, not, ◌&&◌, cond, eqb, List, get_or, inl, inr, refl, sym, subst, arith}
 use Rattle.std.specs.List.{range_with_len, sum_by, count_by}
-use Rattle.std.proofs.lemmas.List.Sums.{sum_by-cons, get_or-le-sum_by}
-use Rattle.std.proofs.lemmas.List.FromFn.{get_or-range_with_len, length-range_with_len}
+use Rattle.std.proofs.lemmas.List.Sums.{sum_by-cons}
 use Rattle.std.proofs.lemmas.Bool.{cases_Bool, cases_eq, cond-true, cond-false, eqb-true, eq-eqb, and_parts, and_from, and_right, not_from_false, not_from_true}
 use Rattle.dm_code.specs.Codeword.{differing}
-use Rattle.dm_symbol.proofs.Distances.{differs_same, differs_most}
+use Rattle.dm_code.proofs.Exported.{differs_same, differs_le}
+use Rattle.dm_layout.proofs.Exported.{summands_zero}
 
 -- A sum of larger terms is larger.
 pub sum_grows : (f g : ℕ → ℕ) (a n : ℕ) → ((i : ℕ) → a ≤ i → i < a + n → f i ≤ g i) → sum_by f (range_with_len a n) ≤ sum_by g (range_with_len a n)
@@ -40,13 +40,7 @@ sum_grows_at f g a (suc n) r h low high more =
           )
     ]
 
--- The terms of a sum that is 0 are 0.
-pub sum_of_none : (f : ℕ → ℕ) (n i : ℕ) → sum_by f (range_with_len 0 n) ≡ 0 → i < n → f i ≡ 0
-sum_of_none f n i e h =
-    let at : get_or (range_with_len 0 n) i 0 ≡ i = get_or-range_with_len 0 n i 0 h ∙ zero-add i in
-    omega (arith, e, subst (λ x. f x ≤ sum_by f (range_with_len 0 n)) at (get_or-le-sum_by f (range_with_len 0 n) i 0 (omega (arith, h, length-range_with_len 0 n))))
-
--- What a cell counts.
+-- A cell counts 1 if it passes, and else 0.
 counted : Bool → ℕ
 counted b = cond b 1 0
 
@@ -55,7 +49,7 @@ counted_grows : (p q : Bool) → (p ≡ true → q ≡ true) → cond {A = ℕ} 
 counted_grows true q h = omega (arith, cond-true {A = ℕ} q 1 0 (h refl))
 counted_grows false q h = omega arith
 
--- How many cells of a square of n rows and n columns pass a test.
+-- This many cells of a square of n rows and n columns pass a test.
 abbrev pub count_cells : ℕ → (ℕ → ℕ → Bool) → ℕ
 count_cells n test = sum_by (λ row. count_by (test row) (range_with_len 0 n)) (range_with_len 0 n)
 
@@ -78,11 +72,11 @@ cells_grow_at n p q x y h hx hy left_out kept =
 -- A test that no cell passes fails everywhere.
 pub none_pass : (n : ℕ) (p : ℕ → ℕ → Bool) (r c : ℕ) → count_cells n p ≡ 0 → r < n → c < n → p r c ≡ false
 none_pass n p r c e hr hc =
-    let row : count_by (p r) (range_with_len 0 n) ≡ 0 = sum_of_none (λ r. count_by (p r) (range_with_len 0 n)) n r e hr in
-    let cell : cond (p r c) 1 0 ≡ 0 = sum_of_none (λ c. cond (p r c) 1 0) n c row hc in
+    let row : count_by (p r) (range_with_len 0 n) ≡ 0 = summands_zero (λ r. count_by (p r) (range_with_len 0 n)) n r e hr in
+    let cell : cond (p r c) 1 0 ≡ 0 = summands_zero (λ c. cond (p r c) 1 0) n c row hc in
     elim (cases_Bool (p r c)) [ inl t ↦ absurd (omega (arith, cell, cond-true {A = ℕ} (p r c) 1 0 t)) | inr f ↦ f ]
 
--- A cell of the square that passes the test and belongs to a place.
+-- A cell of the square passes the test and belongs to a place.
 pub record IsWitness (n : ℕ) (test : ℕ → ℕ → Bool) (Belongs : ℕ → ℕ → ℕ → Type 0) (i : ℕ) : Type 0 where
   pub row : ℕ
   pub column : ℕ
@@ -91,7 +85,7 @@ pub record IsWitness (n : ℕ) (test : ℕ → ℕ → Bool) (Belongs : ℕ → 
   pub passes : test row column ≡ true
   pub belongs : Belongs i row column
 
--- The test without one cell.
+-- The test is as before, but one cell doesn't pass it.
 abbrev without : (ℕ → ℕ → Bool) → ℕ → ℕ → ℕ → ℕ → Bool
 without test x y r c = test r c && not (eqb r x && eqb c y)
 
@@ -140,5 +134,5 @@ differing_below_cells n Belongs u v (suc k) test one witness =
           }) in
           let less = cells_grow_at n (without test w.row w.column) test w.row w.column (λ r c hr hc t. (and_parts (test r c) (not (eqb r w.row && eqb c w.column)) t).0)
           w.row_in w.column_in (without_itself test w.row w.column) w.passes in
-          omega (arith, fewer, less, differs_most (get_or u k 0) (get_or v k 0))
+          omega (arith, fewer, less, differs_le (get_or u k 0) (get_or v k 0))
     ]

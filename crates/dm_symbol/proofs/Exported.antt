@@ -4,5 +4,5 @@ pub use Rattle.dm_symbol.proofs.EachGrid.{answer_is_given, fits_or_not, normal_a
 pub use Rattle.dm_symbol.proofs.NormalGrids.{normal_grid_is_one}
 pub use Rattle.dm_symbol.proofs.NormalReadings.{one_normal_answer}
 pub use Rattle.dm_symbol.proofs.Readings.{one_given}
-pub use Rattle.dm_symbol.proofs.SizeFacts.{has_that_side, size_facts}
+pub use Rattle.dm_symbol.proofs.SizeFacts.{has_that_side}
 pub use Rattle.dm_symbol.proofs.WriteSteps.{too_long_fits_none}

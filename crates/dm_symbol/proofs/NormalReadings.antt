@@ -3,7 +3,7 @@ use Rattle.std.proofs.Common.{◌≡◌, ◌↔◌, ℕ, zero, suc, ◌+◌, Lis
 use Rattle.std.specs.List.{range_with_len}
 use Rattle.dm_words.specs.declared.item.Item.{Item}
 use Rattle.dm_words.specs.declared.profile.Profile.{Profile}
-use Rattle.dm_code.specs.Codeword.{distance}
+use Rattle.dm_code.specs.Codeword.{differing, distance}
 use Rattle.dm_layout.specs.Grid.{GridView}
 use Rattle.dm_layout.specs.Border.{border_fault_count}
 use Rattle.dm_words.specs.Messages.{IsMessage}
@@ -15,7 +15,7 @@ use Rattle.dm_symbol.specs.Blocks.{block_at, distances}
 use Rattle.dm_symbol.specs.NormalGrid.{IsNormalGrid, FitsSomeSize}
 use Rattle.dm_symbol.specs.Reading.{IsCorrected, Reads, ReadAnswer, reading_of}
 use Rattle.dm_symbol.specs.Normal.{HasNormal, HasNoNormal, NormalAnswer, IsNormalised}
-use Rattle.dm_symbol.proofs.Distances.{differing_same}
+use Rattle.dm_symbol.proofs.Distances.{differing_front}
 use Rattle.dm_symbol.proofs.NormalGrids.{normal_words_spell, normal_grid_is_one, normal_message_is_one}
 use Rattle.dm_symbol.proofs.Readings.{one_given, one_message, answer_of_read, read_by_answer, read_is_message}
 
@@ -25,7 +25,9 @@ err_is a b e = cc
 
 -- A list of words doesn't differ from itself.
 distance_to_itself : (word : List ℕ) → distance word word ≡ 0
-distance_to_itself word = differing_same word word (length word) (λ i h. refl)
+distance_to_itself word =
+    let none : differing word word (length word) ≡ 0 = omega (arith, differing_front word word (length word) (length word) (λ i h. refl)) in
+    none
 
 -- The words of a normal grid are their own corrected codewords.
 pub normal_is_corrected : (p : Profile) (m : List Item) (grid : GridView) → (n : IsNormalGrid p m grid) → IsCorrected grid n.words n.words
@@ -115,7 +117,7 @@ normal_of_normal p grid normal limit other h = record {
   normal_grid = h.normal_grid;
 }
 
--- So the answer of normalising for a normal grid is the grid itself.
+-- The answer of normalising for a normal grid is the grid itself.
 pub twice_is_once : (p : Profile) (grid normal : GridView) (limit other : ℕ) (answer : Result GridView NormalFault) → HasNormal p grid limit normal
     → NormalAnswer p normal other answer ↔ (answer ≡ Ok normal)
 twice_is_once p grid normal limit other answer h =
@@ -133,7 +135,7 @@ answer_moves p g h k l m answer rg rh (NormalAnswer.too_long a e) =
     NormalAnswer.too_long (record { message = m; read = rh; too_long = subst (λ x. FitsSomeSize p x → ⊥) same a.too_long }) e
 answer_moves p g h k l m answer rg rh (NormalAnswer.fault why a e) = absurd (no_fault g k m why rg a)
 
--- So the last of two profiles decides.
+-- The last of two profiles decides.
 pub last_profile_decides : (p q : Profile) (grid normal : GridView) (limit other : ℕ) (answer : Result GridView NormalFault) → HasNormal p grid limit normal
     → NormalAnswer q normal other answer ↔ NormalAnswer q grid limit answer
 last_profile_decides p q grid normal limit other answer h =
@@ -149,7 +151,7 @@ equal_normals p g h a b i j k l m n hm hn ha hb =
 
 -- ---- what an answer of normalising says
 
--- Two answers that are equal say the same, and answers of two kinds aren't equal.
+-- Equal answers that are grids have equal grids.
 ok_is : (a b : GridView) → ◌≡◌ {A = Result GridView NormalFault} (Ok a) (Ok b) → a ≡ b
 ok_is a b e = cc
 
@@ -199,7 +201,7 @@ says_fault p grid limit answer a why = (λ e. told answer a e, λ h. one_normal_
     told answer (NormalAnswer.too_long h e) f = absurd (read_no_too_long why (sym f ∙ e))
     told answer (NormalAnswer.fault other h e) f = subst (λ x. ReadAnswer grid limit (Err x)) (read_is other why (sym e ∙ f)) h
 
--- All of this together.
+-- Each answer of normalising is given exactly where its condition holds.
 pub is_normalised : (p : Profile) (grid : GridView) (limit : ℕ) (answer : Result GridView NormalFault) → NormalAnswer p grid limit answer
     → IsNormalised p grid limit answer
 is_normalised p grid limit answer a =

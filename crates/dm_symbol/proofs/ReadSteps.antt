@@ -20,7 +20,7 @@ use Rattle.dm_symbol.proofs.Readings.{one_given, read_by_answer, reads_by_answer
 held_words : (grid : GridView) (w : WordsView) → Holds grid w → AreHeld grid w.list
 held_words grid w h = subst (λ x. Holds grid x) (ap (λ s. symbol s w.list) h.same_size) h
 
--- The first block that can't be corrected.
+-- Where a block can't be corrected, the first such block is a right answer.
 pub block_answer : (grid : GridView) (limit : ℕ) (w : WordsView) (b : ℕ) → border_fault_count grid ≤ limit → Holds grid w → IsFirstBeyond w.size w.list b
     → ReadAnswer grid limit (Err (fault.Block b))
 block_answer grid limit w b few h first =
@@ -52,13 +52,13 @@ module _ (grid : GridView) (limit : ℕ) (w v : WordsView) (few : border_fault_c
       ReadAnswer.message w.list v.list m few are_corrected (subst (λ words. Spells words m) data_of_grid spelled)
       (ap (λ xs. Ok (reading_of m xs faults)) all ∙ ap (λ n. Ok (reading_of m (distances grid.size w.list v.list) n)) border)
 
--- What an answer says of the message.
+-- An answer is a reading of a message exactly where the grid is read as that message.
 pub says_message : (grid : GridView) (limit : ℕ) (answer : Result Reading ReadFault) → ReadAnswer grid limit answer → (m : List Item) → IsReadAs answer m ↔ Reads grid limit m
 says_message grid limit answer a m = (λ is. reads_by_answer grid limit answer m a is, λ r. read_by_answer grid limit answer m a r)
 
--- Two answers that are equal say the same, and answers of two kinds aren't equal.
-same : (a b : ℕ) → ◌≡◌ {A = Result Reading ReadFault} (Err (fault.Border a)) (Err (fault.Border b)) → a ≡ b
-same a b e = cc
+-- Equal faults of the border have equal numbers of modules.
+same_border : (a b : ℕ) → ◌≡◌ {A = Result Reading ReadFault} (Err (fault.Border a)) (Err (fault.Border b)) → a ≡ b
+same_border a b e = cc
 
 -- The fault of a block isn't one of the border.
 block_no_border : (n b : ℕ) → ◌≡◌ {A = Result Reading ReadFault} (Err (fault.Block b)) (Err (fault.Border n)) → ⊥
@@ -72,7 +72,7 @@ words_no_border n why e = cc
 message_no_border : (n : ℕ) (r : Reading) → ◌≡◌ {A = Result Reading ReadFault} (Ok r) (Err (fault.Border n)) → ⊥
 message_no_border n r e = cc
 
--- What an answer says of the border.
+-- An answer is a fault of the border exactly where there are more border faults than the limit, and tells their number.
 pub says_border : (grid : GridView) (limit : ℕ) (answer : Result Reading ReadFault) → ReadAnswer grid limit answer → (count : ℕ)
     → (answer ≡ Err (fault.Border count)) ↔ ((limit < border_fault_count grid) × (count ≡ border_fault_count grid))
 says_border grid limit answer a count = (λ e. told answer a e, λ p. one_given grid limit answer (Err (fault.Border count)) a (border_answer p.0 p.1))
@@ -81,7 +81,7 @@ says_border grid limit answer a count = (λ e. told answer a e, λ p. one_given 
     border_answer more e = ReadAnswer.border more (ap (λ n. Err (fault.Border n)) e)
 
     told : (answer : Result Reading ReadFault) → ReadAnswer grid limit answer → answer ≡ Err (fault.Border count) → (limit < border_fault_count grid) × (count ≡ border_fault_count grid)
-    told answer (ReadAnswer.border more e) f = (more, same count (border_fault_count grid) (sym f ∙ e))
+    told answer (ReadAnswer.border more e) f = (more, same_border count (border_fault_count grid) (sym f ∙ e))
     told answer (ReadAnswer.block u b few hu first e) f = absurd (block_no_border count b (sym e ∙ f))
     told answer (ReadAnswer.words u c why few hu refused e) f = absurd (words_no_border count why (sym e ∙ f))
     told answer (ReadAnswer.message u c m few hu spelled e) f = absurd (message_no_border count (reading_of m (distances grid.size u c) (border_fault_count grid)) (sym e ∙ f))

@@ -1,10 +1,9 @@
 -- A grid is read as at most one message.
-use Rattle.std.proofs.Common.{◌≡◌, ℕ, ◌<◌, ◌≤◌, List, length, Result, Ok, Err, inl, inr, refl, sym, ap, subst, ◌∙◌, arith}
+use Rattle.std.proofs.Common.{◌≡◌, ℕ, ◌<◌, List, Result, Ok, Err, inl, inr, refl, sym, ap, subst, ◌∙◌, arith}
 use Rattle.std.specs.List.{All}
 use Rattle.std.proofs.lemmas.Bool.{cases_order}
 use Rattle.dm_words.specs.declared.item.Item.{Item}
 use Rattle.dm_words.specs.declared.fault.WordFault.{WordFault}
-use Rattle.dm_code.specs.Codeword.{IsNear, differing}
 use Rattle.dm_layout.specs.Sizes.{SizeRow, block_check}
 use Rattle.dm_layout.specs.Grid.{GridView}
 use Rattle.dm_layout.specs.Border.{border_fault_count}
@@ -16,20 +15,10 @@ use Rattle.dm_symbol.specs.declared.reading.ReadFault.{ReadFault}
 use Rattle.dm_symbol.specs.declared.reading.ReadFault.TheVariants as fault
 use Rattle.dm_symbol.specs.Blocks.{AreHeld, BlocksAreNear, block_at, data_part, distances}
 use Rattle.dm_symbol.specs.Reading.{IsCorrected, Reads, IsFirstBeyond, ReadAnswer, reading_of, IsReadAs}
-use Rattle.dm_symbol.proofs.Distances.{differing_over, differing_turned}
 use Rattle.dm_symbol.proofs.SymbolBlocks.{same_blocks}
 use Rattle.dm_symbol.proofs.NormalGrids.{data_is_bytes, one_spelled}
 use Rattle.dm_symbol.proofs.SizeFacts.{size_facts}
-use Rattle.dm_symbol.proofs.Below.{codewords_apart, block_lengths, held_words_are_one, one_answer, spelled_is_message}
-
--- At most one codeword is near a block.
-pub near_is_one : (k : ℕ) (block c d : List ℕ) → length block ≤ 255 → IsNear k block c → IsNear k block d → c ≡ d
-near_is_one k block c d short hc hd =
-    let n = length block in
-    let way = differing_over c block d n in
-    let turned = differing_turned c block n in
-    codewords_apart k c d hc.codeword hd.codeword (hc.long ∙ sym hd.long) (omega (arith, hc.long, short))
-    (subst (λ j. differing c d j ≤ k) (sym hc.long) (omega (arith, way, turned, hc.close, hd.close)))
+use Rattle.dm_symbol.proofs.Below.{near_is_one, block_lengths, held_words_are_one, one_answer, spelled_is_message}
 
 -- A grid holds only one list of words, and only one list of codewords is near them.
 pub corrected_is_one : (grid : GridView) (u c v d : List ℕ) → IsCorrected grid u c → IsCorrected grid v d → (u ≡ v) × (c ≡ d)

@@ -1,27 +1,28 @@
 -- A normal grid of which some cells are turned over is still read.
 use Rattle.std.proofs.Common.{◌≡◌, ℕ, zero, suc, ◌+◌, ◌-◌, ◌*◌, ◌/◌, ◌%◌, ◌^◌, ◌<◌, ◌≤◌, Bool, true, false, not, ◌&&◌, eqb, List, get_or, inl, inr, refl, sym, ap, subst, ◌∙◌, arith}
-use Rattle.std.specs.Bool.{beq, MatchBool}
+use Rattle.std.specs.Bool.{beq}
 use Rattle.std.specs.Int.{bit_at}
-use Rattle.std.proofs.Math.Nat.{div-mul-le_self, pow-suc, mul-add}
-use Rattle.std.proofs.lemmas.Bool.{cases_Bool, cases_eq, cases_lt, cases_order, eqb-true, eqb-false, true≢false, false≢true}
-use Rattle.std.proofs.lemmas.Nat.{div_below, le-div, same_from_place, mul-add-lt}
+use Rattle.std.proofs.Math.Nat.{pow-suc}
+use Rattle.std.proofs.lemmas.Bool.{cases_Bool, cases_eq, cases_lt, eqb-true, eqb-false, true≢false, false≢true}
+use Rattle.std.proofs.lemmas.Nat.{same_from_place, mul-add-lt}
 use Rattle.std.proofs.lemmas.Nat.Bits.{bit_at_lowest, bit_at-suc}
 use Rattle.dm_words.specs.declared.item.Item.{Item}
 use Rattle.dm_words.specs.declared.profile.Profile.{Profile}
 use Rattle.dm_code.specs.Codeword.{distance, differing}
 use Rattle.dm_layout.specs.declared.shape.Cell.{Cell}
-use Rattle.dm_layout.specs.Sizes.{SizeRow, IsRow, row_with_side, codeword_count, block_length, regions_across}
+use Rattle.dm_layout.specs.Sizes.{SizeRow, IsRow, codeword_count, block_length}
 use Rattle.dm_layout.specs.Grid.{GridView, IsGrid, cell_at}
 use Rattle.dm_layout.specs.Border.{border_fault_count, is_fault, is_border, border_is_dark, symbol_line}
-use Rattle.dm_layout.specs.Placement.{place, At, IsPlace, NoPlace, OnePlace}
+use Rattle.dm_layout.specs.Placement.{place, At, IsPlace}
 use Rattle.dm_layout.specs.Holds.{bit_of}
+use Rattle.dm_layout.proofs.Exported.{lies_inside, one_bit, row_facts, same_row, symbol_line-one}
 use Rattle.dm_words.specs.Messages.{IsMessage}
 use Rattle.dm_symbol.specs.Blocks.{AreHeld, block_at}
 use Rattle.dm_symbol.specs.NormalGrid.{IsNormalGrid}
 use Rattle.dm_symbol.specs.Reading.{Reads}
 use Rattle.dm_symbol.specs.Laws.{turned_cells}
 use Rattle.dm_symbol.proofs.Counts.{cells_grow, none_pass, IsWitness, differing_below_cells}
-use Rattle.dm_symbol.proofs.NormalGrids.{some_is, normal_words_spell}
+use Rattle.dm_symbol.proofs.NormalGrids.{normal_words_spell}
 use Rattle.dm_symbol.proofs.SizeFacts.{Facts, size_facts}
 use Rattle.dm_symbol.proofs.Below.{block_places, block_lengths, each_cell_once, every_grid_holds, shape_count}
 
@@ -37,24 +38,6 @@ bit_differs (suc k) x y hx hy other =
           (suc rest.0, omega (arith, rest.1), λ h. rest.2 (sym (bit_at-suc x rest.0) ∙ h ∙ bit_at-suc y rest.0))
       | inr differ ↦ (0, omega arith, λ h. differ (sym (bit_at_lowest x) ∙ h ∙ bit_at_lowest y))
     ]
-
--- ---- lines
-
--- Two lines of the mapping matrix that are moved to the same line of the symbol are the same.
-pub line_is_one : (d x y : ℕ) → 0 < d → symbol_line d x ≡ symbol_line d y → x ≡ y
-line_is_one d x y hd e =
-    elim (cases_order x y) [
-      | inl same ↦ same
-      | inr other ↦
-          elim other [
-            | inl h ↦ absurd (omega (arith, e, h, le-div (x / d) y d hd (omega (arith, h, div-mul-le_self x d))))
-            | inr h ↦ absurd (omega (arith, e, h, le-div (y / d) x d hd (omega (arith, h, div-mul-le_self y d))))
-          ]
-    ]
-
--- A line of the mapping matrix is moved to a line of the symbol.
-pub line_within : (d across x : ℕ) → 0 < d → x < across * d → symbol_line d x < across * (d + 2)
-line_within d across x hd h = omega (arith, h, div_below x d across hd h, mul-add across d 2)
 
 -- ---- colours
 
@@ -118,11 +101,6 @@ record LiesAt (size : SizeRow) (b i r c : ℕ) : Type 0 where
 same_cell : (x y : Cell) → x.row ≡ y.row → x.column ≡ y.column → x ≡ y
 same_cell x y e f = ap (λ r. At r x.column) e ∙ ap (λ c. At y.row c) f
 
--- What follows in both of two cases, of which one holds.
-of_match : (b : Bool) (P Q R : Type 0) → MatchBool b P Q → (P → R) → (Q → R) → R
-of_match true P Q R h p q = p h
-of_match false P Q R h p q = q h
-
 -- A place of a block is a place of the symbol.
 in_symbol : (size : SizeRow) → Facts size → (b i : ℕ) → b < size.blocks → i < block_length size → i * size.blocks + b < codeword_count size
 in_symbol size f b i hb hi = omega (arith, mul-add-lt i size.blocks b (block_length size) hi hb, f.words_dealt)
@@ -141,36 +119,30 @@ is_place size row b i bit hb hi low high = record {
 one_lies : (size : SizeRow) → IsRow size → (b : ℕ) → b < size.blocks → (i j r c : ℕ) → i < block_length size → j < block_length size
     → LiesAt size b i r c → LiesAt size b j r c → i ≡ j
 one_lies size row b hb i j r c hi hj li lj =
-    let f = size_facts size row in
-    let side : 0 < size.region_side = omega (arith, f.some_side) in
+    let least : 8 ≤ size.region_side = (row_facts size row).least in
     let x = place size.mapping (i * size.blocks + b) li.bit in
     let y = place size.mapping (j * size.blocks + b) lj.bit in
     let px = is_place size row b i li.bit hb hi li.from_one li.to_eight in
     let py = is_place size row b j lj.bit hb hj lj.from_one lj.to_eight in
-    let same : y ≡ x = same_cell y x (line_is_one size.region_side y.row x.row side (lj.row ∙ sym li.row)) (line_is_one size.region_side y.column x.column side (lj.column ∙ sym li.column)) in
+    let same : y ≡ x = same_cell y x (symbol_line-one size.region_side y.row x.row least (lj.row ∙ sym li.row)) (symbol_line-one size.region_side y.column x.column least (lj.column ∙ sym li.column)) in
     let py_at : IsPlace size.mapping (j * size.blocks + b) lj.bit x = subst (λ cell. IsPlace size.mapping (j * size.blocks + b) lj.bit cell) same py in
-    let each = each_cell_once size row in
-    let inside = each.inside (i * size.blocks + b) li.bit x px in
-    of_match _ (NoPlace size.mapping x) (OnePlace size.mapping x) (i ≡ j) (each.once x.row x.column inside.0 inside.1)
-    (λ none. absurd (none (i * size.blocks + b) li.bit px))
-    (λ one.
-    let ei = (one.3 (i * size.blocks + b) li.bit px).0 in
-    let ej = (one.3 (j * size.blocks + b) lj.bit py_at).0 in
-    (same_from_place i b j b size.blocks hb hb (ei ∙ sym ej)).0)
+    let both = one_bit size.mapping x.row x.column (i * size.blocks + b) li.bit (j * size.blocks + b) lj.bit (each_cell_once size row) px py_at in
+    (same_from_place i b j b size.blocks hb hb (sym both.0)).0
 
 -- Two numbers that equal two different ones differ.
 differ_too : (a b x y : ℕ) → a ≡ x → b ≡ y → (b ≡ a → ⊥) → x ≡ y → ⊥
 differ_too a b x y p q other e = other (q ∙ sym e ∙ sym p)
 
--- The test whether a cell has changed.
+-- A cell has changed if its colours in the two grids differ.
 abbrev changed : GridView → GridView → ℕ → ℕ → Bool
 changed g h row column = not (beq (cell_at g row column) (cell_at h row column))
 
 module _ (size : SizeRow) (rows others : List (List Bool)) (u v : List ℕ) where
-  -- the grid before, and the grid after
+  -- This is the grid before cells are turned over.
   abbrev before : GridView
   before = record { size = size; rows = rows }
 
+  -- This is the grid after cells are turned over.
   abbrev after : GridView
   after = record { size = size; rows = others }
 
@@ -190,14 +162,13 @@ module _ (size : SizeRow) (rows others : List (List Bool)) (u v : List ℕ) wher
       let cell = place size.mapping word d.0 in
       let here = is_place size row b i d.0 hb hi d.1 d.2 in
       let inside = (each_cell_once size row).inside word d.0 cell here in
-      let side : 0 < size.region_side = omega (arith, f.some_side) in
       let of_u = held_u.bits word d.0 cell here in
       let of_v = held_v.bits word d.0 cell here in
       record {
         row = symbol_line size.region_side cell.row;
         column = symbol_line size.region_side cell.column;
-        row_in = omega (arith, f.side, line_within size.region_side (regions_across size) cell.row side (omega (arith, inside.0, f.mapping)));
-        column_in = omega (arith, f.side, line_within size.region_side (regions_across size) cell.column side (omega (arith, inside.1, f.mapping)));
+        row_in = lies_inside size cell.row row inside.0;
+        column_in = lies_inside size cell.column row inside.1;
         passes = colours_differ _ _ (λ e. d.3 (sym of_u ∙ e ∙ of_v));
         belongs = record { bit = d.0; from_one = d.1; to_eight = d.2; row = refl; column = refl };
       }
@@ -243,15 +214,11 @@ turned_reads p m normal others limit h n is_grid few at_least =
       spelled = normal_words_spell p m normal h n;
     }
 
--- A side has one size.
-size_by_side : (a b : SizeRow) → IsRow a → IsRow b → a.side ≡ b.side → a ≡ b
-size_by_side a b ha hb e = some_is a b (sym ha ∙ ap row_with_side e ∙ hb)
-
--- The law of turned cells.
+-- If no more cells of a normal grid are turned over than codewords can be corrected in a block, the grid that comes out is read as its message.
 pub turned_cells_are_read : (p : Profile) (m : List Item) (normal grid : GridView) (limit : ℕ) → IsMessage m → IsNormalGrid p m normal → IsGrid grid
     → grid.size.side ≡ normal.size.side → turned_cells normal grid ≤ normal.size.limit → normal.size.limit ≤ limit → Reads grid limit m
 turned_cells_are_read p m normal grid limit h n is_grid side few at_least =
-    let same : grid.size ≡ normal.size = size_by_side grid.size normal.size is_grid.row n.laid.holds.square.row side in
+    let same : grid.size ≡ normal.size = same_row grid.size normal.size is_grid.row n.laid.holds.square.row side in
     let whole : ◌≡◌ {A = GridView} grid (record { size = normal.size; rows = grid.rows }) = ap (λ (s : SizeRow). let g : GridView = record { size = s; rows = grid.rows } in g) same in
     subst (λ g. Reads g limit m) (sym whole)
     (turned_reads p m normal grid.rows limit h n (subst IsGrid whole is_grid) (subst (λ g. turned_cells normal g ≤ normal.size.limit) whole few) at_least)

@@ -9,7 +9,7 @@ use Rattle.dm_layout.specs.Blocks.{block_of}
 use Rattle.dm_layout.specs.Grid.{GridView}
 use Rattle.dm_layout.specs.Holds.{Holds}
 
--- These codewords, as those of a symbol of this size.
+-- These are the codewords of a symbol of this size.
 abbrev pub symbol : SizeRow → List ℕ → WordsView
 symbol size words = record { size = size; list = words }
 
@@ -21,11 +21,11 @@ AreWordsOf size words = IsWords (symbol size words)
 abbrev pub AreHeld : GridView → List ℕ → Type 0
 AreHeld grid words = Holds grid (symbol grid.size words)
 
--- The data codewords among the codewords of a symbol of this size.
+-- Among the codewords of a symbol of this size, the data codewords come first.
 abbrev pub data_part : SizeRow → List ℕ → List ℕ
 data_part size words = take size.data_count words
 
--- Block b of a symbol of this size.
+-- This is block b of a symbol of this size.
 abbrev pub block_at : SizeRow → List ℕ → ℕ → List ℕ
 block_at size words b = block_of size.blocks b words
 
@@ -38,6 +38,6 @@ BlocksAreCodewords size words = (b : ℕ) → b < size.blocks → IsCodeword (bl
 abbrev pub BlocksAreNear : SizeRow → List ℕ → List ℕ → Type 0
 BlocksAreNear size words codewords = (b : ℕ) → b < size.blocks → IsNear (block_check size) (block_at size words b) (block_at size codewords b)
 
--- For each block, in order, at how many places the words differ from the other codewords.
+-- The words differ from the other codewords at this many places in each block, in order.
 abbrev pub distances : SizeRow → List ℕ → List ℕ → List ℕ
 distances size words codewords = map (λ b. distance (block_at size words b) (block_at size codewords b)) (range_with_len 0 size.blocks)

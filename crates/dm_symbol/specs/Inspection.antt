@@ -9,14 +9,14 @@ use Rattle.dm_symbol.specs.declared.inspection.Inspection.{Inspection}
 use Rattle.dm_symbol.specs.Blocks.{AreWordsOf, block_at}
 use Rattle.dm_symbol.specs.Reading.{HasNear}
 
--- A block with k check codewords, mended: it becomes the codeword that is near it, which differs from it at `count` places; or it stays as
--- it is, where no codeword is near.
+-- A block with k check codewords is mended: it becomes the codeword that is near it, which differs from it at `count` places; or it stays as it is,
+-- where no codeword is near.
 abbrev pub IsMended : ℕ → List ℕ → List ℕ → Option ℕ → Type 0
 IsMended k block mended (Some count) = IsNear k block mended × (count ≡ distance block mended)
 IsMended k block mended None = (HasNear k block → ⊥) × (mended ≡ block)
 
--- The inspection of a grid: the codewords that it holds; the same, with each block mended; for each block the number of places at which
--- these differ; and how many modules of the borders have the wrong colour.
+-- The inspection of a grid gives the codewords that it holds; the same, with each block mended; for each block the number of places at which these
+-- differ; and how many modules of the borders have the wrong colour.
 pub record IsInspection (grid : GridView) (inspection : Inspection) : Type 0 where
   pub held : Holds grid inspection.held
   pub same_size : inspection.mended.size ≡ grid.size

@@ -15,20 +15,23 @@ use Rattle.dm_symbol.specs.Normal.{HasNormal, NormalAnswer}
 
 -- Two normal grids under one profile are equal exactly where their messages are equal.
 abbrev pub NormalGridsTellMessages : Type 0
-NormalGridsTellMessages = (profile : Profile) (m n : List Item) (g h : GridView) → IsMessage m → IsMessage n → IsNormalGrid profile m g → IsNormalGrid profile n h → (g ≡ h) ↔ (m ≡ n)
+NormalGridsTellMessages = (profile : Profile) (message other_message : List Item) (grid other_grid : GridView) → IsMessage message → IsMessage other_message
+    → IsNormalGrid profile message grid → IsNormalGrid profile other_message other_grid → (grid ≡ other_grid) ↔ (message ≡ other_message)
 
 -- A grid is read as at most one message, whatever the limits.
 abbrev pub OneMessageIsRead : Type 0
-OneMessageIsRead = (grid : GridView) (k l : ℕ) (m n : List Item) → Reads grid k m → Reads grid l n → m ≡ n
+OneMessageIsRead = (grid : GridView) (limit other_limit : ℕ) (message other : List Item) → Reads grid limit message
+    → Reads grid other_limit other → message ≡ other
 
 -- A grid has at most one answer of reading for a limit.
 abbrev pub OneAnswerIsGiven : Type 0
-OneAnswerIsGiven = (grid : GridView) (limit : ℕ) (a b : Result Reading ReadFault) → ReadAnswer grid limit a → ReadAnswer grid limit b → a ≡ b
+OneAnswerIsGiven = (grid : GridView) (limit : ℕ) (answer other : Result Reading ReadFault) → ReadAnswer grid limit answer
+    → ReadAnswer grid limit other → answer ≡ other
 
 -- A grid has at most one answer of `normal_as` for a profile and a limit.
 abbrev pub OneNormalAnswerIsGiven : Type 0
-OneNormalAnswerIsGiven = (profile : Profile) (grid : GridView) (limit : ℕ) (a b : Result GridView NormalFault) → NormalAnswer profile grid limit a
-    → NormalAnswer profile grid limit b → a ≡ b
+OneNormalAnswerIsGiven = (profile : Profile) (grid : GridView) (limit : ℕ) (answer other : Result GridView NormalFault) → NormalAnswer profile grid limit answer
+    → NormalAnswer profile grid limit other → answer ≡ other
 
 -- A grid has some answer of reading for each limit.
 abbrev pub AnAnswerIsGiven : Type 0
@@ -41,25 +44,26 @@ ANormalAnswerIsGiven = (profile : Profile) (grid : GridView) (limit : ℕ) → I
 
 -- A message that fits some size has a normal grid.
 abbrev pub ANormalGridIsThere : Type 0
-ANormalGridIsThere = (profile : Profile) (m : List Item) → IsMessage m → FitsSomeSize profile m → (grid : GridView) × IsNormalGrid profile m grid
+ANormalGridIsThere = (profile : Profile) (message : List Item) → IsMessage message → FitsSomeSize profile message → (grid : GridView) × IsNormalGrid profile message grid
 
--- The normal grid of a message is read as it for every limit, with nothing corrected in any block and no border fault, and has no
+-- The normal grid of a message is read as that message for every limit, with nothing corrected in any block and no border fault, and has no
 -- other answer.
 abbrev pub NormalGridIsRead : Type 0
-NormalGridIsRead = (profile : Profile) (m : List Item) (grid : GridView) (limit : ℕ) (answer : Result Reading ReadFault) → IsMessage m
-    → IsNormalGrid profile m grid
-    → ReadAnswer grid limit answer ↔ (answer ≡ Ok (reading_of m (replicate grid.size.blocks 0) 0))
+NormalGridIsRead = (profile : Profile) (message : List Item) (grid : GridView) (limit : ℕ) (answer : Result Reading ReadFault) → IsMessage message
+    → IsNormalGrid profile message grid
+    → ReadAnswer grid limit answer ↔ (answer ≡ Ok (reading_of message (replicate grid.size.blocks 0) 0))
 
--- The number of cells at which two grids of one side differ.
+-- Two grids of one side differ at this many cells.
 abbrev pub turned_cells : GridView → GridView → ℕ
-turned_cells g h =
-    sum_by (λ row. count_by (λ column. not (beq (cell_at g row column) (cell_at h row column))) (range_with_len 0 g.size.side)) (range_with_len 0 g.size.side)
+turned_cells grid other =
+    sum_by (λ row. count_by (λ column. not (beq (cell_at grid row column) (cell_at other row column))) (range_with_len 0 grid.size.side)) (range_with_len 0 grid.size.side)
 
 -- If no more cells of a normal grid are turned over than codewords can be corrected in a block of its size, the grid that comes out is
 -- read as the same message, for every border limit that is no less than that number of codewords.
 abbrev pub TurnedCellsAreRead : Type 0
-TurnedCellsAreRead = (profile : Profile) (m : List Item) (normal grid : GridView) (limit : ℕ) → IsMessage m → IsNormalGrid profile m normal → IsGrid grid
-    → grid.size.side ≡ normal.size.side → turned_cells normal grid ≤ normal.size.limit → normal.size.limit ≤ limit → Reads grid limit m
+TurnedCellsAreRead = (profile : Profile) (message : List Item) (normal grid : GridView) (limit : ℕ) → IsMessage message
+    → IsNormalGrid profile message normal → IsGrid grid
+    → grid.size.side ≡ normal.size.side → turned_cells normal grid ≤ normal.size.limit → normal.size.limit ≤ limit → Reads grid limit message
 
 -- Normalising twice is the same as normalising once: a normal grid is its own normal grid, for every limit.
 abbrev pub NormalTwiceIsOnce : Type 0
@@ -74,5 +78,6 @@ TheLastProfileDecides = (first last : Profile) (grid normal : GridView) (limit o
 
 -- Two grids that are read have equal normal grids under one profile exactly where their messages are equal, whatever the limits.
 abbrev pub EqualNormalGridsMeanEqualMessages : Type 0
-EqualNormalGridsMeanEqualMessages = (profile : Profile) (g h a b : GridView) (i j k l : ℕ) (m n : List Item) → Reads g i m → Reads h j n
-    → HasNormal profile g k a → HasNormal profile h l b → (a ≡ b) ↔ (m ≡ n)
+EqualNormalGridsMeanEqualMessages = (profile : Profile) (grid other_grid normal other_normal : GridView) (i j k l : ℕ) (message other_message : List Item)
+    → Reads grid i message → Reads other_grid j other_message
+    → HasNormal profile grid k normal → HasNormal profile other_grid l other_normal → (normal ≡ other_normal) ↔ (message ≡ other_message)

@@ -21,15 +21,15 @@ pub record HasNoNormal (profile : Profile) (grid : GridView) (limit : ℕ) : Typ
   pub read : Reads grid limit message
   pub too_long : FitsSomeSize profile message → ⊥
 
--- The answer for a grid: the normal grid of the message that it is read as; that this message fits no size; or the fault of reading.
+-- The answer for a grid is the normal grid of the message that it is read as; or that this message fits no size; or the fault of reading.
 pub data NormalAnswer (profile : Profile) (grid : GridView) (limit : ℕ) (answer : Result GridView NormalFault) : Type 0 where
-  normal : (n : GridView) → HasNormal profile grid limit n → answer ≡ Ok n → NormalAnswer profile grid limit answer
+  normal : (normal_grid : GridView) → HasNormal profile grid limit normal_grid → answer ≡ Ok normal_grid → NormalAnswer profile grid limit answer
   too_long : HasNoNormal profile grid limit → answer ≡ Err TooLong → NormalAnswer profile grid limit answer
   fault : (why : ReadFault) → ReadAnswer grid limit (Err why) → answer ≡ Err (Read why) → NormalAnswer profile grid limit answer
 
--- The same, and each answer is given exactly where it holds.
+-- The answer for a grid is the one above, and each kind of answer is given exactly where its condition holds.
 pub record IsNormalised (profile : Profile) (grid : GridView) (limit : ℕ) (answer : Result GridView NormalFault) : Type 0 where
   pub answer_is : NormalAnswer profile grid limit answer
-  pub normal : (n : GridView) → (answer ≡ Ok n) ↔ HasNormal profile grid limit n
+  pub normal : (normal_grid : GridView) → (answer ≡ Ok normal_grid) ↔ HasNormal profile grid limit normal_grid
   pub too_long : (answer ≡ Err TooLong) ↔ HasNoNormal profile grid limit
   pub fault : (why : ReadFault) → (answer ≡ Err (Read why)) ↔ ReadAnswer grid limit (Err why)

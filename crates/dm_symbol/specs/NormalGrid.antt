@@ -12,23 +12,23 @@ use Rattle.dm_symbol.specs.Blocks.{symbol, BlocksAreCodewords, data_part}
 
 -- The message fits some size of the table: one with at least as many data codewords as its normal form has codewords.
 abbrev pub FitsSomeSize : Profile → List Item → Type 0
-FitsSomeSize profile m = IsSome (row_for_words (length (normal_form profile m)))
+FitsSomeSize profile message = IsSome (row_for_words (length (normal_form profile message)))
 
 -- The grid is the normal grid of the message.
-pub record IsNormalGrid (profile : Profile) (m : List Item) (grid : GridView) : Type 0 where
-  -- its size is the smallest with at least as many data codewords as the normal form of the message has codewords
-  pub smallest : row_for_words (length (normal_form profile m)) ≡ Some grid.size
-  -- codewords of this size are laid in it: it holds them, each module of its borders has the right colour, and it has the fixed square
+pub record IsNormalGrid (profile : Profile) (message : List Item) (grid : GridView) : Type 0 where
+  -- Its size is the smallest with at least as many data codewords as the normal form of the message has codewords.
+  pub smallest : row_for_words (length (normal_form profile message)) ≡ Some grid.size
+  -- Codewords of this size are laid in it: it holds them, each module of its borders has the right colour, and it has the fixed square.
   pub words : List ℕ
   pub laid : IsLaid (symbol grid.size words) grid
-  -- the data codewords are the normal form, followed by pads
-  pub data_words : data_part grid.size words ≡ padded (normal_form profile m) grid.size.data_count
-  -- the check codewords make each block a codeword of its Reed-Solomon code
+  -- The data codewords are the normal form, followed by pads.
+  pub data_words : data_part grid.size words ≡ padded (normal_form profile message) grid.size.data_count
+  -- The check codewords make each block a codeword of its Reed-Solomon code.
   pub checked : BlocksAreCodewords grid.size words
 
--- What writing a message answers: its only normal grid, where the message fits some size; else that it has none.
-pub record IsWritten (profile : Profile) (m : List Item) (answer : Result GridView TooLong) : Type 0 where
-  pub normal : IfOk answer (λ grid. IsNormalGrid profile m grid)
-  pub one : IfOk answer (λ grid. (other : GridView) → IsNormalGrid profile m other → other ≡ grid)
-  pub fits : IsOk answer ↔ FitsSomeSize profile m
-  pub none : OnErr answer ((grid : GridView) → IsNormalGrid profile m grid → ⊥)
+-- Writing a message answers its only normal grid, where the message fits some size, and else that it has none.
+pub record IsWritten (profile : Profile) (message : List Item) (answer : Result GridView TooLong) : Type 0 where
+  pub normal : IfOk answer (λ grid. IsNormalGrid profile message grid)
+  pub one : IfOk answer (λ grid. (other : GridView) → IsNormalGrid profile message other → other ≡ grid)
+  pub fits : IsOk answer ↔ FitsSomeSize profile message
+  pub none : OnErr answer ((grid : GridView) → IsNormalGrid profile message grid → ⊥)

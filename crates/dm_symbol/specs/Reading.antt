@@ -13,7 +13,7 @@ use Rattle.dm_symbol.specs.declared.reading.ReadFault.{ReadFault}
 use Rattle.dm_symbol.specs.declared.reading.ReadFault.TheVariants as fault
 use Rattle.dm_symbol.specs.Blocks.{AreWordsOf, AreHeld, BlocksAreNear, block_at, data_part, distances}
 
--- The usual border limit of a symbol of this side: a quarter of it, rounded down.
+-- The usual border limit of a symbol of this side is a quarter of it, rounded down.
 abbrev pub usual_limit : ℕ → ℕ
 usual_limit side = side / 4
 
@@ -25,39 +25,40 @@ pub record IsCorrected (grid : GridView) (words codewords : List ℕ) : Type 0 w
 
 -- The grid is read as the message: at most `limit` modules of its borders have the wrong colour, and each block of the words that it holds
 -- is near the same block of codewords whose data part spells the message.
-pub record Reads (grid : GridView) (limit : ℕ) (m : List Item) : Type 0 where
+pub record Reads (grid : GridView) (limit : ℕ) (message : List Item) : Type 0 where
   pub border : border_fault_count grid ≤ limit
   pub words : List ℕ
   pub codewords : List ℕ
   pub corrected : IsCorrected grid words codewords
-  pub spelled : Spells (data_part grid.size codewords) m
+  pub spelled : Spells (data_part grid.size codewords) message
 
 -- Some codeword of the Reed-Solomon code with k check codewords is near the block.
 abbrev pub HasNear : ℕ → List ℕ → Type 0
 HasNear k block = (codeword : List ℕ) × IsNear k block codeword
 
--- Block b is the first block that no codeword is near.
-pub record IsFirstBeyond (size : SizeRow) (words : List ℕ) (b : ℕ) : Type 0 where
-  pub in_symbol : b < size.blocks
-  pub beyond : HasNear (block_check size) (block_at size words b) → ⊥
-  pub first : (a : ℕ) → a < b → HasNear (block_check size) (block_at size words a)
+-- This block is the first that no codeword is near.
+pub record IsFirstBeyond (size : SizeRow) (words : List ℕ) (block : ℕ) : Type 0 where
+  pub in_symbol : block < size.blocks
+  pub beyond : HasNear (block_check size) (block_at size words block) → ⊥
+  pub first : (earlier : ℕ) → earlier < block → HasNear (block_check size) (block_at size words earlier)
 
--- The reading with this message, these numbers of corrected codewords by block, and this number of border faults.
+-- This is the reading with this message, these numbers of corrected codewords by block, and this number of border faults.
 abbrev pub reading_of : List Item → List ℕ → ℕ → Reading
-reading_of m counts faults = record { message = m; corrected = record { items = counts }; border_faults = faults }
+reading_of message counts faults = record { message = message; corrected = record { items = counts }; border_faults = faults }
 
--- The answer for a grid: the number of border faults, where it is more than `limit`; else the first block that no codeword is near; else
--- the fault with which the data part of the corrected codewords is refused; else the message that the data part spells, with the number of
--- corrected codewords of each block and the number of border faults.
+-- The answer for a grid is the number of border faults, where it is more than `limit`; else the first block that no codeword is near; else the
+-- fault with which the data part of the corrected codewords is refused; else the message that the data part spells, with the number of corrected
+-- codewords of each block and the number of border faults.
 pub data ReadAnswer (grid : GridView) (limit : ℕ) (answer : Result Reading ReadFault) : Type 0 where
   border : limit < border_fault_count grid → answer ≡ Err (fault.Border (border_fault_count grid)) → ReadAnswer grid limit answer
-  block : (words : List ℕ) (b : ℕ) → border_fault_count grid ≤ limit → AreHeld grid words → IsFirstBeyond grid.size words b
-      → answer ≡ Err (fault.Block b) → ReadAnswer grid limit answer
+  block : (words : List ℕ) (index : ℕ) → border_fault_count grid ≤ limit → AreHeld grid words → IsFirstBeyond grid.size words index
+      → answer ≡ Err (fault.Block index) → ReadAnswer grid limit answer
   words : (words codewords : List ℕ) (why : WordFault) → border_fault_count grid ≤ limit → IsCorrected grid words codewords
       → Refused (data_part grid.size codewords) why → answer ≡ Err (fault.Words why) → ReadAnswer grid limit answer
-  message : (words codewords : List ℕ) (m : List Item) → border_fault_count grid ≤ limit → IsCorrected grid words codewords
-      → Spells (data_part grid.size codewords) m → answer ≡ Ok (reading_of m (distances grid.size words codewords) (border_fault_count grid)) → ReadAnswer grid limit answer
+  message : (words codewords : List ℕ) (message : List Item) → border_fault_count grid ≤ limit → IsCorrected grid words codewords
+      → Spells (data_part grid.size codewords) message → answer ≡ Ok (reading_of message (distances grid.size words codewords) (border_fault_count grid))
+      → ReadAnswer grid limit answer
 
 -- The answer is a reading of this message.
 abbrev pub IsReadAs : Result Reading ReadFault → List Item → Type 0
-IsReadAs answer m = MatchResult answer (λ reading. reading.message ≡ m) (λ _. ⊥)
+IsReadAs answer wanted = MatchResult answer (λ reading. reading.message ≡ wanted) (λ _. ⊥)

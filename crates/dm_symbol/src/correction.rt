@@ -29,7 +29,7 @@ pub fn mend_block(words: &mut Words, b: usize) -> Option<u8>
     Some(fixed.changed)
 }
 
-/// The codeword near a block. The codewords of a symbol that has one block are that block, and aren't copied.
+/// Gives the codeword near a block. The codewords of a symbol that has one block are that block, and aren't copied.
 fn corrected_block(words: &Words, b: usize) -> Result<Fixed, BeyondLimit>
     requires { b < words.now.size.blocks }
     ensures near { MatchResult result (λ fixed. IsNear (block_check words.now.size) (block_at words.now.size words.now.list b) fixed.word.items) (λ _. HasNear (block_check words.now.size) (block_at words.now.size words.now.list b) → ⊥) }

@@ -20,17 +20,17 @@ pub enum NormalFault {
     TooLong,
 }
 
-/// The normal grid under [`Profile::Ascii`] of the message that the grid says: what [`normal_as`] answers for that profile.
+/// Gives the normal grid under [`Profile::Ascii`] of the message that the grid says: what [`normal_as`] answers for that profile.
 pub fn normal(grid: &Grid, border_limit: u16) -> Result<Grid, NormalFault>
     ensures { IsNormalised Profile.Ascii grid.now border_limit result }
 {
     normal_as(Profile::Ascii, grid, border_limit)
 }
 
-/// The normal grid, under a profile, of the message that the grid says, whatever its size, encodation and damage. Two grids that are
-/// read have equal normal grids under one profile exactly where they say the same, and a normal grid is its own. The answer is `Read`
-/// where [`read`](crate::read()) refuses the grid, with its fault, and `TooLong` where [`write_as`](crate::write_as()) refuses the
-/// message under this profile.
+/// Gives the normal grid, under a profile, of the message that the grid says, whatever its size, encodation and damage. Two grids that are read
+/// have equal normal grids under one profile exactly where they say the same, and a normal grid is its own. The answer is `Read` where
+/// [`read`](crate::read()) refuses the grid, with its fault, and `TooLong` where [`write_as`](crate::write_as()) refuses the message under this
+/// profile.
 pub fn normal_as(profile: Profile, grid: &Grid, border_limit: u16) -> Result<Grid, NormalFault>
     ensures { IsNormalised profile grid.now border_limit result }
 {

@@ -6,7 +6,7 @@ ghost use Rattle.dm_layout.specs.Grid.{square_of_rows};
 
 use dm_layout::Grid;
 
-/// A grid of the smallest size with all cells light: a place for [`write_to`](crate::write_to()) and [`normal_to`](crate::normal_to()).
+/// Gives a grid of the smallest size with all cells light: a place for [`write_to`](crate::write_to()) and [`normal_to`](crate::normal_to()).
 // The copies of the grid have a stack frame of their own, so that no caller's frame has to hold them.
 #[inline(never)]
 pub fn light_grid() -> Grid

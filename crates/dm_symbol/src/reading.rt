@@ -27,7 +27,7 @@ pub struct Reading {
 /// Why a grid is not read.
 #[derive(Clone, Copy, Debug, PartialEq, Eq)]
 pub enum ReadFault {
-    /// More modules of the borders have the wrong colour than the limit allows: so many.
+    /// More modules of the borders have the wrong colour than the limit allows; this is their number.
     Border(u16),
     /// This block has more errors than can be corrected. It is the first such block; blocks count from 0.
     Block(u8),
@@ -36,7 +36,7 @@ pub enum ReadFault {
 }
 
 impl Reading {
-    /// The reading of an empty message, with nothing corrected: a place for [`read_to`].
+    /// Gives the reading of an empty message, with nothing corrected: a place for [`read_to`].
     pub fn new() -> Reading
         ensures { result ≡ reading_of [] [] 0 }
     {
@@ -87,7 +87,7 @@ pub fn read_to(grid: &Grid, border_limit: u16, reading: &mut Reading) -> Result<
     }
 }
 
-/// The codewords that the grid holds.
+/// Gives the codewords that the grid holds.
 // The rows from which they are taken stand in a frame of their own, which is gone when blocks are corrected.
 #[inline(never)]
 fn lifted(grid: &Grid) -> Words

@@ -14,16 +14,16 @@ use dm_code::encode;
 use dm_layout::{Grid, Size, Words, block, lay_to, put_block};
 use dm_words::{Message, Profile, TooLong, add_pads, normal_words_to};
 
-/// The normal grid of a message under [`Profile::Ascii`]: what [`write_as`] answers for that profile.
+/// Gives the normal grid of a message under [`Profile::Ascii`]: what [`write_as`] answers for that profile.
 pub fn write(message: &Message) -> Result<Grid, TooLong>
     ensures { IsWritten Profile.Ascii message.now result }
 {
     write_as(Profile::Ascii, message)
 }
 
-/// The normal grid of a message under a profile: the codewords that the profile chooses, pads and check codewords, laid in the
-/// smallest symbol that holds them (ISO/IEC 16022, symbol construction). The answer is `TooLong` exactly where there is none, since the
-/// largest size has fewer data codewords.
+/// Gives the normal grid of a message under a profile: the codewords that the profile chooses, pads and check codewords, laid in the smallest
+/// symbol that holds them (ISO/IEC 16022, symbol construction). The answer is `TooLong` exactly where there is none, since the largest size has
+/// fewer data codewords.
 pub fn write_as(profile: Profile, message: &Message) -> Result<Grid, TooLong>
     ensures { IsWritten profile message.now result }
 {
@@ -61,8 +61,7 @@ fn lay_in(words: &Words, grid: &mut Grid)
     lay_to(words, grid);
 }
 
-/// The codewords of a symbol of this size with these data codewords: the check codewords make each block a codeword of its
-/// Reed-Solomon code.
+/// Gives the codewords of a symbol of this size with these data codewords: the check codewords make each block a codeword of its Reed-Solomon code.
 // The codewords of a block have a stack frame of their own, which is gone when the grid is made.
 #[inline(never)]
 fn completed(list: &[u8], size: Size) -> Words

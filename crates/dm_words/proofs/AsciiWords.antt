@@ -22,11 +22,11 @@ AreItems m = AllByRecursion IsItem m
 
 -- ---- the words of a unit mean it
 
--- The codeword of a byte below 128.
+-- The codeword of a byte below 128 is the byte and one.
 character_of : (b : ℕ) → b < 128 → codeword_of (b + 1) ≡ Some (codeword.Character b)
 character_of b lt = grind (arith, nat_tests)
 
--- The codeword of a number below 100.
+-- The codeword of a number below 100 is the number and 130.
 digits_of : (n : ℕ) → n < 100 → codeword_of (130 + n) ≡ Some (codeword.Digits n)
 digits_of n lt = grind (arith, nat_tests)
 
@@ -59,7 +59,7 @@ BeginsWithDigit-append [] y h = absurd h
 BeginsWithDigit-append (Byte b ∷ x) y h = h
 BeginsWithDigit-append (Fnc1 ∷ x) y h = absurd h
 
--- The units of a message.
+-- The message is what greedy units mean, whose words are these.
 record HasUnits (m : List Item) (words : List ℕ) : Type 0 where
   units : List (Piece (List Item))
   each : AllByRecursion (λ u. IsAsciiUnit u.words u.what) units
@@ -67,12 +67,12 @@ record HasUnits (m : List Item) (words : List ℕ) : Type 0 where
   items : m ≡ gathered units
   whole : words ≡ spelled units
 
--- A unit before greedy ones, where it is no single digit before a digit.
+-- Units stay greedy with one more before them, unless this is a single digit before a digit.
 greedy_more : (u : Piece (List Item)) (us : List (Piece (List Item))) → (IsOneDigit u.what → BeginsWithDigit (gathered us) → ⊥) → IsGreedy us → IsGreedy (u ∷ us)
 greedy_more u [] apart g = tt
 greedy_more u (v ∷ us) apart g = ((λ one begins. apart one (BeginsWithDigit-append v.what (gathered us) begins)), g)
 
--- A unit before the units of a message.
+-- A unit before a message that has units makes a message that has units, unless it is a single digit before a digit.
 one_more : (words : List ℕ) (items m : List Item) (rest : List ℕ) → IsAsciiUnit words items → (IsOneDigit items → BeginsWithDigit m → ⊥) → HasUnits m rest → HasUnits (items ++ m) (words ++ rest)
 one_more words items m rest u apart h =
     let p : Piece (List Item) = record { words = words; what = items } in
@@ -129,7 +129,7 @@ single_bytes b lt = by_test (ltb b 128) refl where
   by_test true e = (let l : b < 128 = grind (arith, nat_tests) in omega arith, tt)
   by_test false e = (omega arith, (omega arith, tt))
 
--- So is the codeword of two digits.
+-- The codeword of two digits is 0 to 255.
 pair_byte : (b c : ℕ) → is_digit b ≡ true → is_digit c ≡ true → digit_pair b c < 256
 pair_byte b c hb hc =
     let lb : b ≤ 57 = grind (arith, nat_tests) in
@@ -150,19 +150,19 @@ ascii_bytes (Byte b ∷ Byte c ∷ m) fit = both (is_digit b) (is_digit c) refl 
 
 -- ---- it is the only one
 
--- Which codewords are characters.
+-- A codeword that is a character is its byte and one.
 pub character_is : (w b : ℕ) → codeword_of w ≡ Some (codeword.Character b) → (w ≡ b + 1) × (b < 128)
 character_is w b e = grind (arith, nat_tests)
 
--- Which codewords are digit pairs.
+-- A codeword that is a digit pair is its number and 130.
 pub digits_are : (w n : ℕ) → codeword_of w ≡ Some (codeword.Digits n) → (w ≡ n + 130) × (n < 100)
 digits_are w n e = grind (arith, nat_tests)
 
--- Which codeword is FNC1.
+-- Only 232 is FNC1.
 fnc1_is : (w : ℕ) → codeword_of w ≡ Some (codeword.Fnc1) → w ≡ 232
 fnc1_is w e = grind (arith, nat_tests)
 
--- Which codeword is the Upper Shift.
+-- Only 235 is the Upper Shift.
 shift_is : (w : ℕ) → codeword_of w ≡ Some (codeword.UpperShift) → w ≡ 235
 shift_is w e = grind (arith, nat_tests)
 
@@ -180,7 +180,7 @@ ascii_single b (Byte c ∷ rest) apart = not_pair (is_digit b) (is_digit c) apar
 ascii_pair : (b c : ℕ) (rest : List Item) → is_digit b ≡ true → is_digit c ≡ true → ascii (Byte b ∷ Byte c ∷ rest) ≡ digit_pair b c ∷ ascii rest
 ascii_pair b c rest hb hc = rw (hb, hc) refl
 
--- What the items of units begin with, their first unit begins with.
+-- Where the items of units begin with a digit, so do those of the first unit.
 first_begins : (u : Piece (List Item)) (us : List (Piece (List Item))) → IsAsciiUnit u.words u.what → BeginsWithDigit (gathered (u ∷ us)) → BeginsWithDigit u.what
 first_begins u us (character w b k e i) h = rw i (let g = rw i at h in g)
 first_begins u us (digits w n k e i) h = rw i (let g = rw i at h in g)

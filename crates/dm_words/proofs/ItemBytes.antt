@@ -1,11 +1,9 @@
 -- What codewords spell is a message: its bytes are 0 to 255.
-use Rattle.std.proofs.Common.{◌≡◌, ℕ, ◌+◌, ◌<◌, List, [], ◌∷◌, ◌++◌, length, refl, sym, subst, arith, Some, Result, Ok, Err}
-use Rattle.std.specs.Prelude.{OnOk}
+use Rattle.std.proofs.Common.{◌≡◌, ℕ, ◌+◌, ◌<◌, List, [], ◌∷◌, ◌++◌, length, sym, subst, arith, Some}
 use Rattle.std.specs.List.{AllByRecursion}
 use Rattle.std.proofs.lemmas.Bool.Decides.{nat_tests}
 use Rattle.std.proofs.lemmas.List.Elements.{All-from_recursion}
 use Rattle.dm_words.specs.declared.item.Item.{Item}
-use Rattle.dm_words.specs.declared.fault.WordFault.{WordFault}
 use Rattle.dm_words.specs.declared.c40.set.CodeSet.{CodeSet}
 use Rattle.dm_words.specs.declared.c40.set.CodeSet.TheVariants.{C40, Text, X12}
 use Rattle.dm_words.specs.declared.c40.set.Shift.{Shift}
@@ -20,7 +18,6 @@ use Rattle.dm_words.specs.Values.{IsCharacter, plain, by_shift, IsSpelling}
 use Rattle.dm_words.specs.Values as values
 use Rattle.dm_words.specs.Base256.{AreBytes, byte_items}
 use Rattle.dm_words.specs.Spells.{IsPart, ascii, run, segment, Spells}
-use Rattle.dm_words.specs.Places.{outcome}
 use Rattle.dm_words.proofs.AsciiWords.{AreItems, character_is, digits_are}
 
 -- A byte of a basic set is below 128.
@@ -29,7 +26,7 @@ basic_byte C40 v b e = grind (arith, nat_tests)
 basic_byte Text v b e = grind (arith, nat_tests)
 basic_byte X12 v b e = grind (arith, nat_tests)
 
--- So is a byte after a shift.
+-- A byte after a shift is below 128.
 shifted_byte : (set : CodeSet) (shift : Shift) (v b : ℕ) → shifted_of set shift v ≡ Some (shifted.Character b) → b < 128
 shifted_byte X12 shift v b e = absurd cc
 shifted_byte C40 One v b e = grind (arith, nat_tests)
@@ -50,6 +47,7 @@ spelling_item set vs item (values.character b c i) = let lt = character_byte set
 spelling_item set vs item (values.fnc1 s i) = rw i (omega arith)
 spelling_item set vs item (values.raised upper more b u c w i) = let lt = character_byte set more b c in rw i (omega (arith, lt))
 
+-- The items of all spellings are items.
 spellings_items : (set : CodeSet) (ps : List (Piece Item)) → AllByRecursion (λ p. IsSpelling set p.words p.what) ps → AreItems (whats ps)
 spellings_items set [] h = tt
 spellings_items set (p ∷ ps) h = (spelling_item set p.words p.what h.0, spellings_items set ps h.1)
@@ -85,9 +83,3 @@ parts_items place (p ∷ ps) after h = items-append p.what (gathered ps) (part_i
 -- What words spell is a message.
 pub spelled_is_message : (words : List ℕ) (m : List Item) → Spells words m → IsMessage m
 spelled_is_message words m s = All-from_recursion IsItem m (subst AreItems (sym s.items) (parts_items 1 s.parts s.after s.joined))
-
--- So is a message that is left in a place.
-pub left_is_message : {U : Type 0} (words : List ℕ) (r : Result U WordFault) (place : List Item) → ((m : List Item) → outcome r place ≡ Ok m → Spells words m)
-    → OnOk r (IsMessage place)
-left_is_message words (Ok u) place h = spelled_is_message words place (h place refl)
-left_is_message words (Err f) place h = tt

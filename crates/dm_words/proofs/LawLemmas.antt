@@ -22,11 +22,11 @@ one_answer words fit = reading.one_answer words (recursion_from_All (λ w. w < 2
 pub ascii_spells : (m : List Item) (count : ℕ) → IsMessage m → length (ascii m) ≤ count → Spells (padded (ascii m) count) m
 ascii_spells m count fit le = form.ascii_spells m count (recursion_from_All IsItem m fit)
 
--- The ASCII form with pads up to a count has so many codewords.
+-- The ASCII form with pads up to a count has that many codewords.
 pub ascii_count : (m : List Item) (count : ℕ) → length (ascii m) ≤ count → length (padded (ascii m) count) ≡ count
 ascii_count m count le = length-padded (ascii m) count le
 
--- Each of these codewords is 0 to 255.
+-- Each codeword of the ASCII form with pads is 0 to 255.
 pub ascii_codewords : (m : List Item) (count : ℕ) → IsMessage m → AreCodewords (padded (ascii m) count)
 ascii_codewords m count fit = All-from_recursion (λ w. w < 256) (padded (ascii m) count) (padded_bytes (ascii m) count (form.ascii_bytes m (recursion_from_All IsItem m fit)))
 

@@ -33,7 +33,7 @@ short_numbers n le = grind (arith, nat_tests)
 pub long_numbers : (n : ℕ) → 249 < n → length_numbers n ≡ (249 + n / 250) ∷ (n % 250) ∷ []
 long_numbers n big = grind (arith, nat_tests)
 
--- It is a length field for so many bytes.
+-- The length numbers of a count are a length field that says this count.
 says_count : (n : ℕ) (after : List ℕ) → 0 < n → n < 1750 → IsLengthField (length_numbers n) n after
 says_count n after some few =
     elim (cases_lt 249 n) [
@@ -41,7 +41,7 @@ says_count n after some few =
       | inr le ↦ short n some le (short_numbers n le) refl
     ]
 
--- How many codewords a segment has.
+-- A segment has a latch, its length numbers and a codeword for each byte.
 pub length-one_segment : (bytes : List ℕ) → length (one_segment bytes) ≡ 1 + length (length_numbers (length bytes)) + length bytes
 length-one_segment bytes =
     omega (arith, length-written 2 (length_numbers (length bytes) ++ bytes), length-append (length_numbers (length bytes)) bytes)
@@ -90,7 +90,7 @@ segment_spells m count fit none some few =
 
 -- ---- which of the two is taken
 
--- The segment of all bytes of a message.
+-- This is the segment of all bytes of a message.
 abbrev pub segment_of : List Item → List ℕ
 segment_of m = one_segment (map byte_of m)
 
@@ -113,15 +113,15 @@ takes_ascii m le =
     by_test true t = refl
     by_test false t = rw t refl
 
--- The segment was taken, and for these reasons.
+-- The segment is taken for these reasons.
 record IsSegmentTaken (m : List Item) : Type 0 where
   none : has_fnc1 m ≡ false
   less : length (segment_of m) < length (ascii m)
   is : shorter m ≡ segment_of m
 
 -- Either the segment or ASCII is taken.
-which : (m : List Item) → IsSegmentTaken m ⊎ (shorter m ≡ ascii m)
-which m =
+segment_or_ascii : (m : List Item) → IsSegmentTaken m ⊎ (shorter m ≡ ascii m)
+segment_or_ascii m =
     elim (cases_Bool (has_fnc1 m)) [
       | inl some ↦ inr (takes_ascii_with_fnc1 m some)
       | inr none ↦ elim (cases_lt (length (segment_of m)) (length (ascii m))) [
@@ -141,7 +141,7 @@ some_items (i ∷ m) lt = omega arith
 shorter_spells : (m : List Item) (count : ℕ) → IsMessage m → length (shorter m) ≤ count → count ≤ most_data → Spells (padded (shorter m) count) m
 shorter_spells m count fit le most =
     let items = recursion_from_All IsItem m fit in
-    elim (which m) [
+    elim (segment_or_ascii m) [
       | inl s ↦
           let few : length m < 1750 = omega (arith, ap length s.is, length-one_segment (map byte_of m), length-map m byte_of) in
           subst (λ (w : List ℕ). Spells (padded w count) m) (sym s.is) (segment_spells m count items s.none (some_items m s.less) few)
@@ -154,7 +154,7 @@ pub normal_form_spells : (profile : Profile) (m : List Item) (count : ℕ) → I
 normal_form_spells Ascii m count fit le most = form.ascii_spells m count (recursion_from_All IsItem m fit)
 normal_form_spells Shorter m count fit le most = shorter_spells m count fit le most
 
--- The normal form with pads up to a count has so many codewords.
+-- The normal form with pads up to a count has that many codewords.
 pub normal_form_count : (profile : Profile) (m : List Item) (count : ℕ) → length (normal_form profile m) ≤ count → length (padded (normal_form profile m) count) ≡ count
 normal_form_count profile m count le = length-padded (normal_form profile m) count le
 
@@ -171,12 +171,12 @@ segment_bytes bytes = (omega arith, written_bytes 2 (length_numbers (length byte
 normal_form_bytes : (profile : Profile) (m : List Item) → AreItems m → AreBytes (normal_form profile m)
 normal_form_bytes Ascii m fit = ascii_bytes m fit
 normal_form_bytes Shorter m fit =
-    elim (which m) [
+    elim (segment_or_ascii m) [
       | inl s ↦ subst AreBytes (sym s.is) (segment_bytes (map byte_of m))
       | inr e ↦ subst AreBytes (sym e) (ascii_bytes m fit)
     ]
 
--- With pads, they are still bytes.
+-- The codewords of the normal form with pads are bytes.
 pub normal_form_codewords : (profile : Profile) (m : List Item) (count : ℕ) → IsMessage m → AreCodewords (padded (normal_form profile m) count)
 normal_form_codewords profile m count fit =
     All-from_recursion (λ w. w < 256) (padded (normal_form profile m) count)
@@ -185,7 +185,7 @@ normal_form_codewords profile m count fit =
 -- The shorter form isn't longer than ASCII.
 pub shorter_than_ascii : (m : List Item) → length (shorter m) ≤ length (ascii m)
 shorter_than_ascii m =
-    elim (which m) [
+    elim (segment_or_ascii m) [
       | inl s ↦ omega (arith, ap length s.is, s.less)
       | inr e ↦ omega (arith, ap length e)
     ]
@@ -195,7 +195,7 @@ no_fnc1 : (bytes : List ℕ) → has_fnc1 (byte_items bytes) ≡ false
 no_fnc1 [] = refl
 no_fnc1 (b ∷ bytes) = no_fnc1 bytes
 
--- The bytes of a message of bytes are these.
+-- A message that is made of bytes has these bytes.
 items_are_bytes : (bytes : List ℕ) → map byte_of (byte_items bytes) ≡ bytes
 items_are_bytes [] = refl
 items_are_bytes (b ∷ bytes) = ap (λ (r : List ℕ). b ∷ r) (items_are_bytes bytes)
@@ -231,11 +231,11 @@ two_items (Byte b ∷ Byte c ∷ m) = both (is_digit b && is_digit c) (two_items
     both true h k = omega (arith, h)
     both false h k = omega (arith, k, some_single b, length-append (single b) (ascii (Byte c ∷ m)))
 
--- So it has at most two for each codeword of its normal form.
+-- A message has at most two items for each codeword of its normal form.
 pub normal_form_items : (profile : Profile) (m : List Item) → length m ≤ 2 * length (normal_form profile m)
 normal_form_items Ascii m = two_items m
 normal_form_items Shorter m =
-    elim (which m) [
+    elim (segment_or_ascii m) [
       | inl s ↦ omega (arith, ap length s.is, length-one_segment (map byte_of m), length-map m byte_of)
       | inr e ↦ omega (arith, ap length e, two_items m)
     ]
@@ -253,7 +253,7 @@ one_value_more old new vs v so_far e =
 pub one_byte_more : (m : List Item) (i : ℕ) (d : Item) → i < length m → map byte_of (take (i + 1) m) ≡ map byte_of (take i m) ++ byte_of (get_or m i d) ∷ []
 one_byte_more m i d lt = ap (map byte_of) (rw add-one (take-suc m i d lt)) ∙ map-append byte_of (take i m) (get_or m i d ∷ [])
 
--- One turn of the loop that writes the bytes.
+-- One turn of the loop that writes the bytes writes that of one more item.
 pub one_item_more : (old new : List ℕ) (m : List Item) (i b : ℕ) (d : Item) → i < length m → b ≡ byte_of (get_or m i d)
     → old ≡ 231 ∷ written 2 (length_numbers (length m) ++ map byte_of (take i m)) → new ≡ old ++ randomised (length old + 1) b ∷ []
     → new ≡ 231 ∷ written 2 (length_numbers (length m) ++ map byte_of (take (i + 1) m))
@@ -281,7 +281,7 @@ has_room old m i lt so_far =
 
 -- ---- choosing
 
--- How many codewords the segment has.
+-- The segment of a message has a latch, its length numbers and a codeword for each item.
 length-segment_of : (m : List Item) → length (segment_of m) ≡ 1 + length (length_numbers (length m)) + length m
 length-segment_of m =
     let here : length (map byte_of m) ≡ length m = length-map m byte_of in
@@ -294,13 +294,13 @@ chosen_form : (profile : Profile) (m : List Item) (takes marked : Bool) (count w
 chosen_form Ascii m takes marked count words never when mark is lengths = rw (never refl) refl
 chosen_form Shorter m takes marked count words never when mark is lengths = rw (when refl, mark, is, lengths) refl
 
--- The length of the form that was chosen.
+-- The form that was chosen has this length.
 chosen_length : (takes : Bool) (m : List Item) (count words : ℕ) → count ≡ length (segment_of m) → words ≡ length (ascii m)
     → cond takes count words ≡ length (cond takes (segment_of m) (ascii m))
 chosen_length true m count words is lengths = is
 chosen_length false m count words is lengths = lengths
 
--- What is known of the normal form, and of its length, by the length of the segment and what was found of the ASCII form.
+-- The normal form and its length are known from the length of the segment and from what was found of the ASCII form.
 pub form_known : (profile : Profile) (m : List Item) (takes marked : Bool) (count words : ℕ) → (profile ≡ Ascii → takes ≡ false)
     → (profile ≡ Shorter → takes ≡ (not marked && ltb count words)) → marked ≡ has_fnc1 m → count ≡ 1 + length (length_numbers (length m)) + length m → words ≡ length (ascii m)
     → (normal_form profile m ≡ cond takes (segment_of m) (ascii m)) × (cond takes count words ≡ length (normal_form profile m))

@@ -10,7 +10,7 @@ further_pads-push : (place n : ℕ) → further_pads place (suc n) ≡ further_p
 further_pads-push place zero = rw add-zero refl
 further_pads-push place (suc n) = ap (λ (r : List ℕ). pad_at place ∷ r) (further_pads-push (place + 1) n ∙ ap (λ (k : ℕ). further_pads (place + 1) n ++ pad_at k ∷ []) (omega arith))
 
--- One turn of the loop that adds pads.
+-- One turn of the loop that adds pads adds the pad of its place.
 pub pads_more : (words : List ℕ) (place : ℕ) (old new : List ℕ) (p : ℕ) → length words + 2 ≤ place → p ≡ pad_at place → old ≡ words ++ 129 ∷ further_pads (length words + 2) (place - (length words + 2))
     → new ≡ old ++ p ∷ [] → new ≡ words ++ 129 ∷ further_pads (length words + 2) (place + 1 - (length words + 2))
 pads_more words place old new p le is so_far e =
@@ -20,11 +20,12 @@ pads_more words place old new p le is so_far e =
     let more = further_pads-push (length words + 2) n in
     rw (e, so_far, count, more, at, is) (append_assoc words (129 ∷ further_pads (length words + 2) n) (pad_at place ∷ []))
 
--- There are as many pads as asked for.
+-- There are as many further pads as asked for.
 length-further_pads : (place n : ℕ) → length (further_pads place n) ≡ n
 length-further_pads place zero = refl
 length-further_pads place (suc n) = ap suc (length-further_pads (place + 1) n)
 
+-- There are as many pads, the first one among them, as asked for.
 length-pads : (place n : ℕ) → length (pads place n) ≡ n
 length-pads place zero = refl
 length-pads place (suc n) = ap suc (length-further_pads (place + 1) n)
@@ -41,10 +42,12 @@ pad_byte place = by_test (129 + ((149 * place) % 253 + 1)) (leb (129 + ((149 * p
   by_test n true e lt = (let le : n ≤ 254 = grind (arith, nat_tests) in omega arith)
   by_test n false e lt = omega arith
 
+-- Pads that are not the first of the symbol are codewords.
 further_pads_bytes : (place n : ℕ) → AreBytes (further_pads place n)
 further_pads_bytes place zero = tt
 further_pads_bytes place (suc n) = (pad_byte place, further_pads_bytes (place + 1) n)
 
+-- Pads are codewords.
 pads_bytes : (place n : ℕ) → AreBytes (pads place n)
 pads_bytes place zero = tt
 pads_bytes place (suc n) = (omega arith, further_pads_bytes (place + 1) n)

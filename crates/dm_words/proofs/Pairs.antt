@@ -14,11 +14,11 @@ use Rattle.dm_words.proofs.Walks.{IsSound, IsComplete}
 abbrev pub IsBytes : List ℕ → Type 0
 IsBytes words = (i : ℕ) → get_or words i 0 < 256
 
--- So is each word after the first n.
+-- Where each word is 0 to 255, so is each word after the first n.
 pub IsBytes-drop : (n : ℕ) (words : List ℕ) → IsBytes words → IsBytes (drop n words)
 IsBytes-drop n words h i = rw get_or-drop (h (n + i))
 
--- Why no pair stands at the front of the words.
+-- No pair stands at the front of the words, for this reason.
 pub data IsStop (words : List ℕ) (kind : PairsEnd) : Type 0 where
   over : words ≡ [] → kind ≡ stop.SymbolEnd → IsStop words kind
   one_left : (w : ℕ) → w ≢ 254 → words ≡ w ∷ [] → kind ≡ stop.SymbolEnd → IsStop words kind

@@ -29,7 +29,7 @@ pub read_on-stops : (so_far : List Item) (place : ℕ) (words : List ℕ) (why :
 unfolding read_on walk
 read_on-stops so_far place words why e = rw e (ap (λ (i : List Item). read_to i why) (append-nil so_far))
 
--- One turn of the loop, which takes a part.
+-- After a turn of the loop that takes a part, what is read in all is still the same.
 pub goes_on : (words : List ℕ) (at n : ℕ) (old new : List Item) (total : Result (List Item) WordFault) → IsBytes words → at ≤ length words → length old ≤ 2 * at
     → IsPartTakenOrEnd (Ok (Some n)) old new (part_front (at + 1) (drop at words)) → read_on old (at + 1) (drop at words) ≡ total
     → (at + n ≤ length words) × (length new ≤ 2 * (at + n)) × (0 < n) × (read_on new (at + n + 1) (drop (at + n) words) ≡ total)
@@ -45,7 +45,7 @@ goes_on words at n old new total fit in_range room took so_far =
       rw (took.2, ← place, ← rest) (sym one ∙ so_far),
     )
 
--- The end of the loop.
+-- At the end of the loop, what is read in all is what was read so far.
 pub stops_on : (words : List ℕ) (at : ℕ) (old : List Item) (why : Option WordFault) (total : Result (List Item) WordFault)
     → part_front (at + 1) (drop at words) ≡ Stops why → read_on old (at + 1) (drop at words) ≡ total → total ≡ read_to old why
 stops_on words at old why total e so_far = sym so_far ∙ read_on-stops old (at + 1) (drop at words) why e

@@ -19,7 +19,7 @@ use Rattle.dm_words.proofs.Runs.{RunTakes, RunJudged, run_judged, RunFound, run_
 use Rattle.dm_words.proofs.Runs as runs
 use Rattle.dm_words.proofs.Segments.{SegmentJudged, segment_judged, SegmentFound, segment_complete, bad_complete, segment_room}
 
--- What the scan finds at the front: a part, the end, or a fault.
+-- The scan finds at the front a part, the end, or a fault.
 abbrev pub Found : Type 0
 Found = Step (List Item) (Option WordFault)
 
@@ -34,13 +34,13 @@ judged_upper : (place s w : ℕ) (more : List ℕ) (k : Option Codeword) → cod
 judged_upper place s w more (Some (codeword.Character b)) es ew = (ascii (raised s w b es ew refl refl), omega arith, omega arith)
 judged_upper place s w more _ es ew = upper_shift s w more es (λ b h. cc) refl refl
 
--- A run is a part, a faulty run a fault.
+-- A run is a part, and a faulty run is a fault.
 from_run : (set : CodeSet) (place : ℕ) (words : List ℕ) (found : Found) → RunJudged set place words found → Judged place words found
 from_run set place words (Takes n items) j = (run set j.right, j.some, j.within)
 from_run set place words (Stops None) j = absurd j
 from_run set place words (Stops (Some f)) j = faulty_run set j
 
--- A segment is a part, a faulty segment a fault.
+-- A segment is a part, and a faulty segment is a fault.
 from_segment : (place : ℕ) (words : List ℕ) (found : Found) → SegmentJudged place words found → Judged place words found
 from_segment place words (Takes n items) j = (segment j.right, j.some, j.within)
 from_segment place words (Stops None) j = absurd j
@@ -64,7 +64,7 @@ judged : (place : ℕ) (words : List ℕ) → IsBytes words → Judged place wor
 judged place [] fit = nothing refl
 judged place (w ∷ more) fit = judged_by place w more (codeword_of w) refl (λ i. fit (suc i))
 
--- So it is for whatever the scan answers.
+-- Whatever the scan answers is right.
 judged_as : (place : ℕ) (words : List ℕ) (found : Found) → IsBytes words → part_front place words ≡ found → Judged place words found
 judged_as place words found fit e = let P : Found → Type 0 = λ s. Judged place words s in subst P e (judged place words fit)
 

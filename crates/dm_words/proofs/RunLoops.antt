@@ -24,7 +24,7 @@ pub record GoesOn {A : Type 0} {S : Type 0} (total : List A) (front : List A) (r
 abbrev pub PairsGoOn : List ℕ → Walked (List ℕ) PairsEnd → List ℕ → ℕ → Type 0
 PairsGoOn words total front at = GoesOn (flat total.taken) front (flat (pairs_from at (drop at words)).taken) (pairs_from at (drop at words)).place (pairs_from at (drop at words)).why total.place total.why
 
--- One turn of the loop over the pairs.
+-- After a turn of the loop over the pairs, the pairs of the words are still the same.
 pub pairs_turn : (words : List ℕ) (at a b d : ℕ) (old new : List ℕ) (total : Walked (List ℕ) PairsEnd) → IsBytes words → at ≤ length words → pair_front at (drop at words) ≡ Takes 2 (a ∷ b ∷ d ∷ [])
     → new ≡ ((old ++ a ∷ []) ++ b ∷ []) ++ d ∷ [] → PairsGoOn words total old at → PairsGoOn words total new (at + 2) × (at + 2 ≤ length words)
 pairs_turn words at a b d old new total fit le e is so_far =
@@ -42,7 +42,7 @@ pub record Stopped {A S : Type 0} (total front : List A) (at : ℕ) (why : S) (t
   pub place_is : at ≡ total_place
   pub why_is : why ≡ total_why
 
--- The end of the loop over the pairs.
+-- At the end of the loop over the pairs, all pairs were read.
 pub pairs_stop : (words : List ℕ) (at : ℕ) (old : List ℕ) (t : PairsEnd) (total : Walked (List ℕ) PairsEnd) → pair_front at (drop at words) ≡ Stops t → PairsGoOn words total old at
     → Stopped (flat total.taken) old at t total.place total.why
 pairs_stop words at old t total e so_far =
@@ -54,7 +54,7 @@ pairs_stop words at old t total e so_far =
 abbrev pub ItemsGoOn : CodeSet → List ℕ → List Item → Walked Item Rest → List Item → ℕ → Type 0
 ItemsGoOn set values first total front at = GoesOn (first ++ total.taken) front (items_from set at (drop at values)).taken (items_from set at (drop at values)).place (items_from set at (drop at values)).why total.place total.why
 
--- One turn of the loop over the items.
+-- After a turn of the loop over the items, the items of the values are still the same.
 pub items_turn : (set : CodeSet) (values : List ℕ) (at n : ℕ) (item : Item) (first old new : List Item) (total : Walked Item Rest) → at ≤ length values → spelling_front set at (drop at values) ≡ Takes n item
     → new ≡ old ++ item ∷ [] → ItemsGoOn set values first total old at → ItemsGoOn set values first total new (at + n) × (0 < n) × (at + n ≤ length values)
 items_turn set values at n item first old new total le e is so_far =
@@ -66,7 +66,7 @@ items_turn set values at n item first old new total le e is so_far =
     let joined : old ++ (item ∷ (items_from set (at + n) (drop (at + n) values)).taken) ≡ new ++ (items_from set (at + n) (drop (at + n) values)).taken = rw is (simp append_assoc) in
     (record { values = before.values ∙ joined; place_is = before.place_is; why_is = before.why_is }, r.1, omega (arith, r.2, length-drop at values))
 
--- The end of the loop over the items.
+-- At the end of the loop over the items, all items were read.
 pub items_stop : (set : CodeSet) (values : List ℕ) (at : ℕ) (first old : List Item) (k : Rest) (total : Walked Item Rest) → spelling_front set at (drop at values) ≡ Stops k → ItemsGoOn set values first total old at
     → Stopped (first ++ total.taken) old at k total.place total.why
 items_stop set values at first old k total e so_far =
@@ -74,7 +74,7 @@ items_stop set values at first old k total e so_far =
     let before = rw one at so_far in
     record { values = sym (before.values ∙ append-nil old); place_is = sym before.place_is; why_is = sym before.why_is }
 
--- What stands behind a latch at a place, from what the two loops found in the words behind it.
+-- What stands behind a latch at a place is known from what the two loops found in the words behind it.
 pub run_is : (set : CodeSet) (place : ℕ) (words values : List ℕ) (count : ℕ) (t : PairsEnd) (read : ℕ) (k : Rest) (f : Option WordFault)
     → (let part = take (length words - place) (drop place words) in (values ≡ flat (pairs_in part).taken) × (count ≡ (pairs_in part).place) × (t ≡ (pairs_in part).why))
     → read ≡ (items_in set values).place → k ≡ (items_in set values).why → run_fault place count t read k ≡ f

@@ -23,7 +23,7 @@ use Rattle.dm_words.proofs.Values.{ItemRight, Anything, AreSmall, IsRestOf, item
 use Rattle.dm_words.proofs.Pairs.{IsBytes, PairRight, IsStop, over, one_left, unlatched, bad, pair_sound, stop_sound, pair_complete, stop_complete}
 
 module _ {B : Type 0} where
-  -- What the pieces stand for, joined in two ways.
+  -- The lists that the pieces stand for are joined in two ways, with the same result.
   pub flat-whats : (ps : List (Piece (List B))) → flat (whats ps) ≡ gathered ps
   flat-whats [] = refl
   flat-whats (p ∷ ps) = ap (λ (r : List B). p.what ++ r) (flat-whats ps)
@@ -73,7 +73,7 @@ no_bad_pair words t (one_left w ne e is) b = record { end = []; after = w ∷ []
 no_bad_pair words t (unlatched more e is) b = record { end = 254 ∷ []; after = more; ended = unlatch refl; whole = e }
 no_bad_pair words t (bad v w more ne h e is) b = absurd (b is)
 
--- A run as far as its pairs go, from its five parts.
+-- A run is known, as far as its pairs go, by these five parts.
 abbrev open_run : ℕ → ℕ → List ℕ → ℕ → List ℕ → OpenRun
 open_run place pair_words others spelled_values rest =
     record { place = place; pair_words = pair_words; others = others; spelled_values = spelled_values; rest = rest }
@@ -118,9 +118,9 @@ RunJudged set place words (Takes n items) = RunTakes set words n items
 RunJudged set place words (Stops None) = ⊥
 RunJudged set place words (Stops (Some f)) = IsFaultyRun set place words f
 
--- A list that is a front and a back, cut behind the front.
-pub cut : (words front back : List ℕ) (n : ℕ) → words ≡ front ++ back → n ≡ length front → (take n words ≡ front) × (drop n words ≡ back) × (n ≤ length words)
-cut words front back n e len = rw e (take_at front back n (sym len), drop_at front back n (sym len), omega (arith, len, length-append front back))
+-- A list that is a front and a back is cut behind the front.
+pub cut_behind_front : (words front back : List ℕ) (n : ℕ) → words ≡ front ++ back → n ≡ length front → (take n words ≡ front) × (drop n words ≡ back) × (n ≤ length words)
+cut_behind_front words front back n e len = rw e (take_at front back n (sym len), drop_at front back n (sym len), omega (arith, len, length-append front back))
 
 module _ (set : CodeSet) (place w : ℕ) (is_latch : codeword_of w ≡ Some (codeword.Latch set)) (words : List ℕ) (pw : Walked (List ℕ) PairsEnd) (p : Walks pair_front PairRight IsBytes 0 words pw)
     (vw : Walked Item Rest) (v : Walks (spelling_front set) (ItemRight set) Anything 0 (flat pw.taken) vw) where
@@ -149,7 +149,7 @@ module _ (set : CodeSet) (place w : ℕ) (is_latch : codeword_of w ≡ Some (cod
   run_taken end more n e ended filler len =
       let front : List ℕ = w ∷ (spelled p.pieces ++ end) in
       let whole : w ∷ words ≡ front ++ more = ap (λ (r : List ℕ). w ∷ r) (p.whole ∙ ap (λ (r : List ℕ). spelled p.pieces ++ r) e ∙ sym (append_assoc (spelled p.pieces) end more)) in
-      let c = cut (w ∷ words) front more n whole (omega (arith, len, length-append (spelled p.pieces) end)) in
+      let c = cut_behind_front (w ∷ words) front more n whole (omega (arith, len, length-append (spelled p.pieces) end)) in
       let values : AreValues set (gathered p.pieces) vw.taken = record { spellings = v.pieces; each = spellings_right; filler = v.after; ended = filler; whole = joined_values; items_are = v.taken } in
       let run : IsRun set front more vw.taken = record { latch = w; is_latch = is_latch; pairs = p.pieces; each = pairs_right; end = end; ended = ended; whole = refl; values = values } in
       record { right = rw (c.0, c.1) run; some = omega (arith, len); within = c.2 }
@@ -194,7 +194,7 @@ run_judged set place w words is_latch fit =
 
 -- ---- what is right is found
 
--- What is found behind a latch, from the pairs and the spellings that stand there.
+-- The pairs and the spellings that stand behind a latch are found there.
 run_again : (set : CodeSet) (place : ℕ) (pairs : List (Piece (List ℕ))) (others : List ℕ) (t : PairsEnd) (spellings : List (Piece Item)) (rest : List ℕ) (kind : Rest)
     → AllByRecursion (λ p. IsPair p.words p.what) pairs → IsStop others t → AllByRecursion (λ p. IsSpelling set p.words p.what) spellings → IsRestOf set rest kind → gathered pairs ≡ spelled spellings ++ rest
     → run_front set place (spelled pairs ++ others) ≡ run_unless (run_fault place (length (spelled pairs)) t (length (spelled spellings)) kind) (1 + length (spelled pairs) + end_length t) (whats spellings)
@@ -209,7 +209,7 @@ run_again set place pairs others t spellings rest kind each stop_right each_spel
     let values : flat (whats pairs) ≡ spelled spellings ++ rest = flat-whats pairs ∙ whole in
     rw (p, values, v) refl
 
--- The latch of a run, and what is found behind it.
+-- The words begin with the latch of a run, and this answer is found behind it.
 pub record RunFound (set : CodeSet) (place : ℕ) (words : List ℕ) (answer : Step (List Item) (Option WordFault)) : Type 0 where
   pub latch : ℕ
   pub others : List ℕ
@@ -229,6 +229,7 @@ fault_none place n values stop.Unlatch ne = refl
 fault_none place n values stop.SymbolEnd ne = refl
 fault_none place n values stop.BadPair ne = absurd (ne refl)
 
+-- A run that stands at the front is found.
 pub run_complete : (set : CodeSet) (place : ℕ) (words after : List ℕ) (items : List Item) → IsRun set words after items → RunFound set place (words ++ after) (Takes (length words) items) × (0 < length words)
 run_complete set place words after items r =
     let t = end_found r.end after r.ended in
@@ -245,7 +246,7 @@ run_complete set place words after items r =
       omega (arith, len),
     )
 
--- What a fault of a run tells of the end of its pairs and of the rest of its values.
+-- A fault of a run tells how its pairs end and what the rest of its values is.
 record FaultFound (set : CodeSet) (place values : ℕ) (rest : List ℕ) (n : ℕ) (words : List ℕ) (f : WordFault) : Type 0 where
   end : PairsEnd
   kind : Rest

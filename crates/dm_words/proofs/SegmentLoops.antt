@@ -1,4 +1,4 @@
--- The loop that reads a segment, and the ways in which it is left.
+-- The loop that reads a segment, and the ways in which it is length-others.
 use Rattle.std.proofs.Common.{◌≡◌, ℕ, zero, suc, ◌+◌, ◌-◌, ◌<◌, ◌≤◌, List, [], ◌∷◌, ◌++◌, length, take, drop, get_or, refl, sym, ap, subst, ◌∙◌, append_assoc, add-zero, add-one, arith, Option, Some}
 use Rattle.std.proofs.lemmas.List.{take-append-drop, length-take, get_or-drop, length-drop, nil_from_length, take_all}
 use Rattle.std.proofs.Math.Seq.{take-suc, drop-cons}
@@ -11,7 +11,7 @@ use Rattle.dm_words.specs.inner.Scan.Walk.{Step, Takes, Stops}
 use Rattle.dm_words.specs.inner.Scan.Fronts.{plain_at, plain, segment_front}
 use Rattle.dm_words.proofs.Segments.{segment_again, bad_again}
 
--- The bytes of two lists, joined, as items.
+-- The items of two lists of bytes, joined, are those of each, joined.
 byte_items-append : (a b : List ℕ) → byte_items (a ++ b) ≡ byte_items a ++ byte_items b
 byte_items-append [] b = refl
 byte_items-append (x ∷ a) b = ap (λ (r : List Item). Byte x ∷ r) (byte_items-append a b)
@@ -21,7 +21,7 @@ pub length-plain : (place : ℕ) (ws : List ℕ) → length (plain place ws) ≡
 length-plain place [] = refl
 length-plain place (w ∷ ws) = ap suc (length-plain (place + 1) ws)
 
--- The value of the codeword at an index.
+-- The value at an index is that of the codeword there.
 get_or-plain : (place : ℕ) (ws : List ℕ) (i : ℕ) → i < length ws → get_or (plain place ws) i 0 ≡ plain_at (place + i) (get_or ws i 0)
 get_or-plain place [] i lt = absurd (omega arith)
 get_or-plain place (w ∷ ws) zero lt = rw add-zero refl
@@ -34,9 +34,9 @@ pub bytes_more : (words : List ℕ) (start i b : ℕ) (first old new : List Item
 bytes_more words start i b first old new lt is so_far e =
     let vs = plain (start + 1) (drop start words) in
     let long : i < length (drop start words) = omega (arith, length-drop start words) in
-    let long2 : i < length vs = omega (arith, length-plain (start + 1) (drop start words)) in
+    let within : i < length vs = omega (arith, length-plain (start + 1) (drop start words)) in
     let value : get_or vs i 0 ≡ b = get_or-plain (start + 1) (drop start words) i long ∙ ap (λ (k : ℕ). plain_at k (get_or (drop start words) i 0)) (omega arith) ∙ ap (plain_at (start + i + 1)) (get_or-drop start words i 0) ∙ sym is in
-    let more : take (i + 1) vs ≡ take i vs ++ b ∷ [] = rw add-one (take-suc vs i 0 long2 ∙ ap (λ (k : ℕ). take i vs ++ k ∷ []) value) in
+    let more : take (i + 1) vs ≡ take i vs ++ b ∷ [] = rw add-one (take-suc vs i 0 within ∙ ap (λ (k : ℕ). take i vs ++ k ∷ []) value) in
     e ∙ ap (λ (r : List Item). r ++ Byte b ∷ []) so_far ∙ append_assoc first (byte_items (take i vs)) (Byte b ∷ []) ∙ ap (λ (r : List Item). first ++ r) (sym (byte_items-append (take i vs) (b ∷ [])) ∙ ap byte_items (sym more))
 
 -- The values from an index on begin with the value there.
@@ -45,7 +45,7 @@ plain_first words place k d lt is =
     let cut : drop k words ≡ get_or words k 0 ∷ drop (k + 1) words = drop-cons words k 0 lt ∙ ap (λ (j : ℕ). get_or words k 0 ∷ drop j words) (sym (add-one k)) in
     ap (plain place) cut ∙ ap (λ (v : ℕ). v ∷ plain (place + 1) (drop (k + 1) words)) (sym is)
 
--- A length field and as many bytes as it says.
+-- A length field and as many bytes as it says are taken.
 pub segment_takes : (place : ℕ) (field values : List ℕ) (n : ℕ) → n ≤ length values → ((after : List ℕ) → IsLengthField field n after) → segment_front place (field ++ values) ≡ Takes (1 + length field + n) (byte_items (take n values))
 segment_takes place field values n le counted =
     let len : length (take n values) ≡ n = omega (arith, length-take n values) in
@@ -53,10 +53,14 @@ segment_takes place field values n le counted =
     let again = segment_again place field (take n values) (drop n values) (subst (λ (k : ℕ). IsLengthField field k (drop n values)) (sym len) (counted (drop n values))) in
     ap (segment_front place) (sym regrouped) ∙ again ∙ ap (λ (k : ℕ). Takes (1 + length field + k) (byte_items (take n values))) len
 
+-- Equal numbers make equal pairs.
+pair_path : {a b x y : ℕ} → a ≡ x → b ≡ y → (let p : ℕ × ℕ = (a, b) in p) ≡ (x, y)
+pair_path e f = cc
+
 -- ---- the exits of the function that reads a segment whose latch stands at an index
 
 module _ (words : List ℕ) (at : ℕ) where
-  -- What is found behind the latch.
+  -- This answer is found behind the latch.
   abbrev pub Answers : Step (List Item) (Option WordFault) → Type 0
   Answers answer = segment_front (at + 1) (plain (at + 2) (drop (at + 1) words)) ≡ answer
 
@@ -64,62 +68,72 @@ module _ (words : List ℕ) (at : ℕ) where
   abbrev Bad : Type 0
   Bad = Answers (Stops (Some (fault.Length (at + 1))))
 
+  -- The length is bad where no codeword follows the latch.
   pub nothing_left : length words - at - 1 ≡ 0 → Bad
   nothing_left e =
       let none : drop (at + 1) words ≡ [] = nil_from_length (drop (at + 1) words) (omega (arith, length-drop (at + 1) words)) in
       rw none (bad_again (at + 1) [] (missing refl))
 
   module _ (d : ℕ) (lt : at + 1 < length words) (is : d ≡ plain_at (at + 1 + 1) (get_or words (at + 1) 0)) where
+    -- These are the values behind the first length number.
     abbrev others : List ℕ
     others = plain (at + 2 + 1) (drop (at + 2) words)
 
-    shape : plain (at + 2) (drop (at + 1) words) ≡ d ∷ others
-    shape = plain_first words (at + 2) (at + 1) d lt (is ∙ ap (λ (k : ℕ). plain_at k (get_or words (at + 1) 0)) (omega arith)) ∙ ap (λ (k : ℕ × ℕ). d ∷ plain k.0 (drop k.1 words)) (pair_path (omega arith) (omega arith)) where
-      pair_path : {a b x y : ℕ} → a ≡ x → b ≡ y → (let p : ℕ × ℕ = (a, b) in p) ≡ (x, y)
-      pair_path e f = cc
+    -- The values behind the latch are the first length number and these.
+    values_are : plain (at + 2) (drop (at + 1) words) ≡ d ∷ others
+    values_are = plain_first words (at + 2) (at + 1) d lt (is ∙ ap (λ (k : ℕ). plain_at k (get_or words (at + 1) 0)) (omega arith)) ∙ ap (λ (k : ℕ × ℕ). d ∷ plain k.0 (drop k.1 words)) (pair_path (omega arith) (omega arith))
 
-    left : length others ≡ length words - at - 2
-    left = length-plain (at + 2 + 1) (drop (at + 2) words) ∙ omega (arith, length-drop (at + 2) words)
+    -- There are as many of these values as codewords behind the first length number.
+    length-others : length others ≡ length words - at - 2
+    length-others = length-plain (at + 2 + 1) (drop (at + 2) words) ∙ omega (arith, length-drop (at + 2) words)
 
+    -- A first length number of 0 takes all bytes up to the end of the symbol.
     pub to_the_end_found : d ≡ 0 → Answers (Takes (length words - at - 1 + 1) (byte_items (take (length words - at - 1 - 1) others)))
     unfolding segment_front
     to_the_end_found zero_d =
-        let all : take (length words - at - 1 - 1) others ≡ others = take_all _ others (omega (arith, left)) in
-        let n : 2 + length others ≡ length words - at - 1 + 1 = omega (arith, left) in
-        rw (shape, zero_d, all, ← n) refl
+        let all : take (length words - at - 1 - 1) others ≡ others = take_all _ others (omega (arith, length-others)) in
+        let n : 2 + length others ≡ length words - at - 1 + 1 = omega (arith, length-others) in
+        rw (values_are, zero_d, all, ← n) refl
 
+    -- The length is bad where fewer bytes are left than one length number says.
     pub past_short_found : d ≤ 249 → length words - at - 1 - 1 < d → Bad
-    past_short_found le past = rw shape (bad_again (at + 1) (d ∷ others) (past_short d others le refl (omega (arith, left))))
+    past_short_found le past = rw values_are (bad_again (at + 1) (d ∷ others) (past_short d others le refl (omega (arith, length-others))))
 
+    -- A first length number of 1 to 249 takes as many bytes as it says.
     pub short_found : 0 < d → d ≤ 249 → d ≤ length words - at - 1 - 1 → Answers (Takes (d + 2) (byte_items (take d others)))
     short_found pos le within =
-        let found = segment_takes (at + 1) (d ∷ []) others d (omega (arith, left)) (λ after. short d pos le refl refl) in
-        rw shape (found ∙ ap (λ (k : ℕ). Takes k (byte_items (take d others))) (omega arith))
+        let found = segment_takes (at + 1) (d ∷ []) others d (omega (arith, length-others)) (λ after. short d pos le refl refl) in
+        rw values_are (found ∙ ap (λ (k : ℕ). Takes k (byte_items (take d others))) (omega arith))
 
+    -- The length is bad where no second length number follows a first one of 250 or more.
     pub no_second_found : 249 < d → length words - at - 1 ≡ 1 → Bad
     no_second_found big e =
-        let none : others ≡ [] = nil_from_length others (omega (arith, left)) in
-        rw (shape, none) (bad_again (at + 1) (d ∷ []) (no_second d big refl))
+        let none : others ≡ [] = nil_from_length others (omega (arith, length-others)) in
+        rw (values_are, none) (bad_again (at + 1) (d ∷ []) (no_second d big refl))
 
     module _ (big : 249 < d) (f : ℕ) (lt2 : at + 2 < length words) (is2 : f ≡ plain_at (at + 2 + 1) (get_or words (at + 2) 0)) where
-      abbrev last : List ℕ
-      last = plain (at + 3 + 1) (drop (at + 3) words)
+      -- These are the values behind the second length number.
+      abbrev more : List ℕ
+      more = plain (at + 3 + 1) (drop (at + 3) words)
 
-      shape2 : others ≡ f ∷ last
-      shape2 = plain_first words (at + 2 + 1) (at + 2) f lt2 is2 ∙ ap (λ (k : ℕ × ℕ). f ∷ plain k.0 (drop k.1 words)) (pair_path (omega arith) (omega arith)) where
-        pair_path : {a b x y : ℕ} → a ≡ x → b ≡ y → (let p : ℕ × ℕ = (a, b) in p) ≡ (x, y)
-        pair_path e f = cc
+      -- The values behind the first length number are the second one and these.
+      others_are : others ≡ f ∷ more
+      others_are = plain_first words (at + 2 + 1) (at + 2) f lt2 is2 ∙ ap (λ (k : ℕ × ℕ). f ∷ plain k.0 (drop k.1 words)) (pair_path (omega arith) (omega arith))
 
-      left2 : length last ≡ length words - at - 3
-      left2 = length-plain (at + 3 + 1) (drop (at + 3) words) ∙ omega (arith, length-drop (at + 3) words)
+      -- There are as many of these values as codewords behind the second length number.
+      length-more : length more ≡ length words - at - 3
+      length-more = length-plain (at + 3 + 1) (drop (at + 3) words) ∙ omega (arith, length-drop (at + 3) words)
 
+      -- The length is bad where the second length number is above 249.
       pub wrong_second_found : 249 < f → Bad
-      wrong_second_found wrong = rw (shape, shape2) (bad_again (at + 1) (d ∷ f ∷ last) (wrong_second d f last big wrong refl))
+      wrong_second_found wrong = rw (values_are, others_are) (bad_again (at + 1) (d ∷ f ∷ more) (wrong_second d f more big wrong refl))
 
+      -- The length is bad where fewer bytes are left than the two length numbers say.
       pub past_long_found : f ≤ 249 → length words - at - 1 - 2 < long_count d f → Bad
-      past_long_found le past = rw (shape, shape2) (bad_again (at + 1) (d ∷ f ∷ last) (past_long d f last big le refl (omega (arith, left2))))
+      past_long_found le past = rw (values_are, others_are) (bad_again (at + 1) (d ∷ f ∷ more) (past_long d f more big le refl (omega (arith, length-more))))
 
-      pub long_found : f ≤ 249 → long_count d f ≤ length words - at - 1 - 2 → Answers (Takes (long_count d f + 3) (byte_items (take (long_count d f) last)))
+      -- Two length numbers take as many bytes as they say.
+      pub long_found : f ≤ 249 → long_count d f ≤ length words - at - 1 - 2 → Answers (Takes (long_count d f + 3) (byte_items (take (long_count d f) more)))
       long_found le within =
-          let found = segment_takes (at + 1) (d ∷ f ∷ []) last (long_count d f) (omega (arith, left2)) (λ after. long d f big (omega (arith, is)) le refl refl) in
-          rw (shape, shape2) (found ∙ ap (λ (k : ℕ). Takes k (byte_items (take (long_count d f) last))) (omega arith))
+          let found = segment_takes (at + 1) (d ∷ f ∷ []) more (long_count d f) (omega (arith, length-more)) (λ after. long d f big (omega (arith, is)) le refl refl) in
+          rw (values_are, others_are) (found ∙ ap (λ (k : ℕ). Takes k (byte_items (take (long_count d f) more))) (omega arith))

@@ -12,7 +12,7 @@ use Rattle.dm_words.specs.Base256.{random_at, written, AreBytes, byte_items, lon
 use Rattle.dm_words.specs.inner.Scan.Walk.{Step, Takes, Stops}
 use Rattle.dm_words.specs.inner.Scan.Fronts.{plain, segment_by, long_segment, segment_front}
 use Rattle.dm_words.proofs.Pairs.{IsBytes}
-use Rattle.dm_words.proofs.Runs.{cut}
+use Rattle.dm_words.proofs.Runs.{cut_behind_front}
 
 -- ---- written values and plain ones
 
@@ -94,7 +94,7 @@ module _ (place w : ℕ) (is_latch : codeword_of w ≡ Some codeword.Base256) (w
       let front : List ℕ = w ∷ written (place + 1) (field ++ bytes) in
       let back : List ℕ = written (place + 1 + length (field ++ bytes)) more in
       let whole : w ∷ words ≡ front ++ back = ap (λ (r : List ℕ). w ∷ r) (e ∙ written-append (place + 1) (field ++ bytes) more) in
-      let c = cut (w ∷ words) front back n whole (omega (arith, len, length-written (place + 1) (field ++ bytes), length-append field bytes)) in
+      let c = cut_behind_front (w ∷ words) front back n whole (omega (arith, len, length-written (place + 1) (field ++ bytes), length-append field bytes)) in
       let right : IsSegment place front back (byte_items bytes) = record { latch = w; is_latch = is_latch; field = field; bytes = bytes; whole = refl; in_range = fit; counted = counted; items_are = refl } in
       record { right = rw (c.0, c.1) right; some = omega (arith, len); within = c.2 }
 
@@ -192,7 +192,7 @@ bad_again place values (past_long d f more big le e lt) =
     let g : ltb (length more) (long_count d f) ≡ true = grind (arith, nat_tests) in
     rw (e, a, b, c, g) refl
 
--- The latch of a segment, and what is found behind it.
+-- The words begin with the latch of a segment, and this answer is found behind it.
 pub record SegmentFound (place : ℕ) (words : List ℕ) (answer : Step (List Item) (Option WordFault)) : Type 0 where
   pub latch : ℕ
   pub others : List ℕ
@@ -200,7 +200,7 @@ pub record SegmentFound (place : ℕ) (words : List ℕ) (answer : Step (List It
   pub is_latch : codeword_of latch ≡ Some codeword.Base256
   pub found : segment_front place (plain (place + 1) others) ≡ answer
 
--- The values of written values and further words.
+-- Words that are written for values, and further words, stand for these values and for those of the further words.
 plain-append : (place : ℕ) (vs ws : List ℕ) → AreBytes vs → plain place (written place vs ++ ws) ≡ vs ++ plain (place + length vs) ws
 plain-append place [] ws fit = rw add-zero refl
 plain-append place (v ∷ vs) ws fit =

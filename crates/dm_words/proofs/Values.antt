@@ -26,7 +26,7 @@ use Rattle.dm_words.proofs.Walks.{IsSound, IsComplete}
 abbrev pub ItemRight : CodeSet → ℕ → List ℕ → List ℕ → Item → Type 0
 ItemRight set place values after item = IsSpelling set values item
 
--- No premise.
+-- Any values will do.
 abbrev pub Anything : List ℕ → Type 0
 Anything values = Unit {0}
 
@@ -40,7 +40,7 @@ basic_some C40 v lt e = grind (arith, nat_tests)
 basic_some Text v lt e = grind (arith, nat_tests)
 basic_some X12 v lt e = grind (arith, nat_tests)
 
--- What stands behind the last whole spelling, by its kind.
+-- A rest of this kind stands behind the last whole spelling.
 abbrev pub IsRestOf : CodeSet → List ℕ → Rest → Type 0
 IsRestOf set values left.Complete = IsFiller set values
 IsRestOf set values left.Waiting = IsWaiting set values
@@ -51,22 +51,22 @@ IsRestOf set values (left.Meaningless index) = BeginsWithoutMeaning set values i
 abbrev Right : CodeSet → List ℕ → ℕ → Item → Type 0
 Right set values n item = IsSpelling set (take n values) item × (0 < n) × (n ≤ length values)
 
--- What is found, or what is left, at values that begin in this way.
+-- What is found, or what is left, is right for values that begin in this way.
 abbrev Judged : CodeSet → List ℕ → Step Item Rest → Type 0
 Judged set values (Takes n item) = Right set values n item
 Judged set values (Stops kind) = AreSmall values → IsRestOf set values kind
 
--- A shift and the value after it.
-two : (set : CodeSet) (s v : ℕ) (shift : Shift) (meaning : Option Shifted) → basic_of set s ≡ Some (basic.Shift shift) → shifted_of set shift v ≡ meaning → IsShifted set (s ∷ v ∷ []) meaning
-two set s v shift meaning es ev = record { first = s; second = v; shift = shift; is_shift = es; means = ev; whole = refl }
+-- A shift and the value after it have this meaning.
+shift_means : (set : CodeSet) (s v : ℕ) (shift : Shift) (meaning : Option Shifted) → basic_of set s ≡ Some (basic.Shift shift) → shifted_of set shift v ≡ meaning → IsShifted set (s ∷ v ∷ []) meaning
+shift_means set s v shift meaning es ev = record { first = s; second = v; shift = shift; is_shift = es; means = ev; whole = refl }
 
 -- What is found behind an Upper Shift and a shift is right.
 judged_raised_shifted : (set : CodeSet) (s v t w : ℕ) (shift : Shift) (more : List ℕ) (k : Option Shifted) → IsUpperShift set (s ∷ v ∷ []) → basic_of set t ≡ Some (basic.Shift shift) → shifted_of set shift w ≡ k
     → Judged set (s ∷ v ∷ t ∷ w ∷ more) (raised_shifted k)
-judged_raised_shifted set s v t w shift more (Some (shifted.Character b)) u et ew = (raised (s ∷ v ∷ []) (t ∷ w ∷ []) b u (by_shift (two set t w shift _ et ew)) refl refl, omega arith, omega arith)
-judged_raised_shifted set s v t w shift more (Some shifted.Fnc1) u et ew = λ fit. record { upper = s ∷ v ∷ []; two = t ∷ w ∷ []; more = more; is_upper = u; is_wrong = inl (two set t w shift _ et ew); whole = refl }
-judged_raised_shifted set s v t w shift more (Some shifted.UpperShift) u et ew = λ fit. record { upper = s ∷ v ∷ []; two = t ∷ w ∷ []; more = more; is_upper = u; is_wrong = inr (two set t w shift _ et ew); whole = refl }
-judged_raised_shifted set s v t w shift more None u et ew = λ fit. after_upper_shift (s ∷ v ∷ []) (t ∷ w ∷ []) more u (two set t w shift _ et ew) refl refl
+judged_raised_shifted set s v t w shift more (Some (shifted.Character b)) u et ew = (raised (s ∷ v ∷ []) (t ∷ w ∷ []) b u (by_shift (shift_means set t w shift _ et ew)) refl refl, omega arith, omega arith)
+judged_raised_shifted set s v t w shift more (Some shifted.Fnc1) u et ew = λ fit. record { upper = s ∷ v ∷ []; two = t ∷ w ∷ []; more = more; is_upper = u; is_wrong = inl (shift_means set t w shift _ et ew); whole = refl }
+judged_raised_shifted set s v t w shift more (Some shifted.UpperShift) u et ew = λ fit. record { upper = s ∷ v ∷ []; two = t ∷ w ∷ []; more = more; is_upper = u; is_wrong = inr (shift_means set t w shift _ et ew); whole = refl }
+judged_raised_shifted set s v t w shift more None u et ew = λ fit. after_upper_shift (s ∷ v ∷ []) (t ∷ w ∷ []) more u (shift_means set t w shift _ et ew) refl refl
 
 -- What is found behind an Upper Shift is right.
 judged_raised : (set : CodeSet) (s v t : ℕ) (more : List ℕ) (k : Option Basic) → IsUpperShift set (s ∷ v ∷ []) → basic_of set t ≡ k → Judged set (s ∷ v ∷ t ∷ more) (raised_by set more k)
@@ -77,11 +77,11 @@ judged_raised set s v t (w ∷ more) (Some (basic.Shift shift)) u et = judged_ra
 
 -- What is found behind a shift is right.
 judged_shifted : (set : CodeSet) (s v : ℕ) (shift : Shift) (more : List ℕ) (k : Option Shifted) → basic_of set s ≡ Some (basic.Shift shift) → shifted_of set shift v ≡ k → Judged set (s ∷ v ∷ more) (shifted_by set more k)
-judged_shifted set s v shift more (Some (shifted.Character b)) es ev = (character b (by_shift (two set s v shift _ es ev)) refl, omega arith, omega arith)
-judged_shifted set s v shift more (Some shifted.Fnc1) es ev = (fnc1 (two set s v shift _ es ev) refl, omega arith, omega arith)
-judged_shifted set s v shift more None es ev = λ fit. at_once (s ∷ v ∷ []) more (two set s v shift _ es ev) refl refl
-judged_shifted set s v shift [] (Some shifted.UpperShift) es ev = λ fit. record { upper = s ∷ v ∷ []; filler = []; is_upper = two set s v shift _ es ev; ended = nothing refl; whole = refl }
-judged_shifted set s v shift (t ∷ more) (Some shifted.UpperShift) es ev = judged_raised set s v t more (basic_of set t) (two set s v shift _ es ev) refl
+judged_shifted set s v shift more (Some (shifted.Character b)) es ev = (character b (by_shift (shift_means set s v shift _ es ev)) refl, omega arith, omega arith)
+judged_shifted set s v shift more (Some shifted.Fnc1) es ev = (fnc1 (shift_means set s v shift _ es ev) refl, omega arith, omega arith)
+judged_shifted set s v shift more None es ev = λ fit. at_once (s ∷ v ∷ []) more (shift_means set s v shift _ es ev) refl refl
+judged_shifted set s v shift [] (Some shifted.UpperShift) es ev = λ fit. record { upper = s ∷ v ∷ []; filler = []; is_upper = shift_means set s v shift _ es ev; ended = nothing refl; whole = refl }
+judged_shifted set s v shift (t ∷ more) (Some shifted.UpperShift) es ev = judged_raised set s v t more (basic_of set t) (shift_means set s v shift _ es ev) refl
 
 -- What is found by the meaning of the first value is right.
 judged_spelling : (set : CodeSet) (s : ℕ) (more : List ℕ) (k : Option Basic) → basic_of set s ≡ k → Judged set (s ∷ more) (spelling_by set more k)
@@ -148,7 +148,7 @@ rest_complete set place values (left.Meaningless index) (after_upper_shift upper
 
 -- ---- what can stand behind the last whole spelling has no whole spelling at its front
 
--- The kind of a rest.
+-- A rest has a kind.
 kind_of : (set : CodeSet) (values : List ℕ) → IsRest set values → (kind : Rest) × IsRestOf set values kind
 kind_of set values (complete r) = (left.Complete, r)
 kind_of set values (waiting r) = (left.Waiting, r)

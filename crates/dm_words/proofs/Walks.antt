@@ -5,7 +5,7 @@ use Rattle.dm_words.specs.Joined.{Piece, spelled, whats, AreJoined}
 use Rattle.dm_words.specs.inner.Scan.Walk.{Step, Takes, Stops, Walked, and_before, by_step, walk, walk_all}
 
 module _ {A S : Type 0} where
-  -- The pieces that a walk took, and where it stopped.
+  -- A walk took these pieces and stopped in front of these words.
   pub record Walks (step : ℕ → List ℕ → Step A S) (IsRight : ℕ → List ℕ → List ℕ → A → Type 0) (Fit : List ℕ → Type 0)
       (place : ℕ) (words : List ℕ) (w : Walked A S) : Type 0 where
     pub pieces : List (Piece A)
@@ -29,7 +29,7 @@ module _ {A S : Type 0} where
       → (step place (words ++ after) ≡ Takes (length words) a) × (0 < length words)
 
   module _ (step : ℕ → List ℕ → Step A S) (IsRight : ℕ → List ℕ → List ℕ → A → Type 0) (Fit : List ℕ → Type 0) (never : S) where
-    -- One more piece before a walk.
+    -- A walk takes a right piece first, and then goes on as a walk over the words behind it.
     then_walks : (place : ℕ) (words : List ℕ) (n : ℕ) (a : A) (w : Walked A S) → IsRight place (take n words) (drop n words) a → n ≤ length words
         → Walks step IsRight Fit (place + n) (drop n words) w → Walks step IsRight Fit place words (and_before a w)
     then_walks place words n a w right le v =
@@ -48,6 +48,7 @@ module _ {A S : Type 0} where
           fits = v.fits;
         }
 
+    -- Whatever stands at the front, a walk that is sound takes right pieces.
     walks_by : (fuel place : ℕ) (words : List ℕ) (s : Step A S) → step place words ≡ s → length words < suc fuel → Fit words → IsSound step IsRight Fit
         → ((p : ℕ) (ws : List ℕ) → length ws < fuel → Fit ws → Walks step IsRight Fit p ws (walk step never fuel p ws))
         → Walks step IsRight Fit place words (by_step s (λ n a. and_before a (walk step never fuel (place + n) (drop n words))) (λ z. record { taken = []; place = place; why = z }))
@@ -58,12 +59,14 @@ module _ {A S : Type 0} where
     walks_by fuel place words (Stops z) e lt fit sound again =
         record { pieces = []; after = words; whole = refl; joined = tt; taken = refl; place_is = omega arith; stopped = e; fits = fit }
 
+    -- A walk whose steps are sound takes right pieces.
     pub walks : IsSound step IsRight Fit → (fuel place : ℕ) (words : List ℕ) → length words < fuel → Fit words
         → Walks step IsRight Fit place words (walk step never fuel place words)
     unfolding walk
     walks sound zero place words lt fit = absurd (omega arith)
     walks sound (suc fuel) place words lt fit = walks_by fuel place words (step place words) refl lt fit sound (walks sound fuel)
 
+    -- A walk whose steps are complete takes the pieces that are joined.
     pub walk-joined : IsComplete step IsRight → (fuel place : ℕ) (pieces : List (Piece A)) (after : List ℕ) (s : S)
         → AreJoined IsRight place pieces after → step (place + length (spelled pieces)) after ≡ Stops s → length (spelled pieces ++ after) < fuel
         → walk step never fuel place (spelled pieces ++ after) ≡ record { taken = whats pieces; place = place + length (spelled pieces); why = s }
@@ -81,7 +84,7 @@ module _ {A S : Type 0} where
         rw (grouped, c.0, drop_at p.words (spelled ps ++ after) (length p.words) refl, rest, there) refl
 
 module _ {A S : Type 0} (step : ℕ → List ℕ → Step A S) (IsRight : ℕ → List ℕ → List ℕ → A → Type 0) (Fit : List ℕ → Type 0) (never : S) where
-  -- The same walk, by what stands at the front.
+  -- Whatever stands at the front, more fuel changes nothing.
   same_by : (f g place : ℕ) (words : List ℕ) (s : Step A S) → step place words ≡ s → length words < suc f → length words < suc g → Fit words → IsSound step IsRight Fit
       → ((place : ℕ) (words : List ℕ) → length words < f → length words < g → Fit words → walk step never f place words ≡ walk step never g place words)
       → by_step s (λ n a. and_before a (walk step never f (place + n) (drop n words))) (λ z. record { taken = []; place = place; why = z })
@@ -98,7 +101,7 @@ module _ {A S : Type 0} (step : ℕ → List ℕ → Step A S) (IsRight : ℕ �
   walk-fuel sound (suc f) zero place words lf lg fit = absurd (omega arith)
   walk-fuel sound (suc f) (suc g) place words lf lg fit = same_by f g place words (step place words) refl lf lg fit sound (walk-fuel sound f g)
 
-  -- A walk over all words, from its first piece on.
+  -- A walk over all words takes its first piece and then walks over the others.
   pub walk_all-takes : IsSound step IsRight Fit → (place : ℕ) (words : List ℕ) (n : ℕ) (a : A) → Fit words → step place words ≡ Takes n a
       → walk_all step never place words ≡ and_before a (walk_all step never (place + n) (drop n words))
   unfolding walk
@@ -106,7 +109,7 @@ module _ {A S : Type 0} (step : ℕ → List ℕ → Step A S) (IsRight : ℕ �
       let r = sound.right place words n a fit e in
       rw e (ap (and_before a) (walk-fuel sound (length words) (suc (length (drop n words))) (place + n) (drop n words) (omega (arith, r.1, r.2, length-drop n words)) (omega arith) (sound.fits n words fit)))
 
-  -- A walk that stops at once.
+  -- A walk that finds no piece stops at once.
   pub walk_all-stops : (place : ℕ) (words : List ℕ) (s : S) → step place words ≡ Stops s → walk_all step never place words ≡ record { taken = []; place = place; why = s }
   unfolding walk
   walk_all-stops place words s e = rw e refl

@@ -7,53 +7,54 @@ use Rattle.dm_words.specs.declared.codeword.Codeword.TheVariants as codeword
 use Rattle.dm_words.specs.Codewords.{codeword_of}
 use Rattle.dm_words.specs.Joined.{Piece, spelled, gathered}
 
--- One unit of ASCII and its items: a character, two digits, FNC1, or an Upper Shift and a character, whose byte it raises by 128.
+-- A unit of ASCII is a character, two digits, FNC1, or an Upper Shift and a character, whose byte it raises by 128.
 pub data IsAsciiUnit (words : List ℕ) (items : List Item) : Type 0 where
-  character : (w b : ℕ) → codeword_of w ≡ Some (codeword.Character b) → words ≡ w ∷ [] → items ≡ Byte b ∷ [] → IsAsciiUnit words items
-  digits : (w n : ℕ) → codeword_of w ≡ Some (codeword.Digits n) → words ≡ w ∷ [] → items ≡ Byte (48 + n / 10) ∷ Byte (48 + n % 10) ∷ [] → IsAsciiUnit words items
-  fnc1 : (w : ℕ) → codeword_of w ≡ Some codeword.Fnc1 → words ≡ w ∷ [] → items ≡ Fnc1 ∷ [] → IsAsciiUnit words items
-  raised : (s w b : ℕ) → codeword_of s ≡ Some codeword.UpperShift → codeword_of w ≡ Some (codeword.Character b) → words ≡ s ∷ w ∷ [] → items ≡ Byte (b + 128) ∷ [] → IsAsciiUnit words items
+  character : (word byte : ℕ) → codeword_of word ≡ Some (codeword.Character byte) → words ≡ word ∷ [] → items ≡ Byte byte ∷ [] → IsAsciiUnit words items
+  digits : (word number : ℕ) → codeword_of word ≡ Some (codeword.Digits number) → words ≡ word ∷ [] → items ≡ Byte (48 + number / 10) ∷ Byte (48 + number % 10) ∷ [] → IsAsciiUnit words items
+  fnc1 : (word : ℕ) → codeword_of word ≡ Some codeword.Fnc1 → words ≡ word ∷ [] → items ≡ Fnc1 ∷ [] → IsAsciiUnit words items
+  raised : (shift word byte : ℕ) → codeword_of shift ≡ Some codeword.UpperShift → codeword_of word ≡ Some (codeword.Character byte)
+      → words ≡ shift ∷ word ∷ [] → items ≡ Byte (byte + 128) ∷ [] → IsAsciiUnit words items
 
 -- The byte is a digit, 0 to 9.
 abbrev pub is_digit : ℕ → Bool
-is_digit b = nat_le 48 b && nat_le b 57
+is_digit byte = nat_le 48 byte && nat_le byte 57
 
 -- The items are one digit alone.
 abbrev pub IsOneDigit : List Item → Type 0
-IsOneDigit (Byte b ∷ []) = IsTrue (is_digit b)
+IsOneDigit (Byte byte ∷ []) = IsTrue (is_digit byte)
 IsOneDigit _ = ⊥
 
 -- The items begin with a digit.
 abbrev pub BeginsWithDigit : List Item → Type 0
-BeginsWithDigit (Byte b ∷ m) = IsTrue (is_digit b)
+BeginsWithDigit (Byte byte ∷ rest) = IsTrue (is_digit byte)
 BeginsWithDigit _ = ⊥
 
 -- No unit that is one digit stands before a unit that begins with a digit.
 abbrev pub IsGreedy : List (Piece (List Item)) → Type 0
 IsGreedy [] = Unit {0}
-IsGreedy (u ∷ []) = Unit {0}
-IsGreedy (u ∷ v ∷ us) = (IsOneDigit u.what → BeginsWithDigit v.what → ⊥) × IsGreedy (v ∷ us)
+IsGreedy (unit ∷ []) = Unit {0}
+IsGreedy (unit ∷ next ∷ rest) = (IsOneDigit unit.what → BeginsWithDigit next.what → ⊥) × IsGreedy (next ∷ rest)
 
--- The ASCII form of a message: units, one after the other, with no such pair among them, whose items, joined, are the message.
-pub record IsAscii (m : List Item) (words : List ℕ) : Type 0 where
+-- The ASCII form of a message is a sequence of units, with no single digit before a digit, whose items, joined, are the message.
+pub record IsAscii (message : List Item) (words : List ℕ) : Type 0 where
   pub units : List (Piece (List Item))
-  pub each : AllByRecursion (λ u. IsAsciiUnit u.words u.what) units
+  pub each : AllByRecursion (λ unit. IsAsciiUnit unit.words unit.what) units
   pub greedy : IsGreedy units
   pub whole : words ≡ spelled units
-  pub items : m ≡ gathered units
+  pub items : message ≡ gathered units
 
--- The codeword of two digits, given as bytes.
+-- Two digits, given as bytes, have this codeword.
 abbrev pub digit_pair : ℕ → ℕ → ℕ
 digit_pair tens ones = 130 + (10 * (tens - 48) + (ones - 48))
 
--- The codewords of one byte of 0 to 255, by itself.
+-- A byte of 0 to 255 has these codewords by itself.
 abbrev pub single : ℕ → List ℕ
-single b = if nat_lt b 128 then (b + 1) ∷ [] else 235 ∷ (b - 127) ∷ []
+single byte = if nat_lt byte 128 then (byte + 1) ∷ [] else 235 ∷ (byte - 127) ∷ []
 
--- The same form, computed from the front of the message, whose bytes are 0 to 255: where two digits come first, they are taken together.
+-- The ASCII form is computed from the front of the message, whose bytes are 0 to 255: where two digits come first, they are taken together.
 abbrev pub ascii : List Item → List ℕ
 ascii [] = []
-ascii (Fnc1 ∷ m) = 232 ∷ ascii m
-ascii (Byte b ∷ []) = single b
-ascii (Byte b ∷ Fnc1 ∷ m) = single b ++ ascii (Fnc1 ∷ m)
-ascii (Byte b ∷ Byte next ∷ m) = if is_digit b && is_digit next then digit_pair b next ∷ ascii m else single b ++ ascii (Byte next ∷ m)
+ascii (Fnc1 ∷ rest) = 232 ∷ ascii rest
+ascii (Byte byte ∷ []) = single byte
+ascii (Byte byte ∷ Fnc1 ∷ rest) = single byte ++ ascii (Fnc1 ∷ rest)
+ascii (Byte byte ∷ Byte next ∷ rest) = if is_digit byte && is_digit next then digit_pair byte next ∷ ascii rest else single byte ++ ascii (Byte next ∷ rest)

@@ -10,7 +10,7 @@ use Rattle.dm_words.specs.declared.c40.set.Shifted.{Shifted}
 use Rattle.dm_words.specs.declared.c40.set.Shifted.TheVariants.{Character as ShiftedCharacter, Fnc1, UpperShift}
 use Rattle.dm_words.specs.Rows.{Row, one, each, look_up}
 
--- The basic sets.
+-- The basic sets give each of the values 0 to 39 its meaning without a shift.
 abbrev pub basic_rows : CodeSet → List (Row Basic)
 basic_rows C40 =
     one 0 (Shift One) ∷
@@ -37,7 +37,7 @@ basic_rows X12 =
     each 14 39 65 90 Character ∷
     []
 
--- The sets of Shift 1, Shift 2 and Shift 3. X12 has no shift.
+-- The sets of Shift 1, Shift 2 and Shift 3 give the value after that shift its meaning. X12 has no shift.
 abbrev pub shifted_rows : CodeSet → Shifts → List (Row Shifted)
 shifted_rows X12 shift = []
 shifted_rows _ One =
@@ -59,10 +59,10 @@ shifted_rows Text Three =
     each 27 31 123 127 ShiftedCharacter ∷
     []
 
--- The meaning of a value in the basic set, and `None` above 39.
+-- A value has this meaning in the basic set, and none above 39, where this is `None`.
 abbrev pub basic_of : CodeSet → ℕ → Option Basic
-basic_of set v = look_up (basic_rows set) v
+basic_of set value = look_up (basic_rows set) value
 
--- The meaning of a value after a shift, and `None` where it has none, as above 31.
+-- A value has this meaning after a shift; where it has none, as above 31, this is `None`.
 abbrev pub shifted_of : CodeSet → Shifts → ℕ → Option Shifted
-shifted_of set shift v = look_up (shifted_rows set shift) v
+shifted_of set shift value = look_up (shifted_rows set shift) value

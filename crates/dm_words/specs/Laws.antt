@@ -19,7 +19,7 @@ pub record RefusedOnly (words : List ℕ) : Type 0 where
   pub why : WordFault
   pub refused : Refused words why
   pub only : (other : WordFault) → Refused words other → other ≡ why
-  pub not_spelled : (m : List Item) → Spells words m → ⊥
+  pub not_spelled : (message : List Item) → Spells words message → ⊥
 
 -- The words have one answer: a message, or a fault.
 abbrev pub HasOneAnswer : List ℕ → Type 0
@@ -27,11 +27,11 @@ HasOneAnswer words = SpellsOnly words ⊎ RefusedOnly words
 
 -- Each of these codewords is 0 to 255.
 abbrev pub AreCodewords : List ℕ → Type 0
-AreCodewords words = All (λ w. w < 256) words
+AreCodewords words = All (λ word. word < 256) words
 
 -- Each of these values of a run is 0 to 39.
 abbrev pub AreRunValues : List ℕ → Type 0
-AreRunValues values = All (λ v. v < 40) values
+AreRunValues values = All (λ value. value < 40) values
 
 -- No whole spelling stands at the front of the values.
 abbrev pub BeginsNoSpelling : CodeSet → List ℕ → Type 0

@@ -12,24 +12,26 @@ use Rattle.dm_words.specs.Base256.{written}
 -- FNC1 is among the items.
 abbrev pub has_fnc1 : List Item → Bool
 has_fnc1 [] = false
-has_fnc1 (Byte b ∷ m) = has_fnc1 m
-has_fnc1 (Fnc1 ∷ m) = true
+has_fnc1 (Byte byte ∷ rest) = has_fnc1 rest
+has_fnc1 (Fnc1 ∷ rest) = true
 
--- The length field of so many bytes, written out: one number up to 249, else two. From 1750 bytes on the first number would be more than 255,
--- but no symbol holds so many.
+-- The length field of a segment is written out as one number up to 249 bytes, and else as two. From 1750 bytes on the first number would be more
+-- than 255, but no symbol holds that many.
 abbrev pub length_numbers : ℕ → List ℕ
-length_numbers n = if nat_le n 249 then n ∷ [] else (249 + n / 250) ∷ (n % 250) ∷ []
+length_numbers count = if nat_le count 249 then count ∷ [] else (249 + count / 250) ∷ (count % 250) ∷ []
 
--- The bytes in one segment of Base 256 whose latch is the first codeword of the symbol: the latch, the length field and the bytes.
+-- The bytes stand in one segment of Base 256 whose latch is the first codeword of the symbol: the latch, the length field and the bytes.
 abbrev pub one_segment : List ℕ → List ℕ
 one_segment bytes = 231 ∷ written 2 (length_numbers (length bytes) ++ bytes)
 
--- The shorter form of a message: one segment of all its bytes, if it has no FNC1 and the segment has fewer codewords than the ASCII form;
--- else the ASCII form. So the ASCII form is taken where both have equally many codewords.
+-- The shorter form of a message is one segment of all its bytes, if it has no FNC1 and the segment has fewer codewords than the ASCII form; else it
+-- is the ASCII form. So the ASCII form is taken where both have equally many codewords.
 abbrev pub shorter : List Item → List ℕ
-shorter m = let s = one_segment (map byte_of m) in if not (has_fnc1 m) && nat_lt (length s) (length (ascii m)) then s else ascii m
+shorter message =
+    let segment = one_segment (map byte_of message) in
+    if not (has_fnc1 message) && nat_lt (length segment) (length (ascii message)) then segment else ascii message
 
--- The normal form under a profile.
+-- Under a profile, the normal form of a message is its ASCII form or its shorter form.
 abbrev pub normal_form : Profile → List Item → List ℕ
-normal_form Ascii m = ascii m
-normal_form Shorter m = shorter m
+normal_form Ascii message = ascii message
+normal_form Shorter message = shorter message

@@ -12,17 +12,17 @@ use Rattle.dm_words.specs.RunFaults.{IsFaultyRun}
 use Rattle.dm_words.specs.Base256.{IsFaultySegment}
 use Rattle.dm_words.specs.Spells.{IsPart}
 
--- The fault of the codewords from a place on, up to the end of the symbol.
+-- The codewords from a place on, up to the end of the symbol, have this fault.
 pub data IsFault (place : ℕ) (words : List ℕ) (why : WordFault) : Type 0 where
-  -- a codeword that is not used
-  reserved : (w : ℕ) (more : List ℕ) → codeword_of w ≡ None → words ≡ w ∷ more → why ≡ fault.Reserved place → IsFault place words why
-  -- a codeword that begins something that is not read here
-  left_out : (w : ℕ) (more : List ℕ) → codeword_of w ≡ Some codeword.LeftOut → words ≡ w ∷ more → why ≡ fault.LeftOut w place → IsFault place words why
-  -- an Upper Shift as the last codeword
-  unfinished : (w : ℕ) → codeword_of w ≡ Some codeword.UpperShift → words ≡ w ∷ [] → why ≡ fault.Unfinished place → IsFault place words why
-  -- an Upper Shift before a codeword that is not a character
-  upper_shift : (s w : ℕ) (more : List ℕ) → codeword_of s ≡ Some codeword.UpperShift → ((b : ℕ) → codeword_of w ≢ Some (codeword.Character b))
-      → words ≡ s ∷ w ∷ more → why ≡ fault.UpperShift place → IsFault place words why
+  -- A codeword is not used.
+  reserved : (word : ℕ) (more : List ℕ) → codeword_of word ≡ None → words ≡ word ∷ more → why ≡ fault.Reserved place → IsFault place words why
+  -- A codeword begins something that is not read here.
+  left_out : (word : ℕ) (more : List ℕ) → codeword_of word ≡ Some codeword.LeftOut → words ≡ word ∷ more → why ≡ fault.LeftOut word place → IsFault place words why
+  -- An Upper Shift is the last codeword.
+  unfinished : (word : ℕ) → codeword_of word ≡ Some codeword.UpperShift → words ≡ word ∷ [] → why ≡ fault.Unfinished place → IsFault place words why
+  -- An Upper Shift stands before a codeword that is not a character.
+  upper_shift : (shift word : ℕ) (more : List ℕ) → codeword_of shift ≡ Some codeword.UpperShift → ((byte : ℕ) → codeword_of word ≢ Some (codeword.Character byte))
+      → words ≡ shift ∷ word ∷ more → why ≡ fault.UpperShift place → IsFault place words why
   faulty_run : (set : CodeSet) → IsFaultyRun set place words why → IsFault place words why
   faulty_segment : IsFaultySegment place words → why ≡ fault.Length place → IsFault place words why
 

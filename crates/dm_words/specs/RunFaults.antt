@@ -31,53 +31,54 @@ pub record BeginsBadPair (words : List ℕ) : Type 0 where
 abbrev pub StopsPairs : List ℕ → Type 0
 StopsPairs words = EndsRun words ⊎ BeginsBadPair words
 
--- A run as far as its pairs go: where its latch stands, its codewords, and the values of its pairs.
+-- An open run is a run as far as its pairs go: where its latch stands, its codewords, and the values of its pairs.
 pub record OpenRun : Type 0 where
-  -- the place of the latch
+  -- The latch stands at this place.
   pub place : ℕ
-  -- how many codewords the pairs have
+  -- The pairs have this many codewords.
   pub pair_words : ℕ
-  -- the codewords behind the pairs, up to the end of the symbol
+  -- These are the codewords behind the pairs, up to the end of the symbol.
   pub others : List ℕ
-  -- how many values the whole spellings have
+  -- The whole spellings have this many values.
   pub spelled_values : ℕ
-  -- the values behind the whole spellings
+  -- These are the values behind the whole spellings.
   pub rest : List ℕ
 
--- The place of the pair that holds the value of an index, which counts all values of the run from 0. The latch stands at `place`.
+-- The pair at this place holds the value of an index, which counts all values of the run from 0. The latch stands at `place`.
 abbrev pub pair_place : ℕ → ℕ → ℕ
 pair_place place index = place + 1 + 2 * (index / 3)
 
--- The place of the pair that holds the value of an index, which counts the values behind the whole spellings from 0.
+-- The pair at this place holds the value of an index, which counts the values behind the whole spellings from 0.
 abbrev pub rest_place : OpenRun → ℕ → ℕ
 rest_place run index = pair_place run.place (run.spelled_values + index)
 
--- What is wrong with a run. The first value that is wrong decides; where none is, a bad pair; where there is none, an Upper Shift that waits.
+-- A run has this fault: that of its first wrong value; if no value is wrong, that of a bad pair; and if there is none, that of an Upper Shift that
+-- still waits for its character.
 pub data IsRunFault (set : CodeSet) (run : OpenRun) (why : WordFault) : Type 0 where
-  -- a value without meaning after a shift
+  -- A value has no meaning after its shift.
   value : (index : ℕ) → BeginsWithoutMeaning set run.rest index → StopsPairs run.others
       → why ≡ fault.Value (rest_place run index) → IsRunFault set run why
-  -- an Upper Shift before FNC1 or another Upper Shift; the fault names the pair of its second value, 30
+  -- An Upper Shift stands before FNC1 or another Upper Shift; the fault names the pair of its second value, 30.
   upper_shift : BeginsWrongUpperShift set run.rest → StopsPairs run.others
       → why ≡ fault.UpperShift (rest_place run 1) → IsRunFault set run why
-  -- a bad pair
+  -- The codewords behind the pairs begin with a bad pair.
   triplet : IsFiller set run.rest ⊎ IsWaiting set run.rest → BeginsBadPair run.others
       → why ≡ fault.Triplet (run.place + 1 + run.pair_words) → IsRunFault set run why
-  -- an Upper Shift that waits where the run ends; the fault names the pair of its second value, 30
+  -- An Upper Shift waits where the run ends; the fault names the pair of its second value, 30.
   unfinished : IsWaiting set run.rest → EndsRun run.others
       → why ≡ fault.Unfinished (rest_place run 1) → IsRunFault set run why
 
--- A faulty run: a latch, its pairs up to the end of the run or up to the first bad pair, and what is wrong with them. The values of the pairs,
+-- A faulty run is a latch, its pairs up to the end of the run or up to the first bad pair, and what is wrong with them. The values of the pairs,
 -- joined, are whole spellings and a rest.
 pub record IsFaultyRun (set : CodeSet) (place : ℕ) (words : List ℕ) (why : WordFault) : Type 0 where
   pub latch : ℕ
   pub is_latch : codeword_of latch ≡ Some (codeword.Latch set)
   pub pairs : List (Piece (List ℕ))
-  pub each : AllByRecursion (λ p. IsPair p.words p.what) pairs
+  pub each : AllByRecursion (λ piece. IsPair piece.words piece.what) pairs
   pub others : List ℕ
   pub whole : words ≡ latch ∷ (spelled pairs ++ others)
   pub spellings : List (Piece Item)
-  pub each_spelling : AllByRecursion (λ p. IsSpelling set p.words p.what) spellings
+  pub each_spelling : AllByRecursion (λ piece. IsSpelling set piece.words piece.what) spellings
   pub rest : List ℕ
   pub values : gathered pairs ≡ spelled spellings ++ rest
   pub is_fault :

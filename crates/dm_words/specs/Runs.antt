@@ -8,7 +8,7 @@ use Rattle.dm_words.specs.Codewords.{codeword_of}
 use Rattle.dm_words.specs.Joined.{Piece, spelled, gathered}
 use Rattle.dm_words.specs.Values.{AreValues}
 
--- A pair: two codewords for three values, each below 40. Their number, high and low byte, is 1600 times the first value, plus 40 times the
+-- A pair is two codewords for three values, each below 40. Their number, high and low byte, is 1600 times the first value, plus 40 times the
 -- second, plus the third, plus 1; so it is 1 to 64000.
 pub record IsPair (words values : List ℕ) : Type 0 where
   pub high : ℕ
@@ -24,22 +24,22 @@ pub record IsPair (words values : List ℕ) : Type 0 where
   pub words_are : words ≡ high ∷ low ∷ []
   pub values_are : values ≡ first ∷ second ∷ third ∷ []
 
--- The end of a run; `after` are the codewords from there to the end of the symbol. The comments name the cases of the standard for the end
--- of the symbol (ISO/IEC 16022, C40 encodation), which hold in the same way for Text and X12.
+-- A run ends in one of these ways; `after` are the codewords from there to the end of the symbol. The comments name the cases of the standard for
+-- the end of the symbol (ISO/IEC 16022, C40 encodation), which hold in the same way for Text and X12.
 pub data IsRunEnd (words after : List ℕ) : Type 0 where
-  -- The codeword Unlatch, 254. Where one codeword is left behind it, for one last value, this is case c.
+  -- The codeword Unlatch, 254, ends the run. Where one codeword is left behind it, for one last value, this is case c.
   unlatch : words ≡ 254 ∷ [] → IsRunEnd words after
-  -- No codeword, where the last pair fills the symbol: cases a and b, by the number of values that are left for that pair.
+  -- No codeword ends the run where its last pair fills the symbol. These are cases a and b, by the number of values that are left for that pair.
   symbol_end : words ≡ [] → after ≡ [] → IsRunEnd words after
-  -- No codeword, where one is left in the symbol, which is read in ASCII; the Unlatch before it is taken as read: case d.
-  last_word : (w : ℕ) → w ≢ 254 → words ≡ [] → after ≡ w ∷ [] → IsRunEnd words after
+  -- No codeword ends the run where one is left in the symbol, which is read in ASCII; the Unlatch before it is taken as read. This is case d.
+  last_word : (word : ℕ) → word ≢ 254 → words ≡ [] → after ≡ word ∷ [] → IsRunEnd words after
 
--- A run: a latch, pairs and an end. The values of all pairs, joined, spell the items.
+-- A run is a latch, then pairs, then an end. The values of all pairs, joined, spell the items.
 pub record IsRun (set : CodeSet) (words after : List ℕ) (items : List Item) : Type 0 where
   pub latch : ℕ
   pub is_latch : codeword_of latch ≡ Some (codeword.Latch set)
   pub pairs : List (Piece (List ℕ))
-  pub each : AllByRecursion (λ p. IsPair p.words p.what) pairs
+  pub each : AllByRecursion (λ piece. IsPair piece.words piece.what) pairs
   pub end : List ℕ
   pub ended : IsRunEnd end after
   pub whole : words ≡ latch ∷ (spelled pairs ++ end)

@@ -10,17 +10,17 @@ use Rattle.dm_words.specs.Ascii.{IsAsciiUnit}
 use Rattle.dm_words.specs.Runs.{IsRun}
 use Rattle.dm_words.specs.Base256.{IsSegment}
 
--- A part of the codewords and the items that it spells: a unit of ASCII, a run, or a segment of Base 256. It begins at a place; `after` are
--- all codewords that follow it, up to the end of the symbol, including pads.
+-- A part of the codewords is a unit of ASCII, a run, or a segment of Base 256, and spells its items. It begins at a place; `after` are all
+-- codewords that follow it, up to the end of the symbol, including pads.
 pub data IsPart (place : ℕ) (words after : List ℕ) (items : List Item) : Type 0 where
   ascii : IsAsciiUnit words items → IsPart place words after items
   run : (set : CodeSet) → IsRun set words after items → IsPart place words after items
   segment : IsSegment place words after items → IsPart place words after items
 
--- The end of the message: no codeword is left, or a pad comes next. What follows that pad is ignored.
+-- The message ends where no codeword is left, or where a pad comes next. What follows that pad is ignored.
 pub data IsEnd (words : List ℕ) : Type 0 where
   nothing : words ≡ [] → IsEnd words
-  pad : (w : ℕ) (more : List ℕ) → codeword_of w ≡ Some codeword.Pad → words ≡ w ∷ more → IsEnd words
+  pad : (word : ℕ) (more : List ℕ) → codeword_of word ≡ Some codeword.Pad → words ≡ word ∷ more → IsEnd words
 
 -- The words are parts, one after the other, and then an end; the items of the parts, joined, are the message.
 pub record Spells (words : List ℕ) (message : List Item) : Type 0 where

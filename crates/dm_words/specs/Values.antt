@@ -11,7 +11,7 @@ use Rattle.dm_words.specs.declared.c40.set.Shifted.TheVariants as shifted
 use Rattle.dm_words.specs.CodeSets.{basic_of, shifted_of}
 use Rattle.dm_words.specs.Joined.{Piece, spelled, whats}
 
--- A shift and the value after it, which together have this meaning; `None` says that they have none.
+-- A shift and the value after it together have this meaning; `None` says that they have none.
 pub record IsShifted (set : CodeSet) (values : List ℕ) (meaning : Option Shifted) : Type 0 where
   pub first : ℕ
   pub second : ℕ
@@ -20,36 +20,36 @@ pub record IsShifted (set : CodeSet) (values : List ℕ) (meaning : Option Shift
   pub means : shifted_of set shift second ≡ meaning
   pub whole : values ≡ first ∷ second ∷ []
 
--- The Upper Shift: Shift 2 and the value 30.
+-- An Upper Shift is Shift 2 and the value 30.
 abbrev pub IsUpperShift : CodeSet → List ℕ → Type 0
 IsUpperShift set values = IsShifted set values (Some shifted.UpperShift)
 
--- A character: a value of the basic set, or a shift and a value, that means this byte.
+-- A character is a value of the basic set, or a shift and a value, that means this byte.
 pub data IsCharacter (set : CodeSet) (values : List ℕ) (byte : ℕ) : Type 0 where
-  plain : (v : ℕ) → basic_of set v ≡ Some (basic.Character byte) → values ≡ v ∷ [] → IsCharacter set values byte
+  plain : (value : ℕ) → basic_of set value ≡ Some (basic.Character byte) → values ≡ value ∷ [] → IsCharacter set values byte
   by_shift : IsShifted set values (Some (shifted.Character byte)) → IsCharacter set values byte
 
--- The spelling of an item: a character; Shift 2 and 27, which is FNC1; or an Upper Shift and a character, whose byte it raises by 128.
+-- The spelling of an item is a character; Shift 2 and 27, which is FNC1; or an Upper Shift and a character, whose byte it raises by 128.
 pub data IsSpelling (set : CodeSet) (values : List ℕ) (item : Item) : Type 0 where
-  character : (b : ℕ) → IsCharacter set values b → item ≡ Byte b → IsSpelling set values item
+  character : (byte : ℕ) → IsCharacter set values byte → item ≡ Byte byte → IsSpelling set values item
   fnc1 : IsShifted set values (Some shifted.Fnc1) → item ≡ Fnc1 → IsSpelling set values item
-  raised : (upper more : List ℕ) (b : ℕ) → IsUpperShift set upper → IsCharacter set more b → values ≡ upper ++ more → item ≡ Byte (b + 128) → IsSpelling set values item
+  raised : (upper more : List ℕ) (byte : ℕ) → IsUpperShift set upper → IsCharacter set more byte → values ≡ upper ++ more → item ≡ Byte (byte + 128) → IsSpelling set values item
 
--- Nothing, or one shift with no value after it, which means nothing.
+-- A filler is nothing, or one shift with no value after it, which means nothing.
 pub data IsFiller (set : CodeSet) (values : List ℕ) : Type 0 where
   nothing : values ≡ [] → IsFiller set values
-  lone_shift : (v : ℕ) (shift : Shift) → basic_of set v ≡ Some (basic.Shift shift) → values ≡ v ∷ [] → IsFiller set values
+  lone_shift : (value : ℕ) (shift : Shift) → basic_of set value ≡ Some (basic.Shift shift) → values ≡ value ∷ [] → IsFiller set values
 
--- The values of a run: spellings of these items, one after the other, and then at most one lone shift.
+-- The values of a run are spellings of these items, one after the other, and then at most one lone shift.
 pub record AreValues (set : CodeSet) (values : List ℕ) (items : List Item) : Type 0 where
   pub spellings : List (Piece Item)
-  pub each : AllByRecursion (λ p. IsSpelling set p.words p.what) spellings
+  pub each : AllByRecursion (λ piece. IsSpelling set piece.words piece.what) spellings
   pub filler : List ℕ
   pub ended : IsFiller set filler
   pub whole : values ≡ spelled spellings ++ filler
   pub items_are : items ≡ whats spellings
 
--- An Upper Shift that waits for its character: it stands alone, or before one lone shift.
+-- An Upper Shift waits for its character: it stands alone, or before one lone shift.
 pub record IsWaiting (set : CodeSet) (values : List ℕ) : Type 0 where
   pub upper : List ℕ
   pub filler : List ℕ
@@ -72,7 +72,7 @@ pub record BeginsWrongUpperShift (set : CodeSet) (values : List ℕ) : Type 0 wh
   pub is_wrong : IsShifted set two (Some shifted.Fnc1) ⊎ IsUpperShift set two
   pub whole : values ≡ upper ++ (two ++ more)
 
--- What can follow the last whole spelling. The values of a run are 0 to 39.
+-- These values can follow the last whole spelling of a run, whose values are 0 to 39.
 pub data IsRest (set : CodeSet) (values : List ℕ) : Type 0 where
   complete : IsFiller set values → IsRest set values
   waiting : IsWaiting set values → IsRest set values

@@ -29,7 +29,7 @@ fn is_digit(byte: u8) -> bool
     48 <= byte && byte <= 57
 }
 
-/// The unit of one byte.
+/// Gives the unit of one byte.
 fn single(byte: u8) -> Unit
     ensures { IsSingle result byte }
 {
@@ -67,7 +67,7 @@ pub struct AsciiForm {
     pub has_fnc1: bool,
 }
 
-/// What is known of the ASCII form of these items, by one look through them.
+/// Tells what is known of the ASCII form of these items, by one look through them.
 pub fn ascii_form(items: &[Item]) -> AsciiForm
     requires { length items.now ≤ MOST_ITEMS }
     ensures length { result.length ≡ length (ascii items.now) }

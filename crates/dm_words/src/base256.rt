@@ -1,4 +1,4 @@
-//! Base 256 encodation (ISO/IEC 16022, Base 256 encodation and its 255-state randomising): a latch, a length and so many bytes.
+//! Base 256 encodation (ISO/IEC 16022, Base 256 encodation and its 255-state randomising): a latch, a length field and as many bytes as that says.
 
 ghost use Rattle.std.specs.Prelude.{◌≡◌, ℕ, ◌+◌, ◌≤◌, ◌<◌, ◌*◌, ◌∷◌, [], ◌++◌, length, drop, take, map, slice_index};
 ghost use Rattle.dm_words.specs.Messages.{byte_of};
@@ -19,7 +19,7 @@ const LATCH: u8 = 231;
 /// The most bytes whose length is one number.
 const MOST_SHORT: usize = 249;
 
-/// The pseudo-random number of a place of the symbol: 1 to 255.
+/// Gives the pseudo-random number of a place of the symbol: 1 to 255.
 fn random(place: usize) -> u32
     requires { place ≤ MOST_DATA }
     ensures { result ≡ random_at place }
@@ -27,7 +27,7 @@ fn random(place: usize) -> u32
     149 * place as u32 % 255 + 1
 }
 
-/// The value that the codeword at an index stands for: the randomising taken away.
+/// Gives the value that the codeword at an index stands for: the randomising is taken away.
 fn plain_value(words: &[u8], index: usize) -> u8
     requires in_range { index < length words.now }
     requires short { length words.now ≤ MOST_DATA }
@@ -36,7 +36,7 @@ fn plain_value(words: &[u8], index: usize) -> u8
     ((words[index] as u32 + 256 - random(index + 1)) % 256) as u8
 }
 
-/// Adds the bytes of so many codewords from an index on to the message.
+/// Adds the bytes of `count` codewords from an index on to the message.
 fn push_bytes(words: &[u8], start: usize, count: usize, message: &mut Message)
     requires in_range { start + count ≤ length words.now }
     requires short { length words.now ≤ MOST_DATA }
@@ -93,7 +93,7 @@ fn push_value(words: &mut ArrayVec<u8, MOST_CODEWORDS>, value: u8)
     words.push(((value as u32 + random(place)) % 256) as u8);
 }
 
-/// Writes the length of so many bytes: one number up to 249, else two.
+/// Writes the length field for this many bytes: one number up to 249, else two.
 fn push_length(words: &mut ArrayVec<u8, MOST_CODEWORDS>, count: usize)
     requires room { length words.old.items + 2 ≤ MOST_DATA }
     requires few { count ≤ MOST_DATA }
@@ -107,7 +107,7 @@ fn push_length(words: &mut ArrayVec<u8, MOST_CODEWORDS>, count: usize)
     }
 }
 
-/// How many codewords one segment of so many bytes has.
+/// Gives the number of codewords of one segment of `count` bytes.
 pub fn segment_length(count: usize) -> usize
     requires { count ≤ MOST_ITEMS }
     ensures { result ≡ 1 + length (length_numbers count) + count }
@@ -119,7 +119,7 @@ pub fn segment_length(count: usize) -> usize
     }
 }
 
-/// The pseudo-random number of the place after one that has this number.
+/// Gives the pseudo-random number of the place after one that has this number.
 fn next_random(number: u32) -> u32
     requires { number ≤ 255 }
     ensures next { (place : ℕ) → number ≡ random_at place → result ≡ random_at (place + 1) }

@@ -28,7 +28,7 @@ pub enum Codeword {
     LeftOut,
 }
 
-/// The meaning of a codeword in ASCII encodation, `None` where it has none.
+/// Gives the meaning of a codeword in ASCII encodation, or `None` where it has none.
 pub fn meaning(codeword: u8) -> Option<Codeword>
     ensures { result ≡ codeword_of codeword }
 {
@@ -47,7 +47,7 @@ pub fn meaning(codeword: u8) -> Option<Codeword>
     }
 }
 
-/// These data codewords of a symbol, as a list of their own.
+/// Copies these data codewords of a symbol into a list of their own.
 pub fn data_words(words: &[u8]) -> ArrayVec<u8, MOST_DATA>
     requires { length words.now ≤ MOST_DATA }
     ensures { result.items ≡ words.now }

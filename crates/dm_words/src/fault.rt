@@ -8,17 +8,16 @@ pub enum WordFault {
     /// This codeword, at this place, begins something that is not read here: structured append (233), reader programming (234),
     /// macro 05 (236), macro 06 (237), EDIFACT (240) or ECI (241).
     LeftOut(u8, u16),
-    /// An Upper Shift that is followed by something other than its character. The place is that of the codeword 235, or in a
-    /// run that of the pair that holds the value 30 of the first Upper Shift.
+    /// An Upper Shift is followed by something other than its character. The place is that of the codeword 235, or in a run that of the pair that
+    /// holds the value 30 of the first Upper Shift.
     UpperShift(u16),
-    /// A pair of a run whose number is 0 or more than 64000; the place is that of its first codeword.
+    /// The number of a pair of a run is 0 or more than 64000; the place is that of its first codeword.
     Triplet(u16),
-    /// A shift that is followed by a value without meaning in its set; the place is that of the pair that holds this value.
+    /// A shift is followed by a value without meaning in its set; the place is that of the pair that holds this value.
     Value(u16),
-    /// A Base 256 length that is missing, that has no right second number, or that passes the end of the symbol; the place is
-    /// that of the latch 231.
+    /// A Base 256 length is missing, has no right second number, or passes the end of the symbol; the place is that of the latch 231.
     Length(u16),
-    /// An Upper Shift whose character does not come. The place is as for `UpperShift`.
+    /// The character of an Upper Shift does not come. The place is as for `UpperShift`.
     Unfinished(u16),
 }
 

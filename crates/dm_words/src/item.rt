@@ -13,7 +13,7 @@ pub enum Item {
     Fnc1,
 }
 
-/// The byte of an item; FNC1 has none, and counts as 0.
+/// Gives the byte of an item; FNC1 has none, and counts as 0.
 pub fn byte(item: Item) -> u8
     ensures { result ≡ byte_of item }
 {

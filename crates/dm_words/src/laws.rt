@@ -32,8 +32,7 @@ pub fn spelled_is_message()
     ensures { (words : List ℕ) (m : List Item) → Spells words m → IsMessage m }
 {}
 
-/// The ASCII form of a message, with pads up to any number of codewords that holds it, is so many codewords, and they spell the
-/// message.
+/// The ASCII form of a message, with pads up to any number of codewords that holds it, has that many codewords, and they spell the message.
 pub fn ascii_spells()
     ensures message { (m : List Item) (count : ℕ) → IsMessage m → length (ascii m) ≤ count → Spells (padded (ascii m) count) m }
     ensures count { (m : List Item) (count : ℕ) → length (ascii m) ≤ count → length (padded (ascii m) count) ≡ count }
@@ -46,8 +45,8 @@ pub fn ascii_is_greedy()
     ensures { (m : List Item) (words : List ℕ) → IsMessage m → IsAscii m words ↔ (words ≡ ascii m) }
 {}
 
-/// The normal form of a message under each profile, with pads up to any number of codewords that holds it and that a symbol can have, is
-/// so many codewords, and they spell the message.
+/// The normal form of a message under each profile, with pads up to any number of codewords that holds it and that a symbol can have, has that many
+/// codewords, and they spell the message.
 pub fn normal_form_spells()
     ensures message { (profile : Profile) (m : List Item) (count : ℕ) → IsMessage m → length (normal_form profile m) ≤ count → count ≤ most_data → Spells (padded (normal_form profile m) count) m }
     ensures count { (profile : Profile) (m : List Item) (count : ℕ) → length (normal_form profile m) ≤ count → length (padded (normal_form profile m) count) ≡ count }

@@ -29,7 +29,7 @@ impl Model for Message {
 }
 
 impl Message {
-    /// The empty message.
+    /// Makes the empty message.
     pub fn new() -> Self
         ensures { result ≡ [] }
     {
@@ -67,7 +67,7 @@ impl Message {
         self.list.push(item);
     }
 
-    /// The items, in order: at most `MOST_ITEMS`, with bytes of 0 to 255.
+    /// Gives the items, in order: at most `MOST_ITEMS`, with bytes of 0 to 255.
     pub fn items(&self) -> &[Item]
         ensures value { result.now ≡ self.now }
         ensures most { length self.now ≤ MOST_ITEMS }

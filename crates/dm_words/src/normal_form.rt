@@ -16,8 +16,8 @@ use crate::profile::Profile;
 use arrayvec::ArrayVec;
 use dm_layout::{MOST_CODEWORDS, MOST_DATA};
 
-/// The ASCII codewords of a message, without pads: from the left, two digits in one codeword wherever two come first. The answer is
-/// `TooLong` exactly where they are more than `MOST_DATA`. ISO/IEC 16022, ASCII encodation.
+/// Gives the ASCII codewords of a message, without pads: from the left, two digits in one codeword wherever two come first. The answer is `TooLong`
+/// exactly where they are more than `MOST_DATA`. ISO/IEC 16022, ASCII encodation.
 pub fn ascii_words(message: &Message) -> Result<ArrayVec<u8, MOST_DATA>, TooLong>
     ensures words { IfOk result (λ words. words.items ≡ ascii message.now) }
     ensures too_long { IsErr result ↔ (MOST_DATA < length (ascii message.now)) }
@@ -25,9 +25,9 @@ pub fn ascii_words(message: &Message) -> Result<ArrayVec<u8, MOST_DATA>, TooLong
     normal_words(Profile::Ascii, message)
 }
 
-/// The shorter codewords of a message, without pads: one segment of Base 256 from the first codeword on, if the message has no FNC1 and
-/// this takes fewer codewords than ASCII; else those of [`ascii_words()`]. The length of the segment is always written out. The answer is
-/// `TooLong` exactly where they are more than `MOST_DATA`. ISO/IEC 16022, Base 256 encodation.
+/// Gives the shorter codewords of a message, without pads: one segment of Base 256 from the first codeword on, if the message has no FNC1 and this
+/// takes fewer codewords than ASCII; else those of [`ascii_words()`]. The length of the segment is always written out. The answer is `TooLong`
+/// exactly where they are more than `MOST_DATA`. ISO/IEC 16022, Base 256 encodation.
 pub fn shorter_words(message: &Message) -> Result<ArrayVec<u8, MOST_DATA>, TooLong>
     ensures words { IfOk result (λ words. words.items ≡ shorter message.now) }
     ensures too_long { IsErr result ↔ (MOST_DATA < length (shorter message.now)) }
@@ -35,8 +35,8 @@ pub fn shorter_words(message: &Message) -> Result<ArrayVec<u8, MOST_DATA>, TooLo
     normal_words(Profile::Shorter, message)
 }
 
-/// The codewords of a message under a profile: those of [`ascii_words()`] or of [`shorter_words()`]. The answer is `TooLong` exactly
-/// where they are more than `MOST_DATA`.
+/// Gives the codewords of a message under a profile: those of [`ascii_words()`] or of [`shorter_words()`]. The answer is `TooLong` exactly where
+/// they are more than `MOST_DATA`.
 pub fn normal_words(profile: Profile, message: &Message) -> Result<ArrayVec<u8, MOST_DATA>, TooLong>
     ensures words { IfOk result (λ words. words.items ≡ normal_form profile message.now) }
     ensures too_long { IsErr result ↔ (MOST_DATA < length (normal_form profile message.now)) }
@@ -81,7 +81,7 @@ struct Form {
     length: usize,
 }
 
-/// What is known of the normal form of these items under a profile.
+/// Tells what is known of the normal form of these items under a profile.
 fn form_of(profile: Profile, items: &[Item]) -> Form
     requires { length items.now ≤ MOST_ITEMS }
     ensures form { normal_form profile items.now ≡ (if result.is_segment then one_segment (map byte_of items.now) else ascii items.now) }
@@ -94,7 +94,7 @@ fn form_of(profile: Profile, items: &[Item]) -> Form
     Form { is_segment, length }
 }
 
-/// Whether a profile takes the segment, of so many codewords, instead of ASCII.
+/// Says whether a profile takes the segment, which has `segment` codewords, instead of ASCII.
 fn takes_segment(profile: Profile, ascii: AsciiForm, segment: usize) -> bool
     ensures ascii { profile ≡ Profile.Ascii → result ≡ false }
     ensures shorter { profile ≡ Profile.Shorter → result ≡ (not ascii.has_fnc1 && nat_lt segment ascii.length) }

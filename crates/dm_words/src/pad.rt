@@ -9,7 +9,7 @@ use dm_layout::{MOST_CODEWORDS, MOST_DATA, Size};
 
 const FIRST_PAD: u8 = 129;
 
-/// The pad at a place, where it isn't the first of the symbol.
+/// Gives the pad at a place, where it isn't the first of the symbol.
 fn pad_word(place: u16) -> u8
     requires { place ≤ MOST_DATA }
     ensures { result ≡ pad_at place }
@@ -22,8 +22,8 @@ fn pad_word(place: u16) -> u8
     }
 }
 
-/// The words, followed by pads up to the data codewords of the size: the first pad is 129, each further one is randomised by its
-/// place. The words are those of a message, at most as many as the size has data codewords.
+/// Gives the words, followed by pads up to the data codewords of the size: the first pad is 129, each further one is randomised by its place. The
+/// words are those of a message, at most as many as the size has data codewords.
 pub fn padded(words: &[u8], size: Size) -> ArrayVec<u8, MOST_DATA>
     requires { length words.now ≤ size.data_count }
     ensures words { result.items ≡ padded_words words.now size.data_count }

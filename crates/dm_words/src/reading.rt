@@ -7,7 +7,7 @@ ghost use Rattle.dm_words.specs.Messages.{IsMessage};
 ghost use Rattle.dm_words.specs.Spells.{Spells};
 ghost use Rattle.dm_words.specs.Refused.{Refused};
 ghost use Rattle.dm_words.specs.Places.{outcome};
-ghost use Rattle.dm_words.specs.inner.Scan.Fronts.{reading, part_front, raised_unit};
+ghost use Rattle.dm_words.specs.inner.Scan.Fronts.{part_front, raised_unit};
 ghost use Rattle.dm_words.specs.inner.Scan.Answers.{IsPartTakenOrEnd, IsPartTaken};
 
 use crate::base256::segment_part;
@@ -72,24 +72,9 @@ fn raised_part(words: &[u8], at: usize, message: &mut Message) -> Result<usize, 
     }
 }
 
-/// Leaves the message that the words spell in the place, or gives the first fault.
-fn read_all(words: &[u8], message: &mut Message) -> Result<(), WordFault>
-    requires { length words.now ≤ MOST_DATA }
-    ensures exact { outcome result message.new ≡ reading words.now }
-    ensures two_for_each_codeword { OnOk result (length message.new ≤ 2 * length words.now) }
-{
-    message.clear();
-    let mut at = 0;
-    while let Some(count) = next_part(words, at, message)? {
-        at += count;
-    }
-    Ok(())
-}
-
-/// The message that the data codewords of a symbol spell, in any of the five encodations, or the fault with which they are
-/// refused. The list is the whole data part, at most `MOST_DATA` codewords, so its end is the end of the symbol. What follows the
-/// first pad is ignored. The first faulty part from the left decides; `WordFault` says when each fault comes.
-/// ISO/IEC 16022, encodation schemes.
+/// Gives the message that the data codewords of a symbol spell, in any of the five encodations, or the fault with which they are refused. The list
+/// is the whole data part, at most `MOST_DATA` codewords, so its end is the end of the symbol. What follows the first pad is ignored. The first
+/// faulty part from the left decides; `WordFault` says when each fault comes. ISO/IEC 16022, encodation schemes.
 pub fn message_of(words: &[u8]) -> Result<Message, WordFault>
     requires { length words.now ≤ MOST_DATA }
     ensures message { (m : List Item) → (result ≡ Ok m) ↔ Spells words.now m }
@@ -113,5 +98,10 @@ pub fn message_to(words: &[u8], message: &mut Message) -> Result<(), WordFault>
     ensures two_for_each_codeword { OnOk result (length message.new ≤ 2 * length words.now) }
     ensures bytes { OnOk result (IsMessage message.new) }
 {
-    read_all(words, message)
+    message.clear();
+    let mut at = 0;
+    while let Some(count) = next_part(words, at, message)? {
+        at += count;
+    }
+    Ok(())
 }

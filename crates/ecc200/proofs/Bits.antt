@@ -13,11 +13,12 @@ use Rattle.dm_layout.specs.Border.{is_border, border_is_dark, is_fixed, fixed_is
 use Rattle.dm_layout.specs.Placement.{At, IsPlace, places_in_order}
 use Rattle.dm_layout.proofs.Exported.{ArePlaces, all_are_places, one_bit, none_fixed, place_at, length-places_in_order, once_at_row, symbol_line-one, lies_inside, no_border, row_facts}
 use Rattle.ecc200.specs.declared.places.PlaceOut.{PlaceOut}
+use Rattle.ecc200.specs.Arrays.{most_modules}
 use Rattle.ecc200.specs.Places.{AreModulesOf, nothing, bit_place, border_place, fixed_place}
 use Rattle.ecc200.specs.Places as places
 use Rattle.ecc200.specs.inner.PlaceSteps.{structure_by, structure_place, with_bits}
 
--- The place of a cell of the mapping matrix among the modules.
+-- A cell of the mapping matrix has this place among the modules.
 abbrev pub module_of_cell : SizeRow → ℕ → ℕ → ℕ
 module_of_cell size r c = symbol_line size.region_side r * size.side + symbol_line size.region_side c
 
@@ -28,7 +29,7 @@ one_module side r c u v lc lv e = (
   sym (mod-mul-add r side c lc) ∙ ap (λ x. x % side) e ∙ mod-mul-add u side v lv,
 )
 
--- So do different cells of the mapping matrix.
+-- Different cells of the mapping matrix stand at different places.
 pub one_cell : (size : SizeRow) (r c u v : ℕ) → IsRow size → c < size.mapping → v < size.mapping → module_of_cell size r c ≡ module_of_cell size u v → (r ≡ u) × (c ≡ v)
 one_cell size r c u v row lc lv e =
     let d : ℕ = size.region_side in
@@ -146,7 +147,7 @@ fixed_is_there size xs r c row lr lc h e =
     ∙ ap fixed_place (same_lines d r c least)
 
 -- Writing the structure over nothing, and the bits over that, gives the modules of a symbol.
-pub modules_are : (size : SizeRow) (xs ys zs : List PlaceOut) → IsRow size → size.side * size.side ≤ length ys → xs ≡ replicate 10816 nothing
+pub modules_are : (size : SizeRow) (xs ys zs : List PlaceOut) → IsRow size → size.side * size.side ≤ length ys → xs ≡ replicate most_modules nothing
     → ((r c : ℕ) → r < size.side → c < size.side → places.place_at size ys r c ≡ structure_place size r c)
     → ((i : ℕ) → size.side * size.side ≤ i → get_or ys i nothing ≡ get_or xs i nothing) → zs ≡ with_bits size (places_in_order size.mapping) ys → AreModulesOf size zs
 modules_are size xs ys zs row room blank put behind bits = subst (AreModulesOf size) (sym bits) (record {
@@ -157,7 +158,7 @@ modules_are size xs ys zs row room blank put behind bits = subst (AreModulesOf s
       bits_kept size (places_in_order size.mapping) ys i (all_are_places size.mapping) (λ w b u v p same.
       let inside = (once_at_row size row).inside w b (At u v) p in
       omega (arith, cell_inside size u v row inside.0 inside.1, same, l))
-      ∙ behind i l ∙ ap (λ k. get_or k i nothing) blank ∙ of_nothing 10816 i;
+      ∙ behind i l ∙ ap (λ k. get_or k i nothing) blank ∙ of_nothing most_modules i;
 })
   where
     of_nothing : (n i : ℕ) → get_or (replicate n nothing) i nothing ≡ nothing

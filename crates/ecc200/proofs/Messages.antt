@@ -8,7 +8,7 @@ use Rattle.std.proofs.lemmas.Bool.{cases_lt}
 use Rattle.dm_symbol.specs.declared.Item.{Item}
 use Rattle.dm_symbol.specs.declared.Item.TheVariants.{Byte, Fnc1}
 use Rattle.dm_symbol.specs.declared.Profile.{Profile}
-use Rattle.dm_symbol.specs.Messages.{IsItem, IsMessage}
+use Rattle.dm_symbol.specs.Messages.{IsItem, IsMessage, most_items}
 use Rattle.dm_symbol.specs.NormalGrid.{FitsSomeSize}
 use Rattle.dm_symbol.proofs.Exported.{too_long_fits_none}
 use Rattle.dm_words.proofs.Exported.{normal_form_items}
@@ -22,6 +22,7 @@ item_there number few = by_case (cases_lt number 256)
     by_case (inl h) = (Byte number, h, refl)
     by_case (inr h) = (Fnc1, omega arith, omega (arith, h, few))
 
+-- Numbers up to 256 are those of items.
 items_there : (numbers : List ℕ) → AllByRecursion (λ number. number ≤ 256) numbers → (m : List Item) × AllByRecursion IsItem m × (numbers_of m ≡ numbers)
 items_there [] h = ([], tt, refl)
 items_there (number ∷ rest) h =
@@ -35,8 +36,8 @@ message_there numbers h =
     let there = items_there numbers (recursion_from_All (λ number. number ≤ 256) numbers h) in
     (there.0, All-from_recursion IsItem there.0 there.1, there.2)
 
--- A message of more than 1,632 items fits no size.
-pub too_many : (profile : Profile) (m : List Item) (numbers : List ℕ) → numbers_of m ≡ numbers → 1632 < length numbers → FitsSomeSize profile m → ⊥
+-- A message of more items than a symbol has room for fits no size.
+pub too_many : (profile : Profile) (m : List Item) (numbers : List ℕ) → numbers_of m ≡ numbers → most_items < length numbers → FitsSomeSize profile m → ⊥
 too_many profile m numbers e many h =
     let count : length m ≡ length numbers = sym (length-map m number_of) ∙ ap length e in
     too_long_fits_none profile m (omega (arith, normal_form_items profile m, count, many)) h

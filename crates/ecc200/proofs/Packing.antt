@@ -11,15 +11,16 @@ use Rattle.dm_symbol.specs.Grid.{is_dark_in, square_of, square_of_rows}
 use Rattle.dm_layout.proofs.Exported.{same_squares, front_square}
 use Rattle.ecc200.specs.Modules.{is_dark}
 
--- The next power of 2.
+-- The next power of 2 is twice the last one.
 pow_next : (i : ℕ) → 2 ^ (i + 1) ≡ 2 ^ i * 2
 pow_next i = let e : i + 1 ≡ suc i = omega arith in ap (λ k. 2 ^ k) e ∙ pow-suc 2 i
 
--- A truth value as a number.
+-- A truth value is below 2 as a number.
 from_bool_small : (b : Bool) → from_bool b < 2
 from_bool_small true = omega arith
 from_bool_small false = omega arith
 
+-- A truth value is true exactly where it is 1 as a number.
 from_bool_one : (b : Bool) → nat_eq (from_bool b) 1 ≡ b
 from_bool_one true = refl
 from_bool_one false = refl
@@ -28,13 +29,13 @@ from_bool_one false = refl
 pub packed_small : (row i : ℕ) (b : Bool) → row < 2 ^ i → 2 * row + from_bool b < 2 ^ (i + 1)
 packed_small row i b h = omega (arith, pow_next i, from_bool_small b, h)
 
--- A number of 128 bits has room for them.
+-- A number of 128 bits has room for i + 1 bits where i is below 127.
 pub packed_fits : (row i : ℕ) (b : Bool) → row < 2 ^ i → i < 127 → Fits w128 (2 * row + from_bool b)
 packed_fits row i b h l =
     let k : 2 ^ (i + 1) < 2 ^ 128 = pow_below (i + 1) 128 (omega arith) in
     Fits-bits 128 tt (omega (arith, k, packed_small row i b h))
 
--- The bit that is added is the first.
+-- The bit that is added comes first.
 dark_first : (row : ℕ) (b : Bool) → is_dark_in (2 * row + from_bool b) 0 ≡ b
 dark_first row b =
     let e : (2 * row + from_bool b) / 1 % 2 ≡ from_bool b = omega (arith, from_bool_small b) in

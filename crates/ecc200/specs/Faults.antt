@@ -8,7 +8,7 @@ use Rattle.dm_symbol.specs.declared.NormalFault.{NormalFault}
 use Rattle.dm_symbol.specs.declared.NormalFault.TheVariants as normal
 use Rattle.ecc200.specs.declared.fault.Fault.{Fault}
 
--- The fault with these three numbers.
+-- A fault has these three numbers.
 abbrev pub fault : ℕ → ℕ → ℕ → Fault
 fault code value place = record { code = code; value = value; place = place }
 

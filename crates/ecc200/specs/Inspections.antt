@@ -1,6 +1,7 @@
 -- What the library gives for a grid that is to be inspected.
 use Rattle.std.specs.Prelude.{◌≡◌, ℕ, List, map, length, replicate, Option, Some, None}
 use Rattle.dm_symbol.specs.declared.Inspection.{Inspection}
+use Rattle.dm_symbol.specs.Sizes.{most_codewords, most_blocks}
 use Rattle.dm_symbol.specs.Grid.{GridView}
 use Rattle.dm_symbol.specs.Inspection.{IsInspection}
 use Rattle.ecc200.specs.declared.fault.Fault.{Fault}
@@ -9,7 +10,7 @@ use Rattle.ecc200.specs.Arrays.{filled}
 use Rattle.ecc200.specs.Faults.{no_fault}
 use Rattle.ecc200.specs.Modules.{IsGridOf, IsModulesFault}
 
--- A fault; all else is 0.
+-- What is given for a fault has that fault, and all else is 0.
 abbrev pub no_inspection : Fault → InspectionOut
 no_inspection why =
     record {
@@ -18,17 +19,17 @@ no_inspection why =
       border_faults = 0;
       block_count = 0;
       codeword_count = 0;
-      held = replicate 1152 0;
-      mended = replicate 1152 0;
-      corrected = replicate 6 0;
+      held = replicate most_codewords 0;
+      mended = replicate most_codewords 0;
+      corrected = replicate most_blocks 0;
     }
 
--- How many codewords of a block are corrected, or 255 where the block has more errors than can be corrected.
+-- A block shows the number of its codewords that are corrected, or 255 where it has more errors than can be corrected.
 abbrev pub count_shown : Option ℕ → ℕ
 count_shown (Some count) = count
 count_shown None = 255
 
--- An inspection of a grid of this side.
+-- An inspection of a grid of this side is given in this way.
 abbrev pub inspection_shown : ℕ → Inspection → InspectionOut
 inspection_shown side inspection =
     record {
@@ -37,12 +38,12 @@ inspection_shown side inspection =
       border_faults = inspection.border_faults;
       block_count = length inspection.corrected.items;
       codeword_count = length inspection.held.list;
-      held = filled 1152 inspection.held.list;
-      mended = filled 1152 inspection.mended.list;
-      corrected = filled 6 (map count_shown inspection.corrected.items);
+      held = filled most_codewords inspection.held.list;
+      mended = filled most_codewords inspection.mended.list;
+      corrected = filled most_blocks (map count_shown inspection.corrected.items);
     }
 
--- What inspecting these modules gives: why they make no grid, or the inspection of their grid.
+-- Inspecting these modules gives the reason why they make no grid, or the inspection of their grid.
 pub data IsInspectAnswer (side : ℕ) (modules : List ℕ) (out : InspectionOut) : Type 0 where
   no_grid : (why : Fault) → IsModulesFault side modules why → out ≡ no_inspection why → IsInspectAnswer side modules out
   inspected : (grid : GridView) (inspection : Inspection) → IsGridOf side modules grid → IsInspection grid inspection

@@ -3,17 +3,17 @@ use Rattle.std.specs.Prelude.{ℕ, ◌<◌, ◌≤◌, List, map, length, get_or
 use Rattle.dm_symbol.specs.declared.Item.{Item}
 use Rattle.dm_symbol.specs.declared.Item.TheVariants.{Byte, Fnc1}
 
--- The number of an item: a byte is itself, FNC1 is 256.
+-- The number of a byte is the byte itself, and that of FNC1 is 256.
 abbrev pub number_of : Item → ℕ
 number_of (Byte byte) = byte
 number_of Fnc1 = 256
 
--- The numbers of a message.
+-- The numbers of a message are those of its items, in order.
 abbrev pub numbers_of : List Item → List ℕ
-numbers_of m = map number_of m
+numbers_of message = map number_of message
 
 -- The first of the numbers that stands for no item is at this place.
 pub record IsFirstForeign (numbers : List ℕ) (place : ℕ) : Type 0 where
   pub inside : place < length numbers
   pub foreign : 256 < get_or numbers place 0
-  pub first : (i : ℕ) → i < place → get_or numbers i 0 ≤ 256
+  pub first : (index : ℕ) → index < place → get_or numbers index 0 ≤ 256

@@ -7,29 +7,30 @@ use Rattle.dm_layout.specs.Placement.{IsPlace}
 use Rattle.ecc200.specs.declared.fault.Fault.{Fault}
 use Rattle.ecc200.specs.declared.places.PlaceOut.{PlaceOut}
 use Rattle.ecc200.specs.declared.places.PlacesOut.{PlacesOut}
+use Rattle.ecc200.specs.Arrays.{most_modules}
 use Rattle.ecc200.specs.Faults.{no_fault, no_such_side}
 
--- Not a module of the symbol.
+-- This stands where there is no module of the symbol.
 abbrev pub nothing : PlaceOut
 nothing = record { codeword = 0; bit = 0; kind = 0 }
 
--- A bit of a codeword.
+-- This is a bit of a codeword.
 abbrev pub bit_place : ℕ → ℕ → PlaceOut
 bit_place codeword bit = record { codeword = codeword; bit = bit; kind = 1 }
 
--- A module of a border, which is to be dark or light.
+-- This is a module of a border, which is to be dark or light.
 abbrev pub border_place : Bool → PlaceOut
 border_place dark = record { codeword = 0; bit = 0; kind = if dark then 3 else 2 }
 
--- A module of the fixed square, which is to be dark or light.
+-- This is a module of the fixed square, which is to be dark or light.
 abbrev pub fixed_place : Bool → PlaceOut
 fixed_place dark = record { codeword = 0; bit = 0; kind = if dark then 5 else 4 }
 
--- The module at a row and a column of the symbol.
+-- This stands at a row and a column of the symbol.
 abbrev pub place_at : SizeRow → List PlaceOut → ℕ → ℕ → PlaceOut
 place_at size places row column = get_or places (row * size.side + column) nothing
 
--- The module of the symbol that a cell of the mapping matrix becomes.
+-- This stands in the symbol where a cell of the mapping matrix lies.
 abbrev pub mapped_place : SizeRow → List PlaceOut → ℕ → ℕ → PlaceOut
 mapped_place size places row column = place_at size places (symbol_line size.region_side row) (symbol_line size.region_side column)
 
@@ -41,13 +42,13 @@ pub record AreModulesOf (size : SizeRow) (places : List PlaceOut) : Type 0 where
       place_at size places row column ≡ border_place (border_is_dark size row column)
   pub fixed : (row column : ℕ) → row < size.mapping → column < size.mapping → is_fixed size.mapping row column ≡ true →
       mapped_place size places row column ≡ fixed_place (fixed_is_dark row column)
-  pub behind : (i : ℕ) → size.side * size.side ≤ i → get_or places i nothing ≡ nothing
+  pub behind : (index : ℕ) → size.side * size.side ≤ index → get_or places index nothing ≡ nothing
 
--- A fault; all else is 0.
+-- What is given for a fault has that fault, side 0, and no module of a symbol.
 abbrev pub no_places : Fault → PlacesOut
-no_places why = record { fault = why; side = 0; places = replicate 10816 nothing }
+no_places why = record { fault = why; side = 0; places = replicate most_modules nothing }
 
--- What is given for this side: that no size has it, or the modules of the size that has it.
+-- For this side is given that no size has it, or the modules of the size that has it.
 pub data IsPlacesAnswer (side : ℕ) (out : PlacesOut) : Type 0 where
   no_size : IsNone (row_with_side side) → out ≡ no_places (no_such_side side) → IsPlacesAnswer side out
   modules : (size : SizeRow) → row_with_side side ≡ Some size → out.fault ≡ no_fault → out.side ≡ side → AreModulesOf size out.places → IsPlacesAnswer side out

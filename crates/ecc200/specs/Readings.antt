@@ -2,7 +2,9 @@
 use Rattle.std.specs.Prelude.{◌≡◌, ℕ, List, length, replicate, Result, Ok, Err}
 use Rattle.dm_symbol.specs.declared.Reading.{Reading}
 use Rattle.dm_symbol.specs.declared.ReadFault.{ReadFault}
+use Rattle.dm_symbol.specs.Sizes.{most_blocks}
 use Rattle.dm_symbol.specs.Grid.{GridView}
+use Rattle.dm_symbol.specs.Messages.{most_items}
 use Rattle.dm_symbol.specs.Reading.{ReadAnswer}
 use Rattle.ecc200.specs.declared.fault.Fault.{Fault}
 use Rattle.ecc200.specs.declared.reading.ReadingOut.{ReadingOut}
@@ -11,12 +13,12 @@ use Rattle.ecc200.specs.Faults.{no_fault, read_fault}
 use Rattle.ecc200.specs.Items.{numbers_of}
 use Rattle.ecc200.specs.Modules.{IsGridOf, IsModulesFault}
 
--- A fault; all else is 0.
+-- What is given for a fault has that fault, and all else is 0.
 abbrev pub no_reading : Fault → ReadingOut
 no_reading why =
-    record { fault = why; side = 0; border_faults = 0; block_count = 0; item_count = 0; items = replicate 1632 0; corrected = replicate 6 0 }
+    record { fault = why; side = 0; border_faults = 0; block_count = 0; item_count = 0; items = replicate most_items 0; corrected = replicate most_blocks 0 }
 
--- A reading of a grid of this side.
+-- A reading of a grid of this side is given in this way.
 abbrev pub reading_shown : ℕ → Reading → ReadingOut
 reading_shown side reading =
     record {
@@ -25,16 +27,16 @@ reading_shown side reading =
       border_faults = reading.border_faults;
       block_count = length reading.corrected.items;
       item_count = length reading.message;
-      items = filled 1632 (numbers_of reading.message);
-      corrected = filled 6 reading.corrected.items;
+      items = filled most_items (numbers_of reading.message);
+      corrected = filled most_blocks reading.corrected.items;
     }
 
--- What is given for an answer: the reading, or the fault.
+-- An answer is given as its reading, or as its fault.
 abbrev pub answer_shown : ℕ → Result Reading ReadFault → ReadingOut
 answer_shown side (Ok reading) = reading_shown side reading
 answer_shown side (Err why) = no_reading (read_fault why)
 
--- What reading these modules gives: why they make no grid, or the answer of reading for their grid.
+-- Reading these modules gives the reason why they make no grid, or the answer of reading for their grid.
 pub data IsReadAnswer (side : ℕ) (modules : List ℕ) (limit : ℕ) (out : ReadingOut) : Type 0 where
   no_grid : (why : Fault) → IsModulesFault side modules why → out ≡ no_reading why → IsReadAnswer side modules limit out
   answered : (grid : GridView) (answer : Result Reading ReadFault) → IsGridOf side modules grid → ReadAnswer grid limit answer

@@ -2,7 +2,7 @@
 use Rattle.dm_symbol.specs.Sizes.{SizeRow}
 use Rattle.ecc200.specs.declared.sizes.SizeOut.{SizeOut}
 
--- A row of the table.
+-- A row of the table is given in this way.
 abbrev pub size_shown : SizeRow → SizeOut
 size_shown size =
     record {

@@ -10,50 +10,50 @@ use Rattle.dm_symbol.specs.NormalGrid.{IsNormalGrid, FitsSomeSize}
 use Rattle.dm_symbol.specs.Normal.{NormalAnswer}
 use Rattle.ecc200.specs.declared.fault.Fault.{Fault}
 use Rattle.ecc200.specs.declared.symbol.SymbolOut.{SymbolOut}
-use Rattle.ecc200.specs.Arrays.{filled}
+use Rattle.ecc200.specs.Arrays.{most_modules, filled}
 use Rattle.ecc200.specs.Faults.{no_fault, normal_fault, too_long, foreign, no_such_profile}
 use Rattle.ecc200.specs.Items.{IsFirstForeign, numbers_of}
 use Rattle.ecc200.specs.Modules.{IsGridOf, IsModulesFault, modules_of}
 
--- A fault; all else is 0.
+-- What is given for a fault has that fault, and all else is 0.
 abbrev pub no_symbol : Fault → SymbolOut
-no_symbol why = record { fault = why; side = 0; modules = replicate 10816 0 }
+no_symbol why = record { fault = why; side = 0; modules = replicate most_modules 0 }
 
--- The symbol of a grid.
+-- The symbol of a grid has its side and its modules.
 abbrev pub symbol_shown : GridView → SymbolOut
-symbol_shown grid = record { fault = no_fault; side = grid.size.side; modules = filled 10816 (modules_of grid) }
+symbol_shown grid = record { fault = no_fault; side = grid.size.side; modules = filled most_modules (modules_of grid) }
 
--- What is given for an answer: the symbol of the grid, or the fault.
+-- An answer is given as the symbol of its grid, or as its fault.
 abbrev pub answer_shown : Result GridView Fault → SymbolOut
 answer_shown (Ok grid) = symbol_shown grid
 answer_shown (Err why) = no_symbol why
 
--- The profile that a number stands for: 0 stands for `Ascii`, 1 for `Shorter`, and no other number for any.
+-- The number 0 stands for the profile `Ascii`, 1 for `Shorter`, and no other number for any.
 abbrev pub profile_of : ℕ → Option Profile
 profile_of number = if nat_eq number 0 then Some Ascii else (if nat_eq number 1 then Some Shorter else None)
 
--- The answer to the numbers of a message under a profile: the first number that stands for no item, with its place, or with 65535 if the
--- place is more; or that the message fits no size; or its normal grid.
+-- The answer to the numbers of a message under a profile is the first number that stands for no item, with its place, or with 65535 if the place is
+-- more; or that the message fits no size; or its normal grid.
 pub data WrittenAnswer (profile : Profile) (numbers : List ℕ) (answer : Result GridView Fault) : Type 0 where
   no_message : (place : ℕ) → IsFirstForeign numbers place → answer ≡ Err (foreign (get_or numbers place 0) (min place 65535)) → WrittenAnswer profile numbers answer
-  no_grid : (m : List Item) → IsMessage m → numbers_of m ≡ numbers → (FitsSomeSize profile m → ⊥) → answer ≡ Err too_long → WrittenAnswer profile numbers answer
-  normal : (m : List Item) (grid : GridView) → IsMessage m → numbers_of m ≡ numbers → IsNormalGrid profile m grid → answer ≡ Ok grid → WrittenAnswer profile numbers answer
+  no_grid : (message : List Item) → IsMessage message → numbers_of message ≡ numbers → (FitsSomeSize profile message → ⊥) → answer ≡ Err too_long → WrittenAnswer profile numbers answer
+  normal : (message : List Item) (grid : GridView) → IsMessage message → numbers_of message ≡ numbers → IsNormalGrid profile message grid → answer ≡ Ok grid → WrittenAnswer profile numbers answer
 
--- The answer to modules under a profile: why they make no grid; or why their grid has no normal grid; or its normal grid.
+-- The answer to modules under a profile is why they make no grid; or why their grid has no normal grid; or its normal grid.
 pub data NormalisedAnswer (profile : Profile) (side : ℕ) (modules : List ℕ) (limit : ℕ) (answer : Result GridView Fault) : Type 0 where
   no_grid : (why : Fault) → IsModulesFault side modules why → answer ≡ Err why → NormalisedAnswer profile side modules limit answer
   refused : (grid : GridView) (why : NormalFault) → IsGridOf side modules grid → NormalAnswer profile grid limit (Err why) → answer ≡ Err (normal_fault why)
       → NormalisedAnswer profile side modules limit answer
-  normal : (grid n : GridView) → IsGridOf side modules grid → NormalAnswer profile grid limit (Ok n) → answer ≡ Ok n → NormalisedAnswer profile side modules limit answer
+  normal : (grid normal_grid : GridView) → IsGridOf side modules grid → NormalAnswer profile grid limit (Ok normal_grid) → answer ≡ Ok normal_grid → NormalisedAnswer profile side modules limit answer
 
--- What writing these numbers gives: that there is no such profile, or the answer under that profile.
+-- Writing these numbers gives that there is no such profile, or the answer under that profile.
 pub data IsWriteAnswer (numbers : List ℕ) (profile : ℕ) (out : SymbolOut) : Type 0 where
   no_profile : profile_of profile ≡ None → out ≡ no_symbol (no_such_profile profile) → IsWriteAnswer numbers profile out
-  answered : (p : Profile) (answer : Result GridView Fault) → profile_of profile ≡ Some p → WrittenAnswer p numbers answer
+  answered : (chosen : Profile) (answer : Result GridView Fault) → profile_of profile ≡ Some chosen → WrittenAnswer chosen numbers answer
       → out ≡ answer_shown answer → IsWriteAnswer numbers profile out
 
--- What normalising the grid of these modules gives: that there is no such profile, or the answer under that profile.
+-- Normalising the grid of these modules gives that there is no such profile, or the answer under that profile.
 pub data IsNormalAnswer (side : ℕ) (modules : List ℕ) (limit profile : ℕ) (out : SymbolOut) : Type 0 where
   no_profile : profile_of profile ≡ None → out ≡ no_symbol (no_such_profile profile) → IsNormalAnswer side modules limit profile out
-  answered : (p : Profile) (answer : Result GridView Fault) → profile_of profile ≡ Some p → NormalisedAnswer p side modules limit answer
+  answered : (chosen : Profile) (answer : Result GridView Fault) → profile_of profile ≡ Some chosen → NormalisedAnswer chosen side modules limit answer
       → out ≡ answer_shown answer → IsNormalAnswer side modules limit profile out

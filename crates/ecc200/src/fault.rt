@@ -14,14 +14,14 @@ pub struct Fault {
 }
 
 impl Fault {
-    /// A fault by its numbers.
+    /// Makes a fault of its three numbers.
     pub(crate) fn of(code: u16, value: u16, place: u16) -> Fault
         ensures { result ≡ fault code value place }
     {
         Fault { code, value, place }
     }
 
-    /// No fault.
+    /// Says that there is no fault.
     pub(crate) fn none() -> Fault
         ensures { result ≡ fault 0 0 0 }
     {
@@ -29,7 +29,7 @@ impl Fault {
     }
 }
 
-/// The fault of a grid that is not read.
+/// Gives the fault of a grid that is not read.
 pub(crate) fn read_fault(why: ReadFault) -> Fault
     ensures { result ≡ read_fault why }
 {
@@ -40,7 +40,7 @@ pub(crate) fn read_fault(why: ReadFault) -> Fault
     }
 }
 
-/// The fault of data codewords that spell no message.
+/// Gives the fault of data codewords that spell no message.
 fn word_fault(why: WordFault) -> Fault
     ensures { result ≡ word_fault why }
 {
@@ -55,7 +55,7 @@ fn word_fault(why: WordFault) -> Fault
     }
 }
 
-/// The fault of a grid that has no normal grid.
+/// Gives the fault of a grid that has no normal grid.
 pub(crate) fn normal_fault(why: NormalFault) -> Fault
     ensures { result ≡ normal_fault why }
 {

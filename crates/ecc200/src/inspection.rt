@@ -8,7 +8,7 @@ use crate::modules::grid_of;
 use dm_layout::MOST_CODEWORDS;
 use dm_symbol::{Inspection, MOST_BLOCKS, inspect};
 
-/// Shown instead of the number of corrected codewords where a block has more errors than can be corrected.
+/// This is shown instead of the number of corrected codewords where a block has more errors than can be corrected.
 const BEYOND: u8 = 255;
 
 /// The codewords of a grid before and after correction. If there is a fault, all else is 0.

@@ -8,7 +8,7 @@ use dm_symbol::{Item, MOST_ITEMS, Message};
 /// The number of FNC1.
 const FNC1: u16 = 256;
 
-/// The place of the first of these numbers that stands for no item.
+/// Gives the place of the first of these numbers that stands for no item.
 pub(crate) fn first_foreign(numbers: &[u16]) -> Option<usize>
     ensures some { IfSome result (λ place. IsFirstForeign numbers.now place) }
     ensures none { IfNone result (All (λ number. number ≤ 256) numbers.now) }
@@ -16,7 +16,7 @@ pub(crate) fn first_foreign(numbers: &[u16]) -> Option<usize>
     numbers.iter().position(|number| *number > FNC1)
 }
 
-/// The message of these numbers.
+/// Gives the message of these numbers.
 pub(crate) fn message_of(numbers: &[u16]) -> Message
     requires items { All (λ number. number ≤ 256) numbers.now }
     requires room { length numbers.now ≤ MOST_ITEMS }
@@ -32,7 +32,7 @@ pub(crate) fn message_of(numbers: &[u16]) -> Message
     message
 }
 
-/// The item of a number.
+/// Gives the item of a number.
 fn item_of(number: u16) -> Item
     requires { number ≤ 256 }
     ensures { number_of result ≡ number }
@@ -44,7 +44,7 @@ fn item_of(number: u16) -> Item
     }
 }
 
-/// The number of an item.
+/// Gives the number of an item.
 fn number_of(item: Item) -> u16
     ensures { result ≡ number_of item }
 {

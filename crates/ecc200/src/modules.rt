@@ -9,7 +9,7 @@ use dm_symbol::{Grid, LARGEST_SIDE};
 /// The most modules of a symbol.
 pub(crate) const MOST_MODULES: usize = LARGEST_SIDE * LARGEST_SIDE;
 
-/// The grid of these modules.
+/// Gives the grid of these modules, or says why they make none.
 pub(crate) fn grid_of(modules: &[u8], side: u16) -> Result<Grid, Fault>
     ensures grid { IfOk result (λ grid. IsGridOf side modules.now grid) }
     ensures fault { IfErr result (λ why. IsModulesFault side modules.now why) }
@@ -31,7 +31,7 @@ pub(crate) fn grid_of(modules: &[u8], side: u16) -> Result<Grid, Fault>
     }
 }
 
-/// A row of modules as one number: the module of a column is the bit whose weight is 2 to the power of that column, 1 for dark.
+/// Packs a row of modules into one number: the module of a column is the bit whose weight is 2 to the power of that column, 1 for dark.
 fn packed(modules: &[u8]) -> u128
     requires { length modules.now ≤ 127 }
     ensures { (column : ℕ) → column < length modules.now → is_dark_in result column ≡ is_dark (get_or modules.now column 0) }

@@ -18,17 +18,22 @@ pub struct PlaceOut {
     pub kind: u8,
 }
 
-/// The kinds of modules.
+/// The kind of what is no module of the symbol.
 const NO_MODULE: u8 = 0;
 
+/// The kind of a bit of a codeword.
 const BIT: u8 = 1;
 
+/// The kind of a light module of a border.
 const BORDER_LIGHT: u8 = 2;
 
+/// The kind of a dark module of a border.
 const BORDER_DARK: u8 = 3;
 
+/// The kind of a light module of the fixed square.
 const FIXED_LIGHT: u8 = 4;
 
+/// The kind of a dark module of the fixed square.
 const FIXED_DARK: u8 = 5;
 
 /// What each module of a symbol is, row by row from the top. If there is a fault, all else is 0.
@@ -86,7 +91,7 @@ fn put_structure(places: &mut [PlaceOut], size: Size)
     }
 }
 
-/// The same for one row.
+/// Writes one row of them.
 fn put_structure_row(places: &mut [PlaceOut], size: Size, row: u16)
     requires row { row < size.side }
     requires room { size.side * size.side ≤ length places.old }
@@ -100,7 +105,7 @@ fn put_structure_row(places: &mut [PlaceOut], size: Size, row: u16)
     }
 }
 
-/// A module of a border, or else one of the fixed square, whose dark modules lie on its diagonal.
+/// Gives a module of a border, or else one of the fixed square, whose dark modules lie on its diagonal.
 fn structure_place(size: Size, row: u16, column: u16) -> PlaceOut
     ensures { result ≡ structure_place size row column }
 {

@@ -46,7 +46,7 @@ pub extern "C" fn ecc200_read(
     out.fault.code
 }
 
-/// How many wrong border modules are usually accepted in a symbol of this side.
+/// Gives the number of wrong border modules that are usually accepted in a symbol of this side.
 #[unsafe(no_mangle)]
 pub extern "C" fn ecc200_usual_limit(side: u16) -> u16
     ensures { result ≡ usual_limit side }

@@ -47,7 +47,7 @@ fn put_sizes(rows: &mut [SizeOut], sizes: &[Size])
     }
 }
 
-/// A row of the table.
+/// Gives a row of the table as the header shows it.
 fn size_shown(size: Size) -> SizeOut
     ensures { result ≡ size_shown size }
 {

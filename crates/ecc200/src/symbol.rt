@@ -61,7 +61,7 @@ pub extern "C" fn ecc200_normal(
     out.fault.code
 }
 
-/// The profile that a number stands for.
+/// Gives the profile that a number stands for.
 fn profile_of(number: u16) -> Option<Profile>
     ensures { result ≡ profile_of number }
 {
@@ -82,7 +82,7 @@ fn written(items: &[u16], profile: Profile, grid: &mut Grid) -> Result<(), Fault
     }
 }
 
-/// The same where each number stands for an item.
+/// Does the same where each number stands for an item.
 fn written_message(items: &[u16], profile: Profile, grid: &mut Grid) -> Result<(), Fault>
     requires { All (λ item. item ≤ 256) items.now }
     ensures { WrittenAnswer profile items.now (outcome result grid.new) }

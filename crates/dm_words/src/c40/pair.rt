@@ -56,7 +56,7 @@ pub struct Pairs {
     pub end: PairsEnd,
 }
 
-/// The pairs at the front of the words.
+/// Gives the pairs at the front of the words.
 pub fn pairs_of(words: &[u8]) -> Pairs
     requires { length words.now ≤ MOST_DATA }
     ensures values { result.values.items ≡ flat (pairs_in words.now).taken }

@@ -13,7 +13,7 @@ use crate::limits::MOST_VALUES;
 use crate::message::Message;
 use dm_layout::MOST_DATA;
 
-/// The place of the pair that holds the value of an index, in a run whose latch stands at a place.
+/// Gives the place of the pair that holds the value of an index, in a run whose latch stands at a place.
 fn pair_place(place: u16, index: u16) -> u16
     requires { place + 1 + 2 * (index / 3) < 2 ^ 16 }
     ensures { result ≡ pair_place_of place index }
@@ -21,8 +21,8 @@ fn pair_place(place: u16, index: u16) -> u16
     place + 1 + 2 * (index / 3)
 }
 
-/// What is wrong with the run whose latch stands at a place, if anything is: the first wrong value; if there is none, a bad pair; if
-/// there is none either, an Upper Shift that waits. The pairs have so many codewords.
+/// Tells what is wrong with the run whose latch stands at a place, if anything is: the first wrong value; if there is none, a bad pair; if there is
+/// none either, an Upper Shift that waits. The pairs have `pair_words` codewords.
 fn fault_of(place: u16, pair_words: usize, end: PairsEnd, spelled: Spelled) -> Option<WordFault>
     requires place { place ≤ MOST_DATA }
     requires pair_words { pair_words ≤ MOST_DATA }
@@ -61,7 +61,7 @@ pub fn run_part(
     }
 }
 
-/// How many codewords the end of a run has.
+/// Gives the number of codewords of the end of a run.
 fn end_length(end: PairsEnd) -> usize
     ensures { result ≡ end_length end }
 {

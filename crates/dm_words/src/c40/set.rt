@@ -34,7 +34,7 @@ pub enum Shifted {
     UpperShift,
 }
 
-/// The meaning of a value in the basic set.
+/// Gives the meaning of a value in the basic set.
 pub fn basic_meaning(set: CodeSet, value: u8) -> Basic
     requires { value < 40 }
     ensures { basic_of set value ≡ Some result }
@@ -53,7 +53,7 @@ pub fn basic_meaning(set: CodeSet, value: u8) -> Basic
     }
 }
 
-/// The meaning of a value after a shift, `None` where it has none. X12 has no shift.
+/// Gives the meaning of a value after a shift, or `None` where it has none. X12 has no shift.
 pub fn shifted_meaning(set: CodeSet, shift: Shift, value: u8) -> Option<Shifted>
     ensures { result ≡ shifted_of set shift value }
 {

@@ -18,7 +18,8 @@ pub enum Rest {
     Waiting,
     /// An Upper Shift before FNC1 or another Upper Shift.
     WrongUpperShift,
-    /// A shift before a value that has no meaning after it, with or without an Upper Shift before them. The value stands so many values on.
+    /// A shift before a value that has no meaning after it, with or without an Upper Shift before them. The number says how many values further on
+    /// that value stands.
     Meaningless(u8),
 }
 
@@ -29,7 +30,7 @@ pub enum Spelling {
     Stops(Rest),
 }
 
-/// The spelling at an index.
+/// Gives the spelling at an index.
 fn spelling_at(set: CodeSet, values: &[u8], at: usize) -> Spelling
     requires in_range { at ≤ length values.now }
     requires small { All IsSmall values.now }
@@ -53,7 +54,7 @@ fn spelling_at(set: CodeSet, values: &[u8], at: usize) -> Spelling
     }
 }
 
-/// The spelling whose Upper Shift ends before an index.
+/// Gives the spelling whose Upper Shift ends before an index.
 fn raised_at(set: CodeSet, values: &[u8], at: usize) -> Spelling
     requires in_range { at ≤ length values.now }
     requires small { All IsSmall values.now }

@@ -7,16 +7,16 @@ use Rattle.dm_layout.specs.Modules.{border_colour}
 use Rattle.ecc200.specs.declared.places.PlaceOut.{PlaceOut}
 use Rattle.ecc200.specs.Places.{bit_place, border_place, fixed_place}
 
--- A module of a border, by its colour; or, where no border is, a module of the fixed square.
+-- A colour is that of a module of a border; where there is none, the module is one of the fixed square.
 abbrev pub structure_by : Option Bool → ℕ → ℕ → PlaceOut
 structure_by (Some dark) row column = border_place dark
 structure_by None row column = fixed_place (nat_eq row column)
 
--- A module before the bits are written.
+-- This is a module before the bits are written.
 abbrev pub structure_place : SizeRow → ℕ → ℕ → PlaceOut
 structure_place size row column = structure_by (border_colour size row column) row column
 
--- The modules after these bits are written, one after the other.
+-- These are the modules after these bits are written, one after the other.
 abbrev pub with_bits : SizeRow → List Place → List PlaceOut → List PlaceOut
 with_bits size [] places = places
 with_bits size (p ∷ rest) places =

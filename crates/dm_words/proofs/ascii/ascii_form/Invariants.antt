@@ -4,7 +4,7 @@ use Rattle.dm_words.specs.Ascii.{ascii}
 use Rattle.dm_words.specs.NormalForm.{has_fnc1}
 use Rattle.dm_words.proofs.ascii.ascii_form.Given as goal
 
--- the units before the index are counted
+-- The units before the index are counted.
 abbrev pub invariant-loop-at : goal.invariant-loop-at
 invariant-loop-at l = record {
   in_range : l.at ≤ length l.items;

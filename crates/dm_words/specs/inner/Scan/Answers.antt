@@ -14,18 +14,18 @@ use Rattle.dm_words.specs.Ascii.{single, ascii}
 use Rattle.dm_words.specs.NormalForm.{has_fnc1}
 use Rattle.dm_words.specs.inner.Scan.Walk.{Step, Takes, Stops}
 
--- The part of so many words was taken and its items stand behind the old ones; or there was the end; or a fault.
+-- A part with the answered number of words was taken, and its items stand behind the old ones; or the end was met; or a fault.
 abbrev pub IsPartTakenOrEnd : Result (Option ℕ) WordFault → List Item → List Item → Step (List Item) (Option WordFault) → Type 0
 IsPartTakenOrEnd (Ok None) old new step = (step ≡ Stops None) × (new ≡ old)
 IsPartTakenOrEnd (Ok (Some n)) old new step = (items : List Item) × (step ≡ Takes n items) × (new ≡ old ++ items)
 IsPartTakenOrEnd (Err f) old new step = step ≡ Stops (Some f)
 
--- The same where the end cannot come.
+-- A part with the answered number of words was taken, and its items stand behind the old ones; or a fault was met.
 abbrev pub IsPartTaken : Result ℕ WordFault → List Item → List Item → Step (List Item) (Option WordFault) → Type 0
 IsPartTaken (Ok n) old new step = (items : List Item) × (step ≡ Takes n items) × (new ≡ old ++ items)
 IsPartTaken (Err f) old new step = step ≡ Stops (Some f)
 
--- A value of a run.
+-- A value of a run is below 40.
 abbrev pub IsSmall : ℕ → Type 0
 IsSmall v = v < 40
 

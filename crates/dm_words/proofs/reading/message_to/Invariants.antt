@@ -1,6 +1,6 @@
 use Rattle.std.proofs.Common.{◌≡◌, ◌+◌, ◌-◌, ◌*◌, ◌≤◌, length, drop}
 use Rattle.dm_words.specs.inner.Scan.Fronts.{reading, read_on}
-use Rattle.dm_words.proofs.reading.read_all.Given as goal
+use Rattle.dm_words.proofs.reading.message_to.Given as goal
 
 abbrev pub invariant-loop-count : goal.invariant-loop-count
 invariant-loop-count l = record {
