@@ -6,7 +6,8 @@ use Rattle.std.proofs.lemmas.Nat.{mod-mul-add, div-mul-add}
 use Rattle.std.proofs.lemmas.List.Sums.{sum_by_push}
 use Rattle.dm_layout.specs.Sizes.{SizeRow, IsRow, regions_across}
 use Rattle.dm_layout.specs.Grid.{GridView}
-use Rattle.dm_layout.specs.Border.{is_border, is_fault, symbol_line, mapping_line}
+use Rattle.dm_layout.specs.Border.{is_border, is_fault, symbol_line}
+use Rattle.dm_layout.specs.inner.Drawing.{mapping_line}
 use Rattle.std.proofs.Math.Nat.{div-add-mod, mul-le-mul_right, lt_of_mul-lt-mul_right}
 use Rattle.std.proofs.lemmas.Bool.{and_parts}
 use Rattle.dm_layout.proofs.TableRows.{row_facts}

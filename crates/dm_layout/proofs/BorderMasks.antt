@@ -2,6 +2,7 @@
 use Rattle.std.proofs.Common.{◌≡◌, ◌≢◌, ◌⊎◌, inl, inr, ℕ, zero, suc, ◌+◌, ◌-◌, ◌*◌, ◌/◌, ◌%◌, ◌^◌, ◌<◌, ◌≤◌, Bool, true, false, not, ◌&&◌, ◌||◌, cond, nat_eq, nat_lt, [], ◌∷◌, ◌++◌, refl, sym, ◌∙◌, ap, subst, arith, eq-eqb}
 use Rattle.std.specs.Prelude.{count_by, count_ones, min}
 use Rattle.std.specs.Bool.{beq}
+use Rattle.std.specs.Cmp.{booleans_Decides}
 use Rattle.std.specs.Int.{bit_at}
 use Rattle.std.specs.Int.RustNames.{bit_xor}
 use lib.Bits.{bit_and}
@@ -17,6 +18,7 @@ use Rattle.dm_layout.specs.Sizes.{SizeRow, IsRow, regions_across}
 use Rattle.dm_layout.specs.Grid.{GridView, cell_at, is_dark_in}
 use Rattle.dm_layout.specs.Border.{is_on_edge, edge_is_dark, is_fault, is_border, border_is_dark}
 use Rattle.dm_layout.specs.inner.BorderMasks.{AreBorders, is_wrong}
+use Rattle.dm_layout.specs.declared.border.TheConstants.{EVEN_COLUMNS}
 use Rattle.dm_layout.proofs.Ranges.{same_tests}
 use Rattle.dm_layout.proofs.PackedRows.{darkened, darkened_cell, darkened_narrow}
 use Rattle.dm_layout.proofs.Ranges.{range-append, all_at}
@@ -231,29 +233,22 @@ one_ruled last a left both least fits old =
       both_width = darkened_narrow (darkened both k) (k + last) n ll nl (darkened_narrow both k n lk nk (omega (arith, m, bw)));
     }
 
--- Truth values that compare equal are equal.
-pub beq-true : (a b : Bool) → beq a b ≡ true → a ≡ b
-beq-true true true e = refl
-beq-true true false e = sym e
-beq-true false true e = e
-beq-true false false e = refl
-
 -- A test of 128 columns, computed by the checker: in one row the even columns are dark, in the other all.
-patterns : list_all (λ c. beq (is_dark_in 113427455640312821154458202477256070485 c) (nat_eq (c % 2) 0) && is_dark_in 340282366920938463463374607431768211455 c) (range_with_len 0 128) ≡ true
+patterns : list_all (λ c. beq (is_dark_in EVEN_COLUMNS c) (nat_eq (c % 2) 0) && is_dark_in (2 ^ 128 - 1) c) (range_with_len 0 128) ≡ true
 patterns = refl
 
 -- Of these two rows, one is dark at a column exactly where the column is even, and the other is dark at every column.
-patterns_at : (c : ℕ) → c < 128 → (is_dark_in 113427455640312821154458202477256070485 c ≡ nat_eq (c % 2) 0) × (is_dark_in 340282366920938463463374607431768211455 c ≡ true)
+patterns_at : (c : ℕ) → c < 128 → (is_dark_in EVEN_COLUMNS c ≡ nat_eq (c % 2) 0) × (is_dark_in (2 ^ 128 - 1) c ≡ true)
 patterns_at c l =
     let z : 0 + c ≡ c = omega arith in
-    let both = and_parts _ _ (subst (λ (i : ℕ). beq (is_dark_in 113427455640312821154458202477256070485 i) (nat_eq (i % 2) 0) && is_dark_in 340282366920938463463374607431768211455 i ≡ true) z
-    (all_at (λ c. beq (is_dark_in 113427455640312821154458202477256070485 c) (nat_eq (c % 2) 0) && is_dark_in 340282366920938463463374607431768211455 c) 0 128 c patterns l)) in
-    (beq-true _ _ both.0, both.1)
+    let both = and_parts _ _ (subst (λ (i : ℕ). beq (is_dark_in EVEN_COLUMNS i) (nat_eq (i % 2) 0) && is_dark_in (2 ^ 128 - 1) i ≡ true) z
+    (all_at (λ c. beq (is_dark_in EVEN_COLUMNS c) (nat_eq (c % 2) 0) && is_dark_in (2 ^ 128 - 1) c) 0 128 c patterns l)) in
+    ((booleans_Decides _ _).0 both.0, both.1)
 
 -- Once the columns of all squares are drawn, the four rows are those of the borders of the size.
 pub are_borders : (size : SizeRow) (side last a left both even all : ℕ) → IsRow size → side ≡ size.side → last ≡ size.region_side + 1 → a ≡ side / (last + 1) → AreRuled last a left both →
-    ((c : ℕ) → c < side → is_dark_in even c ≡ is_dark_in 113427455640312821154458202477256070485 c) → even < 2 ^ side →
-    ((c : ℕ) → c < side → is_dark_in all c ≡ is_dark_in 340282366920938463463374607431768211455 c) → all < 2 ^ side → AreBorders size last left both even all
+    ((c : ℕ) → c < side → is_dark_in even c ≡ is_dark_in EVEN_COLUMNS c) → even < 2 ^ side →
+    ((c : ℕ) → c < side → is_dark_in all c ≡ is_dark_in (2 ^ 128 - 1) c) → all < 2 ^ side → AreBorders size last left both even all
 are_borders size side last a left both even all row es el ea ruled ev ew av aw =
     let facts = row_facts size row in
     let s : last + 1 ≡ size.region_side + 2 = omega (arith, el) in

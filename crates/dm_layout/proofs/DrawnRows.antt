@@ -6,11 +6,11 @@ use Rattle.std.proofs.lemmas.Bool.{eqb-true, ne_eqb, cases_lt, le-ltb, lt-ltb}
 use Rattle.std.proofs.lemmas.Bool.Decides.{eqb_tells}
 use Rattle.dm_layout.specs.declared.shape.Cell.{Cell}
 use Rattle.dm_layout.specs.Sizes.{SizeRow, IsRow, regions_across}
-use Rattle.dm_layout.specs.Border.{symbol_line, mapping_line, mapped_cell, is_border, border_is_dark, is_fixed, fixed_is_dark, is_fixed_dark, empty_grid, empty_colour}
+use Rattle.dm_layout.specs.Border.{symbol_line, mapped_cell, is_border, border_is_dark, is_fixed, fixed_is_dark}
 use Rattle.dm_layout.specs.Grid.{GridView, IsGrid, is_dark_in, cell_at}
 use Rattle.dm_layout.specs.Holds.{bit_of, IsLaid}
 use Rattle.dm_layout.specs.Placement.{IsPlace, EachCellOnce}
-use Rattle.dm_layout.specs.inner.Drawing.{IsDrawn}
+use Rattle.dm_layout.specs.inner.Drawing.{IsDrawn, mapping_line, is_fixed_dark, empty_grid, empty_colour}
 use Rattle.dm_layout.specs.Words.{WordsView, IsWords}
 use Rattle.dm_layout.proofs.GridLemmas.{cell_of_square}
 use Rattle.dm_layout.proofs.Laid.{begun_empty, on_border, in_mapping}

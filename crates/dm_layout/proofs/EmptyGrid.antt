@@ -6,8 +6,9 @@ use Rattle.std.proofs.Math.Nat.{mul-le-mul_right}
 use Rattle.std.proofs.lemmas.Bool.Decides.{eqb_tells}
 use Rattle.dm_layout.proofs.Ranges.{same_tests}
 use Rattle.dm_layout.specs.Sizes.{SizeRow, IsRow, regions_across}
-use Rattle.dm_layout.specs.Grid.{GridView, IsGrid, cell_at, with_cell}
-use Rattle.dm_layout.specs.Border.{is_border, border_is_dark, symbol_line, mapping_line, is_fixed_dark, empty_colour, empty_grid}
+use Rattle.dm_layout.specs.Grid.{GridView, IsGrid, cell_at}
+use Rattle.dm_layout.specs.inner.Drawing.{with_cell, mapping_line, is_fixed_dark, empty_colour, empty_grid}
+use Rattle.dm_layout.specs.Border.{is_border, border_is_dark, symbol_line}
 use Rattle.dm_layout.proofs.TableRows.{row_facts}
 use Rattle.dm_layout.proofs.GridLemmas.{cell_after, grid_with_cell, grid_of_square, cell_of_square, same_grids}
 use Rattle.dm_layout.proofs.BorderLemmas.{mapped_line, IsFromMapping, IsImage, image_of_mapping, image_is_no_border, symbol_line_parts}

@@ -2,7 +2,7 @@
 use Rattle.std.proofs.Common.{◌≡◌, ℕ, ◌^◌, ◌<◌, ◌↔◌, IsTrue, Bool, true, false, List, length, Some, nat_eq, refl, sym, ◌∙◌, ap, subst}
 use Rattle.std.specs.Prelude.{All}
 use Rattle.std.specs.Bool.{beq}
-use Rattle.std.specs.Cmp.{IsEquivalence, nat_eq_equiv}
+use Rattle.std.specs.Cmp.{IsEquivalence, booleans_Decides, nat_eq_equiv}
 use Rattle.std.specs.Cmp.Lexicographic.{pointwise, lists_equiv, same_text}
 use Rattle.std.proofs.lemmas.Bool.{and_parts, eqb-true}
 use Rattle.dm_layout.specs.Sizes.{SizeRow, IsRow, row_with_side}
@@ -18,19 +18,12 @@ same_row s t h k e =
     let g : Some s ≡ Some t = sym h ∙ ap row_with_side e ∙ k in
     cc
 
--- Truth values that compare equal are the same.
-same_bools : (x y : Bool) → beq x y ≡ true → x ≡ y
-same_bools true true h = refl
-same_bools true false h = cc
-same_bools false true h = cc
-same_bools false false h = refl
-
 -- Grids that compare equal are the same.
 pub told_grids : (g h : GridView) → IsGrid g → IsGrid h → equal_grids g h ≡ true → g ≡ h
 told_grids g h a b e =
     let both = and_parts (nat_eq g.size.side h.size.side) (pointwise (pointwise beq) g.rows h.rows) e in
     same_parts g.size h.size g.rows h.rows (same_row g.size h.size a.row b.row (eqb-true _ _ both.0))
-    (same_by_pointwise (pointwise beq) (same_by_pointwise beq same_bools) g.rows h.rows both.1)
+    (same_by_pointwise (pointwise beq) (same_by_pointwise beq (λ x y. (booleans_Decides x y).0)) g.rows h.rows both.1)
 
 -- Equal values compare equal by every equivalence.
 pub equal_itself : {A : Type 0} (E : A → A → Bool) → IsEquivalence E → (x y : A) → x ≡ y → E x y ≡ true

@@ -8,7 +8,8 @@ use Rattle.std.proofs.lemmas.List.Elements.{All-get_or, All-map, All-set}
 use Rattle.std.proofs.lemmas.Bool.{eqb-true, eqb-false}
 use Rattle.std.proofs.Math.ListN.{length-set}
 use Rattle.dm_layout.specs.Sizes.{SizeRow, IsRow}
-use Rattle.dm_layout.specs.Grid.{GridView, IsGrid, cell_at, with_cell, square_by}
+use Rattle.dm_layout.specs.Grid.{GridView, IsGrid, cell_at, square_by}
+use Rattle.dm_layout.specs.inner.Drawing.{with_cell}
 
 -- ---- two grids
 

@@ -1,5 +1,5 @@
 -- Every grid holds some codewords, and codewords are laid in some grid.
-use Rattle.std.proofs.Common.{ℕ, ◌<◌, ◌≤◌, Bool, true, false, [], ◌∷◌, map, refl, sym, subst, ◌∙◌, arith}
+use Rattle.std.proofs.Common.{ℕ, ◌<◌, Bool, [], ◌∷◌, map, refl, sym, subst, ◌∙◌, arith}
 use Rattle.std.specs.List.{All}
 use Rattle.std.proofs.lemmas.List.Elements.{All-map, All-from_get_or}
 use Rattle.dm_layout.specs.declared.shape.Shape.{Shape}
@@ -9,15 +9,10 @@ use Rattle.dm_layout.specs.Border.{mapped_cell}
 use Rattle.dm_layout.specs.Words.{WordsView, IsWords}
 use Rattle.dm_layout.specs.Holds.{Holds, IsLaid}
 use Rattle.dm_layout.specs.Placement.{cells_of, shapes, places_in_order}
-use Rattle.dm_layout.proofs.Bits.{digit, number_of}
+use Rattle.dm_layout.proofs.Bits.{digit_small, number_of}
 use Rattle.dm_layout.proofs.PlacementRows.{count_at_row}
 use Rattle.dm_layout.proofs.Laid.{laid, laid_grid}
 use Rattle.dm_layout.proofs.Reading.{gathered, gathered_all, length-gathered, word_of, held}
-
--- A digit is 0 or 1.
-digit_small : (b : Bool) → digit b ≤ 1
-digit_small true = omega arith
-digit_small false = omega arith
 
 -- Eight digits make a byte.
 eight_digits : (a b c d e f g h : Bool) → number_of 0 (a ∷ b ∷ c ∷ d ∷ e ∷ f ∷ g ∷ h ∷ []) < 256

@@ -6,7 +6,8 @@ use Rattle.std.proofs.lemmas.List.{take_more, take_more_set, drop-replicate, tak
 use Rattle.std.proofs.lemmas.List.Elements.{All-append, All-drop, All-replicate, All-take}
 use borrow.Rule.Slice.PartMut.{put_mid, same_len_mid}
 use Rattle.dm_layout.specs.Sizes.{SizeRow, IsRow, codeword_count, most_codewords}
-use Rattle.dm_layout.specs.Words.{IsWords, kept_words, AreKept}
+use Rattle.dm_layout.specs.Words.{IsWords}
+use Rattle.dm_layout.specs.inner.Keeping.{kept_words, AreKept}
 
 -- The codewords that are kept for a size are well-formed codewords of that size.
 pub words_of_kept : (size : SizeRow) (kept : List ℕ) → AreKept size kept → IsWords (kept_words size kept)

@@ -15,8 +15,9 @@ use Rattle.dm_layout.specs.Grid.{is_dark_in}
 use Rattle.dm_layout.specs.Placement.{standard, cells_of, shapes, places_from, places_in_order}
 use Rattle.dm_layout.specs.inner.Laying.{by_anchors, scattered, folded, corner_marks, with_byte}
 use Rattle.dm_layout.specs.inner.Reading.{marks_in}
-use Rattle.dm_layout.specs.inner.Slots.{first_column, reversed_bits, slot_of}
+use Rattle.dm_layout.specs.inner.Slots.{corner_slot, first_column, reversed_bits, slot_of}
 use Rattle.dm_layout.proofs.FoldedRows.{folded_or, folded_same, folded_none}
+use Rattle.dm_layout.proofs.OnePlace.{eight}
 use Rattle.dm_layout.proofs.LaidSlots.{marks_low, marks_reversed, marks_turned, marks_or, wide_cells, scattered_shape, scattered_corner, folded_marks, wide_folded}
 use Rattle.dm_layout.proofs.LiftedWords.{kind_test, inside_test, fits_test}
 use Rattle.dm_layout.proofs.Painting.{marks, marks_word, light_at}
@@ -54,15 +55,15 @@ module _ (n width last y : ℕ) (slots : List ℕ) (room : AreRoom n width last)
       ∙ ap (λ (k : ℕ). set slots i (bit_or (get_or slots i 0) (y * 2 ^ (8 * k) % 2 ^ width))) place
 
   -- A byte that is added to the slot of a corner is laid over the last row.
-  corner_byte : with_byte width last slots 1536 y ≡ set slots last (bit_or (get_or slots last 0) y)
+  corner_byte : with_byte width last slots corner_slot y ≡ set slots last (bit_or (get_or slots last 0) y)
   corner_byte =
-      let row : min (1536 / 16) last ≡ last = omega (arith, room.last_most) in
+      let row : min (corner_slot / 16) last ≡ last = omega (arith, room.last_most) in
       let wide : 8 ≤ width = omega (arith, room.fits) in
-      let eight : 2 ^ 8 ≤ 2 ^ width = pow_mono wide in
+      let byte : 2 ^ 8 ≤ 2 ^ width = pow_mono wide in
       let same : y * 1 ≡ y = omega arith in
       ap (λ (k : ℕ). set slots k (bit_or (get_or slots k 0) (y * 1 % 2 ^ width))) row
       ∙ ap (λ (x : ℕ). set slots last (bit_or (get_or slots last 0) (x % 2 ^ width))) same
-      ∙ ap (λ (x : ℕ). set slots last (bit_or (get_or slots last 0) x)) (mod-eq_of_lt (omega (arith, small, eight)))
+      ∙ ap (λ (x : ℕ). set slots last (bit_or (get_or slots last 0) x)) (mod-eq_of_lt (omega (arith, small, byte)))
 
   -- One more byte in the slot of an anchor marks the cells of the anchor's standard shape.
   put_standard : (i j r c : ℕ) → i < n → j < n → (5 * i + j) % 8 ≡ 4 → r < n → c < n →
@@ -85,7 +86,7 @@ module _ (n width last y : ℕ) (slots : List ℕ) (room : AreRoom n width last)
       corner = marks_low (get_or slots last 0) 0 (corner_cells n) r c
 
   -- One more byte in the slot of the corner marks the cells of the corner.
-  put_corner : (xs : List Cell) (r c : ℕ) → c < n → corner_cells n ≡ xs → laid_slots n last (with_byte width last slots 1536 y) r c ≡ (laid_slots n last slots r c || marks_low y 0 xs r c)
+  put_corner : (xs : List Cell) (r c : ℕ) → c < n → corner_cells n ≡ xs → laid_slots n last (with_byte width last slots corner_slot y) r c ≡ (laid_slots n last slots r c || marks_low y 0 xs r c)
   put_corner xs r c lc e =
       ap (λ (ss : List ℕ). laid_slots n last ss r c) corner_byte
       ∙ ap (λ (b : Bool). b || marks_low (get_or news last 0) 0 (corner_cells n) r c) (folded_same n width (scattered n news) (scattered n slots) r c lc (omega (arith, room.fits)) (λ u v _. scattered_corner n slots last y u v room.most inside))
@@ -115,14 +116,6 @@ module _ (n width last y : ℕ) (slots : List ℕ) (room : AreRoom n width last)
   put_low Corner3 r c fits lr lc = cc
   put_low Corner4 r c fits lr lc = cc
 
--- A shape has eight cells.
-eight_cells : (n : ℕ) (s : Shape) → length (cells_of n s) ≡ 8
-eight_cells n (Standard r c) = refl
-eight_cells n Corner1 = refl
-eight_cells n Corner2 = refl
-eight_cells n Corner3 = refl
-eight_cells n Corner4 = refl
-
 -- A byte with its bits in the opposite order is a byte.
 reversed_small : (w : ℕ) → reversed_bits w < 256
 reversed_small w = omega arith
@@ -131,7 +124,7 @@ reversed_small w = omega arith
 slot_put : (n width last w : ℕ) (slots : List ℕ) (s : Shape) (r c : ℕ) → AreRoom n width last → n % 2 ≡ 0 → last < length slots → w < 256 → fits_test n s ≡ true → r < n → c < n →
     laid_slots n last (with_byte width last slots (slot_of s) (reversed_bits w)) r c ≡ (laid_slots n last slots r c || marks_in w 0 (cells_of n s) r c)
 slot_put n width last w slots s r c room even inside small fits lr lc =
-    let k = eight_cells n s in
+    let k = eight n s in
     put_low n width last (reversed_bits w) slots room even inside (reversed_small w) s r c fits lr lc ∙ ap (λ (b : Bool). laid_slots n last slots r c || b) (marks_reversed w (cells_of n s) r c small (omega arith))
 
 -- ---- all codewords

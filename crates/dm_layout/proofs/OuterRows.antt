@@ -12,7 +12,8 @@ use Rattle.std.proofs.lemmas.Nat.{pow-add, mul-add-lt, div-mul-add, mod-mul-add,
 use Rattle.std.proofs.lemmas.Nat.Bits.{bit_at_cat_low, bit_at_cat_high, bit_at-lt, bit_at-zero, bit_at_or, bit_at_above}
 use Rattle.dm_layout.specs.Sizes.{SizeRow}
 use Rattle.dm_layout.specs.Border.{symbol_line}
-use Rattle.dm_layout.specs.Grid.{is_dark_in, cell_at, kept_grid, IsKept}
+use Rattle.dm_layout.specs.Grid.{is_dark_in, cell_at}
+use Rattle.dm_layout.specs.inner.Keeping.{kept_grid, IsKept}
 use Rattle.dm_layout.proofs.InnerRows.{moved_bit}
 use Rattle.dm_layout.proofs.PackedRows.{weight, front_cell, cell_of_kept, kept_set, kept_narrow}
 use Rattle.dm_layout.proofs.SymbolLines.{symbol_line-form, region_below}

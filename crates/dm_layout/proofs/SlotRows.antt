@@ -3,6 +3,7 @@ use Rattle.std.proofs.Common.{◌≡◌, ◌≢◌, ◌⊎◌, inl, inr, ℕ, ze
 use lib.Bits.{bit_and}
 use Rattle.std.proofs.Math.Bool.{or-false}
 use Rattle.std.specs.Bool.{beq}
+use Rattle.std.specs.Cmp.{booleans_Decides}
 use Rattle.std.specs.Prelude.{min}
 use Rattle.std.specs.Int.{bit_at}
 use Rattle.std.specs.Int.RustNames.{bit_or}
@@ -12,13 +13,13 @@ use Rattle.std.proofs.lemmas.Nat.Bits.{bit_at_and, bit_at-lt}
 use Rattle.dm_layout.specs.Grid.{is_dark_in}
 use Rattle.dm_layout.specs.inner.Reading.{look_in}
 use Rattle.dm_layout.specs.inner.Slots.{is_joined, reversed_bits}
-use Rattle.dm_layout.specs.declared.slots.TheConstants.{REVERSED}
-use Rattle.dm_layout.proofs.BorderMasks.{beq-true}
+use Rattle.dm_layout.specs.declared.slots.TheConstants.{REVERSED, TWO, THREE}
+use Rattle.dm_layout.specs.declared.bit_rows.TheConstants.{NARROW_TWO, NARROW_THREE}
 use Rattle.dm_layout.proofs.Ranges.{all_below}
 use Rattle.dm_layout.proofs.OuterRows.{or_dark}
 use Rattle.dm_layout.specs.Placement.{cells_of}
 use Rattle.dm_layout.specs.declared.shape.Shape.TheVariants.{Corner1, Corner2}
-use Rattle.dm_layout.specs.inner.Slots.{IsJoined, AreJoined, HasSlot, HasSlots, first_column, slot_byte, word_in}
+use Rattle.dm_layout.specs.inner.Slots.{IsJoined, AreJoined, HasSlot, HasSlots, corner_slot, first_column, slot_byte, word_in}
 use Rattle.std.proofs.Math.Nat.{min-eq_left, min-eq_right}
 use Rattle.dm_layout.proofs.InnerRows.{moved_bit}
 use Rattle.dm_layout.proofs.WidenedRows.{bit_up, none_up, low_bit}
@@ -78,28 +79,28 @@ and_dark a b c = ap (λ (i : ℕ). nat_eq i 1) (bit_at_and a b c) ∙ min_one (b
 
 -- A test of 128 columns, computed by the checker: the masks have the
 -- lowest two and the lowest three bits of each byte.
-masks : list_all (λ c. beq (is_dark_in 4003321963775746628980877734491390723 c) (nat_lt (c % 8) 2) && beq (is_dark_in 9341084582143408800955381380479911687 c) (nat_lt (c % 8) 3)) (range_with_len 0 128) ≡ true
+masks : list_all (λ c. beq (is_dark_in TWO c) (nat_lt (c % 8) 2) && beq (is_dark_in THREE c) (nat_lt (c % 8) 3)) (range_with_len 0 128) ≡ true
 masks = refl
 
 -- The masks of sixteen bytes have the lowest two and the lowest three bits of each byte.
-pub masks_at : (c : ℕ) → c < 128 → (is_dark_in 4003321963775746628980877734491390723 c ≡ nat_lt (c % 8) 2) × (is_dark_in 9341084582143408800955381380479911687 c ≡ nat_lt (c % 8) 3)
+pub masks_at : (c : ℕ) → c < 128 → (is_dark_in TWO c ≡ nat_lt (c % 8) 2) × (is_dark_in THREE c ≡ nat_lt (c % 8) 3)
 masks_at c l =
     let both =
-    and_parts (beq (is_dark_in 4003321963775746628980877734491390723 c) (nat_lt (c % 8) 2)) (beq (is_dark_in 9341084582143408800955381380479911687 c) (nat_lt (c % 8) 3))
-    (all_below (λ c. beq (is_dark_in 4003321963775746628980877734491390723 c) (nat_lt (c % 8) 2) && beq (is_dark_in 9341084582143408800955381380479911687 c) (nat_lt (c % 8) 3)) 128 c masks l) in
-    (beq-true _ _ both.0, beq-true _ _ both.1)
+    and_parts (beq (is_dark_in TWO c) (nat_lt (c % 8) 2)) (beq (is_dark_in THREE c) (nat_lt (c % 8) 3))
+    (all_below (λ c. beq (is_dark_in TWO c) (nat_lt (c % 8) 2) && beq (is_dark_in THREE c) (nat_lt (c % 8) 3)) 128 c masks l) in
+    ((booleans_Decides _ _).0 both.0, (booleans_Decides _ _).0 both.1)
 
 -- A test of 64 columns, computed by the checker: the masks have the
 -- lowest two and the lowest three bits of each byte.
-narrow_masks : list_all (λ c. beq (is_dark_in 217020518514230019 c) (nat_lt (c % 8) 2) && beq (is_dark_in 506381209866536711 c) (nat_lt (c % 8) 3)) (range_with_len 0 64) ≡ true
+narrow_masks : list_all (λ c. beq (is_dark_in NARROW_TWO c) (nat_lt (c % 8) 2) && beq (is_dark_in NARROW_THREE c) (nat_lt (c % 8) 3)) (range_with_len 0 64) ≡ true
 narrow_masks = refl
 
-pub narrow_masks_at : (c : ℕ) → c < 64 → (is_dark_in 217020518514230019 c ≡ nat_lt (c % 8) 2) × (is_dark_in 506381209866536711 c ≡ nat_lt (c % 8) 3)
+pub narrow_masks_at : (c : ℕ) → c < 64 → (is_dark_in NARROW_TWO c ≡ nat_lt (c % 8) 2) × (is_dark_in NARROW_THREE c ≡ nat_lt (c % 8) 3)
 narrow_masks_at c l =
     let both =
-    and_parts (beq (is_dark_in 217020518514230019 c) (nat_lt (c % 8) 2)) (beq (is_dark_in 506381209866536711 c) (nat_lt (c % 8) 3))
-    (all_below (λ c. beq (is_dark_in 217020518514230019 c) (nat_lt (c % 8) 2) && beq (is_dark_in 506381209866536711 c) (nat_lt (c % 8) 3)) 64 c narrow_masks l) in
-    (beq-true _ _ both.0, beq-true _ _ both.1)
+    and_parts (beq (is_dark_in NARROW_TWO c) (nat_lt (c % 8) 2)) (beq (is_dark_in NARROW_THREE c) (nat_lt (c % 8) 3))
+    (all_below (λ c. beq (is_dark_in NARROW_TWO c) (nat_lt (c % 8) 2) && beq (is_dark_in NARROW_THREE c) (nat_lt (c % 8) 3)) 64 c narrow_masks l) in
+    ((booleans_Decides _ _).0 both.0, (booleans_Decides _ _).0 both.1)
 
 -- A masked row, moved to the left, is dark where the row is at the lowest three bits of a byte.
 pub masked_up : (width mask count b s c : ℕ) → ((i : ℕ) → i < width → is_dark_in mask i ≡ nat_lt (i % 8) count) → c < width →
@@ -131,13 +132,13 @@ module _ (width two three : ℕ) (masked : (c : ℕ) → c < width → (is_dark_
 
 -- Three masked rows of 128 bits, each moved to its place in the bytes, are joined in one.
 pub joined_bit : (a b d c : ℕ) → c < 128 →
-    is_dark_in (bit_or (bit_or (bit_and a 4003321963775746628980877734491390723) (bit_and b 9341084582143408800955381380479911687 * 4 % 2 ^ 128)) (bit_and d 9341084582143408800955381380479911687 * 32 % 2 ^ 128)) c ≡ is_joined a b d c
-joined_bit = joined_in 128 4003321963775746628980877734491390723 9341084582143408800955381380479911687 masks_at
+    is_dark_in (bit_or (bit_or (bit_and a TWO) (bit_and b THREE * 4 % 2 ^ 128)) (bit_and d THREE * 32 % 2 ^ 128)) c ≡ is_joined a b d c
+joined_bit = joined_in 128 TWO THREE masks_at
 
 -- Three masked rows of 64 bits, each moved to its place in the bytes, are joined in one.
 pub narrow_joined_bit : (a b d c : ℕ) → c < 64 →
-    is_dark_in (bit_or (bit_or (bit_and a 217020518514230019) (bit_and b 506381209866536711 * 4 % 2 ^ 64)) (bit_and d 506381209866536711 * 32 % 2 ^ 64)) c ≡ is_joined a b d c
-narrow_joined_bit = joined_in 64 217020518514230019 506381209866536711 narrow_masks_at
+    is_dark_in (bit_or (bit_or (bit_and a NARROW_TWO) (bit_and b NARROW_THREE * 4 % 2 ^ 64)) (bit_and d NARROW_THREE * 32 % 2 ^ 64)) c ≡ is_joined a b d c
+narrow_joined_bit = joined_in 64 NARROW_TWO NARROW_THREE narrow_masks_at
 
 -- ---- the bytes of a row
 
@@ -250,7 +251,7 @@ corner_beside n last rows joined news b w within most room is fits e small ancho
   corner2 = λ h. corner ∙ second h;
 }
   where
-    corner : reversed_bits (slot_byte last news 1536) ≡ w
+    corner : reversed_bits (slot_byte last news corner_slot) ≡ w
     corner =
         let m : min 96 last ≡ last = min-eq_right most in
         let z : b / 1 % 256 ≡ b = omega arith in

@@ -4,7 +4,8 @@ use Rattle.std.proofs.lemmas.Bool.{or_parts, eqb-false, ne_eqb, ltb-true, ltb-fa
 use Rattle.std.proofs.lemmas.Nat.{div-mul-add, mod-mul-add}
 use Rattle.std.proofs.Math.Nat.{mul-le-mul_right}
 use Rattle.dm_layout.specs.Sizes.{SizeRow, IsRow, regions_across}
-use Rattle.dm_layout.specs.Border.{is_on_edge, is_border, symbol_line, mapping_line}
+use Rattle.dm_layout.specs.Border.{is_on_edge, is_border, symbol_line}
+use Rattle.dm_layout.specs.inner.Drawing.{mapping_line}
 use Rattle.dm_layout.proofs.TableRows.{row_facts}
 
 -- A line of the mapping square lies in the square of its region, one line further than in the region itself.

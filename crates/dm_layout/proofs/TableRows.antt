@@ -1,12 +1,12 @@
 -- What holds for each row of the size table.
-use Rattle.std.proofs.Common.{◌≡◌, ℕ, ◌+◌, ◌*◌, ◌%◌, ◌<◌, ◌≤◌, Bool, true, false, cond, ◌&&◌, nat_eq, nat_le, List, [], ◌∷◌, Option, Some, None, refl, sym, subst, arith}
+use Rattle.std.proofs.Common.{◌≡◌, ℕ, ◌+◌, ◌*◌, ◌/◌, ◌%◌, ◌<◌, ◌≤◌, Bool, true, false, cond, ◌&&◌, nat_eq, nat_le, List, [], ◌∷◌, Option, Some, None, refl, sym, ◌∙◌, ap, subst, arith}
 use Rattle.std.specs.Prelude.{All, IfSome, find}
 use Rattle.std.specs.List.{AllByRecursion, list_all, list_any}
 use Rattle.std.proofs.lemmas.Bool.{and_parts, eqb-true, leb-true, leb-false}
 use Rattle.std.proofs.lemmas.List.Elements.{recursion_from_All, All-from_recursion, All-weaker}
 use Rattle.std.proofs.lemmas.List.Folds.{Any-from_list_any}
 use Rattle.std.proofs.lemmas.List.Sums.{AllPass-from_list_all}
-use Rattle.dm_layout.specs.Sizes.{SizeRow, size_table, IsRow, row_with_side, row_for_words, regions_across, block_data, block_check, block_length, codeword_count, largest_side, most_codewords, IsGreatest}
+use Rattle.dm_layout.specs.Sizes.{SizeRow, size_table, IsRow, row_with_side, row_for_words, regions_across, block_data, block_check, block_length, codeword_count, largest_side, most_codewords, longest_block, IsGreatest}
 
 -- What holds of the first item, and of what is found among the others, holds of what is found among all.
 found_case : {X : Type 0} (P : X → Type 0) (y x : X) (o : Option X) (b : Bool) → P y → (o ≡ Some x → P x) → cond b (Some y) o ≡ Some x → P x
@@ -45,7 +45,7 @@ row_test s =
     && nat_eq s.side (regions_across s * (s.region_side + 2)) && nat_eq s.mapping (regions_across s * s.region_side)
     && nat_le s.side largest_side && nat_le 1 s.blocks && nat_le (codeword_count s) most_codewords
     && nat_eq (s.blocks * block_length s) (codeword_count s) && nat_eq (s.blocks * block_data s) s.data_count
-    && nat_le (block_length s) 255 && nat_eq (block_data s + block_check s) (block_length s)
+    && nat_le (block_length s) longest_block && nat_eq (block_data s + block_check s) (block_length s)
 
 -- The numbers of a size are related in these ways.
 pub record RowFacts (s : SizeRow) : Type 0 where
@@ -60,7 +60,7 @@ pub record RowFacts (s : SizeRow) : Type 0 where
   pub codewords : codeword_count s ≤ most_codewords
   pub dealt : s.blocks * block_length s ≡ codeword_count s
   pub data_dealt : s.blocks * block_data s ≡ s.data_count
-  pub short : block_length s ≤ 255
+  pub short : block_length s ≤ longest_block
   pub parts : block_data s + block_check s ≡ block_length s
 
 -- Each row of the table passes the test, as the checker computes.
@@ -78,7 +78,7 @@ test_of_row s h =
 pub row_facts : (s : SizeRow) → IsRow s → RowFacts s
 row_facts s h =
     let l = and_parts _ (nat_eq (block_data s + block_check s) (block_length s)) (test_of_row s h) in
-    let k = and_parts _ (nat_le (block_length s) 255) l.0 in
+    let k = and_parts _ (nat_le (block_length s) longest_block) l.0 in
     let j = and_parts _ (nat_eq (s.blocks * block_data s) s.data_count) k.0 in
     let i = and_parts _ (nat_eq (s.blocks * block_length s) (codeword_count s)) j.0 in
     let g = and_parts _ (nat_le (codeword_count s) most_codewords) i.0 in
@@ -104,6 +104,10 @@ row_facts s h =
       short = leb-true _ _ k.1;
       parts = eqb-true _ _ l.1;
     }
+
+-- The mapping side divided by the side of a region is how many regions stand side by side.
+pub across_is : (s : SizeRow) (m d : ℕ) → m ≡ s.mapping → d ≡ s.region_side → m / d ≡ regions_across s
+across_is s m d em ed = ap (λ (i : ℕ). i / d) em ∙ ap (λ (i : ℕ). s.mapping / i) ed
 
 -- A side that the table has is at most the largest side.
 pub side_fits : (side : ℕ) (s : SizeRow) → row_with_side side ≡ Some s → side ≤ largest_side

@@ -3,7 +3,8 @@ use Rattle.std.proofs.Common.{◌≡◌, ◌≢◌, ◌⊎◌, inl, inr, ℕ, ze
 use Rattle.std.proofs.lemmas.Bool.Decides.{eqb_tells}
 use Rattle.dm_layout.specs.declared.cells.Place.{Place}
 use Rattle.dm_layout.specs.Sizes.{SizeRow, IsRow}
-use Rattle.dm_layout.specs.Grid.{GridView, IsGrid, cell_at, with_cell}
+use Rattle.dm_layout.specs.Grid.{GridView, IsGrid, cell_at}
+use Rattle.dm_layout.specs.inner.Drawing.{with_cell}
 use Rattle.dm_layout.specs.Border.{symbol_line}
 use Rattle.dm_layout.specs.Placement.{At, IsPlace, EachCellOnce}
 use Rattle.dm_layout.specs.Holds.{bit_of}

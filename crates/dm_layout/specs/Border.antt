@@ -1,9 +1,10 @@
--- Finder and timing borders, the way of a mapping cell into the symbol, and the fixed square: ISO/IEC 16022, symbol structure.
-use Rattle.std.specs.Prelude.{◌≡◌, ℕ, ◌+◌, ◌-◌, ◌*◌, ◌/◌, ◌%◌, ◌<◌, Bool, true, not, ◌&&◌, ◌||◌, nat_eq, nat_le, if◌then◌else◌, sum_by, count_by}
+-- Borders (the finder pattern and the alignment patterns), where a cell of the mapping square lies in the symbol,
+-- and the fixed square: ISO/IEC 16022, symbol structure.
+use Rattle.std.specs.Prelude.{◌≡◌, ℕ, ◌+◌, ◌*◌, ◌/◌, ◌%◌, ◌<◌, Bool, true, not, ◌&&◌, ◌||◌, nat_eq, nat_le, if◌then◌else◌, sum_by, count_by}
 use Rattle.std.specs.Bool.{beq}
 use Rattle.std.specs.List.{range_with_len}
 use Rattle.dm_layout.specs.Sizes.{SizeRow}
-use Rattle.dm_layout.specs.Grid.{GridView, cell_at, square_by}
+use Rattle.dm_layout.specs.Grid.{GridView, cell_at}
 
 -- ---- one region with its border: a square of side d + 2 around a region of side d
 
@@ -64,25 +65,3 @@ abbrev pub HasFixedSquare : GridView → Type 0
 HasFixedSquare grid =
     (row column : ℕ) → row < grid.size.mapping → column < grid.size.mapping → is_fixed grid.size.mapping row column ≡ true →
     mapped_cell grid row column ≡ fixed_is_dark row column
-
--- ---- the grid without codewords
-
--- A row of the symbol that is no border's is this row of the mapping
--- square, where the data regions have the side d; a column likewise.
-abbrev pub mapping_line : ℕ → ℕ → ℕ
-mapping_line d line = line - 2 * (line / (d + 2)) - 1
-
--- A cell of the mapping square is a dark cell of the fixed square.
-abbrev pub is_fixed_dark : ℕ → ℕ → ℕ → Bool
-is_fixed_dark n row column = is_fixed n row column && fixed_is_dark row column
-
--- In the empty grid a border cell has its colour, and of the other cells
--- only the dark ones of the fixed square are dark.
-abbrev pub empty_colour : SizeRow → ℕ → ℕ → Bool
-empty_colour size row column =
-    if is_border size row column then border_is_dark size row column
-    else is_fixed_dark size.mapping (mapping_line size.region_side row) (mapping_line size.region_side column)
-
--- The empty grid of a size has correct borders, the fixed square if the size has one, and no other dark cell.
-abbrev pub empty_grid : SizeRow → GridView
-empty_grid size = record { size = size; rows = square_by size.side (empty_colour size) }

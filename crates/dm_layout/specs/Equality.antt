@@ -15,15 +15,18 @@ equal_grids = eq_of_both (on (λ g. g.size.side) nat_eq) (on (λ g. g.rows) (poi
 abbrev pub equal_words : WordsView → WordsView → Bool
 equal_words = eq_of_both (on (λ w. w.size.side) nat_eq) (on (λ w. w.list) (pointwise nat_eq))
 
--- Equality of grids and equality of codewords are equivalences.
+-- Equality of grids is an equivalence.
 pub grids_equiv : IsEquivalence equal_grids
 grids_equiv = and_equiv (on_equiv (λ (g : GridView). g.size.side) nat_eq_equiv) (on_equiv (λ (g : GridView). g.rows) (lists_equiv (lists_equiv bool_eq_equiv)))
 
+-- So it is a partial equivalence too.
 pub grids_per : IsPartialEquivalence equal_grids
 grids_per = partial_equiv_from_equiv grids_equiv
 
+-- Equality of codewords is an equivalence.
 pub words_equiv : IsEquivalence equal_words
 words_equiv = and_equiv (on_equiv (λ (w : WordsView). w.size.side) nat_eq_equiv) (on_equiv (λ (w : WordsView). w.list) (lists_equiv nat_eq_equiv))
 
+-- So it is a partial equivalence too.
 pub words_per : IsPartialEquivalence equal_words
 words_per = partial_equiv_from_equiv words_equiv

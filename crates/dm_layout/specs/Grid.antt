@@ -1,7 +1,7 @@
 -- A grid: the square of cells of a symbol, each dark or light.
-use Rattle.std.specs.Prelude.{◌≡◌, ℕ, ◌+◌, ◌*◌, ◌/◌, ◌%◌, ◌^◌, ◌<◌, ◌≤◌, Bool, false, List, [], map, length, nat_eq, get_or, set, take, All}
+use Rattle.std.specs.Prelude.{◌≡◌, ℕ, ◌+◌, ◌*◌, ◌/◌, ◌%◌, ◌^◌, Bool, false, List, [], map, length, nat_eq, get_or, All}
 use Rattle.std.specs.List.{range_with_len}
-use Rattle.dm_layout.specs.Sizes.{SizeRow, IsRow, largest_side}
+use Rattle.dm_layout.specs.Sizes.{SizeRow, IsRow}
 
 -- A grid has a size and the rows of its cells, from the top, each from the left; true is dark.
 pub record GridView : Type 0 where
@@ -19,10 +19,6 @@ pub record IsGrid (grid : GridView) : Type 0 where
 abbrev pub cell_at : GridView → ℕ → ℕ → Bool
 cell_at grid row column = get_or (get_or grid.rows row []) column false
 
--- When one cell of a grid is given a colour, all others stay as they are.
-abbrev pub with_cell : GridView → ℕ → ℕ → Bool → GridView
-with_cell grid row column dark = record { size = grid.size; rows = set grid.rows row (set (get_or grid.rows row []) column dark) }
-
 -- These are the rows of a square in which the cell at a row and a column has the colour `colour row column`.
 abbrev pub square_by : ℕ → (ℕ → ℕ → Bool) → List (List Bool)
 square_by side colour = map (λ row. map (colour row) (range_with_len 0 side)) (range_with_len 0 side)
@@ -30,10 +26,6 @@ square_by side colour = map (λ row. map (colour row) (range_with_len 0 side)) (
 -- These are the rows of a square whose cells are listed row by row from the top.
 abbrev pub square_of : ℕ → List Bool → List (List Bool)
 square_of side cells = square_by side (λ row column. get_or cells (row * side + column) false)
-
--- A grid is light if all its cells are light.
-abbrev pub IsLight : GridView → Type 0
-IsLight grid = (row column : ℕ) → row < grid.size.side → column < grid.size.side → cell_at grid row column ≡ false
 
 -- ---- rows as numbers
 
@@ -46,17 +38,3 @@ is_dark_in row column = nat_eq (row / 2 ^ column % 2) 1
 -- top; only the lowest `side` bits of each count.
 abbrev pub square_of_rows : ℕ → List ℕ → List (List Bool)
 square_of_rows side rows = square_by side (λ row. is_dark_in (get_or rows row 0))
-
--- ---- how a grid is kept: its rows as numbers, at the front of as many as the largest side
-
--- The grid of a size that is kept in a list of numbers has the first of them as its rows.
-abbrev pub kept_grid : SizeRow → List ℕ → GridView
-kept_grid size rows = record { size = size; rows = square_of_rows size.side rows }
-
--- A grid of the size is kept in these numbers if the size stands in the table, there are as many numbers as the
--- largest side, and no row of the grid has a bit past its side.
-pub record IsKept (size : SizeRow) (rows : List ℕ) : Type 0 where
-  pub row : IsRow size
-  pub fits : size.side ≤ largest_side
-  pub height : length rows ≡ largest_side
-  pub width : All (λ row. row < 2 ^ size.side) (take size.side rows)

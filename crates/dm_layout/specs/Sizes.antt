@@ -76,6 +76,14 @@ most_codewords = 1152
 abbrev pub most_blocks : ℕ
 most_blocks = 6
 
+-- No block of a symbol of the table has more check codewords than this.
+abbrev pub most_block_check : ℕ
+most_block_check = 68
+
+-- No block has more codewords than this, since a Reed-Solomon code over a field of 256 elements has no longer codewords.
+abbrev pub longest_block : ℕ
+longest_block = 255
+
 -- The size with a given side is the row of the table that has it, if there is one.
 abbrev pub row_with_side : ℕ → Option SizeRow
 row_with_side side = find (λ row. nat_eq row.side side) size_table

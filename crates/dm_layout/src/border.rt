@@ -1,9 +1,10 @@
-//! Finder and timing borders, and the fixed square: ISO/IEC 16022, symbol structure.
+//! Borders, which are the finder pattern and the alignment patterns, and the fixed square: ISO/IEC 16022, symbol structure.
 
 ghost use Rattle.std.specs.Prelude.{◌≡◌, ℕ, ◌+◌, ◌%◌, ◌^◌, ◌<◌, ◌≤◌, ◌&&◌, count_by};
 ghost use Rattle.std.specs.List.{range_with_len};
 ghost use Rattle.dm_layout.specs.Grid.{IsGrid, is_dark_in};
-ghost use Rattle.dm_layout.specs.Border.{is_on_edge, edge_is_dark, border_fault_count, empty_grid};
+ghost use Rattle.dm_layout.specs.Border.{is_on_edge, edge_is_dark, border_fault_count};
+ghost use Rattle.dm_layout.specs.inner.Drawing.{empty_grid};
 ghost use Rattle.dm_layout.specs.inner.BorderMasks.{is_wrong};
 
 use crate::grid::Grid;

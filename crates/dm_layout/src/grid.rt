@@ -2,7 +2,8 @@
 
 ghost use Rattle.std.specs.Prelude.{◌≡◌, ℕ, nat_eq, ◌&&◌, ◌||◌, ◌≢◌, ◌*◌, ◌^◌, ◌<◌, ◌↔◌, All, IfOk, OnErr, OnOk, IsNone, length};
 ghost use Rattle.dm_layout.specs.Sizes.{row_with_side};
-ghost use Rattle.dm_layout.specs.Grid.{IsGrid, IsLight, is_dark_in, cell_at, with_cell, square_of, square_of_rows};
+ghost use Rattle.dm_layout.specs.Grid.{IsGrid, is_dark_in, cell_at, square_of, square_of_rows};
+ghost use Rattle.dm_layout.specs.inner.Drawing.{IsLight, with_cell};
 
 use crate::packed::{front, is_dark, packed_row, recoloured};
 use crate::size::{LARGEST_SIDE, Size};
@@ -30,7 +31,8 @@ pub struct Grid {
 }
 
 impl Model for Grid {
-    ghost use Rattle.dm_layout.specs.Grid.{GridView, kept_grid, IsKept};
+    ghost use Rattle.dm_layout.specs.Grid.{GridView};
+    ghost use Rattle.dm_layout.specs.inner.Keeping.{kept_grid, IsKept};
 
     ghost Value = { GridView };
 
@@ -92,7 +94,7 @@ impl Grid {
         Ok(())
     }
 
-    /// Makes it the grid of this size with these rows, of each as many cells as the side.
+    /// Turns this into the grid of this size with these rows, each cut to as many cells as the side.
     fn put_rows(&mut self, square: Size, rows: &[u128])
         requires { length rows.now ≡ square.side }
         ensures size { self.new.size ≡ square }

@@ -33,5 +33,5 @@ pub use cells::{Cells, Place};
 pub use grid::{Grid, GridFault};
 pub use module::{border_colour, symbol_line};
 pub use placing::{lay, lay_to, lift, lift_to};
-pub use size::{LARGEST_SIDE, MOST_BLOCKS, MOST_CODEWORDS, MOST_DATA, Size, table};
+pub use size::{LARGEST_SIDE, LONGEST_BLOCK, MOST_BLOCKS, MOST_CODEWORDS, MOST_DATA, Size, table};
 pub use words::Words;

@@ -1,11 +1,11 @@
 //! The mapping square as rows of bits, and the codewords in it.
 
 ghost use Rattle.std.specs.Prelude.{◌≡◌, ◌⊎◌, ℕ, ◌+◌, ◌-◌, ◌*◌, ◌%◌, ◌^◌, ◌<◌, ◌≤◌, ◌&&◌, ◌||◌, nat_eq, false, true, get_or, length, replicate};
-ghost use Rattle.dm_layout.specs.Border.{mapped_cell, symbol_line, is_border, border_is_dark, is_fixed, is_fixed_dark};
+ghost use Rattle.dm_layout.specs.Border.{mapped_cell, symbol_line, is_border, border_is_dark, is_fixed};
 ghost use Rattle.dm_layout.specs.Grid.{IsGrid, cell_at, is_dark_in};
 ghost use Rattle.dm_layout.specs.Placement.{IsPlace};
 ghost use Rattle.dm_layout.specs.Sizes.{regions_across};
-ghost use Rattle.dm_layout.specs.inner.Drawing.{IsDrawn};
+ghost use Rattle.dm_layout.specs.inner.Drawing.{IsDrawn, is_fixed_dark};
 ghost use Rattle.dm_layout.specs.inner.Reading.{look_in};
 ghost use Rattle.dm_layout.specs.Holds.{bit_of};
 ghost use Rattle.dm_layout.specs.declared.shape.Cell.{Cell};

@@ -2,7 +2,7 @@
 #![tactic(auto, unfolding(crate::specs::Sizes::size_table))]
 
 ghost use Rattle.std.specs.Prelude.{◌≡◌, ◌+◌, ◌*◌, ◌/◌, ◌%◌, ◌<◌, ◌≤◌, ◌↔◌, All, IfSome, IfNone};
-ghost use Rattle.dm_layout.specs.Sizes.{size_table, row_with_side, row_for_words, IsRow, codeword_count, block_data, block_check, block_length, regions_across, largest_side, most_data, most_codewords, most_blocks};
+ghost use Rattle.dm_layout.specs.Sizes.{size_table, row_with_side, row_for_words, IsRow, codeword_count, block_data, block_check, block_length, regions_across, largest_side, most_data, most_codewords, most_blocks, most_block_check, longest_block};
 
 use std::marker::Model;
 
@@ -17,6 +17,9 @@ pub const MOST_CODEWORDS: usize = 1152;
 
 /// The most blocks of a symbol.
 pub const MOST_BLOCKS: usize = 6;
+
+/// The most codewords of a block: as many as the field has elements but 0.
+pub const LONGEST_BLOCK: usize = 255;
 
 /// A size of a square symbol: a row of the standard's table of sizes and capacities.
 #[derive(Clone, Copy, Debug, PartialEq, Eq)]
@@ -199,8 +202,8 @@ impl Size {
     pub fn block_check(self) -> u16
         ensures value { result ≡ block_check self }
         ensures some { 5 ≤ block_check self }
-        ensures most { block_check self ≤ 68 }
-        ensures length { block_length self ≤ 255 }
+        ensures most { block_check self ≤ most_block_check }
+        ensures length { block_length self ≤ longest_block }
     {
         self.check_count / self.blocks
     }

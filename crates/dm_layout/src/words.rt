@@ -17,7 +17,8 @@ pub struct Words {
 }
 
 impl Model for Words {
-    ghost use Rattle.dm_layout.specs.Words.{WordsView, kept_words, AreKept};
+    ghost use Rattle.dm_layout.specs.Words.{WordsView};
+    ghost use Rattle.dm_layout.specs.inner.Keeping.{kept_words, AreKept};
 
     ghost Value = { WordsView };
 
@@ -83,7 +84,7 @@ impl Words {
         }
     }
 
-    /// Makes them codewords of this size, which may be anything.
+    /// Turns these into codewords of this size with any values.
     pub(crate) fn begin(&mut self, size: Size)
         ensures size { self.new.size ≡ size }
         ensures words { IsWords self.new }

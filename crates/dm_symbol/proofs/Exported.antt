@@ -2,7 +2,7 @@
 pub use Rattle.dm_symbol.proofs.CompletedWords.{normal_grid_is_there}
 pub use Rattle.dm_symbol.proofs.EachGrid.{answer_is_given, fits_or_not, normal_answer_is_given}
 pub use Rattle.dm_symbol.proofs.NormalGrids.{normal_grid_is_one}
-pub use Rattle.dm_symbol.proofs.NormalReadings.{one_normal_answer}
+pub use Rattle.dm_symbol.proofs.NormalReadings.{normal_grid_fits, one_normal_answer}
 pub use Rattle.dm_symbol.proofs.Readings.{one_given}
 pub use Rattle.dm_symbol.proofs.SizeFacts.{has_that_side}
 pub use Rattle.dm_symbol.proofs.WriteSteps.{too_long_fits_none}

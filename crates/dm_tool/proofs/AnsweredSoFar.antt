@@ -1,7 +1,8 @@
 -- A text that is answered as it comes: what is known after each of its pieces, and at its end.
 use Rattle.std.proofs.Common.{◌≡◌, ◌≢◌, ◌∙◌, ◌≤◌, ◌+◌, ◌⊎◌, inl, inr, ℕ, zero, suc, List, [], ◌∷◌, ◌++◌, refl, sym, ap, subst, append-nil, append_assoc, map, length, length-take-le, drop, take, arith, Option, Result, Ok, Err, OnOk, OnErr}
 use Rattle.std.specs.Io.KnownBytes.{Appends, Keeps}
-use Rattle.dm_tool.specs.Devices.{AppendsFront, IsPassedOn}
+use Rattle.dm_tool.specs.Devices.{AppendsFront}
+use Rattle.dm_tool.specs.inner.Gathering.{IsPassedOn}
 use Rattle.dm_tool.proofs.KnownBytes.{appends_kept, passed_and_put}
 use Rattle.dm_symbol.specs.declared.Profile.{Profile}
 use Rattle.dm_tool.specs.declared.task.Task.{Task}
@@ -15,10 +16,10 @@ use Rattle.dm_tool.specs.RecordFeeds.{RecordAnswer, ClosesRecord, IsAnsweredReco
 use Rattle.dm_tool.specs.LineFacts.{LineFacts, AreLineFacts}
 use Rattle.dm_tool.specs.LineFeeds.{LineAnswer, AreAnswered, ClosesLine, LeavesLineOpen}
 use Rattle.dm_tool.specs.MessageLines.{IsLine}
-use Rattle.dm_tool.specs.Answers.{Answer, AnswersRecords, IsRecordAnswer, IsWriteAnswer}
+use Rattle.dm_tool.specs.Answers.{Answer, IsRecordAnswer, IsWriteAnswer}
 use Rattle.dm_tool.specs.Runs.{AreAllAnswers, AreAnswersTo, AreAnswersToRecords, AreClosedAnswers, AreClosedLines, AreMatched, IsAnswerToLine, IsAnswerToRecord, IsOutSoFar, IsOut, HasEnded, tally_of, written}
 use Rattle.dm_tool.specs.declared.task.Tally.{Tally}
-use Rattle.dm_tool.specs.inner.AnsweredSoFar.{EndsAnswered, Advances, IsAnsweredSoFar, HasTakenText}
+use Rattle.dm_tool.specs.inner.AnsweredSoFar.{EndsAnswered, Advances, IsAnsweredSoFar, HasTakenText, AnswersRecords}
 use Rattle.dm_tool.proofs.RecordTexts.{all_closed, last_closed, record_is_closed, records_stay_open}
 use Rattle.dm_tool.proofs.LineTexts.{line_is_closed, lines_stay_open}
 

@@ -36,11 +36,12 @@ flushed_badly Took First Then All (Ok x) a b c s joined none grew once took = tt
 flushed_badly Took First Then All (Err e) a b c s joined none grew once took = inr (flushed_later First Then All a b c s joined none grew once, took)
 
 -- Where writing the table fails, no flush was reached, or the one after all was taken failed.
-pub table_flushed : (task : Task) (most : ℕ) (Gave Took : List ℕ → Type 0) (Ended Unflushed Once : Type 0) (result : Result Tally RunFault) → task ≡ Table → Gave []
-    → OnErr result (Unflushed ⊎ (Once × Took table_text)) → IsErrOf result fault.Write → IsFlushedAtEnd task most Gave Ended Took Unflushed Once
-table_flushed task most Gave Took Ended Unflushed Once (Ok tally) table gave late is = cc
-table_flushed task most Gave Took Ended Unflushed Once (Err why) table gave (inl none) is = inl none
-table_flushed task most Gave Took Ended Unflushed Once (Err why) table gave (inr all) is = inr (
+pub table_flushed : (task : Task) (most : ℕ) (Gave Flushed : List ℕ → Type 0) (Ended : Type 0) (old new : Option (List ℕ)) (result : Result Tally RunFault) → task ≡ Table
+    → Gave [] → OnErr result (Flushed [] ⊎ (IsFlushedOnce Flushed old new × Appends old new table_text)) → IsErrOf result fault.Write
+    → IsFlushedAtEnd task most Gave Ended Flushed old new
+table_flushed task most Gave Flushed Ended old new (Ok tally) table gave late is = cc
+table_flushed task most Gave Flushed Ended old new (Err why) table gave (inl none) is = inl none
+table_flushed task most Gave Flushed Ended old new (Err why) table gave (inr all) is = inr (
   tally_of [],
   record {
     text = [];
@@ -60,7 +61,7 @@ pub text_flushed : (task : Task) (most : ℕ) (Gave : List ℕ → Type 0) (Ende
     → Gave text → Ended → length text ≤ most → IsAnsweredSoFar task state text answers → s ≡ tally_of answers
     → Then [] ⊎ (IsFlushedOnce Then b c × ((last : List Answer) × EndsAnswered state last × Appends b c (written last)
     × ((before : List Answer) → s ≡ tally_of before → t ≡ tally_of (before ++ last))))
-    → IsFlushedAtEnd task most Gave Ended (Appends a c) (All []) (IsFlushedOnce All a c)
+    → IsFlushedAtEnd task most Gave Ended All a c
 text_flushed task most Gave Ended state text answers s t First Then All a b c joined none grew gave ended within stands counted (inl never) = inl (joined [] [] none never)
 text_flushed task most Gave Ended state text answers s t First Then All a b c joined none grew gave ended within stands counted (inr all) =
     let last = all.1.0 in

@@ -5,6 +5,7 @@ use Rattle.std.specs.List.{list_any, refill}
 use Rattle.std.specs.Int.RustNames.{bit_or}
 use Rattle.std.specs.Int.Bits.{or_shifted_r}
 use Rattle.std.proofs.Math.Nat.{div-div-eq-div-mul, mod-eq_of_lt, mul_left_comm}
+use Rattle.std.proofs.Math.Bool.{or-true}
 use Rattle.std.proofs.Math.Pow.{pow_mono}
 use Rattle.std.proofs.lemmas.Bool.{eqb-true, eqb-false, ltb-false, le-ltb, lt-ltb}
 use Rattle.std.proofs.lemmas.List.{length-map, length-set, map-append}
@@ -19,7 +20,7 @@ use Rattle.dm_tool.specs.Records.{is_foreign, has_foreign, is_large, rows_of}
 use Rattle.dm_tool.specs.RecordFacts.{Cells, contents_of, differ, first_length, last_length}
 use Rattle.dm_tool.specs.inner.OpenRecords.{EndsLines, HoldsLines, cells_in, digit_of, is_dark, is_ended, line_count, number_of, rows_in, rows_seen}
 use Rattle.dm_tool.proofs.OpenRecordTexts.{ended_more, full_more}
-use Rattle.dm_tool.proofs.RecordSteps.{by_tests, same_cells, count_new, last_new, first_new, or_cases, or_false, or_right, any_last, long, zero_lines}
+use Rattle.dm_tool.proofs.RecordSteps.{by_tests, same_cells, count_new, last_new, first_new, or_cases, or_false, or_left, or_right, any_last, long, zero_lines}
 
 -- ---- a line as a number
 
@@ -154,15 +155,6 @@ large_line lines line e =
     let parts = or_cases (nat_lt largest_side (length lines)) (list_any long lines) e in
     rw (count_new lines line, any_last long lines line, parts.1) refl
 
--- One of two tests passes if the second does.
-or_true : (a : Bool) → (a || true) ≡ true
-or_true true = refl
-or_true false = refl
-
--- One of two tests passes if the first does.
-true_or : (a b : Bool) → a ≡ true → (a || b) ≡ true
-true_or a b e = rw e refl
-
 -- Where as many lines are kept as the largest side, a new one makes them too large.
 pub begin_full : (t : Rows) (lines : List (List ℕ)) (more : List ℕ) → HoldsLines t lines [] → line_count t ≡ largest_side → 0 < length more
     → is_large (lines ++ last_line more) ≡ true
@@ -170,7 +162,7 @@ begin_full t lines [] h full some = absurd (omega arith)
 begin_full t lines (y ∷ ys) h full some =
     let known = without_line t lines h in
     large_line lines (y ∷ ys) (rw (append-nil lines) at h.small)
-    ∙ true_or (nat_lt largest_side (length lines + 1)) (long (y ∷ ys)) (lt-ltb largest_side (length lines + 1) (omega (arith, known.1, full)))
+    ∙ or_left (nat_lt largest_side (length lines + 1)) (long (y ∷ ys)) (lt-ltb largest_side (length lines + 1) (omega (arith, known.1, full)))
 
 -- A new line that is longer than the largest side makes the lines too large.
 pub begin_long : (t : Rows) (lines : List (List ℕ)) (more : List ℕ) → HoldsLines t lines [] → largest_side < length more → is_large (lines ++ last_line more) ≡ true
@@ -331,7 +323,7 @@ end_holds t s lines x r h rows first last other same =
   where
     differs_cases : (v : Bool) → (t.last == t.first) ≡ v → s.differs ≡ (differ t.first lines || not (t.last == t.first))
     differs_cases true e = rw e (same (eqb-true t.last t.first e) ∙ h.differs_is ∙ sym (or_false (differ t.first lines)))
-    differs_cases false e = rw e (other (eqb-false t.last t.first e) ∙ sym (or_true (differ t.first lines)))
+    differs_cases false e = rw e (other (eqb-false t.last t.first e) ∙ sym (or-true (differ t.first lines)))
 
 -- ---- where a new line begins
 

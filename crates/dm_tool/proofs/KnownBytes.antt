@@ -1,7 +1,8 @@
 -- Known bytes that grow in steps.
 use Rattle.std.proofs.Common.{◌≡◌, ◌∙◌, ◌+◌, ◌-◌, ℕ, List, [], ◌++◌, Option, Some, None, sym, ap, subst, length, take, drop, append_assoc, append-nil, length-drop}
 use Rattle.std.specs.Io.KnownBytes.{Appends, Keeps}
-use Rattle.dm_tool.specs.Devices.{AppendsFront, IsPassedOn}
+use Rattle.dm_tool.specs.Devices.{AppendsFront}
+use Rattle.dm_tool.specs.inner.Gathering.{IsPassedOn}
 use Rattle.std.proofs.Math.Seq.{take-add, take-length}
 
 -- Known bytes that stay as they are grow by none.

@@ -1,10 +1,8 @@
 -- Each record and each message line has only one answer.
-use Rattle.std.proofs.Common.{◌≡◌, ℕ, List, Option, Ok, Err, refl, ap, sym, ◌∙◌}
+use Rattle.std.proofs.Common.{◌≡◌, ℕ, List, Option, Ok, Err, ap, sym, ◌∙◌}
 use Rattle.dm_symbol.specs.declared.Item.{Item}
 use Rattle.dm_symbol.specs.declared.Profile.{Profile}
-use Rattle.dm_symbol.specs.Grid.{GridView}
-use Rattle.dm_symbol.specs.NormalGrid.{IsNormalGrid, FitsSomeSize}
-use Rattle.dm_symbol.proofs.Exported.{one_given, one_normal_answer, normal_grid_is_one}
+use Rattle.dm_symbol.proofs.Exported.{one_given, one_normal_answer, normal_grid_fits, normal_grid_is_one}
 use Rattle.dm_tool.specs.declared.task.Task.{Task}
 use Rattle.dm_tool.specs.declared.task.Task.TheVariants.{Read, Check, Normal, Write, Table}
 use Rattle.dm_tool.specs.RecordFeeds.{RecordAnswer}
@@ -36,15 +34,11 @@ one_record_answer (Normal border profile) r a b p q = one_normalising_answer bor
 one_record_answer (Write profile) r a b p q = absurd p
 one_record_answer Table r a b p q = absurd p
 
--- A message with a normal grid fits some size.
-fits_some_size : (profile : Profile) (message : List Item) (grid : GridView) → IsNormalGrid profile message grid → FitsSomeSize profile message
-fits_some_size profile message grid is_normal = rw is_normal.smallest refl
-
 -- A message has only one answer.
 one_message_answer : (profile : Profile) (message : List Item) (a b : Answer) → IsMessageAnswer profile message a → IsMessageAnswer profile message b → a ≡ b
 one_message_answer profile message a b (normal_grid g p e) (normal_grid h q f) = e ∙ ap grid_answer (normal_grid_is_one profile message g h p q) ∙ sym f
-one_message_answer profile message a b (normal_grid g p e) (too_long none f) = absurd (none (fits_some_size profile message g p))
-one_message_answer profile message a b (too_long none e) (normal_grid h q f) = absurd (none (fits_some_size profile message h q))
+one_message_answer profile message a b (normal_grid g p e) (too_long none f) = absurd (none (normal_grid_fits profile message g p))
+one_message_answer profile message a b (too_long none e) (normal_grid h q f) = absurd (none (normal_grid_fits profile message h q))
 one_message_answer profile message a b (too_long none e) (too_long never f) = e ∙ sym f
 
 -- A message line has only one answer.

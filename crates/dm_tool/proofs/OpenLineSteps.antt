@@ -10,7 +10,7 @@ use Rattle.dm_tool.specs.Spellings.{IsSpelling, plain, IsJoining, IsJoined}
 use Rattle.dm_tool.specs.MessageLines.{IsBadEscape, IsLine, most_bytes, most_items}
 use Rattle.dm_tool.specs.LineFacts.{CanBecomeSpelling, LineFacts, IsFaultyLine, IsGoodLine, AreLineFacts, kept}
 use Rattle.std.specs.List.{AllByRecursion}
-use Rattle.std.proofs.lemmas.List.{length-map, length-take-le}
+use Rattle.std.proofs.lemmas.List.{length-map, length-take-le, nil_from_length}
 use Rattle.dm_tool.specs.Texts.{HasNoLf}
 use Rattle.dm_tool.specs.inner.OpenLines.{BeginsNoSpelling, IsPlain}
 use Rattle.dm_tool.proofs.Joinings.{front_longest, joining_append, joining_one, joining_unique, spelling_some}
@@ -128,17 +128,12 @@ kept_few items all e = by_test (nat_le (length all) most_items) refl e
     by_test true few h = let same : items ≡ all = cc in omega (arith, ap length same, leb-true (length all) most_items few)
     by_test false few h = cc
 
--- A list of no bytes is empty.
-no_bytes : (bytes : List ℕ) → length bytes ≡ 0 → bytes ≡ []
-no_bytes [] e = refl
-no_bytes (x ∷ bytes) e = absurd (omega arith)
-
 -- A good line with nothing pending stays good with the first bytes of a piece that stand for themselves.
 pub good_front : (line bytes pending : List ℕ) (front n : ℕ) (known : Option (List Item)) (old new : List Item) → IsGoodLine line front known pending
     → length pending ≡ 0 → known ≡ Some old → AllByRecursion IsPlain (take n bytes) → n ≤ length bytes → new ≡ old ++ map Byte (take n bytes)
     → (length old ≤ most_items → length new ≤ most_items) → IsGoodLine (line ++ take n bytes) (min (front + n) most_bytes) (Some new) pending
 good_front line bytes pending front n known old new good zero_p is plains le added few =
-    let none : pending ≡ [] = no_bytes pending zero_p in
+    let none : pending ≡ [] = nil_from_length pending zero_p in
     let good0 : IsGoodLine line front (Some old) [] = subst (λ (k : Option (List Item)). IsGoodLine line front k []) is (subst (λ (p : List ℕ). IsGoodLine line front known p) none good) in
     let less : length new ≤ most_items = few (kept_few old good0.items good0.known_is) in
     let parts : length new ≡ length old + length (take n bytes) = ap length added ∙ length-append old (map Byte (take n bytes)) ∙ ap (λ (k : ℕ). length old + k) (length-map (take n bytes) Byte) in
@@ -192,11 +187,6 @@ cut (x ∷ o) (y ∷ l) t after e le =
     let less : length o ≤ length l = omega arith in
     let r = cut o l t after tail less in (r.0, ap (λ k. k ∷ l) head ∙ ap (λ k. x ∷ k) r.1)
 
--- Where no bytes come after, the list of them is empty.
-no_more : (after : List ℕ) → length after ≡ 0 → after ≡ []
-no_more [] e = refl
-no_more (x ∷ after) e = absurd (omega arith)
-
 -- A faulty line stays faulty with one more byte.
 pub faulty_more : (line : List ℕ) (b column : ℕ) → IsFaultyLine line column → IsFaultyLine (line ++ b ∷ []) column
 faulty_more line b column faulty = record {
@@ -209,7 +199,7 @@ faulty_more line b column faulty = record {
         let parts : length line + 1 ≡ length other + length after = sym (length-append line (b ∷ [])) ∙ ap length e ∙ length-append other after in
         elim (cases_lt (length line) (length other)) [
           | inl lt ↦
-              let none : after ≡ [] = no_more after (omega arith) in
+              let none : after ≡ [] = nil_from_length after (omega arith) in
               let same : other ≡ line ++ b ∷ [] = sym (append-nil other) ∙ ap (λ l. other ++ l) (sym none) ∙ sym e in
               absurd (faulty.broken (b ∷ []) (subst IsJoined same j))
           | inr le ↦ let r = cut other line (b ∷ []) after e le in faulty.longest.longest other r.0 r.1 j

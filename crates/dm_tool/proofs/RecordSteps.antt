@@ -94,7 +94,7 @@ or_right true b e = refl
 or_right false b e = e
 
 -- One of two tests passes if the first does.
-or_left : (a b : Bool) → a ≡ true → (a || b) ≡ true
+pub or_left : (a b : Bool) → a ≡ true → (a || b) ≡ true
 or_left true b e = refl
 or_left false b e = cc
 

@@ -78,7 +78,7 @@ abbrev pub normalising_answer : Result GridView NormalFault → Answer
 normalising_answer (Ok grid) = grid_answer grid
 normalising_answer (Err why) = blank_refusal_answer (normal_refusal why)
 
--- The border limit for a grid of this side: the number given, else the usual limit.
+-- The border limit for a grid of this side is the number given, or else the usual limit.
 abbrev pub limit_for : Option ℕ → ℕ → ℕ
 limit_for (Some limit) side = limit
 limit_for None side = usual_limit side
@@ -102,14 +102,6 @@ abbrev pub IsNormalAnswer : Option ℕ → Profile → RecordAnswer → Answer �
 IsNormalAnswer border profile (Ok grid) answer =
     (normal : Result GridView NormalFault) × NormalAnswer profile grid (limit_for border grid.size.side) normal × (answer ≡ normalising_answer normal)
 IsNormalAnswer border profile (Err why) answer = answer ≡ blank_refusal_answer (record_refusal why)
-
--- The tasks that read, check or normalise answer records; the other two don't.
-abbrev pub AnswersRecords : Task → Type 0
-AnswersRecords (Read border) = Unit {0}
-AnswersRecords (Check border) = Unit {0}
-AnswersRecords (Normal border profile) = Unit {0}
-AnswersRecords (Write profile) = ⊥
-AnswersRecords Table = ⊥
 
 -- A record is answered by what the task asks of it.
 abbrev pub IsRecordAnswer : Task → RecordAnswer → Answer → Type 0

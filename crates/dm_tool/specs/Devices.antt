@@ -3,7 +3,7 @@ use Rattle.std.specs.Prelude.{◌≡◌, ◌+◌, ◌-◌, ◌^◌, ℕ, Bool, t
 use Rattle.std.proofs.Common.{sym, ap, ◌∙◌, append_assoc}
 use Rattle.std.specs.Io.KnownBytes.{Appends, Consumes}
 
--- A count of failures never exceeds this number.
+-- A count of failures never exceeds this number, the largest that a u64 holds.
 abbrev pub most_failures : ℕ
 most_failures = 2 ^ 64 - 1
 
@@ -25,11 +25,6 @@ Marks old new (Err e) n = new ≡ old
 -- The known bytes of a device grow by a beginning of these bytes.
 abbrev pub AppendsFront : Option (List ℕ) → Option (List ℕ) → List ℕ → Type 0
 AppendsFront old new bytes = (front : List ℕ) × (rest : List ℕ) × (bytes ≡ front ++ rest) × Appends old new front
-
--- Of the bytes that were held before, followed by these, the known bytes
--- of a device grow by the first, and the rest is held.
-abbrev pub IsPassedOn : Option (List ℕ) → List ℕ → List ℕ → Option (List ℕ) → List ℕ → Type 0
-IsPassedOn old before bytes new after = (passed : List ℕ) × (before ++ bytes ≡ passed ++ after) × Appends old new passed
 
 -- A sink whose bytes are known was flushed once, when it had taken as many bytes as it has now.
 abbrev pub IsFlushedOnce : (List ℕ → Type 0) → Option (List ℕ) → Option (List ℕ) → Type 0

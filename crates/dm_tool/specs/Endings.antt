@@ -1,7 +1,5 @@
--- The program's endings: its exit status, and its line on standard error.
+-- The program's endings after a run: its exit status, and its line on standard error.
 use Rattle.std.specs.Prelude.{◌≡◌, ◌<◌, ℕ, List, [], codes, Result, Ok, Err}
-use Rattle.dm_tool.specs.declared.task.CallFault.{CallFault}
-use Rattle.dm_tool.specs.declared.task.CallFault.TheVariants.{Usage, Memory}
 use Rattle.dm_tool.specs.declared.task.RunFault.{RunFault}
 use Rattle.dm_tool.specs.declared.task.RunFault.TheVariants as run
 use Rattle.dm_tool.specs.declared.task.Tally.{Tally}
@@ -18,10 +16,3 @@ IsEndingOf (Ok tally) status line =
 IsEndingOf (Err run.Read) status line = Ends 3 (codes "dm_tool: read failed") status line
 IsEndingOf (Err run.Write) status line = Ends 3 (codes "dm_tool: write failed") status line
 IsEndingOf (Err run.TooMuchInput) status line = Ends 3 (codes "dm_tool: too much input") status line
-
--- A command line that gives no task ends the program: with status 2 and
--- the usage if it names none, and with 3 if memory was lacking.
-abbrev pub IsEndingOfCall : CallFault → ℕ → List ℕ → Type 0
-IsEndingOfCall Usage status line =
-    Ends 2 (codes "dm_tool: usage: dm_tool read|check [--border N] | normal [--border N] [--shorter] | write [--shorter] | table") status line
-IsEndingOfCall Memory status line = Ends 3 (codes "dm_tool: no memory") status line

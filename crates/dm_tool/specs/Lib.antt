@@ -14,5 +14,4 @@ pub mod Refusals
 pub mod Answers
 pub mod Runs
 pub mod Cuts
-pub mod TestDevices
 pub mod inner

@@ -10,7 +10,7 @@ use Rattle.dm_tool.specs.Spellings.{IsJoined, IsJoining}
 abbrev pub most_items : ℕ
 most_items = 2 * most_data
 
--- A count of bytes or a column in a line never exceeds this number.
+-- A count of bytes or a column in a line never exceeds this number, the largest that a u64 holds.
 abbrev pub most_bytes : ℕ
 most_bytes = 2 ^ 64 - 1
 

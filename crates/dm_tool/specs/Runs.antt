@@ -1,9 +1,11 @@
 -- What is written for a whole text, and how reading and writing it ends.
-use Rattle.std.specs.Prelude.{◌≡◌, ◌≢◌, ◌≤◌, ◌⊎◌, ◌+◌, nat_lt, if◌then◌else◌, ℕ, not, List, [], ◌∷◌, ◌++◌, length, count_by, flat_map}
+use Rattle.std.specs.Prelude.{◌≡◌, ◌≢◌, ◌≤◌, ◌⊎◌, ◌+◌, ◌^◌, nat_lt, if◌then◌else◌, ℕ, not, List, [], ◌∷◌, ◌++◌, length, count_by, flat_map, Option}
+use Rattle.std.specs.Io.KnownBytes.{Appends}
 use Rattle.dm_symbol.specs.declared.Profile.{Profile}
 use Rattle.dm_tool.specs.declared.task.Task.{Task}
 use Rattle.dm_tool.specs.declared.task.Task.TheVariants.{Write, Table}
 use Rattle.dm_tool.specs.declared.task.Tally.{Tally}
+use Rattle.dm_tool.specs.Devices.{IsFlushedOnce}
 use Rattle.dm_tool.specs.Texts.{IsSplit, last_line}
 use Rattle.dm_tool.specs.Records.{AreRecords, record_of}
 use Rattle.dm_tool.specs.RecordFeeds.{IsLastBlank}
@@ -83,7 +85,7 @@ IsOutSoFar task text done = (answers : List Answer) × AreClosedAnswers task tex
 -- ---- how it ends
 
 -- Between two moments a source gave exactly these bytes (`Gave`) and saw its end (`Ended`), and a sink took exactly these bytes (`Took`) or a
--- beginning of them (`TookFront`).
+-- beginning of them (`TookFront`), and was flushed when it had taken as many bytes as these numbers say (`Flushed`).
 
 -- The source has come to its end; for the table, which reads nothing, this always holds.
 abbrev pub HasEnded : Task → Type 0 → Type 0
@@ -146,8 +148,12 @@ pub record HasWrittenFront (task : Task) (most : ℕ) (Gave : List ℕ → Type 
 abbrev pub most_asked : ℕ → ℕ → ℕ
 most_asked most given = if nat_lt given most then most else most + 1
 
--- There was no flush, whether it failed or not, or there was one, when
--- all was answered and the sink had taken all that is written for it.
-abbrev pub IsFlushedAtEnd : Task → ℕ → (List ℕ → Type 0) → Type 0 → (List ℕ → Type 0) → Type 0 → Type 0 → Type 0
-IsFlushedAtEnd task most Gave Ended Took Unflushed FlushedOnce =
-    Unflushed ⊎ ((tally : Tally) × IsAnswered task most Gave Ended Took tally × FlushedOnce)
+-- The program takes at most this many bytes of input, 1 GiB.
+abbrev pub most_input : ℕ
+most_input = 2 ^ 30
+
+-- For a sink whose known bytes were `old` and are `new`, there was no flush, whether it failed or not, or there was one,
+-- when all was answered and the sink had taken all that is written for it.
+abbrev pub IsFlushedAtEnd : Task → ℕ → (List ℕ → Type 0) → Type 0 → (List ℕ → Type 0) → Option (List ℕ) → Option (List ℕ) → Type 0
+IsFlushedAtEnd task most Gave Ended Flushed old new =
+    Flushed [] ⊎ ((tally : Tally) × IsAnswered task most Gave Ended (Appends old new) tally × IsFlushedOnce Flushed old new)

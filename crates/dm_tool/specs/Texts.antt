@@ -24,8 +24,3 @@ pub record IsSplit (text : List ℕ) (lines : List (List ℕ)) (rest : List ℕ)
 abbrev pub last_line : List ℕ → List (List ℕ)
 last_line [] = []
 last_line (b ∷ rest) = (b ∷ rest) ∷ []
-
--- The first LF of a text stands after `before`.
-pub record IsFirstLf (text before after : List ℕ) : Type 0 where
-  pub whole : text ≡ before ++ lf ∷ after
-  pub no_lf : HasNoLf before

@@ -1,6 +1,7 @@
 //! What is written for a record or a line.
 ghost use Rattle.std.specs.Prelude.{◌≡◌, ◌<◌, ◌≤◌, ◌+◌, ◌∷◌, ◌++◌, [], length};
-ghost use Rattle.dm_tool.specs.Answers.{AnswersRecords, IsCheckAnswer, IsNormalAnswer, IsReadAnswer, IsRecordAnswer, IsWriteAnswer, blank_refusal_answer, check_text, grid_answer, limit_for, line_answer, refusal_answer};
+ghost use Rattle.dm_tool.specs.Answers.{IsCheckAnswer, IsNormalAnswer, IsReadAnswer, IsRecordAnswer, IsWriteAnswer, blank_refusal_answer, check_text, grid_answer, limit_for, line_answer, refusal_answer};
+ghost use Rattle.dm_tool.specs.inner.AnsweredSoFar.{AnswersRecords};
 ghost use Rattle.dm_symbol.specs.Places.{outcome};
 ghost use Rattle.dm_tool.specs.inner.OpenLines.{pointed_to};
 ghost use Rattle.dm_tool.specs.Spellings.{text_of};

@@ -1,7 +1,8 @@
 //! Answers that are written together.
 ghost use Rattle.std.specs.Prelude.{◌≡◌, ◌≤◌, ◌+◌, [], OnOk, OnErr, length};
 ghost use Rattle.std.specs.Io.KnownBytes.{Appends};
-ghost use Rattle.dm_tool.specs.Devices.{AppendsFront, Counts, IsPassedOn};
+ghost use Rattle.dm_tool.specs.Devices.{AppendsFront, Counts};
+ghost use Rattle.dm_tool.specs.inner.Gathering.{IsPassedOn};
 
 use crate::device::Failed;
 use crate::printed::MOST_ANSWER;

@@ -2,9 +2,9 @@
 ghost use Rattle.std.specs.Prelude.{◌≡◌, ◌≤◌, ◌<◌, ◌+◌, ◌∷◌, ◌++◌, [], ℕ, List, IsTrue, ◌↔◌, IfNone, IfSome, drop, length, map, take};
 ghost use Rattle.std.specs.List.{AllByRecursion};
 ghost use Rattle.dm_tool.specs.MessageLines.{IsLine};
-ghost use Rattle.dm_tool.specs.Texts.{HasNoLf, IsFirstLf};
+ghost use Rattle.dm_tool.specs.Texts.{HasNoLf};
 ghost use Rattle.dm_tool.specs.LineFacts.{AreLineFacts, kept};
-ghost use Rattle.dm_tool.specs.inner.OpenLines.{IsPlain, pointed_to};
+ghost use Rattle.dm_tool.specs.inner.OpenLines.{IsPlain, pointed_to, IsFirstLf};
 ghost use Rattle.dm_symbol.specs.declared.Item.{Item as AnItem};
 
 use crate::message_line::LineFault;

@@ -2,7 +2,8 @@
 ghost use Rattle.std.specs.Prelude.{◌≡◌, ◌≤◌, ◌<◌, ◌+◌, ◌-◌, ◌^◌, ◌∷◌, ◌++◌, ◌⊎◌, [], ℕ, false, List, MatchResult, IfOk, OnOk, OnErr, IsErrOf, length, max, take};
 ghost use Rattle.std.specs.Io.KnownBytes.{Appends};
 ghost use Rattle.dm_tool.specs.Answers.{Answer as AnAnswer, table_text};
-ghost use Rattle.dm_tool.specs.Devices.{AppendsFront, Counts, HasRisen, IsFlushedOnce, IsPassedOn};
+ghost use Rattle.dm_tool.specs.Devices.{AppendsFront, Counts, HasRisen, IsFlushedOnce};
+ghost use Rattle.dm_tool.specs.inner.Gathering.{IsPassedOn};
 ghost use Rattle.dm_tool.specs.Runs.{IsAnswered, HasWrittenFront, HasWrittenOutSoFar, IsFlushedAtEnd, IsTooMuch, most_asked, tally_of, written};
 ghost use Rattle.dm_tool.specs.inner.AnsweredSoFar.{Advances, AreCounted, HasBegunAnswers, HasBegunLast, HasTakenText, IsLastAnswered};
 
@@ -55,8 +56,7 @@ pub fn run<I: Source, O: Sink>(
     ensures read_unflushed { IsErrOf result RunFault.Read → O.flushed sink.old sink.new [] }
     ensures too_much_unflushed { IsErrOf result RunFault.TooMuchInput → O.flushed sink.old sink.new [] }
     ensures write_flushed { IsErrOf result RunFault.Write → IsFlushedAtEnd task most (I.gave source.old source.new) (I.ended source.new)
-        (Appends (O.contents sink.old) (O.contents sink.new)) (O.flushed sink.old sink.new [])
-        (IsFlushedOnce (O.flushed sink.old sink.new) (O.contents sink.old) (O.contents sink.new)) }
+        (O.flushed sink.old sink.new) (O.contents sink.old) (O.contents sink.new) }
 {
     let Some(mut answering) = Answering::new(task) else {
         return print_table(sink);

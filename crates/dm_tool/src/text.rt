@@ -59,7 +59,7 @@ impl<const N: usize> Text<N> {
         self.count = 0;
     }
 
-    /// Keeps the first bytes, so many.
+    /// Keeps only the first `count` bytes.
     pub(crate) fn truncate(&mut self, count: usize)
         requires { count ≤ length self.old.items }
         ensures { self.new.items ≡ take count self.old.items }

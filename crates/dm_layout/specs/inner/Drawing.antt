@@ -1,8 +1,40 @@
--- Rows of the mapping square put into the grid of a symbol, between right borders.
-use Rattle.std.specs.Prelude.{◌≡◌, ℕ, ◌<◌, Bool, true, ◌&&◌, ◌||◌, nat_lt}
+-- How the grid of a symbol is drawn: light, then with borders and the fixed square, then with the rows of the mapping square put in between.
+use Rattle.std.specs.Prelude.{◌≡◌, ℕ, ◌+◌, ◌-◌, ◌*◌, ◌/◌, ◌<◌, Bool, true, false, ◌&&◌, ◌||◌, [], nat_lt, get_or, set, if◌then◌else◌}
 use Rattle.dm_layout.specs.Sizes.{SizeRow}
-use Rattle.dm_layout.specs.Grid.{GridView, IsGrid, cell_at}
-use Rattle.dm_layout.specs.Border.{symbol_line, is_border, border_is_dark, is_fixed_dark}
+use Rattle.dm_layout.specs.Grid.{GridView, IsGrid, cell_at, square_by}
+use Rattle.dm_layout.specs.Border.{symbol_line, is_border, border_is_dark, is_fixed, fixed_is_dark}
+
+-- A grid is light if all its cells are light.
+abbrev pub IsLight : GridView → Type 0
+IsLight grid = (row column : ℕ) → row < grid.size.side → column < grid.size.side → cell_at grid row column ≡ false
+
+-- When one cell of a grid is given a colour, all others stay as they are.
+abbrev pub with_cell : GridView → ℕ → ℕ → Bool → GridView
+with_cell grid row column dark = record { size = grid.size; rows = set grid.rows row (set (get_or grid.rows row []) column dark) }
+
+-- ---- the grid without codewords
+
+-- A row of the symbol that is no border's is this row of the mapping
+-- square, where the data regions have the side d; a column likewise.
+abbrev pub mapping_line : ℕ → ℕ → ℕ
+mapping_line d line = line - 2 * (line / (d + 2)) - 1
+
+-- A cell of the mapping square is a dark cell of the fixed square.
+abbrev pub is_fixed_dark : ℕ → ℕ → ℕ → Bool
+is_fixed_dark n row column = is_fixed n row column && fixed_is_dark row column
+
+-- In the empty grid a border cell has its colour, and of the other cells
+-- only the dark ones of the fixed square are dark.
+abbrev pub empty_colour : SizeRow → ℕ → ℕ → Bool
+empty_colour size row column =
+    if is_border size row column then border_is_dark size row column
+    else is_fixed_dark size.mapping (mapping_line size.region_side row) (mapping_line size.region_side column)
+
+-- The empty grid of a size has correct borders, the fixed square if the size has one, and no other dark cell.
+abbrev pub empty_grid : SizeRow → GridView
+empty_grid size = record { size = size; rows = square_by size.side (empty_colour size) }
+
+-- ---- the rows of the mapping square
 
 -- In a grid that is drawn as far as `line`, the rows above it are put between right borders.
 pub record IsDrawn (size : SizeRow) (look : ℕ → ℕ → Bool) (line : ℕ) (grid : GridView) : Type 0 where

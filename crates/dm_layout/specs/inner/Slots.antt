@@ -26,8 +26,9 @@ reversed_bits x = 128 * (x % 2) + 64 * (x / 2 % 2) + 32 * (x / 4 % 2) + 16 * (x 
 -- Three rows are joined in one: of each byte the lowest two bits are those of the first row, the next three those of
 -- the second, and the highest three those of the third.
 abbrev pub is_joined : ℕ → ℕ → ℕ → ℕ → Bool
-is_joined a b d c =
-    ((is_dark_in a c && nat_lt (c % 8) 2) || (nat_le 2 c && (is_dark_in b (c - 2) && nat_lt ((c - 2) % 8) 3))) || (nat_le 5 c && (is_dark_in d (c - 5) && nat_lt ((c - 5) % 8) 3))
+is_joined first second third column =
+    ((is_dark_in first column && nat_lt (column % 8) 2) || (nat_le 2 column && (is_dark_in second (column - 2) && nat_lt ((column - 2) % 8) 3)))
+    || (nat_le 5 column && (is_dark_in third (column - 5) && nat_lt ((column - 5) % 8) 3))
 
 -- The codewords whose anchors lie in row r begin at this column of the widened rows.
 abbrev pub first_column : ℕ → ℕ
@@ -44,9 +45,13 @@ pub record IsJoined (n : ℕ) (rows : List ℕ) (r x : ℕ) : Type 0 where
 abbrev pub AreJoined : ℕ → List ℕ → List ℕ → Type 0
 AreJoined n rows news = (r : ℕ) → r < n → IsJoined n rows r (get_or news r 0)
 
+-- The codeword of a corner has this slot, which lies behind all others: 16 times 96, the largest side of a mapping square.
+abbrev pub corner_slot : ℕ
+corner_slot = 1536
+
 -- A slot is that of a corner, or lies in the rows of a mapping square of at most this side.
 abbrev pub HasSlot : ℕ → ℕ → Type 0
-HasSlot most x = (x ≡ 1536) ⊎ ((x / 16 < most) × (8 * (x % 16) < most))
+HasSlot most x = (x ≡ corner_slot) ⊎ ((x / 16 < most) × (8 * (x % 16) < most))
 
 -- A slot has its byte in the joined row to which it belongs; that of a corner stands in the row behind all others.
 abbrev pub slot_byte : ℕ → List ℕ → ℕ → ℕ
@@ -55,17 +60,17 @@ slot_byte last rows x = get_or rows (min (x / 16) last) 0 / 2 ^ (8 * (x % 16)) %
 -- The codewords of the mapping square of side n stand in their slots, as widened rows have them.
 pub record HasSlots (n last : ℕ) (rows news : List ℕ) : Type 0 where
   pub anchors : AreJoined n rows news
-  pub corner1 : n % 8 ≡ 4 → reversed_bits (slot_byte last news 1536) ≡ word_in rows (cells_of n Corner1)
-  pub corner2 : n % 8 ≡ 6 → reversed_bits (slot_byte last news 1536) ≡ word_in rows (cells_of n Corner2)
+  pub corner1 : n % 8 ≡ 4 → reversed_bits (slot_byte last news corner_slot) ≡ word_in rows (cells_of n Corner1)
+  pub corner2 : n % 8 ≡ 6 → reversed_bits (slot_byte last news corner_slot) ≡ word_in rows (cells_of n Corner2)
 
 -- The codeword of a standard shape has slot 16 r + c div 8, r and c being the row and the column of its anchor, and
--- that of a corner slot 1536, behind all others.
+-- that of a corner the slot behind all others.
 abbrev pub slot_of : Shape → ℕ
 slot_of (Standard r c) = 16 * r + c / 8
-slot_of Corner1 = 1536
-slot_of Corner2 = 1536
-slot_of Corner3 = 1536
-slot_of Corner4 = 1536
+slot_of Corner1 = corner_slot
+slot_of Corner2 = corner_slot
+slot_of Corner3 = corner_slot
+slot_of Corner4 = corner_slot
 
 -- The slots of a mapping square of this side come in the order of its codewords.
 abbrev pub order_of : ℕ → List ℕ

@@ -79,7 +79,7 @@ candidate_at n Down u v = inside_at n u v
 
 -- The next move of the walk comes by this shape.
 abbrev pub candidate_of : ℕ → Cursor → Option Shape
-candidate_of n c = candidate_at n c.leg c.row c.column
+candidate_of n cursor = candidate_at n cursor.leg cursor.row cursor.column
 
 -- The walk is in a part of a turn, at a row and a column.
 abbrev pub to : Leg → ℕ → ℕ → Cursor
@@ -93,7 +93,7 @@ moved_at n Down u v = elim (nat_le n u || nat_lt v 4) [ true ↦ to Turn (u + 5)
 
 -- The next move of the walk ends here.
 abbrev pub moved_of : ℕ → Cursor → Cursor
-moved_of n c = moved_at n c.leg c.row c.column
+moved_of n cursor = moved_at n cursor.leg cursor.row cursor.column
 
 -- The walk is over if a turn would begin with row and column both past the square.
 abbrev pub is_over_at : ℕ → Leg → ℕ → ℕ → Bool
@@ -103,7 +103,7 @@ is_over_at n Down u v = false
 
 -- The walk is over where it stands.
 abbrev pub is_over_of : ℕ → Cursor → Bool
-is_over_of n c = is_over_at n c.leg c.row c.column
+is_over_of n cursor = is_over_at n cursor.leg cursor.row cursor.column
 
 -- ---- all moves
 
@@ -122,7 +122,7 @@ candidates_at (suc k) n Down u v =
 -- From where it stands, the walk comes by these shapes in at most so many moves.
 unfoldable pub candidates : ℕ → ℕ → Cursor → List Shape
 unfolding candidates_at
-candidates k n c = candidates_at k n c.leg c.row c.column
+candidates k n cursor = candidates_at k n cursor.leg cursor.row cursor.column
 
 -- Of the shapes that it comes by, in turn, the walk places those that aren't left out, and each fills its cells.
 unfoldable pub placed : ℕ → List ℕ → List Shape → List Shape
@@ -140,7 +140,7 @@ LegIsSafe Down u v = 2 ≤ v
 
 -- The moves that are left go neither below 0 nor past what the numbers hold.
 abbrev pub CursorIsSafe : Cursor → ℕ → Type 0
-CursorIsSafe c moves = LegIsSafe c.leg c.row c.column × (c.row + 5 * moves ≤ 60000) × (c.column + 5 * moves ≤ 60000)
+CursorIsSafe cursor moves = LegIsSafe cursor.leg cursor.row cursor.column × (cursor.row + 5 * moves ≤ 60000) × (cursor.column + 5 * moves ≤ 60000)
 
 -- The walk still has these shapes to place.
 abbrev pub shapes_left : Walk → List Shape

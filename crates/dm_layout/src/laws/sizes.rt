@@ -2,17 +2,18 @@
 #![tactic(auto, unfolding(crate::specs::Sizes::size_table))]
 
 ghost use Rattle.std.specs.Prelude.{◌≡◌};
-ghost use Rattle.dm_layout.specs.Sizes.{IsGreatest, codeword_count, largest_side, most_data, most_codewords, most_blocks};
+ghost use Rattle.dm_layout.specs.Sizes.{IsGreatest, codeword_count, largest_side, most_data, most_codewords, most_blocks, most_block_check, longest_block, block_check};
 
-use crate::size::{LARGEST_SIDE, MOST_BLOCKS, MOST_CODEWORDS, MOST_DATA};
+use crate::size::{LARGEST_SIDE, LONGEST_BLOCK, MOST_BLOCKS, MOST_CODEWORDS, MOST_DATA};
 
-/// The largest side and the most data codewords, codewords and blocks are those of the table: some size has as many,
-/// and none has more.
+/// The largest side and the most data codewords, codewords, blocks and check codewords of a block are those of the table: some
+/// size has as many, and none has more.
 pub fn limits_are_those_of_the_table()
     ensures side { IsGreatest (λ row. row.side) largest_side }
     ensures data { IsGreatest (λ row. row.data_count) most_data }
     ensures codewords { IsGreatest codeword_count most_codewords }
     ensures blocks { IsGreatest (λ row. row.blocks) most_blocks }
+    ensures checks { IsGreatest block_check most_block_check }
 {}
 
 /// The crate's constants are these limits.
@@ -21,4 +22,5 @@ pub fn constants_are_the_limits()
     ensures data { MOST_DATA ≡ most_data }
     ensures codewords { MOST_CODEWORDS ≡ most_codewords }
     ensures blocks { MOST_BLOCKS ≡ most_blocks }
+    ensures length { LONGEST_BLOCK ≡ longest_block }
 {}

@@ -1,14 +1,22 @@
 -- What stands between the pieces of a text that is answered as it comes.
 use Rattle.std.specs.Prelude.{◌≡◌, ℕ, List, ◌++◌}
 use Rattle.dm_tool.specs.declared.task.Task.{Task}
-use Rattle.dm_tool.specs.declared.task.Task.TheVariants.{Write}
+use Rattle.dm_tool.specs.declared.task.Task.TheVariants.{Read, Check, Normal, Write, Table}
 use Rattle.dm_tool.specs.declared.task.Tally.{Tally}
 use Rattle.dm_tool.specs.declared.answering.Answering.{Answering}
 use Rattle.dm_tool.specs.declared.answering.Answering.TheVariants.{Records, Lines}
 use Rattle.dm_tool.specs.RecordFeeds.{RecordAnswer, AreRecordsOfText}
 use Rattle.dm_tool.specs.LineFeeds.{LineAnswer, AreOfText}
-use Rattle.dm_tool.specs.Answers.{Answer, AnswersRecords, IsRecordAnswer, IsWriteAnswer}
+use Rattle.dm_tool.specs.Answers.{Answer, IsRecordAnswer, IsWriteAnswer}
 use Rattle.dm_tool.specs.Runs.{AreAllAnswers, AreClosedAnswers, AreMatched, tally_of, written}
+
+-- The tasks that read, check or normalise answer records; the other two don't.
+abbrev pub AnswersRecords : Task → Type 0
+AnswersRecords (Read border) = Unit {0}
+AnswersRecords (Check border) = Unit {0}
+AnswersRecords (Normal border profile) = Unit {0}
+AnswersRecords (Write profile) = ⊥
+AnswersRecords Table = ⊥
 
 -- After a text, these are the answers to what is closed within it, and the state holds what stands open.
 abbrev pub IsAnsweredSoFar : Task → Answering → List ℕ → List Answer → Type 0

@@ -45,6 +45,11 @@ abbrev pub pointed_to : Result (Bor (List Item)) LineFault → LineAnswer
 pointed_to (Ok message) = Ok message.now
 pointed_to (Err fault) = Err fault
 
+-- The first LF of a text stands after `before`.
+pub record IsFirstLf (text before after : List ℕ) : Type 0 where
+  pub whole : text ≡ before ++ lf ∷ after
+  pub no_lf : HasNoLf before
+
 -- The first LF of the piece ends the line, which is still held: the piece is taken up to and with it.
 pub record EndsLine (old : LineFacts) (piece : List ℕ) (taken : ℕ) (new : LineFacts) : Type 0 where
   pub before : List ℕ

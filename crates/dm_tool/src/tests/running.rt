@@ -22,7 +22,7 @@ pub(super) fn push<const N: usize>(rt: &impl Abort, text: &mut ArrayVec<u8, N>, 
     assert!(rt; text.try_extend_from_slice(bytes).is_ok());
 }
 
-/// The task over this text writes just this, and counts so. The sink is flushed once, when it has taken all of it. The
+/// For this text the task writes exactly this, with these counts. The sink is flushed once, when it has taken all of it. The
 /// status is 0 where nothing is refused, else 1, and there is no line.
 pub(super) fn writes(
     rt: &impl Abort,

@@ -1,7 +1,8 @@
 use Rattle.std.proofs.Common.{◌≡◌, ◌≢◌, ℕ, ◌+◌, ◌-◌, ◌%◌, ◌<◌, ◌∙◌, sym, ap, subst, true, false, ◌&&◌, ◌||◌, nat_eq, Bool, arith}
 use Rattle.dm_layout.specs.Sizes.{SizeRow}
-use Rattle.dm_layout.specs.Grid.{GridView, IsGrid, cell_at, with_cell, is_dark_in}
-use Rattle.dm_layout.specs.Border.{is_border, border_is_dark, is_on_edge, edge_is_dark, empty_grid, empty_colour}
+use Rattle.dm_layout.specs.Grid.{GridView, IsGrid, cell_at, is_dark_in}
+use Rattle.dm_layout.specs.inner.Drawing.{with_cell, empty_grid, empty_colour}
+use Rattle.dm_layout.specs.Border.{is_border, border_is_dark, is_on_edge, edge_is_dark}
 use Rattle.dm_layout.proofs.EmptyGrid.{IsBordered, drawn_above_more, none_above, all_above, empty_without, empty_with}
 use Rattle.dm_layout.proofs.BorderMasks.{row_below}
 use Rattle.dm_layout.proofs.GridLemmas.{grid_of_square}

@@ -9,13 +9,9 @@ use Rattle.dm_layout.proofs.DrawnRows.{drawn_more, in_rows}
 use Rattle.dm_layout.proofs.InnerRows.{moved_bit}
 use Rattle.dm_layout.proofs.PlacementRows.{side_at_row}
 use Rattle.dm_layout.proofs.SymbolLines.{lies_inside}
-use Rattle.dm_layout.proofs.TableRows.{row_facts}
+use Rattle.dm_layout.proofs.TableRows.{across_is, row_facts}
 use Rattle.dm_layout.proofs.WidenedRows.{line_here}
 use Rattle.dm_layout.proofs.mapping.draw_regions.Goals as goal
-
--- The mapping side divided by the side of a region is how many regions stand side by side.
-across_is : (s : SizeRow) (m d : ℕ) → m ≡ s.mapping → d ≡ s.region_side → m / d ≡ regions_across s
-across_is s m d em ed = ap (λ (i : ℕ). i / d) em ∙ ap (λ (i : ℕ). s.mapping / i) ed
 
 -- A line of the mapping square lies in a region, and so does its line in the symbol.
 record IsHere (s : SizeRow) (region line : ℕ) : Type 0 where

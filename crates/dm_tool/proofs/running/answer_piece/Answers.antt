@@ -1,6 +1,7 @@
 use Rattle.std.proofs.Common.{◌≡◌, ◌∙◌, ◌∷◌, ◌++◌, [], List, ap, append-nil, append_assoc, arith, refl, subst, sym, drop, take}
 use Rattle.dm_tool.specs.Answers.{Answer}
-use Rattle.dm_tool.specs.Devices.{Counts, HasRisen, IsPassedOn}
+use Rattle.dm_tool.specs.Devices.{Counts, HasRisen}
+use Rattle.dm_tool.specs.inner.Gathering.{IsPassedOn}
 use Rattle.dm_tool.specs.Runs.{AreClosedAnswers, tally_of, written}
 use Rattle.dm_tool.specs.inner.AnsweredSoFar.{Advances}
 use Rattle.dm_tool.proofs.GoingOn.{goes_on}

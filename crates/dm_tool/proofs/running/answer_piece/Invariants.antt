@@ -1,6 +1,6 @@
 use Rattle.std.proofs.Common.{◌≡◌, ◌≤◌, ◌+◌, ◌++◌, [], List, ℕ, length}
 use Rattle.dm_tool.specs.Answers.{Answer}
-use Rattle.dm_tool.specs.Devices.{IsPassedOn}
+use Rattle.dm_tool.specs.inner.Gathering.{IsPassedOn}
 use Rattle.dm_tool.specs.Runs.{tally_of, written}
 use Rattle.dm_tool.specs.inner.AnsweredSoFar.{Advances}
 use Rattle.dm_tool.proofs.running.answer_piece.Given as goal

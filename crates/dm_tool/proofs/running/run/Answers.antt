@@ -1,6 +1,6 @@
 use Rattle.std.proofs.Common.{◌≡◌, ◌≤◌, ◌+◌, ◌-◌, ◌∙◌, [], ◌∷◌, ◌++◌, List, ℕ, zero, suc, append-nil, arith, inl, length, length-append, length-take-le, max, refl, subst, sym, take}
 use Rattle.std.specs.Io.KnownBytes.{Appends}
-use Rattle.dm_tool.specs.Devices.{AppendsFront, IsFlushedOnce}
+use Rattle.dm_tool.specs.Devices.{AppendsFront}
 use Rattle.dm_tool.specs.Runs.{most_asked, written}
 use Rattle.dm_tool.proofs.Asks.{asked_by, next_is_within}
 use Rattle.dm_tool.proofs.Flushes.{flushed_later, table_flushed, text_flushed}
@@ -191,9 +191,8 @@ returns-in-Ok-end-clause-flushed_last g c =
 
 pub returns-in_default-clause-write_flushed : goal.returns-in_default-clause-write_flushed
 returns-in_default-clause-write_flushed g c = table_flushed c.args.task c.args.most (g.I.Source.gave c.args.source.now c.args.source.now)
-    (Appends (g.O.Sink.contents c.args.sink.now) (g.O.Sink.contents c.print_table.new.sink)) (g.I.Source.ended c.args.source.now)
-    (g.O.Sink.flushed c.args.sink.now c.print_table.new.sink [])
-    (IsFlushedOnce (g.O.Sink.flushed c.args.sink.now c.print_table.new.sink) (g.O.Sink.contents c.args.sink.now) (g.O.Sink.contents c.print_table.new.sink))
+    (g.O.Sink.flushed c.args.sink.now c.print_table.new.sink) (g.I.Source.ended c.args.source.now)
+    (g.O.Sink.contents c.args.sink.now) (g.O.Sink.contents c.print_table.new.sink)
     c.print_table.result c.in_default.ensures.none (g.met.I.Source.gave_none c.args.source.now) c.print_table.ensures.late
 
 pub returns-in-Err-end-clause-write_flushed : goal.returns-in-Err-end-clause-write_flushed

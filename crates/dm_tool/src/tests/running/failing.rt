@@ -94,8 +94,8 @@ fn a_read_fails(rt: HostRuntime) {
     }
 }
 
-/// How many reads of so many bytes a text takes of which at most so many may come, with the one that tells of its end or
-/// of a byte too much.
+/// The number of reads, of `piece` bytes each, that a text takes when at most `most` bytes may come, including the one that
+/// meets its end or the byte too many.
 fn reads_of(text: &[u8], piece: usize, most: usize) -> usize {
     text.len()
         .min(most)

@@ -1,5 +1,5 @@
 use Rattle.std.proofs.Common.{refl}
-use Rattle.dm_layout.specs.Sizes.{size_table, codeword_count, largest_side, most_data, most_codewords, most_blocks}
+use Rattle.dm_layout.specs.Sizes.{size_table, block_check, codeword_count, largest_side, most_data, most_codewords, most_blocks, most_block_check}
 use Rattle.dm_layout.proofs.TableRows.{greatest}
 use Rattle.dm_layout.proofs.laws.sizes.limits_are_those_of_the_table.Goals as goal
 
@@ -18,3 +18,7 @@ returns-clause-codewords c = greatest codeword_count most_codewords refl refl
 pub returns-clause-blocks : goal.returns-clause-blocks
 unfolding size_table
 returns-clause-blocks c = greatest (λ row. row.blocks) most_blocks refl refl
+
+pub returns-clause-checks : goal.returns-clause-checks
+unfolding size_table
+returns-clause-checks c = greatest block_check most_block_check refl refl
