@@ -1,7 +1,7 @@
 # What people run by hand. `make test` is the merge gate.
 PREFIX ?= /usr/local
 TOOL := crates/dm_tool/out/dm_tool
-# The crates below the program, lowest first, and the program.
+# The crates below the program, lowest first, with the one that has their tests, and the program. The library for C is built by itself.
 CRATES := $(shell sed -n 's/^\([a-z0-9_]*\):.*/\1/p' crates.txt)
 # They test what no contract mentions. Each ends with a line 'N passed, M failed', and with status 1 if something failed.
 SCRIPTS := tests/definitions tests/program tests/library tests/marks/run tests/scale tests/page/run
