@@ -3,13 +3,14 @@ mod Pointwise
 mod FirstItem
 mod KeptWords
 mod Moves
-mod CellTables
 mod OnePlace
+mod FewerTests
 mod SameShapes
 mod SweepEnds
-mod TestedPlacement
+mod SweepTest
+mod SweptCells
+mod SweptShapes
 mod TestedSweep
-mod TestedWalk
 mod PlacementRows
 mod BlockLemmas
 mod GridLemmas

@@ -35,7 +35,7 @@ abbrev pub same_shape : Shape → Shape → Bool
 same_shape x y = pointwise nat_eq (numbers_of x) (numbers_of y)
 
 -- Shapes whose numbers agree are equal.
-shape_equal : (x y : Shape) → same_shape x y ≡ true → x ≡ y
+pub shape_equal : (x y : Shape) → same_shape x y ≡ true → x ≡ y
 shape_equal x y h = sym (shape_again x) ∙ ap shape_of (same_text (numbers_of x) (numbers_of y) (sym h)) ∙ shape_again y
 
 -- Two lists of shapes pass this test if they agree shape by shape.

@@ -11,8 +11,9 @@ use Rattle.dm_layout.specs.declared.shape.Shape.{Shape}
 use Rattle.dm_layout.specs.declared.shape.Shape.TheVariants.{Standard, Corner1, Corner2, Corner3, Corner4}
 use Rattle.dm_layout.specs.Placement.{cells_of}
 use Rattle.dm_layout.specs.inner.Slots.{order_of, slot_of, HasSlot}
+use Rattle.dm_layout.proofs.FewerTests.{few_shapes, shapes-few}
 use Rattle.dm_layout.proofs.LiftedWords.{fits_test, kind_test, inside_test}
-use Rattle.dm_layout.proofs.PlacementRows.{at_row, count_at_row}
+use Rattle.dm_layout.proofs.PlacementRows.{passed_at_row, count_at_row}
 use Rattle.dm_layout.proofs.TestedSlots as slotted
 use Rattle.dm_layout.proofs.TestedSlots.{slots_test}
 
@@ -25,8 +26,12 @@ pub record IsOrder (n : ℕ) : Type 0 where
 pub order_at_row : (s : SizeRow) → IsRow s → IsOrder s.mapping
 order_at_row s row =
     let n : ℕ = s.mapping in
-    let both = and_parts (pointwise nat_eq (order_of n) (map slot_of (shapes n))) (list_all (fits_test n) (shapes n)) (at_row (λ size. slots_test size.mapping ≡ true) s slotted.tested row) in
-    record { slots = same_text (order_of n) (map slot_of (shapes n)) (sym both.0); fits = both.1 }
+    let passed = passed_at_row (λ size. slots_test size.mapping) s slotted.tested row in
+    let both = and_parts (pointwise nat_eq (order_of n) (map slot_of (few_shapes n))) (list_all (fits_test n) (few_shapes n)) passed in
+    record {
+      slots = same_text (order_of n) (map slot_of (few_shapes n)) (sym both.0) ∙ ap (map slot_of) (sym (shapes-few n));
+      fits = ap (list_all (fits_test n)) (shapes-few n) ∙ both.1;
+    }
 
 -- The slot of a shape that fits lies in the rows.
 slot_fits : (n most : ℕ) (s : Shape) → n ≤ most → n ≤ 96 → fits_test n s ≡ true → HasSlot most (slot_of s)

@@ -1,0 +1,243 @@
+-- What the test of the sweep says of the cells: those of the shapes lie in the square, no two of them are the same, and together they are those outside
+-- the fixed square.
+use Rattle.std.proofs.Common.{◌≡◌, ◌≢◌, ◌⊎◌, inl, inr, ℕ, zero, suc, ◌*◌, ◌^◌, ◌<◌, Bool, true, false, not, ◌&&◌, nat_eq, nat_lt, List, [], ◌∷◌, ◌++◌, length, get_or, refl, sym, ◌∙◌, ap, subst, arith}
+use Rattle.std.specs.Prelude.{max}
+use Rattle.std.specs.Int.{bit_at}
+use Rattle.std.specs.Int.RustNames.{bit_or}
+use Rattle.std.proofs.lemmas.Bool.{and_parts, eqb-true, eqb-false, ne_eqb, ltb-true, false≢true}
+use Rattle.std.proofs.lemmas.Nat.{pow_pos}
+use Rattle.std.proofs.lemmas.Nat.Bits.{and_pow, bit_at_or, bit_at-lt, bit_at-pow_same, bit_at-pow_other}
+use Rattle.dm_layout.specs.declared.shape.Cell.{Cell}
+use Rattle.dm_layout.specs.declared.shape.Shape.{Shape}
+use Rattle.dm_layout.specs.Placement.{cells_of}
+use Rattle.dm_layout.proofs.SameShapes.{same_shape, shape_equal}
+use Rattle.dm_layout.proofs.SweepTest.{cells_of_all, is_free, number_of, with_cell, is_new, fill_new, anchor_inside, left_out, places_next, all_filled, sweep_test}
+
+-- ---- one more cell
+
+-- A binary digit times a positive number is 0 exactly if the digit is.
+digit_times : (b m : ℕ) → b < 2 → 0 < m → nat_eq (b * m) 0 ≡ nat_eq b 0
+digit_times zero m l p = ap (λ (k : ℕ). nat_eq k 0) (let e : 0 * m ≡ 0 = omega arith in e)
+digit_times (suc zero) m l p = ne_eqb (1 * m) 0 (λ h. omega (arith, h, p))
+digit_times (suc (suc b)) m l p = absurd (omega arith)
+
+-- A cell isn't filled exactly if its bit is 0.
+pub free_bit : (t k : ℕ) → is_free t k ≡ nat_eq (bit_at t k) 0
+free_bit t k = ap (λ (j : ℕ). nat_eq j 0) (and_pow t k) ∙ digit_times (bit_at t k) (2 ^ k) (bit_at-lt t k) (pow_pos k)
+
+-- The larger of two binary digits is 0 exactly if both are.
+max_free : (x y : ℕ) → x < 2 → y < 2 → nat_eq (max x y) 0 ≡ (nat_eq x 0 && nat_eq y 0)
+max_free zero zero lx ly = refl
+max_free zero (suc zero) lx ly = refl
+max_free (suc zero) zero lx ly = refl
+max_free (suc zero) (suc zero) lx ly = refl
+max_free zero (suc (suc y)) lx ly = absurd (omega arith)
+max_free (suc zero) (suc (suc y)) lx ly = absurd (omega arith)
+max_free (suc (suc x)) y lx ly = absurd (omega arith)
+
+-- A power of 2 has a single bit.
+single_bit : (i k : ℕ) → nat_eq (bit_at (2 ^ i) k) 0 ≡ not (nat_eq k i)
+single_bit i k = by_test (nat_eq k i) refl
+  where
+    by_test : (b : Bool) → nat_eq k i ≡ b → nat_eq (bit_at (2 ^ i) k) 0 ≡ not b
+    by_test true e = ap (λ (j : ℕ). nat_eq (bit_at (2 ^ i) j) 0) (eqb-true k i e) ∙ ap (λ (j : ℕ). nat_eq j 0) (bit_at-pow_same i)
+    by_test false e = ap (λ (j : ℕ). nat_eq j 0) (bit_at-pow_other i k (eqb-false k i e))
+
+-- With one more cell filled, a cell is free that was, but for that cell.
+pub free_after : (n t k : ℕ) (x : Cell) → is_free (with_cell n t x) k ≡ (is_free t k && not (nat_eq k (number_of n x)))
+free_after n t k x =
+    let p : ℕ = 2 ^ number_of n x in
+    free_bit (bit_or t p) k
+    ∙ ap (λ (j : ℕ). nat_eq j 0) (bit_at_or t p k)
+    ∙ max_free (bit_at t k) (bit_at p k) (bit_at-lt t k) (bit_at-lt p k)
+    ∙ ap (λ (b : Bool). b && nat_eq (bit_at p k) 0) (sym (free_bit t k))
+    ∙ ap (λ (b : Bool). is_free t k && b) (single_bit (number_of n x) k)
+
+-- A cell that is free with one more cell filled was free before.
+pub free_before : (n t k : ℕ) (x : Cell) → is_free (with_cell n t x) k ≡ true → is_free t k ≡ true
+free_before n t k x h = (and_parts (is_free t k) _ (sym (free_after n t k x) ∙ h)).0
+
+-- A number equals itself, as the test of equality sees it.
+same_number : (k : ℕ) → nat_eq k k ≡ true
+same_number k = by_test (nat_eq k k) refl
+  where
+    by_test : (b : Bool) → nat_eq k k ≡ b → b ≡ true
+    by_test true e = refl
+    by_test false e = absurd (eqb-false k k e refl)
+
+-- A test and a test that fails fail together.
+and_none : (b : Bool) → (b && false) ≡ false
+and_none true = refl
+and_none false = refl
+
+-- A cell that is filled isn't free.
+filled_now : (n t : ℕ) (x : Cell) → is_free (with_cell n t x) (number_of n x) ≡ false
+filled_now n t x =
+    let k : ℕ = number_of n x in
+    free_after n t k x ∙ ap (λ (b : Bool). is_free t k && not b) (same_number k) ∙ and_none (is_free t k)
+
+-- A cell that isn't free stays so with one more cell filled.
+still_filled : (n t k : ℕ) (x : Cell) → is_free t k ≡ false → is_free (with_cell n t x) k ≡ false
+still_filled n t k x h = free_after n t k x ∙ ap (λ (b : Bool). b && not (nat_eq k (number_of n x))) h
+
+-- ---- cells that are filled one after the other
+
+-- The number with these cells filled too.
+abbrev pub filled_with : ℕ → ℕ → List Cell → ℕ
+filled_with n t [] = t
+filled_with n t (x ∷ rest) = filled_with n (with_cell n t x) rest
+
+-- Each of these cells is new when those before it are filled.
+abbrev pub AreNew : ℕ → ℕ → List Cell → Type 0
+AreNew n t [] = Unit {0}
+AreNew n t (x ∷ rest) = (is_new n t x ≡ true) × AreNew n (with_cell n t x) rest
+
+-- Where cells pass their test, they are new, and what comes next passes its own.
+pub new_cells : (n t : ℕ) (xs : List Cell) (next : ℕ → Bool) → fill_new n t xs next ≡ true → AreNew n t xs × (next (filled_with n t xs) ≡ true)
+new_cells n t [] next h = (tt, h)
+new_cells n t (x ∷ xs) next h = by_test (new_cells n (with_cell n t x) xs next) (is_new n t x) refl h
+  where
+    by_test : (fill_new n (with_cell n t x) xs next ≡ true → AreNew n (with_cell n t x) xs × (next (filled_with n (with_cell n t x) xs) ≡ true)) → (b : Bool) → is_new n t x ≡ b →
+        elim b as (λ _. Bool) [ true ↦ fill_new n (with_cell n t x) xs next | false ↦ false ] ≡ true → AreNew n t (x ∷ xs) × (next (filled_with n t (x ∷ xs)) ≡ true)
+    by_test others true e g = let rest = others g in ((e, rest.0), rest.1)
+    by_test others false e g = absurd (false≢true g)
+
+-- Two lists of cells are filled one after the other.
+pub filled_with-append : (n t : ℕ) (xs ys : List Cell) → filled_with n t (xs ++ ys) ≡ filled_with n (filled_with n t xs) ys
+filled_with-append n t [] ys = refl
+filled_with-append n t (x ∷ xs) ys = filled_with-append n (with_cell n t x) xs ys
+
+-- Where the cells of a list are new, and then those of another, all are.
+pub AreNew-append : (n t : ℕ) (xs ys : List Cell) → AreNew n t xs → AreNew n (filled_with n t xs) ys → AreNew n t (xs ++ ys)
+AreNew-append n t [] ys h g = g
+AreNew-append n t (x ∷ xs) ys h g = (h.0, AreNew-append n (with_cell n t x) xs ys h.1 g)
+
+-- The cell lies in the square.
+pub record IsInside (n : ℕ) (x : Cell) : Type 0 where
+  pub row : x.row < n
+  pub column : x.column < n
+
+-- A new cell lies in the square and is free.
+pub is_new-parts : (n t : ℕ) (x : Cell) → is_new n t x ≡ true → IsInside n x × (is_free t (number_of n x) ≡ true)
+is_new-parts n t x h =
+    let both = and_parts (nat_lt x.row n && nat_lt x.column n) (is_free t (number_of n x)) h in
+    let here = and_parts (nat_lt x.row n) (nat_lt x.column n) both.0 in
+    (record { row = ltb-true x.row n here.0; column = ltb-true x.column n here.1 }, both.1)
+
+-- Each of the new cells lies in the square and was free at first.
+pub new_at : (n t : ℕ) (xs : List Cell) (i : ℕ) (d : Cell) → AreNew n t xs → i < length xs → IsInside n (get_or xs i d) × (is_free t (number_of n (get_or xs i d)) ≡ true)
+new_at n t [] i d h l = absurd (omega arith)
+new_at n t (x ∷ xs) zero d h l = is_new-parts n t x h.0
+new_at n t (x ∷ xs) (suc i) d h l =
+    let rest = new_at n (with_cell n t x) xs i d h.1 (omega arith) in
+    (rest.0, free_before n t (number_of n (get_or xs i d)) x rest.1)
+
+-- Once filled, a cell stays so.
+stays_filled : (n t k : ℕ) (xs : List Cell) → is_free t k ≡ false → is_free (filled_with n t xs) k ≡ false
+stays_filled n t k [] h = h
+stays_filled n t k (x ∷ xs) h = stays_filled n (with_cell n t x) k xs (still_filled n t k x h)
+
+-- In the end each of the cells is filled.
+pub filled_at : (n t : ℕ) (xs : List Cell) (i : ℕ) (d : Cell) → i < length xs → is_free (filled_with n t xs) (number_of n (get_or xs i d)) ≡ false
+filled_at n t [] i d l = absurd (omega arith)
+filled_at n t (x ∷ xs) zero d l = stays_filled n (with_cell n t x) (number_of n x) xs (filled_now n t x)
+filled_at n t (x ∷ xs) (suc i) d l = filled_at n (with_cell n t x) xs i d (omega arith)
+
+-- One of the cells has this number.
+abbrev pub IsAmong : ℕ → ℕ → List Cell → Cell → Type 0
+IsAmong n k xs d = (i : ℕ) × (i < length xs) × (number_of n (get_or xs i d) ≡ k)
+
+-- A cell that was free and is filled in the end is one of the cells.
+pub among : (n t k : ℕ) (xs : List Cell) (d : Cell) → is_free t k ≡ true → is_free (filled_with n t xs) k ≡ false → IsAmong n k xs d
+among n t k [] d f h = absurd (false≢true (sym h ∙ f))
+among n t k (x ∷ xs) d f h = by_test (λ g. among n (with_cell n t x) k xs d g h) (nat_eq k (number_of n x)) refl
+  where
+    by_test : (is_free (with_cell n t x) k ≡ true → IsAmong n k xs d) → (b : Bool) → nat_eq k (number_of n x) ≡ b → IsAmong n k (x ∷ xs) d
+    by_test others true e = (0, omega arith, sym (eqb-true k (number_of n x) e))
+    by_test others false e =
+        let g : is_free (with_cell n t x) k ≡ true = free_after n t k x ∙ ap (λ (b : Bool). is_free t k && not b) e ∙ ap (λ (b : Bool). b && true) f in
+        let rest : IsAmong n k xs d = others g in
+        (suc rest.0, omega (arith, rest.1), rest.2)
+
+-- The first of the new cells isn't among the others.
+first_apart : (n t : ℕ) (x : Cell) (xs : List Cell) (i : ℕ) (d : Cell) → AreNew n t (x ∷ xs) → i < length xs → number_of n x ≢ number_of n (get_or xs i d)
+first_apart n t x xs i d h l e =
+    false≢true (sym (filled_now n t x) ∙ ap (is_free (with_cell n t x)) e ∙ (new_at n (with_cell n t x) xs i d h.1 l).1)
+
+-- No two of the new cells are the same.
+pub new_apart : (n t : ℕ) (xs : List Cell) (i j : ℕ) (d : Cell) → AreNew n t xs → i < length xs → j < length xs → number_of n (get_or xs i d) ≡ number_of n (get_or xs j d) → i ≡ j
+new_apart n t [] i j d h li lj e = absurd (omega arith)
+new_apart n t (x ∷ xs) zero zero d h li lj e = refl
+new_apart n t (x ∷ xs) zero (suc j) d h li lj e = absurd (first_apart n t x xs j d h (omega arith) e)
+new_apart n t (x ∷ xs) (suc i) zero d h li lj e = absurd (first_apart n t x xs i d h (omega arith) (sym e))
+new_apart n t (x ∷ xs) (suc i) (suc j) d h li lj e = ap suc (new_apart n (with_cell n t x) xs i j d h.1 (omega arith) (omega arith) e)
+
+-- ---- the shapes
+
+-- The sweep comes by a shape that it leaves out.
+pub record LeavesOut (n t : ℕ) (s : Shape) (rest ps : List Shape) : Type 0 where
+  pub out : left_out n t s ≡ true
+  pub go_on : sweep_test n t rest ps ≡ true
+
+-- The sweep comes by a shape that it places.
+pub record Places (n t : ℕ) (s : Shape) (rest ps qs : List Shape) : Type 0 where
+  pub here : left_out n t s ≡ false
+  pub next : ps ≡ s ∷ qs
+  pub new : AreNew n t (cells_of n s)
+  pub go_on : sweep_test n (filled_with n t (cells_of n s)) rest qs ≡ true
+
+-- At each shape that passes the test, the sweep leaves it out or places it.
+pub record Comes (n t : ℕ) (s : Shape) (rest ps : List Shape) : Type 0 where
+  pub inside : anchor_inside n s ≡ true
+  pub either : LeavesOut n t s rest ps ⊎ ((qs : List Shape) × Places n t s rest ps qs)
+
+placed_next : (n t : ℕ) (s : Shape) (rest ps : List Shape) → left_out n t s ≡ false → places_next n t s ps (λ u qs. sweep_test n u rest qs) ≡ true →
+    (qs : List Shape) × Places n t s rest ps qs
+placed_next n t s rest [] o h = absurd (false≢true h)
+placed_next n t s rest (p ∷ qs) o h = by_test (same_shape s p) refl h
+  where
+    by_test : (b : Bool) → same_shape s p ≡ b → elim b as (λ _. Bool) [ true ↦ fill_new n t (cells_of n s) (λ u. sweep_test n u rest qs) | false ↦ false ] ≡ true →
+        (others : List Shape) × Places n t s rest (p ∷ qs) others
+    by_test true e g =
+        let new = new_cells n t (cells_of n s) (λ u. sweep_test n u rest qs) g in
+        let placed : Places n t s rest (p ∷ qs) qs = record { here = o; next = ap (λ (q : Shape). q ∷ qs) (sym (shape_equal s p e)); new = new.0; go_on = new.1 } in
+        (qs, placed)
+    by_test false e g = absurd (false≢true g)
+
+pub comes : (n t : ℕ) (s : Shape) (rest ps : List Shape) → sweep_test n t (s ∷ rest) ps ≡ true → Comes n t s rest ps
+unfolding sweep_test
+comes n t s rest ps h = by_inside (anchor_inside n s) refl h
+  where
+    by_left : (b : Bool) → left_out n t s ≡ b → elim b as (λ _. Bool) [ true ↦ sweep_test n t rest ps | false ↦ places_next n t s ps (λ u qs. sweep_test n u rest qs) ] ≡ true →
+        LeavesOut n t s rest ps ⊎ ((qs : List Shape) × Places n t s rest ps qs)
+    by_left true e g = inl (record { out = e; go_on = g })
+    by_left false e g = inr (placed_next n t s rest ps e g)
+
+    by_inside : (b : Bool) → anchor_inside n s ≡ b → elim b as (λ _. Bool) [
+      | true ↦ elim (left_out n t s) as (λ _. Bool) [ true ↦ sweep_test n t rest ps | false ↦ places_next n t s ps (λ u qs. sweep_test n u rest qs) ]
+      | false ↦ false
+    ] ≡ true → Comes n t s rest ps
+    by_inside true e g = record { inside = e; either = by_left (left_out n t s) refl g }
+    by_inside false e g = absurd (false≢true g)
+
+-- The cells of these shapes are new, and in the end the cells outside the fixed square are filled.
+pub record FillsAll (n t : ℕ) (ps : List Shape) : Type 0 where
+  pub new : AreNew n t (cells_of_all n ps)
+  pub all : all_filled n (filled_with n t (cells_of_all n ps)) ≡ true
+
+-- Where the test of the sweep passes, the cells of the shapes that it places are new, and fill the square.
+pub fills_all : (n t : ℕ) (ss ps : List Shape) → sweep_test n t ss ps ≡ true → FillsAll n t ps
+unfolding sweep_test
+fills_all n t [] [] h = record { new = tt; all = h }
+fills_all n t [] (p ∷ ps) h = absurd (false≢true h)
+fills_all n t (s ∷ rest) ps h = by_either (λ u qs. fills_all n u rest qs) (comes n t s rest ps h).either
+  where
+    by_either : ((u : ℕ) (qs : List Shape) → sweep_test n u rest qs ≡ true → FillsAll n u qs) → LeavesOut n t s rest ps ⊎ ((qs : List Shape) × Places n t s rest ps qs) → FillsAll n t ps
+    by_either go (inl out) = go t ps out.go_on
+    by_either go (inr (qs, placed)) =
+        let cells : List Cell = cells_of n s in
+        let others : FillsAll n (filled_with n t cells) qs = go (filled_with n t cells) qs placed.go_on in
+        subst (FillsAll n t) (sym placed.next) (record {
+          new = AreNew-append n t cells (cells_of_all n qs) placed.new others.new;
+          all = subst (λ (u : ℕ). all_filled n u ≡ true) (sym (filled_with-append n t cells (cells_of_all n qs))) others.all;
+        })
