@@ -10,7 +10,7 @@ use Rattle.dm_layout.specs.declared.shape.Shape.{Shape}
 use Rattle.dm_layout.specs.declared.shape.Shape.TheVariants.{Standard, Corner1, Corner2, Corner3, Corner4}
 use Rattle.dm_layout.specs.Border.{is_fixed}
 use Rattle.dm_layout.specs.Placement.{At, shapes, cells_of, place, IsPlace, NoPlace, OnePlace, EachCellOnce}
-use Rattle.dm_layout.proofs.BorderMasks.{beq-true}
+use Rattle.std.specs.Cmp.{booleans_Decides}
 use Rattle.dm_layout.proofs.Ranges.{all_below}
 use Rattle.dm_layout.proofs.SweepTest.{cells_of_all, is_free, number_of, all_filled}
 use Rattle.dm_layout.proofs.SweptCells.{FillsAll, IsAmong, IsInside, filled_with, new_at, new_apart, filled_at, among}
@@ -63,7 +63,7 @@ module _ (n : ℕ) (fills : FillsAll n 0 (shapes n)) where
   at_cell : (r c : ℕ) → r < n → c < n → is_free whole (r * n + c) ≡ is_fixed n r c
   unfolding all_filled
   at_cell r c lr lc =
-      let t = beq-true _ _ (all_below (λ k. beq (is_free whole k) (is_fixed n (k / n) (k % n))) (n * n) (r * n + c) fills.all (mul-add-lt r n c n lr lc)) in
+      let t = (booleans_Decides _ _).0 (all_below (λ k. beq (is_free whole k) (is_fixed n (k / n) (k % n))) (n * n) (r * n + c) fills.all (mul-add-lt r n c n lr lc)) in
       t ∙ ap (λ (j : ℕ). is_fixed n j ((r * n + c) % n)) (div-mul-add r n c lc) ∙ ap (is_fixed n r) (mod-mul-add r n c lc)
 
   -- A place is one of the cells.

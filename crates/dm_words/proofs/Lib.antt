@@ -9,6 +9,7 @@ mod PartLoops
 mod RunLoops
 mod SegmentLoops
 mod AsciiWords
+mod UnitLoops
 mod PadWords
 mod NormalForms
 mod ItemBytes

@@ -1,6 +1,8 @@
 -- The loops that read the pairs and the items of a run.
-use Rattle.std.proofs.Common.{◌≡◌, ℕ, ◌+◌, ◌-◌, ◌<◌, ◌≤◌, List, [], ◌∷◌, ◌++◌, length, take, drop, refl, sym, ap, ◌∙◌, append_assoc, arith, Option}
+use Rattle.std.proofs.Common.{◌≡◌, ℕ, ◌+◌, ◌-◌, ◌<◌, ◌≤◌, List, [], ◌∷◌, ◌++◌, length, take, drop, refl, sym, ap, ◌∙◌, append_assoc, arith, Option, All}
 use Rattle.std.proofs.lemmas.List.{append-nil, length-drop, drop-drop, take_all}
+use Rattle.std.proofs.lemmas.List.Elements.{All-drop, All-head, All-append, All-cons, All-nil}
+use Rattle.dm_words.specs.inner.Scan.Answers.{IsSmall}
 use Rattle.dm_words.specs.declared.c40.set.CodeSet.{CodeSet}
 use Rattle.dm_words.specs.declared.c40.pair.PairsEnd.{PairsEnd}
 use Rattle.dm_words.specs.declared.c40.pair.PairsEnd.TheVariants as stop
@@ -26,7 +28,7 @@ PairsGoOn words total front at = GoesOn (flat total.taken) front (flat (pairs_fr
 
 -- After a turn of the loop over the pairs, the pairs of the words are still the same.
 pub pairs_turn : (words : List ℕ) (at a b d : ℕ) (old new : List ℕ) (total : Walked (List ℕ) PairsEnd) → IsBytes words → at ≤ length words → pair_front at (drop at words) ≡ Takes 2 (a ∷ b ∷ d ∷ [])
-    → new ≡ ((old ++ a ∷ []) ++ b ∷ []) ++ d ∷ [] → PairsGoOn words total old at → PairsGoOn words total new (at + 2) × (at + 2 ≤ length words)
+    → new ≡ old ++ a ∷ b ∷ d ∷ [] → PairsGoOn words total old at → PairsGoOn words total new (at + 2) × (at + 2 ≤ length words)
 pairs_turn words at a b d old new total fit le e is so_far =
     let r = pair_sound.right at (drop at words) 2 (a ∷ b ∷ d ∷ []) (IsBytes-drop at words fit) e in
     let one = walk_all-takes pair_front PairRight IsBytes stop.SymbolEnd pair_sound at (drop at words) 2 (a ∷ b ∷ d ∷ []) (IsBytes-drop at words fit) e in
@@ -84,3 +86,12 @@ run_is set place words values count t read k f pairs r kk e =
     let all : take (length words - place) (drop place words) ≡ drop place words = take_all _ (drop place words) (omega (arith, length-drop place words)) in
     let here : (values ≡ flat (pairs_in (drop place words)).taken) × (count ≡ (pairs_in (drop place words)).place) × (t ≡ (pairs_in (drop place words)).why) = rw all at pairs in
     rw (← e, r, kk, here.1, here.2, here.0) refl
+
+-- The number at an index of numbers below 40 is below 40.
+pub small_at : (values more : List ℕ) (at v : ℕ) → All IsSmall values → drop at values ≡ v ∷ more → v < 40
+small_at values more at v small e = All-head IsSmall v more (let d = All-drop IsSmall at values small in rw e at d)
+
+-- Numbers below 40 and three more are below 40.
+pub small_more : (old new : List ℕ) (a b d : ℕ) → new ≡ old ++ a ∷ b ∷ d ∷ [] → All IsSmall old → a < 40 → b < 40 → d < 40 → All IsSmall new
+small_more old new a b d is h la lb ld =
+    rw is (All-append IsSmall old (a ∷ b ∷ d ∷ []) h (All-cons IsSmall a (b ∷ d ∷ []) la (All-cons IsSmall b (d ∷ []) lb (All-cons IsSmall d [] ld (All-nil IsSmall)))))

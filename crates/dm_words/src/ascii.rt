@@ -1,9 +1,9 @@
 //! The ASCII codewords of a message (ISO/IEC 16022, ASCII encodation).
 
-ghost use Rattle.std.specs.Prelude.{◌≡◌, ◌+◌, ◌≤◌, ◌<◌, length};
+ghost use Rattle.std.specs.Prelude.{◌≡◌, ◌+◌, ◌≤◌, ◌<◌, ◌++◌, length};
 ghost use Rattle.dm_words.specs.Ascii.{ascii, is_digit as is_digit_byte};
 ghost use Rattle.dm_words.specs.NormalForm.{has_fnc1};
-ghost use Rattle.dm_words.specs.inner.Scan.Answers.{BeginsAscii, IsSingle};
+ghost use Rattle.dm_words.specs.inner.Scan.Answers.{BeginsAscii, IsSingle, unit_words, unit_items};
 
 use crate::item::Item;
 use crate::limits::MOST_ITEMS;
@@ -102,6 +102,33 @@ pub fn ascii_form(items: &[Item]) -> AsciiForm
     form
 }
 
+/// Adds the codewords of a unit, and gives the number of its items.
+fn write_unit(unit: Unit, words: &mut ArrayVec<u8, MOST_CODEWORDS>) -> usize
+    requires { length words.old.items + length (unit_words unit) ≤ MOST_DATA }
+    ensures words { words.new.items ≡ words.old.items ++ unit_words unit }
+    ensures count { result ≡ unit_items unit }
+{
+    match unit {
+        Unit::One(word) => {
+            words.push(word);
+            1
+        }
+        Unit::Digits(word) => {
+            words.push(word);
+            2
+        }
+        Unit::Raised(word) => {
+            words.push(UPPER_SHIFT);
+            words.push(word);
+            1
+        }
+        Unit::Fnc1 => {
+            words.push(FNC1);
+            1
+        }
+    }
+}
+
 /// Writes the ASCII codewords of the items into the place: from the left, two digits in one codeword wherever two come first.
 pub fn write_ascii(items: &[Item], words: &mut ArrayVec<u8, MOST_CODEWORDS>)
     requires { length (ascii items.now) ≤ MOST_DATA }
@@ -110,24 +137,6 @@ pub fn write_ascii(items: &[Item], words: &mut ArrayVec<u8, MOST_CODEWORDS>)
     words.clear();
     let mut at = 0;
     while at < items.len() {
-        match unit_at(items, at) {
-            Unit::One(word) => {
-                words.push(word);
-                at += 1;
-            }
-            Unit::Digits(word) => {
-                words.push(word);
-                at += 2;
-            }
-            Unit::Raised(word) => {
-                words.push(UPPER_SHIFT);
-                words.push(word);
-                at += 1;
-            }
-            Unit::Fnc1 => {
-                words.push(FNC1);
-                at += 1;
-            }
-        }
+        at += write_unit(unit_at(items, at), words);
     }
 }

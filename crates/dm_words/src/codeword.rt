@@ -8,7 +8,7 @@ use arrayvec::ArrayVec;
 use dm_layout::MOST_DATA;
 
 /// What a codeword means where ASCII encodation is in force.
-#[derive(Clone, Copy, Debug, PartialEq, Eq)]
+#[derive(Clone, Copy)]
 pub enum Codeword {
     /// The byte of 0 to 127.
     Character(u8),

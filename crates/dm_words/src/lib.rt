@@ -11,6 +11,7 @@ mod base256;
 mod c40;
 mod codeword;
 mod fault;
+mod front;
 mod item;
 pub mod laws;
 mod limits;

@@ -1,19 +1,21 @@
 //! Reading: the message that data codewords spell, or the fault with which they are refused.
 
-ghost use Rattle.std.specs.Prelude.{◌≡◌, ◌+◌, ◌≤◌, ◌<◌, ◌*◌, ◌↔◌, List, length, drop, Ok, Err, IfOk, OnOk};
+ghost use Rattle.std.specs.Prelude.{◌≡◌, ◌+◌, ◌≤◌, ◌<◌, ◌*◌, ◌↔◌, List, length, drop, Ok, Err, IfOk, OnOk, Option};
 ghost use Rattle.dm_words.specs.declared.item.Item.{Item};
 ghost use Rattle.dm_words.specs.declared.fault.WordFault.{WordFault};
 ghost use Rattle.dm_words.specs.Messages.{IsMessage};
 ghost use Rattle.dm_words.specs.Spells.{Spells};
 ghost use Rattle.dm_words.specs.Refused.{Refused};
 ghost use Rattle.dm_words.specs.Places.{outcome};
-ghost use Rattle.dm_words.specs.inner.Scan.Fronts.{part_front, raised_unit};
+ghost use Rattle.dm_words.specs.inner.Scan.Fronts.{part_front, part_by, raised_unit};
+ghost use Rattle.dm_words.specs.inner.Scan.Walk.{Step};
 ghost use Rattle.dm_words.specs.inner.Scan.Answers.{IsPartTakenOrEnd, IsPartTaken};
 
 use crate::base256::segment_part;
 use crate::c40::run::run_part;
 use crate::codeword::{Codeword, meaning};
 use crate::fault::WordFault;
+use crate::front::number_at;
 use crate::item::Item;
 use crate::message::Message;
 use dm_layout::MOST_DATA;
@@ -25,11 +27,27 @@ fn next_part(words: &[u8], at: usize, message: &mut Message) -> Result<Option<us
     requires room { length message.old ≤ 2 * at }
     ensures { IsPartTakenOrEnd result message.old message.new (part_front (at + 1) (drop at words.now)) }
 {
+    match number_at(words, at) {
+        Some(first) => part_of(meaning(first), first, words, at, message),
+        None => Ok(None),
+    }
+}
+
+/// The same where a codeword stands at the index, by what it means.
+fn part_of(
+    meaning: Option<Codeword>,
+    first: u8,
+    words: &[u8],
+    at: usize,
+    message: &mut Message,
+) -> Result<Option<usize>, WordFault>
+    requires in_range { at < length words.now }
+    requires short { length words.now ≤ MOST_DATA }
+    requires room { length message.old ≤ 2 * at }
+    ensures { IsPartTakenOrEnd result message.old message.new (part_by (at + 1) first (drop (at + 1) words.now) meaning) }
+{
     let place = at as u16 + 1;
-    let Some(first) = words.get(at) else {
-        return Ok(None);
-    };
-    match meaning(*first) {
+    match meaning {
         Some(Codeword::Pad) => Ok(None),
         Some(Codeword::Character(byte)) => {
             message.add(Item::Byte(byte));
@@ -44,11 +62,21 @@ fn next_part(words: &[u8], at: usize, message: &mut Message) -> Result<Option<us
             message.add(Item::Fnc1);
             Ok(Some(1))
         }
-        Some(Codeword::UpperShift) => Ok(Some(raised_part(words, at, message)?)),
-        Some(Codeword::Latch(set)) => Ok(Some(run_part(set, words, at, message)?)),
-        Some(Codeword::Base256) => Ok(Some(segment_part(words, at, message)?)),
-        Some(Codeword::LeftOut) => Err(WordFault::LeftOut(*first, place)),
+        Some(Codeword::UpperShift) => taken(raised_part(words, at, message)),
+        Some(Codeword::Latch(set)) => taken(run_part(set, words, at, message)),
+        Some(Codeword::Base256) => taken(segment_part(words, at, message)),
+        Some(Codeword::LeftOut) => Err(WordFault::LeftOut(first, place)),
         None => Err(WordFault::Reserved(place)),
+    }
+}
+
+/// A part that can't be the end, as one that can.
+fn taken(part: Result<usize, WordFault>) -> Result<Option<usize>, WordFault>
+    ensures { (old new : List Item) (step : Step (List Item) (Option WordFault)) → IsPartTaken part old new step → IsPartTakenOrEnd result old new step }
+{
+    match part {
+        Ok(count) => Ok(Some(count)),
+        Err(fault) => Err(fault),
     }
 }
 
@@ -60,10 +88,10 @@ fn raised_part(words: &[u8], at: usize, message: &mut Message) -> Result<usize, 
     ensures { IsPartTaken result message.old message.new (raised_unit (at + 1) (drop (at + 1) words.now)) }
 {
     let place = at as u16 + 1;
-    let Some(second) = words.get(at + 1) else {
+    let Some(second) = number_at(words, at + 1) else {
         return Err(WordFault::Unfinished(place));
     };
-    match meaning(*second) {
+    match meaning(second) {
         Some(Codeword::Character(byte)) => {
             message.add(Item::Byte(byte + 128));
             Ok(2)

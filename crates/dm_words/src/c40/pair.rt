@@ -1,10 +1,11 @@
 //! The pairs of a run: two codewords for three values.
 
-ghost use Rattle.std.specs.Prelude.{◌≡◌, ◌≤◌, ◌*◌, length, drop, All};
+ghost use Rattle.std.specs.Prelude.{◌≡◌, ◌+◌, ◌≤◌, ◌*◌, ◌++◌, ◌∷◌, [], length, drop, All};
 ghost use Rattle.dm_words.specs.inner.Scan.Walk.{flat};
-ghost use Rattle.dm_words.specs.inner.Scan.Fronts.{pair_front, pairs_in};
+ghost use Rattle.dm_words.specs.inner.Scan.Fronts.{pair_front, pair_by, pairs_in};
 ghost use Rattle.dm_words.specs.inner.Scan.Answers.{GivesPair, IsSmall};
 
+use crate::front::number_at;
 use crate::limits::MOST_VALUES;
 use arrayvec::ArrayVec;
 use dm_layout::MOST_DATA;
@@ -31,21 +32,38 @@ fn pair_at(words: &[u8], at: usize) -> Pair
     requires { at ≤ length words.now }
     ensures { GivesPair result (pair_front at (drop at words.now)) }
 {
-    let Some(high) = words.get(at) else {
+    let Some(high) = number_at(words, at) else {
         return Pair::Stops(PairsEnd::SymbolEnd);
     };
-    if *high == UNLATCH {
+    if high == UNLATCH {
         return Pair::Stops(PairsEnd::Unlatch);
     }
-    let Some(low) = words.get(at + 1) else {
+    let Some(low) = number_at(words, at + 1) else {
         return Pair::Stops(PairsEnd::SymbolEnd);
     };
-    let number = *high as u16 * 256 + *low as u16;
+    let number = high as u16 * 256 + low as u16;
+    pair_of(number)
+}
+
+/// The pair of a number.
+fn pair_of(number: u16) -> Pair
+    ensures { GivesPair result (pair_by number) }
+{
     if number == 0 || number > 64000 {
         return Pair::Stops(PairsEnd::BadPair);
     }
     let n = number - 1;
     Pair::Values((n / 1600) as u8, (n / 40 % 40) as u8, (n % 40) as u8)
+}
+
+/// Adds three values to the list.
+fn push_values(values: &mut ArrayVec<u8, MOST_VALUES>, first: u8, second: u8, third: u8)
+    requires { length values.old.items + 3 ≤ MOST_VALUES }
+    ensures { values.new.items ≡ values.old.items ++ first ∷ second ∷ third ∷ [] }
+{
+    values.push(first);
+    values.push(second);
+    values.push(third);
 }
 
 /// The values of all pairs of a run, the number of their codewords, and why no further pair follows.
@@ -71,9 +89,7 @@ pub fn pairs_of(words: &[u8]) -> Pairs
     loop {
         match pair_at(words, at) {
             Pair::Values(first, second, third) => {
-                values.push(first);
-                values.push(second);
-                values.push(third);
+                push_values(&mut values, first, second, third);
                 at += 2;
             }
             Pair::Stops(end) => {

@@ -4,7 +4,7 @@ ghost use Rattle.std.specs.Prelude.{◌≡◌, ◌<◌, Some};
 ghost use Rattle.dm_words.specs.CodeSets.{basic_of, shifted_of};
 
 /// The encodation of a run.
-#[derive(Clone, Copy, Debug, PartialEq, Eq)]
+#[derive(Clone, Copy)]
 pub enum CodeSet {
     C40,
     Text,
@@ -12,7 +12,7 @@ pub enum CodeSet {
 }
 
 /// Shift 1, Shift 2 or Shift 3, each of which holds for one value.
-#[derive(Clone, Copy, Debug, PartialEq, Eq)]
+#[derive(Clone, Copy)]
 pub enum Shift {
     One,
     Two,
@@ -20,14 +20,14 @@ pub enum Shift {
 }
 
 /// What a value means in the basic set.
-#[derive(Clone, Copy, Debug, PartialEq, Eq)]
+#[derive(Clone, Copy)]
 pub enum Basic {
     Character(u8),
     Shift(Shift),
 }
 
 /// What a value means after a shift.
-#[derive(Clone, Copy, Debug, PartialEq, Eq)]
+#[derive(Clone, Copy)]
 pub enum Shifted {
     Character(u8),
     Fnc1,
@@ -57,17 +57,58 @@ pub fn basic_meaning(set: CodeSet, value: u8) -> Basic
 pub fn shifted_meaning(set: CodeSet, shift: Shift, value: u8) -> Option<Shifted>
     ensures { result ≡ shifted_of set shift value }
 {
-    match (set, shift, value) {
-        (CodeSet::X12, _, _) => None,
-        (_, _, 32..) => None,
-        (_, Shift::One, _) => Some(Shifted::Character(value)),
-        (_, Shift::Two, 0..=14) => Some(Shifted::Character(value + 33)),
-        (_, Shift::Two, 15..=21) => Some(Shifted::Character(value + 43)),
-        (_, Shift::Two, 22..=26) => Some(Shifted::Character(value + 69)),
-        (_, Shift::Two, 27) => Some(Shifted::Fnc1),
-        (_, Shift::Two, 30) => Some(Shifted::UpperShift),
-        (_, Shift::Two, _) => None,
-        (CodeSet::Text, Shift::Three, 1..=26) => Some(Shifted::Character(value + 64)),
-        (_, Shift::Three, _) => Some(Shifted::Character(value + 96)),
+    match (set, shift) {
+        (CodeSet::X12, _) => None,
+        (_, Shift::One) => first_meaning(value),
+        (_, Shift::Two) => second_meaning(value),
+        (CodeSet::C40, Shift::Three) => third_meaning(value),
+        (CodeSet::Text, Shift::Three) => third_meaning_in_text(value),
+    }
+}
+
+/// The meaning of a value after Shift 1 in C40 and Text.
+fn first_meaning(value: u8) -> Option<Shifted>
+    ensures { result ≡ shifted_of CodeSet.C40 Shift.One value }
+{
+    if value < 32 {
+        Some(Shifted::Character(value))
+    } else {
+        None
+    }
+}
+
+/// The meaning of a value after Shift 2 in C40 and Text.
+fn second_meaning(value: u8) -> Option<Shifted>
+    ensures { result ≡ shifted_of CodeSet.C40 Shift.Two value }
+{
+    match value {
+        0..=14 => Some(Shifted::Character(value + 33)),
+        15..=21 => Some(Shifted::Character(value + 43)),
+        22..=26 => Some(Shifted::Character(value + 69)),
+        27 => Some(Shifted::Fnc1),
+        30 => Some(Shifted::UpperShift),
+        _ => None,
+    }
+}
+
+/// The meaning of a value after Shift 3 in C40.
+fn third_meaning(value: u8) -> Option<Shifted>
+    ensures { result ≡ shifted_of CodeSet.C40 Shift.Three value }
+{
+    if value < 32 {
+        Some(Shifted::Character(value + 96))
+    } else {
+        None
+    }
+}
+
+/// The meaning of a value after Shift 3 in Text.
+fn third_meaning_in_text(value: u8) -> Option<Shifted>
+    ensures { result ≡ shifted_of CodeSet.Text Shift.Three value }
+{
+    match value {
+        1..=26 => Some(Shifted::Character(value + 64)),
+        0..=31 => Some(Shifted::Character(value + 96)),
+        _ => None,
     }
 }

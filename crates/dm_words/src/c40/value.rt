@@ -5,6 +5,7 @@ ghost use Rattle.dm_words.specs.inner.Scan.Fronts.{spelling_front, raised_front,
 ghost use Rattle.dm_words.specs.inner.Scan.Answers.{GivesItem, IsSmall};
 
 use crate::c40::set::{Basic, CodeSet, Shifted, basic_meaning, shifted_meaning};
+use crate::front::number_at;
 use crate::item::Item;
 use crate::limits::MOST_ITEMS;
 use crate::message::Message;
@@ -36,17 +37,17 @@ fn spelling_at(set: CodeSet, values: &[u8], at: usize) -> Spelling
     requires small { All IsSmall values.now }
     ensures { GivesItem result (spelling_front set at (drop at values.now)) }
 {
-    let Some(first) = values.get(at) else {
+    let Some(first) = number_at(values, at) else {
         return Spelling::Stops(Rest::Complete);
     };
-    let shift = match basic_meaning(set, *first) {
+    let shift = match basic_meaning(set, first) {
         Basic::Character(byte) => return Spelling::Takes(1, Item::Byte(byte)),
         Basic::Shift(shift) => shift,
     };
-    let Some(second) = values.get(at + 1) else {
+    let Some(second) = number_at(values, at + 1) else {
         return Spelling::Stops(Rest::Complete);
     };
-    match shifted_meaning(set, shift, *second) {
+    match shifted_meaning(set, shift, second) {
         Some(Shifted::Character(byte)) => Spelling::Takes(2, Item::Byte(byte)),
         Some(Shifted::Fnc1) => Spelling::Takes(2, Item::Fnc1),
         Some(Shifted::UpperShift) => raised_at(set, values, at + 2),
@@ -60,17 +61,17 @@ fn raised_at(set: CodeSet, values: &[u8], at: usize) -> Spelling
     requires small { All IsSmall values.now }
     ensures { GivesItem result (raised_front set (drop at values.now)) }
 {
-    let Some(third) = values.get(at) else {
+    let Some(third) = number_at(values, at) else {
         return Spelling::Stops(Rest::Waiting);
     };
-    let shift = match basic_meaning(set, *third) {
+    let shift = match basic_meaning(set, third) {
         Basic::Character(byte) => return Spelling::Takes(3, Item::Byte(byte + 128)),
         Basic::Shift(shift) => shift,
     };
-    let Some(fourth) = values.get(at + 1) else {
+    let Some(fourth) = number_at(values, at + 1) else {
         return Spelling::Stops(Rest::Waiting);
     };
-    match shifted_meaning(set, shift, *fourth) {
+    match shifted_meaning(set, shift, fourth) {
         Some(Shifted::Character(byte)) => Spelling::Takes(4, Item::Byte(byte + 128)),
         Some(Shifted::Fnc1 | Shifted::UpperShift) => Spelling::Stops(Rest::WrongUpperShift),
         None => Spelling::Stops(Rest::Meaningless(3)),

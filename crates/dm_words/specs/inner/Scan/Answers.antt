@@ -25,6 +25,11 @@ abbrev pub IsPartTaken : Result ℕ WordFault → List Item → List Item → St
 IsPartTaken (Ok n) old new step = (items : List Item) × (step ≡ Takes n items) × (new ≡ old ++ items)
 IsPartTaken (Err f) old new step = step ≡ Stops (Some f)
 
+-- The list is empty, or begins with the number, and this is what follows it.
+abbrev pub Begins : Option ℕ → List ℕ → List ℕ → Type 0
+Begins None list more = list ≡ []
+Begins (Some n) list more = list ≡ n ∷ more
+
 -- A value of a run is below 40.
 abbrev pub IsSmall : ℕ → Type 0
 IsSmall v = v < 40
@@ -45,6 +50,20 @@ IsSingle (unit.One w) b = single b ≡ w ∷ []
 IsSingle (unit.Digits w) b = ⊥
 IsSingle (unit.Raised w) b = single b ≡ 235 ∷ w ∷ []
 IsSingle unit.Fnc1 b = ⊥
+
+-- The codewords of a unit.
+abbrev pub unit_words : Unit → List ℕ
+unit_words (unit.One w) = w ∷ []
+unit_words (unit.Digits w) = w ∷ []
+unit_words (unit.Raised w) = 235 ∷ w ∷ []
+unit_words unit.Fnc1 = 232 ∷ []
+
+-- How many items a unit has.
+abbrev pub unit_items : Unit → ℕ
+unit_items (unit.One w) = 1
+unit_items (unit.Digits w) = 2
+unit_items (unit.Raised w) = 1
+unit_items unit.Fnc1 = 1
 
 -- The ASCII codewords of the items from an index on begin with the unit, and FNC1 is among these items where it is the unit or stands
 -- behind it.

@@ -1,0 +1,6 @@
+use Rattle.std.proofs.Common.{◌+◌, drop}
+use Rattle.dm_words.proofs.RunLoops.{small_at}
+use Rattle.dm_words.proofs.c40.value.raised_at.Goals as goal
+
+pub basic_meaning-requires : goal.basic_meaning-requires
+basic_meaning-requires c = small_at c.args.values.now (drop (c.args.at + 1) c.args.values.now) c.args.at c.in-Some.third c.requires.small c.in-Some.ensures
