@@ -1,11 +1,11 @@
 //! The command line, as clap reads it.
-ghost use Rattle.std.specs.Prelude.{◌≡◌, ◌≢◌, ◌↔◌, [], true, false, IfOk, OnOk, IfSome, IfNone, IsErrOf};
+ghost use Rattle.std.specs.Prelude.{◌≡◌, ◌≢◌, ◌↔◌, [], true, false, codes, IfOk, OnOk, IfSome, IfNone, IsErrOf};
 ghost use Rattle.clap.specs.Faults.{fault_of};
 ghost use Rattle.clap.specs.Takes.{takes};
 ghost use Rattle.clap.specs.Walk.{rule_of, rows_of};
 ghost use Rattle.clap.specs.Matches.{found_of};
 ghost use Rattle.clap.specs.Values.{kind_of};
-ghost use Rattle.clap.specs.Simple.{app_of, shape_of, subcommand_of, subcommand_rows_of, new_shape, with_subcommand};
+ghost use Rattle.clap.specs.Simple.{Shape, app_of, shape_of, subcommand_of, subcommand_rows_of, new_shape, with_subcommand};
 ghost use Rattle.clap.specs.declared.builder.command.Command.TheViews.{out-Command};
 ghost use Rattle.dm_tool.specs.CommandLine.{GivesLimit, GivesProfile, IsTaskOf, NamesTask, border_rule, dm_app, shorter_rule, texts_of, top_app, with_border as bordered, with_both as both, with_shorter as shortened};
 ghost use Rattle.dm_tool.specs.inner.CommandReads.{HasNoTask, IsReadable};
@@ -79,23 +79,35 @@ fn top<'a>(alloc: Global) -> Command<'a>
         .disable_help_subcommand(true)
 }
 
-/// The command with one more subcommand.
-fn joined<'a>(command: Command<'a>, sub: Command<'a>) -> Result<Command<'a>, AllocError>
-    requires { (out-Command sub).has_globals ≡ false }
-    ensures { IfOk result (λ c. app_of c ≡ with_subcommand (app_of command.entry) (shape_of sub.entry)) }
+/// The command with one more subcommand, if there was memory for it.
+fn joined<'a>(
+    command: Command<'a>,
+    sub: Result<Command<'a>, AllocError>,
+) -> Result<Command<'a>, AllocError>
+    requires { IfOk sub (λ s. (out-Command s).has_globals ≡ false) }
+    ensures { (shape : Shape) → IfOk sub.entry (λ s. shape_of s ≡ shape)
+        → IfOk result (λ c. app_of c ≡ with_subcommand (app_of command.entry) shape) }
 {
+    let sub = sub?;
     command.subcommand(sub)
+}
+
+/// The command with the three subcommands whose input are grids.
+fn for_grids<'a>(alloc: Global) -> Result<Command<'a>, AllocError>
+    ensures { IfOk result (λ c. app_of c ≡ with_subcommand (with_subcommand (with_subcommand top_app
+        (bordered (codes "read"))) (bordered (codes "check"))) (both (codes "normal"))) }
+{
+    let with_read = joined(top(alloc), with_border(alloc, "read"))?;
+    let with_check = joined(with_read, with_border(alloc, "check"))?;
+    joined(with_check, with_both(alloc, "normal"))
 }
 
 /// The command with its five subcommands.
 fn command<'a>(alloc: Global) -> Result<Command<'a>, AllocError>
     ensures { IfOk result (λ c. app_of c ≡ dm_app) }
 {
-    let with_read = joined(top(alloc), with_border(alloc, "read")?)?;
-    let with_check = joined(with_read, with_border(alloc, "check")?)?;
-    let with_normal = joined(with_check, with_both(alloc, "normal")?)?;
-    let with_write = joined(with_normal, with_shorter(alloc, "write")?)?;
-    joined(with_write, plain(alloc, "table"))
+    let with_write = joined(for_grids(alloc)?, with_shorter(alloc, "write"))?;
+    joined(with_write, Ok(plain(alloc, "table")))
 }
 
 /// The border limit among the matches of a subcommand.

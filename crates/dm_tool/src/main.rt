@@ -61,11 +61,15 @@ fn task_of_call(rt: &HostRuntime) -> Result<Task, CallFault> {
     };
     let mut texts = Vec::new(rt.alloc());
     for text in given {
-        texts.push(text).map_err(|_| CallFault::Memory)?;
+        if texts.push(text).is_err() {
+            return Err(CallFault::Memory);
+        }
     }
     let mut words = Vec::new(rt.alloc());
     for text in texts.as_slice() {
-        words.push(text.as_str()).map_err(|_| CallFault::Memory)?;
+        if words.push(text.as_str()).is_err() {
+            return Err(CallFault::Memory);
+        }
     }
     task_of(rt.alloc(), words.as_slice())
 }

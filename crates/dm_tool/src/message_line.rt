@@ -68,20 +68,12 @@ fn spell<const N: usize>(text: &mut Text<N>, item: Item)
     ensures room { length text.new.items ≤ length text.old.items + 4 }
 {
     match item {
-        Item::Fnc1 => {
-            text.push(b'\\');
-            text.push(b'F');
-        }
-        Item::Byte(b'\\') => {
-            text.push(b'\\');
-            text.push(b'\\');
-        }
+        Item::Fnc1 => text.push_all(b"\\F"),
+        Item::Byte(b'\\') => text.push_all(b"\\\\"),
         Item::Byte(byte @ b' '..=b'~') => text.push(byte),
         Item::Byte(byte) => {
-            text.push(b'\\');
-            text.push(b'x');
-            text.push(upper_digit(byte / 16));
-            text.push(upper_digit(byte % 16));
+            let (high, low) = (upper_digit(byte / 16), upper_digit(byte % 16));
+            text.push_all(&[b'\\', b'x', high, low]);
         }
     }
 }

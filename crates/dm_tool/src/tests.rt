@@ -3,7 +3,6 @@
 mod command_line;
 mod devices;
 mod memory;
-mod readers;
 mod running;
 mod texts;
 mod worked;

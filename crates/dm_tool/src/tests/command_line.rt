@@ -4,6 +4,8 @@ use crate::command_line::task_of;
 use crate::ending::{call_ending, ending};
 use crate::task::{CallFault, RunFault, Tally, Task};
 use dm_symbol::Profile;
+use std::alloc::Global;
+use std::fmt::Display;
 
 static TASKS: [(&[&str], Task); 20] = [
     (&["dm_tool", "read"], Task::Read(None)),
@@ -103,63 +105,89 @@ static REFUSED: [&[&str]; 45] = [
     &["dm_tool", "normal", "-s"],
 ];
 
+/// The words of a command line come to this.
+fn comes_to<'a>(alloc: Global, words: &'a [&'a str], task: Result<Task, CallFault>) -> bool {
+    task_of(alloc, words) == task
+}
+
 #[test]
 fn words_name_tasks(rt: HostRuntime) {
-    for (words, task) in TASKS {
-        assert_eq!(rt; task_of(rt.alloc(), words), Ok(task), "{words:?}");
+    for (words, task) in &TASKS {
+        assert!(rt; comes_to(rt.alloc(), words, Ok(*task)));
     }
 }
 
 #[test]
 fn other_words_are_refused(rt: HostRuntime) {
-    for words in REFUSED {
-        assert_eq!(rt;
-            task_of(rt.alloc(), words),
-            Err(CallFault::Usage),
-            "{words:?}"
-        );
+    for words in &REFUSED {
+        assert!(rt; comes_to(rt.alloc(), words, Err(CallFault::Usage)));
     }
 }
 
+/// A fault as text is this line.
+fn is_shown<T: Display>(alloc: Global, fault: &T, line: &str) -> bool {
+    match fault.to_string(alloc) {
+        Ok(text) => text.as_str() == line,
+        Err(_) => false,
+    }
+}
+
+/// A run that ends so has this status and this line.
+pub(super) fn ends(outcome: Result<Tally, RunFault>, status: u8, line: &str) -> bool {
+    let (found, shown) = ending(&outcome);
+    found == status && shown == line
+}
+
+/// A run that answers and refuses so many has this status, and no line.
+fn tally_ends(answered: u64, refused: u64, status: u8) -> bool {
+    ends(Ok(Tally { answered, refused }), status, "")
+}
+
+/// A call that ends so has this status and this line.
+fn call_ends(fault: CallFault, status: u8, line: &str) -> bool {
+    let (found, shown) = call_ending(fault);
+    found == status && shown == line
+}
+
+static TALLIES: [(u64, u64, u8); 6] = [
+    (0, 0, 0),
+    (3, 0, 0),
+    (0, 1, 1),
+    (3, 2, 1),
+    (u64::MAX, 0, 0),
+    (0, u64::MAX, 1),
+];
+
+static RUN_FAULTS: [(RunFault, &str); 3] = [
+    (RunFault::Read, "dm_tool: read failed"),
+    (RunFault::Write, "dm_tool: write failed"),
+    (RunFault::TooMuchInput, "dm_tool: too much input"),
+];
+
+static CALL_FAULTS: [(CallFault, u8, &str); 2] = [
+    (
+        CallFault::Usage,
+        2,
+        "dm_tool: usage: dm_tool read|check [--border N] | normal [--border N] [--shorter] | write [--shorter] | table",
+    ),
+    (CallFault::Memory, 3, "dm_tool: no memory"),
+];
+
 #[test]
 fn runs_end_with_status_and_line(rt: HostRuntime) {
-    let table = [
-        (0, 0, 0),
-        (3, 0, 0),
-        (0, 1, 1),
-        (3, 2, 1),
-        (u64::MAX, 0, 0),
-        (0, u64::MAX, 1),
-    ];
-    for (answered, refused, status) in table {
-        let outcome = Ok(Tally { answered, refused });
-        assert_eq!(rt; ending(&outcome), (status, ""));
+    for (answered, refused, status) in &TALLIES {
+        assert!(rt; tally_ends(*answered, *refused, *status));
     }
-    let faults = [
-        (RunFault::Read, "dm_tool: read failed"),
-        (RunFault::Write, "dm_tool: write failed"),
-        (RunFault::TooMuchInput, "dm_tool: too much input"),
-    ];
-    for (fault, line) in faults {
-        assert_eq!(rt; ending(&Err(fault)), (3, line));
-        let text = fault.to_string(rt.alloc()).expect(&rt, "a text");
-        assert_eq!(rt; text.as_str(), line);
+    for (fault, line) in &RUN_FAULTS {
+        assert!(rt; ends(Err(*fault), 3, line));
+        assert!(rt; is_shown(rt.alloc(), fault, line));
     }
 }
 
 #[test]
 fn calls_end_with_status_and_line(rt: HostRuntime) {
-    let faults = [
-        (
-            CallFault::Usage,
-            2,
-            "dm_tool: usage: dm_tool read|check [--border N] | normal [--border N] [--shorter] | write [--shorter] | table",
-        ),
-        (CallFault::Memory, 3, "dm_tool: no memory"),
-    ];
-    for (fault, status, line) in faults {
-        assert_eq!(rt; call_ending(fault), (status, line));
-        let text = fault.to_string(rt.alloc()).expect(&rt, "a text");
-        assert_eq!(rt; text.as_str(), line);
+    for (fault, status, line) in &CALL_FAULTS {
+        assert!(rt; call_ends(*fault, *status, line));
+        assert!(rt; is_shown(rt.alloc(), fault, line));
     }
 }

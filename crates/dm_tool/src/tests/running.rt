@@ -5,21 +5,46 @@ mod grids;
 mod messages;
 mod profiles;
 
+use super::command_line::ends;
 use super::memory::{MemorySink, Taken, TextSource};
 use super::texts::TWO_GRIDS;
-use crate::ending::ending;
 use crate::running::run;
-use crate::task::{Tally, Task};
-use arrayvec::ArrayVec;
+use crate::sink::Sink;
+use crate::source::Source;
+use crate::task::{RunFault, Tally, Task};
 use dm_symbol::Profile;
 use std::process::Abort;
 
 /// More bytes than any text of these tests has.
-const MOST: u64 = 1 << 30;
+const MOST: u32 = 1 << 30;
+
+/// These bytes, one after another, for which there is room.
+pub(super) fn joined(rt: &impl Abort, parts: &[&[u8]]) -> Taken {
+    let mut text = Taken::new();
+    for part in parts {
+        push(rt, &mut text, part);
+    }
+    text
+}
 
 /// Appends bytes, for which there is room.
-pub(super) fn push<const N: usize>(rt: &impl Abort, text: &mut ArrayVec<u8, N>, bytes: &[u8]) {
+pub(super) fn push(rt: &impl Abort, text: &mut Taken, bytes: &[u8]) {
     assert!(rt; text.try_extend_from_slice(bytes).is_ok());
+}
+
+/// What a run of the task comes to.
+pub(super) fn ran<I: Source, O: Sink>(
+    task: Task,
+    source: &mut I,
+    sink: &mut O,
+    most: u32,
+) -> Result<Tally, RunFault> {
+    run(task, source, sink, u64::from(most))
+}
+
+/// The sink has taken just this, and was flushed once, when it had taken all of it.
+fn has_taken(sink: &MemorySink, written: &[u8]) -> bool {
+    sink.taken() == written && sink.flushes() == [written.len()].as_slice()
 }
 
 /// For this text the task writes exactly this, with these counts. The sink is flushed once, when it has taken all of it. The
@@ -32,20 +57,38 @@ pub(super) fn writes(
     answered: u64,
     refused: u64,
 ) {
-    let mut source = TextSource::new(text);
     let mut sink = MemorySink::new();
-    let outcome = run(task, &mut source, &mut sink, MOST);
-    assert_eq!(rt; outcome, Ok(Tally { answered, refused }));
-    assert!(rt; sink.taken() == written);
-    assert!(rt; sink.flushes() == [written.len()].as_slice());
-    assert_eq!(rt; ending(&outcome), (u8::from(refused > 0), ""));
+    let outcome = ran(task, &mut TextSource::new(text), &mut sink, MOST);
+    assert!(rt; outcome == Ok(Tally { answered, refused }));
+    assert!(rt; has_taken(&sink, written));
+    assert!(rt; ends(outcome, u8::from(refused > 0), ""));
+}
+
+/// The task over this text of one record or line writes just this, and counts it as refused where this is a refusal.
+pub(super) fn answers(rt: &impl Abort, task: Task, text: &[u8], written: &[u8]) {
+    let refused = u64::from(written.starts_with(b"\\no "));
+    writes(
+        rt,
+        task,
+        text,
+        written,
+        1u64.saturating_sub(refused),
+        refused,
+    );
+}
+
+/// The text of a grid of this side, and of the empty line after it, has so many bytes.
+pub(super) fn has_side(text: &[u8], side: usize) -> bool {
+    text.len()
+        == side
+            .saturating_mul(side.saturating_add(1))
+            .saturating_add(1)
 }
 
 /// What the task writes for this text.
 fn written_for(task: Task, text: &[u8]) -> Taken {
-    let mut source = TextSource::new(text);
     let mut sink = MemorySink::new();
-    let _counted = run(task, &mut source, &mut sink, MOST);
+    let _counted = ran(task, &mut TextSource::new(text), &mut sink, MOST);
     let mut written = Taken::new();
     let _room = written.try_extend_from_slice(sink.taken());
     written

@@ -2,10 +2,10 @@
 
 /// Rows of modules of side 10, what is written where the grid is read, and where it is checked. But for the first four, all
 /// codewords are right. The modules come from another program.
-pub(super) static GRIDS: [([u128; 10], &[u8], &[u8]); 17] = [
+pub(super) static GRIDS: [(&[u128], &[u8], &[u8]); 17] = [
     // Two of the codewords of `123456` are 0.
     (
-        [
+        &[
             0x2aa, 0x22d, 0x204, 0x219, 0x208, 0x209, 0x3b0, 0x3d9, 0x274, 0x3ff,
         ],
         b"123456\n",
@@ -13,7 +13,7 @@ pub(super) static GRIDS: [([u128; 10], &[u8], &[u8]); 17] = [
     ),
     // Three of them are 0.
     (
-        [
+        &[
             0x2aa, 0x20d, 0x204, 0x219, 0x208, 0x209, 0x3b0, 0x399, 0x204, 0x3ff,
         ],
         b"\\no 6 block 0\n",
@@ -21,7 +21,7 @@ pub(super) static GRIDS: [([u128; 10], &[u8], &[u8]); 17] = [
     ),
     // The border alone is dark.
     (
-        [
+        &[
             0x2aa, 0x201, 0x200, 0x201, 0x200, 0x201, 0x200, 0x201, 0x200, 0x3ff,
         ],
         b"\\no 7 reserved 1\n",
@@ -29,7 +29,7 @@ pub(super) static GRIDS: [([u128; 10], &[u8], &[u8]); 17] = [
     ),
     // The grid of `123456`, its bottom row all light.
     (
-        [
+        &[
             0x2aa, 0x32d, 0x304, 0x31d, 0x308, 0x20f, 0x3b0, 0x3d9, 0x274, 0x0,
         ],
         b"\\no 5 border 10\n",
@@ -37,7 +37,7 @@ pub(super) static GRIDS: [([u128; 10], &[u8], &[u8]); 17] = [
     ),
     // Data codewords 230, 91 and 11.
     (
-        [
+        &[
             0x2aa, 0x2bb, 0x2e0, 0x2c7, 0x214, 0x277, 0x3de, 0x213, 0x212, 0x3ff,
         ],
         b"AIM\n",
@@ -45,7 +45,7 @@ pub(super) static GRIDS: [([u128; 10], &[u8], &[u8]); 17] = [
     ),
     // Data codewords 230, 10 and 255.
     (
-        [
+        &[
             0x2aa, 0x27b, 0x24e, 0x297, 0x294, 0x20f, 0x3d4, 0x2f9, 0x3f0, 0x3ff,
         ],
         b"\\xC1\n",
@@ -53,7 +53,7 @@ pub(super) static GRIDS: [([u128; 10], &[u8], &[u8]); 17] = [
     ),
     // Data codewords 231, 45 and 65.
     (
-        [
+        &[
             0x2aa, 0x215, 0x36e, 0x357, 0x23c, 0x3c7, 0x3a4, 0x337, 0x30a, 0x3ff,
         ],
         b"\\x80\n",
@@ -61,7 +61,7 @@ pub(super) static GRIDS: [([u128; 10], &[u8], &[u8]); 17] = [
     ),
     // Data codewords 231, 44 and 65.
     (
-        [
+        &[
             0x2aa, 0x21d, 0x37a, 0x33f, 0x254, 0x39f, 0x25c, 0x231, 0x302, 0x3ff,
         ],
         b"\\x80\n",
@@ -69,7 +69,7 @@ pub(super) static GRIDS: [([u128; 10], &[u8], &[u8]); 17] = [
     ),
     // Data codewords 66, 0 and 129.
     (
-        [
+        &[
             0x2aa, 0x213, 0x23a, 0x233, 0x250, 0x243, 0x3e4, 0x3d3, 0x304, 0x3ff,
         ],
         b"\\no 7 reserved 2\n",
@@ -77,7 +77,7 @@ pub(super) static GRIDS: [([u128; 10], &[u8], &[u8]); 17] = [
     ),
     // Data codewords 240, 66 and 129.
     (
-        [
+        &[
             0x2aa, 0x297, 0x220, 0x2bf, 0x2c6, 0x249, 0x3d8, 0x245, 0x382, 0x3ff,
         ],
         b"\\no 8 left-out 240 1\n",
@@ -85,7 +85,7 @@ pub(super) static GRIDS: [([u128; 10], &[u8], &[u8]); 17] = [
     ),
     // Data codewords 235, 130 and 129.
     (
-        [
+        &[
             0x2aa, 0x31b, 0x23c, 0x287, 0x3e4, 0x3ab, 0x26c, 0x3d1, 0x202, 0x3ff,
         ],
         b"\\no 9 upper-shift 1\n",
@@ -93,7 +93,7 @@ pub(super) static GRIDS: [([u128; 10], &[u8], &[u8]); 17] = [
     ),
     // Data codewords 230, 250 and 1.
     (
-        [
+        &[
             0x2aa, 0x391, 0x3e0, 0x29f, 0x27c, 0x26f, 0x264, 0x219, 0x20a, 0x3ff,
         ],
         b"\\no 10 triplet 2\n",
@@ -101,7 +101,7 @@ pub(super) static GRIDS: [([u128; 10], &[u8], &[u8]); 17] = [
     ),
     // Data codewords 230, 10 and 161.
     (
-        [
+        &[
             0x2aa, 0x219, 0x24e, 0x2b7, 0x2a4, 0x277, 0x37e, 0x25d, 0x24c, 0x3ff,
         ],
         b"\\no 11 value 2\n",
@@ -109,7 +109,7 @@ pub(super) static GRIDS: [([u128; 10], &[u8], &[u8]); 17] = [
     ),
     // Data codewords 231, 47 and 65.
     (
-        [
+        &[
             0x2aa, 0x21f, 0x35c, 0x3cf, 0x2ac, 0x37f, 0x262, 0x329, 0x30e, 0x3ff,
         ],
         b"\\no 12 length 1\n",
@@ -117,7 +117,7 @@ pub(super) static GRIDS: [([u128; 10], &[u8], &[u8]); 17] = [
     ),
     // Data codewords 66, 66 and 231.
     (
-        [
+        &[
             0x2aa, 0x2f7, 0x232, 0x29b, 0x258, 0x2db, 0x350, 0x3ed, 0x346, 0x3ff,
         ],
         b"\\no 12 length 3\n",
@@ -125,7 +125,7 @@ pub(super) static GRIDS: [([u128; 10], &[u8], &[u8]); 17] = [
     ),
     // Data codewords 66, 66 and 235.
     (
-        [
+        &[
             0x2aa, 0x2bf, 0x218, 0x283, 0x228, 0x2db, 0x2d0, 0x37f, 0x3d4, 0x3ff,
         ],
         b"\\no 13 unfinished 3\n",
@@ -133,7 +133,7 @@ pub(super) static GRIDS: [([u128; 10], &[u8], &[u8]); 17] = [
     ),
     // Data codewords 230, 87 and 199.
     (
-        [
+        &[
             0x2aa, 0x2f7, 0x288, 0x3d7, 0x214, 0x2e7, 0x2a2, 0x2e3, 0x286, 0x3ff,
         ],
         b"\\no 13 unfinished 2\n",

@@ -2,6 +2,7 @@ use Rattle.std.proofs.Common.{◌≡◌, ◌≤◌, ◌+◌, ◌-◌, ◌∙◌,
 use Rattle.std.specs.Io.KnownBytes.{Appends}
 use Rattle.dm_tool.specs.Devices.{AppendsFront}
 use Rattle.dm_tool.specs.Runs.{most_asked, written}
+use Rattle.dm_tool.specs.declared.task.RunFault.TheVariants.{Read, TooMuchInput}
 use Rattle.dm_tool.proofs.Asks.{asked_by, next_is_within}
 use Rattle.dm_tool.proofs.Flushes.{flushed_later, table_flushed, text_flushed}
 use Rattle.dm_tool.proofs.KnownBytes.{appends_none, appends_then, front_then}
@@ -49,6 +50,25 @@ pub returns-in_default-clause-answered : goal.returns-in_default-clause-answered
 returns-in_default-clause-answered g c = table_answered c.args.task c.args.most (g.I.Source.gave c.args.source.now c.args.source.now)
     (Appends (g.O.Sink.contents c.args.sink.now) (g.O.Sink.contents c.print_table.new.sink)) (g.I.Source.ended c.args.source.now)
     c.print_table.result c.in_default.ensures.none (g.met.I.Source.gave_none c.args.source.now) c.print_table.ensures.tally c.print_table.ensures.ok
+
+-- What writes the table fails only by a write.
+pub returns-in_default-clause-read : goal.returns-in_default-clause-read
+returns-in_default-clause-read g c is = let other = c.print_table.ensures.write Read is in (cc)
+
+pub returns-in_default-clause-read_failed : goal.returns-in_default-clause-read_failed
+returns-in_default-clause-read_failed g c is = let other = c.print_table.ensures.write Read is in (cc)
+
+pub returns-in_default-clause-too_much : goal.returns-in_default-clause-too_much
+returns-in_default-clause-too_much g c is = let other = c.print_table.ensures.write TooMuchInput is in (cc)
+
+pub returns-in_default-clause-too_much_well : goal.returns-in_default-clause-too_much_well
+returns-in_default-clause-too_much_well g c is = let other = c.print_table.ensures.write TooMuchInput is in (cc)
+
+pub returns-in_default-clause-read_unflushed : goal.returns-in_default-clause-read_unflushed
+returns-in_default-clause-read_unflushed g c is = let other = c.print_table.ensures.write Read is in (cc)
+
+pub returns-in_default-clause-too_much_unflushed : goal.returns-in_default-clause-too_much_unflushed
+returns-in_default-clause-too_much_unflushed g c is = let other = c.print_table.ensures.write TooMuchInput is in (cc)
 
 pub returns-in_default-clause-write : goal.returns-in_default-clause-write
 returns-in_default-clause-write g c = table_broken c.args.task c.args.most (g.I.Source.gave c.args.source.now c.args.source.now)

@@ -1,16 +1,17 @@
 //! Runs over devices that fail, and over more input than is to be read.
 
-use super::super::memory::{MemorySink, Taken, TextSource};
+use super::super::command_line::ends;
+use super::super::devices::Device;
+use super::super::memory::{MemorySink, TextSource};
 use super::super::texts::TWO_GRIDS;
 use super::super::worked::{AIM, LINES};
-use super::{SIZES, push};
-use crate::ending::ending;
-use crate::running::run;
+use super::{SIZES, joined, ran};
 use crate::sink::{Sink, ToWrite};
 use crate::source::{FromRead, Source};
 use crate::task::{RunFault, Tally, Task};
 use dm_symbol::Profile;
-use std::io::{self, ErrorKind, Read, Write};
+use std::cell::Cell;
+use std::io::{self, ErrorKind, Write};
 use std::process::Abort;
 
 /// What is written for the two grids.
@@ -55,8 +56,24 @@ fn write_failed(reads: usize, written: &[u8]) -> End<'_> {
     }
 }
 
-/// The run of the task over these devices ends so. A device that failed isn't called again.
-fn ends(
+impl<'a> End<'a> {
+    /// The source is so after the run. It wasn't asked for more than one byte past the limit, and not called again after it failed.
+    fn leaves_source(&self, source: &TextSource<'_>, most: u32) -> bool {
+        source.reads() == self.reads
+            && source.reach() as u64 <= u64::from(most).saturating_add(1)
+            && source.failures() == u64::from(self.outcome == Err(RunFault::Read))
+    }
+
+    /// The sink is so after the run. It wasn't called again after it failed.
+    fn leaves_sink(&self, sink: &MemorySink) -> bool {
+        sink.taken() == self.written
+            && sink.flushes() == self.flushes
+            && sink.failures() == u64::from(self.outcome == Err(RunFault::Write))
+    }
+}
+
+/// The run of the task over these devices ends so.
+fn run_ends(
     rt: &impl Abort,
     task: Task,
     mut source: TextSource<'_>,
@@ -64,17 +81,11 @@ fn ends(
     most: u32,
     end: &End<'_>,
 ) {
-    let outcome = run(task, &mut source, &mut sink, u64::from(most));
-    assert_eq!(rt; outcome, end.outcome);
-    assert_eq!(rt; ending(&outcome), end.ending);
-    assert_eq!(rt; source.reads(), end.reads);
-    assert!(rt; source.reach() as u64 <= u64::from(most).saturating_add(1));
-    assert!(rt; sink.taken() == end.written);
-    assert!(rt; sink.flushes() == end.flushes);
-    let read_failures = u64::from(outcome == Err(RunFault::Read));
-    assert_eq!(rt; source.failures(), read_failures);
-    let write_failures = u64::from(outcome == Err(RunFault::Write));
-    assert_eq!(rt; sink.failures(), write_failures);
+    let outcome = ran(task, &mut source, &mut sink, most);
+    assert!(rt; outcome == end.outcome);
+    assert!(rt; ends(outcome, end.ending.0, end.ending.1));
+    assert!(rt; end.leaves_source(&source, most));
+    assert!(rt; end.leaves_sink(&sink));
 }
 
 #[test]
@@ -89,7 +100,7 @@ fn a_read_fails(rt: HostRuntime) {
             let source = TextSource::failing(TWO_GRIDS, piece, good);
             let sink = MemorySink::failing(piece, usize::MAX);
             let end = read_failed(good.saturating_add(1), written);
-            ends(&rt, Task::Read(None), source, sink, 1000, &end);
+            run_ends(&rt, Task::Read(None), source, sink, 1000, &end);
         }
     }
 }
@@ -115,7 +126,7 @@ fn a_write_fails(rt: HostRuntime) {
             let source = TextSource::failing(TWO_GRIDS, piece, usize::MAX);
             let sink = MemorySink::failing(piece, room);
             let end = write_failed(reads, &OUT[..room]);
-            ends(&rt, Task::Read(None), source, sink, 1000, &end);
+            run_ends(&rt, Task::Read(None), source, sink, 1000, &end);
         }
     }
 }
@@ -127,7 +138,7 @@ fn the_flush_fails(rt: HostRuntime) {
         let mut end = write_failed(reads_of(TWO_GRIDS, piece, usize::MAX), OUT);
         end.flushes = &[9];
         let sink = MemorySink::failing_flush(piece);
-        ends(&rt, Task::Read(None), source, sink, 1000, &end);
+        run_ends(&rt, Task::Read(None), source, sink, 1000, &end);
     }
 }
 
@@ -156,6 +167,17 @@ fn too_much(written: &[u8]) -> End<'_> {
     }
 }
 
+/// A run that reads grids from this text, of which so many bytes may come, ends so, for each size of pieces.
+fn is_limited(rt: &impl Abort, text: &[u8], most: u32, end: &End<'_>) {
+    for piece in PIECES {
+        let source = TextSource::failing(text, piece, usize::MAX);
+        let sink = MemorySink::failing(piece, usize::MAX);
+        let mut end = *end;
+        end.reads = reads_of(text, piece, most as usize);
+        run_ends(rt, Task::Read(None), source, sink, most, &end);
+    }
+}
+
 #[test]
 fn input_is_limited(rt: HostRuntime) {
     let table = [
@@ -168,13 +190,7 @@ fn input_is_limited(rt: HostRuntime) {
         (b"".as_slice(), 0, all_answered(0, b"", &[0])),
     ];
     for (text, most, end) in &table {
-        for piece in PIECES {
-            let source = TextSource::failing(text, piece, usize::MAX);
-            let sink = MemorySink::failing(piece, usize::MAX);
-            let mut end = *end;
-            end.reads = reads_of(text, piece, *most as usize);
-            ends(&rt, Task::Read(None), source, sink, *most, &end);
-        }
+        is_limited(&rt, text, *most, end);
     }
 }
 
@@ -186,11 +202,11 @@ fn pieces_change_nothing(rt: HostRuntime) {
     let mut end = all_answered(2, OUT, &[9]);
     end.reads = 2;
     let source = TextSource::new(TWO_GRIDS);
-    ends(&rt, Task::Read(None), source, MemorySink::new(), 1000, &end);
+    run_ends(&rt, Task::Read(None), source, MemorySink::new(), 1000, &end);
     end.reads = 3;
     for first in 1..TWO_GRIDS.len() {
         let source = TextSource::cut(TWO_GRIDS, first);
-        ends(&rt, Task::Read(None), source, MemorySink::new(), 1000, &end);
+        run_ends(&rt, Task::Read(None), source, MemorySink::new(), 1000, &end);
     }
 }
 
@@ -200,7 +216,7 @@ fn a_read_fails_between_lines(rt: HostRuntime) {
         let written = if good < 2 { b"".as_slice() } else { LINES[1].1 };
         let source = TextSource::failing(TWO_LINES, 1, good);
         let end = read_failed(good.saturating_add(1), written);
-        ends(
+        run_ends(
             &rt,
             Task::Write(Profile::Ascii),
             source,
@@ -213,14 +229,12 @@ fn a_read_fails_between_lines(rt: HostRuntime) {
 
 #[test]
 fn a_write_fails_within_a_grid(rt: HostRuntime) {
-    let mut written = Taken::new();
-    push(&rt, &mut written, LINES[1].1);
-    push(&rt, &mut written, AIM);
+    let written = joined(&rt, &[LINES[1].1, AIM]);
     for room in 0..written.len() {
         let reads = if room < 111 { 1 } else { 2 };
         let end = write_failed(reads, &written.as_slice()[..room]);
         let sink = MemorySink::failing(7, room);
-        ends(
+        run_ends(
             &rt,
             Task::Write(Profile::Ascii),
             TextSource::new(TWO_LINES),
@@ -237,7 +251,7 @@ fn lines_are_limited(rt: HostRuntime) {
         let mut end = too_much(written);
         end.reads = 2;
         let sink = MemorySink::new();
-        ends(
+        run_ends(
             &rt,
             Task::Write(Profile::Ascii),
             TextSource::new(TWO_LINES),
@@ -253,26 +267,16 @@ fn the_table_needs_no_source(rt: HostRuntime) {
     let flushes = [SIZES.len()];
     let end = all_answered(0, SIZES, &flushes);
     let source = TextSource::failing(TWO_GRIDS, 1, 0);
-    ends(&rt, Task::Table, source, MemorySink::new(), 0, &end);
+    run_ends(&rt, Task::Table, source, MemorySink::new(), 0, &end);
     for room in 0..SIZES.len() {
         let end = write_failed(0, &SIZES[..room]);
         let sink = MemorySink::failing(7, room);
-        ends(&rt, Task::Table, TextSource::new(b""), sink, 0, &end);
+        run_ends(&rt, Task::Table, TextSource::new(b""), sink, 0, &end);
     }
     let mut end = write_failed(0, SIZES);
     end.flushes = &flushes;
     let sink = MemorySink::failing_flush(7);
-    ends(&rt, Task::Table, TextSource::new(b""), sink, 0, &end);
-}
-
-/// Fails at each read.
-#[derive(Drop)]
-struct NoReader;
-
-impl Read for NoReader {
-    fn read(&mut self, _buf: &mut [u8]) -> io::Result<usize> {
-        Err(io::Error::from(ErrorKind::Interrupted))
-    }
+    run_ends(&rt, Task::Table, TextSource::new(b""), sink, 0, &end);
 }
 
 /// A writer over a sink.
@@ -297,29 +301,48 @@ impl<'a> Write for SinkWriter<'a> {
     }
 }
 
+/// A run that reads grids over these devices ends with this fault, and with this line.
+fn fails<I: Source, O: Sink>(source: &mut I, sink: &mut O, fault: RunFault, line: &str) -> bool {
+    let outcome = ran(Task::Read(None), source, sink, 1000);
+    outcome == Err(fault) && ends(outcome, 3, line)
+}
+
 #[test]
 fn a_reader_fails_at_once(rt: HostRuntime) {
-    let mut source = FromRead::new(NoReader);
+    let (calls, flushes) = (Cell::new(0), Cell::new(0));
+    let device = Device::new(ErrorKind::Interrupted, 0, &calls, &flushes);
+    let mut source = FromRead::new(device);
     let mut sink = MemorySink::new();
-    let outcome = run(Task::Read(None), &mut source, &mut sink, 1000);
-    assert_eq!(rt; outcome, Err(RunFault::Read));
-    assert_eq!(rt; ending(&outcome), (3, "dm_tool: read failed"));
-    assert_eq!(rt; source.failures(), 1);
+    assert!(rt;
+        fails(
+            &mut source,
+            &mut sink,
+            RunFault::Read,
+            "dm_tool: read failed"
+        )
+    );
+    assert!(rt; source.failures() == 1);
     assert!(rt; sink.taken().is_empty());
     assert!(rt; sink.flushes().is_empty());
+}
+
+/// A run over a writer to this sink, whose flush fails, fails once.
+fn flush_fails(sink: &mut MemorySink) -> bool {
+    let mut sink = ToWrite::new(SinkWriter { sink });
+    let mut source = TextSource::new(TWO_GRIDS);
+    fails(
+        &mut source,
+        &mut sink,
+        RunFault::Write,
+        "dm_tool: write failed",
+    ) && sink.failures() == 1
 }
 
 #[test]
 fn a_writer_fails(rt: HostRuntime) {
     for piece in PIECES {
         let mut kept = MemorySink::failing_flush(piece);
-        let mut sink = ToWrite::new(SinkWriter { sink: &mut kept });
-        let mut source = TextSource::new(TWO_GRIDS);
-        let outcome = run(Task::Read(None), &mut source, &mut sink, 1000);
-        assert_eq!(rt; outcome, Err(RunFault::Write));
-        assert_eq!(rt; ending(&outcome), (3, "dm_tool: write failed"));
-        assert_eq!(rt; sink.failures(), 1);
-        drop(sink);
+        assert!(rt; flush_fails(&mut kept));
         assert!(rt; kept.taken() == OUT);
         assert!(rt; kept.flushes() == [9].as_slice());
     }

@@ -3,15 +3,15 @@
 use super::super::memory::Taken;
 use super::super::texts::TWO_GRIDS;
 use super::super::worked::{AIM, GRIDS, LARGE, LINES, RAISED};
-use super::{push, writes, written_for};
+use super::profiles::line_of;
+use super::{answers, has_side, joined, push, writes, written_for};
 use crate::task::Task;
-use arrayvec::ArrayVec;
 use dm_symbol::Profile;
 use std::process::Abort;
 
 /// Appends the record of rows of modules, from the top, without an empty line after it: the leftmost module is the highest of as
 /// many bits as there are rows; 1 is dark.
-fn push_record<const N: usize>(rt: &impl Abort, text: &mut ArrayVec<u8, N>, rows: &[u128]) {
+fn push_record(rt: &impl Abort, text: &mut Taken, rows: &[u128]) {
     for row in rows {
         for column in (0..rows.len()).rev() {
             if column < 128 {
@@ -80,27 +80,39 @@ static MORE_GRIDS: [(&[u128], &[u8]); 6] = [
 #[test]
 fn two_records_are_read(rt: HostRuntime) {
     let read = Task::Read(None);
-    writes(&rt, read, TWO_GRIDS, b"123456\nA\n", 2, 0);
-    writes(&rt, read, &TWO_GRIDS[..109], b"123456\n", 1, 0);
-    writes(&rt, read, &TWO_GRIDS[110..221], b"A\n", 1, 0);
-    let mut text = Taken::new();
-    push(&rt, &mut text, b"\n\n\n");
-    push(&rt, &mut text, TWO_GRIDS);
-    push(&rt, &mut text, b"\n\n");
-    writes(&rt, read, text.as_slice(), b"123456\nA\n", 2, 0);
-    let checked = b"ok 10 border 0 corrected 0\nok 10 border 0 corrected 0\n";
-    writes(&rt, Task::Check(None), text.as_slice(), checked, 2, 0);
-    let mut normal = Taken::new();
-    push(&rt, &mut normal, LINES[0].1);
-    push(&rt, &mut normal, LINES[1].1);
-    writes(
-        &rt,
-        Task::Normal(None, Profile::Ascii),
-        text.as_slice(),
-        normal.as_slice(),
-        2,
-        0,
-    );
+    let lines = b"123456\nA\n".as_slice();
+    let text = joined(&rt, &[b"\n\n\n", TWO_GRIDS, b"\n\n"]);
+    let normal = joined(&rt, &[LINES[0].1, LINES[1].1]);
+    let table = [
+        (read, TWO_GRIDS, lines, 2),
+        (read, &TWO_GRIDS[..109], b"123456\n", 1),
+        (read, &TWO_GRIDS[110..221], b"A\n", 1),
+        (read, text.as_slice(), lines, 2),
+        (
+            Task::Check(None),
+            text.as_slice(),
+            b"ok 10 border 0 corrected 0\nok 10 border 0 corrected 0\n",
+            2,
+        ),
+        (
+            Task::Normal(None, Profile::Ascii),
+            text.as_slice(),
+            normal.as_slice(),
+            2,
+        ),
+    ];
+    for (task, text, written, answered) in table {
+        writes(&rt, task, text, written, answered, 0);
+    }
+}
+
+#[test]
+fn grids_are_read_and_checked(rt: HostRuntime) {
+    for (rows, line, check) in &GRIDS {
+        let record = record_of(&rt, rows);
+        answers(&rt, Task::Read(None), record.as_slice(), line);
+        answers(&rt, Task::Check(None), record.as_slice(), check);
+    }
 }
 
 #[test]
@@ -108,70 +120,40 @@ fn grids_are_read_and_checked_in_order(rt: HostRuntime) {
     let mut text = Taken::new();
     let mut read = Taken::new();
     let mut checked = Taken::new();
-    for (rows, line, check) in GRIDS {
-        let record = record_of(&rt, &rows);
-        let refused = line.starts_with(b"\\no ");
-        let (good, bad) = (u64::from(!refused), u64::from(refused));
-        writes(&rt, Task::Read(None), record.as_slice(), line, good, bad);
-        writes(&rt, Task::Check(None), record.as_slice(), check, good, bad);
-        push(&rt, &mut text, record.as_slice());
+    for (rows, line, check) in &GRIDS {
+        push_record(&rt, &mut text, rows);
         push(&rt, &mut text, b"\n");
         push(&rt, &mut read, line);
         push(&rt, &mut checked, check);
     }
-    writes(
-        &rt,
-        Task::Read(None),
-        text.as_slice(),
-        read.as_slice(),
-        5,
-        12,
-    );
-    writes(
-        &rt,
-        Task::Check(None),
-        text.as_slice(),
-        checked.as_slice(),
-        5,
-        12,
-    );
+    for (task, written) in [(Task::Read(None), &read), (Task::Check(None), &checked)] {
+        writes(&rt, task, text.as_slice(), written.as_slice(), 5, 12);
+    }
+}
+
+/// The grid is read as this line, or refused with it. Where it is read, its normal grid is what is written for the line.
+fn is_read(rt: &impl Abort, rows: &[u128], line: &[u8]) {
+    let record = record_of(rt, rows);
+    let answer = joined(rt, &[line, b"\n"]);
+    answers(rt, Task::Read(None), record.as_slice(), answer.as_slice());
+    if !line.starts_with(b"\\no ") {
+        let normal = written_for(Task::Write(Profile::Ascii), line);
+        let task = Task::Normal(None, Profile::Ascii);
+        writes(rt, task, record.as_slice(), normal.as_slice(), 1, 0);
+    }
 }
 
 #[test]
 fn runs_of_other_encodations_are_read(rt: HostRuntime) {
-    for (rows, line) in MORE_GRIDS {
-        let record = record_of(&rt, rows);
-        let mut answer = Taken::new();
-        push(&rt, &mut answer, line);
-        push(&rt, &mut answer, b"\n");
-        let refused = line.starts_with(b"\\no ");
-        let (good, bad) = (u64::from(!refused), u64::from(refused));
-        writes(
-            &rt,
-            Task::Read(None),
-            record.as_slice(),
-            answer.as_slice(),
-            good,
-            bad,
-        );
-        if !refused {
-            let normal = written_for(Task::Write(Profile::Ascii), line);
-            writes(
-                &rt,
-                Task::Normal(None, Profile::Ascii),
-                record.as_slice(),
-                normal.as_slice(),
-                1,
-                0,
-            );
-        }
+    for (rows, line) in &MORE_GRIDS {
+        is_read(&rt, rows, line);
     }
 }
 
 #[test]
 fn borders_are_borne_up_to_the_limit(rt: HostRuntime) {
     let (rows, _, _) = GRIDS[3];
-    let record = record_of(&rt, &rows);
+    let record = record_of(&rt, rows);
     let table = [
         (Task::Read(Some(2)), b"\\no 5 border 10\n".as_slice(), 1),
         (Task::Read(Some(10)), b"123456\n".as_slice(), 0),
@@ -194,6 +176,14 @@ fn borders_are_borne_up_to_the_limit(rt: HostRuntime) {
     }
 }
 
+/// Appends the record of one of the worked grids, and an empty line.
+fn push_worked(rt: &impl Abort, text: &mut Taken, place: usize) {
+    if let Some((rows, _, _)) = GRIDS.get(place) {
+        push_record(rt, text, rows);
+        push(rt, text, b"\n");
+    }
+}
+
 #[test]
 fn grids_are_normalised_in_order(rt: HostRuntime) {
     let mut text = Taken::new();
@@ -208,96 +198,78 @@ fn grids_are_normalised_in_order(rt: HostRuntime) {
         (6, RAISED),
         (7, RAISED),
     ];
-    for (i, answer) in table {
-        let (rows, _, _) = GRIDS[i];
-        push_record(&rt, &mut text, &rows);
-        push(&rt, &mut text, b"\n");
+    for (place, answer) in table {
+        push_worked(&rt, &mut text, place);
         push(&rt, &mut normal, answer);
     }
-    writes(
-        &rt,
-        Task::Normal(None, Profile::Ascii),
-        text.as_slice(),
-        normal.as_slice(),
-        5,
-        2,
-    );
-    writes(&rt, Task::Normal(None, Profile::Ascii), AIM, AIM, 1, 0);
-    writes(
-        &rt,
-        Task::Normal(None, Profile::Ascii),
-        RAISED,
-        RAISED,
-        1,
-        0,
-    );
+    let task = Task::Normal(None, Profile::Ascii);
+    writes(&rt, task, text.as_slice(), normal.as_slice(), 5, 2);
+    for grid in [AIM, RAISED] {
+        writes(&rt, task, grid, grid, 1, 0);
+    }
 }
 
 /// A record that is no grid has this line, whatever is asked of it, and the records after it are read.
 fn refuses(rt: &impl Abort, record: &[u8], line: &[u8]) {
-    let mut text = Taken::new();
-    push(rt, &mut text, record);
-    push(rt, &mut text, b"\n");
-    writes(rt, Task::Read(None), text.as_slice(), line, 0, 1);
-    writes(rt, Task::Check(None), text.as_slice(), line, 0, 1);
-    let mut blank = Taken::new();
-    push(rt, &mut blank, line);
-    push(rt, &mut blank, b"\n");
+    let text = joined(rt, &[record, b"\n"]);
+    let blank = joined(rt, &[line, b"\n"]);
+    let longer = joined(rt, &[record, b"\n\n", TWO_GRIDS]);
+    let lines = joined(rt, &[line, b"123456\nA\n"]);
+    for task in [Task::Read(None), Task::Check(None)] {
+        writes(rt, task, text.as_slice(), line, 0, 1);
+    }
     let normal = Task::Normal(None, Profile::Ascii);
     writes(rt, normal, text.as_slice(), blank.as_slice(), 0, 1);
-    push(rt, &mut text, b"\n");
-    push(rt, &mut text, TWO_GRIDS);
-    let mut lines = Taken::new();
-    push(rt, &mut lines, line);
-    push(rt, &mut lines, b"123456\nA\n");
     let read = Task::Read(None);
-    writes(rt, read, text.as_slice(), lines.as_slice(), 2, 1);
+    writes(rt, read, longer.as_slice(), lines.as_slice(), 2, 1);
 }
+
+/// As many lines of these characters as there are characters.
+fn square(rt: &impl Abort, row: &[u8]) -> Taken {
+    let mut text = Taken::new();
+    for _ in row {
+        push(rt, &mut text, row);
+        push(rt, &mut text, b"\n");
+    }
+    text
+}
+
+/// Records that are no grids, and their lines.
+static NO_GRIDS: [(&[u8], &[u8]); 3] = [
+    (b"10x", b"\\no 1 character\n"),
+    (b"10\n1", b"\\no 3 shape\n"),
+    (b"1010\n0101\n1010\n0101", b"\\no 4 side 4\n"),
+];
 
 #[test]
 fn records_are_refused_and_the_next_is_read(rt: HostRuntime) {
-    let zeros = [b'0'; 105];
-    let mut square = Taken::new();
-    for _ in 0..53 {
-        push(&rt, &mut square, &zeros[..53]);
-        push(&rt, &mut square, b"\n");
-    }
-    let table = [
-        (b"10x".as_slice(), b"\\no 1 character\n".as_slice()),
-        (zeros.as_slice(), b"\\no 2 large\n".as_slice()),
-        (&zeros[..53], b"\\no 3 shape\n".as_slice()),
-        (b"10\n1".as_slice(), b"\\no 3 shape\n".as_slice()),
-        (square.as_slice(), b"\\no 4 side 53\n".as_slice()),
-        (
-            b"1010\n0101\n1010\n0101".as_slice(),
-            b"\\no 4 side 4\n".as_slice(),
-        ),
-    ];
-    for (record, line) in table {
+    for (record, line) in &NO_GRIDS {
         refuses(&rt, record, line);
     }
+    let zeros = [b'0'; 105];
+    refuses(&rt, &zeros, b"\\no 2 large\n");
+    refuses(&rt, &zeros[..53], b"\\no 3 shape\n");
+    refuses(
+        &rt,
+        square(&rt, &zeros[..53]).as_slice(),
+        b"\\no 4 side 53\n",
+    );
 }
 
 /// A symbol whose data codewords are all one segment of Base 256: its message takes twice the codewords in ASCII.
 #[test]
 fn a_normal_grid_may_be_larger(rt: HostRuntime) {
     let record = record_of(&rt, &LARGE);
-    let mut line = Taken::new();
-    for _ in 0..202 {
-        push(&rt, &mut line, b"\\xFF");
+    let line = line_of(&rt, b"\\xFF", 202);
+    let text = joined(&rt, &[line.as_slice(), b"\n"]);
+    let normal = written_for(Task::Write(Profile::Ascii), text.as_slice());
+    assert!(rt; has_side(normal.as_slice(), 80));
+    let table = [
+        (Task::Read(None), &record, &text),
+        (Task::Normal(None, Profile::Ascii), &record, &normal),
+        (Task::Read(None), &normal, &text),
+    ];
+    for (task, grid, written) in table {
+        writes(&rt, task, grid.as_slice(), written.as_slice(), 1, 0);
     }
-    push(&rt, &mut line, b"\n");
-    let (grid, text) = (record.as_slice(), line.as_slice());
-    writes(&rt, Task::Read(None), grid, text, 1, 0);
-    let normal = written_for(Task::Write(Profile::Ascii), text);
-    assert_eq!(rt; normal.len(), 80 * 81 + 1);
-    writes(
-        &rt,
-        Task::Normal(None, Profile::Ascii),
-        grid,
-        normal.as_slice(),
-        1,
-        0,
-    );
-    writes(&rt, Task::Read(None), normal.as_slice(), text, 1, 0);
 }
