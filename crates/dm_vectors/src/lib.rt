@@ -7,9 +7,13 @@
 #[cfg(test)]
 mod block;
 #[cfg(test)]
+mod calls;
+#[cfg(test)]
 mod field;
 #[cfg(test)]
 mod layout;
+#[cfg(test)]
+mod messages;
 #[cfg(test)]
 mod symbol;
 #[cfg(test)]

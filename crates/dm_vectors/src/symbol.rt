@@ -1,10 +1,15 @@
 //! Messages and their normal grids, grids and what they say: `dm_symbol`.
 
+use crate::calls::*;
+use crate::messages::{
+    Codewords, MARKED, add_word, add_words, are_all, has_bytes, has_items, of_bytes, of_items,
+    of_many, randomised, segment,
+};
 use arrayvec::ArrayVec;
-use dm_code::encode;
-use dm_layout::{MOST_CODEWORDS, block, lay, lift, put_block};
-use dm_symbol::*;
-use std::process::Abort;
+use dm_layout::{Grid, Size, Words, table};
+use dm_symbol::{
+    Item, Message, NormalFault, Profile, ReadFault, Reading, TooLong, WordFault, usual_limit,
+};
 
 mod hostile;
 mod larger;
@@ -14,95 +19,43 @@ mod profiles;
 /// The codewords of `123456` at side 10, data and then checks.
 const DIGITS: [u8; 8] = [142, 164, 186, 114, 25, 5, 88, 102];
 
-/// The message of these bytes.
-fn of_bytes(rt: &impl Abort, text: &[u8]) -> Message {
-    let mut message = Message::new();
-    for byte in text {
-        assert!(rt; message.push(Item::Byte(*byte)).is_ok());
-    }
-    message
-}
-
-/// The message of one byte so many times.
-fn of_many(rt: &impl Abort, byte: u8, count: u16) -> Message {
-    let mut message = Message::new();
-    for _ in 0..count {
-        assert!(rt; message.push(Item::Byte(byte)).is_ok());
-    }
-    message
-}
-
-/// The size with this side.
-fn size_of(rt: &impl Abort, side: u16) -> Size {
-    let Some(size) = Size::of_side(side) else {
-        panic!(rt; "no size");
-    };
-    size
-}
-
-/// The grid of this side in which these codewords are laid, data and then checks.
-fn grid_of(rt: &impl Abort, side: u16, list: &[u8]) -> Grid {
-    let size = size_of(rt, side);
-    assert!(rt; list.len() == usize::from(size.data_count() + size.check_count()));
-    lay(&Words::new(size, list))
-}
-
-/// The codewords of this size that begin with these data codewords; the check codewords are 0.
-fn without_checks(rt: &impl Abort, size: Size, data_words: &[u8]) -> Words {
-    assert!(rt; data_words.len() == usize::from(size.data_count()));
-    let mut list = [0; MOST_CODEWORDS];
-    for (into, word) in list.iter_mut().zip(data_words) {
-        *into = *word;
-    }
-    Words::new(
-        size,
-        &list[..(size.data_count() + size.check_count()) as usize],
-    )
-}
-
 /// Puts the check codewords of block `b` behind its data codewords.
-fn complete_block(rt: &impl Abort, words: &mut Words, b: usize) {
+fn complete_block(words: &mut Words, b: usize) {
     let size = words.size();
-    assert!(rt; b < usize::from(size.blocks()));
     let mut codewords = block(words, b);
     codewords.truncate(usize::from(size.block_data()));
-    let checks = encode(&codewords, usize::from(size.block_check()));
-    assert!(rt; codewords.try_extend_from_slice(checks.as_slice()).is_ok());
-    assert!(rt; codewords.len() == usize::from(size.block_data() + size.block_check()));
+    let checks = checks_of(&codewords, usize::from(size.block_check()));
+    let _room = codewords.try_extend_from_slice(checks.as_slice());
     put_block(words, b, &codewords);
 }
 
 /// The grid with these data codewords and the check codewords that belong to them.
-fn completed_grid(rt: &impl Abort, side: u16, data_words: &[u8]) -> Grid {
-    let size = size_of(rt, side);
-    let mut words = without_checks(rt, size, data_words);
-    for b in 0..usize::from(size.blocks()) {
-        complete_block(rt, &mut words, b);
+fn completed_grid(side: u16, data_words: &[u8]) -> Grid {
+    let mut words = words_of(size_of(side), data_words);
+    for b in 0..usize::from(words.size().blocks()) {
+        complete_block(&mut words, b);
     }
     lay(&words)
 }
 
-/// The grid whose cells are these characters, row by row: 1 is dark, 0 light.
-fn drawn(rt: &impl Abort, side: u16, cells: &str) -> Grid {
-    let mut list: ArrayVec<bool, 2704> = ArrayVec::new();
+/// The grid of side 10 whose cells are these characters, row by row: 1 is dark, 0 light.
+fn drawn(cells: &str) -> Grid {
+    let mut list: ArrayVec<bool, 100> = ArrayVec::new();
     for cell in cells.as_bytes() {
-        assert!(rt; list.try_push(*cell == b'1').is_ok());
+        let _room = list.try_push(*cell == b'1');
     }
-    let Ok(grid) = Grid::new(side, &list) else {
-        panic!(rt; "no grid");
-    };
-    grid
+    grid_with(10, &list)
 }
 
 /// Whether two grids have one side and equal cells.
 fn same(a: &Grid, b: &Grid) -> bool {
-    let side = a.size().side();
-    if b.size().side() != side {
+    let side = side_of(a);
+    if side_of(b) != side {
         return false;
     }
     for row in 0..side {
         for column in 0..side {
-            if a.cell(row, column) != b.cell(row, column) {
+            if is_dark_at(a, row, column) != is_dark_at(b, row, column) {
                 return false;
             }
         }
@@ -118,20 +71,6 @@ fn is_grid<E>(answer: &Result<Grid, E>, grid: &Grid) -> bool {
     }
 }
 
-/// Whether the message has exactly these bytes.
-fn has_bytes(message: &Message, text: &[u8]) -> bool {
-    let items = message.items();
-    if items.len() != text.len() {
-        return false;
-    }
-    for (item, byte) in items.iter().zip(text) {
-        if *item != Item::Byte(*byte) {
-            return false;
-        }
-    }
-    true
-}
-
 /// Whether these are the grid's data codewords.
 fn has_data(grid: &Grid, data_words: &[u8]) -> bool {
     lift(grid).data_part() == data_words
@@ -140,32 +79,22 @@ fn has_data(grid: &Grid, data_words: &[u8]) -> bool {
 /// Whether the answer is a grid of this side with these data codewords.
 fn is_of<E>(answer: &Result<Grid, E>, side: u16, data_words: &[u8]) -> bool {
     match answer {
-        Ok(grid) => grid.size().side() == side && has_data(grid, data_words),
+        Ok(grid) => side_of(grid) == side && has_data(grid, data_words),
         Err(_) => false,
     }
 }
 
 /// Whether the answer is a grid of this side whose data codewords are all this one.
 fn is_filled<E>(answer: &Result<Grid, E>, side: u16, word: u8) -> bool {
-    let Ok(grid) = answer else {
-        return false;
-    };
-    for found in lift(grid).data_part() {
-        if *found != word {
-            return false;
-        }
+    match answer {
+        Ok(grid) => side_of(grid) == side && are_all(lift(grid).data_part(), word),
+        Err(_) => false,
     }
-    grid.size().side() == side
 }
 
-/// Whether the answer is these bytes, with these numbers of corrected codewords and of border faults.
-fn says(
-    answer: &Result<Reading, ReadFault>,
-    text: &[u8],
-    corrected: &[u8],
-    border_faults: u16,
-) -> bool {
-    match answer {
+/// Whether the grid is read as these bytes, with these numbers of corrected codewords and of border faults.
+fn says(grid: &Grid, limit: u16, text: &[u8], corrected: &[u8], border_faults: u16) -> bool {
+    match read(grid, limit) {
         Ok(reading) => {
             has_bytes(&reading.message, text)
                 && reading.corrected.as_slice() == corrected
@@ -175,8 +104,39 @@ fn says(
     }
 }
 
+/// Whether the grid is refused for this.
+fn is_refused(grid: &Grid, limit: u16, fault: ReadFault) -> bool {
+    match read(grid, limit) {
+        Ok(_) => false,
+        Err(found) => found == fault,
+    }
+}
+
+/// Whether this is the normal grid of the grid.
+fn becomes(grid: &Grid, limit: u16, expected: &Grid) -> bool {
+    is_grid(&normal(grid, limit), expected)
+}
+
+/// Whether this is the normal grid of the grid under the profile.
+fn becomes_under(profile: Profile, grid: &Grid, limit: u16, expected: &Grid) -> bool {
+    is_grid(&normal_as(profile, grid, limit), expected)
+}
+
+/// Whether the answer is this fault.
+fn is_fault(answer: &Result<Grid, NormalFault>, fault: NormalFault) -> bool {
+    match answer {
+        Ok(_) => false,
+        Err(found) => *found == fault,
+    }
+}
+
+/// Whether the message is too long for any symbol under the profile.
+fn is_too_long(profile: Profile, message: &Message) -> bool {
+    write_as(profile, message).is_err()
+}
+
 /// Texts, the codewords of their normal grids, and the cells of these.
-static NORMAL_GRIDS: [(&[u8], &[u8], &str); 3] = [
+static NORMAL_GRIDS: &[(&[u8], &[u8], &str)] = &[
     (
         b"123456",
         &DIGITS,
@@ -194,23 +154,31 @@ static NORMAL_GRIDS: [(&[u8], &[u8], &str); 3] = [
     ),
 ];
 
-/// The text's normal grid has these codewords and these cells, and says the text.
-fn assert_normal_grid(rt: &impl Abort, text: &[u8], words: &[u8], cells: &str) {
-    let grid = drawn(rt, 10, cells);
-    assert!(rt; is_grid(&write(&of_bytes(rt, text)), &grid));
-    assert!(rt; lift(&grid).list() == words);
-    assert!(rt; says(&read(&grid, 0), text, &[0], 0));
+/// Whether the text's normal grid has these codewords and these cells, and says the text.
+fn is_normal_grid(text: &[u8], words: &[u8], cells: &str) -> bool {
+    let grid = drawn(cells);
+    is_grid(&write(&of_bytes(text)), &grid)
+        && lift(&grid).list() == words
+        && says(&grid, 0, text, &[0], 0)
+}
+
+/// Whether the normal grid of each row's text is as the row says.
+fn all_are_normal_grids() -> bool {
+    for (text, words, cells) in NORMAL_GRIDS {
+        if !is_normal_grid(text, words, cells) {
+            return false;
+        }
+    }
+    true
 }
 
 #[test]
 fn writes_normal_grids(rt: HostRuntime) {
-    for (text, words, cells) in NORMAL_GRIDS {
-        assert_normal_grid(&rt, text, words, cells);
-    }
+    assert!(rt; all_are_normal_grids());
 }
 
 /// Messages, and their ASCII codewords at side 10.
-static ASCII: [(&[Item], &[u8]); 4] = [
+static ASCII: &[(&[Item], &[u8])] = &[
     (
         &[Item::Fnc1, Item::Byte(b'0'), Item::Byte(b'1')],
         &[232, 131, 129],
@@ -226,65 +194,73 @@ static ASCII: [(&[Item], &[u8]); 4] = [
     (&[Item::Byte(255)], &[235, 128, 129]),
 ];
 
-/// The message of these items.
-fn of_items(rt: &impl Abort, items: &[Item]) -> Message {
-    let mut message = Message::new();
-    for item in items {
-        assert!(rt; message.push(*item).is_ok());
+/// Whether the items of each row are written as its codewords.
+fn all_are_written_in_ascii() -> bool {
+    for (items, words) in ASCII {
+        if !is_of(&write(&of_items(items)), 10, words) {
+            return false;
+        }
     }
-    message
+    true
 }
 
 #[test]
 fn writes_ascii(rt: HostRuntime) {
-    for (items, words) in ASCII {
-        assert!(rt; is_of(&write(&of_items(&rt, items)), 10, words));
-    }
+    assert!(rt; all_are_written_in_ascii());
 }
 
-/// A message that just fills this size, and one that just doesn't fit.
-fn assert_fills(rt: &impl Abort, size: Size) {
-    let (side, count) = (size.side(), size.data_count());
-    assert!(rt; is_filled(&write(&of_many(rt, b'A', count)), side, 66));
-    match write(&of_many(rt, b'A', count.saturating_add(1))) {
-        Ok(grid) => assert!(rt; grid.size().side() > side),
-        Err(TooLong) => assert!(rt; side == 104),
+/// Whether a message that just fills this size is written at it, and one that just doesn't fit at a larger one, if there is one.
+fn is_just_filled(size: Size) -> bool {
+    let (side, count) = (size.side(), usize::from(size.data_count()));
+    let larger = match write(&of_many(b'A', count + 1)) {
+        Ok(grid) => side_of(&grid) > side,
+        Err(TooLong) => side == 104,
+    };
+    larger && is_filled(&write(&of_many(b'A', count)), side, 66)
+}
+
+/// Whether each size can be filled.
+fn all_are_just_filled() -> bool {
+    for size in table() {
+        if !is_just_filled(size) {
+            return false;
+        }
     }
+    true
+}
+
+/// Whether two digits take one codeword, also at the sizes of several blocks.
+fn digits_fill() -> bool {
+    is_filled(&write(&of_many(b'7', 408)), 52, 207)
+        && is_filled(&write(&of_many(b'7', 1632)), 104, 207)
 }
 
 #[test]
 fn writes_every_size(rt: HostRuntime) {
-    for size in table() {
-        assert_fills(&rt, size);
-    }
-    for (count, side) in [(408, 52), (1632, 104)] {
-        assert!(rt; is_filled(&write(&of_many(&rt, b'7', count)), side, 207));
-    }
-    assert!(rt; write(&of_many(&rt, b'A', 817)).is_err());
+    assert!(rt; all_are_just_filled());
+    assert!(rt; digits_fill());
+    assert!(rt; write(&of_many(b'A', 817)).is_err());
 }
 
 #[test]
 fn usual_limits_of_border_faults(rt: HostRuntime) {
-    for (side, limit) in [(10, 2), (52, 13), (104, 26)] {
-        assert!(rt; usual_limit(side) == limit);
-    }
+    assert!(rt; usual_limit(10) == 2 && usual_limit(52) == 13 && usual_limit(104) == 26);
 }
+
+/// The codewords of a run of C40 that spells `AIM`, at side 10.
+static C40: [u8; 8] = [230, 91, 11, 40, 130, 30, 228, 188];
 
 #[test]
 fn reads_runs(rt: HostRuntime) {
-    let c40 = grid_of(&rt, 10, &[230, 91, 11, 40, 130, 30, 228, 188]);
-    assert!(rt; says(&read(&c40, 2), b"AIM", &[0], 0));
-    let text = completed_grid(&rt, 10, &[239, 91, 11]);
-    assert!(rt; says(&read(&text, 2), b"aim", &[0], 0));
+    assert!(rt; says(&grid_of(10, &C40), 2, b"AIM", &[0], 0));
+    assert!(rt; says(&completed_grid(10, &[239, 91, 11]), 2, b"aim", &[0], 0));
 }
 
 #[test]
 fn normalises_a_run(rt: HostRuntime) {
-    let c40 = grid_of(&rt, 10, &[230, 91, 11, 40, 130, 30, 228, 188]);
-    let once = grid_of(&rt, 10, &[66, 74, 78, 60, 104, 105, 21, 207]);
-    assert!(rt; is_grid(&normal(&c40, 2), &once));
-    assert!(rt; is_grid(&normal(&once, 0), &once));
-    assert!(rt; says(&read(&once, 2), b"AIM", &[0], 0));
+    let once = grid_of(10, &[66, 74, 78, 60, 104, 105, 21, 207]);
+    assert!(rt; becomes(&grid_of(10, &C40), 2, &once) && becomes(&once, 0, &once));
+    assert!(rt; says(&once, 2, b"AIM", &[0], 0));
 }
 
 /// Data codewords at side 10, and those of the normal grid.
@@ -294,20 +270,31 @@ static NORMALISED: [([u8; 3], [u8; 3]); 3] = [
     ([230, 10, 255], [235, 66, 129]),
 ];
 
+/// Whether the data codewords of each row become those of the normal grid.
+fn all_are_normalised() -> bool {
+    for (data_words, normal_words) in &NORMALISED {
+        if !is_of(
+            &normal(&completed_grid(10, data_words), 2),
+            10,
+            normal_words,
+        ) {
+            return false;
+        }
+    }
+    true
+}
+
 #[test]
 fn normalises_bytes_above_127(rt: HostRuntime) {
-    for (data_words, normal_words) in NORMALISED {
-        let grid = completed_grid(&rt, 10, &data_words);
-        assert!(rt; is_of(&normal(&grid, 2), 10, &normal_words));
-    }
+    assert!(rt; all_are_normalised());
 }
 
 /// A message in the smallest symbol, whatever size it came in.
 #[test]
 fn normalises_to_the_smallest_size(rt: HostRuntime) {
-    let large = completed_grid(&rt, 12, &[66, 129, 70, 220, 115]);
-    let small = grid_of(&rt, 10, &[66, 129, 70, 138, 234, 82, 82, 95]);
-    assert!(rt; is_grid(&normal(&large, 3), &small));
+    let large = completed_grid(12, &[66, 129, 70, 220, 115]);
+    let small = grid_of(10, &[66, 129, 70, 138, 234, 82, 82, 95]);
+    assert!(rt; becomes(&large, 3, &small));
 }
 
 /// The cells of `123456` with ten border faults.
@@ -316,36 +303,30 @@ static FAULTY: &str =
 
 #[test]
 fn compares_the_border_with_the_limit(rt: HostRuntime) {
-    let grid = drawn(&rt, 10, FAULTY);
-    for limit in [2, 9] {
-        assert!(rt; read(&grid, limit) == Err(ReadFault::Border(10)));
-    }
-    assert!(rt; says(&read(&grid, 10), b"123456", &[0], 10));
-    assert!(rt; normal(&grid, 2).err() == Some(NormalFault::Read(ReadFault::Border(10))));
+    let grid = drawn(FAULTY);
+    let fault = ReadFault::Border(10);
+    assert!(rt; is_refused(&grid, 2, fault) && is_refused(&grid, 9, fault));
+    assert!(rt; says(&grid, 10, b"123456", &[0], 10));
+    assert!(rt; is_fault(&normal(&grid, 2), NormalFault::Read(fault)));
 }
 
 /// The grid of side 12 with its fixed square turned over.
-fn with_square_turned(rt: &impl Abort, grid: &Grid) -> Grid {
+fn with_square_turned(grid: &Grid) -> Grid {
     let mut cells: ArrayVec<bool, 144> = ArrayVec::new();
     for place in 0..144u16 {
         let (row, column) = (place / 12, place % 12);
         let turned = (row == 9 || row == 10) && (column == 9 || column == 10);
-        assert!(rt; grid.size().side() == 12);
-        assert!(rt; cells.try_push(grid.cell(row, column) != turned).is_ok());
+        let _room = cells.try_push(is_dark_at(grid, row, column) != turned);
     }
-    let Ok(turned) = Grid::new(12, &cells) else {
-        panic!(rt; "no grid");
-    };
-    turned
+    grid_with(12, &cells)
 }
 
 /// The fixed square is not looked at.
 #[test]
 fn ignores_the_fixed_square(rt: HostRuntime) {
-    let zeros = grid_of(&rt, 12, &[0; 12]);
-    let turned = with_square_turned(&rt, &zeros);
+    let zeros = grid_of(12, &[]);
+    let turned = with_square_turned(&zeros);
+    let fault = ReadFault::Words(WordFault::Reserved(1));
     assert!(rt; !same(&zeros, &turned));
-    for grid in [&zeros, &turned] {
-        assert!(rt; read(grid, 3) == Err(ReadFault::Words(WordFault::Reserved(1))));
-    }
+    assert!(rt; is_refused(&zeros, 3, fault) && is_refused(&turned, 3, fault));
 }

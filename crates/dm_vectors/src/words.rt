@@ -1,58 +1,50 @@
 //! Codewords and the messages that they spell, or the faults with which they are refused: `dm_words`.
 
-ghost use Rattle.std.specs.Prelude.{◌≤◌};
-
+use crate::messages::{
+    MARKED, add, add_bytes, add_many, are_all, has_bytes, has_items, of_items, of_many, randomised,
+    segment,
+};
 use arrayvec::ArrayVec;
 use dm_layout::{MOST_CODEWORDS, Size};
 use dm_words::*;
-use std::process::Abort;
-use std::test::*;
 
 mod places;
 mod shorter;
 
+/// What the codewords spell, and the fault of no codeword where there are too many of them.
+fn message(words: &[u8]) -> Result<Message, WordFault> {
+    if words.len() > MOST_DATA {
+        return Err(WordFault::LeftOut(0, 0));
+    }
+    message_of(words)
+}
+
 /// Whether the codewords spell these items.
 fn spells(words: &[u8], items: &[Item]) -> bool {
-    if words.len() > MOST_DATA {
-        return false;
-    }
-    match message_of(words) {
-        Ok(message) => message.items() == items,
+    match message(words) {
+        Ok(message) => has_items(&message, items),
         Err(_) => false,
     }
 }
 
-/// Whether the items are these bytes.
-fn are_bytes(items: &[Item], bytes: &[u8]) -> bool {
-    if items.len() != bytes.len() {
-        return false;
-    }
-    for (item, byte) in items.iter().zip(bytes) {
-        if *item != Item::Byte(*byte) {
-            return false;
-        }
-    }
-    true
-}
-
 /// Whether the codewords spell these bytes.
 fn spells_bytes(words: &[u8], bytes: &[u8]) -> bool {
-    if words.len() > MOST_DATA {
-        return false;
-    }
-    match message_of(words) {
-        Ok(message) => are_bytes(message.items(), bytes),
+    match message(words) {
+        Ok(message) => has_bytes(&message, bytes),
         Err(_) => false,
     }
 }
 
 /// Whether the codewords are refused with this fault.
 fn is_refused(words: &[u8], fault: WordFault) -> bool {
-    words.len() <= MOST_DATA && message_of(words) == Err(fault)
+    match message(words) {
+        Ok(_) => false,
+        Err(found) => found == fault,
+    }
 }
 
 /// Data codewords and the bytes that they spell.
-static SPELLED: [(&[u8], &[u8]); 46] = [
+static SPELLED: &[(&[u8], &[u8])] = &[
     (&[], b""),
     (&[1, 128], b"\x00\x7F"),
     (&[130, 229], b"0099"),
@@ -101,15 +93,23 @@ static SPELLED: [(&[u8], &[u8]); 46] = [
     (&[239, 12, 131, 6, 171, 16, 187, 194, 60], b"`AZ{\x7F  "),
 ];
 
+/// Whether the codewords of each row spell its bytes.
+fn all_are_spelled() -> bool {
+    for (words, bytes) in SPELLED {
+        if !spells_bytes(words, bytes) {
+            return false;
+        }
+    }
+    true
+}
+
 #[test]
 fn reads_messages(rt: HostRuntime) {
-    for (words, bytes) in SPELLED {
-        assert!(rt; spells_bytes(words, bytes));
-    }
+    assert!(rt; all_are_spelled());
 }
 
 /// Data codewords and the items that they spell.
-static SPELLED_WITH_FNC1: [(&[u8], &[Item]); 3] = [
+static SPELLED_WITH_FNC1: &[(&[u8], &[Item])] = &[
     (&[230, 10, 135], &[Item::Fnc1, Item::Byte(b'A')]),
     (&[239, 10, 124], &[Item::Fnc1, Item::Byte(b' ')]),
     (
@@ -118,15 +118,23 @@ static SPELLED_WITH_FNC1: [(&[u8], &[Item]); 3] = [
     ),
 ];
 
+/// Whether the codewords of each row spell its items.
+fn all_are_spelled_with_fnc1() -> bool {
+    for (words, items) in SPELLED_WITH_FNC1 {
+        if !spells(words, items) {
+            return false;
+        }
+    }
+    true
+}
+
 #[test]
 fn reads_fnc1(rt: HostRuntime) {
-    for (words, items) in SPELLED_WITH_FNC1 {
-        assert!(rt; spells(words, items));
-    }
+    assert!(rt; all_are_spelled_with_fnc1());
 }
 
 /// Data codewords and the fault with which they are refused.
-static REFUSED: [(&[u8], WordFault); 46] = [
+static REFUSED: &[(&[u8], WordFault)] = &[
     (&[66, 0], WordFault::Reserved(2)),
     (&[242], WordFault::Reserved(1)),
     (&[240, 66, 129], WordFault::LeftOut(240, 1)),
@@ -175,55 +183,62 @@ static REFUSED: [(&[u8], WordFault); 46] = [
     (&[66, 255], WordFault::Reserved(2)),
 ];
 
+/// Whether the codewords of each row are refused with its fault.
+fn all_are_refused() -> bool {
+    for (words, fault) in REFUSED {
+        if !is_refused(words, *fault) {
+            return false;
+        }
+    }
+    true
+}
+
 #[test]
 fn refuses_what_spells_no_message(rt: HostRuntime) {
-    for (words, fault) in REFUSED {
-        assert!(rt; is_refused(words, fault));
+    assert!(rt; all_are_refused());
+}
+
+/// Whether each reserved codeword is refused.
+fn reserved_are_refused() -> bool {
+    for codeword in 242..=255u8 {
+        if !is_refused(&[codeword], WordFault::Reserved(1)) {
+            return false;
+        }
     }
+    true
 }
 
 #[test]
 fn refuses_reserved_codewords(rt: HostRuntime) {
-    for codeword in 242..=255u8 {
-        assert!(rt; is_refused(&[codeword], WordFault::Reserved(1)));
+    assert!(rt; reserved_are_refused());
+}
+
+/// The codewords with pads up to this size, where there is one that has room for them.
+fn with_pads(words: &[u8], size: Option<Size>) -> Option<ArrayVec<u8, MOST_DATA>> {
+    match size {
+        Some(size) if words.len() <= usize::from(size.data_count()) => Some(padded(words, size)),
+        _ => None,
     }
 }
 
-/// The message of these items, as far as there is room.
-fn message_with(items: &[Item]) -> Option<Message> {
-    let mut message = Message::new();
-    for item in items {
-        if message.push(*item).is_err() {
-            return None;
-        }
-    }
-    Some(message)
-}
-
-/// Whether the codewords, with pads up to the size of this side, are these.
-fn is_padded(words: &[u8], side: u16, expected: &[u8]) -> bool {
-    match Size::of_side(side) {
-        Some(size) => {
-            words.len() <= usize::from(size.data_count())
-                && padded(words, size).as_slice() == expected
-        }
+/// Whether these are the codewords.
+fn are_words(answer: &Option<ArrayVec<u8, MOST_DATA>>, expected: &[u8]) -> bool {
+    match answer {
+        Some(words) => words.as_slice() == expected,
         None => false,
     }
 }
 
 /// Whether the ASCII codewords of these items, with pads up to the size of this side, are these.
 fn writes(items: &[Item], side: u16, expected: &[u8]) -> bool {
-    let Some(message) = message_with(items) else {
-        return false;
-    };
-    match ascii_words(&message) {
-        Ok(words) => is_padded(words.as_slice(), side, expected),
+    match ascii_words(&of_items(items)) {
+        Ok(words) => are_words(&with_pads(&words, Size::of_side(side)), expected),
         Err(_) => false,
     }
 }
 
 /// Items, the side of a symbol, and its data codewords in ASCII.
-static WRITTEN: [(&[Item], u16, &[u8]); 9] = [
+static WRITTEN: &[(&[Item], u16, &[u8])] = &[
     (&[], 10, &[129, 175, 70]),
     (&[Item::Byte(b'A')], 10, &[66, 129, 70]),
     (&[Item::Byte(193)], 10, &[235, 66, 129]),
@@ -251,96 +266,74 @@ static WRITTEN: [(&[Item], u16, &[u8]); 9] = [
     ),
 ];
 
+/// Whether the items of each row are written as its codewords.
+fn all_are_written() -> bool {
+    for (items, side, words) in WRITTEN {
+        if !writes(items, *side, words) {
+            return false;
+        }
+    }
+    true
+}
+
 #[test]
 fn writes_ascii(rt: HostRuntime) {
-    for (items, side, words) in WRITTEN {
-        assert!(rt; writes(items, side, words));
-    }
+    assert!(rt; all_are_written());
 }
 
-/// The message of one byte so many times.
-fn of_many(rt: &impl Abort, byte: u8, count: usize) -> Message {
-    let mut message = Message::new();
-    for _ in 0..count {
-        assert!(rt; message.push(Item::Byte(byte)).is_ok());
-    }
-    message
-}
-
-#[test]
-fn fills_a_message(rt: HostRuntime) {
-    let mut digits = of_many(&rt, b'7', MOST_ITEMS);
-    assert!(rt; digits.push(Item::Fnc1) == Err(Item::Fnc1));
-    assert!(rt; digits.items().len() == MOST_ITEMS);
-    let words = [207; 816];
-    assert!(rt; is_written(&digits, &words));
-    assert!(rt; message_of(&words) == Ok(digits));
-}
-
-/// Whether the ASCII codewords of the message are these.
-fn is_written(message: &Message, expected: &[u8]) -> bool {
+/// Whether the ASCII codewords of the message are so many times this one.
+fn is_written(message: &Message, word: u8, count: usize) -> bool {
     match ascii_words(message) {
-        Ok(words) => words.as_slice() == expected,
+        Ok(words) => words.len() == count && are_all(&words, word),
         Err(_) => false,
     }
 }
 
 #[test]
-fn letters_take_a_codeword_each(rt: HostRuntime) {
-    for count in [204, 205, 816] {
-        assert!(rt; count <= 816);
-        assert!(rt; is_written(&of_many(&rt, b'A', count), &[66; 816][..count]));
-    }
-    assert!(rt; ascii_words(&of_many(&rt, b'A', 817)).is_err());
+fn fills_a_message(rt: HostRuntime) {
+    let mut digits = of_many(b'7', MOST_ITEMS);
+    assert!(rt; digits.push(Item::Fnc1) == Err(Item::Fnc1));
+    assert!(rt; digits.items().len() == MOST_ITEMS);
+    assert!(rt; is_written(&digits, 207, 816));
+    assert!(rt; spells(&[207; 816], digits.items()));
 }
 
-/// The codeword of a Base 256 value at a place.
-fn randomised(value: u8, place: u16) -> u8 {
-    ((value as u32 + (149 * place as u32) % 255 + 1) % 256) as u8
+/// Whether so many letters take as many codewords.
+fn takes_one_each(count: usize) -> bool {
+    is_written(&of_many(b'A', count), 66, count)
+}
+
+#[test]
+fn letters_take_a_codeword_each(rt: HostRuntime) {
+    assert!(rt; takes_one_each(204) && takes_one_each(205) && takes_one_each(816));
+    assert!(rt; ascii_words(&of_many(b'A', 817)).is_err());
 }
 
 #[test]
 fn fills_a_segment(rt: HostRuntime) {
-    let mut words = [231u8; 204];
-    words[1] = randomised(202, 2);
-    for place in 3..205u16 {
-        words[place as usize - 1] = randomised(255, place);
-    }
+    let words = segment(&[231, randomised(202, 2)], 255, 204);
     assert!(rt; spells_bytes(&words, &[255; 202]));
 }
 
-/// A segment of so many bytes 0, whose length takes two codewords.
-fn two_length_codewords() -> [u8; 253] {
-    let mut list = [231; 253];
-    list[1] = 38;
-    list[2] = 193;
-    for place in 4..254u16 {
-        list[place as usize - 1] = randomised(0, place);
+/// A segment of 250 bytes 0, whose length takes two codewords, the last of which is this one, with pads up to the size of side 64, and
+/// no codewords where it has no such size.
+fn padded_segment(last: u8) -> ArrayVec<u8, MOST_DATA> {
+    match with_pads(&segment(&[231, 38, last], 0, 253), Size::of_side(64)) {
+        Some(words) => words,
+        None => ArrayVec::new(),
     }
-    list
 }
 
-/// The codewords with pads up to the size of side 64.
-fn padded_to_64(rt: &impl Abort, list: &[u8; 253]) -> [u8; 280] {
-    let size = Size::of_side(64).expect(rt, "side 64");
-    assert!(rt; size.data_count() == 280);
-    let mut filled = [0; 280];
-    for (into, word) in filled.iter_mut().zip(padded(list, size)) {
-        *into = word;
-    }
-    filled
+/// Whether the codewords are such a segment with pads, and spell 250 bytes 0.
+fn is_read_before_pads(words: &[u8]) -> bool {
+    words.len() == 280 && words[3] == 87 && words[253] == 129 && spells_bytes(words, &[0; 250])
 }
 
 /// A segment whose length takes two codewords, with pads behind it.
 #[test]
 fn a_length_of_two_codewords(rt: HostRuntime) {
-    let mut list = two_length_codewords();
-    assert!(rt; list[3] == 87);
-    let words = padded_to_64(&rt, &list);
-    assert!(rt; words[253] == 129);
-    assert!(rt; spells_bytes(&words, &[0; 250]));
-    list[2] = 187;
-    assert!(rt; is_refused(&padded_to_64(&rt, &list), WordFault::Length(1)));
+    assert!(rt; is_read_before_pads(&padded_segment(193)));
+    assert!(rt; is_refused(&padded_segment(187), WordFault::Length(1)));
 }
 
 /// A segment of 813 bytes, each of which is the low byte of its place; its length codewords are these.
@@ -358,8 +351,8 @@ fn longest_segment(first: u8, second: u8) -> [u8; 816] {
 #[test]
 fn the_longest_segment(rt: HostRuntime) {
     let mut bytes = [0; 813];
-    for (index, byte) in bytes.iter_mut().enumerate() {
-        *byte = ((index + 4) % 256) as u8;
+    for index in 0..813 {
+        bytes[index] = ((index + 4) % 256) as u8;
     }
     assert!(rt; spells_bytes(&longest_segment(40, 0), &bytes));
 }
@@ -367,7 +360,6 @@ fn the_longest_segment(rt: HostRuntime) {
 /// Lengths that pass the end of the largest symbol.
 #[test]
 fn refuses_segments_past_the_end(rt: HostRuntime) {
-    for (first, second) in [(40, 1), (41, 193)] {
-        assert!(rt; is_refused(&longest_segment(first, second), WordFault::Length(1)));
-    }
+    assert!(rt; is_refused(&longest_segment(40, 1), WordFault::Length(1)));
+    assert!(rt; is_refused(&longest_segment(41, 193), WordFault::Length(1)));
 }

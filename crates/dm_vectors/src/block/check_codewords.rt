@@ -1,10 +1,13 @@
 //! Tests of check codewords.
 
-ghost use Rattle.std.specs.Prelude.{◌≤◌, length};
+use super::samples::{BLOCKS, part, pseudorandom, put};
+use crate::calls::{checks_of, generator_of};
+use gf301::Gf;
 
-use super::samples::{BLOCKS, pseudorandom};
-use dm_code::encode;
-use gf301::{generator, times};
+/// Whether these are the check codewords of the data codewords, and not none.
+fn has_checks(front: &[u8], checks: &[u8]) -> bool {
+    !checks.is_empty() && checks_of(front, checks.len()).as_slice() == checks
+}
 
 /// Blocks of the symbol of side 10: data codewords, and their five check codewords.
 static SIDE_10: [([u8; 3], [u8; 5]); 5] = [
@@ -15,61 +18,76 @@ static SIDE_10: [([u8; 3], [u8; 5]); 5] = [
     ([66, 74, 78], [60, 104, 105, 21, 207]),
 ];
 
+/// Whether each block of side 10 has its check codewords.
+fn all_have_checks() -> bool {
+    for (data, checks) in &SIDE_10 {
+        if !has_checks(data, checks) {
+            return false;
+        }
+    }
+    true
+}
+
 #[test]
 fn check_codewords_of_blocks_of_side_10(rt: HostRuntime) {
-    for (data, checks) in SIDE_10 {
-        assert!(rt; encode(&data, 5).as_slice() == checks.as_slice());
+    assert!(rt; all_have_checks());
+}
+
+/// Whether the check codewords are all 0, in each block, where the data codewords are.
+fn zeros_have_zeros(zeros: &[u8; 255]) -> bool {
+    for (count, k) in &BLOCKS {
+        if !has_checks(part(zeros, 0, *count), part(zeros, 0, *k)) {
+            return false;
+        }
     }
+    true
 }
 
 #[test]
 fn check_codewords_of_zeros_are_zeros(rt: HostRuntime) {
-    for (count, k) in BLOCKS {
-        assert!(rt; 1 <= k && k <= 68 && count <= 187);
-        assert!(rt; encode(&[0; 255][..count], k).as_slice() == &[0; 68][..k]);
+    assert!(rt; zeros_have_zeros(&[0; 255]));
+}
+
+/// Takes the multiple of the divisor, whose first coefficient is 1, away that leaves 0 at the first place.
+fn take_away(places: &mut [u8], divisor: &[u8]) {
+    let Some(lead) = places.first().copied() else {
+        return;
+    };
+    for i in 0..divisor.len() {
+        if i < places.len() {
+            places[i] ^= Gf(lead).mul(Gf(divisor[i])).0;
+        }
     }
 }
 
 /// What long division of `front` times x^k by the generator polynomial leaves: from the highest power on, a multiple
 /// of the generator is taken away. It stands at the places from the length of `front` on.
-fn divided(front: &[u8], k: usize) -> [u8; 255]
-    requires some { 1 ≤ k }
-    requires most { k ≤ 68 }
-{
-    let divisor = generator(k);
+fn divided(front: &[u8], k: usize) -> [u8; 255] {
+    let divisor = generator_of(k);
     let mut rest = [0; 255];
-    for (place, codeword) in rest.iter_mut().zip(front) {
-        *place = *codeword;
-    }
+    put(&mut rest, 0, front);
     for i in 0..front.len() {
-        if let Some(places) = rest.get_mut(i..) {
-            if let Some(lead) = places.first().copied() {
-                for (place, term) in places.iter_mut().zip(times(&[lead], &divisor)) {
-                    *place ^= term;
-                }
-            }
+        if i < 255 {
+            take_away(&mut rest[i..], &divisor);
         }
     }
     rest
 }
 
-/// Whether the check codewords of these data codewords are what long division leaves.
-fn are_what_is_left(front: &[u8], k: usize) -> bool
-    requires some { 1 ≤ k }
-    requires most { k ≤ 68 }
-    requires data { length front.now ≤ 187 }
-{
-    let rest = divided(front, k);
-    let count = front.len();
-    encode(front, k).as_slice() == &rest[count..count + k]
+/// Whether the check codewords of so many data codewords of the list are what long division leaves, in each block.
+fn are_what_is_left(list: &[u8; 255]) -> bool {
+    for (count, k) in &BLOCKS {
+        let front = part(list, 0, *count);
+        if !has_checks(front, part(&divided(front, *k), *count, *k)) {
+            return false;
+        }
+    }
+    true
 }
 
 #[test]
 fn check_codewords_are_what_long_division_leaves(rt: HostRuntime) {
-    for list in [[255; 255], pseudorandom(7, 19), pseudorandom(200, 3)] {
-        for (count, k) in BLOCKS {
-            assert!(rt; 1 <= k && k <= 68 && count <= 187);
-            assert!(rt; are_what_is_left(&list[..count], k));
-        }
-    }
+    assert!(rt; are_what_is_left(&[255; 255]));
+    assert!(rt; are_what_is_left(&pseudorandom(7, 19)));
+    assert!(rt; are_what_is_left(&pseudorandom(200, 3)));
 }

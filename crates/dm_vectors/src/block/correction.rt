@@ -1,49 +1,45 @@
 //! Tests of correction within the limit, at it and beyond it, with both solvers.
 
-ghost use Rattle.std.specs.Prelude.{◌+◌, ◌<◌, ◌≤◌, length};
+use super::samples::{BLOCKS, WORD, codeword, part, put, turned_over, with_errors};
+use crate::calls::generator_of;
+use dm_code::{BeyondLimit, Elimination, Fixed, KeySolver, Quick, correct};
 
-use super::samples::{BLOCKS, WORD, codeword, with_errors};
-use dm_code::{Elimination, KeySolver, Quick, correct};
-use gf301::generator;
+/// What `correct` answers with a solver, and None where there is no such block.
+fn answer<S: KeySolver>(solver: &S, word: &[u8], k: usize) -> Option<Result<Fixed, BeyondLimit>> {
+    if k < 1 || 68 < k || word.len() <= k || 255 < word.len() {
+        return None;
+    }
+    Some(correct(solver, word, k))
+}
 
-/// Whether a damaged word is corrected to a word with this solver, with a count of changed places.
-fn is_corrected_by<S: KeySolver>(
-    solver: &S,
-    damaged: &[u8],
-    word: &[u8],
-    k: usize,
-    changed: usize,
-) -> bool
-    requires checks { 0 < k }
-    requires most { k ≤ 68 }
-    requires data { k < length damaged.now }
-    requires long { length damaged.now ≤ 255 }
-{
-    match correct(solver, damaged, k) {
-        Ok(fixed) => fixed.word.as_slice() == word && usize::from(fixed.changed) == changed,
-        Err(_) => false,
+/// Whether the answer is this word, with this count of changed places.
+fn is_fixed(answer: &Option<Result<Fixed, BeyondLimit>>, word: &[u8], changed: usize) -> bool {
+    match answer {
+        Some(Ok(fixed)) => fixed.word.as_slice() == word && usize::from(fixed.changed) == changed,
+        _ => false,
     }
 }
 
+/// Whether the answer is that no codeword is near.
+fn is_beyond(answer: &Option<Result<Fixed, BeyondLimit>>) -> bool {
+    matches!(answer, Some(Err(BeyondLimit)))
+}
+
 /// Whether a damaged word is corrected to a word with either solver, with a count of changed places.
-fn is_corrected(damaged: &[u8], word: &[u8], k: usize, changed: usize) -> bool
-    requires checks { 0 < k }
-    requires most { k ≤ 68 }
-    requires data { k < length damaged.now }
-    requires long { length damaged.now ≤ 255 }
-{
-    is_corrected_by(&Elimination, damaged, word, k, changed)
-        && is_corrected_by(&Quick, damaged, word, k, changed)
+fn is_corrected(damaged: &[u8], word: &[u8], k: usize, changed: usize) -> bool {
+    is_fixed(&answer(&Elimination, damaged, k), word, changed)
+        && is_fixed(&answer(&Quick, damaged, k), word, changed)
 }
 
 /// Whether a damaged word is refused with either solver.
-fn is_refused(damaged: &[u8], k: usize) -> bool
-    requires checks { 0 < k }
-    requires most { k ≤ 68 }
-    requires data { k < length damaged.now }
-    requires long { length damaged.now ≤ 255 }
-{
-    correct(&Elimination, damaged, k).is_err() && correct(&Quick, damaged, k).is_err()
+fn is_refused(damaged: &[u8], k: usize) -> bool {
+    is_beyond(&answer(&Elimination, damaged, k)) && is_beyond(&answer(&Quick, damaged, k))
+}
+
+/// Whether both solvers answer alike for a word of a block.
+pub(super) fn are_corrected_alike(word: &[u8], k: usize) -> bool {
+    let answered = answer(&Quick, word, k);
+    answered.is_some() && answered == answer(&Elimination, word, k)
 }
 
 #[test]
@@ -53,55 +49,83 @@ fn two_errors_with_five_checks_are_corrected_and_three_refused(rt: HostRuntime) 
     assert!(rt; is_refused(&[0, 0, 0, 114, 25, 5, 88, 102], 5));
 }
 
-/// Whether a codeword of `count` data codewords is corrected with as many wrong codewords as can be, at every `step`th place from the
+/// Whether the first `length` codewords of a word are corrected with as many wrong codewords as can be, at every `step`th place from the
 /// place `first` on.
-fn is_corrected_at_the_limit(count: usize, k: usize, first: usize, step: usize) -> bool
-    requires checks { 0 < k }
-    requires most { k ≤ 68 }
-    requires data { 0 < count }
-    requires long { count + k ≤ 255 }
-    requires step { 0 < step }
-{
-    let word = codeword(count, k);
-    let damaged = with_errors(word, first, step, k / 2);
-    is_corrected(&damaged[..count + k], &word[..count + k], k, k / 2)
+fn is_corrected_from(word: &[u8; 255], length: usize, k: usize, first: usize, step: usize) -> bool {
+    let damaged = with_errors(*word, first, step, k / 2);
+    is_corrected(part(&damaged, 0, length), part(word, 0, length), k, k / 2)
 }
 
-/// As many wrong codewords as each block corrects: at the first places, at the last, and at every second one.
+/// Whether a block corrects so many wrong codewords at the first places, at the last, and at every second one.
+fn is_corrected_to_its_limit(count: usize, k: usize) -> bool {
+    let word = codeword(count, k);
+    let length = count.saturating_add(k);
+    is_corrected_from(&word, length, k, 0, 1)
+        && is_corrected_from(&word, length, k, length.saturating_sub(k / 2), 1)
+        && is_corrected_from(&word, length, k, 0, 2)
+}
+
 #[test]
 fn blocks_are_corrected_to_their_limit(rt: HostRuntime) {
-    for (count, k) in BLOCKS {
-        assert!(rt; 1 <= k && k <= 68 && 0 < count && count <= 255 - k);
-        assert!(rt; is_corrected_at_the_limit(count, k, 0, 1));
-        assert!(rt; is_corrected_at_the_limit(count, k, count + k - k / 2, 1));
-        assert!(rt; is_corrected_at_the_limit(count, k, 0, 2));
+    for (count, k) in &BLOCKS {
+        assert!(rt; is_corrected_to_its_limit(*count, *k));
     }
+}
+
+/// The block of side 10 with this error at this place.
+fn with_error(word: [u8; 8], place: usize, error: u8) -> [u8; 8] {
+    let mut damaged = word;
+    if place < 8 {
+        damaged[place] ^= error;
+    }
+    damaged
+}
+
+/// Whether each error at this place is corrected.
+fn is_each_error_corrected(place: usize) -> bool {
+    for error in 1..=255u8 {
+        if !is_corrected(&with_error(WORD, place, error), &WORD, 5, 1) {
+            return false;
+        }
+    }
+    true
 }
 
 /// Each codeword replaced by each other value.
 #[test]
 fn each_single_error_is_corrected(rt: HostRuntime) {
     for place in 0..8 {
-        for error in 1..=255u8 {
-            let mut damaged = WORD;
-            damaged[place] ^= error;
-            assert!(rt; is_corrected(&damaged, &WORD, 5, 1));
+        assert!(rt; is_each_error_corrected(place));
+    }
+}
+
+/// Whether errors at this place and at each other one are corrected.
+fn is_each_pair_corrected(i: usize) -> bool {
+    for j in 0..8 {
+        let damaged = with_error(with_error(WORD, i, 1), j, 255);
+        if i != j && !is_corrected(&damaged, &WORD, 5, 2) {
+            return false;
         }
     }
+    true
 }
 
 #[test]
 fn errors_at_each_two_places_are_corrected(rt: HostRuntime) {
     for i in 0..8 {
-        for j in 0..8 {
-            if i != j {
-                let mut damaged = WORD;
-                damaged[i] ^= 1;
-                damaged[j] ^= 255;
-                assert!(rt; is_corrected(&damaged, &WORD, 5, 2));
-            }
+        assert!(rt; is_each_pair_corrected(i));
+    }
+}
+
+/// Whether errors at these two places and at each place before them are refused.
+fn is_refused_before(i: usize, j: usize) -> bool {
+    for m in 0..j {
+        let damaged = with_error(with_error(with_error(WORD, i, 255), j, 255), m, 255);
+        if !is_refused(&damaged, 5) {
+            return false;
         }
     }
+    true
 }
 
 /// No codeword lies within the limit of these words, so none is made up.
@@ -109,80 +133,74 @@ fn errors_at_each_two_places_are_corrected(rt: HostRuntime) {
 fn errors_at_each_three_places_with_five_checks_are_refused(rt: HostRuntime) {
     for i in 0..8 {
         for j in 0..i {
-            for m in 0..j {
-                let mut damaged = WORD;
-                damaged[i] ^= 255;
-                damaged[j] ^= 255;
-                damaged[m] ^= 255;
-                assert!(rt; is_refused(&damaged, 5));
-            }
+            assert!(rt; is_refused_before(i, j));
         }
     }
 }
 
 /// Whether the codeword with seven checks is refused with the codewords turned over whose bits these places have.
 fn is_refused_with(word: &[u8; 255], places: u16) -> bool {
-    let mut damaged = *word;
-    for (i, codeword) in damaged.iter_mut().enumerate() {
-        if i < 12 && (places >> i) % 2 == 1 {
-            *codeword ^= 255;
+    is_refused(part(&turned_over(word, places), 0, 12), 7)
+}
+
+/// Whether errors at each four places are refused.
+fn are_all_four_refused(word: &[u8; 255]) -> bool {
+    for places in 0..4096u16 {
+        if places.count_ones() == 4 && !is_refused_with(word, places) {
+            return false;
         }
     }
-    is_refused(&damaged[..12], 7)
+    true
 }
 
 #[test]
 fn errors_at_each_four_places_with_seven_checks_are_refused(rt: HostRuntime) {
-    let word = codeword(5, 7);
-    for places in 0..4096u16 {
-        if places.count_ones() == 4 {
-            assert!(rt; is_refused_with(&word, places));
+    assert!(rt; are_all_four_refused(&codeword(5, 7)));
+}
+
+/// Whether a word that is one place more than the limit away from the word of zeros is corrected to another codeword, the
+/// generator polynomial, which stands at the places up to `count` + k.
+fn is_corrected_to_the_generator(count: usize, k: usize) -> bool {
+    let mut word = [0; 255];
+    put(&mut word, count.saturating_sub(1), &generator_of(k));
+    let mut damaged = word;
+    put(
+        &mut damaged,
+        count.saturating_add(k / 2),
+        part(&[0; 255], 0, k / 2),
+    );
+    let length = count.saturating_add(k);
+    is_corrected(part(&damaged, 0, length), part(&word, 0, length), k, k / 2)
+}
+
+/// Whether that is so in each block with an even number of check codewords.
+fn all_are_corrected_to_the_generator() -> bool {
+    for (count, k) in &BLOCKS {
+        if k % 2 == 0 && !is_corrected_to_the_generator(*count, *k) {
+            return false;
         }
     }
+    true
 }
 
-/// The generator polynomial, behind zeros, at the places up to `count` + k.
-fn generator_word(count: usize, k: usize) -> [u8; 255]
-    requires some { 1 ≤ k }
-    requires most { k ≤ 68 }
-    requires data { 0 < count }
-{
-    let mut word = [0; 255];
-    for (place, a) in word.iter_mut().skip(count - 1).zip(generator(k).as_slice()) {
-        *place = *a;
-    }
-    word
-}
-
-/// The word with zeros at so many places, from the place `first` on.
-fn with_zeros(word: [u8; 255], first: usize, count: usize) -> [u8; 255] {
-    let mut damaged = word;
-    for place in damaged.iter_mut().skip(first).take(count) {
-        *place = 0;
-    }
-    damaged
-}
-
-/// A word that is one place more than the limit away from the word of zeros is corrected to another codeword, the
-/// generator polynomial, which is nearer.
+/// The generator polynomial is nearer there than the word of zeros.
 #[test]
 fn a_word_nearer_to_another_codeword_is_corrected_to_that(rt: HostRuntime) {
-    for (count, k) in BLOCKS {
-        if k % 2 == 0 {
-            assert!(rt; 1 <= k && k <= 68 && 0 < count && count <= 255 - k);
-            let word = generator_word(count, k);
-            let damaged = with_zeros(word, count + k / 2, k / 2);
-            assert!(rt; is_corrected(&damaged[..count + k], &word[..count + k], k, k / 2));
+    assert!(rt; all_are_corrected_to_the_generator());
+}
+
+/// Whether both solvers answer alike for so many codewords of the list, in each block.
+fn all_are_corrected_alike(list: &[u8; 255]) -> bool {
+    for (count, k) in &BLOCKS {
+        if !are_corrected_alike(part(list, 0, count.saturating_add(*k)), *k) {
+            return false;
         }
     }
+    true
 }
 
 /// The blocks of a symbol whose cells are all dark but for its borders: their codewords are all 255.
 #[test]
 fn blocks_of_dark_symbols_are_answered_alike(rt: HostRuntime) {
-    for (count, k) in BLOCKS {
-        assert!(rt; 1 <= k && k <= 68 && 0 < count && count <= 255 - k);
-        let word = &[255; 255][..count + k];
-        assert!(rt; correct(&Quick, word, k) == correct(&Elimination, word, k));
-    }
+    assert!(rt; all_are_corrected_alike(&[255; 255]));
 }

@@ -1,84 +1,123 @@
 //! Tests of the solvers of the key equation.
 
-ghost use Rattle.std.specs.Prelude.{◌*◌, ◌<◌, ◌≤◌, length};
+use super::correction::are_corrected_alike;
+use super::samples::{BLOCKS, WORD, codeword, part, with_errors};
+use crate::calls::syndromes_of;
+use arrayvec::ArrayVec;
+use dm_code::{Elimination, Key, KeySolver, Quick};
+use gf301::Meter;
 
-use super::samples::{BLOCKS, WORD, codeword, with_errors};
-use dm_code::{Elimination, KeySolver, Quick, correct, syndromes};
-
-/// Whether two lists are equal as polynomials of a degree below 35.
-fn are_same(p: &[u8], q: &[u8]) -> bool {
-    (0..35usize).all(|i| p.get(i).copied().unwrap_or(0) == q.get(i).copied().unwrap_or(0))
-}
-
-/// How many coefficients a polynomial has up to the last that isn't 0, the lowest power first.
-fn terms(p: &[u8]) -> usize {
-    match p.iter().rposition(|coefficient| *coefficient != 0) {
-        Some(last) => last + 1,
-        None => 0,
+/// What a solver answers; the pair of empty lists, which is none, where it may not be called.
+fn solved<S: KeySolver>(solver: &S, s: &[u8], t: usize) -> Option<Key> {
+    if s.len() <= 68 && t <= s.len() / 2 {
+        solver.solve(s, t)
+    } else {
+        Some(no_key())
     }
 }
 
-/// Whether a solver answers this pair.
-fn has_key<S: KeySolver>(solver: &S, s: &[u8], t: usize, locator: &[u8], evaluator: &[u8]) -> bool
-    requires few { length s.now ≤ 68 }
-    requires half { 2 * t ≤ length s.now }
-{
-    match solver.solve(s, t) {
+/// What `Quick` answers with its counts; the pair of empty lists, which is none, where it may not be called.
+fn solved_with_counts(s: &[u8], t: usize) -> (Option<Key>, Meter) {
+    if s.len() <= 68 && t <= s.len() / 2 {
+        Quick.solve_counted(s, t)
+    } else {
+        (Some(no_key()), Meter::default())
+    }
+}
+
+/// Two empty lists, which no solver answers, as a locator has the coefficient 1 of x^0.
+fn no_key() -> Key {
+    Key {
+        locator: ArrayVec::new(),
+        evaluator: ArrayVec::new(),
+    }
+}
+
+/// The coefficient of a power in a polynomial with the lowest power first.
+fn coefficient(p: &[u8], power: usize) -> u8 {
+    if power < p.len() { p[power] } else { 0 }
+}
+
+/// Whether two lists are equal as polynomials of a degree below 35.
+fn are_same(p: &[u8], q: &[u8]) -> bool {
+    for power in 0..35 {
+        if coefficient(p, power) != coefficient(q, power) {
+            return false;
+        }
+    }
+    true
+}
+
+/// How many coefficients a polynomial of a degree below 35 has up to the last that isn't 0, the lowest power first.
+fn terms(p: &[u8]) -> usize {
+    let mut count = 0;
+    for power in 0..35 {
+        if coefficient(p, power) != 0 {
+            count = power + 1;
+        }
+    }
+    count
+}
+
+/// Whether a solver's answer is this pair.
+fn is_key(answer: &Option<Key>, locator: &[u8], evaluator: &[u8]) -> bool {
+    match answer {
         Some(key) => are_same(&key.locator, locator) && are_same(&key.evaluator, evaluator),
         None => false,
     }
 }
 
-/// Whether `Quick` answers the same with and without counts, list by list, and the counts are within their bounds: from above
-/// for every answer, and from below: a product for each syndrome where there is an answer, a product where there is none,
-/// and an inversion where a locator other than 1 was found.
-fn is_counted(s: &[u8], t: usize) -> bool
-    requires few { length s.now ≤ 68 }
-    requires half { 2 * t ≤ length s.now }
-{
-    let k = s.len() as u32;
-    let (key, meter) = Quick.solve_counted(s, t);
-    let same = Quick.solve(s, t) == key;
-    let least = if key.is_some() { k } else { k.min(1) };
-    let terms = match &key {
-        Some(key) => terms(&key.locator),
-        None => 0,
-    };
-    let some = terms <= 1 || (meter.products > 0 && meter.inversions > 0);
-    let many = terms <= t || meter.products as usize >= t * t / 4;
-    let most = meter.products <= 4 * k * k && meter.inversions <= k;
-    same && most && meter.products >= least && some && many
+/// Whether two answers are equal as polynomials.
+fn is_like(answer: &Option<Key>, other: &Option<Key>) -> bool {
+    match other {
+        Some(key) => is_key(answer, &key.locator, &key.evaluator),
+        None => answer.is_none(),
+    }
+}
+
+/// Whether the counts of an answer for k syndromes and the limit t are within their bounds: from above for every answer, and from
+/// below: a product for each syndrome where there is an answer, a product where there is none, and an inversion where a locator
+/// other than 1 was found.
+fn is_within(meter: Meter, answer: &Option<Key>, k: usize, t: usize) -> bool {
+    let (products, inversions) = (meter.products as usize, meter.inversions as usize);
+    if k > 68 || t > 34 || products > 4 * k * k || inversions > k {
+        return false;
+    }
+    match answer {
+        Some(key) => {
+            let terms = terms(&key.locator);
+            products >= k
+                && (terms <= 1 || (products > 0 && inversions > 0))
+                && (terms <= t || products >= t * t / 4)
+        }
+        None => products >= k.min(1),
+    }
+}
+
+/// Whether `Quick` answers the same with and without counts, list by list, and the counts are within their bounds.
+fn is_counted(s: &[u8], t: usize) -> bool {
+    let (answer, meter) = solved_with_counts(s, t);
+    solved(&Quick, s, t) == answer && is_within(meter, &answer, s.len(), t)
 }
 
 /// Whether both solvers answer this pair, by counts within their bounds.
-fn have_key(s: &[u8], t: usize, locator: &[u8], evaluator: &[u8]) -> bool
-    requires few { length s.now ≤ 68 }
-    requires half { 2 * t ≤ length s.now }
-{
-    has_key(&Elimination, s, t, locator, evaluator)
-        && has_key(&Quick, s, t, locator, evaluator)
+fn have_key(s: &[u8], t: usize, locator: &[u8], evaluator: &[u8]) -> bool {
+    is_key(&solved(&Elimination, s, t), locator, evaluator)
+        && is_key(&solved(&Quick, s, t), locator, evaluator)
         && is_counted(s, t)
 }
 
 /// Whether both solvers find no pair, by counts within their bounds.
-fn have_no_key(s: &[u8], t: usize) -> bool
-    requires few { length s.now ≤ 68 }
-    requires half { 2 * t ≤ length s.now }
-{
-    Elimination.solve(s, t).is_none() && Quick.solve(s, t).is_none() && is_counted(s, t)
+fn have_no_key(s: &[u8], t: usize) -> bool {
+    solved(&Elimination, s, t).is_none() && solved(&Quick, s, t).is_none() && is_counted(s, t)
 }
 
 /// Whether both solvers answer the same for the syndromes of a word, by counts within their bounds.
-fn are_alike(word: &[u8], k: usize) -> bool
-    requires { k ≤ 68 }
-{
-    let s = syndromes(word, k);
+fn are_alike(word: &[u8], k: usize) -> bool {
+    let s = syndromes_of(word, k);
     let t = s.len() / 2;
-    let alike = match Elimination.solve(&s, t) {
-        Some(key) => has_key(&Quick, &s, t, &key.locator, &key.evaluator),
-        None => Quick.solve(&s, t).is_none(),
-    };
-    alike && is_counted(&s, t)
+    let alike = is_like(&solved(&Quick, &s, t), &solved(&Elimination, &s, t));
+    alike && s.len() == k && is_counted(&s, t)
 }
 
 /// Syndromes, limits, and the pair that solves the key equation.
@@ -93,9 +132,8 @@ static PAIRS: [(&[u8], usize, &[u8], &[u8]); 5] = [
 
 #[test]
 fn least_pairs(rt: HostRuntime) {
-    for (s, t, locator, evaluator) in PAIRS {
-        assert!(rt; s.len() <= 68 && 2 * t <= s.len());
-        assert!(rt; have_key(s, t, locator, evaluator));
+    for (s, t, locator, evaluator) in &PAIRS {
+        assert!(rt; have_key(s, *t, locator, evaluator));
     }
 }
 
@@ -109,15 +147,14 @@ static NO_PAIRS: [(&[u8], usize); 4] = [
 
 #[test]
 fn lists_without_a_pair(rt: HostRuntime) {
-    for (s, t) in NO_PAIRS {
-        assert!(rt; s.len() <= 68 && 2 * t <= s.len());
-        assert!(rt; have_no_key(s, t));
+    for (s, t) in &NO_PAIRS {
+        assert!(rt; have_no_key(s, *t));
     }
 }
 
 /// Whether both solvers answer the same, and correct alike, for a word with five checks.
 fn are_alike_with_five(word: &[u8; 8]) -> bool {
-    are_alike(word, 5) && correct(&Quick, word, 5) == correct(&Elimination, word, 5)
+    are_alike(word, 5) && are_corrected_alike(word, 5)
 }
 
 #[test]
@@ -127,29 +164,39 @@ fn both_solvers_answer_alike_at_side_10(rt: HostRuntime) {
     assert!(rt; are_alike_with_five(&[0, 0, 0, 114, 25, 5, 88, 102]));
 }
 
+/// Whether both solvers answer alike for a codeword with so many errors, at every `step`th place from the place `first` on.
+fn are_alike_with(
+    word: &[u8; 255],
+    length: usize,
+    k: usize,
+    first: usize,
+    step: usize,
+    changed: usize,
+) -> bool {
+    let damaged = with_errors(*word, first, step, changed);
+    are_alike(part(&damaged, 0, length), k)
+}
+
 /// Whether both solvers answer alike for a codeword with one error, with as many as can be corrected, and with one more, at every `step`th
 /// place from the place `first` on.
-fn are_alike_from(word: [u8; 255], length: usize, k: usize, first: usize, step: usize) -> bool
-    requires most { k ≤ 68 }
-    requires long { length ≤ 255 }
-    requires step { 0 < step }
-{
-    for changed in [1, k / 2, k / 2 + 1] {
-        if !are_alike(&with_errors(word, first, step, changed)[..length], k) {
-            return false;
-        }
-    }
-    true
+fn are_alike_from(word: &[u8; 255], length: usize, k: usize, first: usize, step: usize) -> bool {
+    are_alike_with(word, length, k, first, step, 1)
+        && are_alike_with(word, length, k, first, step, k / 2)
+        && are_alike_with(word, length, k, first, step, k / 2 + 1)
+}
+
+/// Whether both solvers answer alike for a block with errors at the first places, at the last, and at every second one.
+fn are_alike_in_block(count: usize, k: usize) -> bool {
+    let word = codeword(count, k);
+    let length = count.saturating_add(k);
+    are_alike_from(&word, length, k, 0, 1)
+        && are_alike_from(&word, length, k, length.saturating_sub(k / 2), 1)
+        && are_alike_from(&word, length, k, 0, 2)
 }
 
 #[test]
 fn both_solvers_answer_alike(rt: HostRuntime) {
-    for (count, k) in BLOCKS {
-        assert!(rt; 1 <= k && k <= 68 && 0 < count && count <= 255 - k);
-        let word = codeword(count, k);
-        let length = count + k;
-        assert!(rt; are_alike_from(word, length, k, 0, 1));
-        assert!(rt; are_alike_from(word, length, k, length - k / 2, 1));
-        assert!(rt; are_alike_from(word, length, k, 0, 2));
+    for (count, k) in &BLOCKS {
+        assert!(rt; are_alike_in_block(*count, *k));
     }
 }

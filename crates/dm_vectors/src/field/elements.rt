@@ -15,11 +15,19 @@ static POWERS: [(u16, u8); 9] = [
     (65535, 1),
 ];
 
+/// Whether each exponent has its power.
+fn all_are_powers() -> bool {
+    for (e, power) in &POWERS {
+        if Gf::power_of_two(*e) != Gf(*power) {
+            return false;
+        }
+    }
+    true
+}
+
 #[test]
 fn powers_of_two(rt: HostRuntime) {
-    for (e, power) in POWERS {
-        assert!(rt; Gf::power_of_two(e) == Gf(power));
-    }
+    assert!(rt; all_are_powers());
 }
 
 /// Factors, and their products.
@@ -32,22 +40,35 @@ static PRODUCTS: [(u8, u8, u8); 6] = [
     (1, 9, 9),
 ];
 
+/// Whether each two factors have their product.
+fn all_are_products() -> bool {
+    for (a, b, product) in &PRODUCTS {
+        if Gf(*a).mul(Gf(*b)) != Gf(*product) {
+            return false;
+        }
+    }
+    true
+}
+
 #[test]
 fn sums_and_products(rt: HostRuntime) {
-    for (a, b, product) in PRODUCTS {
-        assert!(rt; Gf(a).mul(Gf(b)) == Gf(product));
-    }
+    assert!(rt; all_are_products());
     assert!(rt; Gf(66).add(Gf(62)) == Gf(124));
+}
+
+/// Whether an element has this inverse.
+fn has_inverse(a: u8, inverse: u8) -> bool {
+    a != 0 && Gf(a).inverse() == Gf(inverse)
+}
+
+/// Whether an element has this logarithm.
+fn has_log(a: u8, log: u8) -> bool {
+    a != 0 && Gf(a).log() == log
 }
 
 #[test]
 fn inverses_and_logarithms(rt: HostRuntime) {
-    for (a, inverse) in [(1, 1), (2, 150), (23, Gf::power_of_two(227).0)] {
-        assert!(rt; a != 0);
-        assert!(rt; Gf(a).inverse() == Gf(inverse));
-    }
-    for (a, log) in [(1, 0), (45, 8), (150, 254)] {
-        assert!(rt; a != 0);
-        assert!(rt; Gf(a).log() == log);
-    }
+    let high = Gf::power_of_two(227).0;
+    assert!(rt; has_inverse(1, 1) && has_inverse(2, 150) && has_inverse(23, high));
+    assert!(rt; has_log(1, 0) && has_log(45, 8) && has_log(150, 254));
 }

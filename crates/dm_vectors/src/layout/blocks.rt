@@ -1,17 +1,23 @@
 //! Tests of blocks.
 
-use dm_layout::{MOST_CODEWORDS, Size, Words, block, put_block};
+use crate::calls::{block, put_block, size_of, words_of};
+use crate::messages::are_all;
+use dm_layout::{MOST_CODEWORDS, Words};
 
-/// Codewords of the size, each of which is the rest of its place by 251.
-fn counted(size: Size) -> Words {
+/// The codewords of this side, each of which is the rest of its place by 251.
+fn counted(side: u16) -> Words {
     let mut list = [0; MOST_CODEWORDS];
-    for (place, word) in list.iter_mut().enumerate() {
-        *word = (place % 251) as u8;
+    for place in 0..MOST_CODEWORDS {
+        list[place] = (place % 251) as u8;
     }
-    Words::new(
-        size,
-        &list[..(size.data_count() + size.check_count()) as usize],
-    )
+    words_of(size_of(side), &list)
+}
+
+/// Whether there are so many codewords, so many of them data codewords, and so many blocks.
+fn are_counted(words: &Words, count: usize, data_count: usize, blocks: u16) -> bool {
+    words.list().len() == count
+        && words.data_part().len() == data_count
+        && words.size().blocks() == blocks
 }
 
 /// Whether the block is every `step`th of such codewords, from the place `first` on.
@@ -26,39 +32,38 @@ fn takes_turns(dealt: &[u8], first: usize, step: usize) -> bool {
     true
 }
 
+/// Whether block `b` of so many has so many of such codewords, in turns.
+fn is_dealt(words: &Words, b: usize, blocks: usize, length: usize) -> bool {
+    let dealt = block(words, b);
+    dealt.len() == length && takes_turns(&dealt, b, blocks)
+}
+
 #[test]
 fn two_blocks_take_turns(rt: HostRuntime) {
-    let size = Size::of_side(52).expect(&rt, "side 52");
-    let words = counted(size);
-    assert!(rt; words.list().len() == 288);
-    assert!(rt; words.data_part().len() == 204);
-    assert!(rt; words.size().blocks() == 2);
-    let odd = block(&words, 1);
-    assert!(rt; odd.len() == 144);
-    assert!(rt; takes_turns(&odd, 1, 2));
+    let words = counted(52);
+    assert!(rt; are_counted(&words, 288, 204, 2));
+    assert!(rt; is_dealt(&words, 1, 2, 144));
+}
+
+/// Whether block `b` is so many times this codeword.
+fn is_filled(words: &Words, b: usize, word: u8, length: usize) -> bool {
+    let dealt = block(words, b);
+    dealt.len() == length && are_all(&dealt, word)
 }
 
 #[test]
 fn a_block_is_put_beside_the_other(rt: HostRuntime) {
-    let size = Size::of_side(52).expect(&rt, "side 52");
-    assert!(rt; size.data_count() + size.check_count() == 288);
-    assert!(rt; size.blocks() == 2);
-    let mut words = Words::new(size, &[7; 288]);
+    let mut words = words_of(size_of(52), &[7; 288]);
     put_block(&mut words, 1, &[9; 144]);
-    assert!(rt; block(&words, 0).as_slice() == [7; 144].as_slice());
-    assert!(rt; block(&words, 1).as_slice() == [9; 144].as_slice());
+    assert!(rt; are_counted(&words, 288, 204, 2));
+    assert!(rt; is_filled(&words, 0, 7, 144) && is_filled(&words, 1, 9, 144));
 }
 
 #[test]
 fn six_blocks_take_turns(rt: HostRuntime) {
-    let size = Size::of_side(104).expect(&rt, "side 104");
-    let words = counted(size);
-    assert!(rt; words.list().len() == 1152);
-    assert!(rt; words.data_part().len() == 816);
-    assert!(rt; words.size().blocks() == 6);
+    let words = counted(104);
+    assert!(rt; are_counted(&words, 1152, 816, 6));
     for b in 0..6 {
-        let dealt = block(&words, b);
-        assert!(rt; dealt.len() == 192);
-        assert!(rt; takes_turns(&dealt, b, 6));
+        assert!(rt; is_dealt(&words, b, 6, 192));
     }
 }

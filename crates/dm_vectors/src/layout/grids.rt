@@ -1,46 +1,79 @@
 //! Tests of grids.
 
+use crate::calls::{grid_with, is_dark_at, plain, side_of};
 use dm_layout::{Grid, GridFault};
+
+/// What `Grid::new` answers.
+fn of_cells(side: u16, cells: &[bool]) -> Result<Grid, GridFault> {
+    Grid::new(side, cells)
+}
+
+/// What `Grid::of_rows` answers.
+fn of_rows(side: u16, rows: &[u128]) -> Result<Grid, GridFault> {
+    Grid::of_rows(side, rows)
+}
+
+/// What `Grid::set_rows` answers.
+fn set_rows(grid: &mut Grid, side: u16, rows: &[u128]) -> Result<(), GridFault> {
+    grid.set_rows(side, rows)
+}
+
+/// Whether there is no grid for this reason.
+fn is_refused(answer: &Result<Grid, GridFault>, fault: GridFault) -> bool {
+    match answer {
+        Ok(_) => false,
+        Err(found) => *found == fault,
+    }
+}
 
 #[test]
 fn cells_that_make_no_grid(rt: HostRuntime) {
     let cells = [false; 121];
-    assert!(rt; Grid::new(11, &cells[..120]) == Err(GridFault::NotSquare));
-    assert!(rt; Grid::new(11, &cells) == Err(GridFault::NoSuchSize));
+    assert!(rt; is_refused(&of_cells(11, &cells[..120]), GridFault::NotSquare));
+    assert!(rt; is_refused(&of_cells(11, &cells), GridFault::NoSuchSize));
+}
+
+/// The cells of side 10, of which only that in row 2 and column 3 is dark.
+fn one_dark() -> [bool; 100] {
+    let mut cells = [false; 100];
+    cells[23] = true;
+    cells
 }
 
 #[test]
 fn cells_row_by_row(rt: HostRuntime) {
-    let mut cells = [false; 100];
-    let light = Grid::new(10, &cells).expect(&rt, "side 10");
-    cells[23] = true;
-    let grid = Grid::new(10, &cells).expect(&rt, "side 10");
-    assert!(rt; grid.size().side() == 10);
-    assert!(rt; grid.cell(2, 3));
-    assert!(rt; !grid.cell(3, 2));
-    assert!(rt; grid != light);
+    let grid = grid_with(10, &one_dark());
+    assert!(rt; side_of(&grid) == 10);
+    assert!(rt; is_dark_at(&grid, 2, 3) && !is_dark_at(&grid, 3, 2));
+    assert!(rt; grid != plain(10, false));
 }
+
+/// The rows of the same grid and one row more. The bits of columns 10 and 127 don't count.
+static ROWS: [u128; 11] = [0, 0, 1 << 3 | 1 << 10 | 1 << 127, 0, 0, 0, 0, 0, 0, 0, 0];
 
 #[test]
 fn rows_as_numbers(rt: HostRuntime) {
-    let mut cells = [false; 100];
-    cells[23] = true;
-    let mut rows = [0; 11];
-    // The bits of columns 10 and 127 don't count.
-    rows[2] = 1 << 3 | 1 << 10 | 1 << 127;
-    assert!(rt; Grid::of_rows(10, &rows[..10]) == Grid::new(10, &cells));
-    assert!(rt; Grid::of_rows(10, &rows[..9]) == Err(GridFault::NotSquare));
-    assert!(rt; Grid::of_rows(11, &rows) == Err(GridFault::NoSuchSize));
+    assert!(rt; of_rows(10, &ROWS[..10]) == of_cells(10, &one_dark()));
+    assert!(rt; is_refused(&of_rows(10, &ROWS[..9]), GridFault::NotSquare));
+    assert!(rt; is_refused(&of_rows(11, &ROWS), GridFault::NoSuchSize));
+}
+
+/// Whether rows that make no grid are refused, and leave the grid as it was before.
+fn is_kept(grid: &mut Grid, before: &Grid) -> bool {
+    set_rows(grid, 10, &[0; 9]) == Err(GridFault::NotSquare)
+        && set_rows(grid, 11, &[0; 11]) == Err(GridFault::NoSuchSize)
+        && *grid == *before
+}
+
+/// Whether a light grid of side 10 takes the place of the grid.
+fn becomes_light(grid: &mut Grid) -> bool {
+    set_rows(grid, 10, &[0; 10]).is_ok() && *grid == plain(10, false)
 }
 
 #[test]
 fn one_place_for_all_grids(rt: HostRuntime) {
-    let mut grid = Grid::of_rows(12, &[u128::MAX; 12]).expect(&rt, "side 12");
-    let dark = Grid::of_rows(12, &[u128::MAX; 12]).expect(&rt, "side 12");
-    assert!(rt; grid.set_rows(10, &[0; 9]) == Err(GridFault::NotSquare));
-    assert!(rt; grid.set_rows(11, &[0; 11]) == Err(GridFault::NoSuchSize));
-    assert!(rt; grid == dark);
-    assert!(rt; grid.set_rows(10, &[0; 10]).is_ok());
-    let light = Grid::new(10, &[false; 100]).expect(&rt, "side 10");
-    assert!(rt; grid == light);
+    let mut grid = plain(12, true);
+    assert!(rt; of_rows(12, &[u128::MAX; 12]) == of_cells(12, &[true; 144]));
+    assert!(rt; is_kept(&mut grid, &plain(12, true)));
+    assert!(rt; becomes_light(&mut grid));
 }

@@ -1,44 +1,30 @@
 //! Codewords laid into grids and lifted out of them.
 
-use dm_layout::{Grid, MOST_CODEWORDS, Size, Words, lay, lay_to, lift, lift_to, table};
-use std::process::Abort;
-use std::test::Fail;
-
-/// Codewords of this size that begin with these; the rest are 0.
-fn words_of(size: Size, front: &[u8]) -> Words {
-    let mut list = [0; MOST_CODEWORDS];
-    for (into, word) in list.iter_mut().zip(front) {
-        *into = *word;
-    }
-    Words::new(
-        size,
-        &list[..(size.data_count() + size.check_count()) as usize],
-    )
-}
+use crate::calls::{grid_of, is_dark_at, lay, lift, side_of, size_of, words_of};
+use dm_layout::{Grid, MOST_CODEWORDS, Size, Words, lay_to, lift_to, table};
 
 /// Whether each cell of the row is as drawn, 1 for dark.
-fn is_drawn_row(grid: &Grid, row: u16, drawn: &str) -> bool {
-    let mut cells = drawn.bytes();
-    let size = grid.size();
-    for column in 0..size.side() {
-        let dark = row < size.side() && grid.cell(row, column);
-        if cells.next() != Some(if dark { b'1' } else { b'0' }) {
+fn is_drawn_row(grid: &Grid, row: u16, drawn: &[u8]) -> bool {
+    let mut column = 0u16;
+    for cell in drawn {
+        if is_dark_at(grid, row, column) != (*cell == b'1') {
             return false;
         }
+        column = column.saturating_add(1);
     }
-    cells.next().is_none()
+    column == side_of(grid)
 }
 
 /// Whether each cell of the grid is as drawn, 1 for dark.
 fn is_drawn(grid: &Grid, drawn: &[&str]) -> bool {
-    let mut row = 0;
+    let mut row = 0u16;
     for cells in drawn {
-        if !is_drawn_row(grid, row, cells) {
+        if !is_drawn_row(grid, row, cells.as_bytes()) {
             return false;
         }
         row = row.saturating_add(1);
     }
-    row == grid.size().side()
+    row == side_of(grid)
 }
 
 /// The symbol of `123456`.
@@ -56,11 +42,9 @@ static WORKED: [&str; 10] = [
 ];
 
 #[test]
-fn worked_symbol(rt: HostRuntime) -> Result<(), Fail> {
-    let words = [142, 164, 186, 114, 25, 5, 88, 102];
-    let size = Size::of_side(10).ok_or("no size")?;
-    assert!(rt; is_drawn(&lay(&words_of(size, &words)), &WORKED));
-    Ok(())
+fn worked_symbol(rt: HostRuntime) {
+    let grid = grid_of(10, &[142, 164, 186, 114, 25, 5, 88, 102]);
+    assert!(rt; is_drawn(&grid, &WORKED));
 }
 
 /// The symbol of side 12 whose codewords are zeros, with its fixed square.
@@ -80,45 +64,61 @@ static ZEROS: [&str; 12] = [
 ];
 
 #[test]
-fn zeros_with_the_fixed_square(rt: HostRuntime) -> Result<(), Fail> {
-    let size = Size::of_side(12).ok_or("no size")?;
-    assert!(rt; is_drawn(&lay(&words_of(size, &[])), &ZEROS));
-    Ok(())
+fn zeros_with_the_fixed_square(rt: HostRuntime) {
+    assert!(rt; is_drawn(&grid_of(12, &[]), &ZEROS));
 }
 
 /// The codewords of this size, each of which is this many times its place.
 fn multiples(size: Size, factor: usize) -> Words {
     let mut list = [0; MOST_CODEWORDS];
-    for (place, word) in list.iter_mut().enumerate() {
-        *word = (place.wrapping_mul(factor) % 256) as u8;
+    for place in 0..MOST_CODEWORDS {
+        list[place] = (place.wrapping_mul(factor) % 256) as u8;
     }
     words_of(size, &list)
 }
 
-#[test]
-fn lifted_again(rt: HostRuntime) {
+/// Whether such codewords of each size are lifted out of their grid again.
+fn all_are_lifted_again() -> bool {
     for size in table() {
         let words = multiples(size, 37);
-        assert!(rt; lift(&lay(&words)).list() == words.list());
+        if lift(&lay(&words)).list() != words.list() {
+            return false;
+        }
     }
-}
-
-/// A grid and codewords hold those of this size, whatever they held before.
-fn assert_laid_and_lifted(rt: &impl Abort, size: Size, grid: &mut Grid, words: &mut Words) {
-    let expected = multiples(size, 91);
-    lay_to(&expected, grid);
-    assert!(rt; *grid == lay(&expected));
-    lift_to(grid, words);
-    assert!(rt; *words == expected);
+    true
 }
 
 #[test]
-fn one_place_for_all_symbols(rt: HostRuntime) -> Result<(), Fail> {
-    let largest = Size::of_side(104).ok_or("no size")?;
-    let mut grid = lay(&multiples(largest, 91));
+fn lifted_again(rt: HostRuntime) {
+    assert!(rt; all_are_lifted_again());
+}
+
+/// Lays codewords into a grid, and lifts them out of it.
+fn lay_and_lift(laid: &Words, grid: &mut Grid, words: &mut Words) {
+    lay_to(laid, grid);
+    lift_to(grid, words);
+}
+
+/// Whether a grid and codewords hold those of this size, whatever they held before.
+fn hold(size: Size, grid: &mut Grid, words: &mut Words) -> bool {
+    let expected = multiples(size, 91);
+    lay_and_lift(&expected, grid, words);
+    *grid == lay(&expected) && *words == expected
+}
+
+/// Whether one grid and one list of codewords hold those of one size after the other.
+fn hold_all() -> bool {
+    let mut grid = lay(&multiples(size_of(104), 91));
     let mut words = lift(&grid);
     for size in table() {
-        assert_laid_and_lifted(&rt, size, &mut grid, &mut words);
+        if !hold(size, &mut grid, &mut words) {
+            return false;
+        }
     }
-    Ok(())
+    true
+}
+
+#[test]
+fn one_place_for_all_symbols(rt: HostRuntime) {
+    assert!(rt; hold_all());
 }

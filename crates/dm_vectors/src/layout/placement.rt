@@ -1,19 +1,26 @@
 //! Placement: worked lists, and the number of places of each size.
 
-use dm_layout::{Cells, Size, table};
-use std::process::Abort;
-use std::test::Fail;
+use crate::calls::size_of;
+use dm_layout::{Cells, Place, Size, table};
 
-/// The cells of the lowest bits, codeword by codeword. That of a standard shape is its anchor, that of
+/// Whether the list has this place at this index.
+fn is_at(list: &[(u16, u16)], index: usize, place: Place) -> bool {
+    index < list.len() && list[index] == (place.row, place.column)
+}
+
+/// Whether these are the cells of the lowest bits, codeword by codeword. That of a standard shape is its anchor, that of
 /// corner 1 is (3, n-1), and that of corner 2 is (1, n-1).
-fn assert_lowest_bits(rt: &impl Abort, size: Size, expected: &[(u16, u16)]) {
-    let mut left = expected.iter();
+fn are_lowest_bits(size: Size, expected: &[(u16, u16)]) -> bool {
+    let mut count = 0usize;
     for place in Cells::new(size) {
         if place.bit == 8 {
-            assert!(rt; left.next().copied() == Some((place.row, place.column)));
+            if !is_at(expected, count, place) {
+                return false;
+            }
+            count = count.saturating_add(1);
         }
     }
-    assert!(rt; left.next().is_none());
+    count == expected.len()
 }
 
 /// The cells of the lowest bits in the mapping square of side 8, by codeword.
@@ -80,42 +87,63 @@ static ANCHORS_OF_14: [(u16, u16); 24] = [
 ];
 
 #[test]
-fn anchors_by_codeword_with_both_corners(rt: HostRuntime) -> Result<(), Fail> {
-    assert_lowest_bits(&rt, Size::of_side(10).ok_or("no size")?, &ANCHORS_OF_8);
-    assert_lowest_bits(&rt, Size::of_side(14).ok_or("no size")?, &ANCHORS_OF_12);
-    assert_lowest_bits(&rt, Size::of_side(16).ok_or("no size")?, &ANCHORS_OF_14);
-    Ok(())
+fn anchors_by_codeword_with_both_corners(rt: HostRuntime) {
+    assert!(rt; are_lowest_bits(size_of(10), &ANCHORS_OF_8));
+    assert!(rt; are_lowest_bits(size_of(14), &ANCHORS_OF_12));
+    assert!(rt; are_lowest_bits(size_of(16), &ANCHORS_OF_14));
+}
+
+/// The cells of the first codeword in the mapping square of side 8.
+static FIRST_OF_8: [(u16, u16); 8] = [
+    (2, 6),
+    (2, 7),
+    (3, 6),
+    (3, 7),
+    (3, 0),
+    (4, 6),
+    (4, 7),
+    (4, 0),
+];
+
+/// Whether these are the cells of the first codeword.
+fn are_first(size: Size, expected: &[(u16, u16)]) -> bool {
+    let mut count = 0usize;
+    for place in Cells::new(size) {
+        if place.word == 0 {
+            if !is_at(expected, count, place) {
+                return false;
+            }
+            count = count.saturating_add(1);
+        }
+    }
+    count == expected.len()
 }
 
 #[test]
-fn bits_of_the_first_codeword(rt: HostRuntime) -> Result<(), Fail> {
-    let expected = [
-        (2, 6),
-        (2, 7),
-        (3, 6),
-        (3, 7),
-        (3, 0),
-        (4, 6),
-        (4, 7),
-        (4, 0),
-    ];
-    let mut left = expected.iter();
-    for place in Cells::new(Size::of_side(10).ok_or("no size")?) {
-        if place.word == 0 {
-            assert!(rt; left.next().copied() == Some((place.row, place.column)));
+fn bits_of_the_first_codeword(rt: HostRuntime) {
+    assert!(rt; are_first(size_of(10), &FIRST_OF_8));
+}
+
+/// How many places a size has.
+fn place_count(size: Size) -> u16 {
+    let mut count = 0u16;
+    for _place in Cells::new(size) {
+        count = count.saturating_add(1);
+    }
+    count
+}
+
+/// Whether each size has eight places for each codeword.
+fn have_eight_places() -> bool {
+    for size in table() {
+        if place_count(size) != 8 * (size.data_count() + size.check_count()) {
+            return false;
         }
     }
-    assert!(rt; left.next().is_none());
-    Ok(())
+    true
 }
 
 #[test]
 fn eight_places_a_codeword(rt: HostRuntime) {
-    for size in table() {
-        let mut left = 0..8 * (size.data_count() + size.check_count());
-        for _place in Cells::new(size) {
-            assert!(rt; left.next().is_some());
-        }
-        assert!(rt; left.next().is_none());
-    }
+    assert!(rt; have_eight_places());
 }

@@ -1,5 +1,6 @@
 //! Tests of sizes.
 
+use crate::calls::size_of;
 use dm_layout::{Size, table};
 
 /// Side, regions, region side, mapping side, data, check, blocks, limit, as the standard's table has them.
@@ -39,12 +40,20 @@ fn is_row(size: Size, row: &[u16; 8]) -> bool {
         && size.limit() == row[7]
 }
 
+/// Whether each size of the table has its row, and is that with its side.
+fn all_have_rows() -> bool {
+    let sizes = table();
+    for i in 0..21 {
+        if !is_row(sizes[i], &ROWS[i]) || Size::of_side(ROWS[i][0]) != Some(sizes[i]) {
+            return false;
+        }
+    }
+    true
+}
+
 #[test]
 fn every_row_is_that_of_the_standard(rt: HostRuntime) {
-    for (size, row) in table().iter().zip(ROWS.iter()) {
-        assert!(rt; is_row(*size, row));
-        assert!(rt; Size::of_side(row[0]) == Some(*size));
-    }
+    assert!(rt; all_have_rows());
 }
 
 /// How many data codewords, and the side of the smallest size that holds them.
@@ -61,18 +70,24 @@ static SIDES: [(u16, u16); 10] = [
     (816, 104),
 ];
 
+/// Whether each count has its smallest side.
+fn all_have_sides() -> bool {
+    for (count, side) in &SIDES {
+        if Size::for_words(*count) != Size::of_side(*side) {
+            return false;
+        }
+    }
+    true
+}
+
 #[test]
 fn the_smallest_size_that_holds_the_words(rt: HostRuntime) {
-    for (count, side) in SIDES {
-        assert!(rt; Size::for_words(count) == Size::of_side(side));
-    }
-    assert!(rt; Size::for_words(817).is_none());
-    assert!(rt; Size::of_side(11).is_none());
+    assert!(rt; all_have_sides());
+    assert!(rt; Size::for_words(817).is_none() && Size::of_side(11).is_none());
 }
 
 #[test]
 fn the_largest_size_has_six_blocks(rt: HostRuntime) {
-    let size = Size::of_side(104).expect(&rt, "side 104");
-    assert!(rt; size.block_data() == 136);
-    assert!(rt; size.block_check() == 56);
+    let size = size_of(104);
+    assert!(rt; size.block_data() == 136 && size.block_check() == 56);
 }

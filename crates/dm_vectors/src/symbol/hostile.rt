@@ -1,22 +1,6 @@
 //! Damaged symbols and grids that are none.
 
 use super::*;
-use dm_layout::LARGEST_SIDE;
-
-/// The cells of the largest symbol.
-const MOST_CELLS: usize = LARGEST_SIDE * LARGEST_SIDE;
-
-/// A grid of this side whose cells are all dark or all light.
-fn plain(rt: &impl Abort, side: u16, dark: bool) -> Grid {
-    let mut cells: ArrayVec<bool, MOST_CELLS> = ArrayVec::new();
-    for _ in 0..u32::from(side) * u32::from(side) {
-        assert!(rt; cells.try_push(dark).is_ok());
-    }
-    let Ok(grid) = Grid::new(side, &cells) else {
-        panic!(rt; "no grid");
-    };
-    grid
-}
 
 /// Whether a right border is dark at this row and column of its region, of this side.
 fn is_dark(row: u16, column: u16, square: u16) -> bool {
@@ -25,103 +9,116 @@ fn is_dark(row: u16, column: u16, square: u16) -> bool {
 }
 
 /// The grid with a right border and all other cells light.
-fn empty(rt: &impl Abort, size: Size) -> Grid {
-    let square = size.region_side() + 2;
+fn empty(size: Size) -> Grid {
+    let (side, square) = (size.side(), size.region_side() + 2);
     let mut cells: ArrayVec<bool, MOST_CELLS> = ArrayVec::new();
-    for row in 0..size.side() {
-        for column in 0..size.side() {
-            let dark = is_dark(row % square, column % square, square);
-            assert!(rt; cells.try_push(dark).is_ok());
+    for row in 0..side {
+        for column in 0..side {
+            let _room = cells.try_push(is_dark(row % square, column % square, square));
         }
     }
-    let Ok(grid) = Grid::new(size.side(), &cells) else {
-        panic!(rt; "no grid");
-    };
-    grid
+    grid_with(side, &cells)
 }
 
-/// The codewords of `123456` with these changes.
-fn changed(changes: &[(usize, u8)]) -> [u8; 8] {
-    let mut words = DIGITS;
-    for (place, change) in changes {
-        if let Some(word) = words.get_mut(*place) {
-            *word ^= *change;
-        }
+/// The codewords of `123456` with a change at one place.
+fn changed(words: [u8; 8], place: usize, change: u8) -> [u8; 8] {
+    let mut words = words;
+    if place < 8 {
+        words[place] ^= change;
     }
     words
 }
 
-/// The codewords of `123456` with these changes are read as it, with so many codewords corrected.
-fn assert_read(rt: &impl Abort, changes: &[(usize, u8)], corrected: u8) {
-    let grid = grid_of(rt, 10, &changed(changes));
-    assert!(rt; says(&read(&grid, 2), b"123456", &[corrected], 0));
+/// Whether the codewords are read as `123456`, with so many of them corrected.
+fn is_read(words: &[u8; 8], corrected: u8) -> bool {
+    says(&grid_of(10, words), 2, b"123456", &[corrected], 0)
+}
+
+/// Whether each change of the codeword at this place is corrected.
+fn is_each_change_corrected(place: usize) -> bool {
+    for change in 1..=255u8 {
+        if !is_read(&changed(DIGITS, place, change), 1) {
+            return false;
+        }
+    }
+    true
 }
 
 #[test]
 fn corrects_each_one_codeword(rt: HostRuntime) {
-    for i in 0..8 {
-        for change in 1..=255u8 {
-            assert_read(&rt, &[(i, change)], 1);
+    for place in 0..8 {
+        assert!(rt; is_each_change_corrected(place));
+    }
+}
+
+/// Whether a change at this place and at each place before it is corrected.
+fn is_each_pair_corrected(i: usize) -> bool {
+    for j in 0..i {
+        if !is_read(&changed(changed(DIGITS, i, 1), j, 255), 2)
+            || !is_read(&changed(changed(DIGITS, i, 255), j, 1), 2)
+        {
+            return false;
         }
     }
+    true
 }
 
 #[test]
 fn corrects_each_two_codewords(rt: HostRuntime) {
     for i in 0..8 {
-        for j in 0..i {
-            assert_read(&rt, &[(i, 1), (j, 255)], 2);
-            assert_read(&rt, &[(i, 255), (j, 1)], 2);
-        }
+        assert!(rt; is_each_pair_corrected(i));
     }
 }
 
-/// These codewords are refused for their block.
-fn assert_refused(rt: &impl Abort, side: u16, words: &[u8], limit: u16) {
-    assert!(rt; read(&grid_of(rt, side, words), limit) == Err(ReadFault::Block(0)));
+/// Whether changes at these two places and at each place before them are refused.
+fn is_each_triple_refused(i: usize, j: usize) -> bool {
+    for k in 0..j {
+        let words = changed(changed(changed(DIGITS, i, 255), j, 255), k, 255);
+        if !is_refused(&grid_of(10, &words), 2, ReadFault::Block(0)) {
+            return false;
+        }
+    }
+    true
 }
 
 #[test]
 fn refuses_each_three_codewords(rt: HostRuntime) {
     for i in 0..8 {
         for j in 0..i {
-            for k in 0..j {
-                let words = changed(&[(i, 255), (j, 255), (k, 255)]);
-                assert_refused(&rt, 10, &words, 2);
-            }
+            assert!(rt; is_each_triple_refused(i, j));
         }
     }
 }
 
 /// The codewords with those turned over whose bits these places have.
-fn turned_over(words: &[u8; 12], places: u16) -> [u8; 12] {
-    let mut turned = *words;
-    for (i, word) in turned.iter_mut().enumerate() {
-        if i < 12 && (places >> i) % 2 == 1 {
-            *word ^= 255;
+fn turned_over(words: &[u8], places: u16) -> Codewords {
+    let mut turned = Codewords::new();
+    for i in 0..12 {
+        if i < words.len() {
+            let change = if (places >> i) % 2 == 1 { 255 } else { 0 };
+            add_word(&mut turned, words[i] ^ change);
         }
     }
     turned
 }
 
-/// A word of the symbol of side 12, data and then checks.
-fn word_of_side_12(rt: &impl Abort) -> [u8; 12] {
-    let right = completed_grid(rt, 12, &[66, 129, 70, 220, 115]);
-    let mut words = [0; 12];
-    for (into, word) in words.iter_mut().zip(lift(&right).list()) {
-        *into = *word;
+/// Whether four of the codewords of side 12 turned over are refused, whichever they are.
+fn are_all_four_refused() -> bool {
+    let right = lift(&completed_grid(12, &[66, 129, 70, 220, 115]));
+    for places in 0..4096u16 {
+        if places.count_ones() == 4 {
+            let grid = grid_of(12, &turned_over(right.list(), places));
+            if !is_refused(&grid, 3, ReadFault::Block(0)) {
+                return false;
+            }
+        }
     }
-    words
+    true
 }
 
 #[test]
 fn refuses_each_four_codewords_of_side_12(rt: HostRuntime) {
-    let right = word_of_side_12(&rt);
-    for places in 0..4096u16 {
-        if places.count_ones() == 4 {
-            assert_refused(&rt, 12, &turned_over(&right, places), 3);
-        }
-    }
+    assert!(rt; are_all_four_refused());
 }
 
 /// Sides, whether all cells are dark, and how many cells of the border are then wrong.
@@ -134,53 +131,74 @@ static PLAIN: [(u16, bool, u16); 6] = [
     (104, true, 400),
 ];
 
+/// Whether each grid of one colour is refused for its border.
+fn plain_are_refused() -> bool {
+    for (side, dark, count) in &PLAIN {
+        if !is_refused(
+            &plain(*side, *dark),
+            usual_limit(*side),
+            ReadFault::Border(*count),
+        ) {
+            return false;
+        }
+    }
+    true
+}
+
 #[test]
 fn refuses_plain_grids(rt: HostRuntime) {
-    for (side, dark, count) in PLAIN {
-        let answer = read(&plain(&rt, side, dark), usual_limit(side));
-        assert!(rt; answer == Err(ReadFault::Border(count)));
+    assert!(rt; plain_are_refused());
+}
+
+/// Whether a grid of each size with nothing but its border is refused for its codewords.
+fn empty_are_refused() -> bool {
+    for size in table() {
+        let fault = ReadFault::Words(WordFault::Reserved(1));
+        if !is_refused(&empty(size), usual_limit(size.side()), fault) {
+            return false;
+        }
     }
+    true
 }
 
 #[test]
 fn refuses_empty_grids(rt: HostRuntime) {
-    for size in table() {
-        let answer = read(&empty(&rt, size), usual_limit(size.side()));
-        assert!(rt; answer == Err(ReadFault::Words(WordFault::Reserved(1))));
-    }
+    assert!(rt; empty_are_refused());
 }
 
 /// The grid of side 10 with two cells turned over.
-fn with_two_turned(rt: &impl Abort, right: &Grid, i: u16, j: u16) -> Grid {
-    assert!(rt; right.size().side() == 10);
+fn with_two_turned(right: &Grid, i: u16, j: u16) -> Grid {
     let mut cells: ArrayVec<bool, 100> = ArrayVec::new();
     for place in 0..100u16 {
         let turned = place == i || place == j;
-        let cell = right.cell(place / 10, place % 10);
-        assert!(rt; cells.try_push(cell != turned).is_ok());
+        let _room = cells.try_push(is_dark_at(right, place / 10, place % 10) != turned);
     }
-    let Ok(grid) = Grid::new(10, &cells) else {
-        panic!(rt; "no grid");
-    };
-    grid
+    grid_with(10, &cells)
 }
 
-/// Whether the answer is a reading of these bytes.
-fn reads_as(answer: &Result<Reading, ReadFault>, text: &[u8]) -> bool {
-    match answer {
+/// Whether the grid is read as these bytes.
+fn reads_as(grid: &Grid, text: &[u8]) -> bool {
+    match read(grid, 2) {
         Ok(reading) => has_bytes(&reading.message, text),
         Err(_) => false,
     }
 }
 
+/// Whether the grid of `123456` is read with this cell and each cell before it turned over.
+fn is_read_with_two_turned(right: &Grid, i: u16) -> bool {
+    for j in 0..i {
+        if !reads_as(&with_two_turned(right, i, j), b"123456") {
+            return false;
+        }
+    }
+    true
+}
+
 /// Each two cells of a normal grid turned over.
 #[test]
 fn reads_with_two_cells_turned(rt: HostRuntime) {
-    let right = grid_of(&rt, 10, &DIGITS);
+    let right = grid_of(10, &DIGITS);
     for i in 0..100 {
-        for j in 0..i {
-            let grid = with_two_turned(&rt, &right, i, j);
-            assert!(rt; reads_as(&read(&grid, 2), b"123456"));
-        }
+        assert!(rt; is_read_with_two_turned(&right, i));
     }
 }

@@ -1,6 +1,7 @@
 //! Answers in places that held others.
 
 use super::*;
+use dm_symbol::{light_grid, normal_to, read_to, write_to};
 
 /// Places for answers, which hold whatever was answered last.
 #[derive(Drop)]
@@ -10,58 +11,70 @@ struct Places {
     normal_grid: Grid,
 }
 
-/// The places hold the grid of this message, what it says, and its normal grid, which is the same.
-fn assert_answers(rt: &impl Abort, places: &mut Places, profile: Profile, message: &Message) {
-    assert!(rt; write_to(profile, message, &mut places.grid).is_ok());
-    assert!(rt; is_grid(&write_as(profile, message), &places.grid));
-    assert!(rt; read_to(&places.grid, 0, &mut places.reading) == Ok(()));
-    assert!(rt; places.reading.message == *message);
-    assert!(rt; places.reading.corrected.len() == usize::from(places.grid.size().blocks()));
-    assert_normal_answer(rt, places, profile, message);
+/// Whether the message was written into its place.
+fn is_written_to(profile: Profile, message: &Message, grid: &mut Grid) -> bool {
+    write_to(profile, message, grid).is_ok()
 }
 
-/// The places hold the normal grid of a grid that is normal, and what it says.
-fn assert_normal_answer(rt: &impl Abort, places: &mut Places, profile: Profile, message: &Message) {
-    let answer = normal_to(
+/// Whether the grid was read into its place.
+fn is_read_to(grid: &Grid, reading: &mut Reading) -> bool {
+    read_to(grid, 0, reading) == Ok(())
+}
+
+/// Normalises the grid in its place.
+fn normalise(profile: Profile, places: &mut Places) -> Result<(), NormalFault> {
+    normal_to(
         profile,
         &places.grid,
         0,
         &mut places.reading,
         &mut places.normal_grid,
-    );
-    assert!(rt; answer.is_ok());
-    assert!(rt; same(&places.normal_grid, &places.grid));
-    assert!(rt; places.reading.message == *message);
+    )
 }
 
-/// Codewords that are refused, with places that hold earlier answers.
-fn assert_refusals(rt: &impl Abort, places: &mut Places) {
-    let wrong = grid_of(rt, 12, &[0; 12]);
+/// Whether the reading has this message, with a count of corrected codewords for each block of the grid.
+fn is_reading(reading: &Reading, message: &Message, grid: &Grid) -> bool {
+    reading.message == *message && reading.corrected.len() == usize::from(grid.size().blocks())
+}
+
+/// Whether the places hold the grid of this message and what it says.
+fn hold_grid(places: &mut Places, profile: Profile, message: &Message) -> bool {
+    is_written_to(profile, message, &mut places.grid)
+        && is_grid(&write_as(profile, message), &places.grid)
+        && is_read_to(&places.grid, &mut places.reading)
+        && is_reading(&places.reading, message, &places.grid)
+}
+
+/// Whether the places hold the normal grid of their grid, which is the same, and what it says.
+fn hold_normal_grid(places: &mut Places, profile: Profile, message: &Message) -> bool {
+    normalise(profile, places).is_ok()
+        && same(&places.normal_grid, &places.grid)
+        && places.reading.message == *message
+}
+
+/// Whether the places hold the answers for so many bytes 200 under both profiles.
+fn hold(places: &mut Places, count: usize) -> bool {
+    let message = of_many(200, count);
+    hold_grid(places, Profile::Ascii, &message)
+        && hold_normal_grid(places, Profile::Ascii, &message)
+        && hold_grid(places, Profile::Shorter, &message)
+        && hold_normal_grid(places, Profile::Shorter, &message)
+}
+
+/// Whether codewords are refused, with places that hold earlier answers.
+fn are_refused(places: &mut Places) -> bool {
     let fault = ReadFault::Words(WordFault::Reserved(1));
-    assert!(rt; read_to(&wrong, 0, &mut places.reading) == Err(fault));
-    let answer = normal_to(
-        Profile::Ascii,
-        &wrong,
-        0,
-        &mut places.reading,
-        &mut places.grid,
-    );
-    assert!(rt; answer == Err(NormalFault::Read(fault)));
+    places.grid = grid_of(12, &[]);
+    read_to(&places.grid, 0, &mut places.reading) == Err(fault)
+        && normalise(Profile::Ascii, places) == Err(NormalFault::Read(fault))
 }
 
-/// A message that is too long for ASCII alone, with places that hold earlier answers.
-fn assert_too_long(rt: &impl Abort, places: &mut Places) {
-    let long = of_many(rt, 200, 409);
-    assert!(rt; write_to(Profile::Ascii, &long, &mut places.grid).is_err());
-    assert!(rt; write_to(Profile::Shorter, &long, &mut places.grid).is_ok());
-    let answer = normal_to(
-        Profile::Ascii,
-        &places.grid,
-        0,
-        &mut places.reading,
-        &mut places.normal_grid,
-    );
-    assert!(rt; answer == Err(NormalFault::TooLong));
+/// Whether a message is too long for ASCII alone, with places that hold earlier answers.
+fn is_too_long_for_ascii(places: &mut Places) -> bool {
+    let long = of_many(200, 409);
+    !is_written_to(Profile::Ascii, &long, &mut places.grid)
+        && is_written_to(Profile::Shorter, &long, &mut places.grid)
+        && normalise(Profile::Ascii, places) == Err(NormalFault::TooLong)
 }
 
 /// One place after the other holds the answer to the last grid or message, whatever stood there before.
@@ -72,13 +85,9 @@ fn answers_in_places(rt: HostRuntime) {
         grid: light_grid(),
         normal_grid: light_grid(),
     };
-    assert!(rt; places.grid.size().side() == 10);
+    assert!(rt; side_of(&places.grid) == 10);
     for count in [90, 3, 0, 40] {
-        let message = of_many(&rt, 200, count);
-        for profile in [Profile::Ascii, Profile::Shorter] {
-            assert_answers(&rt, &mut places, profile, &message);
-        }
+        assert!(rt; hold(&mut places, count));
     }
-    assert_refusals(&rt, &mut places);
-    assert_too_long(&rt, &mut places);
+    assert!(rt; are_refused(&mut places) && is_too_long_for_ascii(&mut places));
 }

@@ -1,151 +1,159 @@
 //! Normal grids under the shorter profile, and from one profile to the other.
 
-use super::larger::{push_pads, randomised, segment_grid};
+use super::larger::{add_pads, largest_segment_grid, segment_grid};
 use super::*;
 
-/// The normal grid of the message under a profile.
-fn written(rt: &impl Abort, profile: Profile, message: &Message) -> Grid {
-    let Ok(grid) = write_as(profile, message) else {
-        panic!(rt; "too long");
-    };
-    grid
-}
-
-/// The grid is read as the message with nothing corrected, and has these normal grids under the two profiles.
-fn assert_both(rt: &impl Abort, grid: &Grid, message: &Message, ascii: &Grid, shorter: &Grid) {
-    let Ok(reading) = read(grid, 0) else {
-        panic!(rt; "refused");
-    };
-    assert!(rt; reading.message.items() == message.items());
-    for count in reading.corrected {
-        assert!(rt; count == 0);
+/// Whether the grid is read as the message with nothing corrected.
+fn says_message(grid: &Grid, message: &Message) -> bool {
+    match read(grid, 0) {
+        Ok(reading) => {
+            has_items(&reading.message, message.items()) && are_all(&reading.corrected, 0)
+        }
+        Err(_) => false,
     }
-    assert!(rt; is_grid(&normal_as(Profile::Ascii, grid, 0), ascii));
-    assert!(rt; is_grid(&normal_as(Profile::Shorter, grid, 0), shorter));
-    assert!(rt; is_grid(&normal(grid, 0), ascii));
 }
 
-/// Each profile's normal grid of the message is read as it with nothing corrected, stays under its own profile, and becomes the other's
-/// under the other.
-fn goes_both_ways(rt: &impl Abort, message: &Message) {
-    let ascii = written(rt, Profile::Ascii, message);
-    let shorter = written(rt, Profile::Shorter, message);
-    assert_both(rt, &ascii, message, &ascii, &shorter);
-    assert_both(rt, &shorter, message, &ascii, &shorter);
+/// Whether the grid has these normal grids under the two profiles.
+fn becomes_both(grid: &Grid, ascii: &Grid, shorter: &Grid) -> bool {
+    becomes_under(Profile::Ascii, grid, 0, ascii)
+        && becomes_under(Profile::Shorter, grid, 0, shorter)
+        && becomes(grid, 0, ascii)
+}
+
+/// Whether each profile's normal grid of the message is read as it with nothing corrected, stays under its own profile, and becomes the
+/// other's under the other.
+fn goes_both_ways(message: &Message) -> bool {
+    let Ok(ascii) = write_as(Profile::Ascii, message) else {
+        return false;
+    };
+    let Ok(shorter) = write_as(Profile::Shorter, message) else {
+        return false;
+    };
+    says_message(&ascii, message)
+        && says_message(&shorter, message)
+        && becomes_both(&ascii, &ascii, &shorter)
+        && becomes_both(&shorter, &ascii, &shorter)
+}
+
+/// Whether the normal grid of so many bytes under the profile has this side and these data codewords.
+fn is_written(profile: Profile, byte: u8, count: usize, side: u16, data_words: &[u8]) -> bool {
+    is_of(&write_as(profile, &of_many(byte, count)), side, data_words)
 }
 
 /// Three bytes of value 128: a segment at side 12, ASCII at side 14. Two stay in ASCII.
 #[test]
 fn writes_segments(rt: HostRuntime) {
-    let three = of_many(&rt, 128, 3);
-    let shorter = write_as(Profile::Shorter, &three);
-    assert!(rt; is_of(&shorter, 12, &[231, 47, 65, 215, 108]));
-    let ascii = write_as(Profile::Ascii, &three);
-    assert!(rt; is_of(&ascii, 14, &[235, 1, 235, 1, 235, 1, 129, 56]));
-    let two = write_as(Profile::Shorter, &of_many(&rt, 128, 2));
-    assert!(rt; is_of(&two, 12, &[235, 1, 235, 1, 129]));
+    assert!(rt; is_written(Profile::Shorter, 128, 3, 12, &[231, 47, 65, 215, 108]));
+    assert!(rt;
+        is_written(
+            Profile::Ascii,
+            128,
+            3,
+            14,
+            &[235, 1, 235, 1, 235, 1, 129, 56]
+        )
+    );
+    assert!(rt; is_written(Profile::Shorter, 128, 2, 12, &[235, 1, 235, 1, 129]));
 }
 
-/// FNC1 before four bytes of value 128.
-static MARKED: [Item; 5] = [
-    Item::Fnc1,
-    Item::Byte(128),
-    Item::Byte(128),
-    Item::Byte(128),
-    Item::Byte(128),
-];
+/// Whether the answer is a grid of this side whose first data codewords are these.
+fn begins<E>(answer: &Result<Grid, E>, side: u16, front: &[u8]) -> bool {
+    match answer {
+        Ok(grid) => side_of(grid) == side && lift(grid).data_part().starts_with(front),
+        Err(_) => false,
+    }
+}
 
 #[test]
 fn writes_fnc1_in_ascii(rt: HostRuntime) {
-    let grid = written(&rt, Profile::Shorter, &of_items(&rt, &MARKED));
-    assert!(rt; grid.size().side() == 16);
-    let words = lift(&grid);
-    assert!(rt;
-        words
-            .data_part()
-            .starts_with(&[232, 235, 1, 235, 1, 235, 1, 235, 1])
-    );
+    let marked = write_as(Profile::Shorter, &of_items(&MARKED));
+    assert!(rt; begins(&marked, 16, &[232, 235, 1, 235, 1, 235, 1, 235, 1]));
 }
 
 /// A length of two codewords.
 #[test]
 fn writes_a_long_segment(rt: HostRuntime) {
-    let mut expected = ArrayVec::<u8, MOST_CODEWORDS>::new();
-    assert!(rt; expected.try_extend_from_slice(&[231, 38, 193]).is_ok());
-    for place in 4..254 {
-        assert!(rt; expected.try_push(randomised(255, place)).is_ok());
-    }
-    push_pads(&rt, &mut expected, 280);
-    let long = write_as(Profile::Shorter, &of_many(&rt, 255, 250));
-    assert!(rt; is_of(&long, 64, &expected));
+    let mut expected = segment(&[231, 38, 193], 255, 253);
+    add_pads(&mut expected, 280);
+    assert!(rt; is_written(Profile::Shorter, 255, 250, 64, &expected));
 }
 
 /// A symbol that a segment fills.
 #[test]
 fn writes_the_longest_segment(rt: HostRuntime) {
-    let full = of_many(&rt, 255, 813);
-    let largest = segment_grid(&rt, 104, &[252, 63]);
-    assert!(rt; is_grid(&write_as(Profile::Shorter, &full), &largest));
+    let full = of_many(255, 813);
+    assert!(rt; is_grid(&write_as(Profile::Shorter, &full), &largest_segment_grid()));
     assert!(rt; write(&full).is_err());
-    assert!(rt; normal_as(Profile::Ascii, &largest, 0).err() == Some(NormalFault::TooLong));
-    assert!(rt; is_grid(&normal_as(Profile::Shorter, &largest, 0), &largest));
+}
+
+#[test]
+fn normalises_the_longest_segment(rt: HostRuntime) {
+    let largest = largest_segment_grid();
+    assert!(rt;
+        is_fault(
+            &normal_as(Profile::Ascii, &largest, 0),
+            NormalFault::TooLong
+        )
+    );
+    assert!(rt; becomes_under(Profile::Shorter, &largest, 0, &largest));
 }
 
 #[test]
 fn refuses_what_fits_no_symbol(rt: HostRuntime) {
-    let more = of_many(&rt, 255, 814);
-    for profile in [Profile::Ascii, Profile::Shorter] {
-        assert!(rt; write_as(profile, &more).is_err());
+    let more = of_many(255, 814);
+    assert!(rt; is_too_long(Profile::Ascii, &more) && is_too_long(Profile::Shorter, &more));
+}
+
+/// Whether the grid of side 52 that a segment fills comes back from its normal grid under ASCII.
+fn comes_back(segment: &Grid) -> bool {
+    match normal(segment, 13) {
+        Ok(ascii) => {
+            side_of(&ascii) == 80 && becomes_under(Profile::Shorter, &ascii, 20, segment)
+        }
+        Err(_) => false,
     }
 }
 
 /// A symbol that one segment fills is normal under the shorter profile, and comes back from ASCII.
 #[test]
 fn goes_from_profile_to_profile(rt: HostRuntime) {
-    let segment = segment_grid(&rt, 52, &[202]);
-    assert!(rt; is_grid(&normal_as(Profile::Shorter, &segment, 13), &segment));
-    let Ok(ascii) = normal(&segment, 13) else {
-        panic!(rt; "refused");
-    };
-    assert!(rt; ascii.size().side() == 80);
-    assert!(rt; is_grid(&normal_as(Profile::Shorter, &ascii, 20), &segment));
+    let segment = segment_grid();
+    assert!(rt; becomes_under(Profile::Shorter, &segment, 13, &segment) && comes_back(&segment));
+}
+
+/// Bytes, and how many of them make a message.
+static MESSAGES: [(u8, usize); 5] = [(128, 0), (128, 1), (128, 3), (200, 60), (255, 249)];
+
+/// Whether the messages of equal bytes go both ways.
+fn all_go_both_ways() -> bool {
+    for (byte, count) in &MESSAGES {
+        if !goes_both_ways(&of_many(*byte, *count)) {
+            return false;
+        }
+    }
+    true
 }
 
 #[test]
 fn goes_both_ways_between_the_profiles(rt: HostRuntime) {
-    for (byte, count) in [(128, 0), (128, 1), (128, 3), (200, 60), (255, 249)] {
-        goes_both_ways(&rt, &of_many(&rt, byte, count));
-    }
-    goes_both_ways(&rt, &of_bytes(&rt, b"123456"));
+    assert!(rt; all_go_both_ways());
+    assert!(rt; goes_both_ways(&of_bytes(b"123456")));
 }
 
-/// Whether the answer is a grid of this side whose first data codewords are these.
-fn begins(answer: &Result<Grid, NormalFault>, side: u16, front: &[u8]) -> bool {
-    match answer {
-        Ok(grid) => grid.size().side() == side && lift(grid).data_part().starts_with(front),
-        Err(_) => false,
-    }
+/// Whether the grid of side 14 with these data codewords becomes a grid of this side under the shorter profile that begins with these.
+fn becomes_segment(data_words: &[u8], side: u16, front: &[u8]) -> bool {
+    let grid = completed_grid(14, data_words);
+    begins(&normal_as(Profile::Shorter, &grid, 3), side, front)
 }
 
 /// Whatever else it came in, a message of bytes of 128 and more becomes one segment; a length number 0 is written out.
 #[test]
 fn writes_the_length_out(rt: HostRuntime) {
-    let mut to_the_end = [231, randomised(0, 2), 0, 0, 0, 0, 0, 0];
-    for place in 3..9u16 {
-        to_the_end[usize::from(place) - 1] = randomised(200, place);
-    }
-    let grid = completed_grid(&rt, 14, &to_the_end);
-    assert!(rt;
-        begins(
-            &normal_as(Profile::Shorter, &grid, 3),
-            14,
-            &[231, randomised(6, 2)]
-        )
-    );
+    let to_the_end = segment(&[231, randomised(0, 2)], 200, 8);
+    assert!(rt; becomes_segment(&to_the_end, 14, &[231, randomised(6, 2)]));
 }
 
 #[test]
 fn normalises_runs_to_a_segment(rt: HostRuntime) {
-    let runs = completed_grid(&rt, 14, &[230, 10, 255, 10, 255, 10, 255, 129]);
-    assert!(rt; begins(&normal_as(Profile::Shorter, &runs, 3), 12, &[231]));
+    assert!(rt; becomes_segment(&[230, 10, 255, 10, 255, 10, 255, 129], 12, &[231]));
 }

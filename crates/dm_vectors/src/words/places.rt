@@ -17,30 +17,52 @@ static SHORTER: [(&[u8], &[u8]); 3] = [
     (b"A", &[66, 129, 70, 220, 115]),
 ];
 
-/// The message in its place becomes this text.
-fn take_text(rt: &impl Abort, message: &mut Message, text: &[u8]) {
-    message.clear();
-    for byte in text {
-        assert!(rt; message.push(Item::Byte(*byte)).is_ok());
+/// Whether the codewords are written into their place, with pads up to the size of side 12.
+fn is_written_to(message: &Message, words: &mut ArrayVec<u8, MOST_CODEWORDS>) -> bool {
+    if normal_words_to(Profile::Shorter, message, words).is_err() {
+        return false;
+    }
+    match Size::of_side(12) {
+        Some(size) if words.len() <= usize::from(size.data_count()) => {
+            add_pads(words, size);
+            true
+        }
+        _ => false,
     }
 }
 
-/// Appends pads up to the size of side 12.
-fn add_pads_to_12(rt: &impl Abort, words: &mut ArrayVec<u8, MOST_CODEWORDS>) {
-    let size = Size::of_side(12).expect(rt, "side 12");
-    assert!(rt; words.len() <= usize::from(size.data_count()));
-    add_pads(words, size);
+/// What the codewords spell, in its place, and the fault of no codeword where there are too many of them.
+fn read_to(words: &[u8], message: &mut Message) -> Result<(), WordFault> {
+    if words.len() > MOST_DATA {
+        return Err(WordFault::LeftOut(0, 0));
+    }
+    message_to(words, message)
 }
 
-/// The places hold the codewords of the text, and the message that these spell.
-fn assert_written_and_read(rt: &impl Abort, places: &mut Places, text: &[u8], expected: &[u8]) {
-    take_text(rt, &mut places.message, text);
-    assert!(rt; normal_words_to(Profile::Shorter, &places.message, &mut places.words).is_ok());
-    add_pads_to_12(rt, &mut places.words);
-    assert!(rt; places.words.as_slice() == expected);
-    assert!(rt; places.words.len() <= MOST_DATA);
-    assert!(rt; message_to(&places.words, &mut places.read).is_ok());
-    assert!(rt; places.read == places.message);
+/// Whether the places hold the codewords of the text, and the message that these spell.
+fn hold(places: &mut Places, text: &[u8], expected: &[u8]) -> bool {
+    places.message.clear();
+    add_bytes(&mut places.message, text);
+    is_written_to(&places.message, &mut places.words)
+        && places.words.as_slice() == expected
+        && read_to(&places.words, &mut places.read).is_ok()
+        && places.read == places.message
+}
+
+/// Whether the normal codewords of the letter A are written into their place under the profile.
+fn holds_letter(profile: Profile, places: &mut Places) -> bool {
+    normal_words_to(profile, &places.message, &mut places.words).is_ok()
+        && places.words.as_slice() == [66].as_slice()
+}
+
+/// Whether the places hold one text after the other.
+fn hold_all(places: &mut Places) -> bool {
+    for (text, expected) in &SHORTER {
+        if !hold(places, text, expected) {
+            return false;
+        }
+    }
+    true
 }
 
 /// One place after the other holds what was written and read last, whatever stood there before.
@@ -51,12 +73,9 @@ fn writes_and_reads_in_places(rt: HostRuntime) {
         message: Message::new(),
         read: Message::new(),
     };
-    for (text, expected) in SHORTER {
-        assert_written_and_read(&rt, &mut places, text, expected);
-    }
-    assert!(rt; message_to(&[240], &mut places.read) == Err(WordFault::LeftOut(240, 1)));
-    for profile in [Profile::Ascii, Profile::Shorter] {
-        assert!(rt; normal_words_to(profile, &places.message, &mut places.words).is_ok());
-        assert!(rt; places.words.as_slice() == [66].as_slice());
-    }
+    assert!(rt; hold_all(&mut places));
+    assert!(rt; read_to(&[240], &mut places.read) == Err(WordFault::LeftOut(240, 1)));
+    assert!(rt;
+        holds_letter(Profile::Ascii, &mut places) && holds_letter(Profile::Shorter, &mut places)
+    );
 }

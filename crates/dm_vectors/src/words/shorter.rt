@@ -2,58 +2,52 @@
 
 use super::*;
 
-/// The message of this byte so many times, behind so many times the letter A.
-fn letters_and(rt: &impl Abort, letters: usize, byte: u8, count: usize) -> Message {
-    let mut message = of_many(rt, b'A', letters);
-    for _ in 0..count {
-        assert!(rt; message.push(Item::Byte(byte)).is_ok());
+/// The normal codewords of the message under the profile.
+fn normal_of(profile: Profile, message: &Message) -> Option<ArrayVec<u8, MOST_DATA>> {
+    normal_words(profile, message).ok()
+}
+
+/// Whether the codewords, with pads up to the smallest size that holds them, are read as the message.
+fn spells_with_pads(words: &[u8], message: &Message) -> bool {
+    if words.len() > MOST_DATA {
+        return false;
     }
-    message
-}
-
-/// The message of these items.
-fn of_items(rt: &impl Abort, items: &[Item]) -> Message {
-    let mut message = Message::new();
-    for item in items {
-        assert!(rt; message.push(*item).is_ok());
+    match with_pads(words, Size::for_words(words.len() as u16)) {
+        Some(padded) => spells(&padded, message.items()),
+        None => false,
     }
-    message
 }
 
-/// The codewords, alone and with pads, are read as the message.
-fn assert_reads(rt: &impl Abort, words: &[u8], message: &Message) {
-    assert!(rt; words.len() <= MOST_DATA);
-    let Some(size) = Size::for_words(words.len() as u16) else {
-        panic!(rt; "no size");
-    };
-    assert!(rt; words.len() <= usize::from(size.data_count()));
-    assert!(rt; spells(words, message.items()));
-    assert!(rt; spells(&padded(words, size), message.items()));
+/// The shorter codewords of the message, where they are read as it, alone and with pads, and are the normal ones under `Shorter`.
+fn shorter_of(message: &Message) -> Option<ArrayVec<u8, MOST_DATA>> {
+    match shorter_words(message) {
+        Ok(words) if is_right(&words, message) => Some(words),
+        _ => None,
+    }
 }
 
-/// The shorter codewords of the message, which must be there and be read as it, alone and with pads.
-fn shorter_of(rt: &impl Abort, message: &Message) -> ArrayVec<u8, MOST_DATA> {
-    let Ok(words) = shorter_words(message) else {
-        panic!(rt; "too long");
-    };
-    assert_reads(rt, &words, message);
-    let Ok(again) = normal_words(Profile::Shorter, message) else {
-        panic!(rt; "too long");
-    };
-    assert!(rt; again.as_slice() == words.as_slice());
-    words
+/// Whether the codewords are read as the message, alone and with pads, and are the normal ones under `Shorter`.
+fn is_right(words: &[u8], message: &Message) -> bool {
+    spells(words, message.items())
+        && spells_with_pads(words, message)
+        && are_words(&normal_of(Profile::Shorter, message), words)
 }
 
-/// The shorter codewords of the message are these.
-fn assert_shorter(rt: &impl Abort, message: &Message, expected: &[u8]) {
-    assert!(rt; shorter_of(rt, message).as_slice() == expected);
+/// Whether the shorter codewords of the message are these.
+fn is_shorter(message: &Message, expected: &[u8]) -> bool {
+    are_words(&shorter_of(message), expected)
+}
+
+/// Whether the shorter codewords of one byte so many times are these.
+fn is_shorter_for(byte: u8, count: usize, expected: &[u8]) -> bool {
+    is_shorter(&of_many(byte, count), expected)
 }
 
 #[test]
 fn writes_the_shorter(rt: HostRuntime) {
-    assert_shorter(&rt, &of_many(&rt, 128, 3), &[231, 47, 65, 215, 108]);
-    assert_shorter(&rt, &of_many(&rt, 128, 2), &[235, 1, 235, 1]);
-    assert_shorter(&rt, &Message::new(), &[]);
+    assert!(rt; is_shorter_for(128, 3, &[231, 47, 65, 215, 108]));
+    assert!(rt; is_shorter_for(128, 2, &[235, 1, 235, 1]));
+    assert!(rt; is_shorter(&Message::new(), &[]));
 }
 
 /// The digits 1 to 6.
@@ -66,105 +60,103 @@ static DIGITS: [Item; 6] = [
     Item::Byte(b'6'),
 ];
 
-/// FNC1 before four bytes of value 128.
-static MARKED: [Item; 5] = [
-    Item::Fnc1,
-    Item::Byte(128),
-    Item::Byte(128),
-    Item::Byte(128),
-    Item::Byte(128),
-];
-
 #[test]
 fn writes_digits_and_fnc1_in_ascii(rt: HostRuntime) {
-    assert_shorter(&rt, &of_items(&rt, &DIGITS), &[142, 164, 186]);
-    let marked = of_items(&rt, &MARKED);
-    assert_shorter(&rt, &marked, &[232, 235, 1, 235, 1, 235, 1, 235, 1]);
+    assert!(rt; is_shorter(&of_items(&DIGITS), &[142, 164, 186]));
+    assert!(rt; is_shorter(&of_items(&MARKED), &[232, 235, 1, 235, 1, 235, 1, 235, 1]));
 }
 
 /// ASCII codewords under `Ascii` whatever they are.
 #[test]
 fn keeps_ascii_under_its_own_profile(rt: HostRuntime) {
-    let Ok(words) = normal_words(Profile::Ascii, &of_many(&rt, 128, 3)) else {
-        panic!(rt; "too long");
-    };
-    assert!(rt; words.as_slice() == [235, 1, 235, 1, 235, 1].as_slice());
-    assert!(rt; normal_words(Profile::Ascii, &of_many(&rt, 255, 813)).is_err());
+    let words = normal_of(Profile::Ascii, &of_many(128, 3));
+    assert!(rt; are_words(&words, &[235, 1, 235, 1, 235, 1]));
+    assert!(rt; normal_of(Profile::Ascii, &of_many(255, 813)).is_none());
 }
 
-/// So many bytes 255 are written as a segment that begins with this head, of so many length codewords, and goes on with the bytes.
-fn assert_segment(rt: &impl Abort, count: usize, field: usize, head: &[u8; 3]) {
-    let words = shorter_of(rt, &of_many(rt, 255, count));
-    assert!(rt; words.len() == count.saturating_add(field).saturating_add(1));
-    assert!(rt; words.starts_with(head));
-    for (index, word) in words.iter().enumerate() {
-        assert!(rt; index < 3 || *word == randomised(255, index as u16 + 1));
-    }
+/// Whether so many bytes 255 are written as a segment that begins with these codewords, and has so many.
+fn is_segment(count: usize, front: &[u8], length: u16) -> bool {
+    is_shorter_for(255, count, &segment(front, 255, length))
+}
+
+/// Segments with a length of one codeword.
+fn one_length_codeword() -> bool {
+    is_segment(202, &[231, randomised(202, 2)], 204) && is_segment(249, &[231, 37], 251)
+}
+
+/// Segments with a length of two codewords.
+fn two_length_codewords() -> bool {
+    is_segment(250, &[231, 38, 193], 253)
+        && is_segment(499, &[231, 38, randomised(249, 3)], 502)
+        && is_segment(500, &[231, 39, 193], 503)
+        && is_segment(813, &[231, 40, randomised(63, 3)], 816)
 }
 
 /// The length is written out, in one codeword or two, also where the segment fills the symbol.
 #[test]
 fn writes_the_length_out(rt: HostRuntime) {
-    for (count, length) in [(202, randomised(202, 2)), (249, 37)] {
-        assert_segment(&rt, count, 1, &[231, length, randomised(255, 3)]);
-    }
-    for (count, first, second) in [
-        (250, 38, 193),
-        (499, 38, randomised(249, 3)),
-        (500, 39, 193),
-        (813, 40, randomised(63, 3)),
-    ] {
-        assert_segment(&rt, count, 2, &[231, first, second]);
-    }
+    assert!(rt; one_length_codeword());
+    assert!(rt; two_length_codewords());
 }
 
 #[test]
 fn refuses_what_fits_no_symbol(rt: HostRuntime) {
-    let more = of_many(&rt, 255, 814);
+    let more = of_many(255, 814);
     assert!(rt; ascii_words(&more).is_err());
     assert!(rt; shorter_words(&more).is_err());
 }
 
-/// So many letters and bytes 200 take so many codewords, of which the first is a latch to Base 256 or not.
-fn assert_length(rt: &impl Abort, letters: usize, bytes: usize, length: usize, is_segment: bool) {
-    let words = shorter_of(rt, &letters_and(rt, letters, 200, bytes));
-    assert!(rt; words.len() == length);
-    assert!(rt; (words.first().copied() == Some(231)) == is_segment);
-}
-
-/// Where both forms are equally long it is ASCII: a byte of 128 or more takes one codeword more there.
-#[test]
-fn takes_ascii_at_a_tie(rt: HostRuntime) {
-    for (letters, bytes, length) in [
-        (0, 2, 4),
-        (1, 2, 5),
-        (247, 2, 251),
-        (247, 3, 253),
-        (810, 3, 816),
-    ] {
-        assert_length(&rt, letters, bytes, length, false);
+/// Whether the message takes so many codewords, of which the first is a latch to Base 256 or not.
+fn takes(message: &Message, length: usize, is_segment: bool) -> bool {
+    match shorter_of(message) {
+        Some(words) => {
+            words.len() == length && (words.first().copied() == Some(231)) == is_segment
+        }
+        None => false,
     }
 }
 
-/// One byte of 128 or more in place of a letter breaks the tie.
-#[test]
-fn takes_a_segment_behind_a_tie(rt: HostRuntime) {
-    for (letters, bytes, length) in [(0, 3, 5), (246, 3, 251), (246, 4, 253), (809, 4, 816)] {
-        assert_length(&rt, letters, bytes, length, true);
+/// The message of so many letters A and then so many bytes 200.
+fn letters_and_bytes(letters: usize, bytes: usize) -> Message {
+    let mut message = of_many(b'A', letters);
+    add_many(&mut message, 200, bytes);
+    message
+}
+
+/// Letters A and bytes 200, how many codewords they take, and whether these are a segment: where both forms are equally long it is
+/// ASCII, in which a byte of 128 or more takes one codeword more; one such byte in place of a letter breaks the tie.
+static TIES: [(usize, usize, usize, bool); 9] = [
+    (0, 2, 4, false),
+    (1, 2, 5, false),
+    (247, 2, 251, false),
+    (247, 3, 253, false),
+    (810, 3, 816, false),
+    (0, 3, 5, true),
+    (246, 3, 251, true),
+    (246, 4, 253, true),
+    (809, 4, 816, true),
+];
+
+/// Whether the letters and bytes of each row take its codewords.
+fn all_are_taken() -> bool {
+    for (letters, bytes, length, is_segment) in &TIES {
+        if !takes(&letters_and_bytes(*letters, *bytes), *length, *is_segment) {
+            return false;
+        }
     }
+    true
+}
+
+#[test]
+fn takes_ascii_at_a_tie_and_a_segment_behind_it(rt: HostRuntime) {
+    assert!(rt; all_are_taken());
 }
 
 /// The message of 200 items, FNC1 at this place and else bytes 255.
-fn with_fnc1_at(rt: &impl Abort, place: usize) -> Message {
-    let mut message = Message::new();
-    for index in 0..200 {
-        let item = if index == place {
-            Item::Fnc1
-        } else {
-            Item::Byte(255)
-        };
-        assert!(rt; message.push(item).is_ok());
-    }
+fn with_fnc1_at(place: usize) -> Message {
+    let mut message = of_many(255, place);
+    add(&mut message, Item::Fnc1);
+    add_many(&mut message, 255, 199usize.saturating_sub(place));
     message
 }
 
@@ -172,6 +164,6 @@ fn with_fnc1_at(rt: &impl Abort, place: usize) -> Message {
 #[test]
 fn keeps_fnc1_in_ascii(rt: HostRuntime) {
     for place in [0, 100, 199] {
-        assert!(rt; shorter_of(&rt, &with_fnc1_at(&rt, place)).len() == 399);
+        assert!(rt; takes(&with_fnc1_at(place), 399, false));
     }
 }
