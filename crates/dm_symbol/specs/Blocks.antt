@@ -33,8 +33,8 @@ block_at size words b = block_of size.blocks b words
 abbrev pub BlocksAreCodewords : SizeRow → List ℕ → Type 0
 BlocksAreCodewords size words = (b : ℕ) → b < size.blocks → IsCodeword (block_check size) (block_at size words b)
 
--- Each block of the words is near the same block of the other codewords: that is a codeword of its Reed-Solomon code, and the two differ
--- at no more places than half the number of check codewords.
+-- Each block of `words` is near the same block of `codewords`: the latter is a codeword of its Reed-Solomon code, and the two differ at
+-- no more places than half the number of check codewords.
 abbrev pub BlocksAreNear : SizeRow → List ℕ → List ℕ → Type 0
 BlocksAreNear size words codewords = (b : ℕ) → b < size.blocks → IsNear (block_check size) (block_at size words b) (block_at size codewords b)
 

@@ -16,7 +16,7 @@ IsMended k block mended (Some count) = IsNear k block mended × (count ≡ dista
 IsMended k block mended None = (HasNear k block → ⊥) × (mended ≡ block)
 
 -- The inspection of a grid gives the codewords that it holds; the same, with each block mended; for each block the number of places at which these
--- differ; and how many modules of the borders have the wrong colour.
+-- differ, or `None` where no codeword is near it; and how many modules of the borders have the wrong colour.
 pub record IsInspection (grid : GridView) (inspection : Inspection) : Type 0 where
   pub held : Holds grid inspection.held
   pub same_size : inspection.mended.size ≡ grid.size

@@ -29,7 +29,7 @@ abbrev pub BeginsWithDigit : List Item → Type 0
 BeginsWithDigit (Byte byte ∷ rest) = IsTrue (is_digit byte)
 BeginsWithDigit _ = ⊥
 
--- No unit that is one digit stands before a unit that begins with a digit.
+-- No unit that is one digit stands directly before a unit that begins with a digit.
 abbrev pub IsGreedy : List (Piece (List Item)) → Type 0
 IsGreedy [] = Unit {0}
 IsGreedy (unit ∷ []) = Unit {0}

@@ -27,11 +27,12 @@ pub record BeginsBadPair (words : List ℕ) : Type 0 where
   pub is_bad : (256 * high + low ≡ 0) ⊎ (64000 < 256 * high + low)
   pub whole : words ≡ high ∷ low ∷ more
 
--- No further pair follows: the codewords begin with the end of the run or with a bad pair.
+-- No further good pair follows: the codewords begin with the end of the run or with a bad pair.
 abbrev pub StopsPairs : List ℕ → Type 0
 StopsPairs words = EndsRun words ⊎ BeginsBadPair words
 
--- An open run is a run as far as its pairs go: where its latch stands, its codewords, and the values of its pairs.
+-- An open run is a run as far as its good pairs go: the place of its latch, how many codewords its pairs have and which codewords follow these, how
+-- many values its whole spellings have and which values follow those.
 pub record OpenRun : Type 0 where
   -- The latch stands at this place.
   pub place : ℕ
@@ -44,11 +45,11 @@ pub record OpenRun : Type 0 where
   -- These are the values behind the whole spellings.
   pub rest : List ℕ
 
--- The pair at this place holds the value of an index, which counts all values of the run from 0. The latch stands at `place`.
+-- The place of the pair that holds the value at an index, where the values of the run are counted from 0. The latch stands at `place`.
 abbrev pub pair_place : ℕ → ℕ → ℕ
 pair_place place index = place + 1 + 2 * (index / 3)
 
--- The pair at this place holds the value of an index, which counts the values behind the whole spellings from 0.
+-- The place of the pair that holds the value at an index, where the values behind the whole spellings are counted from 0.
 abbrev pub rest_place : OpenRun → ℕ → ℕ
 rest_place run index = pair_place run.place (run.spelled_values + index)
 
@@ -58,7 +59,7 @@ pub data IsRunFault (set : CodeSet) (run : OpenRun) (why : WordFault) : Type 0 w
   -- A value has no meaning after its shift.
   value : (index : ℕ) → BeginsWithoutMeaning set run.rest index → StopsPairs run.others
       → why ≡ fault.Value (rest_place run index) → IsRunFault set run why
-  -- An Upper Shift stands before FNC1 or another Upper Shift; the fault names the pair of its second value, 30.
+  -- An Upper Shift stands directly before FNC1 or another Upper Shift, which is a fault by a rule of this project; the fault names the pair of its second value, 30.
   upper_shift : BeginsWrongUpperShift set run.rest → StopsPairs run.others
       → why ≡ fault.UpperShift (rest_place run 1) → IsRunFault set run why
   -- The codewords behind the pairs begin with a bad pair.
@@ -69,7 +70,7 @@ pub data IsRunFault (set : CodeSet) (run : OpenRun) (why : WordFault) : Type 0 w
       → why ≡ fault.Unfinished (rest_place run 1) → IsRunFault set run why
 
 -- A faulty run is a latch, its pairs up to the end of the run or up to the first bad pair, and what is wrong with them. The values of the pairs,
--- joined, are whole spellings and a rest.
+-- joined, are whole spellings and a rest. `words` are all codewords from the latch to the end of the symbol.
 pub record IsFaultyRun (set : CodeSet) (place : ℕ) (words : List ℕ) (why : WordFault) : Type 0 where
   pub latch : ℕ
   pub is_latch : codeword_of latch ≡ Some (codeword.Latch set)

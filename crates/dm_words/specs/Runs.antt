@@ -24,14 +24,16 @@ pub record IsPair (words values : List ℕ) : Type 0 where
   pub words_are : words ≡ high ∷ low ∷ []
   pub values_are : values ≡ first ∷ second ∷ third ∷ []
 
--- A run ends in one of these ways; `after` are the codewords from there to the end of the symbol. The comments name the cases of the standard for
--- the end of the symbol (ISO/IEC 16022, C40 encodation), which hold in the same way for Text and X12.
+-- A run ends in one of these ways, each with its codewords; `after` are the codewords that follow these, up to the end of the symbol. The comments
+-- name the cases of the standard for the end of the symbol (ISO/IEC 16022, C40 encodation). They hold in the same way for Text; for X12 cases a, c and
+-- d do, and case b doesn't, since X12 has no shift to fill a pair with.
 pub data IsRunEnd (words after : List ℕ) : Type 0 where
-  -- The codeword Unlatch, 254, ends the run. Where one codeword is left behind it, for one last value, this is case c.
+  -- The codeword Unlatch, 254, ends the run. Where one codeword is left behind it, for one last value, this is case c; none needs to be left.
   unlatch : words ≡ 254 ∷ [] → IsRunEnd words after
-  -- No codeword ends the run where its last pair fills the symbol. These are cases a and b, by the number of values that are left for that pair.
+  -- No codeword ends the run where none is left in the symbol. These are cases a and b, by the number of values that are left for the last pair; a run
+  -- without pairs ends so too, by a rule of this project.
   symbol_end : words ≡ [] → after ≡ [] → IsRunEnd words after
-  -- No codeword ends the run where one is left in the symbol, which is read in ASCII; the Unlatch before it is taken as read. This is case d.
+  -- No codeword ends the run where one other than 254 is left in the symbol: an Unlatch before it is assumed, and it is read in ASCII. This is case d.
   last_word : (word : ℕ) → word ≢ 254 → words ≡ [] → after ≡ word ∷ [] → IsRunEnd words after
 
 -- A run is a latch, then pairs, then an end. The values of all pairs, joined, spell the items.

@@ -17,7 +17,8 @@ pub data IsPart (place : ℕ) (words after : List ℕ) (items : List Item) : Typ
   run : (set : CodeSet) → IsRun set words after items → IsPart place words after items
   segment : IsSegment place words after items → IsPart place words after items
 
--- The message ends where no codeword is left, or where a pad comes next. What follows that pad is ignored.
+-- The message ends where no codeword is left, or where a pad comes next. What follows that pad is ignored, by a rule of this
+-- project.
 pub data IsEnd (words : List ℕ) : Type 0 where
   nothing : words ≡ [] → IsEnd words
   pad : (word : ℕ) (more : List ℕ) → codeword_of word ≡ Some codeword.Pad → words ≡ word ∷ more → IsEnd words

@@ -35,7 +35,8 @@ pub data IsSpelling (set : CodeSet) (values : List ℕ) (item : Item) : Type 0 w
   fnc1 : IsShifted set values (Some shifted.Fnc1) → item ≡ Fnc1 → IsSpelling set values item
   raised : (upper more : List ℕ) (byte : ℕ) → IsUpperShift set upper → IsCharacter set more byte → values ≡ upper ++ more → item ≡ Byte (byte + 128) → IsSpelling set values item
 
--- A filler is nothing, or one shift with no value after it, which means nothing.
+-- A filler is nothing, or one shift with no value after it, which means nothing. The standard fills with Shift 1; that any shift is passed over is a
+-- rule of this project.
 pub data IsFiller (set : CodeSet) (values : List ℕ) : Type 0 where
   nothing : values ≡ [] → IsFiller set values
   lone_shift : (value : ℕ) (shift : Shift) → basic_of set value ≡ Some (basic.Shift shift) → values ≡ value ∷ [] → IsFiller set values
@@ -63,7 +64,7 @@ pub data BeginsWithoutMeaning (set : CodeSet) (values : List ℕ) (index : ℕ) 
   at_once : (two more : List ℕ) → IsShifted set two None → values ≡ two ++ more → index ≡ 1 → BeginsWithoutMeaning set values index
   after_upper_shift : (upper two more : List ℕ) → IsUpperShift set upper → IsShifted set two None → values ≡ upper ++ (two ++ more) → index ≡ 3 → BeginsWithoutMeaning set values index
 
--- The values begin with an Upper Shift and then FNC1 or an Upper Shift.
+-- The values begin with an Upper Shift and then FNC1 or an Upper Shift, which means nothing by a rule of this project.
 pub record BeginsWrongUpperShift (set : CodeSet) (values : List ℕ) : Type 0 where
   pub upper : List ℕ
   pub two : List ℕ

@@ -1,4 +1,4 @@
--- How the grid of a symbol is drawn: light, then with borders and the fixed square, then with the rows of the mapping square put in between.
+-- How the grid of a symbol is drawn: light, then with correct borders and the fixed square, then with the rows of the mapping square put in between.
 use Rattle.std.specs.Prelude.{◌≡◌, ℕ, ◌+◌, ◌-◌, ◌*◌, ◌/◌, ◌<◌, Bool, true, false, ◌&&◌, ◌||◌, [], nat_lt, get_or, set, if◌then◌else◌}
 use Rattle.dm_layout.specs.Sizes.{SizeRow}
 use Rattle.dm_layout.specs.Grid.{GridView, IsGrid, cell_at, square_by}

@@ -9,8 +9,8 @@ pub record IsMoved (n row : ℕ) (look : ℕ → ℕ → Bool) (rows : List ℕ)
   pub left : (r c : ℕ) → c < 4 → look_in rows r c ≡ false
   pub right : (r c : ℕ) → n + 4 ≤ c → look_in rows r c ≡ false
 
--- Around the square stand the cells to which shapes wrap: to its left the last columns, 4 - ((n + 4) mod 8) rows
--- below; above it the last rows, as many columns to the left.
+-- Around the square stand the cells to which shapes wrap: to its left cells of the last columns, from
+-- 4 - ((n + 4) mod 8) rows further down; above it cells of the last rows, from as many columns further right.
 pub record IsWidened (n : ℕ) (look : ℕ → ℕ → Bool) (rows : List ℕ) : Type 0 where
   pub inside : (r c : ℕ) → r < n → c < n → look_in rows (r + 2) (c + 4) ≡ look r c
   pub left : (r c : ℕ) → 2 ≤ r → r < n + 2 → c < 4 → (n + 4) % 8 ≤ r + 2 → r + 2 - (n + 4) % 8 < n → look_in rows r c ≡ look (r + 2 - (n + 4) % 8) (n + c - 4)
