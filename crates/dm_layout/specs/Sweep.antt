@@ -42,7 +42,7 @@ pub data Part : Type 0 where
   Upwards : Part
   Downwards : Part
 
--- These are the shapes that the turns come by in at most so many moves, whether their cells are filled or not. A turn
+-- These are the shapes that the turns come by in at most this many moves, whether their cells are filled or not. A turn
 -- is its corner; then upwards the cells (r, c), (r-2, c+2), (r-4, c+4), .. until the row is below 0 or the column is
 -- n or more, and from there one row down and three columns right; then downwards likewise by two rows down and two
 -- columns left until the row is n or more or the column is below 0, and from there three rows down and one column
@@ -93,11 +93,11 @@ placed n table [] = []
 placed n table (s ∷ rest) =
     elim (is_left_out table s) [ true ↦ placed n table rest | false ↦ s ∷ placed n (fill table (cells_of n s)) rest ]
 
--- The sweep begins at row 4, column 0 with nothing filled, and places these shapes in at most so many moves.
+-- The sweep begins at row 4, column 0 with nothing filled, and places these shapes in at most this many moves.
 unfoldable pub sweep_within : ℕ → ℕ → List Shape
 sweep_within moves n = placed n (nothing_filled n) (comes_by moves n Corner (pos 4) (pos 0))
 
--- The sweep places these shapes; it ends within n * n moves, so further moves place nothing.
+-- The sweep places these shapes; for every side of the table it ends within n * n moves, so further moves place nothing.
 abbrev pub sweep : ℕ → List Shape
 sweep n = sweep_within (n * n) n
 

@@ -73,7 +73,7 @@ fn outer_row(inner: u128, region_side: u16, across: u16, fronts: &[u128; MOST_BE
     outer
 }
 
-/// Puts the rows of the mapping square that lie in one row of regions, counted from 0 at the top, into a grid with right borders.
+/// Puts the rows of the mapping square that lie in one row of regions, counted from 0 at the top, into a grid with correct borders.
 #[inline(always)]
 fn draw_regions<R: BitRows>(
     grid: &mut Grid,

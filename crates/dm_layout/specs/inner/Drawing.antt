@@ -36,7 +36,7 @@ empty_grid size = record { size = size; rows = square_by size.side (empty_colour
 
 -- ---- the rows of the mapping square
 
--- In a grid that is drawn as far as `line`, the rows above it are put between right borders.
+-- In a grid that is drawn as far as `line`, the rows above it are put between correct borders.
 pub record IsDrawn (size : SizeRow) (look : ℕ → ℕ → Bool) (line : ℕ) (grid : GridView) : Type 0 where
   pub same_size : grid.size ≡ size
   pub square : IsGrid grid

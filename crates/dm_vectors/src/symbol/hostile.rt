@@ -2,13 +2,13 @@
 
 use super::*;
 
-/// Whether a right border is dark at this row and column of its region, of this side.
+/// Whether a correct border is dark at this row and column of its region, of this side.
 fn is_dark(row: u16, column: u16, square: u16) -> bool {
     let last = square.saturating_sub(1);
     column == 0 || row == last || (row == 0 && column % 2 == 0) || (column == last && row % 2 == 1)
 }
 
-/// The grid with a right border and all other cells light.
+/// The grid with correct borders and all other cells light.
 fn empty(size: Size) -> Grid {
     let (side, square) = (size.side(), size.region_side() + 2);
     let mut cells: ArrayVec<bool, MOST_CELLS> = ArrayVec::new();
