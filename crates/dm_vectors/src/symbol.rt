@@ -205,7 +205,7 @@ fn all_are_written_in_ascii() -> bool {
 }
 
 #[test]
-fn writes_ascii(rt: HostRuntime) {
+fn messages_are_written_as_symbols(rt: HostRuntime) {
     assert!(rt; all_are_written_in_ascii());
 }
 
@@ -251,7 +251,7 @@ fn usual_limits_of_border_faults(rt: HostRuntime) {
 static C40: [u8; 8] = [230, 91, 11, 40, 130, 30, 228, 188];
 
 #[test]
-fn reads_runs(rt: HostRuntime) {
+fn symbols_with_runs_are_read(rt: HostRuntime) {
     assert!(rt; says(&grid_of(10, &C40), 2, b"AIM", &[0], 0));
     assert!(rt; says(&completed_grid(10, &[239, 91, 11]), 2, b"aim", &[0], 0));
 }

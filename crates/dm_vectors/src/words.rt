@@ -277,7 +277,7 @@ fn all_are_written() -> bool {
 }
 
 #[test]
-fn writes_ascii(rt: HostRuntime) {
+fn messages_are_written_in_ascii(rt: HostRuntime) {
     assert!(rt; all_are_written());
 }
 
@@ -310,7 +310,7 @@ fn letters_take_a_codeword_each(rt: HostRuntime) {
 }
 
 #[test]
-fn fills_a_segment(rt: HostRuntime) {
+fn a_segment_may_fill_the_symbol(rt: HostRuntime) {
     let words = segment(&[231, randomised(202, 2)], 255, 204);
     assert!(rt; spells_bytes(&words, &[255; 202]));
 }

@@ -111,7 +111,7 @@ fn comes_to<'a>(alloc: Global, words: &'a [&'a str], task: Result<Task, CallFaul
 }
 
 #[test]
-fn words_name_tasks(rt: HostRuntime) {
+fn each_line_of_words_names_its_task(rt: HostRuntime) {
     for (words, task) in &TASKS {
         assert!(rt; comes_to(rt.alloc(), words, Ok(*task)));
     }

@@ -131,7 +131,7 @@ static PAIRS: [(&[u8], usize, &[u8], &[u8]); 5] = [
 ];
 
 #[test]
-fn least_pairs(rt: HostRuntime) {
+fn both_solvers_find_the_least_pair(rt: HostRuntime) {
     for (s, t, locator, evaluator) in &PAIRS {
         assert!(rt; have_key(s, *t, locator, evaluator));
     }

@@ -52,7 +52,7 @@ fn cells_row_by_row(rt: HostRuntime) {
 static ROWS: [u128; 11] = [0, 0, 1 << 3 | 1 << 10 | 1 << 127, 0, 0, 0, 0, 0, 0, 0, 0];
 
 #[test]
-fn rows_as_numbers(rt: HostRuntime) {
+fn rows_given_as_numbers_are_the_grid_of_their_cells(rt: HostRuntime) {
     assert!(rt; of_rows(10, &ROWS[..10]) == of_cells(10, &one_dark()));
     assert!(rt; is_refused(&of_rows(10, &ROWS[..9]), GridFault::NotSquare));
     assert!(rt; is_refused(&of_rows(11, &ROWS), GridFault::NoSuchSize));

@@ -42,7 +42,7 @@ static WORKED: [&str; 10] = [
 ];
 
 #[test]
-fn worked_symbol(rt: HostRuntime) {
+fn the_symbol_of_123456_is_as_drawn(rt: HostRuntime) {
     let grid = grid_of(10, &[142, 164, 186, 114, 25, 5, 88, 102]);
     assert!(rt; is_drawn(&grid, &WORKED));
 }
@@ -89,7 +89,7 @@ fn all_are_lifted_again() -> bool {
 }
 
 #[test]
-fn lifted_again(rt: HostRuntime) {
+fn codewords_that_are_laid_are_lifted_again(rt: HostRuntime) {
     assert!(rt; all_are_lifted_again());
 }
 

@@ -99,7 +99,7 @@ fn normalises_the_longest_segment(rt: HostRuntime) {
 }
 
 #[test]
-fn refuses_what_fits_no_symbol(rt: HostRuntime) {
+fn what_fits_no_symbol_is_refused_under_either_profile(rt: HostRuntime) {
     let more = of_many(255, 814);
     assert!(rt; is_too_long(Profile::Ascii, &more) && is_too_long(Profile::Shorter, &more));
 }
@@ -148,7 +148,7 @@ fn becomes_segment(data_words: &[u8], side: u16, front: &[u8]) -> bool {
 
 /// Whatever else it came in, a message of bytes of 128 and more becomes one segment; a length number 0 is written out.
 #[test]
-fn writes_the_length_out(rt: HostRuntime) {
+fn a_segment_that_fills_the_symbol_has_its_length_written_out(rt: HostRuntime) {
     let to_the_end = segment(&[231, randomised(0, 2)], 200, 8);
     assert!(rt; becomes_segment(&to_the_end, 14, &[231, randomised(6, 2)]));
 }

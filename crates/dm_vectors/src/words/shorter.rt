@@ -44,7 +44,7 @@ fn is_shorter_for(byte: u8, count: usize, expected: &[u8]) -> bool {
 }
 
 #[test]
-fn writes_the_shorter(rt: HostRuntime) {
+fn the_shorter_of_two_forms_is_written(rt: HostRuntime) {
     assert!(rt; is_shorter_for(128, 3, &[231, 47, 65, 215, 108]));
     assert!(rt; is_shorter_for(128, 2, &[235, 1, 235, 1]));
     assert!(rt; is_shorter(&Message::new(), &[]));
@@ -94,13 +94,13 @@ fn two_length_codewords() -> bool {
 
 /// The length is written out, in one codeword or two, also where the segment fills the symbol.
 #[test]
-fn writes_the_length_out(rt: HostRuntime) {
+fn the_length_of_a_segment_is_written_out(rt: HostRuntime) {
     assert!(rt; one_length_codeword());
     assert!(rt; two_length_codewords());
 }
 
 #[test]
-fn refuses_what_fits_no_symbol(rt: HostRuntime) {
+fn messages_that_fit_no_symbol_are_refused(rt: HostRuntime) {
     let more = of_many(255, 814);
     assert!(rt; ascii_words(&more).is_err());
     assert!(rt; shorter_words(&more).is_err());

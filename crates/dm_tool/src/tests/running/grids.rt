@@ -151,7 +151,7 @@ fn runs_of_other_encodations_are_read(rt: HostRuntime) {
 }
 
 #[test]
-fn borders_are_borne_up_to_the_limit(rt: HostRuntime) {
+fn as_many_wrong_border_modules_are_accepted_as_the_limit_says(rt: HostRuntime) {
     let (rows, _, _) = GRIDS[3];
     let record = record_of(&rt, rows);
     let table = [
