@@ -117,7 +117,7 @@ fn are_alike(word: &[u8], k: usize) -> bool {
     let s = syndromes_of(word, k);
     let t = s.len() / 2;
     let alike = is_like(&solved(&Quick, &s, t), &solved(&Elimination, &s, t));
-    alike && s.len() == k && is_counted(&s, t)
+    alike && !word.is_empty() && s.len() == k && is_counted(&s, t)
 }
 
 /// Syndromes, limits, and the pair that solves the key equation.

@@ -27,7 +27,7 @@ fn are_values(word: &[u8], k: usize) -> bool {
         }
         root = root.saturating_add(1);
     }
-    syndromes.len() == k
+    syndromes.len() == k && !word.is_empty()
 }
 
 /// Without a full group of 16 roots, without a rest, and with two and four groups and a rest; words with and without a
