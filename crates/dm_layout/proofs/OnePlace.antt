@@ -1,19 +1,17 @@
 -- Each cell holds one bit: this follows from the test of the sweep, by which the cells of all places are new and fill the square.
 use Rattle.std.proofs.Common.{◌≡◌, ℕ, ◌+◌, ◌-◌, ◌*◌, ◌/◌, ◌%◌, ◌<◌, Bool, true, false, List, [], ◌∷◌, refl, length, get_or, sym, ◌∙◌, ap, subst, arith, take, flat_map, length-append}
 use Rattle.std.proofs.Math.ListN.{length-take}
-use Rattle.std.specs.Bool.{MatchBool, beq}
+use Rattle.std.specs.Bool.{MatchBool}
 use Rattle.std.proofs.lemmas.Bool.{true≢false}
-use Rattle.std.proofs.lemmas.Nat.{div-mul-add, mod-mul-add, mul-add-lt}
+use Rattle.std.proofs.lemmas.Nat.{div-mul-add, mod-mul-add}
 use Rattle.std.proofs.lemmas.List.Concat.{get_or-flat_map}
 use Rattle.dm_layout.specs.declared.shape.Cell.{Cell}
 use Rattle.dm_layout.specs.declared.shape.Shape.{Shape}
 use Rattle.dm_layout.specs.declared.shape.Shape.TheVariants.{Standard, Corner1, Corner2, Corner3, Corner4}
 use Rattle.dm_layout.specs.Border.{is_fixed}
 use Rattle.dm_layout.specs.Placement.{At, shapes, cells_of, place, IsPlace, NoPlace, OnePlace, EachCellOnce}
-use Rattle.std.specs.Cmp.{booleans_Decides}
-use Rattle.dm_layout.proofs.Ranges.{all_below}
-use Rattle.dm_layout.proofs.SweepTest.{cells_of_all, is_free, number_of, all_filled}
-use Rattle.dm_layout.proofs.SweptCells.{FillsAll, IsAmong, IsInside, filled_with, new_at, new_apart, filled_at, among}
+use Rattle.dm_layout.proofs.SweepTest.{cells_of_all, is_free, number_of}
+use Rattle.dm_layout.proofs.SweptCells.{FillsAll, IsAmong, IsInside, filled_with, new_at, new_apart, filled_at, among, fixed_free}
 
 -- A shape has eight cells.
 pub eight : (n : ℕ) (s : Shape) → length (cells_of n s) ≡ 8
@@ -61,10 +59,7 @@ module _ (n : ℕ) (fills : FillsAll n 0 (shapes n)) where
 
   -- A cell is filled in the end exactly if it doesn't belong to the fixed square.
   at_cell : (r c : ℕ) → r < n → c < n → is_free whole (r * n + c) ≡ is_fixed n r c
-  unfolding all_filled
-  at_cell r c lr lc =
-      let t = (booleans_Decides _ _).0 (all_below (λ k. beq (is_free whole k) (is_fixed n (k / n) (k % n))) (n * n) (r * n + c) fills.all (mul-add-lt r n c n lr lc)) in
-      t ∙ ap (λ (j : ℕ). is_fixed n j ((r * n + c) % n)) (div-mul-add r n c lc) ∙ ap (is_fixed n r) (mod-mul-add r n c lc)
+  at_cell r c lr lc = fixed_free n whole r c lr lc fills.all
 
   -- A place is one of the cells.
   is_listed : (w b : ℕ) (cell : Cell) → IsPlace n w b cell → (8 * w + (b - 1) < length cells) × (get_or cells (8 * w + (b - 1)) (At 0 0) ≡ cell)

@@ -1,6 +1,6 @@
 -- A test, for a number n, that the sweep places these shapes and that each cell of the mapping square is one place. It keeps the filled
 -- cells as one number, whose bit r * n + c is set where cell (r, c) is filled.
-use Rattle.std.proofs.Common.{ℕ, ◌+◌, ◌*◌, ◌/◌, ◌%◌, ◌^◌, Bool, true, false, not, ◌&&◌, nat_eq, nat_lt, List, [], ◌∷◌, flat_map}
+use Rattle.std.proofs.Common.{ℕ, ◌+◌, ◌-◌, ◌*◌, ◌/◌, ◌%◌, ◌^◌, Bool, true, false, not, ◌&&◌, nat_eq, nat_lt, List, [], ◌∷◌, flat_map}
 use Rattle.std.specs.Bool.{beq}
 use Rattle.std.specs.Int.RustNames.{bit_or}
 use lib.Bits.{bit_and}
@@ -58,9 +58,13 @@ abbrev pub places_next : ℕ → ℕ → Shape → List Shape → (ℕ → List 
 places_next n t s [] next = false
 places_next n t s (p ∷ ps) next = elim (same_shape s p) [ true ↦ fill_new n t (cells_of n s) (λ u. next u ps) | false ↦ false ]
 
--- The cells outside the fixed square are filled, and no others.
+-- The cells outside the fixed square are filled, and no others. Where there is no fixed square, the number that has all bits is compared as a whole.
 unfoldable pub all_filled : ℕ → ℕ → Bool
-all_filled n t = list_all (λ k. beq (is_free t k) (is_fixed n (k / n) (k % n))) (range_with_len 0 (n * n))
+all_filled n t =
+    elim (nat_eq (n % 4) 2) [
+      | true ↦ list_all (λ k. beq (is_free t k) (is_fixed n (k / n) (k % n))) (range_with_len 0 (n * n))
+      | false ↦ nat_eq t (2 ^ (n * n) - 1)
+    ]
 
 -- With the cells of this number filled, the sweep places of the shapes of the first list, which it comes by, those of the second; the cells
 -- of each are new, and in the end the cells outside the fixed square are filled.

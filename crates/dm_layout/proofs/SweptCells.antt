@@ -1,16 +1,21 @@
 -- What the test of the sweep says of the cells: those of the shapes lie in the square, no two of them are the same, and together they are those outside
 -- the fixed square.
-use Rattle.std.proofs.Common.{◌≡◌, ◌≢◌, ◌⊎◌, inl, inr, ℕ, zero, suc, ◌*◌, ◌^◌, ◌<◌, Bool, true, false, not, ◌&&◌, nat_eq, nat_lt, List, [], ◌∷◌, ◌++◌, length, get_or, refl, sym, ◌∙◌, ap, subst, arith}
+use Rattle.std.proofs.Common.{◌≡◌, ◌≢◌, ◌⊎◌, inl, inr, ℕ, zero, suc, ◌+◌, ◌-◌, ◌*◌, ◌/◌, ◌%◌, ◌^◌, ◌<◌, Bool, true, false, not, ◌&&◌, nat_eq, nat_lt, nat_le, List, [], ◌∷◌, ◌++◌, length, get_or, refl, sym, ◌∙◌, ap, subst, arith}
 use Rattle.std.specs.Prelude.{max}
+use Rattle.std.specs.Bool.{beq}
 use Rattle.std.specs.Int.{bit_at}
+use Rattle.std.specs.List.{list_all, range_with_len}
 use Rattle.std.specs.Int.RustNames.{bit_or}
 use Rattle.std.proofs.lemmas.Bool.{and_parts, eqb-true, eqb-false, ne_eqb, ltb-true, false≢true}
-use Rattle.std.proofs.lemmas.Nat.{pow_pos}
-use Rattle.std.proofs.lemmas.Nat.Bits.{and_pow, bit_at_or, bit_at-lt, bit_at-pow_same, bit_at-pow_other}
+use Rattle.std.proofs.lemmas.Nat.{pow_pos, mul-add-lt, div-mul-add, mod-mul-add}
+use Rattle.std.proofs.lemmas.Nat.Bits.{and_pow, bit_at_or, bit_at-lt, bit_at-pow_same, bit_at-pow_other, bit_at_ones}
 use Rattle.dm_layout.specs.declared.shape.Cell.{Cell}
 use Rattle.dm_layout.specs.declared.shape.Shape.{Shape}
 use Rattle.dm_layout.specs.Placement.{cells_of}
 use Rattle.dm_layout.proofs.SameShapes.{same_shape, shape_equal}
+use Rattle.dm_layout.specs.Border.{is_fixed}
+use Rattle.std.specs.Cmp.{booleans_Decides}
+use Rattle.dm_layout.proofs.Ranges.{all_below}
 use Rattle.dm_layout.proofs.SweepTest.{cells_of_all, is_free, number_of, with_cell, is_new, fill_new, anchor_inside, left_out, places_next, all_filled, sweep_test}
 
 -- ---- one more cell
@@ -241,3 +246,28 @@ fills_all n t (s ∷ rest) ps h = by_either (λ u qs. fills_all n u rest qs) (co
           new = AreNew-append n t cells (cells_of_all n qs) placed.new others.new;
           all = subst (λ (u : ℕ). all_filled n u ≡ true) (sym (filled_with-append n t cells (cells_of_all n qs))) others.all;
         })
+
+-- Where all cells outside the fixed square are filled and no others, a cell is free exactly if it belongs to the fixed square.
+pub fixed_free : (n t r c : ℕ) → r < n → c < n → all_filled n t ≡ true → is_free t (r * n + c) ≡ is_fixed n r c
+unfolding all_filled
+fixed_free n t r c lr lc = by_size (nat_eq (n % 4) 2) refl
+  where
+    k : ℕ
+    k = r * n + c
+
+    within : k < n * n
+    within = mul-add-lt r n c n lr lc
+
+    here : ℕ → Bool
+    here j = beq (is_free t j) (is_fixed n (j / n) (j % n))
+
+    by_size : (b : Bool) → nat_eq (n % 4) 2 ≡ b → elim b as (λ _. Bool) [ true ↦ list_all here (range_with_len 0 (n * n)) | false ↦ nat_eq t (2 ^ (n * n) - 1) ] ≡ true → is_free t k ≡ is_fixed n r c
+    by_size true e h =
+        (booleans_Decides _ _).0 (all_below here (n * n) k h within)
+        ∙ ap (λ (j : ℕ). is_fixed n j (k % n)) (div-mul-add r n c lc)
+        ∙ ap (is_fixed n r) (mod-mul-add r n c lc)
+    by_size false e h =
+        free_bit t k
+        ∙ ap (λ (u : ℕ). nat_eq (bit_at u k) 0) (eqb-true t (2 ^ (n * n) - 1) h)
+        ∙ ap (λ (j : ℕ). nat_eq j 0) (bit_at_ones (n * n) k within)
+        ∙ ap (λ (b : Bool). b && nat_le n (r + 2) && nat_le n (c + 2)) (sym e)
