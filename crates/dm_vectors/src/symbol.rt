@@ -136,7 +136,7 @@ fn is_too_long(profile: Profile, message: &Message) -> bool {
 }
 
 /// Texts, the codewords of their normal grids, and the cells of these.
-static NORMAL_GRIDS: &[(&[u8], &[u8], &str)] = &[
+static NORMAL_GRIDS: [(&[u8], &[u8], &str); 3] = [
     (
         b"123456",
         &DIGITS,
@@ -164,7 +164,7 @@ fn is_normal_grid(text: &[u8], words: &[u8], cells: &str) -> bool {
 
 /// Whether the normal grid of each row's text is as the row says.
 fn all_are_normal_grids() -> bool {
-    for (text, words, cells) in NORMAL_GRIDS {
+    for (text, words, cells) in &NORMAL_GRIDS {
         if !is_normal_grid(text, words, cells) {
             return false;
         }
@@ -178,7 +178,7 @@ fn writes_normal_grids(rt: HostRuntime) {
 }
 
 /// Messages, and their ASCII codewords at side 10.
-static ASCII: &[(&[Item], &[u8])] = &[
+static ASCII: [(&[Item], &[u8]); 4] = [
     (
         &[Item::Fnc1, Item::Byte(b'0'), Item::Byte(b'1')],
         &[232, 131, 129],
@@ -196,7 +196,7 @@ static ASCII: &[(&[Item], &[u8])] = &[
 
 /// Whether the items of each row are written as its codewords.
 fn all_are_written_in_ascii() -> bool {
-    for (items, words) in ASCII {
+    for (items, words) in &ASCII {
         if !is_of(&write(&of_items(items)), 10, words) {
             return false;
         }

@@ -44,7 +44,7 @@ fn is_refused(words: &[u8], fault: WordFault) -> bool {
 }
 
 /// Data codewords and the bytes that they spell.
-static SPELLED: &[(&[u8], &[u8])] = &[
+static SPELLED: [(&[u8], &[u8]); 46] = [
     (&[], b""),
     (&[1, 128], b"\x00\x7F"),
     (&[130, 229], b"0099"),
@@ -95,7 +95,7 @@ static SPELLED: &[(&[u8], &[u8])] = &[
 
 /// Whether the codewords of each row spell its bytes.
 fn all_are_spelled() -> bool {
-    for (words, bytes) in SPELLED {
+    for (words, bytes) in &SPELLED {
         if !spells_bytes(words, bytes) {
             return false;
         }
@@ -109,7 +109,7 @@ fn reads_messages(rt: HostRuntime) {
 }
 
 /// Data codewords and the items that they spell.
-static SPELLED_WITH_FNC1: &[(&[u8], &[Item])] = &[
+static SPELLED_WITH_FNC1: [(&[u8], &[Item]); 3] = [
     (&[230, 10, 135], &[Item::Fnc1, Item::Byte(b'A')]),
     (&[239, 10, 124], &[Item::Fnc1, Item::Byte(b' ')]),
     (
@@ -120,7 +120,7 @@ static SPELLED_WITH_FNC1: &[(&[u8], &[Item])] = &[
 
 /// Whether the codewords of each row spell its items.
 fn all_are_spelled_with_fnc1() -> bool {
-    for (words, items) in SPELLED_WITH_FNC1 {
+    for (words, items) in &SPELLED_WITH_FNC1 {
         if !spells(words, items) {
             return false;
         }
@@ -134,7 +134,7 @@ fn reads_fnc1(rt: HostRuntime) {
 }
 
 /// Data codewords and the fault with which they are refused.
-static REFUSED: &[(&[u8], WordFault)] = &[
+static REFUSED: [(&[u8], WordFault); 46] = [
     (&[66, 0], WordFault::Reserved(2)),
     (&[242], WordFault::Reserved(1)),
     (&[240, 66, 129], WordFault::LeftOut(240, 1)),
@@ -185,7 +185,7 @@ static REFUSED: &[(&[u8], WordFault)] = &[
 
 /// Whether the codewords of each row are refused with its fault.
 fn all_are_refused() -> bool {
-    for (words, fault) in REFUSED {
+    for (words, fault) in &REFUSED {
         if !is_refused(words, *fault) {
             return false;
         }
@@ -238,7 +238,7 @@ fn writes(items: &[Item], side: u16, expected: &[u8]) -> bool {
 }
 
 /// Items, the side of a symbol, and its data codewords in ASCII.
-static WRITTEN: &[(&[Item], u16, &[u8])] = &[
+static WRITTEN: [(&[Item], u16, &[u8]); 9] = [
     (&[], 10, &[129, 175, 70]),
     (&[Item::Byte(b'A')], 10, &[66, 129, 70]),
     (&[Item::Byte(193)], 10, &[235, 66, 129]),
@@ -268,7 +268,7 @@ static WRITTEN: &[(&[Item], u16, &[u8])] = &[
 
 /// Whether the items of each row are written as its codewords.
 fn all_are_written() -> bool {
-    for (items, side, words) in WRITTEN {
+    for (items, side, words) in &WRITTEN {
         if !writes(items, *side, words) {
             return false;
         }

@@ -2,7 +2,7 @@
 
 use super::samples::{BLOCKS, part, pseudorandom, put};
 use crate::calls::{checks_of, generator_of};
-use gf301::Gf;
+use gf301::times;
 
 /// Whether these are the check codewords of the data codewords, and not none.
 fn has_checks(front: &[u8], checks: &[u8]) -> bool {
@@ -53,9 +53,13 @@ fn take_away(places: &mut [u8], divisor: &[u8]) {
     let Some(lead) = places.first().copied() else {
         return;
     };
-    for i in 0..divisor.len() {
+    if divisor.is_empty() || divisor.len() > 256 {
+        return;
+    }
+    let terms = times(&[lead], divisor);
+    for i in 0..terms.len() {
         if i < places.len() {
-            places[i] ^= Gf(lead).mul(Gf(divisor[i])).0;
+            places[i] ^= terms[i];
         }
     }
 }

@@ -43,7 +43,7 @@ fn one_dark() -> [bool; 100] {
 #[test]
 fn cells_row_by_row(rt: HostRuntime) {
     let grid = grid_with(10, &one_dark());
-    assert!(rt; side_of(&grid) == 10);
+    assert!(rt; of_cells(10, &[false; 100]).is_ok() && side_of(&grid) == 10);
     assert!(rt; is_dark_at(&grid, 2, 3) && !is_dark_at(&grid, 3, 2));
     assert!(rt; grid != plain(10, false));
 }
@@ -73,6 +73,7 @@ fn becomes_light(grid: &mut Grid) -> bool {
 #[test]
 fn one_place_for_all_grids(rt: HostRuntime) {
     let mut grid = plain(12, true);
+    assert!(rt; side_of(&grid) == 12 && is_dark_at(&grid, 0, 1));
     assert!(rt; of_rows(12, &[u128::MAX; 12]) == of_cells(12, &[true; 144]));
     assert!(rt; is_kept(&mut grid, &plain(12, true)));
     assert!(rt; becomes_light(&mut grid));
