@@ -36,7 +36,7 @@ record IsSwept (n : ℕ) : Type 0 where
   same : swept_by n ≡ walked_by n
   test : sweep_test n 0 (walked_by n) (shapes n) ≡ true
 
--- A size that passes its test is swept.
+-- A size that passes its test is swept, its sweep ends, and it has as many shapes as codewords.
 record PassesTest (size : SizeRow) : Type 0 where
   swept : IsSwept size.mapping
   done : is_done (size.mapping * size.mapping) size.mapping Corner (pos 4) (pos 0) ≡ true

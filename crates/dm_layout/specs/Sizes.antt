@@ -80,7 +80,7 @@ most_blocks = 6
 abbrev pub most_block_check : ℕ
 most_block_check = 68
 
--- No block has more codewords than this, since a Reed-Solomon code over a field of 256 elements has no longer codewords.
+-- No block has more codewords than this: as many as the field has elements other than 0. The laws of codewords hold up to this length.
 abbrev pub longest_block : ℕ
 longest_block = 255
 

@@ -18,7 +18,7 @@ pub const MOST_CODEWORDS: usize = 1152;
 /// The most blocks of a symbol.
 pub const MOST_BLOCKS: usize = 6;
 
-/// The most codewords of a block: as many as the field has elements but 0.
+/// No block has more codewords than this: as many as the field has elements other than 0.
 pub const LONGEST_BLOCK: usize = 255;
 
 /// A size of a square symbol: a row of the standard's table of sizes and capacities.

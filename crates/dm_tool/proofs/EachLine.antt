@@ -5,10 +5,10 @@ use Rattle.std.proofs.lemmas.Bool.{cases_eq, cases_lt}
 use Rattle.std.proofs.lemmas.List.Elements.{All-from_recursion}
 use Rattle.dm_symbol.specs.declared.Item.{Item}
 use Rattle.dm_symbol.specs.declared.Item.TheVariants.{Byte, Fnc1}
-use Rattle.dm_symbol.specs.Messages.{IsItem, IsMessage}
+use Rattle.dm_symbol.specs.Messages.{IsItem, IsMessage, most_items}
 use Rattle.dm_tool.specs.declared.message_line.LineFault.TheVariants.{BadEscape, TooLong}
 use Rattle.dm_tool.specs.Spellings.{IsHexDigit, figure, upper, lower, IsSpelling, plain, backslash, fnc1, byte, IsJoining}
-use Rattle.dm_tool.specs.MessageLines.{IsLine, column_after, most_items}
+use Rattle.dm_tool.specs.MessageLines.{IsLine, column_after}
 use Rattle.dm_tool.specs.LineFeeds.{LineAnswer}
 use Rattle.dm_tool.specs.inner.OpenLines.{BeginsNoSpelling}
 use Rattle.dm_tool.proofs.Joinings.{front_longest, spelling_some}

@@ -4,9 +4,9 @@ use Rattle.std.specs.Prelude.{nat_le, ◌==◌, ◌&&◌, if◌then◌else◌}
 use Rattle.std.proofs.lemmas.Bool.{cases_lt, eqb-true, eqb-false, leb-true, lt-ltb, le-ltb}
 use Rattle.dm_symbol.specs.declared.Item.{Item}
 use Rattle.dm_symbol.specs.declared.Item.TheVariants.{Byte, Fnc1}
-use Rattle.dm_symbol.specs.Messages.{IsItem, IsMessage}
+use Rattle.dm_symbol.specs.Messages.{IsItem, IsMessage, most_items}
 use Rattle.dm_tool.specs.Spellings.{IsHexDigit, figure, upper, IsSpelling, plain, backslash, fnc1, byte, IsJoining, spelled, text_of, upper_digit}
-use Rattle.dm_tool.specs.MessageLines.{IsLine, most_items}
+use Rattle.dm_tool.specs.MessageLines.{IsLine}
 
 -- The digit that is written for a value has this value.
 digit_value : (v : ℕ) → v < 16 → IsHexDigit (upper_digit v) v

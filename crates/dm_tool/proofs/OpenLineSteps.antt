@@ -7,7 +7,8 @@ use Rattle.dm_symbol.specs.declared.Item.TheVariants.{Byte}
 use Rattle.dm_tool.specs.declared.message_line.LineFault.{LineFault}
 use Rattle.dm_tool.specs.declared.message_line.LineFault.TheVariants.{BadEscape, TooLong}
 use Rattle.dm_tool.specs.Spellings.{IsSpelling, plain, IsJoining, IsJoined}
-use Rattle.dm_tool.specs.MessageLines.{IsBadEscape, IsLine, most_bytes, most_items}
+use Rattle.dm_tool.specs.MessageLines.{IsBadEscape, IsLine, most_bytes}
+use Rattle.dm_symbol.specs.Messages.{most_items}
 use Rattle.dm_tool.specs.LineFacts.{CanBecomeSpelling, LineFacts, IsFaultyLine, IsGoodLine, AreLineFacts, kept}
 use Rattle.std.specs.List.{AllByRecursion}
 use Rattle.std.proofs.lemmas.List.{length-map, length-take-le, nil_from_length}

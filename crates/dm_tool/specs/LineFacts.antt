@@ -2,7 +2,8 @@
 use Rattle.std.specs.Prelude.{◌≡◌, nat_le, min, if◌then◌else◌, ℕ, List, ◌++◌, length, Option, Some, None}
 use Rattle.dm_symbol.specs.declared.Item.{Item}
 use Rattle.dm_tool.specs.Spellings.{IsJoined, IsJoining, IsSpelling}
-use Rattle.dm_tool.specs.MessageLines.{IsLongestFront, column_after, most_bytes, most_items}
+use Rattle.dm_tool.specs.MessageLines.{IsLongestFront, column_after, most_bytes}
+use Rattle.dm_symbol.specs.Messages.{most_items}
 
 -- An open line has these facts.
 pub data LineFacts : Type 0 where

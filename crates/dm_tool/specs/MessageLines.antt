@@ -1,14 +1,10 @@
 -- What a message line means: its message, or its fault.
 use Rattle.std.specs.Prelude.{◌≡◌, ◌≤◌, ◌<◌, ◌+◌, ◌*◌, ◌-◌, ◌^◌, min, ℕ, List, ◌++◌, length, Result, Ok, Err}
-use Rattle.dm_symbol.specs.Sizes.{most_data}
+use Rattle.dm_symbol.specs.Messages.{most_items}
 use Rattle.dm_symbol.specs.declared.Item.{Item}
 use Rattle.dm_tool.specs.declared.message_line.LineFault.{LineFault}
 use Rattle.dm_tool.specs.declared.message_line.LineFault.TheVariants.{BadEscape, TooLong}
 use Rattle.dm_tool.specs.Spellings.{IsJoined, IsJoining}
-
--- A message has at most two items for each data codeword.
-abbrev pub most_items : ℕ
-most_items = 2 * most_data
 
 -- A count of bytes or a column in a line never exceeds this number, the largest that a u64 holds.
 abbrev pub most_bytes : ℕ

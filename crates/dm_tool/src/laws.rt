@@ -2,12 +2,12 @@
 ghost use Rattle.std.specs.Prelude.{◌≡◌, ◌≤◌, ℕ, List, [], Ok, length};
 ghost use Rattle.std.specs.List.{concat};
 ghost use Rattle.dm_symbol.specs.declared.Item.{Item};
-ghost use Rattle.dm_symbol.specs.Messages.{IsMessage};
+ghost use Rattle.dm_symbol.specs.Messages.{IsMessage, most_items};
 ghost use Rattle.clap.specs.Faults.{fault_of};
 ghost use Rattle.clap.specs.Simple.{subcommand_of};
 ghost use Rattle.dm_tool.specs.CommandLine.{NamesOneTask, dm_app};
 ghost use Rattle.dm_tool.specs.Spellings.{text_of};
-ghost use Rattle.dm_tool.specs.MessageLines.{IsLine, most_items};
+ghost use Rattle.dm_tool.specs.MessageLines.{IsLine};
 ghost use Rattle.dm_tool.specs.LineFacts.{LineFacts, AreLineFacts};
 ghost use Rattle.dm_tool.specs.RecordFacts.{RecordFacts, AreRecordFacts};
 ghost use Rattle.dm_tool.specs.RecordFeeds.{AreRecordsFed, AreRecordsOfText, RecordAnswer};

@@ -181,7 +181,7 @@ head_zero a e s h z w =
     product_cancel x a (raise_positive (power (length e)) s (raise_positive 2 (length e) (omega arith) (omega arith)) (raise_below 2 (length e))) (raise_below (power (length e)) s) h
     (product_comm x a ∙ sym (head_sum a e (λ x. raise x s) w) ∙ weigh_zeros (λ x. raise x s) e z)
 
--- The weight `without n` is 0 at no place after n.
+-- The weight `without n` is 0 at no place that has fewer than n places after it.
 without_positive : (n : ℕ) → n < 255 → (j : ℕ) → j < n → (0 < without n (power j)) × (without n (power j) < 256)
 unfolding without
 without_positive n h j l =

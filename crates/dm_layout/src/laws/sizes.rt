@@ -16,7 +16,7 @@ pub fn limits_are_those_of_the_table()
     ensures checks { IsGreatest block_check most_block_check }
 {}
 
-/// The crate's constants are these limits.
+/// The crate's constants are these limits, and the bound of the length of a block.
 pub fn constants_are_the_limits()
     ensures side { LARGEST_SIDE ≡ largest_side }
     ensures data { MOST_DATA ≡ most_data }

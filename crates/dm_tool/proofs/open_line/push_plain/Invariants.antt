@@ -1,6 +1,6 @@
 use Rattle.std.proofs.Common.{◌≡◌, ◌≤◌, ◌++◌, length, map, take}
 use Rattle.std.specs.List.{AllByRecursion}
-use Rattle.dm_tool.specs.MessageLines.{most_items}
+use Rattle.dm_symbol.specs.Messages.{most_items}
 use Rattle.dm_symbol.specs.declared.Item.TheVariants.{Byte}
 use Rattle.dm_tool.specs.inner.OpenLines.{IsPlain}
 use Rattle.dm_tool.proofs.open_line.push_plain.Given as goal
