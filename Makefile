@@ -3,8 +3,8 @@ PREFIX ?= /usr/local
 TOOL := crates/dm_tool/out/dm_tool
 # The crates below the program, lowest first, with the one that has their tests, and the program. The library for C is built by itself.
 CRATES := $(shell sed -n 's/^\([a-z0-9_]*\):.*/\1/p' crates.txt)
-# They test what no contract mentions. Each ends with a line 'N passed, M failed', and with status 1 if something failed.
-SCRIPTS := tests/definitions tests/program tests/library tests/marks/run tests/scale tests/page/run
+# They try the wrong bodies, and test what no contract mentions. Each ends with a line 'N passed, M failed', and with status 1 if something failed.
+SCRIPTS := tests/definitions tests/program tests/library tests/edits tests/marks/run tests/scale tests/page/run
 
 .PHONY: build library try test $(SCRIPTS) install install-library bench
 
@@ -31,13 +31,12 @@ library:
 
 # Shows the program at work at once. This proves nothing.
 try:
-	@mkdir -p out
 	@echo "Unproved, for a first look (make build proves the program): dm_tool writes 123456 as"
-	@cd crates/dm_tool && printf '123456\n' | rt try --steps 1 -- write 2> ../../out/try.log || { cat ../../out/try.log; exit 1; }
+	@printf '123456\n' | try/run write
 
-# The merge gate: every proof from scratch, the edits that must fail and the crates' tests, then the scripts.
+# The merge gate: every proof from scratch and the crates' tests by rt ci, then the scripts, of which tests/edits tries the edits that must fail.
 test:
-	rt ci
+	tests/proofs
 	@$(MAKE) --no-print-directory --keep-going $(SCRIPTS)
 
 $(SCRIPTS):

@@ -136,10 +136,8 @@ fn put_all<O: Sink>(sink: &mut O, bytes: &[u8]) -> Result<(), Failed>
         × Appends (O.contents sink.old) (O.contents sink.new) bytes.now)) }
     ensures count { Counts (O.failed sink.old) (O.failed sink.new) result }
 {
-    match put(sink, bytes) {
-        Ok(()) => sink.flush(),
-        Err(Failed) => Err(Failed),
-    }
+    put(sink, bytes)?;
+    sink.flush()
 }
 
 /// Reads the next bytes of the source to the front of `place`, and says how many: no more than may still come, or one
