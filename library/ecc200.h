@@ -39,25 +39,27 @@
  * message has ECC200_FNC1 first and another, or more rarely the byte 0x1D, between its fields. ecc200_text and ecc200_items, below,
  * turn items into bytes and back.
  *
- * A PROFILE chooses the normal form of a message, and so its one normal symbol: under ECC200_ASCII its codewords are those of ASCII
- * encodation; under ECC200_SHORTER they are those of one Base 256 segment where the message has no FNC1 and the segment is shorter,
- * which serves binary messages. Either way they stand in the smallest symbol that holds them, followed by pads; a message that no
- * symbol holds in this form has no normal symbol. Symbols that have normal symbols under one profile say the same exactly if these are
- * equal, byte by byte; and a normal symbol is its own normal symbol.
+ * A PROFILE chooses the normal form of a message, and so its one normal symbol, which the documents call its normal grid: under
+ * ECC200_ASCII its codewords are those of ASCII encodation; under ECC200_SHORTER they are those of one Base 256 segment where the
+ * message has no FNC1 and the segment is shorter, which serves binary messages. Either way they stand in the smallest symbol that
+ * holds them, followed by pads; a message that no symbol holds in this form has no normal symbol. Symbols that have normal symbols
+ * under one profile say the same exactly if these are equal, byte by byte; and a normal symbol is its own normal symbol.
  *
  * EACH CALL returns, whatever it is given. It allocates nothing and uses less than ECC200_STACK bytes of stack, keeps nothing, waits
  * for nothing, calls nothing but memcpy, memmove and memset, and touches only what it was given: any number of threads may call at
  * once, each with an `out` of its own.
  *
  * WHAT IS WRITTEN: a call writes all of `out`, whatever it held before. If there is a fault, everything in `out` but `fault` is 0; if
- * there is none, `fault` is 0, and so are the elements of an array past those that count. The calls return the fault's code.
+ * there is none, `fault` is 0, and so are the elements of an array past those that count. A call whose `out` has a
+ * member `fault` returns its code.
  *
  * WHAT A CALLER OWES, since C can't check it:
  *  - a pointer points to as many elements as the call says, aligned for their type. It may be NULL if the count is 0; `out` may not;
  *  - `out` overlaps no input, and during the call nobody else writes either of them or reads `out`.
  *
- * The library is proved to do what this file says, except for the functions under "Conveniences", which are in C; docs/LIBRARY.md
- * says how, and what is trusted. */
+ * The library is proved to do what this file says, except for the bound on the stack, which is tested, and the functions under
+ * "Conveniences", which are in C. That this file declares what was proved is tested too. docs/LIBRARY.md says how it is proved, and what
+ * is trusted. */
 #ifndef ECC200_H
 #define ECC200_H
 
@@ -88,7 +90,7 @@ enum {
     ECC200_SIZE_COUNT = 21,
     ECC200_FNC1 = 256,                    /* an item */
     ECC200_ANY_LIMIT = 65535,             /* a border limit that refuses nothing */
-    ECC200_BEYOND = 255,                  /* in ecc200_inspection.corrected: no codeword is near this block */
+    ECC200_BEYOND = 255,                  /* in ecc200_inspection.corrected: this block is beyond correction */
     ECC200_STACK = 32768                  /* bytes */
 };
 
@@ -118,7 +120,7 @@ enum ecc200_code {
     ECC200_TRIPLET = 10,    /* two codewords of C40, Text or X12 that don't stand for three values; place: that of the first */
     ECC200_VALUE = 11,      /* a value of C40 or Text that has no meaning after a shift; place: that of its codewords */
     ECC200_LENGTH = 12,     /* a Base 256 length that is missing, ill-formed, or too large; place: that of the latch */
-    ECC200_UNFINISHED = 13, /* the symbol ends before the character of an Upper Shift; place: that of the Upper Shift */
+    ECC200_UNFINISHED = 13, /* the run or the symbol ends before the character of an Upper Shift; place: that of the Upper Shift */
 
     /* The message isn't written. */
     ECC200_TOO_LONG = 14,   /* no size holds the message in its normal form */
@@ -168,7 +170,7 @@ typedef struct ecc200_symbol {
  * Returns the first fault that applies: PROFILE, ITEM, TOO_LONG. */
 uint16_t ecc200_write(const uint16_t *ECC200_RESTRICT items, size_t count, uint16_t profile, ecc200_symbol *ECC200_RESTRICT out);
 
-/* Writes the normal symbol of what a symbol says, whatever its size, encodation and damage.
+/* Writes the normal symbol of what a symbol says, whatever its size and encodation, and whatever damage was corrected.
  * Returns the first fault that applies: PROFILE, those of ecc200_read, TOO_LONG. */
 uint16_t ecc200_normal(const uint8_t *ECC200_RESTRICT modules, size_t count, uint16_t side, uint16_t border_limit, uint16_t profile, ecc200_symbol *ECC200_RESTRICT out);
 
@@ -224,7 +226,7 @@ typedef struct ecc200_size {
     uint16_t region_side;     /* modules on a side of a region, without its border */
     uint16_t mapping;         /* modules on a side of the mapping matrix, which is all regions together, without their borders */
     uint16_t data_codewords;
-    uint16_t check_codewords;
+    uint16_t check_codewords; /* the standard's error correction codewords */
     uint16_t blocks;          /* into which the codewords are dealt */
     uint16_t limit;           /* how many wrong codewords can be corrected in each block */
 } ecc200_size;
@@ -274,7 +276,7 @@ static inline const char *ecc200_words(uint16_t code) {
     case ECC200_TRIPLET: return "a pair of codewords that doesn't stand for three values";
     case ECC200_VALUE: return "a value that has no meaning after a shift";
     case ECC200_LENGTH: return "a wrong Base 256 length";
-    case ECC200_UNFINISHED: return "the symbol ends before the character of an Upper Shift";
+    case ECC200_UNFINISHED: return "the run or the symbol ends before the character of an Upper Shift";
     case ECC200_TOO_LONG: return "the message is too long for any size";
     case ECC200_ITEM: return "an item above 256";
     case ECC200_PROFILE: return "no such profile";

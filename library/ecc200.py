@@ -70,7 +70,7 @@ _WORDS = {
     Code.TRIPLET: "a pair of codewords that doesn't stand for three values",
     Code.VALUE: "a value that has no meaning after a shift",
     Code.LENGTH: "a wrong Base 256 length",
-    Code.UNFINISHED: "the symbol ends before the character of an Upper Shift",
+    Code.UNFINISHED: "the run or the symbol ends before the character of an Upper Shift",
     Code.TOO_LONG: "the message is too long for any size",
     Code.ITEM: "an item above 256",
     Code.PROFILE: "no such profile",
@@ -226,6 +226,12 @@ def _limit(side: int, border_limit: Optional[int]) -> int:
     return usual_limit(side) if border_limit is None else max(0, min(border_limit, 65535))
 
 
+def _profile(profile: int) -> int:
+    if not 0 <= profile <= 65535:
+        raise Refused(Code.PROFILE, 65535)
+    return profile
+
+
 def read(grid: Grid, border_limit: Optional[int] = None) -> Reading:
     """What a symbol says. `border_limit`: how many border modules may have the wrong colour, by default the usual limit.
 
@@ -251,15 +257,16 @@ def write(message: Union[bytes, Iterable[int]], gs1: bool = False, profile: Prof
         if not 0 <= item <= 65535:
             raise Refused(Code.ITEM, 65535, min(place, 65535))
     out = _SymbolOut()
-    _library.ecc200_write((_u16 * max(1, len(items)))(*items), len(items), profile, out)
+    _library.ecc200_write((_u16 * max(1, len(items)))(*items), len(items), _profile(profile), out)
     return _rows(out)
 
 
 def normal(grid: Grid, border_limit: Optional[int] = None, profile: Profile = Profile.ASCII) -> Rows:
-    """The normal symbol of what a symbol says. Symbols say the same exactly if their normal symbols under one profile are equal."""
+    """The normal symbol of what a symbol says. Symbols that have normal symbols under one profile say the same exactly if these are
+    equal."""
     modules, count, side = _modules(grid)
     out = _SymbolOut()
-    _library.ecc200_normal(modules, count, side, _limit(side, border_limit), profile, out)
+    _library.ecc200_normal(modules, count, side, _limit(side, border_limit), _profile(profile), out)
     return _rows(out)
 
 

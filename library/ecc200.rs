@@ -5,6 +5,7 @@
 #![deny(unsafe_op_in_unsafe_fn)]
 #![allow(dead_code)]
 
+use std::alloc::{self, Layout};
 use std::fmt;
 
 /// FNC1 among the items of a message.
@@ -50,7 +51,7 @@ impl fmt::Display for Fault {
             10 => "a pair of codewords that doesn't stand for three values",
             11 => "a value that has no meaning after a shift",
             12 => "a wrong Base 256 length",
-            13 => "the symbol ends before the character of an Upper Shift",
+            13 => "the run or the symbol ends before the character of an Upper Shift",
             14 => "the message is too long for any size",
             15 => "an item above 256",
             16 => "no such profile",
@@ -192,9 +193,14 @@ mod sys {
 /// A struct of the library with all its bytes 0, on the heap.
 ///
 /// # Safety
-/// All bytes 0 must be a valid value of the type.
+/// All bytes 0 must be a valid value of the type, and the type must have a size above 0.
 unsafe fn zeros<T>() -> Box<T> {
-    unsafe { Box::<T>::new_zeroed().assume_init() }
+    let layout = Layout::new::<T>();
+    let place = unsafe { alloc::alloc_zeroed(layout) };
+    if place.is_null() {
+        alloc::handle_alloc_error(layout);
+    }
+    unsafe { Box::from_raw(place.cast()) }
 }
 
 /// Whether the linked library has the interface of this file.

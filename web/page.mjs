@@ -315,8 +315,8 @@ function refusal({ code, value, place }, size, limit) {
   const at = `data codeword ${place}`;
   switch (code) {
     case 5: return `${plural(value, "module", "modules")} of the border ${value === 1 ? "has" : "have"} the wrong colour, and ${limit} may. The message may still be readable: raise the limit below.`;
-    case 6: return `More than ${size.limit} codewords are wrong${size.blocks > 1 ? ` in block ${place + 1} of ${size.blocks}` : ""}. Its ${size.check / size.blocks} check codewords correct no more than that, and nothing is guessed.`;
-    case 7: return `The standard reserves the value of ${at}: 0, or 242 to 255.`;
+    case 6: return `More than ${size.limit} codewords are wrong${size.blocks > 1 ? ` in block ${place + 1} of ${size.blocks}` : ""}. ${size.blocks > 1 ? "Its" : "The"} ${size.check / size.blocks} check codewords correct no more than that, and nothing is guessed.`;
+    case 7: return `The value of ${at}, 0 or 242 to 255, is one that the standard reserves.`;
     case 8: return `Data codeword ${place} begins ${LEFT_OUT[value]}.`;
     case 9: return `No character follows the Upper Shift at ${at}.`;
     case 10: return `A pair of C40, Text or X12 codewords doesn’t stand for three values: ${at} and the next.`;

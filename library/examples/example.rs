@@ -1,6 +1,6 @@
 //! One printed symbol, one damaged symbol, one refusal.
 //!
-//!     rustc --edition 2021 -O example.rs -l ecc200
+//!     rustc --edition 2021 -O library/examples/example.rs -L native=library/out -l static=ecc200
 #[path = "../ecc200.rs"]
 mod ecc200;
 

@@ -26,7 +26,7 @@ def small_symbol():
     click(24)  # codeword 5
     agree("three codewords")
     count.expect("three codewords said", (shown()["state"], shown()["why"], shown()["meters"][0]),
-                 ("Refused", "More than 2 codewords are wrong. Its 5 check codewords correct no more than that, and nothing is guessed.", "more than 2"))
+                 ("Refused", "More than 2 codewords are wrong. The 5 check codewords correct no more than that, and nothing is guessed.", "more than 2"))
     count.expect("beyond correction by its pixels", drawn(10), grid())
     click(24)
     agree("two codewords again")

@@ -110,8 +110,8 @@ def as_program(shown):
 
 REFUSALS = [
     (5, r"(\d+) modules? of the border ha(?:s|ve) the wrong colour, and (\d+) may"),
-    (6, r"More than \d+ codewords are wrong(?: in block (\d+) of \d+)?\. Its \d+ check codewords correct no more"),
-    (7, r"The standard reserves the value of data codeword (\d+): 0, or 242 to 255\."),
+    (6, r"More than \d+ codewords are wrong(?: in block (\d+) of \d+)?\. (?:Its|The) \d+ check codewords correct no more"),
+    (7, r"The value of data codeword (\d+), 0 or 242 to 255, is one that the standard reserves\."),
     (8, r"Data codeword (\d+) begins (structured append|reader programming|macro 05|macro 06|EDIFACT|an ECI)"),
     (9, r"No character follows the Upper Shift at data codeword (\d+)\."),
     (10, r"A pair of C40, Text or X12 codewords doesn’t stand for three values: data codeword (\d+)"),
