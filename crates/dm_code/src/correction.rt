@@ -7,15 +7,15 @@ ghost use Rattle.dm_code.specs.Codeword.{IsCodeword, IsNear, distance};
 ghost use Rattle.dm_code.specs.Syndromes.{syndromes_of};
 ghost use Rattle.dm_code.specs.KeyEquation.{IsBelow, IsLeastPair};
 
-use super::errors::{add_error, error_value, first_coefficients, step, sums, trimmed};
-use super::key::{Key, KeySolver};
-use super::limits::{LONGEST_WORD, MOST_COEFFICIENTS};
-use super::syndrome::syndromes;
+use crate::errors::{add_error, error_value, first_coefficients, step, sums, trimmed};
+use crate::key::{Key, KeySolver};
+use crate::limits::{LONGEST_WORD, MOST_COEFFICIENTS};
+use crate::syndrome::syndromes;
 use arrayvec::ArrayVec;
 use gf301::{Gf, MOST_CHECKS};
 
 /// A corrected word.
-#[derive(Debug, PartialEq, Eq, Drop)]
+#[derive(Clone, Debug, PartialEq, Eq, Drop)]
 pub struct Fixed {
     /// The codeword within the correction limit.
     pub word: ArrayVec<u8, LONGEST_WORD>,
@@ -130,9 +130,7 @@ fn copy_of<const N: usize>(list: &[u8]) -> ArrayVec<u8, N>
     ensures { result.items ≡ list.now }
 {
     let mut copy = ArrayVec::new();
-    for a in list {
-        copy.push(*a);
-    }
+    let _room = copy.try_extend_from_slice(list);
     copy
 }
 

@@ -5,9 +5,9 @@ ghost use Rattle.gf301.specs.Polynomial.{Bytes, coefficient, convolution};
 ghost use Rattle.arrayvec.specs.ArrayVec.{array_vec_len};
 ghost use Rattle.dm_code.specs.inner.LinearSystem.{row};
 
-use super::key::{Key, KeySolver};
-use super::limits::{MOST_COEFFICIENTS, MOST_ERRORS};
-use super::system::{Row, solve};
+use crate::key::{Key, KeySolver};
+use crate::limits::{MOST_COEFFICIENTS, MOST_ERRORS};
+use crate::system::{Row, solve};
 use arrayvec::ArrayVec;
 use gf301::{Gf, MOST_CHECKS, product_at};
 

@@ -5,12 +5,12 @@ ghost use Rattle.gf301.specs.Field.{power};
 ghost use Rattle.gf301.specs.Polynomial.{Bytes, value};
 ghost use Rattle.dm_code.specs.Codeword.{IsCodeword};
 
-use super::limits::LONGEST_WORD;
+use crate::limits::LONGEST_WORD;
 use arrayvec::ArrayVec;
 use gf301::{MOST_CHECKS, add_scaled, taps};
 
-/// Room for a word, and behind it for the rest of the last sixteen numbers that a step of the division writes.
-const ROOM: usize = LONGEST_WORD + 17;
+/// Room for a word, and behind it for the rest of the last sixteen numbers that a step of the division writes: at most 15.
+const ROOM: usize = LONGEST_WORD + 15;
 
 /// Returns the k check codewords of the data codewords `front`, k of 1 to [`MOST_CHECKS`], where both together are at most
 /// [`LONGEST_WORD`]: the one list of k codewords that completes `front` to a codeword of k checks.

@@ -11,7 +11,7 @@ ghost use Rattle.dm_code.specs.KeyEquation.{IsBelow};
 ghost use Rattle.dm_code.specs.KeyEquationLaws.{IsSamePolynomial};
 ghost use Rattle.dm_code.specs.inner.OddTerms.{odd_part};
 
-use super::limits::{MOST_COEFFICIENTS, MOST_ERRORS};
+use crate::limits::{MOST_COEFFICIENTS, MOST_ERRORS};
 use arrayvec::ArrayVec;
 use gf301::{Gf, power_row, scaled};
 use std::simd::prelude::*;

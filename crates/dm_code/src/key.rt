@@ -3,13 +3,13 @@
 ghost use Rattle.std.specs.Prelude.{◌*◌, ◌≤◌, length, IfNone, IfSome};
 ghost use Rattle.dm_code.specs.KeyEquation.{IsLeastPair, NoPair};
 
-use super::limits::{MOST_COEFFICIENTS, MOST_ERRORS};
+use crate::limits::{MOST_COEFFICIENTS, MOST_ERRORS};
 use arrayvec::ArrayVec;
 use gf301::MOST_CHECKS;
 
 /// A pair of polynomials, both with the lowest power first. Zeros at the end of a list don't matter to what it means;
 /// `==` compares the lists as they are.
-#[derive(Debug, PartialEq, Eq, Drop)]
+#[derive(Clone, Debug, PartialEq, Eq, Drop)]
 pub struct Key {
     /// The error locator, of a degree of at most [`MOST_ERRORS`]. In an answer of a [`KeySolver`] its coefficient of x^0 is 1.
     pub locator: ArrayVec<u8, MOST_COEFFICIENTS>,

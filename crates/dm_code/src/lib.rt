@@ -11,9 +11,9 @@
 //! with the square of the number of syndromes at the most, and [`Elimination`], whose work grows with its fourth power at
 //! the most.
 //!
-//! All but the solvers works in lanes, on sixteen codewords, roots or places at once ([`gf301::scaled`]): check codewords
-//! are what is left of a division in place, syndromes are sums over parts of a word, and roots of the error locator are
-//! looked for at sixteen places together.
+//! Everything but the solvers works in lanes, on sixteen codewords, roots or places at once ([`gf301::scaled`]): check
+//! codewords are what is left of a division in place, syndromes are sums over parts of a word, and roots of the error
+//! locator are looked for at sixteen places together.
 //!
 //! The definitions that the contracts cite are in `specs/`: `Codeword`, `Syndromes` and `KeyEquation`. What holds of these
 //! definitions, whatever the code does, is stated in `CodewordLaws` and `KeyEquationLaws` there and proved in [`laws`].

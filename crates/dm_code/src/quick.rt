@@ -5,9 +5,9 @@ ghost use Rattle.gf301.specs.Field.{◌⊕◌, ◌⊗◌};
 ghost use Rattle.gf301.specs.Polynomial.{Bytes, coefficient, convolution};
 ghost use Rattle.dm_code.specs.KeyEquation.{IsLeastPair, IsExact, NoPair};
 
-use super::errors::coefficient_at;
-use super::key::{Key, KeySolver};
-use super::limits::{MOST_COEFFICIENTS, MOST_ERRORS};
+use crate::errors::coefficient_at;
+use crate::key::{Key, KeySolver};
+use crate::limits::{MOST_COEFFICIENTS, MOST_ERRORS};
 use arrayvec::ArrayVec;
 use gf301::{Gf, MOST_CHECKS, Meter};
 use std::mem::replace;
@@ -24,7 +24,7 @@ impl Quick {
     /// and 2 t is at most their number.
     ///
     /// Every product and every inversion goes through the [`Meter`]. So an answer takes a product for each syndrome or more,
-    /// also a None takes one where there are syndromes, and a locator of more than one coefficient takes an inversion.
+    /// even a None takes one where there are syndromes, and a locator of more than one coefficient takes an inversion.
     pub fn solve_counted(&self, s: &[u8], t: usize) -> (Option<Key>, Meter)
         requires few { length s.now ≤ MOST_CHECKS }
         requires half { 2 * t ≤ length s.now }
@@ -174,7 +174,7 @@ fn evaluator_of(locator: &[u8], s: &[u8], meter: &mut Meter) -> ArrayVec<u8, MOS
     requires some { 0 < length locator.now }
     requires small { length locator.now ≤ MOST_COEFFICIENTS }
     requires within { length locator.now ≤ length s.now + 1 }
-    requires room { meter.old.products + 1190 < 2 ^ 32 }
+    requires room { meter.old.products + MOST_ERRORS * MOST_COEFFICIENTS < 2 ^ 32 }
     ensures long { length result.items + 1 ≡ length locator.now }
     ensures each { (i : ℕ) → i < length result.items → coefficient result.items i ≡ convolution (coefficient locator.now) (coefficient s.now) i }
     ensures bytes { Bytes result.items }

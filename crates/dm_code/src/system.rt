@@ -5,7 +5,7 @@ ghost use Rattle.gf301.specs.Field.{◌⊕◌, ◌⊗◌};
 ghost use Rattle.gf301.specs.Polynomial.{coefficient};
 ghost use Rattle.dm_code.specs.inner.LinearSystem.{dot, row, Solves, Unsolvable};
 
-use super::limits::{MOST_COEFFICIENTS, MOST_ERRORS};
+use crate::limits::{MOST_COEFFICIENTS, MOST_ERRORS};
 use arrayvec::ArrayVec;
 use gf301::{Gf, MOST_CHECKS};
 

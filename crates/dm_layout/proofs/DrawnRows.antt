@@ -1,7 +1,6 @@
 -- A grid into which the rows of the mapping square are put, and that it is the grid in which codewords are laid.
-use Rattle.std.proofs.Common.{◌≡◌, ◌≢◌, ◌⊎◌, inl, inr, ℕ, ◌+◌, ◌*◌, ◌/◌, ◌%◌, ◌<◌, ◌≤◌, Bool, true, false, ◌&&◌, ◌||◌, nat_eq, nat_lt, refl, sym, ◌∙◌, ap, arith, subst, eq-eqb}
+use Rattle.std.proofs.Common.{◌≡◌, ◌≢◌, ◌⊎◌, inl, inr, ℕ, ◌+◌, ◌*◌, ◌%◌, ◌<◌, ◌≤◌, Bool, true, false, ◌&&◌, ◌||◌, nat_eq, nat_lt, refl, sym, ◌∙◌, ap, arith, subst, eq-eqb}
 use Rattle.std.proofs.Math.Bool.{or-false, false-or}
-use Rattle.std.proofs.Math.Nat.{mul-div_cancel}
 use Rattle.std.proofs.lemmas.Bool.{eqb-true, ne_eqb, cases_lt, le-ltb, lt-ltb}
 use Rattle.std.proofs.lemmas.Bool.Decides.{eqb_tells}
 use Rattle.dm_layout.specs.declared.shape.Cell.{Cell}
@@ -18,7 +17,7 @@ use Rattle.dm_layout.proofs.NoFaults.{no_faults}
 use Rattle.dm_layout.proofs.PlaceOrder.{none_fixed}
 use Rattle.dm_layout.proofs.PlacementRows.{once_at_row}
 use Rattle.dm_layout.proofs.SymbolLines.{symbol_line-one, symbol_line-mod, mapping_line-symbol_line, lies_inside, no_border}
-use Rattle.dm_layout.proofs.TableRows.{row_facts}
+use Rattle.dm_layout.proofs.TableRows.{row_facts, across_covers}
 
 -- The empty grid is one in which no row of the mapping square is drawn.
 pub drawn_first : (size : SizeRow) (look : ℕ → ℕ → Bool) (grid : GridView) → IsRow size → grid ≡ empty_grid size → IsDrawn size look 0 grid
@@ -195,16 +194,9 @@ laid_by words size look grid h es eg g border mapped bits fixed =
 
 -- ---- a row of the symbol, by the size's numbers
 
--- The data regions cover the mapping square.
-pub regions_cover : (size : SizeRow) → IsRow size → size.mapping / size.region_side * size.region_side ≡ size.mapping
-regions_cover size row =
-    let facts = row_facts size row in
-    let p : 0 < size.region_side = omega (arith, facts.least) in
-    ap (λ (i : ℕ). i / size.region_side * size.region_side) facts.mapping ∙ ap (λ (i : ℕ). i * size.region_side) (mul-div_cancel (regions_across size) p) ∙ sym facts.mapping
-
 -- A row of the symbol that is drawn by the size's own numbers shows the row of the mapping square.
-pub in_rows : (size : SizeRow) (m d cells inner : ℕ) → IsRow size → m ≡ size.mapping → d ≡ size.region_side →
-    ((c : ℕ) → c < m / d * d → is_dark_in cells (symbol_line d c) ≡ is_dark_in inner c) → (c : ℕ) → c < size.mapping → is_dark_in cells (symbol_line size.region_side c) ≡ is_dark_in inner c
-in_rows size m d cells inner row em ed mapped c l =
-    let w : m / d * d ≡ size.mapping = ap (λ (i : ℕ). i / d * d) em ∙ ap (λ (i : ℕ). size.mapping / i * i) ed ∙ regions_cover size row in
+pub in_rows : (size : SizeRow) (a d cells inner : ℕ) → IsRow size → a ≡ regions_across size → d ≡ size.region_side →
+    ((c : ℕ) → c < a * d → is_dark_in cells (symbol_line d c) ≡ is_dark_in inner c) → (c : ℕ) → c < size.mapping → is_dark_in cells (symbol_line size.region_side c) ≡ is_dark_in inner c
+in_rows size a d cells inner row ea ed mapped c l =
+    let w = across_covers size a d row ea ed in
     ap (λ (i : ℕ). is_dark_in cells (symbol_line i c)) (sym ed) ∙ mapped c (omega (arith, w, l))

@@ -1,16 +1,17 @@
 -- The grid without codewords: correct borders, fixed square, all else light.
-use Rattle.std.proofs.Common.{◌≡◌, ◌≢◌, ◌⊎◌, inl, inr, ℕ, ◌+◌, ◌-◌, ◌*◌, ◌%◌, ◌<◌, ◌≤◌, Bool, true, false, ◌&&◌, ◌||◌, cond, nat_eq, nat_lt, refl, sym, ◌∙◌, ap, subst, arith}
+use Rattle.std.proofs.Common.{◌≡◌, ◌≢◌, ◌⊎◌, inl, inr, ℕ, ◌+◌, ◌-◌, ◌*◌, ◌%◌, ◌^◌, ◌<◌, ◌≤◌, Bool, true, false, ◌&&◌, ◌||◌, cond, nat_eq, nat_lt, refl, sym, ◌∙◌, ap, subst, arith}
 use Rattle.std.proofs.lemmas.Bool.{eqb-true, cases_lt, le-ltb, lt-ltb}
 use Rattle.std.proofs.Math.Bool.{or-false}
 use Rattle.std.proofs.Math.Nat.{mul-le-mul_right}
 use Rattle.std.proofs.lemmas.Bool.Decides.{eqb_tells}
 use Rattle.dm_layout.proofs.Ranges.{same_tests}
-use Rattle.dm_layout.specs.Sizes.{SizeRow, IsRow, regions_across}
-use Rattle.dm_layout.specs.Grid.{GridView, IsGrid, cell_at}
-use Rattle.dm_layout.specs.inner.Drawing.{with_cell, mapping_line, is_fixed_dark, empty_colour, empty_grid}
+use Rattle.dm_layout.specs.Sizes.{SizeRow, IsRow, regions_across, largest_side}
+use Rattle.dm_layout.specs.Grid.{GridView, IsGrid, cell_at, is_dark_in}
+use Rattle.dm_layout.specs.inner.Drawing.{mapping_line, is_fixed_dark, empty_colour, empty_grid}
 use Rattle.dm_layout.specs.Border.{is_border, border_is_dark, symbol_line}
 use Rattle.dm_layout.proofs.TableRows.{row_facts}
-use Rattle.dm_layout.proofs.GridLemmas.{cell_after, grid_with_cell, grid_of_square, cell_of_square, same_grids}
+use Rattle.dm_layout.proofs.GridLemmas.{grid_of_square, cell_of_square, same_grids}
+use Rattle.dm_layout.proofs.PackedRows.{one_cell}
 use Rattle.dm_layout.proofs.BorderLemmas.{mapped_line, IsFromMapping, IsImage, image_of_mapping, image_is_no_border, symbol_line_parts}
 
 -- When the borders of a row are drawn after those of the rows above it,
@@ -115,55 +116,44 @@ empty_without g grid cells other =
     none : (a b : ℕ) → is_fixed_dark g.size.mapping a b ≡ false
     none a b = let n = g.size.mapping in grind arith
 
+-- In the second grid the cells are dark that are dark in the first, and the cell at row and column k.
+abbrev pub Darkens : SizeRow → GridView → GridView → ℕ → Type 0
+Darkens s g h k = (r c : ℕ) → r < s.side → c < s.side → cell_at h r c ≡ (cell_at g r c || (nat_eq r k && is_dark_in (1 * 2 ^ k % 2 ^ 128) c))
+
 -- Where the size has a fixed square, a grid with correct borders and all else light becomes the empty grid when the
 -- two dark cells of the square are drawn.
-pub empty_with : (g : GridView) → IsGrid g → IsBordered g.size g → g.size.mapping % 4 ≡ 2 →
-    with_cell (with_cell g (g.size.side - 3) (g.size.side - 3) true) (g.size.side - 2) (g.size.side - 2) true ≡ empty_grid g.size
-empty_with g grid cells two =
-    same_grids g2 (empty_grid g.size) (grid_with_cell g1 (g.size.side - 2) (g.size.side - 2) true grid1 second) (grid_of_square g.size (empty_colour g.size) grid.row) refl
+pub empty_with : (s : SizeRow) (g g1 g2 : GridView) → IsRow s → IsGrid g2 → s ≡ g2.size → IsBordered s g → s.mapping % 4 ≡ 2 → Darkens s g g1 (s.side - 3) → Darkens s g1 g2 (s.side - 2) → g2 ≡ empty_grid s
+empty_with s g g1 g2 row grid same cells two first second =
+    sym (same_grids (empty_grid s) g2 (grid_of_square s (empty_colour s) row) grid same
     (λ r c lr lc.
-    cell_after g1 (g.size.side - 2) (g.size.side - 2) true r c grid1 second second
-    ∙ ap (λ b. cond (nat_eq r (g.size.side - 2) && nat_eq c (g.size.side - 2)) true b)
-    (cell_after g (g.size.side - 3) (g.size.side - 3) true r c grid first first ∙ ap (λ b. cond (nat_eq r (g.size.side - 3) && nat_eq c (g.size.side - 3)) true b) (cells r c lr lc))
-    ∙ marked (is_border g.size r c) (border_is_dark g.size r c) (is_fixed_dark g.size.mapping (mapping_line g.size.region_side r) (mapping_line g.size.region_side c))
-    (nat_eq r (g.size.side - 3) && nat_eq c (g.size.side - 3)) (nat_eq r (g.size.side - 2) && nat_eq c (g.size.side - 2))
-    (apart r c (g.size.side - 3) (fixed_is_no_border g.size grid.row).0) (apart r c (g.size.side - 2) (fixed_is_no_border g.size grid.row).1)
-    (λ e. fixed_in_symbol g.size r c grid.row (image_of_mapping g.size r c grid.row lr lc e) two)
-    ∙ sym (cell_of_square g.size (empty_colour g.size) r c lr lc))
+    cell_of_square s (empty_colour s) r c lr lc
+    ∙ sym (second r c lr lc
+    ∙ ap (λ b. cell_at g1 r c || (nat_eq r (s.side - 2) && b)) (one_cell (s.side - 2) c (omega (arith, fits)))
+    ∙ ap (λ b. b || (nat_eq r (s.side - 2) && nat_eq c (s.side - 2))) (first r c lr lc ∙ ap (λ b. cell_at g r c || (nat_eq r (s.side - 3) && b)) (one_cell (s.side - 3) c (omega (arith, fits))))
+    ∙ ap (λ b. (b || (nat_eq r (s.side - 3) && nat_eq c (s.side - 3))) || (nat_eq r (s.side - 2) && nat_eq c (s.side - 2))) (cells r c lr lc)
+    ∙ marked (is_border s r c) (border_is_dark s r c) (is_fixed_dark s.mapping (mapping_line s.region_side r) (mapping_line s.region_side c))
+    (nat_eq r (s.side - 3) && nat_eq c (s.side - 3)) (nat_eq r (s.side - 2) && nat_eq c (s.side - 2))
+    (apart r c (s.side - 3) (fixed_is_no_border s row).0) (apart r c (s.side - 2) (fixed_is_no_border s row).1)
+    (λ e. fixed_in_symbol s r c row (image_of_mapping s r c row lr lc e) two))))
   where
-    first : g.size.side - 3 < g.size.side
-    first = let bounds = sides_of g.size grid.row in omega (arith, bounds.1)
-
-    second : g.size.side - 2 < g.size.side
-    second = let bounds = sides_of g.size grid.row in omega (arith, bounds.1)
-
-    g1 : GridView
-    g1 = with_cell g (g.size.side - 3) (g.size.side - 3) true
-
-    grid1 : IsGrid (with_cell g (g.size.side - 3) (g.size.side - 3) true)
-    grid1 = grid_with_cell g (g.size.side - 3) (g.size.side - 3) true grid first
-
-    g2 : GridView
-    g2 = with_cell (with_cell g (g.size.side - 3) (g.size.side - 3) true) (g.size.side - 2) (g.size.side - 2) true
+    fits : s.side ≤ largest_side
+    fits = (row_facts s row).fits
 
     marked : (border dark fixed t1 t2 : Bool) → (border ≡ true → t1 ≡ false) → (border ≡ true → t2 ≡ false) → (border ≡ false → fixed ≡ t1 || t2) →
-        cond t2 true (cond t1 true (border && dark)) ≡ cond border dark fixed
-    marked true dark fixed t1 t2 p q r = ap (λ b. cond b true (cond t1 true dark)) (q refl) ∙ ap (λ b. cond b true dark) (p refl)
-    marked false dark fixed true true p q r = sym (r refl)
-    marked false dark fixed true false p q r = sym (r refl)
-    marked false dark fixed false true p q r = sym (r refl)
-    marked false dark fixed false false p q r = sym (r refl)
+        ((border && dark) || t1) || t2 ≡ cond border dark fixed
+    marked true dark fixed t1 t2 p q r = ap (λ b. (dark || t1) || b) (q refl) ∙ or-false (dark || t1) ∙ ap (λ b. dark || b) (p refl) ∙ or-false dark
+    marked false dark fixed t1 t2 p q r = sym (r refl)
 
-    apart : (r c a : ℕ) → is_border g.size a a ≡ false → is_border g.size r c ≡ true → nat_eq r a && nat_eq c a ≡ false
+    apart : (r c a : ℕ) → is_border s a a ≡ false → is_border s r c ≡ true → nat_eq r a && nat_eq c a ≡ false
     apart r c a outside inside = by_both (nat_eq r a) (nat_eq c a) refl refl
       where
         clash : r ≡ a → c ≡ a → true ≡ false
-        clash e f = sym inside ∙ ap (λ x. is_border g.size x c) e ∙ ap (is_border g.size a) f ∙ outside
+        clash e f = sym inside ∙ ap (λ x. is_border s x c) e ∙ ap (is_border s a) f ∙ outside
 
-        by_both : (s t : Bool) → nat_eq r a ≡ s → nat_eq c a ≡ t → s && t ≡ false
+        by_both : (t u : Bool) → nat_eq r a ≡ t → nat_eq c a ≡ u → t && u ≡ false
         by_both true true p q = clash (eqb-true r a p) (eqb-true c a q)
         by_both true false p q = refl
-        by_both false t p q = refl
+        by_both false u p q = refl
 
 -- Before the first row no border is drawn.
 pub none_above : (r : ℕ) (border dark : Bool) → false ≡ nat_lt r 0 && border && dark

@@ -1,15 +1,13 @@
 -- Grids, their cells, and one cell in another colour.
-use Rattle.std.proofs.Common.{◌≡◌, ℕ, zero, suc, ◌<◌, Bool, true, false, ◌&&◌, cond, nat_eq, List, [], ◌∷◌, map, length, get_or, set, ◌≢◌, get_or-set_other, get_or-set_same, refl, sym, ◌∙◌, ap, subst, arith}
+use Rattle.std.proofs.Common.{◌≡◌, ℕ, zero, suc, ◌<◌, Bool, false, List, [], ◌∷◌, map, length, get_or, set, ◌≢◌, get_or-set_other, get_or-set_same, refl, sym, ◌∙◌, ap, subst, arith}
 use Rattle.std.specs.Prelude.{All}
 use Rattle.std.specs.List.{range_with_len}
 use Rattle.std.proofs.lemmas.List.{same_lists}
 use Rattle.std.proofs.lemmas.List.FromFn.{length-map-range_with_len, get_or-map-range_with_len, fill_by_all}
 use Rattle.std.proofs.lemmas.List.Elements.{All-get_or, All-map, All-set}
-use Rattle.std.proofs.lemmas.Bool.{eqb-true, eqb-false}
 use Rattle.std.proofs.Math.ListN.{length-set}
 use Rattle.dm_layout.specs.Sizes.{SizeRow, IsRow}
 use Rattle.dm_layout.specs.Grid.{GridView, IsGrid, cell_at, square_by}
-use Rattle.dm_layout.specs.inner.Drawing.{with_cell}
 
 -- ---- two grids
 
@@ -84,6 +82,10 @@ same_grids g h a b e cells =
 
 -- ---- one cell in another colour
 
+-- When one cell of a grid is given a colour, all others stay as they are.
+abbrev pub with_cell : GridView → ℕ → ℕ → Bool → GridView
+with_cell grid row column dark = record { size = grid.size; rows = set grid.rows row (set (get_or grid.rows row []) column dark) }
+
 -- A cell that is given a colour has it.
 pub cell_written : (g : GridView) (r c : ℕ) (b : Bool) → IsGrid g → r < g.size.side → c < g.size.side → cell_at (with_cell g r c b) r c ≡ b
 cell_written g r c b grid lr lc =
@@ -102,19 +104,6 @@ pub cell_of_other_column : (g : GridView) (r c e : ℕ) (b : Bool) → r < lengt
 cell_of_other_column g r c e b inside ne =
     ap (λ (line : List Bool). get_or line e false) (get_or-set_same g.rows r (set (get_or g.rows r []) c b) [] inside)
     ∙ get_or-set_other (get_or g.rows r []) c e b false ne
-
--- After a cell is given a colour it has that colour, and every other cell is as before.
-pub cell_after : (g : GridView) (r c : ℕ) (b : Bool) (q e : ℕ) → IsGrid g → r < g.size.side → c < g.size.side →
-    cell_at (with_cell g r c b) q e ≡ cond (nat_eq q r && nat_eq e c) b (cell_at g q e)
-cell_after g r c b q e grid lr lc = by_row (nat_eq q r) refl
-  where
-    by_column : (t : Bool) → nat_eq e c ≡ t → cell_at (with_cell g r c b) r e ≡ cond t b (cell_at g r e)
-    by_column true h = ap (cell_at (with_cell g r c b) r) (eqb-true e c h) ∙ cell_written g r c b grid lr lc
-    by_column false h = cell_of_other_column g r c e b (omega (arith, grid.height)) (eqb-false e c h)
-
-    by_row : (t : Bool) → nat_eq q r ≡ t → cell_at (with_cell g r c b) q e ≡ cond (t && nat_eq e c) b (cell_at g q e)
-    by_row true h = subst (λ x. cell_at (with_cell g r c b) x e ≡ cond (nat_eq e c) b (cell_at g x e)) (sym (eqb-true q r h)) (by_column (nat_eq e c) refl)
-    by_row false h = cell_of_other_row g r c q e b (eqb-false q r h)
 
 -- A grid stays well formed when one of its cells is given a colour.
 pub grid_with_cell : (g : GridView) (r c : ℕ) (b : Bool) → IsGrid g → r < g.size.side → IsGrid (with_cell g r c b)

@@ -4,9 +4,9 @@ use Rattle.std.specs.Int.{bit_at}
 use Rattle.std.specs.Int.RustNames.{bit_or}
 use Rattle.std.specs.Int.Bits.{or_shifted_r}
 use Rattle.std.proofs.lemmas.Bool.{ltb-true, ltb-false}
-use Rattle.std.proofs.Math.Nat.{mod-eq_of_lt, div-div-eq-div-mul, mul-le-mul_right, mul-div_cancel}
+use Rattle.std.proofs.Math.Nat.{mod-eq_of_lt, div-div-eq-div-mul, mul-le-mul_right}
 use Rattle.dm_layout.specs.Sizes.{SizeRow, regions_across}
-use Rattle.dm_layout.proofs.TableRows.{row_facts}
+use Rattle.dm_layout.proofs.TableRows.{across_covers}
 use Rattle.dm_layout.proofs.SymbolLines.{lies_inside}
 use Rattle.std.proofs.Math.Pow.{pow_pos}
 use Rattle.std.proofs.lemmas.Nat.{pow-add, mul-add-lt, div-mul-add, pow_below}
@@ -123,15 +123,11 @@ cut_first row d n least some fits =
 -- ---- the loops
 
 -- A row of the symbol without its borders is a row of the mapping square.
-pub one_line : (grid : GridView) (size : SizeRow) (m d row outer x : ℕ) → IsGrid grid → size ≡ grid.size → m ≡ size.mapping → d ≡ size.region_side → row < m →
+pub one_line : (grid : GridView) (size : SizeRow) (a d row outer x : ℕ) → IsGrid grid → size ≡ grid.size → a ≡ regions_across size → d ≡ size.region_side →
     ((c : ℕ) → c < grid.size.side → is_dark_in outer c ≡ cell_at grid (symbol_line d row) c) →
-    ((c : ℕ) → c < m / d * d → is_dark_in x c ≡ is_dark_in outer (symbol_line d c)) → (c : ℕ) → c < grid.size.mapping → is_dark_in x c ≡ mapped_cell grid row c
-one_line grid size m d row outer x g e f h l outside inside c lc =
-    let facts = row_facts grid.size g.row in
-    let md : m ≡ grid.size.mapping = f ∙ ap (λ (s : SizeRow). s.mapping) e in
+    ((c : ℕ) → c < a * d → is_dark_in x c ≡ is_dark_in outer (symbol_line d c)) → (c : ℕ) → c < grid.size.mapping → is_dark_in x c ≡ mapped_cell grid row c
+one_line grid size a d row outer x g e f h outside inside c lc =
     let dd : d ≡ grid.size.region_side = h ∙ ap (λ (s : SizeRow). s.region_side) e in
-    let p : 0 < grid.size.region_side = omega (arith, facts.least) in
-    let q : grid.size.mapping / grid.size.region_side ≡ regions_across grid.size = ap (λ (i : ℕ). i / grid.size.region_side) facts.mapping ∙ mul-div_cancel (regions_across grid.size) p in
-    let w : m / d * d ≡ grid.size.mapping = ap (λ (i : ℕ). i / d * d) md ∙ ap (λ (i : ℕ). grid.size.mapping / i * i) dd ∙ ap (λ (i : ℕ). i * grid.size.region_side) q ∙ sym facts.mapping in
+    let w = across_covers grid.size a d g.row (f ∙ ap regions_across e) dd in
     let lies : symbol_line d c < grid.size.side = subst (λ (i : ℕ). symbol_line i c < grid.size.side) (sym dd) (lies_inside grid.size c g.row lc) in
     inside c (omega (arith, w, lc)) ∙ outside (symbol_line d c) lies ∙ ap (λ (i : ℕ). cell_at grid (symbol_line i row) (symbol_line i c)) dd

@@ -1,8 +1,8 @@
 -- Codewords that are kept at the front of a list of bytes.
-use Rattle.std.proofs.Common.{◌≡◌, ℕ, ◌+◌, ◌-◌, ◌<◌, ◌≤◌, List, length, take, drop, set, get_or, replicate, sym, ◌∙◌, arith, length-take, ap, [], ◌∷◌, ◌++◌}
+use Rattle.std.proofs.Common.{◌≡◌, ℕ, ◌+◌, ◌-◌, ◌<◌, ◌≤◌, List, length, take, drop, replicate, ◌∙◌, arith, length-take, ap, ◌++◌}
 use Rattle.std.specs.Prelude.{All}
 use Rattle.std.proofs.Math.Seq.{take-append-add}
-use Rattle.std.proofs.lemmas.List.{take_more, take_more_set, drop-replicate, take-replicate, length-append, length-drop, length-replicate}
+use Rattle.std.proofs.lemmas.List.{drop-replicate, take-replicate, length-append, length-drop, length-replicate}
 use Rattle.std.proofs.lemmas.List.Elements.{All-append, All-drop, All-replicate, All-take}
 use borrow.Rule.Slice.PartMut.{put_mid, same_len_mid}
 use Rattle.dm_layout.specs.Sizes.{SizeRow, IsRow, codeword_count, most_codewords}
@@ -17,22 +17,17 @@ words_of_kept size kept h = record {
   bytes = All-take (λ word. word < 256) (codeword_count size) kept h.bytes;
 }
 
--- When the next codeword of a list is kept, the first i + 1 codewords of the list are kept.
-pub one_more : (kept list : List ℕ) (i : ℕ) → i < length kept → i < length list → take i kept ≡ take i list → take (i + 1) (set kept i (get_or list i 0)) ≡ take (i + 1) list
-one_more kept list i l k h =
-    take_more_set kept i (get_or list i 0) l ∙ ap (λ (ws : List ℕ). ws ++ get_or list i 0 ∷ []) h ∙ sym (take_more list i 0 k)
-
--- Data codewords, and zeros behind them, are kept.
-pub data_kept : (size : SizeRow) (front : List ℕ) → IsRow size → codeword_count size ≤ most_codewords → length front ≡ size.data_count → All (λ word. word < 256) front
+-- Codewords, and zeros behind them, are kept.
+pub front_kept : (size : SizeRow) (front : List ℕ) → IsRow size → codeword_count size ≤ most_codewords → length front ≤ most_codewords → All (λ word. word < 256) front
     → AreKept size (front ++ drop (length front) (replicate most_codewords 0))
-data_kept size front row fits count bytes =
+front_kept size front row fits room bytes =
     let none : ℕ = 0 in
     let zeros : List ℕ = drop (length front) (replicate most_codewords none) in
     let long : length zeros ≡ most_codewords - length front = ap length (drop-replicate (length front) most_codewords none) ∙ length-replicate (most_codewords - length front) none in
     record {
       row = row;
       fits = fits;
-      count = omega (arith, length-append front zeros, long, fits, count);
+      count = omega (arith, length-append front zeros, long, room);
       bytes = All-append (λ (word : ℕ). word < 256) front zeros bytes (All-drop (λ (word : ℕ). word < 256) (length front) (replicate most_codewords none) (All-replicate (λ (word : ℕ). word < 256) most_codewords none (omega arith)));
     }
 

@@ -13,8 +13,8 @@ use Rattle.std.proofs.lemmas.Nat.Bits.{bit_at_and, bit_at-lt}
 use Rattle.dm_layout.specs.Grid.{is_dark_in}
 use Rattle.dm_layout.specs.inner.Reading.{look_in}
 use Rattle.dm_layout.specs.inner.Slots.{is_joined, reversed_bits}
-use Rattle.dm_layout.specs.declared.slots.TheConstants.{REVERSED, TWO, THREE}
-use Rattle.dm_layout.specs.declared.bit_rows.TheConstants.{NARROW_TWO, NARROW_THREE}
+use Rattle.dm_layout.specs.declared.slots.TheConstants.{REVERSED}
+use Rattle.dm_layout.specs.declared.bit_rows.TheConstants.{LOW_TWO_BITS, LOW_THREE_BITS, NARROW_LOW_TWO_BITS, NARROW_LOW_THREE_BITS}
 use Rattle.dm_layout.proofs.Ranges.{all_below}
 use Rattle.dm_layout.proofs.OuterRows.{or_dark}
 use Rattle.dm_layout.specs.Placement.{cells_of}
@@ -79,27 +79,27 @@ and_dark a b c = ap (λ (i : ℕ). nat_eq i 1) (bit_at_and a b c) ∙ min_one (b
 
 -- A test of 128 columns, computed by the checker: the masks have the
 -- lowest two and the lowest three bits of each byte.
-masks : list_all (λ c. beq (is_dark_in TWO c) (nat_lt (c % 8) 2) && beq (is_dark_in THREE c) (nat_lt (c % 8) 3)) (range_with_len 0 128) ≡ true
+masks : list_all (λ c. beq (is_dark_in LOW_TWO_BITS c) (nat_lt (c % 8) 2) && beq (is_dark_in LOW_THREE_BITS c) (nat_lt (c % 8) 3)) (range_with_len 0 128) ≡ true
 masks = refl
 
 -- The masks of sixteen bytes have the lowest two and the lowest three bits of each byte.
-pub masks_at : (c : ℕ) → c < 128 → (is_dark_in TWO c ≡ nat_lt (c % 8) 2) × (is_dark_in THREE c ≡ nat_lt (c % 8) 3)
+pub masks_at : (c : ℕ) → c < 128 → (is_dark_in LOW_TWO_BITS c ≡ nat_lt (c % 8) 2) × (is_dark_in LOW_THREE_BITS c ≡ nat_lt (c % 8) 3)
 masks_at c l =
     let both =
-    and_parts (beq (is_dark_in TWO c) (nat_lt (c % 8) 2)) (beq (is_dark_in THREE c) (nat_lt (c % 8) 3))
-    (all_below (λ c. beq (is_dark_in TWO c) (nat_lt (c % 8) 2) && beq (is_dark_in THREE c) (nat_lt (c % 8) 3)) 128 c masks l) in
+    and_parts (beq (is_dark_in LOW_TWO_BITS c) (nat_lt (c % 8) 2)) (beq (is_dark_in LOW_THREE_BITS c) (nat_lt (c % 8) 3))
+    (all_below (λ c. beq (is_dark_in LOW_TWO_BITS c) (nat_lt (c % 8) 2) && beq (is_dark_in LOW_THREE_BITS c) (nat_lt (c % 8) 3)) 128 c masks l) in
     ((booleans_Decides _ _).0 both.0, (booleans_Decides _ _).0 both.1)
 
 -- A test of 64 columns, computed by the checker: the masks have the
 -- lowest two and the lowest three bits of each byte.
-narrow_masks : list_all (λ c. beq (is_dark_in NARROW_TWO c) (nat_lt (c % 8) 2) && beq (is_dark_in NARROW_THREE c) (nat_lt (c % 8) 3)) (range_with_len 0 64) ≡ true
+narrow_masks : list_all (λ c. beq (is_dark_in NARROW_LOW_TWO_BITS c) (nat_lt (c % 8) 2) && beq (is_dark_in NARROW_LOW_THREE_BITS c) (nat_lt (c % 8) 3)) (range_with_len 0 64) ≡ true
 narrow_masks = refl
 
-pub narrow_masks_at : (c : ℕ) → c < 64 → (is_dark_in NARROW_TWO c ≡ nat_lt (c % 8) 2) × (is_dark_in NARROW_THREE c ≡ nat_lt (c % 8) 3)
+pub narrow_masks_at : (c : ℕ) → c < 64 → (is_dark_in NARROW_LOW_TWO_BITS c ≡ nat_lt (c % 8) 2) × (is_dark_in NARROW_LOW_THREE_BITS c ≡ nat_lt (c % 8) 3)
 narrow_masks_at c l =
     let both =
-    and_parts (beq (is_dark_in NARROW_TWO c) (nat_lt (c % 8) 2)) (beq (is_dark_in NARROW_THREE c) (nat_lt (c % 8) 3))
-    (all_below (λ c. beq (is_dark_in NARROW_TWO c) (nat_lt (c % 8) 2) && beq (is_dark_in NARROW_THREE c) (nat_lt (c % 8) 3)) 64 c narrow_masks l) in
+    and_parts (beq (is_dark_in NARROW_LOW_TWO_BITS c) (nat_lt (c % 8) 2)) (beq (is_dark_in NARROW_LOW_THREE_BITS c) (nat_lt (c % 8) 3))
+    (all_below (λ c. beq (is_dark_in NARROW_LOW_TWO_BITS c) (nat_lt (c % 8) 2) && beq (is_dark_in NARROW_LOW_THREE_BITS c) (nat_lt (c % 8) 3)) 64 c narrow_masks l) in
     ((booleans_Decides _ _).0 both.0, (booleans_Decides _ _).0 both.1)
 
 -- A masked row, moved to the left, is dark where the row is at the lowest three bits of a byte.
@@ -132,13 +132,13 @@ module _ (width two three : ℕ) (masked : (c : ℕ) → c < width → (is_dark_
 
 -- Three masked rows of 128 bits, each moved to its place in the bytes, are joined in one.
 pub joined_bit : (a b d c : ℕ) → c < 128 →
-    is_dark_in (bit_or (bit_or (bit_and a TWO) (bit_and b THREE * 4 % 2 ^ 128)) (bit_and d THREE * 32 % 2 ^ 128)) c ≡ is_joined a b d c
-joined_bit = joined_in 128 TWO THREE masks_at
+    is_dark_in (bit_or (bit_or (bit_and a LOW_TWO_BITS) (bit_and b LOW_THREE_BITS * 4 % 2 ^ 128)) (bit_and d LOW_THREE_BITS * 32 % 2 ^ 128)) c ≡ is_joined a b d c
+joined_bit = joined_in 128 LOW_TWO_BITS LOW_THREE_BITS masks_at
 
 -- Three masked rows of 64 bits, each moved to its place in the bytes, are joined in one.
 pub narrow_joined_bit : (a b d c : ℕ) → c < 64 →
-    is_dark_in (bit_or (bit_or (bit_and a NARROW_TWO) (bit_and b NARROW_THREE * 4 % 2 ^ 64)) (bit_and d NARROW_THREE * 32 % 2 ^ 64)) c ≡ is_joined a b d c
-narrow_joined_bit = joined_in 64 NARROW_TWO NARROW_THREE narrow_masks_at
+    is_dark_in (bit_or (bit_or (bit_and a NARROW_LOW_TWO_BITS) (bit_and b NARROW_LOW_THREE_BITS * 4 % 2 ^ 64)) (bit_and d NARROW_LOW_THREE_BITS * 32 % 2 ^ 64)) c ≡ is_joined a b d c
+narrow_joined_bit = joined_in 64 NARROW_LOW_TWO_BITS NARROW_LOW_THREE_BITS narrow_masks_at
 
 -- ---- the bytes of a row
 
@@ -240,6 +240,12 @@ join_more n width olds rows news row wide is bits so_far = record {
     other : (r : ℕ) → r ≢ row → get_or news r 0 ≡ get_or rows r 0
     other r ne = ap (λ (xs : List ℕ). get_or xs r 0) is ∙ get_or-set_other rows row r (get_or news row 0) 0 ne
 
+-- The slot of a corner has the lowest byte of the row behind all others.
+pub corner_slot_is : (last : ℕ) (rows : List ℕ) → last ≤ 96 → slot_byte last rows corner_slot ≡ get_or rows last 0 % 256
+corner_slot_is last rows most =
+    let z : get_or rows last 0 / 1 % 256 ≡ get_or rows last 0 % 256 = omega arith in
+    ap (λ (i : ℕ). get_or rows i 0 / 1 % 256) (min-eq_right most) ∙ z
+
 -- Joined rows, with the codeword of a corner put behind them, have the slots of all codewords.
 pub corner_beside : (n last : ℕ) (rows joined news : List ℕ) (b w : ℕ) → n ≤ last → last ≤ 96 → last < length joined → news ≡ set joined last b → b < 256 → b ≡ reversed_bits w → w < 256 → AreJoined n rows joined →
     (n % 8 ≡ 4 → w ≡ word_in rows (cells_of n Corner1)) → (n % 8 ≡ 6 → w ≡ word_in rows (cells_of n Corner2)) → HasSlots n last rows news
@@ -253,11 +259,10 @@ corner_beside n last rows joined news b w within most room is fits e small ancho
   where
     corner : reversed_bits (slot_byte last news corner_slot) ≡ w
     corner =
-        let m : min 96 last ≡ last = min-eq_right most in
-        let z : b / 1 % 256 ≡ b = omega arith in
-        ap (λ (i : ℕ). reversed_bits (get_or news i 0 / 1 % 256)) m
-        ∙ ap (λ (xs : List ℕ). reversed_bits (get_or xs last 0 / 1 % 256)) is
-        ∙ ap (λ (x : ℕ). reversed_bits (x / 1 % 256)) (get_or-set_same joined last b 0 room)
+        let z : b % 256 ≡ b = omega arith in
+        ap reversed_bits (corner_slot_is last news most)
+        ∙ ap (λ (xs : List ℕ). reversed_bits (get_or xs last 0 % 256)) is
+        ∙ ap (λ (x : ℕ). reversed_bits (x % 256)) (get_or-set_same joined last b 0 room)
         ∙ ap reversed_bits (z ∙ e)
         ∙ reversed_twice w small
 

@@ -1,5 +1,5 @@
 -- What holds for each row of the size table.
-use Rattle.std.proofs.Common.{◌≡◌, ℕ, ◌+◌, ◌*◌, ◌/◌, ◌%◌, ◌<◌, ◌≤◌, Bool, true, false, cond, ◌&&◌, nat_eq, nat_le, List, [], ◌∷◌, Option, Some, None, refl, sym, ◌∙◌, ap, subst, arith}
+use Rattle.std.proofs.Common.{◌≡◌, ℕ, ◌+◌, ◌*◌, ◌%◌, ◌<◌, ◌≤◌, Bool, true, false, cond, ◌&&◌, nat_eq, nat_le, List, [], ◌∷◌, Option, Some, None, refl, sym, ◌∙◌, ap, subst, arith}
 use Rattle.std.specs.Prelude.{All, IfSome, find}
 use Rattle.std.specs.List.{AllByRecursion, list_all, list_any}
 use Rattle.std.proofs.lemmas.Bool.{and_parts, eqb-true, leb-true, leb-false}
@@ -105,9 +105,9 @@ row_facts s h =
       parts = eqb-true _ _ l.1;
     }
 
--- The mapping side divided by the side of a region is how many regions stand side by side.
-pub across_is : (s : SizeRow) (m d : ℕ) → m ≡ s.mapping → d ≡ s.region_side → m / d ≡ regions_across s
-across_is s m d em ed = ap (λ (i : ℕ). i / d) em ∙ ap (λ (i : ℕ). s.mapping / i) ed
+-- The regions that stand side by side are together as wide as the mapping square.
+pub across_covers : (s : SizeRow) (a d : ℕ) → IsRow s → a ≡ regions_across s → d ≡ s.region_side → a * d ≡ s.mapping
+across_covers s a d row ea ed = ap (λ (i : ℕ). i * d) ea ∙ ap (λ (i : ℕ). regions_across s * i) ed ∙ sym (row_facts s row).mapping
 
 -- A side that the table has is at most the largest side.
 pub side_fits : (side : ℕ) (s : SizeRow) → row_with_side side ≡ Some s → side ≤ largest_side

@@ -4,11 +4,10 @@ use Rattle.std.proofs.lemmas.Bool.Decides.{eqb_tells}
 use Rattle.dm_layout.specs.declared.cells.Place.{Place}
 use Rattle.dm_layout.specs.Sizes.{SizeRow, IsRow}
 use Rattle.dm_layout.specs.Grid.{GridView, IsGrid, cell_at}
-use Rattle.dm_layout.specs.inner.Drawing.{with_cell}
 use Rattle.dm_layout.specs.Border.{symbol_line}
 use Rattle.dm_layout.specs.Placement.{At, IsPlace, EachCellOnce}
 use Rattle.dm_layout.specs.Holds.{bit_of}
-use Rattle.dm_layout.proofs.GridLemmas.{cell_written, cell_of_other_row, cell_of_other_column, grid_with_cell}
+use Rattle.dm_layout.proofs.GridLemmas.{with_cell, cell_written, cell_of_other_row, cell_of_other_column, grid_with_cell}
 use Rattle.dm_layout.proofs.PlaceOrder.{ArePlaces, one_bit}
 use Rattle.dm_layout.proofs.SymbolLines.{symbol_line-one, lies_inside}
 use Rattle.dm_layout.proofs.TableRows.{row_facts}

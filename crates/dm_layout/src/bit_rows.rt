@@ -1,6 +1,6 @@
 //! Rows of bits as numbers, as wide and as many as a mapping square asks for.
 //!
-//! The codewords are lifted by the same functions in two widths: 64 bits serve all mapping squares up to side 48, and
+//! The codewords are lifted and laid by the same functions in two widths: 64 bits serve all mapping squares up to side 48, and
 //! 128 bits the larger ones. A small symbol thus pays neither for the rows nor for the columns of the largest.
 
 ghost use Rattle.std.specs.Prelude.{◌≡◌, ℕ, ◌+◌, ◌*◌, ◌/◌, ◌%◌, ◌^◌, ◌<◌, ◌≤◌, List, get_or, length, set, replicate, bit_or};
@@ -12,14 +12,15 @@ ghost use Rattle.dm_layout.specs.inner.Reading.{look_in};
 ghost use Rattle.dm_layout.specs.inner.Slots.{is_joined, slot_byte, HasSlot};
 
 use crate::shape::LARGEST_MAPPING;
-use crate::slots::{THREE, TWO};
-use crate::widened::WIDENED;
 
 /// The side of the largest mapping square whose rows are numbers of 64 bits: all squares of up to four regions.
 pub(crate) const NARROW_MAPPING: u16 = 48;
 
-/// How many rows there is room for then.
-const NARROW_WIDENED: usize = 54;
+/// How many wide rows there are: two above the largest square, and four below it, since wrapping looks there.
+const WIDENED: usize = LARGEST_MAPPING + 6;
+
+/// How many narrow rows there are, likewise.
+const NARROW_WIDENED: usize = NARROW_MAPPING as usize + 6;
 
 /// Rows for mapping squares up to side 48.
 pub(crate) type NarrowRows = [u64; NARROW_WIDENED];
@@ -27,11 +28,17 @@ pub(crate) type NarrowRows = [u64; NARROW_WIDENED];
 /// Rows for all mapping squares.
 pub(crate) type WideRows = [u128; WIDENED];
 
+/// The lowest two bits of each byte, of sixteen.
+const LOW_TWO_BITS: u128 = 0x0303_0303_0303_0303_0303_0303_0303_0303;
+
+/// The lowest three bits of each byte, of sixteen.
+const LOW_THREE_BITS: u128 = 0x0707_0707_0707_0707_0707_0707_0707_0707;
+
 /// The lowest two bits of each byte, of eight.
-const NARROW_TWO: u64 = 0x0303_0303_0303_0303;
+const NARROW_LOW_TWO_BITS: u64 = 0x0303_0303_0303_0303;
 
 /// The lowest three bits of each byte, of eight.
-const NARROW_THREE: u64 = 0x0707_0707_0707_0707;
+const NARROW_LOW_THREE_BITS: u64 = 0x0707_0707_0707_0707;
 
 /// Rows of bits as numbers: the cell of column c is the bit of weight 2^c, 1 for dark.
 pub(crate) trait BitRows: Sized + Drop {
@@ -97,16 +104,11 @@ pub(crate) trait BitRows: Sized + Drop {
         requires column { column < most + 4 }
         ensures { result ≡ bit_at (get_or (numbers self.now) row 0) column };
 
-    /// Adds a byte to its slot: in the row of its anchor, or in the last one.
+    /// Adds a byte to its slot: in the row of its anchor, or in the one that keeps the codeword of a corner.
     fn add_byte(&mut self, slot: u16, byte: u8)
         requires room { length (numbers self.old) ≡ most + 6 }
         requires slot { HasSlot most slot }
         ensures { numbers self.new ≡ with_byte width last (numbers self.old) slot byte };
-
-    /// The byte in the slot of a corner.
-    fn corner(&self) -> u8
-        requires { length (numbers self.now) ≡ most + 6 }
-        ensures { result ≡ get_or (numbers self.now) last 0 % 256 };
 
     /// Lays the codewords of a row of slots over widened rows, where they begin at this column.
     fn scatter(&mut self, slots: &Self, row: usize, column: u16)
@@ -177,9 +179,9 @@ impl BitRows for NarrowRows {
 
     #[inline(always)]
     fn join(&mut self, row: usize, column: u16) {
-        self[row] = (self[row] >> column) & NARROW_TWO
-            | ((self[row + 1] >> column) & NARROW_THREE) << 2
-            | ((self[row + 2] >> column) & NARROW_THREE) << 5;
+        self[row] = (self[row] >> column) & NARROW_LOW_TWO_BITS
+            | ((self[row + 1] >> column) & NARROW_LOW_THREE_BITS) << 2
+            | ((self[row + 2] >> column) & NARROW_LOW_THREE_BITS) << 5;
     }
 
     #[inline(always)]
@@ -205,16 +207,11 @@ impl BitRows for NarrowRows {
     }
 
     #[inline(always)]
-    fn corner(&self) -> u8 {
-        (self[NARROW_WIDENED - 1] % 256) as u8
-    }
-
-    #[inline(always)]
     fn scatter(&mut self, slots: &NarrowRows, row: usize, column: u16) {
         let codewords = slots[row];
-        self[row] |= (codewords & NARROW_TWO) << column;
-        self[row + 1] |= ((codewords >> 2) & NARROW_THREE) << column;
-        self[row + 2] |= ((codewords >> 5) & NARROW_THREE) << column;
+        self[row] |= (codewords & NARROW_LOW_TWO_BITS) << column;
+        self[row + 1] |= ((codewords >> 2) & NARROW_LOW_THREE_BITS) << column;
+        self[row + 2] |= ((codewords >> 5) & NARROW_LOW_THREE_BITS) << column;
     }
 
     #[inline(always)]
@@ -271,9 +268,9 @@ impl BitRows for WideRows {
 
     #[inline(always)]
     fn join(&mut self, row: usize, column: u16) {
-        self[row] = (self[row] >> column) & TWO
-            | ((self[row + 1] >> column) & THREE) << 2
-            | ((self[row + 2] >> column) & THREE) << 5;
+        self[row] = (self[row] >> column) & LOW_TWO_BITS
+            | ((self[row + 1] >> column) & LOW_THREE_BITS) << 2
+            | ((self[row + 2] >> column) & LOW_THREE_BITS) << 5;
     }
 
     #[inline(always)]
@@ -303,16 +300,11 @@ impl BitRows for WideRows {
     }
 
     #[inline(always)]
-    fn corner(&self) -> u8 {
-        (self[LARGEST_MAPPING] % 256) as u8
-    }
-
-    #[inline(always)]
     fn scatter(&mut self, slots: &WideRows, row: usize, column: u16) {
         let codewords = slots[row];
-        self[row] |= (codewords & TWO) << column;
-        self[row + 1] |= ((codewords >> 2) & THREE) << column;
-        self[row + 2] |= ((codewords >> 5) & THREE) << column;
+        self[row] |= (codewords & LOW_TWO_BITS) << column;
+        self[row + 1] |= ((codewords >> 2) & LOW_THREE_BITS) << column;
+        self[row + 2] |= ((codewords >> 5) & LOW_THREE_BITS) << column;
     }
 
     #[inline(always)]

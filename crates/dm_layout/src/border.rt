@@ -12,8 +12,7 @@ use crate::packed::front;
 use crate::size::Size;
 use std::marker::Model;
 
-/// How many border cells have the wrong colour. The left column and the bottom row of each region's border are dark;
-/// its top row and its right column alternate, and are dark at the left and at the bottom.
+/// How many border cells have another colour than [`border_colour`](crate::border_colour) prescribes.
 pub fn border_faults(grid: &Grid) -> u16
     ensures { result ≡ border_fault_count grid.now }
 {
@@ -143,7 +142,7 @@ pub(crate) fn draw_borders(grid: &mut Grid, size: Size)
         inner = borders.below(inner);
     }
     if size.mapping() % 4 == 2 {
-        grid.set_cell(side - 3, side - 3, true);
-        grid.set_cell(side - 2, side - 2, true);
+        grid.darken(side - 3, 1 << (side - 3));
+        grid.darken(side - 2, 1 << (side - 2));
     }
 }

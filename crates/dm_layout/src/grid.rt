@@ -3,9 +3,9 @@
 ghost use Rattle.std.specs.Prelude.{◌≡◌, ℕ, nat_eq, ◌&&◌, ◌||◌, ◌≢◌, ◌*◌, ◌^◌, ◌<◌, ◌↔◌, All, IfOk, OnErr, OnOk, IsNone, length};
 ghost use Rattle.dm_layout.specs.Sizes.{row_with_side};
 ghost use Rattle.dm_layout.specs.Grid.{IsGrid, is_dark_in, cell_at, square_of, square_of_rows};
-ghost use Rattle.dm_layout.specs.inner.Drawing.{IsLight, with_cell};
+ghost use Rattle.dm_layout.specs.inner.Drawing.{IsLight};
 
-use crate::packed::{front, is_dark, packed_row, recoloured};
+use crate::packed::{front, is_dark, packed_row};
 use crate::size::{LARGEST_SIDE, Size};
 use std::marker::Model;
 
@@ -152,10 +152,11 @@ impl Grid {
     }
 
     /// A row, counted from 0 at the top and below the side, as a number: the cell of column `c`, counted from 0 at
-    /// the left, is the bit of weight 2^c, 1 for dark.
+    /// the left, is the bit of weight 2^c, 1 for dark. The bits from the side on are 0.
     pub fn row(&self, row: u16) -> u128
         requires { row < self.now.size.side }
-        ensures { (column : ℕ) → column < self.now.size.side → is_dark_in result column ≡ cell_at self.now row column }
+        ensures width { result < 2 ^ self.now.size.side }
+        ensures cells { (column : ℕ) → column < self.now.size.side → is_dark_in result column ≡ cell_at self.now row column }
     {
         self.rows[row as usize]
     }
@@ -169,16 +170,6 @@ impl Grid {
         ensures cells { (r c : ℕ) → r < self.old.size.side → c < self.old.size.side → cell_at self.new r c ≡ (cell_at self.old r c || (nat_eq r row && is_dark_in cells c)) }
     {
         self.rows[row as usize] |= cells;
-    }
-
-    /// Colours one cell.
-    pub(crate) fn set_cell(&mut self, row: u16, column: u16, dark: bool)
-        requires row { row < self.old.size.side }
-        requires column { column < self.old.size.side }
-        ensures { self.new ≡ with_cell self.old row column dark }
-    {
-        let was = self.rows[row as usize];
-        self.rows[row as usize] = recoloured(was, column, dark);
     }
 
     /// The rows from the top, each as a number.

@@ -10,8 +10,8 @@ ghost use Rattle.dm_layout.specs.inner.Slots.{reversed_bits};
 ghost use Rattle.dm_layout.specs.inner.Walking.{CellsInside};
 
 use crate::bit_rows::BitRows;
-use crate::shape::{Cell, Shape};
-use crate::slots::reversed;
+use crate::shape::{Cell, Shape, wrap_shift};
+use crate::slots::{CORNER_SLOT, codeword, first_column};
 
 /// Makes the cells of all standard shapes dark where the bits of their codewords are 1, in widened rows without a dark cell.
 fn scatter<R: BitRows>(rows: &mut R, slots: &R, mapping: u16)
@@ -22,7 +22,7 @@ fn scatter<R: BitRows>(rows: &mut R, slots: &R, mapping: u16)
     ensures cells { (r c : ℕ) → c < R.width → look_in (R.numbers rows.new) r c ≡ scattered mapping (R.numbers slots.now) r c }
 {
     for row in 0..mapping {
-        rows.scatter(slots, row as usize, (4 + 3 * row) % 8 + 2);
+        rows.scatter(slots, row as usize, first_column(row));
     }
 }
 
@@ -35,7 +35,7 @@ fn lower_rows<R: BitRows>(rows: &mut R, mapping: u16)
     ensures room { length (R.numbers rows.new) ≡ R.most + 6 }
     ensures cells { (r c : ℕ) → c + 8 ≤ R.width → look_in (R.numbers rows.new) r c ≡ lowered mapping (look_in (R.numbers rows.old)) r c }
 {
-    let shift = (mapping + 4) % 8;
+    let shift = wrap_shift(mapping);
     let last = mapping as usize;
     rows.lower(last, 0, shift);
     rows.lower(last + 1, 1, shift);
@@ -66,7 +66,7 @@ fn fold<R: BitRows>(rows: &mut R, mapping: u16)
     ensures cells { (r c : ℕ) → r < mapping → c < mapping → look_in (R.numbers rows.new) (r + 2) (c + 4) ≡ folded mapping (look_in (R.numbers rows.old)) r c }
 {
     lower_rows(rows, mapping);
-    move_columns(rows, mapping, (mapping + 4) % 8);
+    move_columns(rows, mapping, wrap_shift(mapping));
 }
 
 /// Makes these cells of the square dark where the bits of a codeword are 1.
@@ -112,5 +112,5 @@ pub(crate) fn lay_slots<R: BitRows>(rows: &mut R, slots: &R, mapping: u16)
 {
     scatter(rows, slots, mapping);
     fold(rows, mapping);
-    put_corner(rows, mapping, reversed(slots.corner()));
+    put_corner(rows, mapping, codeword(slots, CORNER_SLOT));
 }

@@ -19,7 +19,7 @@ use crate::size::Size;
 use crate::slots::{order, reversed};
 use crate::words::Words;
 
-/// Makes widened rows without a dark cell those of the mapping square with the codewords, and nothing else dark in it.
+/// Turns `rows`, in which no cell is dark, into the mapping square with these codewords; nothing else in it is dark.
 pub(crate) fn paint<R: BitRows>(words: &Words, rows: &mut R)
     requires light { R.numbers rows.old ≡ replicate (R.most + 6) 0 }
     requires fits { words.now.size.mapping ≤ R.most }
@@ -90,7 +90,7 @@ fn draw_regions<R: BitRows>(
     ensures { IsDrawn size (λ r c. look_in (R.numbers rows.now) (r + 2) (c + 4)) ((region + 1) * size.region_side) grid.new }
 {
     let region_side = size.region_side();
-    let across = size.mapping() / region_side;
+    let across = size.regions_across();
     let first = region * region_side;
     for line in first..first + region_side {
         let cells = outer_row(rows.inner(line as usize + 2), region_side, across, fronts);
@@ -98,7 +98,7 @@ fn draw_regions<R: BitRows>(
     }
 }
 
-/// Makes it the grid with these rows of the mapping square, correct borders and the fixed square.
+/// Turns `grid` into the grid with these rows of the mapping square, correct borders and the fixed square.
 pub(crate) fn draw_rows<R: BitRows>(grid: &mut Grid, size: Size, rows: &R)
     requires room { length (R.numbers rows.now) ≡ R.most + 6 }
     requires fits { size.mapping ≤ R.most }
@@ -108,7 +108,7 @@ pub(crate) fn draw_rows<R: BitRows>(grid: &mut Grid, size: Size, rows: &R)
     ensures mapped { (r c : ℕ) → r < size.mapping → c < size.mapping → mapped_cell grid.new r c ≡ (is_fixed_dark size.mapping r c || look_in (R.numbers rows.now) (r + 2) (c + 4)) }
 {
     let region_side = size.region_side();
-    let across = size.mapping() / region_side;
+    let across = size.regions_across();
     let fronts = fronts(region_side, across);
     draw_borders(grid, size);
     for region in 0..across {

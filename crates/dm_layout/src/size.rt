@@ -136,6 +136,17 @@ impl Size {
         self.regions
     }
 
+    /// How many regions stand side by side.
+    pub(crate) fn regions_across(self) -> u16
+        ensures value { result ≡ regions_across self }
+        ensures row { IsRow self }
+        ensures some { 1 ≤ regions_across self }
+        ensures few { regions_across self ≤ 4 }
+        ensures mapping { self.mapping ≡ regions_across self * self.region_side }
+    {
+        self.mapping / self.region_side
+    }
+
     /// The cells of a side of one region, without its border.
     pub fn region_side(self) -> u16
         ensures value { result ≡ self.region_side }

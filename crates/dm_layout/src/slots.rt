@@ -2,21 +2,18 @@
 //!
 //! The anchors of a row stand every eighth column, so that the codewords of a row are the bytes of one number.
 
-ghost use Rattle.std.specs.Prelude.{◌≡◌, ◌+◌, ◌%◌, ◌≤◌, length};
+ghost use Rattle.std.specs.Prelude.{◌≡◌, ◌+◌, ◌%◌, ◌<◌, ◌≤◌, length};
 ghost use Rattle.dm_layout.specs.Placement.{cells_of};
-ghost use Rattle.dm_layout.specs.inner.Slots.{reversed_bits, word_in, order_of, slot_byte, AreJoined, HasSlot, HasSlots};
+ghost use Rattle.dm_layout.specs.inner.Slots.{first_column as first_column_by, reversed_bits, word_in, order_of, slot_byte, AreJoined, HasSlot, HasSlots};
 ghost use Rattle.dm_layout.specs.inner.Walking.{CellsInside, largest_mapping};
 ghost use Rattle.dm_layout.specs.declared.shape.Shape.TheVariants.{Corner1, Corner2};
 
 use crate::bit_rows::BitRows;
 use crate::order_rows::*;
-use crate::shape::{Cell, Shape};
+use crate::shape::{Cell, LARGEST_MAPPING, Shape};
 
-/// The lowest two bits of each byte.
-pub(crate) const TWO: u128 = 0x0303_0303_0303_0303_0303_0303_0303_0303;
-
-/// The lowest three bits of each byte.
-pub(crate) const THREE: u128 = 0x0707_0707_0707_0707_0707_0707_0707_0707;
+/// The slot of the codeword of a corner, which lies behind all others.
+pub(crate) const CORNER_SLOT: u16 = 16 * LARGEST_MAPPING as u16;
 
 /// Each byte with its bits in the opposite order.
 static REVERSED: [u8; 256] = [
@@ -73,6 +70,14 @@ fn corner_word<R: BitRows>(rows: &R, mapping: u16) -> u8
     }
 }
 
+/// The column of the widened rows in which the first codeword of a row of anchors begins.
+pub(crate) fn first_column(row: u16) -> u16
+    requires { row < largest_mapping }
+    ensures { result ≡ first_column_by row }
+{
+    (4 + 3 * row) % 8 + 2
+}
+
 /// Makes each of the widened rows the codewords of its anchors; each has its bits in the opposite order.
 fn join_anchors<R: BitRows>(rows: &mut R, mapping: u16)
     requires room { length (R.numbers rows.old) ≡ R.most + 6 }
@@ -81,7 +86,7 @@ fn join_anchors<R: BitRows>(rows: &mut R, mapping: u16)
     ensures joined { AreJoined mapping (R.numbers rows.old) (R.numbers rows.new) }
 {
     for row in 0..mapping {
-        rows.join(row as usize, (4 + 3 * row) % 8 + 2);
+        rows.join(row as usize, first_column(row));
     }
 }
 

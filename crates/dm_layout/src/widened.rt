@@ -13,10 +13,7 @@ ghost use Rattle.dm_layout.specs.inner.Widened.{IsMoved, IsWidened};
 
 use crate::bit_rows::BitRows;
 use crate::grid::Grid;
-use crate::shape::LARGEST_MAPPING;
-
-/// How many rows there is room for: below the square four more stay 0, since wrapping looks there.
-pub(crate) const WIDENED: usize = LARGEST_MAPPING + 6;
+use crate::shape::wrap_shift;
 
 /// The row of the mapping square that lies in a row of the symbol between the borders of `across` regions.
 #[inline(always)]
@@ -47,7 +44,7 @@ fn move_regions<R: BitRows>(grid: &Grid, rows: &mut R, region: u16)
 {
     let size = grid.size();
     let region_side = size.region_side();
-    let across = size.mapping() / region_side;
+    let across = size.regions_across();
     let first = region * region_side;
     for row in first..first + region_side {
         let outer = grid.row(row + 2 * region + 1);
@@ -63,7 +60,7 @@ fn move_rows<R: BitRows>(grid: &Grid, rows: &mut R)
     ensures moved { IsMoved grid.now.size.mapping grid.now.size.mapping (mapped_cell grid.now) (R.numbers rows.new) }
 {
     let size = grid.size();
-    for region in 0..size.mapping() / size.region_side() {
+    for region in 0..size.regions_across() {
         move_regions(grid, rows, region);
     }
 }
@@ -105,7 +102,7 @@ pub(crate) fn widen<R: BitRows>(grid: &Grid, rows: &mut R)
     ensures widened { IsWidened grid.now.size.mapping (mapped_cell grid.now) (R.numbers rows.new) }
 {
     let mapping = grid.size().mapping();
-    let shift = (mapping + 4) % 8;
+    let shift = wrap_shift(mapping);
     move_rows(grid, rows);
     wrap_columns(rows, mapping, shift);
     wrap_rows(rows, mapping, shift);

@@ -39,9 +39,7 @@ impl Words {
         let _checks = size.check_count();
         let _side = size.side();
         let mut kept = [0; MOST_CODEWORDS];
-        for (i, word) in list.iter().enumerate() {
-            kept[i] = *word;
-        }
+        kept[..list.len()].copy_from_slice(list);
         Words { size, kept }
     }
 
@@ -70,8 +68,8 @@ impl Words {
         self.kept[start..end].copy_from_slice(checks);
     }
 
-    /// Codewords of this size, all of them 0.
-    pub(crate) fn zeros(size: Size) -> Words
+    /// Codewords of this size with any values: a place for [`lift_to`](crate::lift_to).
+    pub(crate) fn any(size: Size) -> Words
         ensures size { result.size ≡ size }
         ensures words { IsWords result }
     {

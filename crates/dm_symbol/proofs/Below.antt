@@ -80,7 +80,7 @@ laid_somewhere = laid_somewhere_of
 pub laid_grid_is_one : (g h : GridView) (words : WordsView) → IsLaid words g → IsLaid words h → g ≡ h
 laid_grid_is_one g h words hg hh = one_laid words g h hg hh
 
--- A cell of the mapping matrix is the place of at most one bit.
+-- A cell of the mapping square is the place of at most one bit.
 pub each_cell_once : (size : SizeRow) → IsRow size → EachCellOnce size.mapping
 each_cell_once size row = once_at_row size row
 

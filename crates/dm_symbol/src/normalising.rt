@@ -1,6 +1,6 @@
 //! Normalising: the normal grid of what a grid says.
 
-ghost use Rattle.std.specs.Prelude.{OnOk};
+ghost use Rattle.std.specs.Prelude.{◌≡◌, OnErr, OnOk};
 ghost use Rattle.dm_words.specs.Places.{outcome};
 ghost use Rattle.dm_symbol.specs.Reading.{ReadAnswer};
 ghost use Rattle.dm_symbol.specs.Normal.{IsNormalised};
@@ -43,7 +43,8 @@ pub fn normal_as(profile: Profile, grid: &Grid, border_limit: u16) -> Result<Gri
 }
 
 /// Does the same as [`normal_as`] in places: if it answers `Ok`, `normal` holds the normal grid and `reading` what the grid says,
-/// whatever they held before. After a fault they hold some grid and some reading.
+/// whatever they held before. After a fault `normal` is as it was; `reading` holds what the grid says after `TooLong` too, and some
+/// reading after `Read`.
 pub fn normal_to(
     profile: Profile,
     grid: &Grid,
@@ -53,6 +54,8 @@ pub fn normal_to(
 ) -> Result<(), NormalFault>
     ensures normal { IsNormalised profile grid.now border_limit (outcome result normal.new) }
     ensures reading { OnOk result (ReadAnswer grid.now border_limit (Ok reading.new)) }
+    ensures reading_of_long { result ≡ Err NormalFault.TooLong → ReadAnswer grid.now border_limit (Ok reading.new) }
+    ensures same { OnErr result (normal.new ≡ normal.old) }
 {
     match read_to(grid, border_limit, reading) {
         Ok(()) => {}

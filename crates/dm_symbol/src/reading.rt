@@ -14,7 +14,7 @@ use dm_layout::{Grid, MOST_BLOCKS, Words, border_faults, lift};
 use dm_words::{Message, WordFault, message_to};
 
 /// What a grid says, and how much of it was wrong.
-#[derive(Clone, Debug, Drop, PartialEq, Eq)]
+#[derive(Clone, Debug, Default, Drop, PartialEq, Eq)]
 pub struct Reading {
     /// The message.
     pub message: Message,
@@ -64,12 +64,14 @@ pub fn read(grid: &Grid, border_limit: u16) -> Result<Reading, ReadFault>
     }
 }
 
-/// Does the same as [`read`] in a place: if it answers `Ok`, the place holds the reading, whatever it held before. After a fault it
-/// holds some reading. One place serves any number of grids, and a small symbol pays nothing for the room that the largest needs.
+/// Does the same as [`read`] in a place: if it answers `Ok`, the place holds the reading, whatever it held before. After `Border` it is as
+/// it was, and after another fault it holds some reading. One place serves any number of grids, and isn't cleared for the largest symbol;
+/// the codewords are, 1,152 bytes a call.
 pub fn read_to(grid: &Grid, border_limit: u16, reading: &mut Reading) -> Result<(), ReadFault>
     ensures answer { ReadAnswer grid.now border_limit (outcome result reading.new) }
     ensures message { (m : List Item) → IsReadAs (outcome result reading.new) m ↔ Reads grid.now border_limit m }
     ensures border { (count : ℕ) → (outcome result reading.new ≡ Err (ReadFault.Border count)) ↔ ((border_limit < border_fault_count grid.now) × (count ≡ border_fault_count grid.now)) }
+    ensures same { (count : ℕ) → result ≡ Err (ReadFault.Border count) → reading.new ≡ reading.old }
 {
     let border_faults = border_faults(grid);
     if border_faults > border_limit {

@@ -1,6 +1,6 @@
 //! Writing: the normal grid of a message.
 
-ghost use Rattle.std.specs.Prelude.{◌≡◌, ◌≢◌, ◌<◌, ℕ, length};
+ghost use Rattle.std.specs.Prelude.{◌≡◌, ◌≢◌, ◌<◌, ℕ, length, OnErr};
 ghost use Rattle.dm_code.specs.Codeword.{IsCodeword};
 ghost use Rattle.dm_layout.specs.Sizes.{block_check};
 ghost use Rattle.dm_layout.specs.Holds.{IsLaid};
@@ -35,9 +35,10 @@ pub fn write_as(profile: Profile, message: &Message) -> Result<Grid, TooLong>
 }
 
 /// Does the same as [`write_as`] in a place: if it answers `Ok`, the place holds the normal grid, whatever it held before. After
-/// `TooLong` it holds some grid.
+/// `TooLong` it is as it was.
 pub fn write_to(profile: Profile, message: &Message, grid: &mut Grid) -> Result<(), TooLong>
-    ensures { IsWritten profile message.now (outcome result grid.new) }
+    ensures answer { IsWritten profile message.now (outcome result grid.new) }
+    ensures same { OnErr result (grid.new ≡ grid.old) }
 {
     let mut list = ArrayVec::new();
     match normal_words_to(profile, message, &mut list) {
@@ -71,11 +72,12 @@ fn completed(list: &[u8], size: Size) -> Words
     ensures checked { BlocksAreCodewords size result.list }
 {
     let mut words = Words::with_data(size, list);
-    if size.blocks() == 1 {
+    let blocks = size.blocks();
+    if blocks == 1 {
         complete_only_block(&mut words);
         return words;
     }
-    for b in 0..size.blocks() as usize {
+    for b in 0..usize::from(blocks) {
         complete_block(&mut words, b);
     }
     words
@@ -104,10 +106,8 @@ fn complete_block(words: &mut Words, b: usize)
 {
     let size = words.size();
     let mut list = block(words, b);
-    list.truncate(size.block_data() as usize);
-    let checks = encode(&list, size.block_check() as usize);
-    for check in checks.as_slice() {
-        list.push(*check);
-    }
+    list.truncate(usize::from(size.block_data()));
+    let checks = encode(&list, usize::from(size.block_check()));
+    let _room = list.try_extend_from_slice(checks.as_slice());
     put_block(words, b, &list);
 }

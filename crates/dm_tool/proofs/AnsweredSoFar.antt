@@ -1,5 +1,5 @@
 -- A text that is answered as it comes: what is known after each of its pieces, and at its end.
-use Rattle.std.proofs.Common.{◌≡◌, ◌≢◌, ◌∙◌, ◌≤◌, ◌+◌, ◌⊎◌, inl, inr, ℕ, zero, suc, List, [], ◌∷◌, ◌++◌, refl, sym, ap, subst, append-nil, append_assoc, map, length, length-take-le, drop, take, arith, Option, Result, Ok, Err, OnOk, OnErr}
+use Rattle.std.proofs.Common.{◌≡◌, ◌≢◌, ◌∙◌, ◌≤◌, ◌+◌, ℕ, zero, suc, List, [], ◌∷◌, ◌++◌, refl, sym, ap, subst, append-nil, append_assoc, map, length, length-take-le, drop, take, arith, Option, Result, Ok, Err, OnOk, OnErr}
 use Rattle.std.specs.Io.KnownBytes.{Appends, Keeps}
 use Rattle.dm_tool.specs.Devices.{AppendsFront}
 use Rattle.dm_tool.specs.inner.Gathering.{IsPassedOn}
@@ -7,6 +7,8 @@ use Rattle.dm_tool.proofs.KnownBytes.{appends_kept, passed_and_put}
 use Rattle.dm_symbol.specs.declared.Profile.{Profile}
 use Rattle.dm_tool.specs.declared.task.Task.{Task}
 use Rattle.dm_tool.specs.declared.task.Task.TheVariants.{Read, Check, Normal, Write, Table}
+use Rattle.dm_tool.specs.declared.task.RecordTask.{RecordTask}
+use Rattle.dm_tool.specs.declared.task.RecordTask.TheVariants as record_task
 use Rattle.dm_tool.specs.declared.answering.Answering.{Answering}
 use Rattle.dm_tool.specs.declared.answering.Answering.TheVariants.{Records, Lines}
 use Rattle.dm_tool.specs.Texts.{last_line}
@@ -19,7 +21,7 @@ use Rattle.dm_tool.specs.MessageLines.{IsLine}
 use Rattle.dm_tool.specs.Answers.{Answer, IsRecordAnswer, IsWriteAnswer}
 use Rattle.dm_tool.specs.Runs.{AreAllAnswers, AreAnswersTo, AreAnswersToRecords, AreClosedAnswers, AreClosedLines, AreMatched, IsAnswerToLine, IsAnswerToRecord, IsOutSoFar, IsOut, HasEnded, tally_of, written}
 use Rattle.dm_tool.specs.declared.task.Tally.{Tally}
-use Rattle.dm_tool.specs.inner.AnsweredSoFar.{EndsAnswered, Advances, IsAnsweredSoFar, HasTakenText, AnswersRecords}
+use Rattle.dm_tool.specs.inner.AnsweredSoFar.{EndsAnswered, Advances, IsAnsweredSoFar, HasTakenText, task_of}
 use Rattle.dm_tool.proofs.RecordTexts.{all_closed, last_closed, record_is_closed, records_stay_open}
 use Rattle.dm_tool.proofs.LineTexts.{line_is_closed, lines_stay_open}
 
@@ -52,6 +54,20 @@ matched_lines profile (l ∷ lines) (x ∷ messages) [] p q = absurd q
 matched_lines profile (l ∷ lines) (x ∷ messages) (y ∷ answers) p q = ((x, p.0, q.0), matched_lines profile lines messages answers p.1 q.1)
 
 -- ---- tasks of grids
+
+-- The tasks that read, check or normalise answer records; the other two don't.
+abbrev pub AnswersRecords : Task → Type 0
+AnswersRecords (Read border) = Unit {0}
+AnswersRecords (Check border) = Unit {0}
+AnswersRecords (Normal border profile) = Unit {0}
+AnswersRecords (Write profile) = ⊥
+AnswersRecords Table = ⊥
+
+-- A task that asks about records answers records.
+pub answers_records : (asked : RecordTask) (task : Task) → task_of asked ≡ task → AnswersRecords task
+answers_records (record_task.Read border) task is = subst AnswersRecords is tt
+answers_records (record_task.Check border) task is = subst AnswersRecords is tt
+answers_records (record_task.Normal border profile) task is = subst AnswersRecords is tt
 
 -- Where a task answers records, the answers to the records in some lines are the task's answers to these lines.
 pub answers_of_grids : (task : Task) (lines : List (List ℕ)) (answers : List Answer) → AnswersRecords task → AreAnswersToRecords task lines answers → AreAnswersTo task lines answers
@@ -102,19 +118,18 @@ taken_within : (taken : ℕ) (piece : List ℕ) → taken ≤ length piece → t
 taken_within taken piece h = subst (λ n. taken ≤ n) (sym (length-take-le taken piece h)) (omega arith)
 
 -- A piece that leaves a record open advances the text without an answer.
-pub record_open : (task : Task) (old new : RecordFacts) (piece : List ℕ) (taken : ℕ) → LeavesRecordOpen old piece taken new
-    → Advances (Records task old) piece [] (Records task new)
+pub record_open : (asked : RecordTask) (old new : RecordFacts) (piece : List ℕ) (taken : ℕ) → LeavesRecordOpen old piece taken new
+    → Advances (Records asked old) piece [] (Records asked new)
 record_open asked old new piece taken now task text answers s = (
   s.0,
-  s.1,
-  s.2 ++ [],
-  records_stay_open text s.2 old new piece taken s.3 now,
-  matched_append (IsRecordAnswer task) s.2 [] answers [] s.4 tt,
+  s.1 ++ [],
+  records_stay_open text s.1 old new piece taken s.2 now,
+  matched_append (IsRecordAnswer task) s.1 [] answers [] s.3 tt,
 )
 
 -- A front of a piece that closes a record advances the text with the record's answer.
-pub record_closed : (asked : Task) (old new : RecordFacts) (piece : List ℕ) (taken : ℕ) (grid : RecordAnswer) (answer : Answer) → ClosesRecord old piece taken grid new
-    → IsRecordAnswer asked grid answer → Advances (Records asked old) (take taken piece) (answer ∷ []) (Records asked new)
+pub record_closed : (asked : RecordTask) (old new : RecordFacts) (piece : List ℕ) (taken : ℕ) (grid : RecordAnswer) (answer : Answer) → ClosesRecord old piece taken grid new
+    → IsRecordAnswer (task_of asked) grid answer → Advances (Records asked old) (take taken piece) (answer ∷ []) (Records asked new)
 record_closed asked old new piece taken grid answer now is task text answers s =
     let front : ClosesRecord old (take taken piece) taken grid new = record {
       some = now.some;
@@ -123,10 +138,9 @@ record_closed asked old new piece taken grid answer now is task text answers s =
       empty = now.empty;
     } in (
       s.0,
-      s.1,
-      s.2 ++ grid ∷ [],
-      record_is_closed text s.2 old new (take taken piece) taken grid s.3 front (none_after taken piece),
-      matched_append (IsRecordAnswer task) s.2 (grid ∷ []) answers (answer ∷ []) s.4 (subst (λ t. IsRecordAnswer t grid answer) s.0 is, tt),
+      s.1 ++ grid ∷ [],
+      record_is_closed text s.1 old new (take taken piece) taken grid s.2 front (none_after taken piece),
+      matched_append (IsRecordAnswer task) s.1 (grid ∷ []) answers (answer ∷ []) s.3 (subst (λ t. IsRecordAnswer t grid answer) s.0 is, tt),
     )
 
 -- A piece that leaves a line open advances the text without an answer.
@@ -168,32 +182,32 @@ line_closed profile old new piece taken message answer now is task text answers 
 -- ---- the end
 
 -- Where no record stands open, the end of a text closes nothing.
-pub records_end : (asked : Task) (facts : RecordFacts) → ((u : List ℕ) → AreRecordFacts u facts → AreLfs u) → EndsAnswered (Records asked facts) []
+pub records_end : (asked : RecordTask) (facts : RecordFacts) → ((u : List ℕ) → AreRecordFacts u facts → AreLfs u) → EndsAnswered (Records asked facts) []
 records_end asked facts none task text answers s =
-    let t = s.3 in
+    let t = s.2 in
     record {
       lines = t.lines;
       rest = t.rest;
       split = t.split;
       answered = subst (λ a. AreAnswersTo task (t.lines ++ last_line t.rest) a) (sym (append-nil answers))
-          (answers_of_grids task (t.lines ++ last_line t.rest) answers s.1
-          (t.records, all_closed text s.2 facts t none, matched_records task t.records answers (subst (λ r. AreMatched (IsRecordAnswer task) r answers) t.answered s.4)));
+          (answers_of_grids task (t.lines ++ last_line t.rest) answers (answers_records asked task s.0)
+          (t.records, all_closed text s.1 facts t none, matched_records task t.records answers (subst (λ r. AreMatched (IsRecordAnswer task) r answers) t.answered s.3)));
     }
 
 -- Where a record stands open, the end of a text closes it, with its answer.
-pub last_record_ends : (asked : Task) (facts : RecordFacts) (grid : RecordAnswer) (answer : Answer) → ((u : List ℕ) → AreRecordFacts u facts → IsLastRecord u grid)
-    → IsRecordAnswer asked grid answer → EndsAnswered (Records asked facts) (answer ∷ [])
+pub last_record_ends : (asked : RecordTask) (facts : RecordFacts) (grid : RecordAnswer) (answer : Answer) → ((u : List ℕ) → AreRecordFacts u facts → IsLastRecord u grid)
+    → IsRecordAnswer (task_of asked) grid answer → EndsAnswered (Records asked facts) (answer ∷ [])
 last_record_ends asked facts grid answer last is task text answers s =
-    let t = s.3 in
+    let t = s.2 in
     let these = t.after ++ last_line t.rest in
-    let closed = last_closed text s.2 facts grid t last in
+    let closed = last_closed text s.1 facts grid t last in
     let now : IsAnswerToRecord task these answer = subst (λ g. IsRecordAnswer task g answer) closed.1 (subst (λ a. IsRecordAnswer a grid answer) s.0 is) in
-    let before = matched_records task t.records answers (subst (λ r. AreMatched (IsRecordAnswer task) r answers) t.answered s.4) in
+    let before = matched_records task t.records answers (subst (λ r. AreMatched (IsRecordAnswer task) r answers) t.answered s.3) in
     record {
       lines = t.lines;
       rest = t.rest;
       split = t.split;
-      answered = answers_of_grids task (t.lines ++ last_line t.rest) (answers ++ answer ∷ []) s.1 (
+      answered = answers_of_grids task (t.lines ++ last_line t.rest) (answers ++ answer ∷ []) (answers_records asked task s.0) (
         t.records ++ these ∷ [],
         closed.0,
         matched_append (IsAnswerToRecord task) t.records (these ∷ []) answers (answer ∷ []) before (now, tt),
@@ -239,15 +253,15 @@ last_line_ends profile facts message answer last is task text answers s =
 -- The answers so far are those to what is closed within the text.
 pub so_far_closed : (task : Task) (state : Answering) (text : List ℕ) (answers : List Answer) → IsAnsweredSoFar task state text answers → AreClosedAnswers task text answers
 so_far_closed task (Records asked facts) text answers s =
-    let t = s.3 in
+    let t = s.2 in
     record {
       lines = t.lines;
       rest = t.rest;
       split = t.split;
       closed = t.before;
-      are_closed = closed_of_grids task t.lines t.before s.1 (t.after, t.last_blank);
-      answered = answers_of_grids task t.before answers s.1
-          (t.records, t.are_records, matched_records task t.records answers (subst (λ r. AreMatched (IsRecordAnswer task) r answers) t.answered s.4));
+      are_closed = closed_of_grids task t.lines t.before (answers_records asked task s.0) (t.after, t.last_blank);
+      answered = answers_of_grids task t.before answers (answers_records asked task s.0)
+          (t.records, t.are_records, matched_records task t.records answers (subst (λ r. AreMatched (IsRecordAnswer task) r answers) t.answered s.3));
     }
 so_far_closed task (Lines profile facts) text answers s =
     let t = s.2 in
@@ -262,7 +276,7 @@ so_far_closed task (Lines profile facts) text answers s =
 
 -- A task that answers a text as it comes isn't the table.
 pub not_table : (task : Task) (state : Answering) (text : List ℕ) (answers : List Answer) → IsAnsweredSoFar task state text answers → task ≢ Table
-not_table task (Records asked facts) text answers s e = subst AnswersRecords e s.1
+not_table task (Records asked facts) text answers s e = subst AnswersRecords e (answers_records asked task s.0)
 not_table task (Lines profile facts) text answers s e = let n : Write profile ≡ Table = sym s.0 ∙ e in cc
 
 -- Unless the task is the table, what is written for a text that may go on is the answers to what is closed, joined.
@@ -298,14 +312,6 @@ so_far_ended (Check border) state text answers Ended s h = h
 so_far_ended (Normal border profile) state text answers Ended s h = h
 so_far_ended (Write profile) state text answers Ended s h = h
 so_far_ended Table state text answers Ended s h = tt
-
--- ---- what the feeds tell
-
--- Reading, checking and normalising are tasks that answer records.
-pub one_of_grids : (task : Task) → ((border : Option ℕ) × (task ≡ Read border)) ⊎ (((border : Option ℕ) × (task ≡ Check border)) ⊎ ((border : Option ℕ) × (profile : Profile) × (task ≡ Normal border profile))) → AnswersRecords task
-one_of_grids task (inl is) = subst AnswersRecords (sym is.1) tt
-one_of_grids task (inr (inl is)) = subst AnswersRecords (sym is.1) tt
-one_of_grids task (inr (inr is)) = subst AnswersRecords (sym is.2) tt
 
 -- ---- what the sink takes
 

@@ -21,8 +21,8 @@ use Rattle.dm_tool.specs.LineFeeds.{LineAnswer}
 use Rattle.dm_tool.specs.MessageLines.{IsLine}
 use Rattle.dm_tool.specs.Refusals.{line_refusal, record_refusal, too_long_refusal}
 use Rattle.dm_tool.specs.Answers.{Answer, IsMessageAnswer, IsRecordAnswer, blank_refusal_answer, checking_answer, grid_answer, limit_for, normal_grid, normalising_answer, reading_answer, refusal_answer, too_long}
-use Rattle.dm_tool.specs.inner.AnsweredSoFar.{AnswersRecords}
 use Rattle.dm_tool.specs.Runs.{IsAnswerToLine, IsAnswerToRecord}
+use Rattle.dm_tool.proofs.AnsweredSoFar.{AnswersRecords}
 use Rattle.dm_tool.proofs.EachLine.{joined_message, line_is_there}
 
 -- ---- the grid of a record

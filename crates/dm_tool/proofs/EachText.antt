@@ -6,9 +6,8 @@ use Rattle.dm_tool.specs.declared.task.Task.TheVariants.{Read, Check, Normal, Wr
 use Rattle.dm_tool.specs.declared.task.Tally.{Tally}
 use Rattle.dm_tool.specs.Texts.{HasNoLf, last_line}
 use Rattle.dm_tool.specs.Answers.{Answer, table_text}
-use Rattle.dm_tool.specs.inner.AnsweredSoFar.{AnswersRecords}
 use Rattle.dm_tool.specs.Runs.{AreAllAnswers, AreAnswersTo, AreClosedAnswers, AreClosedLines, AreMatched, IsAnswerToLine, IsAnswerToRecord, IsOutSoFar, IsOut, tally_of, written}
-use Rattle.dm_tool.proofs.AnsweredSoFar.{answers_of_grids, closed_of_grids, done_by, out_by}
+use Rattle.dm_tool.proofs.AnsweredSoFar.{AnswersRecords, answers_of_grids, closed_of_grids, done_by, out_by}
 use Rattle.dm_tool.proofs.RecordTexts.{all_front}
 use Rattle.dm_tool.proofs.EachSplit.{last_blank_is_there, records_are_there, text_is_split}
 use Rattle.dm_tool.proofs.EachAnswer.{line_is_answered, record_is_answered}

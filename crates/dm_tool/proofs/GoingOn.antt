@@ -16,7 +16,7 @@ use Rattle.dm_tool.proofs.EachSplit.{last_blank_is_there, records_are_there, tex
 use Rattle.dm_tool.proofs.EachText.{matched_there}
 use Rattle.dm_tool.proofs.RecordCuts.{split_lines}
 use Rattle.dm_tool.proofs.RecordTexts.{all_back, all_front, full_of, records_after}
-use Rattle.dm_tool.proofs.AnsweredSoFar.{matched_append, matched_lines, so_far_closed}
+use Rattle.dm_tool.proofs.AnsweredSoFar.{answers_records, matched_append, matched_lines, so_far_closed}
 
 -- The text has records, and facts of what stands open after them.
 record HasRecords (text : List ℕ) : Type 0 where
@@ -65,17 +65,16 @@ matched_grids task (x ∷ records) (y ∷ answers) h = (h.0, matched_grids task 
 pub goes_on : (task : Task) (state : Answering) (text piece : List ℕ) (answers : List Answer) → IsAnsweredSoFar task state text answers
     → (more : List Answer) × AreClosedAnswers task (text ++ piece) (answers ++ more)
 goes_on task (Records asked facts) text piece answers s =
-    let t = s.3 in
+    let t = s.2 in
     let later = has_records ((ended t.after ++ t.rest) ++ piece) in
-    let matched = matched_there (IsAnswerToRecord task) (record_is_answered task s.1) later.records in
-    let all = records_after text piece s.2 (map record_of later.records) facts later.new t later.are in (
+    let matched = matched_there (IsAnswerToRecord task) (record_is_answered task (answers_records asked task s.0)) later.records in
+    let all = records_after text piece s.1 (map record_of later.records) facts later.new t later.are in (
       matched.0,
       so_far_closed task (Records asked later.new) (text ++ piece) (answers ++ matched.0) (
         s.0,
-        s.1,
-        s.2 ++ map record_of later.records,
+        s.1 ++ map record_of later.records,
         all,
-        matched_append (IsRecordAnswer task) s.2 (map record_of later.records) answers matched.0 s.4 (matched_grids task later.records matched.0 matched.1),
+        matched_append (IsRecordAnswer task) s.1 (map record_of later.records) answers matched.0 s.3 (matched_grids task later.records matched.0 matched.1),
       ),
     )
 goes_on task (Lines profile facts) text piece answers s =

@@ -23,7 +23,7 @@ pub record IsAnsweredRecord (text : List ℕ) (answer : RecordAnswer) : Type 0 w
   pub closed : IsClosedRecord text lines
   pub answer_is : answer ≡ record_of lines
 
--- A byte of a piece closes a record: the piece is taken up to and with
+-- A byte of a piece closes a record: the piece is taken up to and including
 -- it, the record is answered, and none stands open then.
 pub record ClosesRecord (old : RecordFacts) (piece : List ℕ) (taken : ℕ) (answer : RecordAnswer) (new : RecordFacts) : Type 0 where
   pub some : 0 < taken

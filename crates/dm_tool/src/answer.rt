@@ -1,7 +1,8 @@
 //! What is written for a record or a line.
+
 ghost use Rattle.std.specs.Prelude.{◌≡◌, ◌<◌, ◌≤◌, ◌+◌, ◌∷◌, ◌++◌, [], length};
 ghost use Rattle.dm_tool.specs.Answers.{IsCheckAnswer, IsNormalAnswer, IsReadAnswer, IsRecordAnswer, IsWriteAnswer, blank_refusal_answer, check_text, grid_answer, limit_for, line_answer, refusal_answer};
-ghost use Rattle.dm_tool.specs.inner.AnsweredSoFar.{AnswersRecords};
+ghost use Rattle.dm_tool.specs.inner.AnsweredSoFar.{task_of};
 ghost use Rattle.dm_symbol.specs.Places.{outcome};
 ghost use Rattle.dm_tool.specs.inner.OpenLines.{pointed_to};
 ghost use Rattle.dm_tool.specs.Spellings.{text_of};
@@ -14,13 +15,16 @@ use crate::refusal::{
     push_line_refusal, push_normal_refusal, push_read_refusal, push_record_refusal,
     push_too_long_refusal,
 };
-use crate::task::Task;
+use crate::task::RecordTask;
 use arrayvec::ArrayVec;
 use dm_symbol::{
     Grid, MOST_BLOCKS, Message, NormalFault, Profile, ReadFault, Reading, TooLong, light_grid,
     normal_to, read_to, usual_limit, write_to,
 };
 use std::marker::Model;
+
+/// More bytes than the longest line of counts has.
+const MOST_COUNTS: usize = 160;
 
 /// What is written for a record or a line, with its LFs, and whether it is a refusal.
 #[derive(Drop)]
@@ -179,19 +183,19 @@ impl Places {
 
 /// Answers a record where grids are read, checked or normalised. Its grid, if it is one, is in its place.
 pub(crate) fn answer_record(
-    task: Task,
+    task: RecordTask,
     found: Result<(), RecordFault>,
     places: &mut Places,
     answer: &mut Answer,
 )
-    requires { AnswersRecords task }
-    ensures { IsRecordAnswer task (outcome found places.old.grid) answer.new }
+    ensures { IsRecordAnswer (task_of task) (outcome found places.old.grid) answer.new }
 {
     match task {
-        Task::Read(border) => answer_read(border, found, places, answer),
-        Task::Check(border) => answer_check(border, found, places, answer),
-        Task::Normal(border, profile) => answer_normal(border, profile, found, places, answer),
-        Task::Write(_) | Task::Table => unreachable!(),
+        RecordTask::Read(border) => answer_read(border, found, places, answer),
+        RecordTask::Check(border) => answer_check(border, found, places, answer),
+        RecordTask::Normal(border, profile) => answer_normal(
+            border, profile, found, places, answer,
+        ),
     }
 }
 
@@ -306,9 +310,6 @@ fn push_counts(text: &mut AnswerText, side: u16, reading: &Reading)
     text.push_all(b" corrected ");
     push_spaced(text, &widened(&reading.corrected));
 }
-
-/// More bytes than the longest line of counts has.
-const MOST_COUNTS: usize = 160;
 
 /// The same numbers, each in 16 bits.
 fn widened(counts: &ArrayVec<u8, MOST_BLOCKS>) -> ArrayVec<u16, MOST_BLOCKS>

@@ -1,19 +1,20 @@
 //! Records and message lines, answered as their text comes.
+
 ghost use Rattle.std.specs.Prelude.{◌≡◌, ◌∷◌, ◌<◌, ◌≤◌, [], length, take, IfNone, IfSome};
 ghost use Rattle.std.specs.Bool.{OnTrue, OnFalse};
-ghost use Rattle.dm_tool.specs.inner.AnsweredSoFar.{EndsAnswered, Advances, IsAnsweredSoFar, HasTakenText};
+ghost use Rattle.dm_tool.specs.inner.AnsweredSoFar.{EndsAnswered, Advances, IsAnsweredSoFar, HasTakenText, task_of};
 
 use crate::answer::{Answer, Places, answer_line, answer_record};
 use crate::grid_feed::GridFeed;
 use crate::line_feed::LineFeed;
-use crate::task::Task;
+use crate::task::{RecordTask, Task};
 use dm_symbol::Profile;
 
 /// Cuts a text that comes in pieces into what its task asks about, and answers each record or line.
 #[derive(Drop)]
 pub(crate) enum Answering {
     /// Records, with the task that asks about their grids.
-    Records(Task, GridFeed),
+    Records(RecordTask, GridFeed),
     /// Message lines, to be written as grids under a profile.
     Lines(Profile, LineFeed),
 }
@@ -25,17 +26,25 @@ impl Answering {
         ensures none { IfNone result (task ≡ Task.Table) }
     {
         match task {
-            Task::Read(_) | Task::Check(_) | Task::Normal(_, _) => Some(Answering::Records(
-                task,
-                GridFeed::new(),
-            )),
+            Task::Read(border) => Some(Answering::of_records(RecordTask::Read(border))),
+            Task::Check(border) => Some(Answering::of_records(RecordTask::Check(border))),
+            Task::Normal(border, profile) => Some(Answering::of_records(RecordTask::Normal(
+                border, profile,
+            ))),
             Task::Write(profile) => Some(Answering::Lines(profile, LineFeed::new())),
             Task::Table => None,
         }
     }
 
-    /// Takes the bytes up to and with the first one that closes a record or a line, and says how many; the answer to
-    /// what they close is then in `answer`. None where the piece closes nothing; all of it is taken then. An answer
+    /// The state before any record has come.
+    fn of_records(task: RecordTask) -> Self
+        ensures { IsAnsweredSoFar (task_of task) result [] [] }
+    {
+        Answering::Records(task, GridFeed::new())
+    }
+
+    /// Takes the bytes up to and including the first one that closes a record or a line, and says how many; the answer
+    /// to what they close is then in `answer`. None where the piece closes nothing; all of it is taken then. An answer
     /// has room for the largest grid, so there is one place for all of them.
     pub(crate) fn feed(
         &mut self,

@@ -1,4 +1,5 @@
 //! The command line, as clap reads it.
+
 ghost use Rattle.std.specs.Prelude.{◌≡◌, ◌≢◌, ◌↔◌, [], true, false, codes, IfOk, OnOk, IfSome, IfNone, IsErrOf};
 ghost use Rattle.clap.specs.Faults.{fault_of};
 ghost use Rattle.clap.specs.Takes.{takes};

@@ -1,4 +1,5 @@
 //! What all devices share: a failure, and how failures are counted.
+
 ghost use Rattle.std.specs.Prelude.{◌≡◌, IfOk, OnErr, IsErr, Ok};
 ghost use Rattle.dm_tool.specs.Devices.{Counts, HasRisen};
 

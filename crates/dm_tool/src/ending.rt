@@ -1,4 +1,5 @@
 //! How the program ends: its status, and its line on standard error.
+
 ghost use Rattle.std.specs.Prelude.{◌≡◌};
 ghost use Rattle.dm_tool.specs.Endings.{IsEndingOf};
 ghost use Rattle.dm_tool.specs.inner.CallEndings.{IsEndingOfCall};

@@ -1,4 +1,5 @@
 //! The cells at the front of some text, up to 128 at once.
+
 ghost use Rattle.std.specs.Prelude.{◌≡◌, ◌==◌, ◌≤◌, ◌+◌, ◌∷◌, ◌++◌, [], ℕ, false, map, not, List, IfSome};
 ghost use Rattle.std.specs.Simd.Lanes.{mask_l};
 ghost use Rattle.std.specs.List.{prefix_len};
@@ -12,7 +13,7 @@ use std::simd::prelude::*;
 const BLOCK: usize = 32;
 
 /// This many blocks can make a front: with its LF, a whole line of the largest size.
-const MOST_BLOCKS: usize = 4;
+const BLOCKS_OF_A_FRONT: usize = 4;
 
 /// Some cells of a row: characters 0 and 1 that follow one another.
 #[derive(Clone, Copy)]
@@ -43,7 +44,7 @@ impl Front {
         let Some(mut front) = Front::of_block(text) else {
             return None;
         };
-        for block in 1..MOST_BLOCKS {
+        for block in 1..BLOCKS_OF_A_FRONT {
             if usize::from(front.count) < block * BLOCK {
                 break;
             }

@@ -1,4 +1,5 @@
 //! Grids from pieces of a text.
+
 ghost use Rattle.std.specs.Prelude.{◌≡◌, [], ℕ, List, IfNone, IfSome, length};
 ghost use Rattle.dm_tool.specs.Records.{AreLfs};
 ghost use Rattle.dm_tool.specs.RecordFacts.{AreRecordFacts};
@@ -31,7 +32,7 @@ impl Model for GridFeed {
 }
 
 /// What one call of [`GridFeed::feed`] came to.
-#[derive(Drop)]
+#[derive(Clone, Debug, Drop, PartialEq, Eq)]
 pub struct Fed {
     /// How many bytes of the piece were taken.
     pub taken: usize,
@@ -49,7 +50,7 @@ impl GridFeed {
         }
     }
 
-    /// Takes bytes up to and with the first one that closes a record, the LF of an empty line after it, and
+    /// Takes bytes up to and including the first one that closes a record, the LF of an empty line after it, and
     /// gives that record. Where the piece closes none, all of it is taken. A record that is no grid leaves
     /// the feed ready for the next one.
     pub fn feed(&mut self, piece: &[u8]) -> Fed

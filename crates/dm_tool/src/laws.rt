@@ -1,4 +1,5 @@
 //! Laws of the definitions in `specs/`. Each function has an empty body: its contract is the law.
+
 ghost use Rattle.std.specs.Prelude.{◌≡◌, ◌≤◌, ℕ, List, [], Ok, length};
 ghost use Rattle.std.specs.List.{concat};
 ghost use Rattle.dm_symbol.specs.declared.Item.{Item};

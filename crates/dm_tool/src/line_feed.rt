@@ -1,4 +1,5 @@
 //! Message lines from pieces of a text.
+
 ghost use Rattle.std.specs.Prelude.{◌≡◌, ◌∷◌, [], ℕ, List, IfNone, IfSome, IsSome, IsTrue, ◌↔◌, ◌≢◌, length};
 ghost use Rattle.dm_tool.specs.MessageLines.{IsLine};
 ghost use Rattle.dm_tool.specs.LineFacts.{AreLineFacts};
@@ -32,7 +33,7 @@ impl Model for LineFeed {
 }
 
 /// What one call of [`LineFeed::feed`] came to.
-#[derive(Drop)]
+#[derive(Clone, Debug, Drop, PartialEq, Eq)]
 pub struct LineFed {
     /// How many bytes of the piece were taken.
     pub taken: usize,
@@ -50,7 +51,7 @@ impl LineFeed {
         }
     }
 
-    /// Takes bytes up to and with the first LF, and gives the line that it closes. Where the piece has
+    /// Takes bytes up to and including the first LF, and gives the line that it closes. Where the piece has
     /// no LF, all of it is taken. A line that is no message leaves the feed ready for the next one.
     pub fn feed(&mut self, piece: &[u8]) -> LineFed
         ensures open { IfNone result.closed (LeavesLineOpen self.old piece.now result.taken self.new) }
@@ -94,7 +95,7 @@ impl LineFeed {
 
     // Called in this order, these close a line without copying its message.
 
-    /// Takes the bytes up to and with the first LF, holds the line that it ends, and says how many they are. None
+    /// Takes the bytes up to and including the first LF, holds the line that it ends, and says how many they are. None
     /// where there is no LF; all of the piece is taken then.
     pub(crate) fn take_line(&mut self, piece: &[u8]) -> Option<usize>
         ensures open { IfNone result (LeavesLineOpen self.old piece.now (length piece.now) self.new) }

@@ -1,4 +1,5 @@
 //! The texts of messages.
+
 ghost use Rattle.std.specs.Prelude.{◌≡◌, ◌↔◌, ◌≤◌, ◌<◌, ◌*◌, ◌+◌, ◌++◌, List, Result, length};
 ghost use Rattle.dm_symbol.specs.declared.Item.{Item as AnItem};
 ghost use Rattle.dm_tool.specs.Spellings.{spelled, text_of, upper_digit};

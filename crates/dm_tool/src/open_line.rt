@@ -1,4 +1,5 @@
 //! A message line, as it comes.
+
 ghost use Rattle.std.specs.Prelude.{◌≡◌, ◌≤◌, ◌<◌, ◌+◌, ◌∷◌, ◌++◌, [], ℕ, List, IsTrue, ◌↔◌, IfNone, IfSome, drop, length, map, take};
 ghost use Rattle.std.specs.List.{AllByRecursion};
 ghost use Rattle.dm_tool.specs.MessageLines.{IsLine};

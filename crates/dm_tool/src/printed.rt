@@ -1,4 +1,5 @@
 //! Words, numbers and grids as text.
+
 ghost use Rattle.std.specs.Prelude.{◌≡◌, ◌≤◌, ◌<◌, ◌++◌, ◌∷◌, [], ◌+◌, ◌*◌, get_or, length, map};
 ghost use Rattle.std.specs.Fmt.{decimal};
 ghost use Rattle.dm_tool.specs.Answers.{character_of, grid_text, spaced};
@@ -7,6 +8,12 @@ ghost use Rattle.dm_tool.specs.inner.OpenRecords.{cells_in};
 use crate::text::Text;
 use dm_symbol::{Grid, LARGEST_SIDE};
 use std::simd::prelude::*;
+
+/// This many cells are written together.
+const TOGETHER: u16 = 16;
+
+/// The weight of each cell in its byte.
+const WEIGHTS: [u8; 16] = [1, 2, 4, 8, 16, 32, 64, 128, 1, 2, 4, 8, 16, 32, 64, 128];
 
 /// The most bytes of an answer: those of a grid of the largest side, each row with its LF, and of an empty line; and as many as are
 /// written together, since the last ones of a row are written as a whole and then cut.
@@ -79,9 +86,6 @@ fn push_cells(text: &mut AnswerText, cells: u128, width: u16)
     text.truncate(start + usize::from(width));
 }
 
-/// This many cells are written together.
-const TOGETHER: u16 = 16;
-
 /// The characters of sixteen cells, of which the first is the lowest bit.
 fn characters(cells: u16) -> [u8; 16]
     ensures { result ≡ map character_of (cells_in 16 cells) }
@@ -95,6 +99,3 @@ fn characters(cells: u16) -> [u8; 16]
     dark.select(u8x16::splat(b'1'), u8x16::splat(b'0'))
         .to_array()
 }
-
-/// The weight of each cell in its byte.
-const WEIGHTS: [u8; 16] = [1, 2, 4, 8, 16, 32, 64, 128, 1, 2, 4, 8, 16, 32, 64, 128];

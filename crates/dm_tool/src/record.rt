@@ -1,4 +1,5 @@
 //! A record of a grid text, as it comes.
+
 ghost use Rattle.std.specs.Prelude.{◌≡◌, ◌≢◌, ◌∷◌, ◌++◌, [], ℕ, Bool, true, false, List, IsTrue, ◌↔◌, ◌+◌, ◌<◌, ◌≤◌, IfNone, IfSome, length, take};
 ghost use Rattle.std.specs.Bool.{OnTrue, OnFalse};
 ghost use Rattle.dm_tool.specs.Records.{IsClosedRecord, is_foreign, record_of};
@@ -82,7 +83,7 @@ impl OpenRecord {
         false
     }
 
-    /// Takes more bytes, up to and with the first one that closes the record. Where one does, says how many stand
+    /// Takes more bytes, up to and including the first one that closes the record. Where one does, says how many stand
     /// before it; the record is then as it was before that byte.
     pub(crate) fn take(&mut self, bytes: &[u8]) -> Option<usize>
         ensures open { IfNone result ((text : List ℕ) → AreRecordFacts text self.old → AreRecordFacts (text ++ bytes.now) self.new) }
@@ -121,7 +122,8 @@ impl OpenRecord {
     }
 
     /// Takes the cells at the front of some bytes together, and says how many they are. Where a foreign character
-    /// already stands in the record it takes none, since cells change nothing then.
+    /// already stands in the record it takes none, so that text that is no grid isn't searched for cells at each of
+    /// its bytes.
     fn take_cells(&mut self, bytes: &[u8]) -> usize
         ensures within { result ≤ length bytes.now }
         ensures grown { (text : List ℕ) → AreRecordFacts text self.old → AreRecordFacts (text ++ take result bytes.now) self.new }
@@ -151,7 +153,7 @@ impl OpenRecord {
     }
 
     /// Takes a byte that isn't LF.
-    pub(crate) fn push_character(&mut self, byte: u8)
+    fn push_character(&mut self, byte: u8)
         requires { byte ≢ 10 }
         ensures { (text : List ℕ) → AreRecordFacts text self.old → AreRecordFacts (text ++ byte ∷ []) self.new }
     {

@@ -1,4 +1,5 @@
 //! The texts of refusals.
+
 ghost use Rattle.std.specs.Prelude.{◌≡◌, ◌≤◌, ◌+◌, ◌++◌, length};
 ghost use Rattle.std.specs.Fmt.{decimal};
 ghost use Rattle.dm_tool.specs.Refusals.{line_refusal, normal_refusal, read_refusal, record_refusal, too_long_refusal, word_refusal};
@@ -9,7 +10,7 @@ use crate::record::RecordFault;
 use dm_symbol::{NormalFault, ReadFault, WordFault};
 
 /// More bytes than the longest refusal has.
-pub(crate) const MOST_REFUSAL: usize = 80;
+const MOST_REFUSAL: usize = 80;
 
 // Each of these appends a refusal without an LF; there is room for the longest.
 

@@ -1,4 +1,5 @@
 //! The lines of a record, as rows of cells.
+
 ghost use Rattle.std.specs.Prelude.{◌≡◌, ◌≢◌, ◌≤◌, ◌∷◌, ◌++◌, ◌↔◌, [], ℕ, Bool, true, false, List, IsTrue, length, take};
 ghost use Rattle.std.specs.Bool.{OnTrue, OnFalse};
 ghost use Rattle.dm_tool.specs.Records.{record_of};

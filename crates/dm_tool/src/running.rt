@@ -1,4 +1,5 @@
 //! A task done over a source and a sink.
+
 ghost use Rattle.std.specs.Prelude.{◌≡◌, ◌≤◌, ◌<◌, ◌+◌, ◌-◌, ◌^◌, ◌∷◌, ◌++◌, ◌⊎◌, [], ℕ, false, List, MatchResult, IfOk, OnOk, OnErr, IsErrOf, length, max, take};
 ghost use Rattle.std.specs.Io.KnownBytes.{Appends};
 ghost use Rattle.dm_tool.specs.Answers.{Answer as AnAnswer, table_text};
@@ -15,6 +16,15 @@ use crate::sink::{Sink, put};
 use crate::source::Source;
 use crate::table::table_text;
 use crate::task::{RunFault, Tally, Task};
+
+/// The most bytes that are asked for at once.
+const PIECE: usize = 4096;
+
+/// The tally before anything is answered or refused.
+const NO_ANSWER: Tally = Tally {
+    answered: 0,
+    refused: 0,
+};
 
 /// Reads all that the source gives, and writes the answer to each record or line, in order; for
 /// [`Task::Table`] reads nothing, and writes the table of sizes. Gives how many records or lines were
@@ -97,15 +107,6 @@ pub fn run<I: Source, O: Sink>(
     }
 }
 
-/// The most bytes that are asked for at once.
-const PIECE: usize = 4096;
-
-/// The tally before anything is answered or refused.
-const NO_ANSWER: Tally = Tally {
-    answered: 0,
-    refused: 0,
-};
-
 /// Writes the table of sizes.
 fn print_table<O: Sink>(sink: &mut O) -> Result<Tally, RunFault>
     ensures tally { IfOk result (λ tally. tally ≡ tally_of []) }
@@ -164,7 +165,7 @@ fn next_piece<I: Source>(
 }
 
 /// Takes a piece of the text, and writes the answers to what it closes. Each is made in `answer`, and they are put
-/// together in `gathered`, which is empty at first; it is written whenever it is full, and at the end.
+/// together in `gathered`, which is cleared first; it is written whenever it is full, and at the end.
 fn answer_piece<O: Sink>(
     answering: &mut Answering,
     sink: &mut O,

@@ -1,4 +1,5 @@
 //! Where the program's bytes go.
+
 ghost use Rattle.std.specs.Prelude.{◌≡◌, ◌≤◌, ◌<◌, ◌++◌, [], ℕ, Bool, true, false, List, Option, IfOk, OnOk, OnErr, length};
 ghost use Rattle.std.specs.Io.KnownBytes.{Appends, Keeps, WriteAppends};
 ghost use Rattle.dm_tool.specs.Devices.{AppendsFront, Counts, IsFlushedOnce, Marks};

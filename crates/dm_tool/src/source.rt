@@ -1,4 +1,5 @@
 //! Where the program's bytes come from.
+
 ghost use Rattle.std.specs.Prelude.{◌≡◌, ◌≤◌, ◌<◌, ◌+◌, ◌++◌, ℕ, [], List, Option, MatchResult, IfOk, length, take};
 ghost use Rattle.std.specs.Io.KnownBytes.{Consumes, IsAtEnd};
 ghost use Rattle.dm_tool.specs.Devices.{Counts, consumed_none, consumed_joined};

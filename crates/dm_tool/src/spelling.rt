@@ -1,4 +1,5 @@
 //! The spellings of items, byte by byte.
+
 ghost use Rattle.std.specs.Prelude.{◌≡◌, ◌∷◌, ◌++◌, [], ℕ, IfNone, IfSome, length};
 ghost use Rattle.dm_tool.specs.Spellings.{IsHexDigit};
 ghost use Rattle.dm_tool.specs.inner.OpenLines.{IsNext, pending_bytes};

@@ -1,4 +1,5 @@
 //! A task over two streams, as the program does it.
+
 ghost use Rattle.std.specs.Prelude.{◌≡◌, [], ℕ, false, List, IfOk, OnOk, IsErrOf, length};
 ghost use Rattle.std.specs.Io.KnownBytes.{Appends};
 ghost use Rattle.dm_tool.specs.Devices.{AppendsFront, HasRisen, IsFlushedOnce};

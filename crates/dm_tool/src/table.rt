@@ -1,4 +1,5 @@
 //! The table of sizes as text.
+
 ghost use Rattle.std.specs.Prelude.{◌≡◌, ◌≤◌, ◌+◌, ◌∷◌, ◌++◌, [], length};
 ghost use Rattle.dm_tool.specs.Answers.{numbers_of, spaced, table_text};
 

@@ -21,6 +21,14 @@ pub enum Task {
     Table,
 }
 
+/// A task that asks about records: one of the first three of [`Task`].
+#[derive(Clone, Copy)]
+pub(crate) enum RecordTask {
+    Read(Option<u16>),
+    Check(Option<u16>),
+    Normal(Option<u16>, Profile),
+}
+
 /// How many records or lines were answered, and how many refused.
 #[derive(Clone, Copy, Debug, PartialEq, Eq)]
 pub struct Tally {

@@ -1,4 +1,5 @@
 //! Texts in a place for the most bytes, and where their lines end.
+
 ghost use Rattle.std.specs.Prelude.{◌≡◌, ◌<◌, ◌≤◌, ◌+◌, ◌∷◌, ◌++◌, [], length, take};
 
 use std::marker::Model;

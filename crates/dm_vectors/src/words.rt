@@ -5,7 +5,7 @@ use crate::messages::{
     segment,
 };
 use arrayvec::ArrayVec;
-use dm_layout::{MOST_CODEWORDS, Size};
+use dm_layout::Size;
 use dm_words::*;
 
 mod places;

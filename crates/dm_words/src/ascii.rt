@@ -1,30 +1,31 @@
 //! The ASCII codewords of a message (ISO/IEC 16022, ASCII encodation).
 
 ghost use Rattle.std.specs.Prelude.{◌≡◌, ◌+◌, ◌≤◌, ◌<◌, ◌++◌, length};
-ghost use Rattle.dm_words.specs.Ascii.{ascii, is_digit as is_digit_byte};
+ghost use Rattle.dm_words.specs.Ascii.{ascii, is_digit};
 ghost use Rattle.dm_words.specs.NormalForm.{has_fnc1};
 ghost use Rattle.dm_words.specs.inner.Scan.Answers.{BeginsAscii, IsSingle, unit_words, unit_items};
 
+use crate::codeword::{FNC1, UPPER_SHIFT};
 use crate::item::Item;
 use crate::limits::MOST_ITEMS;
 use arrayvec::ArrayVec;
-use dm_layout::{MOST_CODEWORDS, MOST_DATA};
+use dm_layout::MOST_DATA;
 
-const UPPER_SHIFT: u8 = 235;
-
-const FNC1: u8 = 232;
-
-/// A unit of ASCII: an item in one codeword, two digits in one codeword, a byte of 128 or more behind an Upper Shift, or FNC1.
+/// A unit of ASCII, with its codeword.
 #[derive(Clone, Copy)]
 pub enum Unit {
+    /// A byte below 128: its codeword.
     One(u8),
+    /// Two digits: their codeword.
     Digits(u8),
+    /// A byte of 128 or more: the codeword behind its Upper Shift, that of the byte less 128.
     Raised(u8),
+    /// FNC1, whose codeword is [`FNC1`].
     Fnc1,
 }
 
 fn is_digit(byte: u8) -> bool
-    ensures { result ≡ is_digit_byte byte }
+    ensures { result ≡ is_digit byte }
 {
     48 <= byte && byte <= 57
 }
@@ -103,7 +104,7 @@ pub fn ascii_form(items: &[Item]) -> AsciiForm
 }
 
 /// Adds the codewords of a unit, and gives the number of its items.
-fn write_unit(unit: Unit, words: &mut ArrayVec<u8, MOST_CODEWORDS>) -> usize
+fn write_unit(unit: Unit, words: &mut ArrayVec<u8, MOST_DATA>) -> usize
     requires { length words.old.items + length (unit_words unit) ≤ MOST_DATA }
     ensures words { words.new.items ≡ words.old.items ++ unit_words unit }
     ensures count { result ≡ unit_items unit }
@@ -130,7 +131,7 @@ fn write_unit(unit: Unit, words: &mut ArrayVec<u8, MOST_CODEWORDS>) -> usize
 }
 
 /// Writes the ASCII codewords of the items into the place: from the left, two digits in one codeword wherever two come first.
-pub fn write_ascii(items: &[Item], words: &mut ArrayVec<u8, MOST_CODEWORDS>)
+pub fn write_ascii(items: &[Item], words: &mut ArrayVec<u8, MOST_DATA>)
     requires { length (ascii items.now) ≤ MOST_DATA }
     ensures { words.new.items ≡ ascii items.now }
 {

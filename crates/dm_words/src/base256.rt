@@ -7,24 +7,26 @@ ghost use Rattle.dm_words.specs.NormalForm.{length_numbers, one_segment};
 ghost use Rattle.dm_words.specs.inner.Scan.Fronts.{plain_at, plain, segment_front};
 ghost use Rattle.dm_words.specs.inner.Scan.Answers.{IsPartTaken};
 
+use crate::codeword::BASE256_LATCH;
 use crate::fault::WordFault;
 use crate::item::{Item, byte};
 use crate::limits::MOST_ITEMS;
 use crate::message::Message;
 use arrayvec::ArrayVec;
-use dm_layout::{MOST_CODEWORDS, MOST_DATA};
-
-const LATCH: u8 = 231;
+use dm_layout::MOST_DATA;
 
 /// The most bytes whose length is one number.
 const MOST_SHORT: usize = 249;
+
+/// By how much the pseudo-random number rises from a place to the next, where 1 follows 255: the factor of the 255-state randomising.
+const STEP: u32 = 149;
 
 /// Gives the pseudo-random number of a place of the symbol: 1 to 255.
 fn random(place: usize) -> u32
     requires { place ≤ MOST_DATA }
     ensures { result ≡ random_at place }
 {
-    149 * place as u32 % 255 + 1
+    STEP * place as u32 % 255 + 1
 }
 
 /// Gives the value that the codeword at an index stands for: the randomising is taken away.
@@ -65,7 +67,7 @@ pub fn segment_part(words: &[u8], at: usize, message: &mut Message) -> Result<us
         push_bytes(words, at + 2, left - 1, message);
         return Ok(left + 1);
     }
-    if first <= 249 {
+    if first <= MOST_SHORT {
         if left - 1 < first {
             return Err(fault);
         }
@@ -76,8 +78,8 @@ pub fn segment_part(words: &[u8], at: usize, message: &mut Message) -> Result<us
         return Err(fault);
     }
     let second = plain_value(words, at + 2) as usize;
-    let count = 250 * (first - 249) + second;
-    if second > 249 || left - 2 < count {
+    let count = (MOST_SHORT + 1) * (first - MOST_SHORT) + second;
+    if second > MOST_SHORT || left - 2 < count {
         return Err(fault);
     }
     push_bytes(words, at + 3, count, message);
@@ -85,7 +87,7 @@ pub fn segment_part(words: &[u8], at: usize, message: &mut Message) -> Result<us
 }
 
 /// Writes a value as the next codeword of a symbol that begins with these words.
-fn push_value(words: &mut ArrayVec<u8, MOST_CODEWORDS>, value: u8)
+fn push_value(words: &mut ArrayVec<u8, MOST_DATA>, value: u8)
     requires { length words.old.items < MOST_DATA }
     ensures { words.new.items ≡ words.old.items ++ randomised (length words.old.items + 1) value ∷ [] }
 {
@@ -93,8 +95,8 @@ fn push_value(words: &mut ArrayVec<u8, MOST_CODEWORDS>, value: u8)
     words.push(((value as u32 + random(place)) % 256) as u8);
 }
 
-/// Writes the length field for this many bytes: one number up to 249, else two.
-fn push_length(words: &mut ArrayVec<u8, MOST_CODEWORDS>, count: usize)
+/// Writes the length field for this many bytes: one number up to `MOST_SHORT`, else two.
+fn push_length(words: &mut ArrayVec<u8, MOST_DATA>, count: usize)
     requires room { length words.old.items + 2 ≤ MOST_DATA }
     requires few { count ≤ MOST_DATA }
     ensures { words.new.items ≡ words.old.items ++ written (length words.old.items + 1) (length_numbers count) }
@@ -102,8 +104,8 @@ fn push_length(words: &mut ArrayVec<u8, MOST_CODEWORDS>, count: usize)
     if count <= MOST_SHORT {
         push_value(words, count as u8);
     } else {
-        push_value(words, (249 + count / 250) as u8);
-        push_value(words, (count % 250) as u8);
+        push_value(words, (MOST_SHORT + count / (MOST_SHORT + 1)) as u8);
+        push_value(words, (count % (MOST_SHORT + 1)) as u8);
     }
 }
 
@@ -119,26 +121,26 @@ pub fn segment_length(count: usize) -> usize
     }
 }
 
-/// Gives the pseudo-random number of the place after one that has this number.
+/// Gives the pseudo-random number of the next place, from that of a place.
 fn next_random(number: u32) -> u32
     requires { number ≤ 255 }
     ensures next { (place : ℕ) → number ≡ random_at place → result ≡ random_at (place + 1) }
     ensures most { result ≤ 255 }
 {
-    if number <= 106 {
-        number + 149
+    if number <= 255 - STEP {
+        number + STEP
     } else {
-        number - 106
+        number - (255 - STEP)
     }
 }
 
 /// Writes the bytes of the items, in one segment whose latch is the first codeword of the symbol, into the place.
-pub fn write_segment(items: &[Item], words: &mut ArrayVec<u8, MOST_CODEWORDS>)
+pub fn write_segment(items: &[Item], words: &mut ArrayVec<u8, MOST_DATA>)
     requires { length (one_segment (map byte_of items.now)) ≤ MOST_DATA }
     ensures { words.new.items ≡ one_segment (map byte_of items.now) }
 {
     words.clear();
-    words.push(LATCH);
+    words.push(BASE256_LATCH);
     push_length(words, items.len());
     let mut number = random(words.len() + 1);
     for item in items {

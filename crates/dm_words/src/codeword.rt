@@ -1,11 +1,24 @@
-//! The codewords of ASCII encodation (ISO/IEC 16022, ASCII encodation).
+//! Codewords: what each means in ASCII encodation (ISO/IEC 16022, ASCII encodation), and names for those that other modules write or look for.
 
-ghost use Rattle.std.specs.Prelude.{◌≡◌, ◌≤◌, length};
+ghost use Rattle.std.specs.Prelude.{◌≡◌};
 ghost use Rattle.dm_words.specs.Codewords.{codeword_of};
 
 use crate::c40::set::CodeSet;
-use arrayvec::ArrayVec;
-use dm_layout::MOST_DATA;
+
+/// The first pad of a symbol, which ends the message. Each further one is randomised by its place.
+pub const FIRST_PAD: u8 = 129;
+
+/// The latch to Base 256.
+pub const BASE256_LATCH: u8 = 231;
+
+/// The codeword of FNC1.
+pub const FNC1: u8 = 232;
+
+/// The Upper Shift, which adds 128 to the character that follows.
+pub const UPPER_SHIFT: u8 = 235;
+
+/// The unlatch, which ends a run of C40, Text or X12. It has no meaning in ASCII encodation.
+pub const UNLATCH: u8 = 254;
 
 /// What a codeword means where ASCII encodation is in force.
 #[derive(Clone, Copy)]
@@ -34,27 +47,15 @@ pub fn meaning(codeword: u8) -> Option<Codeword>
 {
     match codeword {
         1..=128 => Some(Codeword::Character(codeword - 1)),
-        129 => Some(Codeword::Pad),
+        FIRST_PAD => Some(Codeword::Pad),
         130..=229 => Some(Codeword::Digits(codeword - 130)),
         230 => Some(Codeword::Latch(CodeSet::C40)),
-        231 => Some(Codeword::Base256),
-        232 => Some(Codeword::Fnc1),
-        235 => Some(Codeword::UpperShift),
+        BASE256_LATCH => Some(Codeword::Base256),
+        FNC1 => Some(Codeword::Fnc1),
+        UPPER_SHIFT => Some(Codeword::UpperShift),
         238 => Some(Codeword::Latch(CodeSet::X12)),
         239 => Some(Codeword::Latch(CodeSet::Text)),
         233 | 234 | 236 | 237 | 240 | 241 => Some(Codeword::LeftOut),
         _ => None,
     }
-}
-
-/// Copies these data codewords of a symbol into a list of their own.
-pub fn data_words(words: &[u8]) -> ArrayVec<u8, MOST_DATA>
-    requires { length words.now ≤ MOST_DATA }
-    ensures { result.items ≡ words.now }
-{
-    let mut list = ArrayVec::new();
-    for word in words {
-        list.push(*word);
-    }
-    list
 }

@@ -76,7 +76,8 @@ pub fn tables_are_sound()
     ensures shifted { (set : CodeSet) (shift : Shift) → IsTable (shifted_rows set shift) }
 {}
 
-/// The most data codewords that are read and written are those of the largest size, and a message has room for two items for each.
+/// The most data codewords that are read and written are those of the largest size, and a message has room for two items for each. `MOST_DATA` is the
+/// constant of `dm_layout`, whose law `laws::sizes::constants_are_the_limits` says the same of it.
 pub fn limits_are_those_of_the_table()
     ensures data { MOST_DATA ≡ most_data }
     ensures items { MOST_ITEMS ≡ 2 * most_data }

@@ -1,20 +1,19 @@
 //! The normal form of a message under a profile: its data codewords, without pads.
 
-ghost use Rattle.std.specs.Prelude.{◌≡◌, ◌<◌, ◌≤◌, ◌↔◌, length, map, false, not, ◌&&◌, if◌then◌else◌, nat_lt, IfOk, OnOk, IsErr};
+ghost use Rattle.std.specs.Prelude.{◌≡◌, ◌<◌, ◌≤◌, ◌↔◌, length, map, false, not, ◌&&◌, if◌then◌else◌, nat_lt, IfOk, OnOk, OnErr, IsErr};
 ghost use Rattle.dm_words.specs.Ascii.{ascii};
 ghost use Rattle.dm_words.specs.NormalForm.{shorter, normal_form, one_segment};
 ghost use Rattle.dm_words.specs.Messages.{byte_of};
 
 use crate::ascii::{AsciiForm, ascii_form, write_ascii};
 use crate::base256::{segment_length, write_segment};
-use crate::codeword::data_words;
 use crate::fault::TooLong;
 use crate::item::Item;
 use crate::limits::MOST_ITEMS;
 use crate::message::Message;
 use crate::profile::Profile;
 use arrayvec::ArrayVec;
-use dm_layout::{MOST_CODEWORDS, MOST_DATA};
+use dm_layout::MOST_DATA;
 
 /// Gives the ASCII codewords of a message, without pads: from the left, two digits in one codeword wherever two come first. The answer is `TooLong`
 /// exactly where they are more than `MOST_DATA`. ISO/IEC 16022, ASCII encodation.
@@ -43,21 +42,23 @@ pub fn normal_words(profile: Profile, message: &Message) -> Result<ArrayVec<u8, 
 {
     let mut words = ArrayVec::new();
     match normal_words_to(profile, message, &mut words) {
-        Ok(()) => Ok(data_words(&words)),
+        Ok(()) => Ok(words),
         Err(TooLong) => Err(TooLong),
     }
 }
 
-/// Does the same as [`normal_words()`] in a place: if it answers `Ok`, the place holds these codewords, whatever it held before.
-/// Under [`Profile::Shorter`] this does the same work as under [`Profile::Ascii`], except that it may write a segment instead of ASCII.
+/// Does the same as [`normal_words()`] in a place: if it answers `Ok`, the place holds these codewords, whatever it held before. After `TooLong` it
+/// holds what it held before. Under [`Profile::Shorter`] this does the same work as under [`Profile::Ascii`], except that it may write a segment
+/// instead of ASCII.
 pub fn normal_words_to(
     profile: Profile,
     message: &Message,
-    words: &mut ArrayVec<u8, MOST_CODEWORDS>,
+    words: &mut ArrayVec<u8, MOST_DATA>,
 ) -> Result<(), TooLong>
     ensures words { OnOk result (words.new.items ≡ normal_form profile message.now) }
     ensures most { OnOk result (length words.new.items ≤ MOST_DATA) }
     ensures too_long { IsErr result ↔ (MOST_DATA < length (normal_form profile message.now)) }
+    ensures same { OnErr result (words.new.items ≡ words.old.items) }
 {
     let items = message.items();
     let form = form_of(profile, items);

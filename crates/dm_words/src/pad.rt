@@ -1,13 +1,11 @@
 //! Pads (ISO/IEC 16022, pad character).
 
 ghost use Rattle.std.specs.Prelude.{◌≡◌, ◌≤◌, length};
-ghost use Rattle.dm_words.specs.Pads.{padded as padded_words, pad_at};
+ghost use Rattle.dm_words.specs.Pads.{padded, pad_at};
 
-use crate::codeword::data_words;
+use crate::codeword::FIRST_PAD;
 use arrayvec::ArrayVec;
-use dm_layout::{MOST_CODEWORDS, MOST_DATA, Size};
-
-const FIRST_PAD: u8 = 129;
+use dm_layout::{MOST_DATA, Size};
 
 /// Gives the pad at a place, where it isn't the first of the symbol.
 fn pad_word(place: u16) -> u8
@@ -26,23 +24,21 @@ fn pad_word(place: u16) -> u8
 /// words are those of a message, at most as many as the size has data codewords.
 pub fn padded(words: &[u8], size: Size) -> ArrayVec<u8, MOST_DATA>
     requires { length words.now ≤ size.data_count }
-    ensures words { result.items ≡ padded_words words.now size.data_count }
+    ensures words { result.items ≡ padded words.now size.data_count }
     ensures count { length result.items ≡ size.data_count }
 {
     // That they fit is known from the size's methods.
     let _most = size.data_count();
     let mut all = ArrayVec::new();
-    for word in words {
-        all.push(*word);
-    }
+    let _room = all.try_extend_from_slice(words);
     add_pads(&mut all, size);
-    data_words(&all)
+    all
 }
 
 /// Adds pads to the words of a message, as [`padded()`] does, where they stand.
-pub fn add_pads(words: &mut ArrayVec<u8, MOST_CODEWORDS>, size: Size)
+pub fn add_pads(words: &mut ArrayVec<u8, MOST_DATA>, size: Size)
     requires { length words.old.items ≤ size.data_count }
-    ensures words { words.new.items ≡ padded_words words.old.items size.data_count }
+    ensures words { words.new.items ≡ padded words.old.items size.data_count }
     ensures count { length words.new.items ≡ size.data_count }
 {
     let count = size.data_count() as usize;

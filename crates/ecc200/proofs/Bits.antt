@@ -18,7 +18,7 @@ use Rattle.ecc200.specs.Places.{AreModulesOf, nothing, bit_place, border_place, 
 use Rattle.ecc200.specs.Places as places
 use Rattle.ecc200.specs.inner.PlaceSteps.{structure_by, structure_place, with_bits}
 
--- A cell of the mapping matrix has this place among the modules.
+-- A cell of the mapping square has this place among the modules.
 abbrev pub module_of_cell : SizeRow → ℕ → ℕ → ℕ
 module_of_cell size r c = symbol_line size.region_side r * size.side + symbol_line size.region_side c
 
@@ -29,7 +29,7 @@ one_module side r c u v lc lv e = (
   sym (mod-mul-add r side c lc) ∙ ap (λ x. x % side) e ∙ mod-mul-add u side v lv,
 )
 
--- Different cells of the mapping matrix stand at different places.
+-- Different cells of the mapping square stand at different places.
 pub one_cell : (size : SizeRow) (r c u v : ℕ) → IsRow size → c < size.mapping → v < size.mapping → module_of_cell size r c ≡ module_of_cell size u v → (r ≡ u) × (c ≡ v)
 one_cell size r c u v row lc lv e =
     let d : ℕ = size.region_side in
@@ -37,7 +37,7 @@ one_cell size r c u v row lc lv e =
     let both = one_module size.side (symbol_line d r) (symbol_line d c) (symbol_line d u) (symbol_line d v) (lies_inside size c row lc) (lies_inside size v row lv) e in
     (symbol_line-one d r u least both.0, symbol_line-one d c v least both.1)
 
--- Each cell of the mapping matrix has its place among the modules of the symbol.
+-- Each cell of the mapping square has its place among the modules of the symbol.
 pub cell_inside : (size : SizeRow) (r c : ℕ) → IsRow size → r < size.mapping → c < size.mapping → module_of_cell size r c < size.side * size.side
 cell_inside size r c row lr lc =
     let d : ℕ = size.region_side in
@@ -119,7 +119,7 @@ border_is_there size xs r c row lr lc h e =
     true≢false (sym h ∙ off))
     ∙ e ∙ ap (λ x. structure_by (cond x (Some (border_is_dark size r c)) None) r c) h
 
--- Two lines of the mapping matrix are the same exactly where they are the same in the symbol.
+-- Two lines of the mapping square are the same exactly where they are the same in the symbol.
 same_lines : (d r c : ℕ) → 8 ≤ d → nat_eq (symbol_line d r) (symbol_line d c) ≡ nat_eq r c
 same_lines d r c least = by_test (eqb_tells r c) (eqb_tells (symbol_line d r) (symbol_line d c))
   where

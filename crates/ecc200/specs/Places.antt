@@ -30,7 +30,7 @@ fixed_place dark = record { codeword = 0; bit = 0; kind = if dark then 5 else 4 
 abbrev pub place_at : SizeRow → List PlaceOut → ℕ → ℕ → PlaceOut
 place_at size places row column = get_or places (row * size.side + column) nothing
 
--- This stands in the symbol where a cell of the mapping matrix lies.
+-- This stands in the symbol where a cell of the mapping square lies.
 abbrev pub mapped_place : SizeRow → List PlaceOut → ℕ → ℕ → PlaceOut
 mapped_place size places row column = place_at size places (symbol_line size.region_side row) (symbol_line size.region_side column)
 

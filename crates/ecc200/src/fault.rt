@@ -1,6 +1,7 @@
 //! Faults as numbers.
+
 ghost use Rattle.std.specs.Prelude.{◌≡◌};
-ghost use Rattle.ecc200.specs.Faults.{fault, normal_fault, read_fault, word_fault};
+ghost use Rattle.ecc200.specs.Faults.{fault, foreign, no_fault, no_such_profile, no_such_side, normal_fault, read_fault, shape, too_long, word_fault};
 
 use dm_symbol::{NormalFault, ReadFault, WordFault};
 
@@ -15,7 +16,7 @@ pub struct Fault {
 
 impl Fault {
     /// Makes a fault of its three numbers.
-    pub(crate) fn of(code: u16, value: u16, place: u16) -> Fault
+    fn of(code: u16, value: u16, place: u16) -> Fault
         ensures { result ≡ fault code value place }
     {
         Fault { code, value, place }
@@ -23,9 +24,44 @@ impl Fault {
 
     /// Says that there is no fault.
     pub(crate) fn none() -> Fault
-        ensures { result ≡ fault 0 0 0 }
+        ensures { result ≡ no_fault }
     {
         Fault::of(0, 0, 0)
+    }
+
+    /// Says that there are not as many modules as the square of the side.
+    pub(crate) fn shape() -> Fault
+        ensures { result ≡ shape }
+    {
+        Fault::of(3, 0, 0)
+    }
+
+    /// Says that no size has this side.
+    pub(crate) fn no_such_side(side: u16) -> Fault
+        ensures { result ≡ no_such_side side }
+    {
+        Fault::of(4, side, 0)
+    }
+
+    /// Says that a message fits no size.
+    pub(crate) fn too_long() -> Fault
+        ensures { result ≡ too_long }
+    {
+        Fault::of(14, 0, 0)
+    }
+
+    /// Says that this number, at this place, stands for no item.
+    pub(crate) fn foreign(number: u16, place: u16) -> Fault
+        ensures { result ≡ foreign number place }
+    {
+        Fault::of(15, number, place)
+    }
+
+    /// Says that this number stands for no profile.
+    pub(crate) fn no_such_profile(number: u16) -> Fault
+        ensures { result ≡ no_such_profile number }
+    {
+        Fault::of(16, number, 0)
     }
 }
 
@@ -61,6 +97,6 @@ pub(crate) fn normal_fault(why: NormalFault) -> Fault
 {
     match why {
         NormalFault::Read(why) => read_fault(why),
-        NormalFault::TooLong => Fault::of(14, 0, 0),
+        NormalFault::TooLong => Fault::too_long(),
     }
 }

@@ -1,9 +1,10 @@
 //! Inspecting.
+
 ghost use Rattle.std.specs.Prelude.{◌≡◌, ◌≤◌, ◌++◌, drop, length, map, Option, ℕ};
 ghost use Rattle.ecc200.specs.Inspections.{IsInspectAnswer, count_shown, inspection_shown, no_inspection};
 
+use crate::arrays::put_bytes;
 use crate::fault::Fault;
-use crate::front::put_bytes;
 use crate::modules::grid_of;
 use dm_layout::MOST_CODEWORDS;
 use dm_symbol::{Inspection, MOST_BLOCKS, inspect};

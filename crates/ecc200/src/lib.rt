@@ -5,8 +5,8 @@
 //! give is defined in `specs/`, on the definitions of `dm_symbol`: `Readings`, `Symbols`, `Inspections`, `Places`, `Sizes`.
 #![tactic(auto)]
 
+mod arrays;
 mod fault;
-mod front;
 mod inspection;
 mod message;
 mod modules;

@@ -1,4 +1,5 @@
 //! Messages as numbers: a byte is itself, FNC1 is 256.
+
 ghost use Rattle.std.specs.Prelude.{◌≡◌, ◌≤◌, ◌++◌, drop, length, map, All, IfSome, IfNone};
 ghost use Rattle.dm_symbol.specs.Messages.{IsMessage};
 ghost use Rattle.ecc200.specs.Items.{IsFirstForeign, number_of, numbers_of};

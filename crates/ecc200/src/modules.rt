@@ -1,4 +1,5 @@
 //! Grids as bytes, one for each module, row by row from the top.
+
 ghost use Rattle.std.specs.Prelude.{◌≡◌, ◌+◌, ◌*◌, ◌^◌, ◌≤◌, ◌<◌, ◌++◌, ℕ, [], drop, get_or, length, map, take, IfOk, IfErr};
 ghost use Rattle.dm_symbol.specs.Grid.{is_dark_in};
 ghost use Rattle.ecc200.specs.Modules.{IsGridOf, IsModulesFault, is_dark, module_of, modules_of};
@@ -16,10 +17,10 @@ pub(crate) fn grid_of(modules: &[u8], side: u16) -> Result<Grid, Fault>
 {
     let across = usize::from(side);
     if modules.len() != across * across {
-        return Err(Fault::of(3, 0, 0));
+        return Err(Fault::shape());
     }
     if across > LARGEST_SIDE {
-        return Err(Fault::of(4, side, 0));
+        return Err(Fault::no_such_side(side));
     }
     let mut rows = [0; LARGEST_SIDE];
     for row in 0..across {
@@ -27,13 +28,13 @@ pub(crate) fn grid_of(modules: &[u8], side: u16) -> Result<Grid, Fault>
     }
     match Grid::of_rows(side, &rows[..across]) {
         Ok(grid) => Ok(grid),
-        Err(_) => Err(Fault::of(4, side, 0)),
+        Err(_) => Err(Fault::no_such_side(side)),
     }
 }
 
 /// Packs a row of modules into one number: the module of a column is the bit whose weight is 2 to the power of that column, 1 for dark.
 fn packed(modules: &[u8]) -> u128
-    requires { length modules.now ≤ 127 }
+    requires { length modules.now ≤ LARGEST_SIDE }
     ensures { (column : ℕ) → column < length modules.now → is_dark_in result column ≡ is_dark (get_or modules.now column 0) }
 {
     let across = modules.len();

@@ -1,4 +1,5 @@
 //! What each module of a symbol is.
+
 ghost use Rattle.std.specs.Prelude.{◌≡◌, ◌+◌, ◌*◌, ◌≤◌, ◌<◌, ℕ, get_or, length, replicate};
 ghost use Rattle.dm_layout.specs.Placement.{places_in_order};
 ghost use Rattle.ecc200.specs.Places.{IsPlacesAnswer, nothing, place_at};
@@ -60,7 +61,7 @@ pub extern "C" fn ecc200_places(side: u16, out: &mut PlacesOut) -> u16
             put_bits(&mut out.places, size);
         }
         None => {
-            out.fault = Fault::of(4, side, 0);
+            out.fault = Fault::no_such_side(side);
             out.side = 0;
         }
     }

@@ -1,10 +1,11 @@
 //! Reading.
+
 ghost use Rattle.std.specs.Prelude.{◌≡◌};
 ghost use Rattle.dm_symbol.specs.Reading.{usual_limit};
 ghost use Rattle.ecc200.specs.Readings.{IsReadAnswer, no_reading, reading_shown};
 
+use crate::arrays::put_bytes;
 use crate::fault::{Fault, read_fault};
-use crate::front::put_bytes;
 use crate::message::put_message;
 use crate::modules::grid_of;
 use dm_symbol::{MOST_BLOCKS, MOST_ITEMS, Reading, read_to, usual_limit};

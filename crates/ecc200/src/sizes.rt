@@ -1,4 +1,5 @@
 //! The table of sizes.
+
 ghost use Rattle.std.specs.Prelude.{◌≡◌, length, map};
 ghost use Rattle.dm_symbol.specs.Sizes.{size_table};
 ghost use Rattle.ecc200.specs.Sizes.{size_shown};

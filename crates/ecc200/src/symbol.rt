@@ -1,4 +1,5 @@
 //! Writing and normalising.
+
 ghost use Rattle.std.specs.Prelude.{◌≡◌, ◌≤◌, All};
 ghost use Rattle.dm_symbol.specs.Places.{outcome};
 ghost use Rattle.ecc200.specs.Symbols.{IsNormalAnswer, IsWriteAnswer, NormalisedAnswer, WrittenAnswer, no_symbol, profile_of, symbol_shown};
@@ -31,7 +32,7 @@ pub extern "C" fn ecc200_write(items: &[u16], profile: u16, out: &mut SymbolOut)
                 Err(why) => show_fault(out, why),
             }
         }
-        None => show_fault(out, Fault::of(16, profile, 0)),
+        None => show_fault(out, Fault::no_such_profile(profile)),
     }
     out.fault.code
 }
@@ -56,7 +57,7 @@ pub extern "C" fn ecc200_normal(
                 Err(why) => show_fault(out, why),
             }
         }
-        None => show_fault(out, Fault::of(16, profile, 0)),
+        None => show_fault(out, Fault::no_such_profile(profile)),
     }
     out.fault.code
 }
@@ -77,7 +78,7 @@ fn written(items: &[u16], profile: Profile, grid: &mut Grid) -> Result<(), Fault
     ensures { WrittenAnswer profile items.now (outcome result grid.new) }
 {
     match first_foreign(items) {
-        Some(place) => Err(Fault::of(15, items[place], place.min(65535) as u16)),
+        Some(place) => Err(Fault::foreign(items[place], place.min(usize::from(u16::MAX)) as u16)),
         None => written_message(items, profile, grid),
     }
 }
@@ -88,11 +89,11 @@ fn written_message(items: &[u16], profile: Profile, grid: &mut Grid) -> Result<(
     ensures { WrittenAnswer profile items.now (outcome result grid.new) }
 {
     if items.len() > MOST_ITEMS {
-        return Err(Fault::of(14, 0, 0));
+        return Err(Fault::too_long());
     }
     match write_to(profile, &message_of(items), grid) {
         Ok(()) => Ok(()),
-        Err(TooLong) => Err(Fault::of(14, 0, 0)),
+        Err(TooLong) => Err(Fault::too_long()),
     }
 }
 

@@ -1,4 +1,5 @@
 //! The version of the interface.
+
 ghost use Rattle.std.specs.Prelude.{◌≡◌};
 
 /// The version of the interface: `ECC200_ABI` of the header that declares it.

@@ -3,7 +3,7 @@
 ghost use Rattle.std.specs.Prelude.{◌≡◌, ◌<◌, ℕ};
 ghost use Rattle.gf301.specs.Field.{◌⊕◌, ◌⊗◌, power};
 
-use super::product_rows::{HIGH, LOW};
+use crate::product_rows::{HIGH, LOW};
 
 /// The powers of 2: at each place e below 255 stands 2 to the power e. The element 2 generates all elements but 0.
 pub(crate) static POWERS: [u8; 255] = [

@@ -4,9 +4,9 @@ ghost use Rattle.std.specs.Prelude.{◌≡◌, ◌≤◌, ◌<◌, ℕ, suc, get
 ghost use Rattle.gf301.specs.Generator.{generator};
 ghost use Rattle.gf301.specs.Polynomial.{coefficient};
 
-use super::field::Gf;
-use super::polynomial::{Poly, times};
-use super::tap_rows::TAP_ROWS;
+use crate::field::Gf;
+use crate::polynomial::{Poly, times};
+use crate::tap_rows::TAP_ROWS;
 
 /// The most check codewords of a block, which the square symbols of sides 48 and 96 have.
 pub const MOST_CHECKS: usize = 68;

@@ -6,16 +6,14 @@ ghost use Rattle.std.specs.Simd.Lanes.{zip2};
 ghost use Rattle.gf301.specs.Field.{◌⊕◌, ◌⊗◌, raise, power};
 ghost use Rattle.gf301.specs.Polynomial.{values_from};
 
-use super::field::{Gf, POWERS};
-use super::generators::MOST_CHECKS;
-use super::power_rows::POWER_ROWS;
-use super::product_rows::{HIGH, LOW};
+use crate::field::{Gf, POWERS};
+use crate::generators::MOST_CHECKS;
+use crate::power_rows::POWER_ROWS;
+use crate::product_rows::{HIGH, LOW};
 use std::simd::prelude::*;
 
-/// Returns the sixteen powers of 2 with exponents of `first` to `first` + 15, in this order. `first` is at most 255, after
-/// which the powers repeat.
+/// Returns the sixteen powers of 2 with exponents of `first` to `first` + 15, in this order.
 pub fn powers(first: u16) -> [u8; 16]
-    requires { first ≤ 255 }
     ensures { result ≡ values_from power first 16 }
 {
     scaled(Gf::power_of_two(first).0, u8x16::from_slice(&POWERS)).to_array()
@@ -72,7 +70,7 @@ fn by_table(table: Simd<u8, 16>, places: Simd<u8, 16>) -> Simd<u8, 16>
 }
 
 /// Returns the sixteen powers of 2 with exponents of `first` to `first` + 15, each to the power e, which is at most half of
-/// [`MOST_CHECKS`].
+/// [`MOST_CHECKS`]. `first` is at most 65.
 #[inline]
 pub fn power_row(e: usize, first: usize) -> Simd<u8, 16>
     requires exponent { e ≤ MOST_CHECKS / 2 }

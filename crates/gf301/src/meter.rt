@@ -3,7 +3,7 @@
 ghost use Rattle.std.specs.Prelude.{◌≡◌, ◌+◌, ◌-◌, ◌^◌, ◌<◌, ℕ};
 ghost use Rattle.gf301.specs.Field.{◌⊗◌};
 
-use super::field::Gf;
+use crate::field::Gf;
 
 /// Counts the products and inversions that are made through it.
 #[derive(Clone, Copy, Debug, Default, PartialEq, Eq)]

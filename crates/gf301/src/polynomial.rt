@@ -3,7 +3,7 @@
 ghost use Rattle.std.specs.Prelude.{◌≡◌, ◌+◌, ◌<◌, ◌≤◌, length};
 ghost use Rattle.gf301.specs.Polynomial.{value, coefficient, convolution, times};
 
-use super::field::Gf;
+use crate::field::Gf;
 use arrayvec::ArrayVec;
 
 /// A polynomial of at most 256 coefficients, the highest power first.

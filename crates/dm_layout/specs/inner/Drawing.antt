@@ -1,5 +1,5 @@
 -- How the grid of a symbol is drawn: light, then with correct borders and the fixed square, then with the rows of the mapping square put in between.
-use Rattle.std.specs.Prelude.{◌≡◌, ℕ, ◌+◌, ◌-◌, ◌*◌, ◌/◌, ◌<◌, Bool, true, false, ◌&&◌, ◌||◌, [], nat_lt, get_or, set, if◌then◌else◌}
+use Rattle.std.specs.Prelude.{◌≡◌, ℕ, ◌+◌, ◌-◌, ◌*◌, ◌/◌, ◌<◌, Bool, true, false, ◌&&◌, ◌||◌, nat_lt, if◌then◌else◌}
 use Rattle.dm_layout.specs.Sizes.{SizeRow}
 use Rattle.dm_layout.specs.Grid.{GridView, IsGrid, cell_at, square_by}
 use Rattle.dm_layout.specs.Border.{symbol_line, is_border, border_is_dark, is_fixed, fixed_is_dark}
@@ -7,10 +7,6 @@ use Rattle.dm_layout.specs.Border.{symbol_line, is_border, border_is_dark, is_fi
 -- A grid is light if all its cells are light.
 abbrev pub IsLight : GridView → Type 0
 IsLight grid = (row column : ℕ) → row < grid.size.side → column < grid.size.side → cell_at grid row column ≡ false
-
--- When one cell of a grid is given a colour, all others stay as they are.
-abbrev pub with_cell : GridView → ℕ → ℕ → Bool → GridView
-with_cell grid row column dark = record { size = grid.size; rows = set grid.rows row (set (get_or grid.rows row []) column dark) }
 
 -- ---- the grid without codewords
 

@@ -1,7 +1,9 @@
 -- What stands between the pieces of a text that is answered as it comes.
 use Rattle.std.specs.Prelude.{◌≡◌, ℕ, List, ◌++◌}
 use Rattle.dm_tool.specs.declared.task.Task.{Task}
-use Rattle.dm_tool.specs.declared.task.Task.TheVariants.{Read, Check, Normal, Write, Table}
+use Rattle.dm_tool.specs.declared.task.Task.TheVariants.{Read, Check, Normal, Write}
+use Rattle.dm_tool.specs.declared.task.RecordTask.{RecordTask}
+use Rattle.dm_tool.specs.declared.task.RecordTask.TheVariants as record_task
 use Rattle.dm_tool.specs.declared.task.Tally.{Tally}
 use Rattle.dm_tool.specs.declared.answering.Answering.{Answering}
 use Rattle.dm_tool.specs.declared.answering.Answering.TheVariants.{Records, Lines}
@@ -10,18 +12,16 @@ use Rattle.dm_tool.specs.LineFeeds.{LineAnswer, AreOfText}
 use Rattle.dm_tool.specs.Answers.{Answer, IsRecordAnswer, IsWriteAnswer}
 use Rattle.dm_tool.specs.Runs.{AreAllAnswers, AreClosedAnswers, AreMatched, tally_of, written}
 
--- The tasks that read, check or normalise answer records; the other two don't.
-abbrev pub AnswersRecords : Task → Type 0
-AnswersRecords (Read border) = Unit {0}
-AnswersRecords (Check border) = Unit {0}
-AnswersRecords (Normal border profile) = Unit {0}
-AnswersRecords (Write profile) = ⊥
-AnswersRecords Table = ⊥
+-- A task that asks about records is a task.
+abbrev pub task_of : RecordTask → Task
+task_of (record_task.Read border) = Read border
+task_of (record_task.Check border) = Check border
+task_of (record_task.Normal border profile) = Normal border profile
 
 -- After a text, these are the answers to what is closed within it, and the state holds what stands open.
 abbrev pub IsAnsweredSoFar : Task → Answering → List ℕ → List Answer → Type 0
 IsAnsweredSoFar task (Records asked facts) text answers =
-    (asked ≡ task) × AnswersRecords task × (records : List RecordAnswer) × AreRecordsOfText text records facts × AreMatched (IsRecordAnswer task) records answers
+    (task_of asked ≡ task) × (records : List RecordAnswer) × AreRecordsOfText text records facts × AreMatched (IsRecordAnswer task) records answers
 IsAnsweredSoFar task (Lines profile facts) text answers =
     (task ≡ Write profile) × (lines : List LineAnswer) × AreOfText text lines facts × AreMatched (IsWriteAnswer profile) lines answers
 

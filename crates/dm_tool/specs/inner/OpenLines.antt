@@ -50,7 +50,7 @@ pub record IsFirstLf (text before after : List ℕ) : Type 0 where
   pub whole : text ≡ before ++ lf ∷ after
   pub no_lf : HasNoLf before
 
--- The first LF of the piece ends the line, which is still held: the piece is taken up to and with it.
+-- The first LF of the piece ends the line, which is still held: the piece is taken up to and including it.
 pub record EndsLine (old : LineFacts) (piece : List ℕ) (taken : ℕ) (new : LineFacts) : Type 0 where
   pub before : List ℕ
   pub after : List ℕ

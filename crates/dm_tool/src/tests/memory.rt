@@ -1,4 +1,5 @@
 //! A source and a sink in memory, which fail where they are told to.
+
 ghost use Rattle.std.specs.Prelude.{◌≡◌, ◌≤◌, ◌<◌, ◌+◌, ◌++◌, ℕ, [], Some, length, refl};
 ghost use Rattle.std.proofs.Common.{sym, ap, ◌∙◌, append_assoc, append-nil, le-add_right};
 ghost use Rattle.dm_tool.specs.inner.TestDevices.{given_joined, kept_joined, place_before, place_within};

@@ -5,7 +5,7 @@ use super::*;
 /// Places for codewords and messages, which hold whatever was written and read last.
 #[derive(Drop)]
 struct Places {
-    words: ArrayVec<u8, MOST_CODEWORDS>,
+    words: ArrayVec<u8, MOST_DATA>,
     message: Message,
     read: Message,
 }
@@ -18,7 +18,7 @@ static SHORTER: [(&[u8], &[u8]); 3] = [
 ];
 
 /// Whether the codewords are written into their place, with pads up to the size of side 12.
-fn is_written_to(message: &Message, words: &mut ArrayVec<u8, MOST_CODEWORDS>) -> bool {
+fn is_written_to(message: &Message, words: &mut ArrayVec<u8, MOST_DATA>) -> bool {
     if normal_words_to(Profile::Shorter, message, words).is_err() {
         return false;
     }

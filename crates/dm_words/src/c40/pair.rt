@@ -5,12 +5,11 @@ ghost use Rattle.dm_words.specs.inner.Scan.Walk.{flat};
 ghost use Rattle.dm_words.specs.inner.Scan.Fronts.{pair_front, pair_by, pairs_in};
 ghost use Rattle.dm_words.specs.inner.Scan.Answers.{GivesPair, IsSmall};
 
+use crate::codeword::UNLATCH;
 use crate::front::number_at;
 use crate::limits::MOST_VALUES;
 use arrayvec::ArrayVec;
 use dm_layout::MOST_DATA;
-
-const UNLATCH: u8 = 254;
 
 /// Why no further pair follows: the next codeword is the unlatch, fewer than two codewords are left, or their number is 0 or more than 64000.
 #[derive(Clone, Copy)]
@@ -70,7 +69,7 @@ fn push_values(values: &mut ArrayVec<u8, MOST_VALUES>, first: u8, second: u8, th
 #[derive(Drop)]
 pub struct Pairs {
     pub values: ArrayVec<u8, MOST_VALUES>,
-    pub count: usize,
+    pub word_count: usize,
     pub end: PairsEnd,
 }
 
@@ -78,11 +77,11 @@ pub struct Pairs {
 pub fn pairs_of(words: &[u8]) -> Pairs
     requires { length words.now ≤ MOST_DATA }
     ensures values { result.values.items ≡ flat (pairs_in words.now).taken }
-    ensures count { result.count ≡ (pairs_in words.now).place }
+    ensures count { result.word_count ≡ (pairs_in words.now).place }
     ensures end { result.end ≡ (pairs_in words.now).why }
     ensures small { All IsSmall result.values.items }
-    ensures within { result.count ≤ length words.now }
-    ensures three_of_two { 2 * length result.values.items ≡ 3 * result.count }
+    ensures within { result.word_count ≤ length words.now }
+    ensures three_of_two { 2 * length result.values.items ≡ 3 * result.word_count }
 {
     let mut values = ArrayVec::new();
     let mut at = 0;
@@ -95,7 +94,7 @@ pub fn pairs_of(words: &[u8]) -> Pairs
             Pair::Stops(end) => {
                 return Pairs {
                     values,
-                    count: at,
+                    word_count: at,
                     end,
                 };
             }

@@ -1,7 +1,7 @@
 //! Runs: a latch, pairs and an end.
 
 ghost use Rattle.std.specs.Prelude.{◌≡◌, ◌+◌, ◌*◌, ◌/◌, ◌^◌, ◌≤◌, ◌<◌, length, drop};
-ghost use Rattle.dm_words.specs.RunFaults.{pair_place as pair_place_of};
+ghost use Rattle.dm_words.specs.RunFaults.{pair_place};
 ghost use Rattle.dm_words.specs.inner.Scan.Fronts.{end_length, run_fault, run_front};
 ghost use Rattle.dm_words.specs.inner.Scan.Answers.{IsPartTaken};
 
@@ -16,7 +16,7 @@ use dm_layout::MOST_DATA;
 /// Gives the place of the pair that holds the value of an index, in a run whose latch stands at a place.
 fn pair_place(place: u16, index: u16) -> u16
     requires { place + 1 + 2 * (index / 3) < 2 ^ 16 }
-    ensures { result ≡ pair_place_of place index }
+    ensures { result ≡ pair_place place index }
 {
     place + 1 + 2 * (index / 3)
 }
@@ -55,9 +55,9 @@ pub fn run_part(
 {
     let pairs = pairs_of(&words[at + 1..]);
     let spelled = read_values(set, pairs.values.as_slice(), message);
-    match fault_of(at as u16 + 1, pairs.count, pairs.end, spelled) {
+    match fault_of(at as u16 + 1, pairs.word_count, pairs.end, spelled) {
         Some(fault) => Err(fault),
-        None => Ok(1 + pairs.count + end_length(pairs.end)),
+        None => Ok(1 + pairs.word_count + end_length(pairs.end)),
     }
 }
 

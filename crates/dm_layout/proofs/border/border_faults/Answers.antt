@@ -19,7 +19,7 @@ loop-row-preserved c =
     c.row_faults-faults.ensures.count
     ∙ ap (λ (s : SizeRow). count_by (is_wrong s.region_side c.loop-row.inner row) (range_with_len 0 s.side)) same
     ∙ ap (λ (i : ℕ). count_by (is_wrong size.region_side i row) (range_with_len 0 size.side)) c.loop-row.invariant.place
-    ∙ faults_of_bits c.args.grid.now r row c.row.ensures in
+    ∙ faults_of_bits c.args.grid.now r row c.row.ensures.cells in
     let small = (row_facts size c.size-size.ensures.grid.row).fits in
     let side = ap (λ (s : SizeRow). s.side) same in
     record {

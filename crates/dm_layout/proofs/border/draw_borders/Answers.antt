@@ -1,11 +1,11 @@
-use Rattle.std.proofs.Common.{◌≡◌, ◌≢◌, ℕ, ◌+◌, ◌-◌, ◌%◌, ◌<◌, ◌∙◌, sym, ap, subst, true, false, ◌&&◌, ◌||◌, nat_eq, Bool, arith}
+use Rattle.std.proofs.Common.{◌≡◌, ◌≢◌, ℕ, ◌+◌, ◌-◌, ◌*◌, ◌%◌, ◌^◌, ◌<◌, ◌∙◌, sym, ap, subst, false, ◌&&◌, ◌||◌, nat_eq, Bool, arith}
 use Rattle.dm_layout.specs.Sizes.{SizeRow}
-use Rattle.dm_layout.specs.Grid.{GridView, IsGrid, cell_at, is_dark_in}
-use Rattle.dm_layout.specs.inner.Drawing.{with_cell, empty_grid, empty_colour}
+use Rattle.dm_layout.specs.Grid.{GridView, cell_at, is_dark_in}
+use Rattle.dm_layout.specs.inner.Drawing.{empty_grid}
 use Rattle.dm_layout.specs.Border.{is_border, border_is_dark, is_on_edge, edge_is_dark}
-use Rattle.dm_layout.proofs.EmptyGrid.{IsBordered, drawn_above_more, none_above, all_above, empty_without, empty_with}
+use Rattle.dm_layout.proofs.EmptyGrid.{IsBordered, Darkens, drawn_above_more, none_above, all_above, empty_without, empty_with}
 use Rattle.dm_layout.proofs.BorderMasks.{row_below}
-use Rattle.dm_layout.proofs.GridLemmas.{grid_of_square}
+use Rattle.dm_layout.proofs.PackedRows.{one_narrow}
 use Rattle.dm_layout.proofs.border.draw_borders.Goals as goal
 
 pub loop-row-init : goal.loop-row-init
@@ -41,17 +41,29 @@ loop-row-preserved c =
       place = c.below-inner.ensures ∙ ap (λ (s : SizeRow). (c.loop-row.inner + 1) % (s.region_side + 2)) same ∙ row_below (size.region_side + 2) r c.loop-row.inner c.loop-row.invariant.place;
     }
 
+pub darken-requires-then-mapping-eq2-clause-cells : goal.darken-requires-then-mapping-eq2-clause-cells
+darken-requires-then-mapping-eq2-clause-cells c =
+    subst (λ (t : SizeRow). 1 * 2 ^ (c.side-side.result - 3) % 2 ^ 128 < 2 ^ t.side) (sym c.loop-row.invariant.size)
+    (one_narrow (c.side-side.result - 3) c.args.size.side (omega (arith, c.side-side.ensures.value, c.mapping.ensures.below)) (omega (arith, c.side-side.ensures.most)))
+
+pub darken-requires-then-mapping-eq2-2-clause-cells : goal.darken-requires-then-mapping-eq2-2-clause-cells
+darken-requires-then-mapping-eq2-2-clause-cells c =
+    subst (λ (t : SizeRow). 1 * 2 ^ (c.side-side.result - 2) % 2 ^ 128 < 2 ^ t.side) (sym (c.darken-then-mapping-eq2.ensures.size ∙ c.loop-row.invariant.size))
+    (one_narrow (c.side-side.result - 2) c.args.size.side (omega (arith, c.side-side.ensures.value, c.mapping.ensures.below)) (omega (arith, c.side-side.ensures.most)))
+
 pub returns-then-mapping-eq2-clause-value : goal.returns-then-mapping-eq2-clause-value
 returns-then-mapping-eq2-clause-value c =
-    let bordered = all_above c.args.size c.loop-row.grid c.loop-row.row (omega arith) c.loop-row.invariant.cells in
-    let here = subst (λ (s : SizeRow). IsBordered s c.loop-row.grid) (sym c.loop-row.invariant.size) bordered in
-    let two : c.loop-row.grid.size.mapping % 4 ≡ 2 = ap (λ (s : SizeRow). s.mapping % 4) c.loop-row.invariant.size ∙ ap (λ n. n % 4) (sym c.mapping.ensures.value) ∙ c.if-mapping-eq2.true in
-    let side : c.side-side.result ≡ c.loop-row.grid.size.side = c.side-side.ensures.value ∙ ap (λ (s : SizeRow). s.side) (sym c.loop-row.invariant.size) in
-    c.set_cell-then-mapping-eq2.ensures
-    ∙ ap (λ (g : GridView). with_cell g (c.side-side.result - 2) (c.side-side.result - 2) true) c.set_cell.ensures
-    ∙ ap (λ n. with_cell (with_cell c.loop-row.grid (n - 3) (n - 3) true) (n - 2) (n - 2) true) side
-    ∙ empty_with c.loop-row.grid c.loop-row.invariant.grid here two
-    ∙ ap empty_grid c.loop-row.invariant.size
+    let size : SizeRow = c.args.size in
+    let n : ℕ = c.side-side.result in
+    let g : GridView = c.loop-row.grid in
+    let g1 : GridView = c.darken-then-mapping-eq2.new.self in
+    let g2 : GridView = c.darken-then-mapping-eq2-2.new.self in
+    let bordered = all_above size g c.loop-row.row (omega arith) c.loop-row.invariant.cells in
+    let two : size.mapping % 4 ≡ 2 = ap (λ (i : ℕ). i % 4) (sym c.mapping.ensures.value) ∙ c.if-mapping-eq2.true in
+    let one : g1.size ≡ size = c.darken-then-mapping-eq2.ensures.size ∙ c.loop-row.invariant.size in
+    let first = subst (λ (i : ℕ). Darkens size g g1 (i - 3)) c.side-side.ensures.value (subst (λ (t : SizeRow). Darkens t g g1 (n - 3)) c.loop-row.invariant.size c.darken-then-mapping-eq2.ensures.cells) in
+    let second = subst (λ (i : ℕ). Darkens size g1 g2 (i - 2)) c.side-side.ensures.value (subst (λ (t : SizeRow). Darkens t g1 g2 (n - 2)) one c.darken-then-mapping-eq2-2.ensures.cells) in
+    empty_with size g g1 g2 c.side-side.ensures.row c.darken-then-mapping-eq2-2.ensures.grid (sym (c.darken-then-mapping-eq2-2.ensures.size ∙ one)) bordered two first second
 
 pub returns-else-mapping-eq2-clause-value : goal.returns-else-mapping-eq2-clause-value
 returns-else-mapping-eq2-clause-value c =
@@ -59,7 +71,3 @@ returns-else-mapping-eq2-clause-value c =
     let here = subst (λ (s : SizeRow). IsBordered s c.loop-row.grid) (sym c.loop-row.invariant.size) bordered in
     let other : c.loop-row.grid.size.mapping % 4 ≢ 2 = λ e. c.if-mapping-eq2.false (ap (λ n. n % 4) c.mapping.ensures.value ∙ ap (λ (s : SizeRow). s.mapping % 4) (sym c.loop-row.invariant.size) ∙ e) in
     empty_without c.loop-row.grid c.loop-row.invariant.grid here other ∙ ap empty_grid c.loop-row.invariant.size
-
-pub returns-then-mapping-eq2-clause-grid : goal.returns-then-mapping-eq2-clause-grid
-returns-then-mapping-eq2-clause-grid c =
-    subst (λ (g : GridView). IsGrid g) (sym (returns-then-mapping-eq2-clause-value c)) (grid_of_square c.args.size (empty_colour c.args.size) c.side-side.ensures.row)

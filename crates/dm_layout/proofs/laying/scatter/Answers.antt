@@ -22,6 +22,7 @@ loop-row-preserved g c =
       count = c.scatter.ensures.room ∙ c.loop-row.invariant.count;
       so_far = λ r q l.
           c.scatter.ensures.cells r q l
+          ∙ ap (λ (i : ℕ). with_scattered (look_in (g.R.BitRows.numbers c.loop-row.rows) r q) slots row i r q) c.first_column.ensures
           ∙ ap (λ (b : Bool). with_scattered b slots row (first_column row) r q) (c.loop-row.invariant.so_far r q l)
           ∙ scatter_more slots row r q;
     }

@@ -1,5 +1,5 @@
-use Rattle.std.proofs.Common.{◌≡◌, ◌⊎◌, ℕ, ◌+◌, ◌*◌, ◌/◌, ◌%◌, ◌^◌, nat_eq, ◌<◌, ◌≤◌, ◌∙◌, sym, false, arith, ap, subst, get_or}
-use Rattle.std.proofs.Math.Nat.{div-mul-le_self, mul-le-mul_right}
+use Rattle.std.proofs.Common.{◌≡◌, ◌⊎◌, ℕ, ◌+◌, ◌*◌, ◌%◌, ◌^◌, nat_eq, ◌<◌, ◌≤◌, ◌∙◌, sym, false, refl, arith, ap, subst, get_or}
+use Rattle.std.proofs.Math.Nat.{mul-le-mul_right}
 use Rattle.dm_layout.specs.Sizes.{SizeRow, IsRow, regions_across}
 use Rattle.dm_layout.specs.Border.{symbol_line}
 use Rattle.dm_layout.specs.Grid.{is_dark_in}
@@ -9,7 +9,7 @@ use Rattle.dm_layout.proofs.DrawnRows.{drawn_more, in_rows}
 use Rattle.dm_layout.proofs.InnerRows.{moved_bit}
 use Rattle.dm_layout.proofs.PlacementRows.{side_at_row}
 use Rattle.dm_layout.proofs.SymbolLines.{lies_inside}
-use Rattle.dm_layout.proofs.TableRows.{across_is, row_facts}
+use Rattle.dm_layout.proofs.TableRows.{across_covers, row_facts}
 use Rattle.dm_layout.proofs.WidenedRows.{line_here}
 use Rattle.dm_layout.proofs.mapping.draw_regions.Goals as goal
 
@@ -38,48 +38,36 @@ loop-line-init g c =
 
 pub inner-requires : goal.inner-requires
 inner-requires g c =
-    let here = is_here c.args.size c.args.region c.loop-line.line c.region_side-region_side.result c.mapping.ensures.row c.region_side-region_side.ensures.value c.requires.region c.loop-line.invariant.begun (omega (arith, c.loop-line-test.true)) in
+    let here = is_here c.args.size c.args.region c.loop-line.line c.region_side-region_side.result c.regions_across-across.ensures.row c.region_side-region_side.ensures.value c.requires.region c.loop-line.invariant.begun (omega (arith, c.loop-line-test.true)) in
     omega (arith, here.inside, c.requires.room, c.requires.fits)
-
-pub outer_row-cells-requires-clause-some : goal.outer_row-cells-requires-clause-some
-outer_row-cells-requires-clause-some g c =
-    let e = across_is c.args.size c.mapping.result c.region_side-region_side.result c.mapping.ensures.value c.region_side-region_side.ensures.value in
-    omega (arith, e, (row_facts c.args.size c.mapping.ensures.row).across)
-
-pub outer_row-cells-requires-clause-few : goal.outer_row-cells-requires-clause-few
-outer_row-cells-requires-clause-few g c =
-    let e = across_is c.args.size c.mapping.result c.region_side-region_side.result c.mapping.ensures.value c.region_side-region_side.ensures.value in
-    omega (arith, e, (row_facts c.args.size c.mapping.ensures.row).few)
 
 pub outer_row-cells-requires-clause-fits : goal.outer_row-cells-requires-clause-fits
 outer_row-cells-requires-clause-fits g c =
-    let h = side_at_row c.args.size c.mapping.result c.mapping.ensures.row c.mapping.ensures.value in
-    let d = div-mul-le_self c.mapping.result c.region_side-region_side.result in
-    omega (arith, h, d)
+    let h = side_at_row c.args.size c.args.size.mapping c.regions_across-across.ensures.row refl in
+    let e = across_covers c.args.size c.regions_across-across.result c.region_side-region_side.result c.regions_across-across.ensures.row c.regions_across-across.ensures.value c.region_side-region_side.ensures.value in
+    omega (arith, h, e)
 
 pub darken-requires-clause-row : goal.darken-requires-clause-row
 darken-requires-clause-row g c =
-    let here = is_here c.args.size c.args.region c.loop-line.line c.region_side-region_side.result c.mapping.ensures.row c.region_side-region_side.ensures.value c.requires.region c.loop-line.invariant.begun (omega (arith, c.loop-line-test.true)) in
+    let here = is_here c.args.size c.args.region c.loop-line.line c.region_side-region_side.result c.regions_across-across.ensures.row c.region_side-region_side.ensures.value c.requires.region c.loop-line.invariant.begun (omega (arith, c.loop-line-test.true)) in
     subst (λ (t : SizeRow). c.loop-line.line + 2 * c.args.region + 1 < t.side) (sym c.loop-line.invariant.drawn.same_size) here.in_symbol
 
 pub darken-requires-clause-cells : goal.darken-requires-clause-cells
 darken-requires-clause-cells g c =
     let d : ℕ = c.region_side-region_side.result in
     let ed = c.region_side-region_side.ensures.value in
-    let e = across_is c.args.size c.mapping.result d c.mapping.ensures.value ed in
-    let s : c.mapping.result / d * (d + 2) ≡ c.args.size.side =
-    ap (λ (i : ℕ). i * (d + 2)) e ∙ ap (λ (i : ℕ). regions_across c.args.size * (i + 2)) ed ∙ sym (row_facts c.args.size c.mapping.ensures.row).side in
+    let s : c.regions_across-across.result * (d + 2) ≡ c.args.size.side =
+    ap (λ (i : ℕ). i * (d + 2)) c.regions_across-across.ensures.value ∙ ap (λ (i : ℕ). regions_across c.args.size * (i + 2)) ed ∙ sym (row_facts c.args.size c.regions_across-across.ensures.row).side in
     subst (λ (t : SizeRow). c.outer_row-cells.result < 2 ^ t.side) (sym c.loop-line.invariant.drawn.same_size) (subst (λ (i : ℕ). c.outer_row-cells.result < 2 ^ i) s c.outer_row-cells.ensures.width)
 
 pub loop-line-preserved : goal.loop-line-preserved
 loop-line-preserved g c =
-    let row = c.mapping.ensures.row in
-    let em = c.mapping.ensures.value in
+    let row = c.regions_across-across.ensures.row in
     let ed = c.region_side-region_side.ensures.value in
     let line : ℕ = c.loop-line.line in
     let cells : ℕ = c.outer_row-cells.result in
     let i = c.loop-line.invariant in
-    let here = is_here c.args.size c.args.region c.loop-line.line c.region_side-region_side.result c.mapping.ensures.row c.region_side-region_side.ensures.value c.requires.region c.loop-line.invariant.begun (omega (arith, c.loop-line-test.true)) in
+    let here = is_here c.args.size c.args.region c.loop-line.line c.region_side-region_side.result c.regions_across-across.ensures.row c.region_side-region_side.ensures.value c.requires.region c.loop-line.invariant.begun (omega (arith, c.loop-line-test.true)) in
     record {
       begun = omega (arith, i.begun);
       drawn =
@@ -87,7 +75,7 @@ loop-line-preserved g c =
           here.inside here.line_is c.darken.ensures.size c.darken.ensures.grid c.darken.ensures.cells
           (λ q lq.
           let four : 4 + q ≡ q + 4 = omega arith in
-          in_rows c.args.size c.mapping.result c.region_side-region_side.result cells c.inner.result row em ed c.outer_row-cells.ensures.mapped q lq
+          in_rows c.args.size c.regions_across-across.result c.region_side-region_side.result cells c.inner.result row c.regions_across-across.ensures.value ed c.outer_row-cells.ensures.mapped q lq
           ∙ ap (λ (x : ℕ). is_dark_in x q) c.inner.ensures
           ∙ ap (λ (x : ℕ). nat_eq x 1) (moved_bit (get_or (g.R.BitRows.numbers c.args.rows.now) (line + 2) 0) 4 q) ∙ ap (look_in (g.R.BitRows.numbers c.args.rows.now) (line + 2)) four)
           (subst (λ (d : ℕ). (j : ℕ) → ((j % (d + 2) ≡ 0) ⊎ (j % (d + 2) ≡ d + 1)) → is_dark_in cells j ≡ false) ed c.outer_row-cells.ensures.border);

@@ -1,21 +1,18 @@
-use Rattle.std.proofs.Common.{◌≡◌, ℕ, ◌+◌, ◌*◌, ◌/◌, ◌<◌, ◌≤◌, ◌^◌, List, length, sym, ap, subst, arith, ◌∙◌}
+use Rattle.std.proofs.Common.{◌≡◌, ℕ, ◌+◌, ◌*◌, ◌<◌, ◌≤◌, ◌^◌, List, length, refl, ap, subst, arith, ◌∙◌}
 use Rattle.std.proofs.lemmas.List.{length-set}
 use Rattle.std.proofs.Math.Pow.{pow_mono}
 use Rattle.std.proofs.Math.Nat.{mul-le-mul_right}
 use Rattle.dm_layout.specs.Sizes.{SizeRow, IsRow, regions_across}
-use Rattle.dm_layout.proofs.TableRows.{row_facts}
+use Rattle.dm_layout.proofs.TableRows.{across_covers, row_facts}
 use Rattle.dm_layout.specs.Border.{mapped_cell}
 use Rattle.dm_layout.specs.Grid.{cell_at, is_dark_in}
 use Rattle.dm_layout.proofs.InnerRows.{one_line}
-use Rattle.dm_layout.proofs.DrawnRows.{regions_cover}
 use Rattle.dm_layout.proofs.WidenedRows.{line_here, moved_more}
 use Rattle.dm_layout.proofs.widened.move_regions.Goals as goal
 
 -- A row that is no wider than its regions is no wider than the mapping square.
-narrow_in : (s : SizeRow) (m d n x : ℕ) → IsRow s → m ≡ s.mapping → d ≡ s.region_side → m ≡ n → x < 2 ^ (m / d * d) → x < 2 ^ n
-narrow_in s m d n x row em ed e l =
-    let w : m / d * d ≡ n = ap (λ (i : ℕ). i / d * d) em ∙ ap (λ (i : ℕ). s.mapping / i * i) ed ∙ regions_cover s row ∙ sym em ∙ e in
-    subst (λ (i : ℕ). x < 2 ^ i) w l
+narrow_in : (s : SizeRow) (a d n x : ℕ) → IsRow s → a ≡ regions_across s → d ≡ s.region_side → s.mapping ≡ n → x < 2 ^ (a * d) → x < 2 ^ n
+narrow_in s a d n x row ea ed e l = subst (λ (i : ℕ). x < 2 ^ i) (across_covers s a d row ea ed ∙ e) l
 
 -- The rows of a row of regions lie in the mapping square.
 row_inside : (s size : SizeRow) (row region d m : ℕ) → IsRow s → s ≡ size → m ≡ s.mapping → d ≡ s.region_side → region < regions_across size → row < region * d + d → row < m
@@ -31,8 +28,8 @@ row_inside s size row region d m h e em ed l lr =
 pub put-requires-clause-inner : goal.put-requires-clause-inner
 put-requires-clause-inner g c =
     let n : ℕ = c.args.grid.now.size.mapping in
-    let em : c.mapping.result ≡ n = c.mapping.ensures.value ∙ ap (λ (s : SizeRow). s.mapping) c.size-size.ensures.value in
-    let narrow = narrow_in c.size-size.result c.mapping.result c.region_side-region_side.result n c.inner_row.result c.mapping.ensures.row c.mapping.ensures.value c.region_side-region_side.ensures.value em c.inner_row.ensures.width in
+    let em : c.size-size.result.mapping ≡ n = ap (λ (s : SizeRow). s.mapping) c.size-size.ensures.value in
+    let narrow = narrow_in c.size-size.result c.regions_across-across.result c.region_side-region_side.result n c.inner_row.result c.regions_across-across.ensures.row c.regions_across-across.ensures.value c.region_side-region_side.ensures.value em c.inner_row.ensures.width in
     let more : 2 ^ n ≤ 2 ^ g.R.BitRows.most = pow_mono c.requires.fits in
     omega (arith, narrow, more)
 
@@ -43,15 +40,15 @@ loop-row-preserved g c =
     let row : ℕ = c.loop-row.row in
     let rows : List ℕ = g.R.BitRows.numbers c.loop-row.rows in
     let i = c.loop-row.invariant in
-    let em : c.mapping.result ≡ n = c.mapping.ensures.value ∙ ap (λ (s : SizeRow). s.mapping) c.size-size.ensures.value in
+    let em : c.size-size.result.mapping ≡ n = ap (λ (s : SizeRow). s.mapping) c.size-size.ensures.value in
     let all : (c.args.region + 1) * d ≡ c.args.region * d + d = omega arith in
     let line = line_here row c.args.region d ((c.args.region + 1) * d) (omega arith) i.begun (omega (arith, all, c.loop-row-test.true)) in
-    let outside = subst (λ (x : ℕ). (column : ℕ) → column < c.args.grid.now.size.side → is_dark_in c.row-outer.result column ≡ cell_at c.args.grid.now x column) line c.row-outer.ensures in
-    let inside : row < c.mapping.result = row_inside c.size-size.result c.args.grid.now.size row c.args.region d c.mapping.result c.mapping.ensures.row c.size-size.ensures.value c.mapping.ensures.value c.region_side-region_side.ensures.value c.requires.region (omega (arith, c.loop-row-test.true)) in
+    let outside = subst (λ (x : ℕ). (column : ℕ) → column < c.args.grid.now.size.side → is_dark_in c.row-outer.result column ≡ cell_at c.args.grid.now x column) line c.row-outer.ensures.cells in
+    let inside : row < c.size-size.result.mapping = row_inside c.size-size.result c.args.grid.now.size row c.args.region d c.size-size.result.mapping c.regions_across-across.ensures.row c.size-size.ensures.value refl c.region_side-region_side.ensures.value c.requires.region (omega (arith, c.loop-row-test.true)) in
     let cells =
-    one_line c.args.grid.now c.size-size.result c.mapping.result d row c.row-outer.result c.inner_row.result c.size-size.ensures.grid c.size-size.ensures.value c.mapping.ensures.value c.region_side-region_side.ensures.value inside outside
+    one_line c.args.grid.now c.size-size.result c.regions_across-across.result d row c.row-outer.result c.inner_row.result c.size-size.ensures.grid c.size-size.ensures.value c.regions_across-across.ensures.value c.region_side-region_side.ensures.value outside
     c.inner_row.ensures.cells in
-    let narrow : c.inner_row.result < 2 ^ n = narrow_in c.size-size.result c.mapping.result d n c.inner_row.result c.mapping.ensures.row c.mapping.ensures.value c.region_side-region_side.ensures.value em c.inner_row.ensures.width in
+    let narrow : c.inner_row.result < 2 ^ n = narrow_in c.size-size.result c.regions_across-across.result d n c.inner_row.result c.regions_across-across.ensures.row c.regions_across-across.ensures.value c.region_side-region_side.ensures.value em c.inner_row.ensures.width in
     record {
       count = ap length c.put.ensures ∙ length-set rows (row + 2) _ ∙ i.count;
       begun = omega (arith, i.begun);

@@ -10,9 +10,9 @@ returns-in-Err-clause-normal c = is_normalised c.args.profile c.args.grid.now c.
 pub returns-in-Ok-write_to-clause-normal : goal.returns-in-Ok-write_to-clause-normal
 returns-in-Ok-write_to-clause-normal c =
     is_normalised c.args.profile c.args.grid.now c.args.border_limit _
-    (NormalAnswer.normal c.write_to.new.grid (record { message = c.read_to.new.reading.message; read = (c.in-Ok.ensures.message c.read_to.new.reading.message).0 refl; normal_grid = c.in-Ok-write_to.ensures.normal }) refl)
+    (NormalAnswer.normal c.write_to.new.grid (record { message = c.read_to.new.reading.message; read = (c.in-Ok.ensures.message c.read_to.new.reading.message).0 refl; normal_grid = c.in-Ok-write_to.ensures.answer.normal }) refl)
 
 pub returns-in-Err-write_to-clause-normal : goal.returns-in-Err-write_to-clause-normal
 returns-in-Err-write_to-clause-normal c =
     is_normalised c.args.profile c.args.grid.now c.args.border_limit _
-    (NormalAnswer.too_long (record { message = c.read_to.new.reading.message; read = (c.in-Ok.ensures.message c.read_to.new.reading.message).0 refl; too_long = λ fits. false≢true (c.in-Err-write_to.ensures.fits.1 fits) }) refl)
+    (NormalAnswer.too_long (record { message = c.read_to.new.reading.message; read = (c.in-Ok.ensures.message c.read_to.new.reading.message).0 refl; too_long = λ fits. false≢true (c.in-Err-write_to.ensures.answer.fits.1 fits) }) refl)

@@ -6,12 +6,12 @@ use Rattle.dm_symbol.specs.Blocks.{data_part}
 use Rattle.dm_symbol.proofs.WriteSteps.{laid_is_normal, is_written, none_is_written, too_long_fits_none}
 use Rattle.dm_symbol.proofs.writing.write_to.Goals as goal
 
-pub returns-in-Err : goal.returns-in-Err
-returns-in-Err c = none_is_written c.args.profile c.args.message.now _ refl
+pub returns-in-Err-clause-answer : goal.returns-in-Err-clause-answer
+returns-in-Err-clause-answer c = none_is_written c.args.profile c.args.message.now _ refl
     (too_long_fits_none c.args.profile c.args.message.now ((c.in-Err.ensures.too_long).0 refl))
 
-pub returns : goal.returns
-returns c =
+pub returns-clause-answer : goal.returns-clause-answer
+returns-clause-answer c =
     let p = c.args.profile in
     let m = c.args.message.now in
     let size = c.in-Some.size in

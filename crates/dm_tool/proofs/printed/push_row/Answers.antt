@@ -15,4 +15,4 @@ returns c =
     let row = get_or c.args.grid.now.rows c.args.row [] in
     let side : c.side.result ≡ c.args.grid.now.size.side = c.side.ensures.value ∙ ap (λ s. s.side) c.size.ensures.value in
     c.push.ensures ∙ ap (λ (l : List ℕ). l ++ 10 ∷ []) (c.push_cells.ensures ∙ ap (λ (n : ℕ). c.args.text.now.items ++ map character_of (cells_in n c.row.result)) side
-    ∙ ap (λ (l : List Bool). c.args.text.now.items ++ map character_of l) (row_is row c.row.result c.args.grid.now.size.side c.requires.width c.row.ensures))
+    ∙ ap (λ (l : List Bool). c.args.text.now.items ++ map character_of l) (row_is row c.row.result c.args.grid.now.size.side c.requires.width c.row.ensures.cells))

@@ -8,7 +8,7 @@ use Rattle.ecc200.proofs.modules.grid_of.Goals as goal
 pub returns-then-across-gt-LARGEST_SIDE-clause-fault : goal.returns-then-across-gt-LARGEST_SIDE-clause-fault
 returns-then-across-gt-LARGEST_SIDE-clause-fault c =
     no_size (rw (← c.from-across.ensures) c.if-modules-across.false) (none_above c.args.side (omega (arith, c.from-across.ensures, c.if-across-gt-LARGEST_SIDE.true)))
-    c.of-then-across-gt-LARGEST_SIDE.ensures
+    c.no_such_side.ensures
 
 pub returns-in-Ok-clause-grid : goal.returns-in-Ok-clause-grid
 returns-in-Ok-clause-grid c =

@@ -28,5 +28,5 @@ returns-clause-answer c =
           (modules_are size c.clear.new.places w.put_structure.new.places c.match-of_side.out.places (found_row c.args.side size found).1
           (omega (arith, modules_fit c.args.side size found, ap length blank, length-replicate most_modules nothing, w.put_structure.auto.places)) blank
           w.put_structure.ensures.put w.put_structure.ensures.behind (ap (λ o. o.places) w.out-is ∙ w.put_bits.ensures))
-      | in-None w ↦ no_size (subst IsNone (sym w.in-None.is ∙ c.of_side.ensures) refl) (w.out-is ∙ rw (w.of-out.ensures, blank) refl)
+      | in-None w ↦ no_size (subst IsNone (sym w.in-None.is ∙ c.of_side.ensures) refl) (w.out-is ∙ rw (w.no_such_side-out.ensures, blank) refl)
     ]

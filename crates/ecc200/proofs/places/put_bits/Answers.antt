@@ -6,7 +6,7 @@ use Rattle.dm_layout.proofs.Exported.{ArePlaces, all_are_places, once_at_row}
 use Rattle.ecc200.specs.inner.PlaceSteps.{with_bits}
 use Rattle.ecc200.proofs.places.put_bits.Goals as goal
 
--- The place that the loop is at, the first of those that are left, lies in the mapping matrix.
+-- The place that the loop is at, the first of those that are left, lies in the mapping square.
 inside : (size : SizeRow) (row : IsRow size) (p : Place) (ps rest : List Place) → ps ≡ p ∷ rest → ArePlaces size.mapping ps
     → (p.row < size.mapping) × (p.column < size.mapping)
 inside size row p ps rest e are =

@@ -7,5 +7,5 @@ pub returns-clause-answer : goal.returns-clause-answer
 returns-clause-answer c = elim c.match-profile_of.branch [
   | in-Some+in-Ok w ↦ IsNormalAnswer.answered w.in-Some.profile (Ok w.normalised.new.normal) (sym w.in-Some.ensures) w.in-Ok.ensures (w.out-is ∙ w.show_grid.ensures)
   | in-Some+in-Err w ↦ IsNormalAnswer.answered w.in-Some.profile (Err w.in-Err.why) (sym w.in-Some.ensures) w.in-Err.ensures (w.out-is ∙ w.show_fault.ensures)
-  | in-None w ↦ IsNormalAnswer.no_profile (sym c.profile_of.ensures ∙ w.in-None.is) (w.out-is ∙ w.show_fault-in-None.ensures ∙ ap no_symbol w.of.ensures)
+  | in-None w ↦ IsNormalAnswer.no_profile (sym c.profile_of.ensures ∙ w.in-None.is) (w.out-is ∙ w.show_fault-in-None.ensures ∙ ap no_symbol w.no_such_profile.ensures)
 ]

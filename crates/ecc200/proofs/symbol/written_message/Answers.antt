@@ -7,10 +7,10 @@ use Rattle.ecc200.proofs.symbol.written_message.Goals as goal
 pub returns-then-items-gt-MOST_ITEMS : goal.returns-then-items-gt-MOST_ITEMS
 returns-then-items-gt-MOST_ITEMS c =
     let there = message_there c.args.items.now c.requires in
-    WrittenAnswer.no_grid there.0 there.1 there.2 (too_many c.args.profile there.0 c.args.items.now there.2 c.if-items-gt-MOST_ITEMS.true) (ap Err c.of.ensures)
+    WrittenAnswer.no_grid there.0 there.1 there.2 (too_many c.args.profile there.0 c.args.items.now there.2 c.if-items-gt-MOST_ITEMS.true) (ap Err c.too_long.ensures)
 
 pub returns-in-Ok : goal.returns-in-Ok
-returns-in-Ok c = WrittenAnswer.normal c.message_of.result c.write_to.new.grid c.message_of.ensures.message c.message_of.ensures.numbers c.in-Ok.ensures.normal refl
+returns-in-Ok c = WrittenAnswer.normal c.message_of.result c.write_to.new.grid c.message_of.ensures.message c.message_of.ensures.numbers c.in-Ok.ensures.answer.normal refl
 
 pub returns-in-Err : goal.returns-in-Err
-returns-in-Err c = WrittenAnswer.no_grid c.message_of.result c.message_of.ensures.message c.message_of.ensures.numbers (λ h. false≢true (c.in-Err.ensures.fits.1 h)) (ap Err c.of-in-Err.ensures)
+returns-in-Err c = WrittenAnswer.no_grid c.message_of.result c.message_of.ensures.message c.message_of.ensures.numbers (λ h. false≢true (c.in-Err.ensures.answer.fits.1 h)) (ap Err c.too_long-in-Err.ensures)

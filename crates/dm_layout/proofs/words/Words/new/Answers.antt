@@ -1,37 +1,21 @@
-use Rattle.std.proofs.Common.{◌<◌, ◌≡◌, ◌∙◌, ℕ, List, take, get_or, refl, sym, ap, arith}
-use Rattle.std.proofs.lemmas.List.{take_all, length-set}
-use Rattle.std.proofs.lemmas.List.Elements.{All-replicate, All-set}
-use Rattle.dm_layout.specs.Sizes.{most_codewords, codeword_count}
-use Rattle.dm_layout.proofs.KeptWords.{words_of_kept, one_more}
+use Rattle.std.proofs.Common.{◌<◌, ◌++◌, ◌∙◌, drop, length, take, replicate, ap, sym, arith}
+use Rattle.std.proofs.Math.Seq.{take-append_seam}
+use Rattle.std.proofs.lemmas.List.Elements.{All-from_get_or}
+use Rattle.dm_layout.specs.Sizes.{most_codewords}
+use Rattle.dm_layout.proofs.KeptWords.{front_kept, words_of_kept}
 use Rattle.dm_layout.proofs.words.Words.new.Goals as goal
 
-pub loop-i-init : goal.loop-i-init
-loop-i-init c = record { count = refl; bytes = All-replicate (λ (word : ℕ). word < 256) most_codewords 0 (omega arith); so_far = refl }
-
-pub loop-i-preserved : goal.loop-i-preserved
-loop-i-preserved c = record {
-  count = length-set c.loop-i.kept c.loop-i.i _ ∙ c.loop-i.invariant.count;
-  bytes = All-set (λ (word : ℕ). word < 256) c.loop-i.kept c.loop-i.i (get_or c.args.list.now c.loop-i.i 0) (omega (arith, c.type_inv.list c.loop-i.i)) c.loop-i.invariant.bytes;
-  so_far = one_more c.loop-i.kept c.args.list.now c.loop-i.i (omega arith) (omega arith) c.loop-i.invariant.so_far;
-}
-
 pub invariant_of-result : goal.invariant_of-result
-invariant_of-result c = record {
-  row = c.side-side.ensures.row;
-  fits = c.check_count-checks.ensures.most;
-  count = c.loop-i.invariant.count;
-  bytes = c.loop-i.invariant.bytes;
-}
-
--- A list is kept whole once all its codewords are kept.
-all_kept : (kept list : List ℕ) (n i : ℕ) → i ≡ n → take i kept ≡ take i list → take n list ≡ list → take n kept ≡ list
-all_kept kept list n i e h f = ap (λ (j : ℕ). take j kept) (sym e) ∙ h ∙ ap (λ (j : ℕ). take j list) e ∙ f
+invariant_of-result c =
+    let list = c.args.list.now in
+    rw c.copy_from_slice.ensures.after
+    (front_kept c.args.size list c.side-side.ensures.row c.check_count-checks.ensures.most (omega (arith, c.requires, c.check_count-checks.ensures.most)) (All-from_get_or (λ word. word < 256) list 0 (λ i h. omega (arith, c.type_inv.list i))))
 
 pub returns-clause-value : goal.returns-clause-value
 returns-clause-value c =
-    let n : ℕ = codeword_count c.args.size in
-    let e = all_kept c.loop-i.kept c.args.list.now n c.loop-i.i (omega (arith, c.requires)) c.loop-i.invariant.so_far (take_all n c.args.list.now (omega (arith, c.requires))) in
-    ap (λ (ws : List ℕ). record { size = c.args.size; list = ws }) e
+    let list = c.args.list.now in
+    let behind = drop (length list) (replicate most_codewords 0) in
+    ap (λ words. record { size = c.args.size; list = words }) (rw c.copy_from_slice.ensures.after (ap (λ n. take n (list ++ behind)) (sym c.requires) ∙ take-append_seam list behind))
 
 pub returns-clause-words : goal.returns-clause-words
-returns-clause-words c = words_of_kept c.args.size c.loop-i.kept (invariant_of-result c)
+returns-clause-words c = words_of_kept c.args.size _ (invariant_of-result c)

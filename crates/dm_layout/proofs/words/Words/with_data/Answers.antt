@@ -1,13 +1,13 @@
 use Rattle.std.proofs.Common.{◌<◌, ap, arith}
 use Rattle.std.proofs.lemmas.List.Elements.{All-from_get_or}
-use Rattle.dm_layout.proofs.KeptWords.{data_kept, zeros_behind, words_of_kept}
+use Rattle.dm_layout.proofs.KeptWords.{front_kept, zeros_behind, words_of_kept}
 use Rattle.dm_layout.proofs.words.Words.with_data.Goals as goal
 
 pub invariant_of-result : goal.invariant_of-result
 invariant_of-result c =
     let front = c.args.front.now in
     rw c.copy_from_slice.ensures.after
-    (data_kept c.args.size front c.side-side.ensures.row c.check_count-checks.ensures.most c.requires (All-from_get_or (λ word. word < 256) front 0 (λ i h. omega (arith, c.type_inv.front i))))
+    (front_kept c.args.size front c.side-side.ensures.row c.check_count-checks.ensures.most (omega (arith, c.requires, c.check_count-checks.ensures.most)) (All-from_get_or (λ word. word < 256) front 0 (λ i h. omega (arith, c.type_inv.front i))))
 
 pub returns-clause-value : goal.returns-clause-value
 returns-clause-value c =

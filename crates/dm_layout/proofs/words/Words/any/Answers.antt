@@ -2,7 +2,7 @@ use Rattle.std.proofs.Common.{◌<◌, ℕ, replicate, refl, arith}
 use Rattle.std.proofs.lemmas.List.Elements.{All-replicate}
 use Rattle.dm_layout.specs.Sizes.{most_codewords}
 use Rattle.dm_layout.proofs.KeptWords.{words_of_kept}
-use Rattle.dm_layout.proofs.words.Words.zeros.Goals as goal
+use Rattle.dm_layout.proofs.words.Words.any.Goals as goal
 
 pub invariant_of-result : goal.invariant_of-result
 invariant_of-result c = record {

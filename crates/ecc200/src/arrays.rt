@@ -1,4 +1,5 @@
-//! The front of a list.
+//! Arrays of a fixed length, of which only the first numbers mean something.
+
 ghost use Rattle.std.specs.Prelude.{◌≡◌, ◌≤◌, ◌++◌, drop, length};
 
 /// Writes these bytes over the first ones.
