@@ -1,7 +1,10 @@
 -- What the answers of a correction rest on: a word is a codeword where its syndromes are 0, and then it is near to itself.
-use Rattle.std.proofs.Common.{◌≡◌, ℕ, zero, suc, ◌/◌, ◌<◌, ◌≤◌, List, [], ◌∷◌, ◌++◌, length, get_or, take, drop, refl, sym, ap, subst, ◌∙◌, arith, All}
+use Rattle.std.proofs.Common.{◌≡◌, ℕ, zero, suc, ◌+◌, ◌/◌, ◌<◌, ◌≤◌, List, [], ◌∷◌, ◌++◌, length, get_or, take, drop, refl, sym, ap, subst, ◌∙◌, arith, All, replicate}
 use Rattle.std.proofs.lemmas.Grind.{common_steps}
-use Rattle.gf301.specs.Polynomial.{Bytes}
+use Rattle.std.proofs.lemmas.List.{ext_get_or, length-replicate, get_or-replicate}
+use Rattle.gf301.specs.Field.{power}
+use Rattle.gf301.specs.Polynomial.{Bytes, value}
+use Rattle.gf301.proofs.Exported.{value_zeros}
 use Rattle.gf301.specs.declared.generators.TheConstants.{MOST_CHECKS}
 use Rattle.dm_code.specs.Codeword.{IsCodeword, IsNear, differing, distance}
 use Rattle.dm_code.specs.Syndromes.{syndromes_of}
@@ -24,6 +27,14 @@ pub codeword_from_syndromes : (k : ℕ) (w s : List ℕ) → k ≤ MOST_CHECKS �
 codeword_from_syndromes k w s a b l h e z =
     let n : length s ≡ k = ap length e ∙ syndromes_length w k in
     codeword_from_values k w (omega arith) l (omega arith) h (λ i q. sym (syndrome_at w k i q) ∙ ap (λ t. get_or t i 0) (sym e) ∙ z i 0 (omega arith))
+
+-- The syndromes of zeros are all 0.
+pub zeros_of_zeros : (k : ℕ) (r : List ℕ) → AreZero r → AreZero (syndromes_of r k)
+zeros_of_zeros k r z =
+    let same : r ≡ replicate (length r) 0 =
+    ext_get_or 0 r (replicate (length r) 0) (sym (length-replicate {A = ℕ} (length r) 0)) (λ i h. z i 0 h ∙ sym (get_or-replicate (length r) i 0 0 h)) in
+    zero_places (syndromes_of r k) (λ i h.
+    syndrome_at r k i (omega (arith, syndromes_length r k)) ∙ ap (λ t. value t (power (1 + i))) same ∙ value_zeros (power (1 + i)) (length r))
 
 -- The syndromes of a codeword are all 0.
 pub zero_syndromes : (k : ℕ) (w s : List ℕ) → s ≡ syndromes_of w k → IsCodeword k w → AreZero s
@@ -55,20 +66,14 @@ near_self k w f e c = record {
 refilled : (a b : List ℕ) → length b ≡ length a → take (length a) (b ++ drop (length b) a) ≡ b
 refilled a b h = grind (arith, common_steps)
 
--- When f was written over a, a copy of the word w, it is as long, it is what stands there, and s are its syndromes.
-pub record IsRewritten (k : ℕ) (w a f s : List ℕ) : Type 0 where
+-- When f was written over a, a copy of the word w, it is as long, and it is what stands there.
+pub record IsRewritten (w a f : List ℕ) : Type 0 where
   pub long : length f ≡ length w
   pub word : take (length a) (f ++ drop (length f) a) ≡ f
-  pub syndromes : s ≡ syndromes_of f k
 
--- This holds where f is as long as the copy, and where its syndromes t were written over those of w, b, so that s stands there.
-pub rewritten : (k : ℕ) (w a word f b syndromes t s : List ℕ) → a ≡ w → word ≡ a → length f ≡ length word
-    → b ≡ syndromes_of w k → syndromes ≡ b → t ≡ syndromes_of f (length syndromes) → s ≡ take (length b) (t ++ drop (length t) b) → IsRewritten k w a f s
-rewritten k w a word f b syndromes t s ae we fl be se te e =
-    let bk : length b ≡ k = ap length be ∙ syndromes_length w k in
-    let tk : t ≡ syndromes_of f k = te ∙ ap (syndromes_of f) (ap length se ∙ bk) in
-    record {
-      long = fl ∙ ap length (we ∙ ae);
-      word = refilled a f (fl ∙ ap length we);
-      syndromes = e ∙ refilled b t (ap length tk ∙ syndromes_length f k ∙ sym bk) ∙ tk;
-    }
+-- This holds where f is as long as the copy.
+pub rewritten : (w a word f : List ℕ) → a ≡ w → word ≡ a → length f ≡ length word → IsRewritten w a f
+rewritten w a word f ae we fl = record {
+  long = fl ∙ ap length (we ∙ ae);
+  word = refilled a f (fl ∙ ap length we);
+}

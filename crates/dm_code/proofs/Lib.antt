@@ -19,6 +19,8 @@ mod ErrorValues
 mod Nearness
 mod OddTerms
 mod Corrections
+mod ErrorTerms
+mod LaneTerms
 mod CleanWords
 mod Choices
 mod NearOrNone

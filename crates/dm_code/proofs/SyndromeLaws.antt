@@ -32,6 +32,15 @@ pub syndromes_push : (w : List ℕ) (n : ℕ) → syndromes_of w (suc n) ≡ syn
 unfolding values
 syndromes_push w n = values_from_push (values w) 1 n
 
+-- Two lists with the same values at 2^1 to 2^k have the same k syndromes.
+pub same_syndromes : (v w : List ℕ) (k : ℕ) → ((i : ℕ) → i < k → value v (power (suc i)) ≡ value w (power (suc i))) → syndromes_of v k ≡ syndromes_of w k
+same_syndromes v w k h =
+    ext_get_or 0 (syndromes_of v k) (syndromes_of w k) (syndromes_length v k ∙ sym (syndromes_length w k))
+    (λ i l.
+    let b : i < k = omega (arith, syndromes_length v k) in
+    let q : 1 + i ≡ suc i = omega arith in
+    syndrome_at v k i b ∙ ap (λ j. value v (power j)) q ∙ h i b ∙ ap (λ j. value w (power j)) (sym q) ∙ sym (syndrome_at w k i b))
+
 -- ---- codewords are the words without syndromes
 -- The syndromes of a codeword are 0.
 pub codeword_syndromes : (k : ℕ) (w : List ℕ) → IsCodeword k w → syndromes_of w k ≡ replicate k 0

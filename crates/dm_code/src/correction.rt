@@ -1,15 +1,16 @@
 //! Correction of a block.
 
-ghost use Rattle.std.specs.Prelude.{◌≡◌, ◌+◌, ◌*◌, ◌/◌, ◌<◌, ◌≤◌, List, ℕ, length, IsTrue, ◌↔◌, IfOk, IsOkAnd, MatchResult};
+ghost use Rattle.std.specs.Prelude.{◌≡◌, ◌+◌, ◌*◌, ◌/◌, ◌<◌, ◌≤◌, List, ℕ, length, take, IsTrue, ◌↔◌, IfOk, IsOkAnd, MatchResult};
 ghost use Rattle.std.specs.List.{All};
 ghost use Rattle.gf301.specs.Polynomial.{Bytes};
 ghost use Rattle.dm_code.specs.Codeword.{IsCodeword, IsNear, distance};
 ghost use Rattle.dm_code.specs.Syndromes.{syndromes_of};
 ghost use Rattle.dm_code.specs.KeyEquation.{IsBelow, IsLeastPair};
 
-use crate::errors::{add_error, error_value, first_coefficients, step, sums, trimmed};
+use crate::encoding::remainder;
+use crate::errors::{add_error, error_value, first_coefficients, step, sums, trim_zeros};
 use crate::key::{Key, KeySolver};
-use crate::limits::{LONGEST_WORD, MOST_COEFFICIENTS};
+use crate::limits::{LONGEST_WORD, MOST_COEFFICIENTS, SYNDROMES_ROOM};
 use crate::syndrome::syndromes;
 use arrayvec::ArrayVec;
 use gf301::{Gf, MOST_CHECKS};
@@ -35,31 +36,35 @@ pub struct BeyondLimit;
 /// No such word lies within k div 2 places of two codewords, so there is no choice. A word with more
 /// wrong codewords than that may lie near to another codeword, and is then corrected to it.
 ///
-/// For a word of n codewords, with t for k div 2, the work is about n k + 2 n t products, sixteen at a time, t k more one by one,
-/// and that of the solver; for a codeword it is n k alone.
+/// For a word of n codewords, with t for k div 2, the work is about n k + k k + 2 n t + t k products, sixteen at a time, and that
+/// of the solver; for a codeword it is n k alone.
 pub fn correct<S: KeySolver>(solver: &S, word: &[u8], k: usize) -> Result<Fixed, BeyondLimit>
     requires checks { 0 < k }
     requires most { k ≤ MOST_CHECKS }
     requires data { k < length word.now }
     requires long { length word.now ≤ LONGEST_WORD }
-    ensures near { MatchResult result (λ fixed. IsNear k word.now fixed.word.items) (λ _. (c : List ℕ) → IsNear k word.now c → ⊥) }
+    ensures near { MatchResult result (λ fixed. IsNear k word.now fixed.word.items)
+        (λ _. (c : List ℕ) → IsNear k word.now c → ⊥) }
     ensures changed { IfOk result (λ fixed. fixed.changed ≡ distance word.now fixed.word.items) }
-    ensures itself { IsCodeword k word.now → IsOkAnd result (λ fixed. (fixed.word.items ≡ word.now) × (fixed.changed ≡ 0)) }
+    ensures itself { IsCodeword k word.now
+        → IsOkAnd result (λ fixed. (fixed.word.items ≡ word.now) × (fixed.changed ≡ 0)) }
 {
-    let mut syndromes = syndromes(word, k);
-    if are_zero(&syndromes) {
+    let rest = remainder(word, k);
+    if are_zero(&rest) {
         return Ok(Fixed {
             word: copy_of(word),
             changed: 0,
         });
     }
+    let syndromes = syndromes(&rest, k);
     let Some(key) = solver.solve(&syndromes, k / 2) else {
         return Err(BeyondLimit);
     };
     let mut fixed = copy_of(word);
-    correct_errors(&mut fixed, &mut syndromes, &key);
+    let mut left = with_room(&syndromes);
+    correct_errors(&mut fixed, &mut left, k, &key);
     let changed = differences(word, &fixed);
-    if are_zero(&syndromes) && usize::from(changed) <= k / 2 {
+    if are_zero(&left[..k]) && usize::from(changed) <= k / 2 {
         Ok(Fixed {
             word: fixed,
             changed,
@@ -70,39 +75,47 @@ pub fn correct<S: KeySolver>(solver: &S, word: &[u8], k: usize) -> Result<Fixed,
 }
 
 /// Corrects the word at each place whose locator is a root of the error locator. Where a codeword is near, the word then
-/// is this codeword. The syndromes are kept those of the word, so that the answer is tested without new ones.
-fn correct_errors(word: &mut [u8], syndromes: &mut [u8], key: &Key)
-    requires checks { 0 < length syndromes.old }
+/// is this codeword. The first k of the syndromes are kept those of the word, so that the answer is tested without new ones.
+fn correct_errors(word: &mut [u8], syndromes: &mut [u8], k: usize, key: &Key)
+    requires checks { 0 < k }
+    requires most { k ≤ MOST_CHECKS }
     requires long { length word.old ≤ LONGEST_WORD }
-    requires syndromes { syndromes.old ≡ syndromes_of word.old (length syndromes.old) }
-    requires key { IsLeastPair syndromes.old (length syndromes.old / 2) key.now.locator.items key.now.evaluator.items }
-    ensures near { (c : List ℕ) → IsNear (length syndromes.old) word.old c → word.new ≡ c }
+    requires room { length syndromes.old ≡ SYNDROMES_ROOM }
+    requires syndromes { take k syndromes.old ≡ syndromes_of word.old k }
+    requires key { IsLeastPair (syndromes_of word.old k) (k / 2) key.now.locator.items
+        key.now.evaluator.items }
+    ensures near { (c : List ℕ) → IsNear k word.old c → word.new ≡ c }
     ensures long { length word.new ≡ length word.old }
     ensures bytes { Bytes word.new }
-    ensures kept { syndromes.new ≡ syndromes_of word.new (length syndromes.old) }
+    ensures room { length syndromes.new ≡ SYNDROMES_ROOM }
+    ensures kept { take k syndromes.new ≡ syndromes_of word.new k }
 {
-    let locator = trimmed(&key.locator);
-    correct_roots(word, syndromes, locator, &key.evaluator);
+    let locator = trim_zeros(&key.locator);
+    correct_roots(word, syndromes, k, locator, &key.evaluator);
 }
 
 /// Does what [`correct_errors`] does, for a locator without zeros at its end. Roots are looked for, and what gives the errors'
 /// values is computed, at sixteen places at once, from the last place on.
-fn correct_roots(word: &mut [u8], syndromes: &mut [u8], locator: &[u8], evaluator: &[u8])
-    requires checks { 0 < length syndromes.old }
+fn correct_roots(word: &mut [u8], syndromes: &mut [u8], k: usize, locator: &[u8], evaluator: &[u8])
+    requires checks { 0 < k }
+    requires most { k ≤ MOST_CHECKS }
     requires long { length word.old ≤ LONGEST_WORD }
-    requires syndromes { syndromes.old ≡ syndromes_of word.old (length syndromes.old) }
+    requires room { length syndromes.old ≡ SYNDROMES_ROOM }
+    requires syndromes { take k syndromes.old ≡ syndromes_of word.old k }
     requires short { length locator.now ≤ MOST_COEFFICIENTS }
     requires tight { (n : ℕ) → IsBelow n locator.now → length locator.now ≤ n }
-    requires key { IsLeastPair syndromes.old (length syndromes.old / 2) locator.now evaluator.now }
-    ensures near { (c : List ℕ) → IsNear (length syndromes.old) word.old c → word.new ≡ c }
+    requires key { IsLeastPair (syndromes_of word.old k) (k / 2) locator.now evaluator.now }
+    ensures near { (c : List ℕ) → IsNear k word.old c → word.new ≡ c }
     ensures long { length word.new ≡ length word.old }
     ensures bytes { Bytes word.new }
-    ensures kept { syndromes.new ≡ syndromes_of word.new (length syndromes.old) }
+    ensures room { length syndromes.new ≡ SYNDROMES_ROOM }
+    ensures kept { take k syndromes.new ≡ syndromes_of word.new k }
 {
     let mut terms: ArrayVec<u8, MOST_COEFFICIENTS> = copy_of(locator);
     let terms = terms.as_mut_slice();
     let mut upper_terms = first_coefficients(evaluator, locator.len().saturating_sub(1));
     let upper_terms = upper_terms.as_mut_slice();
+    let groups = k.div_ceil(16);
     for part in 0..word.len().div_ceil(16) {
         let (values, divisors) = sums(terms);
         let (numerators, _) = sums(upper_terms);
@@ -116,7 +129,7 @@ fn correct_roots(word: &mut [u8], syndromes: &mut [u8], locator: &[u8], evaluato
                 let at = Gf::power_of_two((first + lane) as u16);
                 let value = error_value(Gf(numerators[lane]), Gf(divisors[lane]));
                 word[place] = Gf(word[place]).add(value).0;
-                add_error(syndromes, value, at);
+                add_error(syndromes, groups, value, at);
             }
         }
         step(terms);
@@ -132,6 +145,16 @@ fn copy_of<const N: usize>(list: &[u8]) -> ArrayVec<u8, N>
     let mut copy = ArrayVec::new();
     let _room = copy.try_extend_from_slice(list);
     copy
+}
+
+/// Puts zeros behind the syndromes.
+fn with_room(syndromes: &[u8]) -> [u8; SYNDROMES_ROOM]
+    requires { length syndromes.now ≤ MOST_CHECKS }
+    ensures { take (length syndromes.now) result ≡ syndromes.now }
+{
+    let mut room = [0; SYNDROMES_ROOM];
+    room[..syndromes.len()].copy_from_slice(syndromes);
+    room
 }
 
 /// Says whether every number of the list is 0.

@@ -36,7 +36,8 @@ fn rows_of(s: &[u8], degree: usize) -> ArrayVec<Row, MOST_CHECKS>
     requires few { length s.now ≤ MOST_CHECKS }
     requires within { degree ≤ length s.now }
     ensures long { array_vec_len result + degree ≡ length s.now }
-    ensures each { (i : ℕ) → i + degree < length s.now → (m : ℕ) → m ≤ degree → row result.items i (MOST_ERRORS - degree + m) ≡ coefficient s.now (i + m) }
+    ensures each { (i : ℕ) → i + degree < length s.now → (m : ℕ) → m ≤ degree
+        → row result.items i (MOST_ERRORS - degree + m) ≡ coefficient s.now (i + m) }
 {
     let mut rows = ArrayVec::new();
     for i in 0..s.len() - degree {
@@ -49,7 +50,8 @@ fn rows_of(s: &[u8], degree: usize) -> ArrayVec<Row, MOST_CHECKS>
 fn row_of(s: &[u8], degree: usize, i: usize) -> Row
     requires small { degree ≤ MOST_ERRORS }
     requires within { i + degree < length s.now }
-    ensures { (m : ℕ) → m ≤ degree → coefficient result (MOST_ERRORS - degree + m) ≡ coefficient s.now (i + m) }
+    ensures { (m : ℕ) → m ≤ degree
+        → coefficient result (MOST_ERRORS - degree + m) ≡ coefficient s.now (i + m) }
 {
     let mut row = [0; MOST_COEFFICIENTS];
     for m in 0..degree + 1 {
@@ -63,10 +65,13 @@ fn key_of(s: &[u8], solution: &Row, degree: usize) -> Key
     requires small { degree ≤ MOST_ERRORS }
     requires within { degree ≤ length s.now }
     ensures locator_long { array_vec_len result.locator ≡ degree + 1 }
-    ensures locator { (i : ℕ) → i ≤ degree → coefficient result.locator.items i ≡ coefficient solution.now (MOST_ERRORS - i) }
+    ensures locator { (i : ℕ) → i ≤ degree
+        → coefficient result.locator.items i ≡ coefficient solution.now (MOST_ERRORS - i) }
     ensures locator_bytes { Bytes result.locator.items }
     ensures evaluator_long { array_vec_len result.evaluator ≡ degree }
-    ensures evaluator { (i : ℕ) → i < degree → coefficient result.evaluator.items i ≡ convolution (coefficient result.locator.items) (coefficient s.now) i }
+    ensures evaluator { (i : ℕ) → i < degree
+        → coefficient result.evaluator.items i
+        ≡ convolution (coefficient result.locator.items) (coefficient s.now) i }
     ensures evaluator_bytes { Bytes result.evaluator.items }
 {
     let mut locator: ArrayVec<u8, MOST_COEFFICIENTS> = ArrayVec::new();
@@ -82,7 +87,8 @@ fn evaluator_of(s: &[u8], locator: &[u8], count: usize) -> ArrayVec<u8, MOST_ERR
     requires small { count ≤ MOST_ERRORS }
     requires within { count ≤ length s.now }
     ensures long { array_vec_len result ≡ count }
-    ensures each { (i : ℕ) → i < count → coefficient result.items i ≡ convolution (coefficient locator.now) (coefficient s.now) i }
+    ensures each { (i : ℕ) → i < count
+        → coefficient result.items i ≡ convolution (coefficient locator.now) (coefficient s.now) i }
 {
     let mut evaluator: ArrayVec<u8, MOST_ERRORS> = ArrayVec::new();
     for i in 0..count {

@@ -1,9 +1,10 @@
-//! The check codewords of a block.
+//! The check codewords of a block, and what is left of a word when it is divided as for them.
 
-ghost use Rattle.std.specs.Prelude.{◌≡◌, ◌+◌, ◌<◌, ◌≤◌, ◌++◌, ℕ, List, length, suc, get_or, take, drop};
+ghost use Rattle.std.specs.Prelude.{◌≡◌, ◌+◌, ◌%◌, ◌<◌, ◌≤◌, ◌++◌, ℕ, List, length, suc, get_or, take, drop};
 ghost use Rattle.gf301.specs.Field.{power};
 ghost use Rattle.gf301.specs.Polynomial.{Bytes, value};
 ghost use Rattle.dm_code.specs.Codeword.{IsCodeword};
+ghost use Rattle.dm_code.specs.Syndromes.{syndromes_of};
 
 use crate::limits::LONGEST_WORD;
 use arrayvec::ArrayVec;
@@ -32,6 +33,24 @@ pub fn encode(front: &[u8], k: usize) -> ArrayVec<u8, MOST_CHECKS>
     checks
 }
 
+/// Returns what is left of a word when it is divided by the generator for k check codewords, k of 1 to [`MOST_CHECKS`]: k
+/// numbers, with the same syndromes as the word. They are all 0 where the word is a codeword.
+pub fn remainder(word: &[u8], k: usize) -> ArrayVec<u8, MOST_CHECKS>
+    requires some { 1 ≤ k }
+    requires most { k ≤ MOST_CHECKS }
+    requires whole { k ≤ length word.now }
+    requires long { length word.now ≤ LONGEST_WORD }
+    ensures { syndromes_of result.items k ≡ syndromes_of word.now k }
+{
+    let count = word.len() - k;
+    let mut rest = [0; ROOM];
+    rest[..word.len()].copy_from_slice(word);
+    divide(&mut rest, count, k);
+    let mut left = ArrayVec::new();
+    let _room = left.try_extend_from_slice(&rest[count..count + k]);
+    left
+}
+
 /// Divides the first `count` + k numbers, as a polynomial, by the generator for k check codewords: takes a multiple of it
 /// away from each of the first `count` places on, so that its last k numbers are then what is left.
 fn divide(rest: &mut [u8; ROOM], count: usize, k: usize)
@@ -39,12 +58,35 @@ fn divide(rest: &mut [u8; ROOM], count: usize, k: usize)
     requires most { k ≤ MOST_CHECKS }
     requires room { count + k ≤ LONGEST_WORD }
     ensures bytes { (i : ℕ) → get_or rest.new i 0 < 256 }
-    ensures same { (i : ℕ) → i < k → value (take k (drop count rest.new)) (power (suc i)) ≡ value (take (count + k) rest.old) (power (suc i)) }
+    ensures same { (i : ℕ) → i < k
+        → value (take k (drop count rest.new)) (power (suc i))
+        ≡ value (take (count + k) rest.old) (power (suc i)) }
+{
+    match k.div_ceil(16) {
+        1 => divide_in::<16>(rest, count, k),
+        2 => divide_in::<32>(rest, count, k),
+        3 => divide_in::<48>(rest, count, k),
+        4 => divide_in::<64>(rest, count, k),
+        _ => divide_in::<80>(rest, count, k),
+    }
+}
+
+/// Does what [`divide`] does, with a multiple that is `WIDTH` numbers wide: k, and what is missing to a multiple of 16. The
+/// compiler has a loop for each width, in which the generator's coefficients stay in lanes.
+fn divide_in<const WIDTH: usize>(rest: &mut [u8; ROOM], count: usize, k: usize)
+    requires lanes { WIDTH % 16 ≡ 0 }
+    requires enough { k ≤ WIDTH }
+    requires tight { WIDTH < k + 16 }
+    requires most { k ≤ MOST_CHECKS }
+    requires room { count + k ≤ LONGEST_WORD }
+    ensures bytes { (i : ℕ) → get_or rest.new i 0 < 256 }
+    ensures same { (i : ℕ) → i < k
+        → value (take k (drop count rest.new)) (power (suc i))
+        ≡ value (take (count + k) rest.old) (power (suc i)) }
 {
     let taps = taps(k);
-    let width = 16 * k.div_ceil(16);
     for place in 0..count {
         let first = rest[place];
-        add_scaled(&mut rest[place + 1..place + 1 + width], first, taps);
+        add_scaled(&mut rest[place + 1..place + 1 + WIDTH], first, taps);
     }
 }

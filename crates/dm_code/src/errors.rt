@@ -13,11 +13,11 @@ ghost use Rattle.dm_code.specs.inner.OddTerms.{odd_part};
 
 use crate::limits::{MOST_COEFFICIENTS, MOST_ERRORS};
 use arrayvec::ArrayVec;
-use gf301::{Gf, power_row, scaled};
+use gf301::{Gf, lanes_mul, power_row, powers_of, scaled};
 use std::simd::prelude::*;
 
 /// Returns the list without the zeros at its end.
-pub fn trimmed(list: &[u8]) -> &[u8]
+pub fn trim_zeros(list: &[u8]) -> &[u8]
     ensures same { IsSamePolynomial list.now result.now }
     ensures short { length result.now ≤ length list.now }
     ensures tight { (n : ℕ) → IsBelow n list.now → length result.now ≤ n }
@@ -51,13 +51,33 @@ pub fn sums(terms: &[u8]) -> (Simd<u8, 16>, Simd<u8, 16>)
 }
 
 /// Steps from the terms of a polynomial at an element to those at 2^16 times it: each term is multiplied by its power of
-/// 2^16.
+/// 2^16, as many as there are by sixteens at the list's end at once.
 pub fn step(terms: &mut [u8])
     requires { length terms.old ≤ MOST_COEFFICIENTS }
     ensures long { length terms.new ≡ length terms.old }
-    ensures each { (i : ℕ) → i < length terms.old → get_or terms.new i 0 ≡ get_or terms.old i 0 ⊗ power (16 * (length terms.old - suc i)) }
+    ensures each { (i : ℕ) → i < length terms.old
+        → get_or terms.new i 0 ≡ get_or terms.old i 0 ⊗ power (16 * (length terms.old - suc i)) }
 {
-    for i in 0..terms.len() {
+    let front = terms.len() % 16;
+    step_front(terms, front);
+    for group in 0..terms.len() / 16 {
+        let place = front + 16 * group;
+        let powers = power_row(16, terms.len() - 16 - place).reverse();
+        let next = lanes_mul(u8x16::from_slice(&terms[place..]), powers);
+        next.copy_to_slice(&mut terms[place..]);
+    }
+}
+
+/// Does what [`step`] does to the first `count` terms, one by one, and leaves the others as they are.
+fn step_front(terms: &mut [u8], count: usize)
+    requires most { length terms.old ≤ MOST_COEFFICIENTS }
+    requires within { count ≤ length terms.old }
+    ensures long { length terms.new ≡ length terms.old }
+    ensures first { (i : ℕ) → i < count
+        → get_or terms.new i 0 ≡ get_or terms.old i 0 ⊗ power (16 * (length terms.old - suc i)) }
+    ensures others { (i : ℕ) → count ≤ i → get_or terms.new i 0 ≡ get_or terms.old i 0 }
+{
+    for i in 0..count {
         let power = Gf::power_of_two(16 * (terms.len() - 1 - i) as u16);
         terms[i] = Gf(terms[i]).mul(power).0;
     }
@@ -99,14 +119,21 @@ pub fn coefficient_at(list: &[u8], i: usize) -> Gf
     }
 }
 
-/// Adds to the syndromes what an error of a value at the place with the locator `at` adds to each of them.
-pub fn add_error(syndromes: &mut [u8], value: Gf, at: Gf)
+/// Adds to the syndromes, so many groups of sixteen, what an error of a value at the place with the locator `at` adds to each
+/// of them: the value times a power of the locator. Sixteen powers give the next sixteen by products with the last of them.
+pub fn add_error(syndromes: &mut [u8], groups: usize, value: Gf, at: Gf)
+    requires { 16 * groups ≤ length syndromes.old }
     ensures long { length syndromes.new ≡ length syndromes.old }
-    ensures each { (i : ℕ) → i < length syndromes.old → get_or syndromes.new i 0 ≡ get_or syndromes.old i 0 ⊕ value.0 ⊗ raise at.0 (suc i) }
+    ensures each { (i : ℕ) → i < 16 * groups
+        → get_or syndromes.new i 0 ≡ get_or syndromes.old i 0 ⊕ value.0 ⊗ raise at.0 (suc i) }
 {
-    let mut term = value;
-    for i in 0..syndromes.len() {
-        term = term.mul(at);
-        syndromes[i] = Gf(syndromes[i]).add(term).0;
+    let powers = powers_of(at);
+    let sixteenth = Gf(powers.to_array()[15]).mul(at);
+    let mut terms = scaled(value.mul(at).0, powers);
+    for group in 0..groups {
+        let place = 16 * group;
+        let next = u8x16::from_slice(&syndromes[place..]) ^ terms;
+        next.copy_to_slice(&mut syndromes[place..]);
+        terms = scaled(sixteenth.0, terms);
     }
 }

@@ -30,6 +30,7 @@ pub trait KeySolver {
     fn solve(&self, s: &[u8], t: usize) -> Option<Key>
         requires few { length s.now ≤ MOST_CHECKS }
         requires half { 2 * t ≤ length s.now }
-        ensures least { IfSome result (λ key. IsLeastPair s.now t key.locator.items key.evaluator.items) }
+        ensures least { IfSome result
+            (λ key. IsLeastPair s.now t key.locator.items key.evaluator.items) }
         ensures none { IfNone result (NoPair s.now t) };
 }

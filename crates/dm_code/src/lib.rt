@@ -6,10 +6,10 @@
 //! generator polynomial for k ([`gf301::generator`]); such a list is a codeword of k checks. k is 1 to [`MOST_CHECKS`].
 //!
 //! [`encode`] makes the check codewords of a block. [`correct`] gives the codeword within k div 2 wrong codewords of a
-//! word, or says that there is none; it takes the [`syndromes`], has a [`KeySolver`] solve the key equation for them,
-//! and finds the wrong places and what is wrong there from the answer. There are two solvers: [`Quick`], whose work grows
-//! with the square of the number of syndromes at the most, and [`Elimination`], whose work grows with its fourth power at
-//! the most.
+//! word, or says that there is none; it divides the word by the generator, takes the [`syndromes`] of what is left, has a
+//! [`KeySolver`] solve the key equation for them, and finds the wrong places and what is wrong there from the answer. There
+//! are two solvers: [`Quick`], whose work grows with the square of the number of syndromes at the most, and
+//! [`Elimination`], whose work grows with its fourth power at the most.
 //!
 //! Everything but the solvers works in lanes, on sixteen codewords, roots or places at once ([`gf301::scaled`]): check
 //! codewords are what is left of a division in place, syndromes are sums over parts of a word, and roots of the error

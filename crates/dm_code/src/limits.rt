@@ -10,3 +10,6 @@ pub const MOST_ERRORS: usize = MOST_CHECKS / 2;
 
 /// The most coefficients of an error locator, whose degree is the number of errors.
 pub const MOST_COEFFICIENTS: usize = MOST_ERRORS + 1;
+
+/// Room for the syndromes of a block in whole groups of sixteen.
+pub const SYNDROMES_ROOM: usize = (MOST_CHECKS + 15) / 16 * 16;

@@ -28,14 +28,16 @@ impl Quick {
     pub fn solve_counted(&self, s: &[u8], t: usize) -> (Option<Key>, Meter)
         requires few { length s.now ≤ MOST_CHECKS }
         requires half { 2 * t ≤ length s.now }
-        ensures least { IfSome result.0 (λ key. IsLeastPair s.now t key.locator.items key.evaluator.items) }
+        ensures least { IfSome result.0
+            (λ key. IsLeastPair s.now t key.locator.items key.evaluator.items) }
         ensures none { IfNone result.0 (NoPair s.now t) }
         ensures exact { IfSome result.0 (λ key. IsExact key.locator.items key.evaluator.items) }
         ensures products { result.1.products ≤ 4 * length s.now * length s.now }
         ensures inversions { result.1.inversions ≤ length s.now }
         ensures each_product { IfSome result.0 (λ _. length s.now ≤ result.1.products) }
         ensures some_product { 0 < length s.now → 0 < result.1.products }
-        ensures some_inversion { IfSome result.0 (λ key. 1 < length key.locator.items → 0 < result.1.inversions) }
+        ensures some_inversion { IfSome result.0
+            (λ key. 1 < length key.locator.items → 0 < result.1.inversions) }
     {
         let mut meter = Meter::default();
         let mut search = Search::new();
@@ -66,7 +68,8 @@ impl KeySolver for Quick {
     fn solve(&self, s: &[u8], t: usize) -> Option<Key>
         requires few { length s.now ≤ MOST_CHECKS }
         requires half { 2 * t ≤ length s.now }
-        ensures least { IfSome result (λ key. IsLeastPair s.now t key.locator.items key.evaluator.items) }
+        ensures least { IfSome result
+            (λ key. IsLeastPair s.now t key.locator.items key.evaluator.items) }
         ensures none { IfNone result (NoPair s.now t) }
         ensures exact { IfSome result (λ key. IsExact key.locator.items key.evaluator.items) }
     {
@@ -120,10 +123,20 @@ impl Search {
         requires inversions_room { meter.old.inversions + 1 < 2 ^ 32 }
         ensures long { length self.new.locator.items ≡ degree + 1 }
         ensures bytes { Bytes self.new.locator.items }
-        ensures low { (i : ℕ) → i < self.old.gap → coefficient self.new.locator.items i ≡ coefficient self.old.locator.items i }
-        ensures high { (i : ℕ) → coefficient self.new.locator.items (self.old.gap + i) ≡ coefficient self.old.locator.items (self.old.gap + i) ⊕ (discrepancy.0 ⊗ self.old.inverse.0) ⊗ coefficient self.old.earlier.items i }
-        ensures grown { length self.old.locator.items ≤ degree → (self.new.earlier.items ≡ self.old.locator.items) × (discrepancy.0 ⊗ self.new.inverse.0 ≡ 1) × (self.new.gap ≡ 0) × (meter.new.inversions ≡ meter.old.inversions + 1) }
-        ensures kept { length self.old.locator.items ≡ degree + 1 → (self.new.earlier.items ≡ self.old.earlier.items) × (self.new.inverse.0 ≡ self.old.inverse.0) × (self.new.gap ≡ self.old.gap) × (meter.new.inversions ≡ meter.old.inversions) }
+        ensures low { (i : ℕ) → i < self.old.gap
+            → coefficient self.new.locator.items i ≡ coefficient self.old.locator.items i }
+        ensures high { (i : ℕ)
+            → coefficient self.new.locator.items (self.old.gap + i)
+            ≡ coefficient self.old.locator.items (self.old.gap + i)
+            ⊕ (discrepancy.0 ⊗ self.old.inverse.0) ⊗ coefficient self.old.earlier.items i }
+        ensures grown { length self.old.locator.items ≤ degree
+            → (self.new.earlier.items ≡ self.old.locator.items)
+            × (discrepancy.0 ⊗ self.new.inverse.0 ≡ 1) × (self.new.gap ≡ 0)
+            × (meter.new.inversions ≡ meter.old.inversions + 1) }
+        ensures kept { length self.old.locator.items ≡ degree + 1
+            → (self.new.earlier.items ≡ self.old.earlier.items)
+            × (self.new.inverse.0 ≡ self.old.inverse.0) × (self.new.gap ≡ self.old.gap)
+            × (meter.new.inversions ≡ meter.old.inversions) }
         ensures products { meter.new.products + self.old.gap ≡ meter.old.products + degree + 2 }
     {
         let factor = meter.mul(discrepancy, self.inverse);
@@ -150,8 +163,12 @@ impl Search {
         requires room { meter.old.products + degree + 1 < 2 ^ 32 }
         ensures long { length result.items ≡ degree + 1 }
         ensures bytes { Bytes result.items }
-        ensures low { (i : ℕ) → i < self.now.gap → coefficient result.items i ≡ coefficient self.now.locator.items i }
-        ensures high { (i : ℕ) → coefficient result.items (self.now.gap + i) ≡ coefficient self.now.locator.items (self.now.gap + i) ⊕ factor.0 ⊗ coefficient self.now.earlier.items i }
+        ensures low { (i : ℕ) → i < self.now.gap
+            → coefficient result.items i ≡ coefficient self.now.locator.items i }
+        ensures high { (i : ℕ)
+            → coefficient result.items (self.now.gap + i)
+            ≡ coefficient self.now.locator.items (self.now.gap + i)
+            ⊕ factor.0 ⊗ coefficient self.now.earlier.items i }
         ensures products { meter.new.products + self.now.gap ≡ meter.old.products + degree + 1 }
         ensures inversions { meter.new.inversions ≡ meter.old.inversions }
     {
@@ -176,9 +193,11 @@ fn evaluator_of(locator: &[u8], s: &[u8], meter: &mut Meter) -> ArrayVec<u8, MOS
     requires within { length locator.now ≤ length s.now + 1 }
     requires room { meter.old.products + MOST_ERRORS * MOST_COEFFICIENTS < 2 ^ 32 }
     ensures long { length result.items + 1 ≡ length locator.now }
-    ensures each { (i : ℕ) → i < length result.items → coefficient result.items i ≡ convolution (coefficient locator.now) (coefficient s.now) i }
+    ensures each { (i : ℕ) → i < length result.items
+        → coefficient result.items i ≡ convolution (coefficient locator.now) (coefficient s.now) i }
     ensures bytes { Bytes result.items }
-    ensures products { 2 * meter.new.products ≡ 2 * meter.old.products + length result.items * length locator.now }
+    ensures products { 2 * meter.new.products
+        ≡ 2 * meter.old.products + length result.items * length locator.now }
     ensures inversions { meter.new.inversions ≡ meter.old.inversions }
 {
     let mut evaluator = ArrayVec::new();

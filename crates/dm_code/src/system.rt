@@ -17,7 +17,8 @@ pub type Row = [u8; MOST_COEFFICIENTS];
 pub fn solve(rows: &[Row], first: usize) -> Option<Row>
     requires within { first ≤ MOST_ERRORS }
     requires few { length rows.now ≤ MOST_CHECKS }
-    ensures solution { IfSome result (λ v. Solves rows.now first (MOST_ERRORS - first) (coefficient v)) }
+    ensures solution { IfSome result
+        (λ v. Solves rows.now first (MOST_ERRORS - first) (coefficient v)) }
     ensures none { IfNone result (Unsolvable rows.now first (MOST_ERRORS - first)) }
 {
     if first == MOST_ERRORS {
@@ -53,7 +54,9 @@ fn last_unknown(rows: &[Row]) -> Option<Row>
 /// Returns a row in which the coefficient of this unknown isn't 0.
 fn pivot(rows: &[Row], unknown: usize) -> Option<usize>
     requires { unknown < MOST_COEFFICIENTS }
-    ensures { MatchOption result ((k : ℕ) → k < length rows.now → row rows.now k unknown ≡ 0) (λ p. (p < length rows.now) × (0 < row rows.now p unknown) × (row rows.now p unknown < 256)) }
+    ensures { MatchOption result ((k : ℕ) → k < length rows.now → row rows.now k unknown ≡ 0)
+        (λ p. (p < length rows.now)
+        × (0 < row rows.now p unknown) × (row rows.now p unknown < 256)) }
 {
     for k in 0..rows.len() {
         let head = rows[k][unknown];
@@ -71,7 +74,9 @@ fn without(rows: &[Row], p: usize, inverse: Gf, unknown: usize) -> ArrayVec<Row,
     requires few { length rows.now ≤ MOST_CHECKS }
     requires of_row { p < length rows.now }
     ensures long { length result.items ≡ length rows.now }
-    ensures each { (k : ℕ) → k < length rows.now → (j : ℕ) → row result.items k j ≡ row rows.now k j ⊕ (row rows.now k unknown ⊗ inverse.0) ⊗ row rows.now p j }
+    ensures each { (k : ℕ) → k < length rows.now → (j : ℕ)
+        → row result.items k j
+        ≡ row rows.now k j ⊕ (row rows.now k unknown ⊗ inverse.0) ⊗ row rows.now p j }
 {
     let mut less = ArrayVec::new();
     for k in 0..rows.len() {
@@ -94,7 +99,8 @@ fn with_multiple(f: &Row, x: Gf, g: &Row) -> Row
 /// Returns the sum of the products of the two rows, place by place, from the place `first` on.
 fn dot_from(f: &Row, v: &Row, first: usize) -> Gf
     requires { first ≤ MOST_COEFFICIENTS }
-    ensures { result.0 ≡ dot (coefficient f.now) (coefficient v.now) first (MOST_COEFFICIENTS - first) }
+    ensures { result.0
+        ≡ dot (coefficient f.now) (coefficient v.now) first (MOST_COEFFICIENTS - first) }
 {
     let mut sum = Gf(0);
     for j in (first..MOST_COEFFICIENTS).rev() {

@@ -5,7 +5,7 @@ use Rattle.std.specs.Int.RustNames.{bit_or}
 use Rattle.std.specs.Int.Bits.{or_shifted_r}
 use Rattle.std.proofs.lemmas.Bool.{ltb-true, ltb-false}
 use Rattle.std.proofs.Math.Nat.{mod-eq_of_lt, div-div-eq-div-mul, mul-le-mul_right}
-use Rattle.dm_layout.specs.Sizes.{SizeRow, regions_across}
+use Rattle.dm_layout.specs.Sizes.{SizeRow, largest_mapping, regions_across}
 use Rattle.dm_layout.proofs.TableRows.{across_covers}
 use Rattle.dm_layout.proofs.SymbolLines.{lies_inside}
 use Rattle.std.proofs.Math.Pow.{pow_pos}
@@ -43,7 +43,7 @@ pub record IsMore (inner row d a : ℕ) : Type 0 where
   pub narrow : part_of row d a * 2 ^ (a * d) + inner < 2 ^ ((a + 1) * d)
 
 -- The part of one more region is put to the left of those before it, where nothing stands yet.
-is_more : (inner row d a : ℕ) → d < 128 → (a + 1) * d ≤ 96 → inner < 2 ^ (a * d) → IsMore inner row d a
+is_more : (inner row d a : ℕ) → d < 128 → (a + 1) * d ≤ largest_mapping → inner < 2 ^ (a * d) → IsMore inner row d a
 is_more inner row d a small fits narrow =
     let k : ℕ = a * d in
     let p : ℕ = part_of row d a in
@@ -89,7 +89,7 @@ one_more inner row d a least small narrow so_far c l = by_part (below (nat_lt c 
         ∙ ap (is_dark_in row) line
 
 -- An inner row of some regions, with the part of the next one put after them, is one of one region more.
-pub cut_more : (inner row d a n : ℕ) → 8 ≤ d → a < n → n * d ≤ 96 → inner < 2 ^ (a * d) → ((c : ℕ) → c < a * d → is_dark_in inner c ≡ is_dark_in row (symbol_line d c)) →
+pub cut_more : (inner row d a n : ℕ) → 8 ≤ d → a < n → n * d ≤ largest_mapping → inner < 2 ^ (a * d) → ((c : ℕ) → c < a * d → is_dark_in inner c ≡ is_dark_in row (symbol_line d c)) →
     IsCut row d (a + 1) (bit_or inner (part_of row d a * 2 ^ (a * d) % 2 ^ 128))
 cut_more inner row d a n least l fits narrow so_far =
     let m : (a + 1) * d ≤ n * d = mul-le-mul_right d (omega arith) in
@@ -102,7 +102,7 @@ cut_more inner row d a n least l fits narrow so_far =
     }
 
 -- The cells of the first region are cut from a row by one shift.
-pub cut_first : (row d n : ℕ) → 8 ≤ d → 1 ≤ n → n * d ≤ 96 → IsCut row d 1 (row / 2 ^ 1 % (1 * 2 ^ d % 2 ^ 128))
+pub cut_first : (row d n : ℕ) → 8 ≤ d → 1 ≤ n → n * d ≤ largest_mapping → IsCut row d 1 (row / 2 ^ 1 % (1 * 2 ^ d % 2 ^ 128))
 cut_first row d n least some fits =
     let m : 1 * d ≤ n * d = mul-le-mul_right d some in
     let small : d < 128 = omega (arith, m, fits) in

@@ -11,6 +11,7 @@ use Rattle.dm_layout.specs.declared.cells.Place.{Place}
 use Rattle.dm_layout.specs.declared.shape.Cell.{Cell}
 use Rattle.dm_layout.specs.declared.shape.Shape.{Shape}
 use Rattle.dm_layout.specs.declared.shape.Shape.TheVariants.{Standard, Corner1, Corner2, Corner3, Corner4}
+use Rattle.dm_layout.specs.Sizes.{largest_mapping}
 use Rattle.dm_layout.specs.Grid.{is_dark_in}
 use Rattle.dm_layout.specs.Placement.{standard, cells_of, shapes, places_from, places_in_order}
 use Rattle.dm_layout.specs.inner.Laying.{by_anchors, scattered, folded, corner_marks, with_byte}
@@ -43,7 +44,7 @@ pub record AreRoom (n width last : ℕ) : Type 0 where
   pub least : 8 ≤ n
   pub fits : n + 16 ≤ width
   pub most : n ≤ last
-  pub last_most : last ≤ 96
+  pub last_most : last ≤ largest_mapping
 
 module _ (n width last y : ℕ) (slots : List ℕ) (room : AreRoom n width last) (even : n % 2 ≡ 0) (inside : last < length slots) (small : y < 256) where
   -- A byte that is added to the slot of an anchor is laid over the row of the anchor, at its place.

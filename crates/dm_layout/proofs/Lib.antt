@@ -18,6 +18,7 @@ mod PackedRows
 mod Ranges
 mod SymbolLines
 mod PlaceOrder
+mod OneKind
 mod Writing
 mod Laid
 mod Bits

@@ -8,6 +8,7 @@ use Rattle.dm_layout.specs.declared.shape.Cell.{Cell}
 use Rattle.dm_layout.specs.declared.shape.Shape.{Shape}
 use Rattle.dm_layout.specs.declared.shape.Shape.TheVariants.{Standard, Corner1, Corner2, Corner3, Corner4}
 use Rattle.dm_layout.specs.Grid.{is_dark_in}
+use Rattle.dm_layout.specs.Sizes.{largest_mapping}
 use Rattle.dm_layout.specs.Placement.{At, wrapped_cell, standard, cells_of}
 use Rattle.dm_layout.specs.inner.Reading.{look_in}
 use Rattle.dm_layout.specs.inner.Slots.{bits_in, reversed_bits, first_column, slot_of, slot_byte, IsJoined, HasSlots}
@@ -55,7 +56,7 @@ cell_by n r c up left t u v =
       | false ↦ elim v [ true ↦ At (r + 4 - (up + (n + 4) % 8)) (c + n - left) | false ↦ At (r - up) (c - left) ]
     ]
 
-module _ (n : ℕ) (look : ℕ → ℕ → Bool) (rows : List ℕ) (least : 8 ≤ n) (most : n ≤ 96) (even : n % 2 ≡ 0) (wide : IsWidened n look rows) where
+module _ (n : ℕ) (look : ℕ → ℕ → Bool) (rows : List ℕ) (least : 8 ≤ n) (most : n ≤ largest_mapping) (even : n % 2 ≡ 0) (wide : IsWidened n look rows) where
   -- Places whose rows and columns agree look the same.
   same_look : (f : ℕ → ℕ → Bool) (a b x y : ℕ) → a ≡ x → b ≡ y → f a b ≡ f x y
   same_look f a b x y p q = ap (λ (i : ℕ). f i b) p ∙ ap (f x) q

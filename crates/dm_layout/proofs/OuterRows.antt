@@ -10,7 +10,7 @@ use Rattle.std.proofs.Math.Pow.{pow_pos, pow_mono}
 use Rattle.std.proofs.lemmas.Bool.{eqb-true, eqb-false, cases_lt}
 use Rattle.std.proofs.lemmas.Nat.{pow-add, mul-add-lt, div-mul-add, mod-mul-add, mod_below, div-add-mod', pow_below, or_lt, and_mask, and_le_l}
 use Rattle.std.proofs.lemmas.Nat.Bits.{bit_at_cat_low, bit_at_cat_high, bit_at-lt, bit_at-zero, bit_at_or, bit_at_above}
-use Rattle.dm_layout.specs.Sizes.{SizeRow}
+use Rattle.dm_layout.specs.Sizes.{SizeRow, largest_mapping, most_across}
 use Rattle.dm_layout.specs.Border.{symbol_line}
 use Rattle.dm_layout.specs.Grid.{is_dark_in, cell_at}
 use Rattle.dm_layout.specs.inner.Keeping.{kept_grid, IsKept}
@@ -137,7 +137,7 @@ module _ (inner d a outer : ℕ) (least : 8 ≤ d) (small : d < 128) (old : IsOu
           never i (inr z) r m = omega (arith, z, r, m)
 
 -- An outer row of some regions, with the part of the next region put after its border, is one of one region more.
-out_more : (inner outer d a n : ℕ) → 8 ≤ d → a < n → n * d ≤ 96 → IsOut inner d a outer → IsOut inner d (a + 1) (piece_of inner d a * 2 ^ (a * (d + 2) + 1) + outer)
+out_more : (inner outer d a n : ℕ) → 8 ≤ d → a < n → n * d ≤ largest_mapping → IsOut inner d a outer → IsOut inner d (a + 1) (piece_of inner d a * 2 ^ (a * (d + 2) + 1) + outer)
 out_more inner outer d a n least l fits old =
     let k : ℕ = a * (d + 2) + 1 in
     let p : ℕ = piece_of inner d a in
@@ -164,13 +164,13 @@ pub record IsOpened (inner d a outer : ℕ) : Type 0 where
   pub sum : outer ≡ inner / 2 ^ (a * d) * 2 ^ (a * (d + 2) + 1) + out
 
 -- Moved by one column, a row stands with its first region after a border, and none of its borders is opened yet.
-pub opened_first : (inner d n : ℕ) → n ≤ 96 → inner < 2 ^ n → IsOpened inner d 0 (inner * 2 % 2 ^ 128)
+pub opened_first : (inner d n : ℕ) → n ≤ largest_mapping → inner < 2 ^ n → IsOpened inner d 0 (inner * 2 % 2 ^ 128)
 opened_first inner d n most narrow =
     let z : 0 * d ≡ 0 = omega arith in
     let y : 0 * (d + 2) + 1 ≡ 1 = omega arith in
     let o : inner / 1 ≡ inner = omega arith in
     let e : inner * 2 ≡ inner * 2 + 0 = omega arith in
-    let m : 2 ^ n ≤ 2 ^ 96 = pow_mono most in
+    let m : 2 ^ n ≤ 2 ^ largest_mapping = pow_mono most in
     record {
       out = 0;
       is = record {
@@ -196,7 +196,7 @@ in_parts x y p d w outer out e f = f ∙ ap (λ (i : ℕ). i * w + out) e ∙ sa
     same : (y * d + p) * w + out ≡ y * (w * d) + (p * w + out)
     same = omega arith
 
-module _ (inner d a n outer front : ℕ) (least : 8 ≤ d) (few : n ≤ 4) (l : a + 1 < n) (most : n * d ≤ 96) (narrow : inner < 2 ^ (n * d)) (old : IsOpened inner d a outer) (is : front ≡ 2 ^ (a * (d + 2) + 1 + d) - 1) where
+module _ (inner d a n outer front : ℕ) (least : 8 ≤ d) (few : n ≤ most_across) (l : a + 1 < n) (most : n * d ≤ largest_mapping) (narrow : inner < 2 ^ (n * d)) (old : IsOpened inner d a outer) (is : front ≡ 2 ^ (a * (d + 2) + 1 + d) - 1) where
   abbrev x : ℕ
   x = inner / 2 ^ (a * d)
 
@@ -209,7 +209,7 @@ module _ (inner d a n outer front : ℕ) (least : 8 ≤ d) (few : n ≤ 4) (l : 
   abbrev low : ℕ
   low = x % 2 ^ d * 2 ^ q + old.out
 
-  wide : (a + 1) * d ≤ 96
+  wide : (a + 1) * d ≤ largest_mapping
   wide = let m : (a + 1) * d ≤ n * d = mul-le-mul_right d (omega (arith, l)) in omega (arith, m, most)
 
   small_d : d < 128
@@ -293,7 +293,7 @@ module _ (inner d a n outer front : ℕ) (least : 8 ≤ d) (few : n ≤ 4) (l : 
       turned u v = omega arith
 
 -- Once the borders of all regions but the last are opened, the row is the outer row of all regions.
-pub opened_all : (inner d a n outer : ℕ) → 8 ≤ d → n ≡ a + 1 → n * d ≤ 96 → inner < 2 ^ (n * d) → IsOpened inner d a outer → IsOut inner d n outer
+pub opened_all : (inner d a n outer : ℕ) → 8 ≤ d → n ≡ a + 1 → n * d ≤ largest_mapping → inner < 2 ^ (n * d) → IsOpened inner d a outer → IsOut inner d n outer
 opened_all inner d a n outer least en most narrow old =
     let p0 = pow_pos (a * d) in
     let x : ℕ = inner / 2 ^ (a * d) in

@@ -1,16 +1,16 @@
 -- What the computed test of the sweep says of each size of the table.
-use Rattle.std.proofs.Common.{◌≡◌, ℕ, arith, ◌*◌, ◌≤◌, ◌&&◌, true, nat_eq, nat_le, List, refl, length, Bool, subst, sym, ap, ◌∙◌}
+use Rattle.std.proofs.Common.{◌≡◌, ℕ, arith, ◌*◌, ◌≤◌, ◌&&◌, true, nat_eq, List, length, subst, sym, ap, ◌∙◌}
 use Rattle.std.specs.Prelude.{pos}
-use Rattle.std.specs.List.{AllByRecursion, All, list_all}
-use Rattle.std.proofs.lemmas.Bool.{and_parts, eqb-true, leb-true}
-use Rattle.std.proofs.lemmas.List.Elements.{recursion_from_All, All-weaker}
+use Rattle.std.specs.List.{All}
+use Rattle.std.proofs.lemmas.Bool.{and_parts, eqb-true}
+use Rattle.std.proofs.lemmas.List.Elements.{All-weaker}
 use Rattle.std.proofs.lemmas.List.Sums.{AllPass-from_list_all}
 use Rattle.dm_layout.specs.declared.shape.Shape.{Shape}
-use Rattle.dm_layout.specs.Sizes.{SizeRow, size_table, IsRow, codeword_count}
+use Rattle.dm_layout.specs.Sizes.{SizeRow, size_table, IsRow, codeword_count, largest_mapping}
 use Rattle.dm_layout.specs.Placement.{shapes, EachCellOnce}
 use Rattle.dm_layout.specs.Sweep.{sweep, sweep_within, placed, nothing_filled, Sweeps}
 use Rattle.dm_layout.specs.Sweep.Part.{Corner}
-use Rattle.dm_layout.specs.inner.Walking.{walk_of, shapes_left, largest_mapping}
+use Rattle.dm_layout.specs.inner.Walking.{walk_of, shapes_left}
 use Rattle.dm_layout.proofs.FewerTests.{few_shapes, shapes-few}
 use Rattle.dm_layout.proofs.OnePlace.{each_cell_once}
 use Rattle.dm_layout.proofs.SameShapes.{same_shapes, shapes_equal}
@@ -18,18 +18,10 @@ use Rattle.dm_layout.proofs.SweepEnds.{is_done, sweep-more}
 use Rattle.dm_layout.proofs.SweepTest.{sweep_test}
 use Rattle.dm_layout.proofs.SweptCells.{fills_all}
 use Rattle.dm_layout.proofs.SweptShapes.{sweep_places, walk_places}
-use Rattle.dm_layout.proofs.TableRows.{at_found}
+use Rattle.dm_layout.proofs.TableRows.{passed_at_row, row_facts}
 use Rattle.dm_layout.proofs.TestedSweep.{swept_by, walked_by, is_swept, size_test, tested}
 
--- What holds of each row of the table holds of a size that stands in it.
-pub at_row : (P : SizeRow → Type 0) (s : SizeRow) → AllByRecursion P size_table → IsRow s → P s
-at_row P s h row = at_found P (λ r. nat_eq r.side s.side) size_table s h row
-
 -- ---- what the computed test says of a size
-
--- A test that each row of the table passes is passed by a size that stands in it.
-pub passed_at_row : (test : SizeRow → Bool) (s : SizeRow) → list_all test size_table ≡ true → IsRow s → test s ≡ true
-passed_at_row test s h row = at_row (λ (r : SizeRow). test r ≡ true) s (recursion_from_All (λ (r : SizeRow). test r ≡ true) size_table (AllPass-from_list_all test size_table h)) row
 
 -- The sweep and the walk of the mapping square of side n come by the same shapes, and of these the test places those of the closed form.
 record IsSwept (n : ℕ) : Type 0 where
@@ -100,32 +92,10 @@ once_at_row s row = swept_once s.mapping (passes_at_row s row).swept
 pub count_at_row : (s : SizeRow) → IsRow s → length (shapes s.mapping) ≡ codeword_count s
 count_at_row s row = (passes_at_row s row).counted
 
--- The mapping side lies between 8 and the largest one, and the symbol has at most 2000 codewords.
-abbrev bounds_test : SizeRow → Bool
-bounds_test s = nat_le 8 s.mapping && nat_le s.mapping largest_mapping && nat_le (codeword_count s) 2000
-
--- Each row of the table passes the test of its bounds.
-bounds_pass : list_all bounds_test size_table ≡ true
-unfolding size_table
-bounds_pass = refl
-
--- The mapping side of a size is neither too small nor too large, and its codewords are at most 2000.
-pub record MappingBounds (s : SizeRow) : Type 0 where
-  pub low : 8 ≤ s.mapping
-  pub high : s.mapping ≤ largest_mapping
-  pub words : codeword_count s ≤ 2000
-
--- The bounds hold for each size.
-pub bounds_at_row : (s : SizeRow) → IsRow s → MappingBounds s
-bounds_at_row s row =
-    let b = and_parts _ (nat_le (codeword_count s) 2000) (passed_at_row bounds_test s bounds_pass row) in
-    let a = and_parts (nat_le 8 s.mapping) (nat_le s.mapping largest_mapping) b.0 in
-    record { low = leb-true _ _ a.0; high = leb-true _ _ a.1; words = leb-true _ _ b.1 }
-
--- The mapping side of a size is at most 96.
-pub side_at_row : (s : SizeRow) (m : ℕ) → IsRow s → m ≡ s.mapping → m ≤ 96
-side_at_row s m row e = let b = bounds_at_row s row in let h = b.high in omega (arith, h, e)
+-- No mapping side of a size is larger than the largest.
+pub side_at_row : (s : SizeRow) (m : ℕ) → IsRow s → m ≡ s.mapping → m ≤ largest_mapping
+side_at_row s m row e = let h = (row_facts s row).mapping_most in omega (arith, h, e)
 
 -- The walk of a size has the shapes of the closed form to place.
 pub walk_at_row : (s : SizeRow) → IsRow s → shapes_left (walk_of s.mapping) ≡ shapes s.mapping
-walk_at_row s row = walk_places s.mapping (walked_by s.mapping) (shapes s.mapping) (bounds_at_row s row).high (passes_at_row s row).swept.test
+walk_at_row s row = walk_places s.mapping (walked_by s.mapping) (shapes s.mapping) (row_facts s row).mapping_most (passes_at_row s row).swept.test

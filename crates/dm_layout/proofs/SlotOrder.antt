@@ -5,7 +5,7 @@ use Rattle.std.specs.Cmp.Lexicographic.{pointwise, same_text}
 use Rattle.std.proofs.Common.{sym}
 use Rattle.std.proofs.lemmas.Bool.{and_parts, ltb-true}
 use Rattle.std.proofs.lemmas.List.{length-map, take_more, take_more_set, get_or-map}
-use Rattle.dm_layout.specs.Sizes.{SizeRow, IsRow, codeword_count}
+use Rattle.dm_layout.specs.Sizes.{SizeRow, IsRow, codeword_count, largest_mapping}
 use Rattle.dm_layout.specs.Placement.{shapes}
 use Rattle.dm_layout.specs.declared.shape.Shape.{Shape}
 use Rattle.dm_layout.specs.declared.shape.Shape.TheVariants.{Standard, Corner1, Corner2, Corner3, Corner4}
@@ -13,7 +13,8 @@ use Rattle.dm_layout.specs.Placement.{cells_of}
 use Rattle.dm_layout.specs.inner.Slots.{order_of, slot_of, HasSlot}
 use Rattle.dm_layout.proofs.FewerTests.{few_shapes, shapes-few}
 use Rattle.dm_layout.proofs.LiftedWords.{fits_test, kind_test, inside_test}
-use Rattle.dm_layout.proofs.PlacementRows.{passed_at_row, count_at_row}
+use Rattle.dm_layout.proofs.PlacementRows.{count_at_row}
+use Rattle.dm_layout.proofs.TableRows.{passed_at_row}
 use Rattle.dm_layout.proofs.TestedSlots as slotted
 use Rattle.dm_layout.proofs.TestedSlots.{slots_test}
 
@@ -34,7 +35,7 @@ order_at_row s row =
     }
 
 -- The slot of a shape that fits lies in the rows.
-slot_fits : (n most : ℕ) (s : Shape) → n ≤ most → n ≤ 96 → fits_test n s ≡ true → HasSlot most (slot_of s)
+slot_fits : (n most : ℕ) (s : Shape) → n ≤ most → n ≤ largest_mapping → fits_test n s ≡ true → HasSlot most (slot_of s)
 slot_fits n most (Standard r c) l small fits =
     let both = and_parts (kind_test n (Standard r c)) (inside_test n (cells_of n (Standard r c))) fits in
     let kind = and_parts (nat_lt r n && nat_lt c n) (nat_eq ((5 * r + c) % 8) 4) both.0 in
@@ -48,13 +49,13 @@ slot_fits n most Corner3 l small fits = inl refl
 slot_fits n most Corner4 l small fits = inl refl
 
 -- The slots of shapes that fit lie in the rows.
-slots_fit : (n most i : ℕ) (ss : List Shape) → n ≤ most → n ≤ 96 → list_all (fits_test n) ss ≡ true → i < length (map slot_of ss) → HasSlot most (get_or (map slot_of ss) i 0)
+slots_fit : (n most i : ℕ) (ss : List Shape) → n ≤ most → n ≤ largest_mapping → list_all (fits_test n) ss ≡ true → i < length (map slot_of ss) → HasSlot most (get_or (map slot_of ss) i 0)
 slots_fit n most i [] l small fits li = absurd (omega arith)
 slots_fit n most zero (s ∷ ss) l small fits li = slot_fits n most s l small (and_parts (fits_test n s) (list_all (fits_test n) ss) fits).0
 slots_fit n most (suc i) (s ∷ ss) l small fits li = slots_fit n most i ss l small (and_parts (fits_test n s) (list_all (fits_test n) ss) fits).1 (omega arith)
 
 -- Each slot of a size of the table lies in the rows.
-pub slot_in_rows : (s : SizeRow) (m most i : ℕ) (xs : List ℕ) → IsRow s → m ≡ s.mapping → m ≤ most → m ≤ 96 → xs ≡ order_of m → i < length xs → HasSlot most (get_or xs i 0)
+pub slot_in_rows : (s : SizeRow) (m most i : ℕ) (xs : List ℕ) → IsRow s → m ≡ s.mapping → m ≤ most → m ≤ largest_mapping → xs ≡ order_of m → i < length xs → HasSlot most (get_or xs i 0)
 slot_in_rows s m most i xs row e l small f li =
     let order = order_at_row s row in
     let g : xs ≡ map slot_of (shapes s.mapping) = f ∙ ap order_of e ∙ order.slots in

@@ -10,6 +10,7 @@ use Rattle.std.specs.Int.RustNames.{bit_or}
 use Rattle.std.specs.List.{list_all, range_with_len}
 use Rattle.std.proofs.lemmas.Bool.{eqb-true, and_parts, lt-ltb, le-ltb, le-leb, lt-leb, cases_lt}
 use Rattle.std.proofs.lemmas.Nat.Bits.{bit_at_and, bit_at-lt}
+use Rattle.dm_layout.specs.Sizes.{largest_mapping}
 use Rattle.dm_layout.specs.Grid.{is_dark_in}
 use Rattle.dm_layout.specs.inner.Reading.{look_in}
 use Rattle.dm_layout.specs.inner.Slots.{is_joined, reversed_bits}
@@ -241,13 +242,13 @@ join_more n width olds rows news row wide is bits so_far = record {
     other r ne = ap (λ (xs : List ℕ). get_or xs r 0) is ∙ get_or-set_other rows row r (get_or news row 0) 0 ne
 
 -- The slot of a corner has the lowest byte of the row behind all others.
-pub corner_slot_is : (last : ℕ) (rows : List ℕ) → last ≤ 96 → slot_byte last rows corner_slot ≡ get_or rows last 0 % 256
+pub corner_slot_is : (last : ℕ) (rows : List ℕ) → last ≤ largest_mapping → slot_byte last rows corner_slot ≡ get_or rows last 0 % 256
 corner_slot_is last rows most =
     let z : get_or rows last 0 / 1 % 256 ≡ get_or rows last 0 % 256 = omega arith in
     ap (λ (i : ℕ). get_or rows i 0 / 1 % 256) (min-eq_right most) ∙ z
 
 -- Joined rows, with the codeword of a corner put behind them, have the slots of all codewords.
-pub corner_beside : (n last : ℕ) (rows joined news : List ℕ) (b w : ℕ) → n ≤ last → last ≤ 96 → last < length joined → news ≡ set joined last b → b < 256 → b ≡ reversed_bits w → w < 256 → AreJoined n rows joined →
+pub corner_beside : (n last : ℕ) (rows joined news : List ℕ) (b w : ℕ) → n ≤ last → last ≤ largest_mapping → last < length joined → news ≡ set joined last b → b < 256 → b ≡ reversed_bits w → w < 256 → AreJoined n rows joined →
     (n % 8 ≡ 4 → w ≡ word_in rows (cells_of n Corner1)) → (n % 8 ≡ 6 → w ≡ word_in rows (cells_of n Corner2)) → HasSlots n last rows news
 corner_beside n last rows joined news b w within most room is fits e small anchors first second = record {
   anchors = λ r l.
@@ -267,6 +268,6 @@ corner_beside n last rows joined news b w within most room is fits e small ancho
         ∙ reversed_twice w small
 
 -- A slot lies in no row behind that of the corner.
-pub row_of_slot : (most last x : ℕ) → most ≤ last → last ≡ 96 → HasSlot most x → min (x / 16) last ≡ x / 16
+pub row_of_slot : (most last x : ℕ) → most ≤ last → last ≡ largest_mapping → HasSlot most x → min (x / 16) last ≡ x / 16
 row_of_slot most last x l e (inl is) = min-eq_left (omega (arith, is))
 row_of_slot most last x l e (inr within) = let h = within.0 in min-eq_left (omega (arith, h))

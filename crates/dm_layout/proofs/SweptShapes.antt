@@ -14,7 +14,8 @@ use Rattle.dm_layout.specs.Grid.{is_dark_in}
 use Rattle.dm_layout.specs.Placement.{cells_of}
 use Rattle.dm_layout.specs.Sweep as sweeping
 use Rattle.dm_layout.specs.inner.Walking as walking
-use Rattle.dm_layout.specs.inner.Walking.{largest_mapping}
+use Rattle.dm_layout.specs.inner.Walking.{marked_side}
+use Rattle.dm_layout.specs.Sizes.{largest_mapping}
 use Rattle.dm_layout.proofs.OuterRows.{or_dark}
 use Rattle.dm_layout.proofs.Ranges.{same_tests}
 use Rattle.dm_layout.proofs.SweepTest.{is_free, number_of, with_cell, anchor_inside, left_out, sweep_test}
@@ -164,14 +165,14 @@ sweep_places n ss ps h = sweep_placed n 0 (sweeping.nothing_filled n) ss ps (swe
 -- The number has the bits of the cells that are filled in this table of the walk.
 record WalkKeeps (n : ℕ) (table : List ℕ) (t : ℕ) : Type 0 where
   height : n ≤ length table
-  keeps : Keeps n (walking.is_filled table) t
+  keeps : Keeps n (walking.is_marked table) t
 
 -- Before the walk no cell is filled.
-walk_begins : (n : ℕ) → n ≤ largest_mapping → WalkKeeps n (replicate largest_mapping 0) 0
+walk_begins : (n : ℕ) → n ≤ largest_mapping → WalkKeeps n (replicate marked_side 0) 0
 walk_begins n small = record {
-  height = let l = length-replicate {A = ℕ} largest_mapping 0 in omega (arith, l, small);
+  height = let l = length-replicate {A = ℕ} marked_side 0 in omega (arith, l, small);
   keeps = λ r c lr lc.
-      ap (λ (row : ℕ). is_dark_in row c) (get_or-replicate largest_mapping r 0 0 (omega (arith, lr, small)))
+      ap (λ (row : ℕ). is_dark_in row c) (get_or-replicate marked_side r 0 0 (omega (arith, lr, small)))
       ∙ ap (λ (b : ℕ). nat_eq b 1) (bit_at-zero c);
 }
 
@@ -199,7 +200,7 @@ walk_more n t table x inside kept =
     record {
       height = let k = length-set table x.row new in omega (arith, k, kept.height);
       keeps =
-          keeps_more n t x (walking.is_filled table) (walking.is_filled (set table x.row new)) inside kept.keeps
+          keeps_more n t x (walking.is_marked table) (walking.is_marked (set table x.row new)) inside kept.keeps
           (λ c.
           ap (λ (row : ℕ). is_dark_in row c) (get_or-set_same table x.row new 0 l)
           ∙ or_dark old (2 ^ x.column) c
@@ -209,14 +210,14 @@ walk_more n t table x inside kept =
     }
 
 -- The walk fills new cells.
-walk_fills : (n t : ℕ) (table : List ℕ) (xs : List Cell) → AreNew n t xs → WalkKeeps n table t → WalkKeeps n (walking.fill table xs) (filled_with n t xs)
+walk_fills : (n t : ℕ) (table : List ℕ) (xs : List Cell) → AreNew n t xs → WalkKeeps n table t → WalkKeeps n (walking.mark table xs) (filled_with n t xs)
 walk_fills n t table [] new kept = kept
 walk_fills n t table (x ∷ xs) new kept =
     walk_fills n (with_cell n t x) (set table x.row (bit_or (get_or table x.row 0) (2 ^ x.column))) xs new.1
     (walk_more n t table x (is_new-parts n t x new.0).0 kept)
 
 -- The walk leaves out what the test leaves out.
-walk_out : (n t : ℕ) (table : List ℕ) (s : Shape) → WalkKeeps n table t → anchor_inside n s ≡ true → walking.is_left_out table s ≡ left_out n t s
+walk_out : (n t : ℕ) (table : List ℕ) (s : Shape) → WalkKeeps n table t → anchor_inside n s ≡ true → walking.is_passed table s ≡ left_out n t s
 walk_out n t table (Standard r c) kept h =
     let here = and_parts (nat_lt r n) (nat_lt c n) h in
     kept.keeps r c (ltb-true r n here.0) (ltb-true c n here.1)
@@ -226,8 +227,8 @@ walk_out n t table Corner3 kept h = refl
 walk_out n t table Corner4 kept h = refl
 
 -- Where the test passes, the walk places the shapes of the test.
-walk_placed : (n t : ℕ) (table : List ℕ) (ss ps : List Shape) → WalkKeeps n table t → sweep_test n t ss ps ≡ true → walking.placed n table ss ≡ ps
-unfolding sweep_test walking.placed
+walk_placed : (n t : ℕ) (table : List ℕ) (ss ps : List Shape) → WalkKeeps n table t → sweep_test n t ss ps ≡ true → walking.walked n table ss ≡ ps
+unfolding sweep_test walking.walked
 walk_placed n t table [] [] kept h = refl
 walk_placed n t table [] (p ∷ ps) kept h = absurd (false≢true h)
 walk_placed n t table (s ∷ rest) ps kept h =
@@ -235,21 +236,21 @@ walk_placed n t table (s ∷ rest) ps kept h =
     by_either (λ u new qs. walk_placed n u new rest qs) (walk_out n t table s kept here.inside) here.either
   where
     left : List Shape
-    left = walking.placed n table rest
+    left = walking.walked n table rest
 
     taken : List Shape
-    taken = s ∷ walking.placed n (walking.fill table (cells_of n s)) rest
+    taken = s ∷ walking.walked n (walking.mark table (cells_of n s)) rest
 
-    by_either : ((u : ℕ) (new : List ℕ) (qs : List Shape) → WalkKeeps n new u → sweep_test n u rest qs ≡ true → walking.placed n new rest ≡ qs) →
-        walking.is_left_out table s ≡ left_out n t s → LeavesOut n t s rest ps ⊎ ((qs : List Shape) × Places n t s rest ps qs) →
-        elim (walking.is_left_out table s) as (λ _. List Shape) [ true ↦ left | false ↦ taken ] ≡ ps
-    by_either go e (inl out) = first_choice (walking.is_left_out table s) left taken (e ∙ out.out) ∙ go t table ps kept out.go_on
+    by_either : ((u : ℕ) (new : List ℕ) (qs : List Shape) → WalkKeeps n new u → sweep_test n u rest qs ≡ true → walking.walked n new rest ≡ qs) →
+        walking.is_passed table s ≡ left_out n t s → LeavesOut n t s rest ps ⊎ ((qs : List Shape) × Places n t s rest ps qs) →
+        elim (walking.is_passed table s) as (λ _. List Shape) [ true ↦ left | false ↦ taken ] ≡ ps
+    by_either go e (inl out) = first_choice (walking.is_passed table s) left taken (e ∙ out.out) ∙ go t table ps kept out.go_on
     by_either go e (inr (qs, placed)) =
-        second_choice (walking.is_left_out table s) left taken (e ∙ placed.here)
+        second_choice (walking.is_passed table s) left taken (e ∙ placed.here)
         ∙ ap (λ (xs : List Shape). s ∷ xs)
-        (go (filled_with n t (cells_of n s)) (walking.fill table (cells_of n s)) qs (walk_fills n t table (cells_of n s) placed.new kept) placed.go_on)
+        (go (filled_with n t (cells_of n s)) (walking.mark table (cells_of n s)) qs (walk_fills n t table (cells_of n s) placed.new kept) placed.go_on)
         ∙ sym placed.next
 
 -- Where the test passes from the beginning, the walk places its shapes.
-pub walk_places : (n : ℕ) (ss ps : List Shape) → n ≤ largest_mapping → sweep_test n 0 ss ps ≡ true → walking.placed n (replicate largest_mapping 0) ss ≡ ps
-walk_places n ss ps small h = walk_placed n 0 (replicate largest_mapping 0) ss ps (walk_begins n small) h
+pub walk_places : (n : ℕ) (ss ps : List Shape) → n ≤ largest_mapping → sweep_test n 0 ss ps ≡ true → walking.walked n (replicate marked_side 0) ss ≡ ps
+walk_places n ss ps small h = walk_placed n 0 (replicate marked_side 0) ss ps (walk_begins n small) h

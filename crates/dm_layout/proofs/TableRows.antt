@@ -6,7 +6,7 @@ use Rattle.std.proofs.lemmas.Bool.{and_parts, eqb-true, leb-true, leb-false}
 use Rattle.std.proofs.lemmas.List.Elements.{recursion_from_All, All-from_recursion, All-weaker}
 use Rattle.std.proofs.lemmas.List.Folds.{Any-from_list_any}
 use Rattle.std.proofs.lemmas.List.Sums.{AllPass-from_list_all}
-use Rattle.dm_layout.specs.Sizes.{SizeRow, size_table, IsRow, row_with_side, row_for_words, regions_across, block_data, block_check, block_length, codeword_count, largest_side, most_codewords, longest_block, IsGreatest}
+use Rattle.dm_layout.specs.Sizes.{SizeRow, size_table, IsRow, row_with_side, row_for_words, regions_across, block_data, block_check, block_length, codeword_count, largest_side, largest_mapping, most_across, most_codewords, longest_block, IsGreatest}
 
 -- What holds of the first item, and of what is found among the others, holds of what is found among all.
 found_case : {X : Type 0} (P : X → Type 0) (y x : X) (o : Option X) (b : Bool) → P y → (o ≡ Some x → P x) → cond b (Some y) o ≡ Some x → P x
@@ -36,25 +36,32 @@ found_row side s h =
     found_passes side [] s h = cc
     found_passes side (r ∷ rows) s h = passes_case side r s (find (λ row. nat_eq row.side side) rows) (nat_eq r.side side) refl (found_passes side rows s) h
 
--- ---- the facts of a row, tested over the whole table
+-- ---- what the checker computes for each row of the table
 
--- The numbers of a row pass a test of how they are related.
-abbrev pub row_test : SizeRow → Bool
-row_test s =
-    nat_le 1 (regions_across s) && nat_le (regions_across s) 4 && nat_le 8 s.region_side && nat_eq (s.region_side % 2) 0
-    && nat_eq s.side (regions_across s * (s.region_side + 2)) && nat_eq s.mapping (regions_across s * s.region_side)
-    && nat_le s.side largest_side && nat_le 1 s.blocks && nat_le (codeword_count s) most_codewords
-    && nat_eq (s.blocks * block_length s) (codeword_count s) && nat_eq (s.blocks * block_data s) s.data_count
-    && nat_le (block_length s) longest_block && nat_eq (block_data s + block_check s) (block_length s)
+-- A test that each row of the table passes is passed by a size that stands in it.
+pub passed_at_row : (test : SizeRow → Bool) (s : SizeRow) → list_all test size_table ≡ true → IsRow s → test s ≡ true
+passed_at_row test s h row =
+    at_found (λ r. test r ≡ true) (λ r. nat_eq r.side s.side) size_table s
+    (recursion_from_All (λ r. test r ≡ true) size_table (AllPass-from_list_all test size_table h)) row
+
+-- Two numbers that are the same in each row of the table are the same for a size that stands in it.
+same_at_row : (x y : SizeRow → ℕ) (s : SizeRow) → IsRow s → list_all (λ r. nat_eq (x r) (y r)) size_table ≡ true → x s ≡ y s
+same_at_row x y s row h = eqb-true _ _ (passed_at_row (λ r. nat_eq (x r) (y r)) s h row)
+
+-- A number that is at most another one in each row of the table is so for a size that stands in it.
+most_at_row : (x y : SizeRow → ℕ) (s : SizeRow) → IsRow s → list_all (λ r. nat_le (x r) (y r)) size_table ≡ true → x s ≤ y s
+most_at_row x y s row h = leb-true _ _ (passed_at_row (λ r. nat_le (x r) (y r)) s h row)
 
 -- The numbers of a size are related in these ways.
 pub record RowFacts (s : SizeRow) : Type 0 where
   pub across : 1 ≤ regions_across s
-  pub few : regions_across s ≤ 4
+  pub few : regions_across s ≤ most_across
   pub least : 8 ≤ s.region_side
   pub even : s.region_side % 2 ≡ 0
   pub side : s.side ≡ regions_across s * (s.region_side + 2)
   pub mapping : s.mapping ≡ regions_across s * s.region_side
+  pub mapping_least : 8 ≤ s.mapping
+  pub mapping_most : s.mapping ≤ largest_mapping
   pub fits : s.side ≤ largest_side
   pub blocks : 1 ≤ s.blocks
   pub codewords : codeword_count s ≤ most_codewords
@@ -63,47 +70,26 @@ pub record RowFacts (s : SizeRow) : Type 0 where
   pub short : block_length s ≤ longest_block
   pub parts : block_data s + block_check s ≡ block_length s
 
--- Each row of the table passes the test, as the checker computes.
-table_passes : list_all row_test size_table ≡ true
-unfolding size_table
-table_passes = refl
-
--- A size passes the test of its row.
-test_of_row : (s : SizeRow) → IsRow s → row_test s ≡ true
-test_of_row s h =
-    at_found (λ r. row_test r ≡ true) (λ r. nat_eq r.side s.side) size_table s
-    (recursion_from_All (λ r. row_test r ≡ true) size_table (AllPass-from_list_all row_test size_table table_passes)) h
-
--- The relations between the numbers of a row hold for each size.
+-- Each row of the table has these relations between its numbers, as the checker computes, and so has each size.
 pub row_facts : (s : SizeRow) → IsRow s → RowFacts s
-row_facts s h =
-    let l = and_parts _ (nat_eq (block_data s + block_check s) (block_length s)) (test_of_row s h) in
-    let k = and_parts _ (nat_le (block_length s) longest_block) l.0 in
-    let j = and_parts _ (nat_eq (s.blocks * block_data s) s.data_count) k.0 in
-    let i = and_parts _ (nat_eq (s.blocks * block_length s) (codeword_count s)) j.0 in
-    let g = and_parts _ (nat_le (codeword_count s) most_codewords) i.0 in
-    let f = and_parts _ (nat_le 1 s.blocks) g.0 in
-    let e = and_parts _ (nat_le s.side largest_side) f.0 in
-    let d = and_parts _ (nat_eq s.mapping (regions_across s * s.region_side)) e.0 in
-    let c = and_parts _ (nat_eq s.side (regions_across s * (s.region_side + 2))) d.0 in
-    let b = and_parts _ (nat_eq (s.region_side % 2) 0) c.0 in
-    let a = and_parts (nat_le 1 (regions_across s) && nat_le (regions_across s) 4) (nat_le 8 s.region_side) b.0 in
-    let across = and_parts (nat_le 1 (regions_across s)) (nat_le (regions_across s) 4) a.0 in
-    record {
-      across = leb-true _ _ across.0;
-      few = leb-true _ _ across.1;
-      least = leb-true _ _ a.1;
-      even = eqb-true _ _ b.1;
-      side = eqb-true _ _ c.1;
-      mapping = eqb-true _ _ d.1;
-      fits = leb-true _ _ e.1;
-      blocks = leb-true _ _ f.1;
-      codewords = leb-true _ _ g.1;
-      dealt = eqb-true _ _ i.1;
-      data_dealt = eqb-true _ _ j.1;
-      short = leb-true _ _ k.1;
-      parts = eqb-true _ _ l.1;
-    }
+unfolding size_table
+row_facts s h = record {
+  across = most_at_row (λ r. 1) regions_across s h refl;
+  few = most_at_row regions_across (λ r. most_across) s h refl;
+  least = most_at_row (λ r. 8) (λ r. r.region_side) s h refl;
+  even = same_at_row (λ r. r.region_side % 2) (λ r. 0) s h refl;
+  side = same_at_row (λ r. r.side) (λ r. regions_across r * (r.region_side + 2)) s h refl;
+  mapping = same_at_row (λ r. r.mapping) (λ r. regions_across r * r.region_side) s h refl;
+  mapping_least = most_at_row (λ r. 8) (λ r. r.mapping) s h refl;
+  mapping_most = most_at_row (λ r. r.mapping) (λ r. largest_mapping) s h refl;
+  fits = most_at_row (λ r. r.side) (λ r. largest_side) s h refl;
+  blocks = most_at_row (λ r. 1) (λ r. r.blocks) s h refl;
+  codewords = most_at_row codeword_count (λ r. most_codewords) s h refl;
+  dealt = same_at_row (λ r. r.blocks * block_length r) codeword_count s h refl;
+  data_dealt = same_at_row (λ r. r.blocks * block_data r) (λ r. r.data_count) s h refl;
+  short = most_at_row block_length (λ r. longest_block) s h refl;
+  parts = same_at_row (λ r. block_data r + block_check r) block_length s h refl;
+}
 
 -- The regions that stand side by side are together as wide as the mapping square.
 pub across_covers : (s : SizeRow) (a d : ℕ) → IsRow s → a ≡ regions_across s → d ≡ s.region_side → a * d ≡ s.mapping

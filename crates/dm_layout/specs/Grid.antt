@@ -1,4 +1,5 @@
--- A grid is the square of modules of a symbol, each dark or light. A module of a grid is also called a cell here.
+-- A grid is the square of modules of a symbol, each dark or light (ISO/IEC 16022, symbol structure). A module of a grid
+-- is also called a cell here.
 use Rattle.std.specs.Prelude.{◌≡◌, ℕ, ◌+◌, ◌*◌, ◌/◌, ◌%◌, ◌^◌, Bool, false, List, [], map, length, nat_eq, get_or, All}
 use Rattle.std.specs.List.{range_with_len}
 use Rattle.dm_layout.specs.Sizes.{SizeRow, IsRow}

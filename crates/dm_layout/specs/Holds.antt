@@ -12,7 +12,8 @@ bit_of words word bit = nat_eq (get_or words word 0 / 2 ^ (8 - bit) % 2) 1
 
 -- A grid holds codewords if both are of one size and, for every bit of every codeword, the cell at which the bit's
 -- place lies in the symbol is dark exactly where the bit is 1. There are exactly as many codewords as the size has,
--- each of 0 to 255, and the grid has the size's side.
+-- each of 0 to 255, and the grid has the size's side. The colours of the borders and of the fixed square don't matter
+-- here, by a rule of this project.
 pub record Holds (grid : GridView) (words : WordsView) : Type 0 where
   pub square : IsGrid grid
   pub codewords : IsWords words

@@ -34,7 +34,8 @@ row_of side regions region_side mapping data_count check_count blocks limit =
       limit = limit;
     }
 
--- The table has the square sizes by rising side.
+-- The table has the square sizes by rising side. That it ends with side 104, before the sides 120, 132 and 144, is a
+-- choice of this project.
 unfoldable pub size_table : List SizeRow
 size_table =
     row_of 10 1 8 8 3 5 1 2
@@ -63,6 +64,14 @@ size_table =
 -- The largest symbol of the table has this side.
 abbrev pub largest_side : ℕ
 largest_side = 104
+
+-- The largest mapping square of the table has this side.
+abbrev pub largest_mapping : ℕ
+largest_mapping = 96
+
+-- No symbol of the table has more data regions side by side than this.
+abbrev pub most_across : ℕ
+most_across = 4
 
 -- No symbol of the table has more data codewords than this.
 abbrev pub most_data : ℕ

@@ -1,4 +1,4 @@
--- The codewords of a symbol.
+-- The codewords of a symbol, in the symbol's order (ISO/IEC 16022, symbol sizes and capacities).
 use Rattle.std.specs.Prelude.{◌≡◌, ℕ, ◌<◌, List, length, take, All}
 use Rattle.dm_layout.specs.Sizes.{SizeRow, IsRow, codeword_count}
 

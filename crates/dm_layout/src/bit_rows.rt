@@ -7,11 +7,12 @@ ghost use Rattle.std.specs.Prelude.{◌≡◌, ℕ, ◌+◌, ◌*◌, ◌/◌, �
 ghost use Rattle.std.specs.Int.{bit_at};
 ghost use Rattle.std.proofs.Common.{rules};
 ghost use Rattle.dm_layout.specs.Grid.{is_dark_in};
+ghost use Rattle.dm_layout.specs.Sizes.{largest_mapping};
 ghost use Rattle.dm_layout.specs.inner.Laying.{with_byte, with_scattered};
 ghost use Rattle.dm_layout.specs.inner.Reading.{look_in};
 ghost use Rattle.dm_layout.specs.inner.Slots.{is_joined, slot_byte, HasSlot};
 
-use crate::shape::LARGEST_MAPPING;
+use crate::size::LARGEST_MAPPING;
 
 /// The side of the largest mapping square whose rows are numbers of 64 bits: all squares of up to four regions.
 pub(crate) const NARROW_MAPPING: u16 = 48;
@@ -69,23 +70,30 @@ pub(crate) trait BitRows: Sized + Drop {
         requires row { row < length (numbers self.old) }
         requires from { from < length (numbers self.old) }
         requires column { column ≤ most }
-        ensures { numbers self.new ≡ set (numbers self.old) row (bit_or (get_or (numbers self.old) row 0) (get_or (numbers self.old) from 0 / 2 ^ column)) };
+        ensures { numbers self.new
+            ≡ set (numbers self.old) row (bit_or (get_or (numbers self.old) row 0)
+            (get_or (numbers self.old) from 0 / 2 ^ column)) };
 
     /// Puts another row, 4 - shift columns further to the left.
     fn wrap_above(&mut self, row: usize, from: usize, shift: u16)
         requires row { row < length (numbers self.old) }
         requires from { from < length (numbers self.old) }
         requires shift { shift ≤ 6 }
-        ensures { numbers self.new ≡ set (numbers self.old) row (get_or (numbers self.old) from 0 * 2 ^ shift % 2 ^ width / 16) };
+        ensures { numbers self.new
+            ≡ set (numbers self.old) row
+            (get_or (numbers self.old) from 0 * 2 ^ shift % 2 ^ width / 16) };
 
     /// Makes a row the codewords of the anchors in it, a byte each, from it and the two rows below: the anchors' shapes begin in this
     /// column and every eighth after it.
     fn join(&mut self, row: usize, column: u16)
         requires row { row + 2 < length (numbers self.old) }
         requires column { column ≤ 9 }
-        ensures others { numbers self.new ≡ set (numbers self.old) row (get_or (numbers self.new) row 0) }
+        ensures others { numbers self.new
+            ≡ set (numbers self.old) row (get_or (numbers self.new) row 0) }
         ensures joined { (c : ℕ) → c < width → is_dark_in (get_or (numbers self.new) row 0) c
-            ≡ is_joined (get_or (numbers self.old) row 0 / 2 ^ column) (get_or (numbers self.old) (row + 1) 0 / 2 ^ column) (get_or (numbers self.old) (row + 2) 0 / 2 ^ column) c };
+            ≡ is_joined (get_or (numbers self.old) row 0 / 2 ^ column)
+            (get_or (numbers self.old) (row + 1) 0 / 2 ^ column)
+            (get_or (numbers self.old) (row + 2) 0 / 2 ^ column) c };
 
     /// Puts the codeword of a corner, with its bits in the opposite order.
     fn put_corner(&mut self, byte: u8)
@@ -116,34 +124,42 @@ pub(crate) trait BitRows: Sized + Drop {
         requires slots { row < length (numbers slots.now) }
         requires column { column ≤ 9 }
         ensures room { length (numbers self.new) ≡ length (numbers self.old) }
-        ensures cells { (r c : ℕ) → c < width → look_in (numbers self.new) r c ≡ with_scattered (look_in (numbers self.old) r c) (numbers slots.now) row column r c };
+        ensures cells { (r c : ℕ) → c < width → look_in (numbers self.new) r c
+            ≡ with_scattered (look_in (numbers self.old) r c) (numbers slots.now) row column r c };
 
     /// Lays over a row another one, 4 - shift columns further to the right.
     fn lower(&mut self, row: usize, from: usize, shift: u16)
         requires row { row < length (numbers self.old) }
         requires from { from < length (numbers self.old) }
         requires shift { shift ≤ 6 }
-        ensures { numbers self.new ≡ set (numbers self.old) row (bit_or (get_or (numbers self.old) row 0) (get_or (numbers self.old) from 0 * 16 % 2 ^ width / 2 ^ shift)) };
+        ensures { numbers self.new
+            ≡ set (numbers self.old) row (bit_or (get_or (numbers self.old) row 0)
+            (get_or (numbers self.old) from 0 * 16 % 2 ^ width / 2 ^ shift)) };
 
     /// Lays over a row, from a column on, the four leftmost columns of another row.
     fn move_left_end(&mut self, row: usize, from: usize, column: u16)
         requires row { row < length (numbers self.old) }
         requires from { from < length (numbers self.old) }
         requires column { column ≤ most }
-        ensures { numbers self.new ≡ set (numbers self.old) row (bit_or (get_or (numbers self.old) row 0) (get_or (numbers self.old) from 0 % 16 * 2 ^ column % 2 ^ width)) };
+        ensures { numbers self.new
+            ≡ set (numbers self.old) row (bit_or (get_or (numbers self.old) row 0)
+            (get_or (numbers self.old) from 0 % 16 * 2 ^ column % 2 ^ width)) };
 
     /// Makes a cell dark if the bit is 1.
     fn put_bit(&mut self, row: usize, column: u16, bit: u8)
         requires row { row < length (numbers self.old) }
         requires column { column < most + 4 }
-        ensures { numbers self.new ≡ set (numbers self.old) row (bit_or (get_or (numbers self.old) row 0) (bit * 2 ^ column % 2 ^ width)) };
+        ensures { numbers self.new
+            ≡ set (numbers self.old) row (bit_or (get_or (numbers self.old) row 0)
+            (bit * 2 ^ column % 2 ^ width)) };
 
     /// A row without its four leftmost columns.
     fn inner(&self, row: usize) -> u128
         requires { row < length (numbers self.now) }
         ensures { result ≡ get_or (numbers self.now) row 0 / 2 ^ 4 };
 
-    ghost fits: { (most ≤ last) × (last ≤ 96) × (last < most + 6) × (most + 16 ≤ width) };
+    ghost fits: { (most ≤ last) × (last ≤ largest_mapping)
+        × (last < most + 6) × (most + 16 ≤ width) };
 }
 
 impl BitRows for NarrowRows {
@@ -236,11 +252,11 @@ impl BitRows for NarrowRows {
 }
 
 impl BitRows for WideRows {
-    ghost most = { 96 };
+    ghost most = { largest_mapping };
 
     ghost width = { 128 };
 
-    ghost last = { 96 };
+    ghost last = { largest_mapping };
 
     ghost numbers = { λ rows. rows };
 

@@ -15,7 +15,8 @@ pub fn block(words: &Words, b: usize) -> ArrayVec<u8, LONGEST_BLOCK>
     requires { b < words.now.size.blocks }
     ensures value { result.items ≡ block_of words.now.size.blocks b words.now.list }
     ensures length { length result.items ≡ block_length words.now.size }
-    ensures data { take (block_data words.now.size) result.items ≡ block_of words.now.size.blocks b (data_of words.now) }
+    ensures data { take (block_data words.now.size) result.items
+        ≡ block_of words.now.size.blocks b (data_of words.now) }
 {
     let mut block = ArrayVec::new();
     let blocks = words.size().blocks() as usize;
@@ -33,7 +34,9 @@ pub fn put_block(words: &mut Words, b: usize, list: &[u8])
     requires length { length list.now ≡ block_length words.old.size }
     ensures size { words.new.size ≡ words.old.size }
     ensures put { block_of words.old.size.blocks b words.new.list ≡ list.now }
-    ensures others { (a : ℕ) → a < words.old.size.blocks → a ≢ b → block_of words.old.size.blocks a words.new.list ≡ block_of words.old.size.blocks a words.old.list }
+    ensures others { (a : ℕ) → a < words.old.size.blocks → a ≢ b
+        → block_of words.old.size.blocks a words.new.list
+        ≡ block_of words.old.size.blocks a words.old.list }
     ensures words { IsWords words.new }
 {
     let blocks = words.size().blocks() as usize;

@@ -84,7 +84,8 @@ impl Borders {
 
     /// The border cells of a row.
     fn cells(&self, inner: u16) -> u128
-        ensures cells { (column : ℕ) → column < self.now.side → is_dark_in result column ≡ is_on_edge self.now.region_side inner (column % (self.now.region_side + 2)) }
+        ensures cells { (column : ℕ) → column < self.now.side → is_dark_in result column
+            ≡ is_on_edge self.now.region_side inner (column % (self.now.region_side + 2)) }
         ensures width { result < 2 ^ self.now.side }
     {
         if inner == 0 || inner == self.last {
@@ -96,7 +97,9 @@ impl Borders {
 
     /// The border cells of a row that are to be dark.
     fn dark(&self, inner: u16) -> u128
-        ensures cells { (column : ℕ) → column < self.now.side → is_dark_in result column ≡ is_on_edge self.now.region_side inner (column % (self.now.region_side + 2)) && edge_is_dark self.now.region_side inner (column % (self.now.region_side + 2)) }
+        ensures cells { (column : ℕ) → column < self.now.side → is_dark_in result column
+            ≡ is_on_edge self.now.region_side inner (column % (self.now.region_side + 2))
+            && edge_is_dark self.now.region_side inner (column % (self.now.region_side + 2)) }
         ensures width { result < 2 ^ self.now.side }
     {
         if inner == self.last {
@@ -112,7 +115,8 @@ impl Borders {
 
     /// How many border cells of a row have the wrong colour.
     fn row_faults(&self, row: u128, inner: u16) -> u16
-        ensures count { result ≡ count_by (is_wrong self.now.region_side inner row) (range_with_len 0 self.now.side) }
+        ensures count { result
+            ≡ count_by (is_wrong self.now.region_side inner row) (range_with_len 0 self.now.side) }
         ensures most { result ≤ self.now.side }
     {
         let wrong = (row ^ self.dark(inner)) & self.cells(inner);

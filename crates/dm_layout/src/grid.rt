@@ -47,7 +47,8 @@ impl Grid {
     /// the side times itself, and otherwise `NoSuchSize` if no size has this side.
     pub fn new(side: u16, cells: &[bool]) -> Result<Grid, GridFault>
         ensures not_square { (result ≡ Err GridFault.NotSquare) ↔ (length cells.now ≢ side * side) }
-        ensures no_such_size { (result ≡ Err GridFault.NoSuchSize) ↔ ((length cells.now ≡ side * side) × IsNone (row_with_side side)) }
+        ensures no_such_size { (result ≡ Err GridFault.NoSuchSize)
+            ↔ ((length cells.now ≡ side * side) × IsNone (row_with_side side)) }
         ensures size { IfOk result (λ g. row_with_side side ≡ Some g.size) }
         ensures cells { IfOk result (λ g. g.rows ≡ square_of side cells.now) }
     {
@@ -71,7 +72,8 @@ impl Grid {
     /// number of rows is not the side, and otherwise `NoSuchSize` if no size has this side.
     pub fn of_rows(side: u16, rows: &[u128]) -> Result<Grid, GridFault>
         ensures not_square { (result ≡ Err GridFault.NotSquare) ↔ (length rows.now ≢ side) }
-        ensures no_such_size { (result ≡ Err GridFault.NoSuchSize) ↔ ((length rows.now ≡ side) × IsNone (row_with_side side)) }
+        ensures no_such_size { (result ≡ Err GridFault.NoSuchSize)
+            ↔ ((length rows.now ≡ side) × IsNone (row_with_side side)) }
         ensures size { IfOk result (λ g. row_with_side side ≡ Some g.size) }
         ensures cells { IfOk result (λ g. g.rows ≡ square_of_rows side rows.now) }
     {
@@ -84,7 +86,8 @@ impl Grid {
     /// Becomes the grid of these rows, as [`Grid::of_rows`] makes it. Where that gives a fault, it stays as it is.
     pub fn set_rows(&mut self, side: u16, rows: &[u128]) -> Result<(), GridFault>
         ensures not_square { (result ≡ Err GridFault.NotSquare) ↔ (length rows.now ≢ side) }
-        ensures no_such_size { (result ≡ Err GridFault.NoSuchSize) ↔ ((length rows.now ≡ side) × IsNone (row_with_side side)) }
+        ensures no_such_size { (result ≡ Err GridFault.NoSuchSize)
+            ↔ ((length rows.now ≡ side) × IsNone (row_with_side side)) }
         ensures size { OnOk result (row_with_side side ≡ Some self.new.size) }
         ensures cells { OnOk result (self.new.rows ≡ square_of_rows side rows.now) }
         ensures same { OnErr result (self.new ≡ self.old) }
@@ -156,7 +159,8 @@ impl Grid {
     pub fn row(&self, row: u16) -> u128
         requires { row < self.now.size.side }
         ensures width { result < 2 ^ self.now.size.side }
-        ensures cells { (column : ℕ) → column < self.now.size.side → is_dark_in result column ≡ cell_at self.now row column }
+        ensures cells { (column : ℕ) → column < self.now.size.side → is_dark_in result column
+            ≡ cell_at self.now row column }
     {
         self.rows[row as usize]
     }
@@ -167,7 +171,9 @@ impl Grid {
         requires cells { cells < 2 ^ self.old.size.side }
         ensures size { self.new.size ≡ self.old.size }
         ensures grid { IsGrid self.new }
-        ensures cells { (r c : ℕ) → r < self.old.size.side → c < self.old.size.side → cell_at self.new r c ≡ (cell_at self.old r c || (nat_eq r row && is_dark_in cells c)) }
+        ensures cells { (r c : ℕ) → r < self.old.size.side → c < self.old.size.side
+            → cell_at self.new r c ≡ (cell_at self.old r c
+            || (nat_eq r row && is_dark_in cells c)) }
     {
         self.rows[row as usize] |= cells;
     }
@@ -185,7 +191,8 @@ impl Grid {
 /// The size of the square that these rows make, or why they make none.
 fn size_of_square(side: u16, rows: &[u128]) -> Result<Size, GridFault>
     ensures not_square { (result ≡ Err GridFault.NotSquare) ↔ (length rows.now ≢ side) }
-    ensures no_such_size { (result ≡ Err GridFault.NoSuchSize) ↔ ((length rows.now ≡ side) × IsNone (row_with_side side)) }
+    ensures no_such_size { (result ≡ Err GridFault.NoSuchSize)
+        ↔ ((length rows.now ≡ side) × IsNone (row_with_side side)) }
     ensures size { IfOk result (λ size. row_with_side side ≡ Some size) }
     ensures rows { IfOk result (λ size. length rows.now ≡ size.side) }
 {

@@ -19,7 +19,8 @@ fn scatter<R: BitRows>(rows: &mut R, slots: &R, mapping: u16)
     requires light { R.numbers rows.old ≡ replicate (R.most + 6) 0 }
     requires slots { length (R.numbers slots.now) ≡ R.most + 6 }
     ensures room { length (R.numbers rows.new) ≡ R.most + 6 }
-    ensures cells { (r c : ℕ) → c < R.width → look_in (R.numbers rows.new) r c ≡ scattered mapping (R.numbers slots.now) r c }
+    ensures cells { (r c : ℕ) → c < R.width → look_in (R.numbers rows.new) r c
+        ≡ scattered mapping (R.numbers slots.now) r c }
 {
     for row in 0..mapping {
         rows.scatter(slots, row as usize, first_column(row));
@@ -33,7 +34,8 @@ fn lower_rows<R: BitRows>(rows: &mut R, mapping: u16)
     requires most { mapping ≤ R.most }
     requires even { mapping % 2 ≡ 0 }
     ensures room { length (R.numbers rows.new) ≡ R.most + 6 }
-    ensures cells { (r c : ℕ) → c + 8 ≤ R.width → look_in (R.numbers rows.new) r c ≡ lowered mapping (look_in (R.numbers rows.old)) r c }
+    ensures cells { (r c : ℕ) → c + 8 ≤ R.width → look_in (R.numbers rows.new) r c
+        ≡ lowered mapping (look_in (R.numbers rows.old)) r c }
 {
     let shift = wrap_shift(mapping);
     let last = mapping as usize;
@@ -49,7 +51,10 @@ fn move_columns<R: BitRows>(rows: &mut R, mapping: u16, shift: u16)
     requires shift { shift ≡ (mapping + 4) % 8 }
     requires even { mapping % 2 ≡ 0 }
     ensures room { length (R.numbers rows.new) ≡ R.most + 6 }
-    ensures cells { (r c : ℕ) → look_in (R.numbers rows.new) r c ≡ (look_in (R.numbers rows.old) r c || ((nat_le mapping c && nat_lt c (mapping + 4)) && ((nat_le 8 (r + shift) && nat_lt (r + shift) (mapping + 2 + 4)) && look_in (R.numbers rows.old) (r + shift - 4) (c - mapping)))) }
+    ensures cells { (r c : ℕ) → look_in (R.numbers rows.new) r c
+        ≡ (look_in (R.numbers rows.old) r c || ((nat_le mapping c && nat_lt c (mapping + 4))
+        && ((nat_le 8 (r + shift) && nat_lt (r + shift) (mapping + 2 + 4))
+        && look_in (R.numbers rows.old) (r + shift - 4) (c - mapping)))) }
 {
     for row in 4..mapping + 2 {
         rows.move_left_end((row + 4 - shift) as usize, row as usize, mapping);
@@ -63,7 +68,9 @@ fn fold<R: BitRows>(rows: &mut R, mapping: u16)
     requires most { mapping ≤ R.most }
     requires even { mapping % 2 ≡ 0 }
     ensures room { length (R.numbers rows.new) ≡ R.most + 6 }
-    ensures cells { (r c : ℕ) → r < mapping → c < mapping → look_in (R.numbers rows.new) (r + 2) (c + 4) ≡ folded mapping (look_in (R.numbers rows.old)) r c }
+    ensures cells { (r c : ℕ) → r < mapping → c < mapping
+        → look_in (R.numbers rows.new) (r + 2) (c + 4)
+        ≡ folded mapping (look_in (R.numbers rows.old)) r c }
 {
     lower_rows(rows, mapping);
     move_columns(rows, mapping, wrap_shift(mapping));
@@ -74,7 +81,8 @@ fn put_cells<R: BitRows>(rows: &mut R, word: u8, cells: &[Cell; 8])
     requires room { length (R.numbers rows.old) ≡ R.most + 6 }
     requires inside { CellsInside R.most cells.now }
     ensures room { length (R.numbers rows.new) ≡ R.most + 6 }
-    ensures cells { (r c : ℕ) → look_in (R.numbers rows.new) (r + 2) (c + 4) ≡ (look_in (R.numbers rows.old) (r + 2) (c + 4) || marks_in word 0 cells.now r c) }
+    ensures cells { (r c : ℕ) → look_in (R.numbers rows.new) (r + 2) (c + 4)
+        ≡ (look_in (R.numbers rows.old) (r + 2) (c + 4) || marks_in word 0 cells.now r c) }
 {
     for (i, cell) in cells.iter().enumerate() {
         rows.put_bit(
@@ -91,7 +99,8 @@ fn put_corner<R: BitRows>(rows: &mut R, mapping: u16, word: u8)
     requires least { 8 ≤ mapping }
     requires most { mapping ≤ R.most }
     ensures room { length (R.numbers rows.new) ≡ R.most + 6 }
-    ensures cells { (r c : ℕ) → look_in (R.numbers rows.new) (r + 2) (c + 4) ≡ (look_in (R.numbers rows.old) (r + 2) (c + 4) || corner_marks mapping word r c) }
+    ensures cells { (r c : ℕ) → look_in (R.numbers rows.new) (r + 2) (c + 4)
+        ≡ (look_in (R.numbers rows.old) (r + 2) (c + 4) || corner_marks mapping word r c) }
 {
     if mapping % 8 == 4 {
         put_cells(rows, word, &Shape::Corner1.cells(mapping));
@@ -108,7 +117,10 @@ pub(crate) fn lay_slots<R: BitRows>(rows: &mut R, slots: &R, mapping: u16)
     requires light { R.numbers rows.old ≡ replicate (R.most + 6) 0 }
     requires slots { length (R.numbers slots.now) ≡ R.most + 6 }
     ensures room { length (R.numbers rows.new) ≡ R.most + 6 }
-    ensures cells { (r c : ℕ) → r < mapping → c < mapping → look_in (R.numbers rows.new) (r + 2) (c + 4) ≡ (folded mapping (scattered mapping (R.numbers slots.now)) r c || corner_marks mapping (reversed_bits (get_or (R.numbers slots.now) R.last 0 % 256)) r c) }
+    ensures cells { (r c : ℕ) → r < mapping → c < mapping
+        → look_in (R.numbers rows.new) (r + 2) (c + 4)
+        ≡ (folded mapping (scattered mapping (R.numbers slots.now)) r c
+        || corner_marks mapping (reversed_bits (get_or (R.numbers slots.now) R.last 0 % 256)) r c) }
 {
     scatter(rows, slots, mapping);
     fold(rows, mapping);

@@ -14,9 +14,10 @@ pub(crate) fn is_dark(row: u128, column: u16) -> bool
 }
 
 /// The row with the cell of one column in this colour.
-pub(crate) fn recoloured(row: u128, column: u16, dark: bool) -> u128
+pub(crate) fn with_colour(row: u128, column: u16, dark: bool) -> u128
     requires { column < largest_side }
-    ensures cells { (other : ℕ) → other < largest_side → is_dark_in result other ≡ (if nat_eq other column then dark else is_dark_in row other) }
+    ensures cells { (other : ℕ) → other < largest_side → is_dark_in result other
+        ≡ (if nat_eq other column then dark else is_dark_in row other) }
     ensures width { (side : ℕ) → column < side → row < 2 ^ side → result < 2 ^ side }
 {
     let bit = 1 << column;
@@ -26,7 +27,8 @@ pub(crate) fn recoloured(row: u128, column: u16, dark: bool) -> u128
 /// The row whose first `side` cells are those of `row`; all others are light.
 pub(crate) fn front(row: u128, side: u16) -> u128
     requires { side ≤ largest_side }
-    ensures cells { (column : ℕ) → column < side → is_dark_in result column ≡ is_dark_in row column }
+    ensures cells { (column : ℕ) → column < side → is_dark_in result column
+        ≡ is_dark_in row column }
     ensures width { result < 2 ^ side }
 {
     row % (1 << side)
@@ -35,12 +37,13 @@ pub(crate) fn front(row: u128, side: u16) -> u128
 /// The row with these cells, from the left; all others are light.
 pub(crate) fn packed_row(cells: &[bool]) -> u128
     requires { length cells.now ≤ largest_side }
-    ensures cells { (column : ℕ) → column < length cells.now → is_dark_in result column ≡ get_or cells.now column false }
+    ensures cells { (column : ℕ) → column < length cells.now → is_dark_in result column
+        ≡ get_or cells.now column false }
     ensures width { result < 2 ^ length cells.now }
 {
     let mut row = 0;
     for (column, dark) in cells.iter().enumerate() {
-        row = recoloured(row, column as u16, *dark);
+        row = with_colour(row, column as u16, *dark);
     }
     row
 }

@@ -2,12 +2,18 @@
 #![tactic(auto, unfolding(crate::specs::Sizes::size_table))]
 
 ghost use Rattle.std.specs.Prelude.{◌≡◌, ◌+◌, ◌*◌, ◌/◌, ◌%◌, ◌<◌, ◌≤◌, ◌↔◌, All, IfSome, IfNone};
-ghost use Rattle.dm_layout.specs.Sizes.{size_table, row_with_side, row_for_words, IsRow, codeword_count, block_data, block_check, block_length, regions_across, largest_side, most_data, most_codewords, most_blocks, most_block_check, longest_block};
+ghost use Rattle.dm_layout.specs.Sizes.{size_table, row_with_side, row_for_words, IsRow, codeword_count, block_data, block_check, block_length, regions_across, largest_side, most_across, most_data, most_codewords, most_blocks, most_block_check, longest_block};
 
 use std::marker::Model;
 
 /// The largest side of a symbol, in cells.
 pub const LARGEST_SIDE: usize = 104;
+
+/// The side of the largest mapping square, in cells.
+pub(crate) const LARGEST_MAPPING: usize = 96;
+
+/// The most regions of a symbol that stand side by side.
+pub(crate) const MOST_ACROSS: usize = 4;
 
 /// The most data codewords of a symbol.
 pub const MOST_DATA: usize = 816;
@@ -113,7 +119,8 @@ impl Size {
         ensures value { result ≡ row_for_words count }
         ensures row { IfSome result IsRow }
         ensures enough { IfSome result (λ size. count ≤ size.data_count) }
-        ensures smallest { IfSome result (λ size. All (λ row. count ≤ row.data_count → size.side ≤ row.side) size_table) }
+        ensures smallest { IfSome result (λ size. All (λ row. count ≤ row.data_count
+            → size.side ≤ row.side) size_table) }
         ensures none { IfNone result (most_data < count) }
     {
         first_with(count)
@@ -141,7 +148,7 @@ impl Size {
         ensures value { result ≡ regions_across self }
         ensures row { IsRow self }
         ensures some { 1 ≤ regions_across self }
-        ensures few { regions_across self ≤ 4 }
+        ensures few { regions_across self ≤ most_across }
         ensures mapping { self.mapping ≡ regions_across self * self.region_side }
     {
         self.mapping / self.region_side
@@ -183,6 +190,7 @@ impl Size {
     /// How many check codewords the symbol has.
     pub fn check_count(self) -> u16
         ensures value { result ≡ self.check_count }
+        ensures row { IsRow self }
         ensures all { codeword_count self ≡ self.mapping * self.mapping / 8 }
         ensures most { codeword_count self ≤ most_codewords }
         ensures dealt { self.blocks * block_check self ≡ self.check_count }

@@ -4,13 +4,15 @@
 
 ghost use Rattle.std.specs.Prelude.{◌≡◌, ◌+◌, ◌%◌, ◌<◌, ◌≤◌, length};
 ghost use Rattle.dm_layout.specs.Placement.{cells_of};
+ghost use Rattle.dm_layout.specs.Sizes.{largest_mapping};
 ghost use Rattle.dm_layout.specs.inner.Slots.{first_column as first_column_by, reversed_bits, word_in, order_of, slot_byte, AreJoined, HasSlot, HasSlots};
-ghost use Rattle.dm_layout.specs.inner.Walking.{CellsInside, largest_mapping};
+ghost use Rattle.dm_layout.specs.inner.Walking.{CellsInside};
 ghost use Rattle.dm_layout.specs.declared.shape.Shape.TheVariants.{Corner1, Corner2};
 
 use crate::bit_rows::BitRows;
 use crate::order_rows::*;
-use crate::shape::{Cell, LARGEST_MAPPING, Shape};
+use crate::shape::{Cell, Shape};
+use crate::size::LARGEST_MAPPING;
 
 /// The slot of the codeword of a corner, which lies behind all others.
 pub(crate) const CORNER_SLOT: u16 = 16 * LARGEST_MAPPING as u16;
@@ -33,7 +35,7 @@ static REVERSED: [u8; 256] = [
 ];
 
 /// A byte with its bits in the opposite order.
-pub(crate) fn reversed(byte: u8) -> u8
+pub(crate) fn reverse(byte: u8) -> u8
     ensures { result ≡ reversed_bits byte }
 {
     REVERSED[byte as usize]
@@ -58,8 +60,10 @@ fn corner_word<R: BitRows>(rows: &R, mapping: u16) -> u8
     requires room { length (R.numbers rows.now) ≡ R.most + 6 }
     requires low { 8 ≤ mapping }
     requires small { mapping ≤ R.most }
-    ensures first { mapping % 8 ≡ 4 → result ≡ word_in (R.numbers rows.now) (cells_of mapping Corner1) }
-    ensures second { mapping % 8 ≡ 6 → result ≡ word_in (R.numbers rows.now) (cells_of mapping Corner2) }
+    ensures first { mapping % 8 ≡ 4 → result
+        ≡ word_in (R.numbers rows.now) (cells_of mapping Corner1) }
+    ensures second { mapping % 8 ≡ 6 → result
+        ≡ word_in (R.numbers rows.now) (cells_of mapping Corner2) }
 {
     if mapping % 8 == 4 {
         word_of_cells(rows, &Shape::Corner1.cells(mapping))
@@ -100,7 +104,7 @@ pub(crate) fn join_rows<R: BitRows>(rows: &mut R, mapping: u16)
 {
     let corner = corner_word(rows, mapping);
     join_anchors(rows, mapping);
-    rows.put_corner(reversed(corner));
+    rows.put_corner(reverse(corner));
 }
 
 /// The codeword of a slot, from joined rows.
@@ -110,7 +114,7 @@ pub(crate) fn codeword<R: BitRows>(rows: &R, slot: u16) -> u8
     requires slot { HasSlot R.most slot }
     ensures { result ≡ reversed_bits (slot_byte R.last (R.numbers rows.now) slot) }
 {
-    reversed(rows.byte(slot))
+    reverse(rows.byte(slot))
 }
 
 /// The slots of the codewords in order.

@@ -3,9 +3,11 @@
 ghost use Rattle.std.specs.Prelude.{◌≡◌, ◌+◌, ◌-◌, ◌<◌, ◌≤◌, ◌++◌, false, IfSome};
 ghost use Rattle.std.specs.Option.{option_to_list};
 ghost use Rattle.std.specs.Iterator.{YieldsFirst};
-ghost use Rattle.dm_layout.specs.inner.Walking.{AnchorInside, CellsInside, CursorIsSafe, TakesShape, WalkIsSafe, candidate_of, corner_at, fill, inside_at, is_left_out, is_over_of, largest_mapping, moved_of, shapes_left, walk_of};
+ghost use Rattle.dm_layout.specs.Sizes.{largest_mapping};
+ghost use Rattle.dm_layout.specs.inner.Walking.{AnchorInside, CellsInside, CursorIsSafe, TakesShape, WalkIsSafe, candidate_of, corner_met, mark, marked_side, anchor_met, is_passed, is_over_of, moved_of, shapes_left, walk_of};
 
-use crate::shape::{Cell, LARGEST_MAPPING, Shape};
+use crate::shape::{Cell, Shape};
+use crate::size::LARGEST_MAPPING;
 
 /// A part of a turn of the sweep.
 #[derive(Clone, Copy)]
@@ -29,7 +31,7 @@ pub struct Cursor {
 /// The corner with which a turn begins, if it begins with one.
 fn corner(n: u16, row: u16, column: u16) -> Option<Shape>
     requires small { n ≤ largest_mapping }
-    ensures value { result ≡ corner_at n row column }
+    ensures value { result ≡ corner_met n row column }
     ensures anchor { IfSome result (AnchorInside n) }
 {
     if row == n + 2 && column == 2 {
@@ -48,7 +50,7 @@ fn corner(n: u16, row: u16, column: u16) -> Option<Shape>
 /// The standard shape at a cell inside the square.
 fn inside(n: u16, row: u16, column: u16) -> Option<Shape>
     requires small { n ≤ largest_mapping }
-    ensures value { result ≡ inside_at n row column }
+    ensures value { result ≡ anchor_met n row column }
     ensures anchor { IfSome result (AnchorInside n) }
 {
     if 2 <= row && row < n + 2 && 2 <= column && column < n + 2 {
@@ -70,7 +72,7 @@ impl Cursor {
         }
     }
 
-    /// The shape to place here, unless its anchor is filled.
+    /// The shape to place here, unless its anchor is marked.
     fn candidate(self, n: u16) -> Option<Shape>
         requires small { n ≤ largest_mapping }
         ensures value { result ≡ candidate_of n self }
@@ -83,7 +85,7 @@ impl Cursor {
     }
 
     /// Where the next move ends. Before it, at most `moves` moves are left.
-    fn moved(self, n: u16, moves: u16) -> Cursor
+    fn after_move(self, n: u16, moves: u16) -> Cursor
         requires small { n ≤ largest_mapping }
         requires one_more { 0 < moves }
         requires safe { CursorIsSafe self moves }
@@ -132,39 +134,43 @@ impl Cursor {
     }
 }
 
-/// Whether the anchor of a standard shape is filled.
-fn is_filled(filled: &[u128; LARGEST_MAPPING], shape: Shape) -> bool
+/// The table of marked cells has so many rows and columns: a shape that the sweep comes by may reach four lines past the
+/// square, as long as it isn't placed.
+const MARKED_SIDE: usize = LARGEST_MAPPING + 4;
+
+/// Whether the anchor of a standard shape is marked.
+fn is_marked(marked: &[u128; MARKED_SIDE], shape: Shape) -> bool
     requires { AnchorInside largest_mapping shape }
-    ensures { result ≡ is_left_out filled.now shape }
+    ensures { result ≡ is_passed marked.now shape }
 {
     match shape {
-        Shape::Standard(row, column) => (filled[row as usize] >> column) % 2 == 1,
+        Shape::Standard(row, column) => (marked[row as usize] >> column) % 2 == 1,
         _ => false,
     }
 }
 
-/// Fills these cells.
-fn fill_cells(filled: &mut [u128; LARGEST_MAPPING], cells: &[Cell; 8])
-    requires { CellsInside largest_mapping cells.now }
-    ensures { filled.new ≡ fill filled.old cells.now }
+/// Marks these cells.
+fn mark_cells(marked: &mut [u128; MARKED_SIDE], cells: &[Cell; 8])
+    requires { CellsInside marked_side cells.now }
+    ensures { marked.new ≡ mark marked.old cells.now }
 {
     for cell in cells {
-        filled[cell.row as usize] |= 1 << cell.column;
+        marked[cell.row as usize] |= 1 << cell.column;
     }
 }
 
-/// The sweep of one mapping square: where it is, how many moves it has left at most, and the table of filled cells, a
+/// The sweep of one mapping square: where it is, how many moves it has left at most, and the table of marked cells, a
 /// number for each row with a bit for each column.
 #[derive(Drop)]
 pub struct Walk {
     mapping: u16,
-    filled: [u128; LARGEST_MAPPING],
+    marked: [u128; MARKED_SIDE],
     cursor: Cursor,
     moves: u16,
 }
 
 impl Walk {
-    /// The sweep before its first move: at row 4, column 0, with nothing filled. It ends within as many moves
+    /// The sweep before its first move: at row 4, column 0, with nothing marked. It ends within as many moves
     /// as the square has cells.
     pub(crate) fn new(mapping: u16) -> Walk
         requires { mapping ≤ largest_mapping }
@@ -172,7 +178,7 @@ impl Walk {
     {
         Walk {
             mapping,
-            filled: [0; LARGEST_MAPPING],
+            marked: [0; MARKED_SIDE],
             cursor: Cursor {
                 leg: Leg::Turn,
                 row: 6,
@@ -195,13 +201,13 @@ impl Walk {
     {
         let n = self.mapping;
         let found = self.cursor.candidate(n);
-        self.cursor = self.cursor.moved(n, self.moves);
+        self.cursor = self.cursor.after_move(n, self.moves);
         self.moves -= 1;
         let shape = found?;
-        if is_filled(&self.filled, shape) {
+        if is_marked(&self.marked, shape) {
             return None;
         }
-        fill_cells(&mut self.filled, &shape.cells(n));
+        mark_cells(&mut self.marked, &shape.cells(n));
         Some(shape)
     }
 
@@ -226,7 +232,8 @@ impl Walk {
     #[inline(never)]
     pub(crate) fn next_cells(&mut self) -> Option<[Cell; 8]>
         requires safe { WalkIsSafe self.old }
-        ensures left { TakesShape self.old.mapping (shapes_left self.old) result (shapes_left self.new) }
+        ensures left { TakesShape self.old.mapping (shapes_left self.old) result
+            (shapes_left self.new) }
         ensures safe { WalkIsSafe self.new }
         ensures mapping { self.new.mapping ≡ self.old.mapping }
     {

@@ -6,9 +6,8 @@
 ghost use Rattle.std.specs.Prelude.{◌≡◌, ℕ, ◌+◌, ◌-◌, ◌*◌, ◌%◌, ◌^◌, ◌<◌, ◌≤◌, ◌&&◌, ◌||◌, nat_le, nat_lt, false, length, replicate};
 ghost use Rattle.dm_layout.specs.Border.{mapped_cell, symbol_line};
 ghost use Rattle.dm_layout.specs.Grid.{is_dark_in};
-ghost use Rattle.dm_layout.specs.Sizes.{regions_across};
+ghost use Rattle.dm_layout.specs.Sizes.{largest_mapping, regions_across};
 ghost use Rattle.dm_layout.specs.inner.Reading.{look_in};
-ghost use Rattle.dm_layout.specs.inner.Walking.{largest_mapping};
 ghost use Rattle.dm_layout.specs.inner.Widened.{IsMoved, IsWidened};
 
 use crate::bit_rows::BitRows;
@@ -21,7 +20,8 @@ fn inner_row(row: u128, region_side: u16, across: u16) -> u128
     requires least { 8 ≤ region_side }
     requires some { 1 ≤ across }
     requires fits { across * region_side ≤ largest_mapping }
-    ensures cells { (column : ℕ) → column < across * region_side → is_dark_in result column ≡ is_dark_in row (symbol_line region_side column) }
+    ensures cells { (column : ℕ) → column < across * region_side → is_dark_in result column
+        ≡ is_dark_in row (symbol_line region_side column) }
     ensures width { result < 2 ^ (across * region_side) }
 {
     let mut inner = (row >> 1) % (1 << region_side);
@@ -38,9 +38,11 @@ fn move_regions<R: BitRows>(grid: &Grid, rows: &mut R, region: u16)
     requires room { length (R.numbers rows.old) ≡ R.most + 6 }
     requires fits { grid.now.size.mapping ≤ R.most }
     requires region { region < regions_across grid.now.size }
-    requires above { IsMoved grid.now.size.mapping (region * grid.now.size.region_side) (mapped_cell grid.now) (R.numbers rows.old) }
+    requires above { IsMoved grid.now.size.mapping (region * grid.now.size.region_side)
+        (mapped_cell grid.now) (R.numbers rows.old) }
     ensures room { length (R.numbers rows.new) ≡ R.most + 6 }
-    ensures moved { IsMoved grid.now.size.mapping ((region + 1) * grid.now.size.region_side) (mapped_cell grid.now) (R.numbers rows.new) }
+    ensures moved { IsMoved grid.now.size.mapping ((region + 1) * grid.now.size.region_side)
+        (mapped_cell grid.now) (R.numbers rows.new) }
 {
     let size = grid.size();
     let region_side = size.region_side();
@@ -57,7 +59,8 @@ fn move_rows<R: BitRows>(grid: &Grid, rows: &mut R)
     requires light { R.numbers rows.old ≡ replicate (R.most + 6) 0 }
     requires fits { grid.now.size.mapping ≤ R.most }
     ensures room { length (R.numbers rows.new) ≡ R.most + 6 }
-    ensures moved { IsMoved grid.now.size.mapping grid.now.size.mapping (mapped_cell grid.now) (R.numbers rows.new) }
+    ensures moved { IsMoved grid.now.size.mapping grid.now.size.mapping
+        (mapped_cell grid.now) (R.numbers rows.new) }
 {
     let size = grid.size();
     for region in 0..size.regions_across() {
@@ -73,7 +76,9 @@ fn wrap_columns<R: BitRows>(rows: &mut R, mapping: u16, shift: u16)
     requires shift { shift ≤ 6 }
     requires width { (r c : ℕ) → mapping + 4 ≤ c → look_in (R.numbers rows.old) r c ≡ false }
     ensures room { length (R.numbers rows.new) ≡ R.most + 6 }
-    ensures wrapped { (r c : ℕ) → look_in (R.numbers rows.new) r c ≡ (look_in (R.numbers rows.old) r c || ((nat_le 2 r && nat_lt r (mapping + 2)) && look_in (R.numbers rows.old) (r + 4 - shift) (mapping + c))) }
+    ensures wrapped { (r c : ℕ) → look_in (R.numbers rows.new) r c
+        ≡ (look_in (R.numbers rows.old) r c || ((nat_le 2 r && nat_lt r (mapping + 2))
+        && look_in (R.numbers rows.old) (r + 4 - shift) (mapping + c))) }
 {
     for row in 0..mapping {
         rows.wrap_left(row as usize + 2, (row + 6 - shift) as usize, mapping);
@@ -87,8 +92,11 @@ fn wrap_rows<R: BitRows>(rows: &mut R, mapping: u16, shift: u16)
     requires most { mapping ≤ R.most }
     requires shift { shift ≤ 6 }
     ensures room { length (R.numbers rows.new) ≡ R.most + 6 }
-    ensures above { (r c : ℕ) → r < 2 → c < mapping + 4 → shift ≤ c + 4 → look_in (R.numbers rows.new) r c ≡ look_in (R.numbers rows.old) (r + mapping) (c + 4 - shift) }
-    ensures others { (r c : ℕ) → 2 ≤ r → look_in (R.numbers rows.new) r c ≡ look_in (R.numbers rows.old) r c }
+    ensures above { (r c : ℕ) → r < 2 → c < mapping + 4 → shift ≤ c + 4
+        → look_in (R.numbers rows.new) r c
+        ≡ look_in (R.numbers rows.old) (r + mapping) (c + 4 - shift) }
+    ensures others { (r c : ℕ) → 2 ≤ r → look_in (R.numbers rows.new) r c
+        ≡ look_in (R.numbers rows.old) r c }
 {
     rows.wrap_above(0, mapping as usize, shift);
     rows.wrap_above(1, mapping as usize + 1, shift);

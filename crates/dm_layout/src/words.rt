@@ -8,7 +8,7 @@ use crate::size::{MOST_CODEWORDS, Size};
 use std::marker::Model;
 
 /// The codewords of a symbol of some [`Size`]: exactly its data codewords and then its check codewords,
-/// in the order in which they are placed. They stand at the front of a place for the most codewords; what
+/// in the order in which they are placed. They stand at the front of an array for the most codewords; what
 /// stands behind them means nothing.
 #[derive(Clone, Debug, Drop)]
 pub struct Words {
@@ -35,9 +35,8 @@ impl Words {
         ensures value { result ≡ record { size = size; list = list.now } }
         ensures words { IsWords result }
     {
-        // That they fit is known from the size's methods.
+        // That they fit is known from what this call ensures.
         let _checks = size.check_count();
-        let _side = size.side();
         let mut kept = [0; MOST_CODEWORDS];
         kept[..list.len()].copy_from_slice(list);
         Words { size, kept }
@@ -46,12 +45,12 @@ impl Words {
     /// Codewords of this size with these data codewords, as many as the size has. The check codewords are 0 until they are put.
     pub fn with_data(size: Size, front: &[u8]) -> Words
         requires { length front.now ≡ size.data_count }
-        ensures value { result ≡ record { size = size; list = front.now ++ replicate size.check_count 0 } }
+        ensures value { result
+            ≡ record { size = size; list = front.now ++ replicate size.check_count 0 } }
         ensures words { IsWords result }
     {
-        // That they fit is known from the size's methods.
+        // That they fit is known from what this call ensures.
         let _checks = size.check_count();
-        let _side = size.side();
         let mut kept = [0; MOST_CODEWORDS];
         kept[..front.len()].copy_from_slice(front);
         Words { size, kept }
@@ -60,7 +59,8 @@ impl Words {
     /// Puts the check codewords, as many as the size has. The data codewords stay.
     pub fn put_checks(&mut self, checks: &[u8])
         requires { length checks.now ≡ self.old.size.check_count }
-        ensures value { self.new ≡ record { size = self.old.size; list = data_of self.old ++ checks.now } }
+        ensures value { self.new
+            ≡ record { size = self.old.size; list = data_of self.old ++ checks.now } }
         ensures words { IsWords self.new }
     {
         let start = usize::from(self.size.data_count());
@@ -68,14 +68,13 @@ impl Words {
         self.kept[start..end].copy_from_slice(checks);
     }
 
-    /// Codewords of this size with any values: a place for [`lift_to`](crate::lift_to).
+    /// Codewords of this size with any values, for [`lift_to`](crate::lift_to) to replace.
     pub(crate) fn any(size: Size) -> Words
         ensures size { result.size ≡ size }
         ensures words { IsWords result }
     {
-        // That they fit is known from the size's methods.
+        // That they fit is known from what this call ensures.
         let _checks = size.check_count();
-        let _side = size.side();
         Words {
             size,
             kept: [0; MOST_CODEWORDS],
@@ -87,9 +86,8 @@ impl Words {
         ensures size { self.new.size ≡ size }
         ensures words { IsWords self.new }
     {
-        // That they fit is known from the size's methods.
+        // That they fit is known from what this call ensures.
         let _checks = size.check_count();
-        let _side = size.side();
         self.size = size;
     }
 
@@ -128,7 +126,8 @@ impl Words {
     /// Puts a codeword at a place, counted from 0.
     pub(crate) fn put(&mut self, place: usize, word: u8)
         requires { place < length self.old.list }
-        ensures value { self.new ≡ record { size = self.old.size; list = set self.old.list place word } }
+        ensures value { self.new
+            ≡ record { size = self.old.size; list = set self.old.list place word } }
         ensures words { IsWords self.new }
     {
         self.kept[place] = word;

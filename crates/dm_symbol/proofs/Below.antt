@@ -1,6 +1,8 @@
 -- What the layers below promise, as the proofs here cite it.
 use Rattle.std.proofs.Common.{◌≡◌, ◌⊎◌, ℕ, ◌+◌, ◌*◌, ◌<◌, ◌≤◌, List, ◌++◌, length, get_or, ap, subst}
 use Rattle.std.specs.List.{All}
+use Rattle.dm_words.specs.declared.extent.Extent.{Extent}
+use Rattle.dm_words.specs.declared.extent.Extent.TheVariants.{Usual, Wide}
 use Rattle.dm_words.specs.declared.item.Item.{Item}
 use Rattle.dm_words.specs.declared.profile.Profile.{Profile}
 use Rattle.dm_code.specs.Codeword.{IsCodeword, IsNear, distance}
@@ -18,7 +20,7 @@ use Rattle.dm_words.specs.Messages.{IsMessage}
 use Rattle.dm_symbol.specs.Blocks.{symbol, AreWordsOf, AreHeld, block_at}
 use Rattle.dm_code.proofs.Exported.{codewords_one, near_one, codeword_bytes, near_or_none as near_or_none_of, checks_are_there as checks_are_there_of}
 use Rattle.dm_layout.proofs.Exported.{every_grid_holds as every_grid_holds_of, laid_somewhere as laid_somewhere_of, blocks_make_words as blocks_make_words_of, word_of_block, length_of_block, one_list, one_laid, once_at_row, count_at_row}
-use Rattle.dm_words.proofs.Exported.{spelled_is_message as spelled_is_message_of, one_answer as one_answer_of, normal_form_codewords as normal_form_codewords_of, normal_form_count as normal_form_count_of, normal_form_spells as normal_form_spells_of}
+use Rattle.dm_words.proofs.Exported.{spelled_is_message as spelled_is_message_of, wide_reads_the_same, one_answer as one_answer_of, normal_form_codewords as normal_form_codewords_of, normal_form_count as normal_form_count_of, normal_form_spells as normal_form_spells_of}
 
 -- Two codewords of one length and of k check codewords that differ at no more than k places are equal.
 pub codewords_apart : (k : ℕ) (c d : List ℕ) → IsCodeword k c → IsCodeword k d → length c ≡ length d → length c ≤ 255 → distance c d ≤ k → c ≡ d
@@ -89,12 +91,12 @@ pub shape_count : (size : SizeRow) → IsRow size → length (shapes size.mappin
 shape_count size row = count_at_row size row
 
 -- Codewords spell one message, or are refused with one fault.
-pub one_answer : (words : List ℕ) → All (λ w. w < 256) words → HasOneAnswer words
-one_answer words h = one_answer_of words h
+pub one_answer : (extent : Extent) (words : List ℕ) → All (λ w. w < 256) words → HasOneAnswer extent words
+one_answer extent words h = one_answer_of extent words h
 
 -- The normal form of a message, with pads, spells the message.
-pub normal_form_spells : (p : Profile) (m : List Item) (count : ℕ) → IsMessage m → length (normal_form p m) ≤ count → count ≤ most_data
-    → Spells (padded (normal_form p m) count) m
+pub normal_form_spells : (extent : Extent) (p : Profile) (m : List Item) (count : ℕ) → IsMessage m → length (normal_form p m) ≤ count → count ≤ most_data
+    → Spells extent (padded (normal_form p m) count) m
 normal_form_spells = normal_form_spells_of
 
 -- The normal form with pads up to a count has that many codewords, each of 0 to 255.
@@ -102,6 +104,11 @@ pub normal_form_words_are : (p : Profile) (m : List Item) (count : ℕ) → IsMe
     → (length (padded (normal_form p m) count) ≡ count) × All (λ w. w < 256) (padded (normal_form p m) count)
 normal_form_words_are p m count h fits = (normal_form_count_of p m count fits, normal_form_codewords_of p m count h)
 
+-- What is spelled in some extent is spelled in `Wide`.
+pub spelled_wide : (extent : Extent) (words : List ℕ) (m : List Item) → Spells extent words m → Spells Wide words m
+spelled_wide Usual words m h = wide_reads_the_same words m h
+spelled_wide Wide words m h = h
+
 -- What is spelled is a message.
-pub spelled_is_message : (words : List ℕ) (m : List Item) → Spells words m → IsMessage m
-spelled_is_message words m h = spelled_is_message_of words m h
+pub spelled_is_message : (extent : Extent) (words : List ℕ) (m : List Item) → Spells extent words m → IsMessage m
+spelled_is_message extent words m h = spelled_is_message_of extent words m h

@@ -1,6 +1,7 @@
 -- Each grid has an answer.
 use Rattle.std.proofs.Common.{◌≡◌, ◌⊎◌, ℕ, zero, suc, ◌<◌, ◌≤◌, List, length, Option, Some, None, IsSome, Result, Ok, Err, inl, inr, refl, sym, subst, ◌∙◌, arith}
 use Rattle.std.proofs.lemmas.Bool.{cases_eq, cases_lt, false≢true}
+use Rattle.dm_words.specs.declared.extent.Extent.{Extent}
 use Rattle.dm_words.specs.declared.item.Item.{Item}
 use Rattle.dm_words.specs.declared.profile.Profile.{Profile}
 use Rattle.dm_code.specs.Codeword.{IsNear}
@@ -68,10 +69,10 @@ corrected grid words h near =
     )
 
 -- A grid whose words are corrected has an answer.
-corrected_answer : (grid : GridView) (limit : ℕ) (words c : List ℕ) → border_fault_count grid ≤ limit → IsCorrected grid words c
-    → (answer : Result Reading ReadFault) × ReadAnswer grid limit answer
-corrected_answer grid limit words c few h =
-    elim (one_answer (data_part grid.size c) (data_is_bytes grid.size c h.of_size)) [
+corrected_answer : (extent : Extent) (grid : GridView) (limit : ℕ) (words c : List ℕ) → border_fault_count grid ≤ limit → IsCorrected grid words c
+    → (answer : Result Reading ReadFault) × ReadAnswer extent grid limit answer
+corrected_answer extent grid limit words c few h =
+    elim (one_answer extent (data_part grid.size c) (data_is_bytes grid.size c h.of_size)) [
       | inl s ↦ (
         Ok (reading_of s.message (distances grid.size words c) (border_fault_count grid)),
         ReadAnswer.message words c s.message few h s.spells refl,
@@ -80,14 +81,14 @@ corrected_answer grid limit words c few h =
     ]
 
 -- Each grid has an answer.
-pub answer_is_given : (grid : GridView) (limit : ℕ) → IsGrid grid → (answer : Result Reading ReadFault) × ReadAnswer grid limit answer
-answer_is_given grid limit is_grid =
+pub answer_is_given : (extent : Extent) (grid : GridView) (limit : ℕ) → IsGrid grid → (answer : Result Reading ReadFault) × ReadAnswer extent grid limit answer
+answer_is_given extent grid limit is_grid =
     elim (cases_lt limit (border_fault_count grid)) [
       | inl more ↦ (Err (fault.Border (border_fault_count grid)), ReadAnswer.border more refl)
       | inr few ↦
           let held = every_grid_holds grid is_grid in
           elim (near_or_first_beyond grid.size held.0 held.1.codewords grid.size.blocks (omega arith)) [
-            | inl near ↦ let c = corrected grid held.0 held.1 near in corrected_answer grid limit held.0 c.0 few c.1
+            | inl near ↦ let c = corrected grid held.0 held.1 near in corrected_answer extent grid limit held.0 c.0 few c.1
             | inr first ↦ (Err (fault.Block first.0), ReadAnswer.block held.0 first.0 few held.1 first.1 refl)
           ]
     ]
@@ -98,34 +99,34 @@ fits_or_not (Some a) = inl refl
 fits_or_not None = inr (λ is. false≢true is)
 
 -- A grid that is read has an answer of normalising.
-normal_of_read : (p : Profile) (grid : GridView) (limit : ℕ) (m : List Item) → Reads grid limit m → (answer : Result GridView NormalFault) × NormalAnswer p grid limit answer
-normal_of_read p grid limit m r =
+normal_of_read : (extent : Extent) (p : Profile) (grid : GridView) (limit : ℕ) (m : List Item) → Reads extent grid limit m → (answer : Result GridView NormalFault) × NormalAnswer extent p grid limit answer
+normal_of_read extent p grid limit m r =
     elim (fits_or_not (row_for_words (length (normal_form p m)))) [
       | inl fits ↦
-          let normal = normal_grid_is_there p m (spelled_is_message (data_part grid.size r.codewords) m r.spelled) fits in
-          let h : HasNormal p grid limit normal.0 = record { message = m; read = r; normal_grid = normal.1 } in
+          let normal = normal_grid_is_there p m (spelled_is_message extent (data_part grid.size r.codewords) m r.spelled) fits in
+          let h : HasNormal extent p grid limit normal.0 = record { message = m; read = r; normal_grid = normal.1 } in
           (Ok normal.0, NormalAnswer.normal normal.0 h refl)
       | inr none ↦ (Err TooLong, NormalAnswer.too_long (record { message = m; read = r; too_long = none }) refl)
     ]
 
 -- A grid that isn't read has an answer of normalising.
-normal_of_fault : (p : Profile) (grid : GridView) (limit : ℕ) (answer : Result Reading ReadFault) (why : ReadFault) → answer ≡ Err why → ReadAnswer grid limit answer
-    → (normal : Result GridView NormalFault) × NormalAnswer p grid limit normal
-normal_of_fault p grid limit answer why e h = (Err (Read why), NormalAnswer.fault why (subst (ReadAnswer grid limit) e h) refl)
+normal_of_fault : (extent : Extent) (p : Profile) (grid : GridView) (limit : ℕ) (answer : Result Reading ReadFault) (why : ReadFault) → answer ≡ Err why → ReadAnswer extent grid limit answer
+    → (normal : Result GridView NormalFault) × NormalAnswer extent p grid limit normal
+normal_of_fault extent p grid limit answer why e h = (Err (Read why), NormalAnswer.fault why (subst (ReadAnswer extent grid limit) e h) refl)
 
 -- A grid with an answer of reading has an answer of normalising.
-normal_by_answer : (p : Profile) (grid : GridView) (limit : ℕ) (answer : Result Reading ReadFault) → ReadAnswer grid limit answer
-    → (normal : Result GridView NormalFault) × NormalAnswer p grid limit normal
-normal_by_answer p grid limit answer (ReadAnswer.border more e) =
-    normal_of_fault p grid limit answer (fault.Border (border_fault_count grid)) e (ReadAnswer.border more e)
-normal_by_answer p grid limit answer (ReadAnswer.block u b few h first e) = normal_of_fault p grid limit answer (fault.Block b) e (ReadAnswer.block u b few h first e)
-normal_by_answer p grid limit answer (ReadAnswer.words u c why few h refused e) =
-    normal_of_fault p grid limit answer (fault.Words why) e (ReadAnswer.words u c why few h refused e)
-normal_by_answer p grid limit answer (ReadAnswer.message u c m few h spelled e) =
-    normal_of_read p grid limit m (record { border = few; words = u; codewords = c; corrected = h; spelled = spelled })
+normal_by_answer : (extent : Extent) (p : Profile) (grid : GridView) (limit : ℕ) (answer : Result Reading ReadFault) → ReadAnswer extent grid limit answer
+    → (normal : Result GridView NormalFault) × NormalAnswer extent p grid limit normal
+normal_by_answer extent p grid limit answer (ReadAnswer.border more e) =
+    normal_of_fault extent p grid limit answer (fault.Border (border_fault_count grid)) e (ReadAnswer.border more e)
+normal_by_answer extent p grid limit answer (ReadAnswer.block u b few h first e) = normal_of_fault extent p grid limit answer (fault.Block b) e (ReadAnswer.block u b few h first e)
+normal_by_answer extent p grid limit answer (ReadAnswer.words u c why few h refused e) =
+    normal_of_fault extent p grid limit answer (fault.Words why) e (ReadAnswer.words u c why few h refused e)
+normal_by_answer extent p grid limit answer (ReadAnswer.message u c m few h spelled e) =
+    normal_of_read extent p grid limit m (record { border = few; words = u; codewords = c; corrected = h; spelled = spelled })
 
 -- Each grid has an answer of normalising.
-pub normal_answer_is_given : (p : Profile) (grid : GridView) (limit : ℕ) → IsGrid grid → (answer : Result GridView NormalFault) × NormalAnswer p grid limit answer
-normal_answer_is_given p grid limit is_grid =
-    let read = answer_is_given grid limit is_grid in
-    normal_by_answer p grid limit read.0 read.1
+pub normal_answer_is_given : (extent : Extent) (p : Profile) (grid : GridView) (limit : ℕ) → IsGrid grid → (answer : Result GridView NormalFault) × NormalAnswer extent p grid limit answer
+normal_answer_is_given extent p grid limit is_grid =
+    let read = answer_is_given extent grid limit is_grid in
+    normal_by_answer extent p grid limit read.0 read.1

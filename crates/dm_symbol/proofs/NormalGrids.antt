@@ -1,6 +1,8 @@
 -- A message has at most one normal grid, and a normal grid is that of one message.
 use Rattle.std.proofs.Common.{◌≡◌, ℕ, ◌<◌, List, length, Some, inl, inr, sym, ap, subst, ◌∙◌}
 use Rattle.std.proofs.lemmas.List.Elements.{All-take}
+use Rattle.dm_words.specs.declared.extent.Extent.{Extent}
+use Rattle.dm_words.specs.declared.extent.Extent.TheVariants.{Usual}
 use Rattle.dm_words.specs.declared.item.Item.{Item}
 use Rattle.dm_words.specs.declared.profile.Profile.{Profile}
 use Rattle.dm_layout.specs.Sizes.{SizeRow}
@@ -26,18 +28,18 @@ pub data_is_bytes : (size : SizeRow) (words : List ℕ) → AreWordsOf size word
 data_is_bytes size words h = All-take (λ w. w < 256) size.data_count words h.bytes
 
 -- Bytes spell at most one message.
-pub one_spelled : (words : List ℕ) (m n : List Item) → All (λ w. w < 256) words → Spells words m → Spells words n → m ≡ n
-one_spelled words m n bytes hm hn =
-    elim (one_answer words bytes) [
+pub one_spelled : (extent : Extent) (words : List ℕ) (m n : List Item) → All (λ w. w < 256) words → Spells extent words m → Spells extent words n → m ≡ n
+one_spelled extent words m n bytes hm hn =
+    elim (one_answer extent words bytes) [
       | inl s ↦ s.only m hm ∙ sym (s.only n hn)
       | inr r ↦ absurd (r.not_spelled m hm)
     ]
 
 -- The data codewords of a normal grid spell its message.
-pub normal_words_spell : (p : Profile) (m : List Item) (grid : GridView) → IsMessage m → (n : IsNormalGrid p m grid) → Spells (data_part grid.size n.words) m
-normal_words_spell p m grid h n =
+pub normal_words_spell : (extent : Extent) (p : Profile) (m : List Item) (grid : GridView) → IsMessage m → (n : IsNormalGrid p m grid) → Spells extent (data_part grid.size n.words) m
+normal_words_spell extent p m grid h n =
     let here = holds_that_many (length (normal_form p m)) grid.size n.smallest in
-    subst (λ words. Spells words m) (sym n.data_words) (normal_form_spells p m grid.size.data_count h here.1 (size_facts grid.size here.0).few_data)
+    subst (λ words. Spells extent words m) (sym n.data_words) (normal_form_spells extent p m grid.size.data_count h here.1 (size_facts grid.size here.0).few_data)
 
 -- Normal grids of one message are equal.
 pub normal_grid_is_one : (p : Profile) (m : List Item) (g h : GridView) → IsNormalGrid p m g → IsNormalGrid p m h → g ≡ h
@@ -55,5 +57,5 @@ normal_grid_is_one p m g h ng nh =
 pub normal_message_is_one : (p : Profile) (m n : List Item) (g : GridView) → IsMessage m → IsMessage n → IsNormalGrid p m g → IsNormalGrid p n g → m ≡ n
 normal_message_is_one p m n g hm hn nm nn =
     let same : nm.words ≡ nn.words = held_words_are_one g nm.words nn.words nm.laid.holds nn.laid.holds in
-    one_spelled (data_part g.size nn.words) m n (data_is_bytes g.size nn.words nn.laid.holds.codewords)
-    (subst (λ words. Spells (data_part g.size words) m) same (normal_words_spell p m g hm nm)) (normal_words_spell p n g hn nn)
+    one_spelled Usual (data_part g.size nn.words) m n (data_is_bytes g.size nn.words nn.laid.holds.codewords)
+    (subst (λ words. Spells Usual (data_part g.size words) m) same (normal_words_spell Usual p m g hm nm)) (normal_words_spell Usual p n g hn nn)

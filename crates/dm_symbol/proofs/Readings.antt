@@ -2,6 +2,8 @@
 use Rattle.std.proofs.Common.{◌≡◌, ℕ, ◌<◌, List, Result, Ok, Err, inl, inr, refl, sym, ap, subst, ◌∙◌, arith}
 use Rattle.std.specs.List.{All}
 use Rattle.std.proofs.lemmas.Bool.{cases_order}
+use Rattle.dm_words.specs.declared.extent.Extent.{Extent}
+use Rattle.dm_words.specs.declared.extent.Extent.TheVariants.{Usual, Wide}
 use Rattle.dm_words.specs.declared.item.Item.{Item}
 use Rattle.dm_words.specs.declared.fault.WordFault.{WordFault}
 use Rattle.dm_layout.specs.Sizes.{SizeRow, block_check}
@@ -18,7 +20,7 @@ use Rattle.dm_symbol.specs.Reading.{IsCorrected, Reads, IsFirstBeyond, ReadAnswe
 use Rattle.dm_symbol.proofs.SymbolBlocks.{same_blocks}
 use Rattle.dm_symbol.proofs.NormalGrids.{data_is_bytes, one_spelled}
 use Rattle.dm_symbol.proofs.SizeFacts.{size_facts}
-use Rattle.dm_symbol.proofs.Below.{near_is_one, block_lengths, held_words_are_one, one_answer, spelled_is_message}
+use Rattle.dm_symbol.proofs.Below.{near_is_one, block_lengths, held_words_are_one, one_answer, spelled_is_message, spelled_wide}
 
 -- A grid holds only one list of words, and only one list of codewords is near them.
 pub corrected_is_one : (grid : GridView) (u c v d : List ℕ) → IsCorrected grid u c → IsCorrected grid v d → (u ≡ v) × (c ≡ d)
@@ -32,29 +34,30 @@ corrected_is_one grid u c v d hu hv =
           (omega (arith, block_lengths grid.size u hu.words_held.codewords b hb, f.short)) (hu.near b hb) (near b hb)),
     )
 
--- A grid is read as at most one message.
-pub one_message : (grid : GridView) (k l : ℕ) (m n : List Item) → Reads grid k m → Reads grid l n → m ≡ n
-one_message grid k l m n hm hn =
+-- A grid is read as at most one message, whatever the extents.
+pub one_message : (extent other : Extent) (grid : GridView) (k l : ℕ) (m n : List Item) → Reads extent grid k m → Reads other grid l n → m ≡ n
+one_message extent other grid k l m n hm hn =
     let same : hm.codewords ≡ hn.codewords = (corrected_is_one grid hm.words hm.codewords hn.words hn.codewords hm.corrected hn.corrected).1 in
-    one_spelled (data_part grid.size hn.codewords) m n (data_is_bytes grid.size hn.codewords hn.corrected.of_size)
-    (subst (λ c. Spells (data_part grid.size c) m) same hm.spelled) hn.spelled
+    one_spelled Wide (data_part grid.size hn.codewords) m n (data_is_bytes grid.size hn.codewords hn.corrected.of_size)
+    (spelled_wide extent (data_part grid.size hn.codewords) m (subst (λ c. Spells extent (data_part grid.size c) m) same hm.spelled))
+    (spelled_wide other (data_part grid.size hn.codewords) n hn.spelled)
 
 -- What is read is a message.
-pub read_is_message : (grid : GridView) (limit : ℕ) (m : List Item) → Reads grid limit m → IsMessage m
-read_is_message grid limit m h = spelled_is_message (data_part grid.size h.codewords) m h.spelled
+pub read_is_message : (extent : Extent) (grid : GridView) (limit : ℕ) (m : List Item) → Reads extent grid limit m → IsMessage m
+read_is_message extent grid limit m h = spelled_is_message extent (data_part grid.size h.codewords) m h.spelled
 
 -- Bytes are refused with at most one fault, and not where they spell a message.
-one_refused : (words : List ℕ) (a b : WordFault) → All (λ w. w < 256) words → Refused words a → Refused words b → a ≡ b
-one_refused words a b bytes ha hb =
-    elim (one_answer words bytes) [
+one_refused : (extent : Extent) (words : List ℕ) (a b : WordFault) → All (λ w. w < 256) words → Refused extent words a → Refused extent words b → a ≡ b
+one_refused extent words a b bytes ha hb =
+    elim (one_answer extent words bytes) [
       | inl s ↦ absurd (s.not_refused a ha)
       | inr r ↦ r.only a ha ∙ sym (r.only b hb)
     ]
 
 -- Bytes that spell a message aren't refused.
-spelled_not_refused : (words : List ℕ) (m : List Item) (why : WordFault) → All (λ w. w < 256) words → Spells words m → Refused words why → ⊥
-spelled_not_refused words m why bytes hm hw =
-    elim (one_answer words bytes) [
+spelled_not_refused : (extent : Extent) (words : List ℕ) (m : List Item) (why : WordFault) → All (λ w. w < 256) words → Spells extent words m → Refused extent words why → ⊥
+spelled_not_refused extent words m why bytes hm hw =
+    elim (one_answer extent words bytes) [
       | inl s ↦ s.not_refused why hw
       | inr r ↦ r.not_spelled m hm
     ]
@@ -75,57 +78,84 @@ none_beyond grid v u c b hv first h =
     first.beyond (block_at grid.size c b, near b first.in_symbol)
 
 -- The data part of codewords doesn't spell a message if it is refused.
-not_both : (grid : GridView) (u c v d : List ℕ) (m : List Item) (why : WordFault) → IsCorrected grid u c → IsCorrected grid v d
-    → Spells (data_part grid.size c) m → Refused (data_part grid.size d) why → ⊥
-not_both grid u c v d m why hu hv spelled refused =
+not_both : (extent : Extent) (grid : GridView) (u c v d : List ℕ) (m : List Item) (why : WordFault) → IsCorrected grid u c → IsCorrected grid v d
+    → Spells extent (data_part grid.size c) m → Refused extent (data_part grid.size d) why → ⊥
+not_both extent grid u c v d m why hu hv spelled refused =
     let same = (corrected_is_one grid u c v d hu hv).1 in
-    spelled_not_refused (data_part grid.size d) m why (data_is_bytes grid.size d hv.of_size) (subst (λ w. Spells (data_part grid.size w) m) same spelled) refused
+    spelled_not_refused extent (data_part grid.size d) m why (data_is_bytes grid.size d hv.of_size) (subst (λ w. Spells extent (data_part grid.size w) m) same spelled) refused
 
 -- A grid has at most one answer for a limit.
-pub one_given : (grid : GridView) (limit : ℕ) (a b : Result Reading ReadFault) → ReadAnswer grid limit a → ReadAnswer grid limit b → a ≡ b
-one_given grid limit a b (ReadAnswer.border h e) (ReadAnswer.border k f) = e ∙ sym f
-one_given grid limit a b (ReadAnswer.border h e) (ReadAnswer.block v y k hv first f) = absurd (omega (arith, h, k))
-one_given grid limit a b (ReadAnswer.border h e) (ReadAnswer.words v d why k hv refused f) = absurd (omega (arith, h, k))
-one_given grid limit a b (ReadAnswer.border h e) (ReadAnswer.message v d n k hv spelled f) = absurd (omega (arith, h, k))
-one_given grid limit a b (ReadAnswer.block u x h hu first e) (ReadAnswer.border k f) = absurd (omega (arith, h, k))
-one_given grid limit a b (ReadAnswer.block u x h hu first e) (ReadAnswer.block v y k hv other f) =
+pub one_given : (extent : Extent) (grid : GridView) (limit : ℕ) (a b : Result Reading ReadFault) → ReadAnswer extent grid limit a → ReadAnswer extent grid limit b → a ≡ b
+one_given extent grid limit a b (ReadAnswer.border h e) (ReadAnswer.border k f) = e ∙ sym f
+one_given extent grid limit a b (ReadAnswer.border h e) (ReadAnswer.block v y k hv first f) = absurd (omega (arith, h, k))
+one_given extent grid limit a b (ReadAnswer.border h e) (ReadAnswer.words v d why k hv refused f) = absurd (omega (arith, h, k))
+one_given extent grid limit a b (ReadAnswer.border h e) (ReadAnswer.message v d n k hv spelled f) = absurd (omega (arith, h, k))
+one_given extent grid limit a b (ReadAnswer.block u x h hu first e) (ReadAnswer.border k f) = absurd (omega (arith, h, k))
+one_given extent grid limit a b (ReadAnswer.block u x h hu first e) (ReadAnswer.block v y k hv other f) =
     let same : v ≡ u = held_words_are_one grid v u hv hu in
     let is_first : IsFirstBeyond grid.size u y = subst (λ w. IsFirstBeyond grid.size w y) same other in
     e ∙ ap (λ block. Err (fault.Block block)) (first_is_one grid.size u x y first is_first) ∙ sym f
-one_given grid limit a b (ReadAnswer.block u x h hu first e) (ReadAnswer.words v d why k hv refused f) = absurd (none_beyond grid u v d x hu first hv)
-one_given grid limit a b (ReadAnswer.block u x h hu first e) (ReadAnswer.message v d n k hv spelled f) = absurd (none_beyond grid u v d x hu first hv)
-one_given grid limit a b (ReadAnswer.words u c why h hu refused e) (ReadAnswer.border k f) = absurd (omega (arith, h, k))
-one_given grid limit a b (ReadAnswer.words u c why h hu refused e) (ReadAnswer.block v y k hv first f) = absurd (none_beyond grid v u c y hv first hu)
-one_given grid limit a b (ReadAnswer.words u c why h hu refused e) (ReadAnswer.words v d other k hv too f) =
+one_given extent grid limit a b (ReadAnswer.block u x h hu first e) (ReadAnswer.words v d why k hv refused f) = absurd (none_beyond grid u v d x hu first hv)
+one_given extent grid limit a b (ReadAnswer.block u x h hu first e) (ReadAnswer.message v d n k hv spelled f) = absurd (none_beyond grid u v d x hu first hv)
+one_given extent grid limit a b (ReadAnswer.words u c why h hu refused e) (ReadAnswer.border k f) = absurd (omega (arith, h, k))
+one_given extent grid limit a b (ReadAnswer.words u c why h hu refused e) (ReadAnswer.block v y k hv first f) = absurd (none_beyond grid v u c y hv first hu)
+one_given extent grid limit a b (ReadAnswer.words u c why h hu refused e) (ReadAnswer.words v d other k hv too f) =
     let same = (corrected_is_one grid u c v d hu hv).1 in
-    let refused_too : Refused (data_part grid.size d) why = subst (λ w. Refused (data_part grid.size w) why) same refused in
-    e ∙ ap (λ x. Err (fault.Words x)) (one_refused (data_part grid.size d) why other (data_is_bytes grid.size d hv.of_size) refused_too too) ∙ sym f
-one_given grid limit a b (ReadAnswer.words u c why h hu refused e) (ReadAnswer.message v d n k hv spelled f) = absurd (not_both grid v d u c n why hv hu spelled refused)
-one_given grid limit a b (ReadAnswer.message u c m h hu spelled e) (ReadAnswer.border k f) = absurd (omega (arith, h, k))
-one_given grid limit a b (ReadAnswer.message u c m h hu spelled e) (ReadAnswer.block v y k hv first f) = absurd (none_beyond grid v u c y hv first hu)
-one_given grid limit a b (ReadAnswer.message u c m h hu spelled e) (ReadAnswer.words v d why k hv refused f) = absurd (not_both grid u c v d m why hu hv spelled refused)
-one_given grid limit a b (ReadAnswer.message u c m h hu spelled e) (ReadAnswer.message v d n k hv other f) =
+    let refused_too : Refused extent (data_part grid.size d) why = subst (λ w. Refused extent (data_part grid.size w) why) same refused in
+    e ∙ ap (λ x. Err (fault.Words x)) (one_refused extent (data_part grid.size d) why other (data_is_bytes grid.size d hv.of_size) refused_too too) ∙ sym f
+one_given extent grid limit a b (ReadAnswer.words u c why h hu refused e) (ReadAnswer.message v d n k hv spelled f) = absurd (not_both extent grid v d u c n why hv hu spelled refused)
+one_given extent grid limit a b (ReadAnswer.message u c m h hu spelled e) (ReadAnswer.border k f) = absurd (omega (arith, h, k))
+one_given extent grid limit a b (ReadAnswer.message u c m h hu spelled e) (ReadAnswer.block v y k hv first f) = absurd (none_beyond grid v u c y hv first hu)
+one_given extent grid limit a b (ReadAnswer.message u c m h hu spelled e) (ReadAnswer.words v d why k hv refused f) = absurd (not_both extent grid u c v d m why hu hv spelled refused)
+one_given extent grid limit a b (ReadAnswer.message u c m h hu spelled e) (ReadAnswer.message v d n k hv other f) =
     let same = corrected_is_one grid u c v d hu hv in
-    let message : m ≡ n = one_message grid limit limit m n (record { border = h; words = u; codewords = c; corrected = hu; spelled = spelled }) (record { border = k; words = v; codewords = d; corrected = hv; spelled = other }) in
+    let message : m ≡ n = one_message extent extent grid limit limit m n (record { border = h; words = u; codewords = c; corrected = hu; spelled = spelled }) (record { border = k; words = v; codewords = d; corrected = hv; spelled = other }) in
     e ∙ ap (λ x. Ok (reading_of x (distances grid.size u c) (border_fault_count grid))) message
     ∙ ap (λ x. Ok (reading_of n (distances grid.size x c) (border_fault_count grid))) same.0
     ∙ ap (λ x. Ok (reading_of n (distances grid.size v x) (border_fault_count grid))) same.1
     ∙ sym f
 
 -- The answer to a grid that is read as a message.
-pub answer_of_read : (grid : GridView) (limit : ℕ) (m : List Item) → (r : Reads grid limit m)
-    → ReadAnswer grid limit (Ok (reading_of m (distances grid.size r.words r.codewords) (border_fault_count grid)))
-answer_of_read grid limit m r = ReadAnswer.message r.words r.codewords m r.border r.corrected r.spelled refl
+pub answer_of_read : (extent : Extent) (grid : GridView) (limit : ℕ) (m : List Item) → (r : Reads extent grid limit m)
+    → ReadAnswer extent grid limit (Ok (reading_of m (distances grid.size r.words r.codewords) (border_fault_count grid)))
+answer_of_read extent grid limit m r = ReadAnswer.message r.words r.codewords m r.border r.corrected r.spelled refl
 
 -- The answer is a reading of a message exactly where the grid is read as it.
-pub read_by_answer : (grid : GridView) (limit : ℕ) (answer : Result Reading ReadFault) (m : List Item) → ReadAnswer grid limit answer → Reads grid limit m → IsReadAs answer m
-read_by_answer grid limit answer m h r = subst (λ a. IsReadAs a m) (one_given grid limit _ _ (answer_of_read grid limit m r) h) refl
+pub read_by_answer : (extent : Extent) (grid : GridView) (limit : ℕ) (answer : Result Reading ReadFault) (m : List Item) → ReadAnswer extent grid limit answer → Reads extent grid limit m → IsReadAs answer m
+read_by_answer extent grid limit answer m h r = subst (λ a. IsReadAs a m) (one_given extent grid limit _ _ (answer_of_read extent grid limit m r) h) refl
 
 -- Where the answer is a reading of a message, the grid is read as it.
-pub reads_by_answer : (grid : GridView) (limit : ℕ) (answer : Result Reading ReadFault) (m : List Item) → ReadAnswer grid limit answer → IsReadAs answer m → Reads grid limit m
-reads_by_answer grid limit answer m (ReadAnswer.border h e) is = absurd (subst (λ a. IsReadAs a m) e is)
-reads_by_answer grid limit answer m (ReadAnswer.block u x h hu first e) is = absurd (subst (λ a. IsReadAs a m) e is)
-reads_by_answer grid limit answer m (ReadAnswer.words u c why h hu refused e) is = absurd (subst (λ a. IsReadAs a m) e is)
-reads_by_answer grid limit answer m (ReadAnswer.message u c n h hu spelled e) is =
+pub reads_by_answer : (extent : Extent) (grid : GridView) (limit : ℕ) (answer : Result Reading ReadFault) (m : List Item) → ReadAnswer extent grid limit answer → IsReadAs answer m → Reads extent grid limit m
+reads_by_answer extent grid limit answer m (ReadAnswer.border h e) is = absurd (subst (λ a. IsReadAs a m) e is)
+reads_by_answer extent grid limit answer m (ReadAnswer.block u x h hu first e) is = absurd (subst (λ a. IsReadAs a m) e is)
+reads_by_answer extent grid limit answer m (ReadAnswer.words u c why h hu refused e) is = absurd (subst (λ a. IsReadAs a m) e is)
+reads_by_answer extent grid limit answer m (ReadAnswer.message u c n h hu spelled e) is =
     let same : n ≡ m = subst (λ a. IsReadAs a m) e is in
-    record { border = h; words = u; codewords = c; corrected = hu; spelled = subst (λ x. Spells (data_part grid.size c) x) same spelled }
+    record { border = h; words = u; codewords = c; corrected = hu; spelled = subst (λ x. Spells extent (data_part grid.size c) x) same spelled }
+
+-- What is read in some extent is read in `Wide`.
+pub reads_wide : (extent : Extent) (grid : GridView) (limit : ℕ) (m : List Item) → Reads extent grid limit m → Reads Wide grid limit m
+reads_wide extent grid limit m r = record {
+  border = r.border;
+  words = r.words;
+  codewords = r.codewords;
+  corrected = r.corrected;
+  spelled = spelled_wide extent (data_part grid.size r.codewords) m r.spelled;
+}
+
+-- A reading isn't a fault.
+ok_no_fault : (reading : Reading) (why : ReadFault) → ◌≡◌ {A = Result Reading ReadFault} (Ok reading) (Err why) → ⊥
+ok_no_fault reading why e = cc
+
+-- What is read in the extent `Usual` is read in `Wide` with the same answer.
+pub wide_reads_the_usual : (grid : GridView) (limit : ℕ) (reading : Reading) → ReadAnswer Usual grid limit (Ok reading) → ReadAnswer Wide grid limit (Ok reading)
+wide_reads_the_usual grid limit reading a = moved (Ok reading) refl a
+  where
+    no_reading : (answer : Result Reading ReadFault) (why : ReadFault) → answer ≡ Ok reading → answer ≡ Err why → ReadAnswer Wide grid limit answer
+    no_reading answer why is e = absurd (ok_no_fault reading why (sym is ∙ e))
+
+    moved : (answer : Result Reading ReadFault) → answer ≡ Ok reading → ReadAnswer Usual grid limit answer → ReadAnswer Wide grid limit answer
+    moved answer is (ReadAnswer.border h e) = no_reading answer _ is e
+    moved answer is (ReadAnswer.block u x h hu first e) = no_reading answer _ is e
+    moved answer is (ReadAnswer.words u c why h hu refused e) = no_reading answer _ is e
+    moved answer is (ReadAnswer.message u c m h hu spelled e) = ReadAnswer.message u c m h hu (spelled_wide Usual (data_part grid.size c) m spelled) e

@@ -6,6 +6,7 @@ use Rattle.std.proofs.Math.Nat.{pow-suc}
 use Rattle.std.proofs.lemmas.Bool.{cases_Bool, cases_eq, cases_lt, eqb-true, eqb-false, true≢false, false≢true}
 use Rattle.std.proofs.lemmas.Nat.{same_from_place, mul-add-lt}
 use Rattle.std.proofs.lemmas.Nat.Bits.{bit_at_lowest, bit_at-suc}
+use Rattle.dm_words.specs.declared.extent.Extent.{Extent}
 use Rattle.dm_words.specs.declared.item.Item.{Item}
 use Rattle.dm_words.specs.declared.profile.Profile.{Profile}
 use Rattle.dm_code.specs.Codeword.{distance, differing}
@@ -191,10 +192,10 @@ border_changes size rows others none =
     fault_shows (is_border size r c) (cell_at g r c) (cell_at h r c) (border_is_dark size r c) (none_pass size.side (is_fault g) r c none hr hc) wrong)
 
 -- A normal grid of which no more cells are turned over is read as its message.
-turned_reads : (p : Profile) (m : List Item) (normal : GridView) (others : List (List Bool)) (limit : ℕ) → IsMessage m → IsNormalGrid p m normal
+turned_reads : (extent : Extent) (p : Profile) (m : List Item) (normal : GridView) (others : List (List Bool)) (limit : ℕ) → IsMessage m → IsNormalGrid p m normal
     → IsGrid (record { size = normal.size; rows = others }) → turned_cells normal (record { size = normal.size; rows = others }) ≤ normal.size.limit
-    → normal.size.limit ≤ limit → Reads (record { size = normal.size; rows = others }) limit m
-turned_reads p m normal others limit h n is_grid few at_least =
+    → normal.size.limit ≤ limit → Reads extent (record { size = normal.size; rows = others }) limit m
+turned_reads extent p m normal others limit h n is_grid few at_least =
     let size = normal.size in
     let f = size_facts size n.laid.holds.square.row in
     let held = every_grid_holds (record { size = size; rows = others }) is_grid in
@@ -211,14 +212,14 @@ turned_reads p m normal others limit h n is_grid few at_least =
           close = omega (arith, block_changes size normal.rows others n.words held.0 n.laid.holds held.1 b hb, few, f.half);
         };
       };
-      spelled = normal_words_spell p m normal h n;
+      spelled = normal_words_spell extent p m normal h n;
     }
 
 -- If no more cells of a normal grid are turned over than codewords can be corrected in a block, the grid that comes out is read as its message.
-pub turned_cells_are_read : (p : Profile) (m : List Item) (normal grid : GridView) (limit : ℕ) → IsMessage m → IsNormalGrid p m normal → IsGrid grid
-    → grid.size.side ≡ normal.size.side → turned_cells normal grid ≤ normal.size.limit → normal.size.limit ≤ limit → Reads grid limit m
-turned_cells_are_read p m normal grid limit h n is_grid side few at_least =
+pub turned_cells_are_read : (extent : Extent) (p : Profile) (m : List Item) (normal grid : GridView) (limit : ℕ) → IsMessage m → IsNormalGrid p m normal → IsGrid grid
+    → grid.size.side ≡ normal.size.side → turned_cells normal grid ≤ normal.size.limit → normal.size.limit ≤ limit → Reads extent grid limit m
+turned_cells_are_read extent p m normal grid limit h n is_grid side few at_least =
     let same : grid.size ≡ normal.size = same_row grid.size normal.size is_grid.row n.laid.holds.square.row side in
     let whole : ◌≡◌ {A = GridView} grid (record { size = normal.size; rows = grid.rows }) = ap (λ (s : SizeRow). let g : GridView = record { size = s; rows = grid.rows } in g) same in
-    subst (λ g. Reads g limit m) (sym whole)
-    (turned_reads p m normal grid.rows limit h n (subst IsGrid whole is_grid) (subst (λ g. turned_cells normal g ≤ normal.size.limit) whole few) at_least)
+    subst (λ g. Reads extent g limit m) (sym whole)
+    (turned_reads extent p m normal grid.rows limit h n (subst IsGrid whole is_grid) (subst (λ g. turned_cells normal g ≤ normal.size.limit) whole few) at_least)

@@ -1,4 +1,5 @@
--- The normal grid of a message under a profile: the grid of its normal form in the smallest symbol that holds it.
+-- The normal grid of a message under a profile: the grid of its normal form in the smallest symbol that holds it. That this grid is chosen among
+-- those that say the same is a rule of this project.
 use Rattle.std.specs.Prelude.{◌≡◌, ℕ, List, Some, IsSome, length, Result, IfOk, IsOk, OnErr, ◌↔◌}
 use Rattle.dm_words.specs.declared.item.Item.{Item}
 use Rattle.dm_words.specs.declared.fault.TooLong.{TooLong}
@@ -26,7 +27,7 @@ pub record IsNormalGrid (profile : Profile) (message : List Item) (grid : GridVi
   -- The check codewords make each block a codeword of its Reed-Solomon code.
   pub checked : BlocksAreCodewords grid.size words
 
--- Writing a message answers its only normal grid, where the message fits some size, and else that it has none.
+-- Where a message fits some size, writing it answers its only normal grid; otherwise it answers that there is none.
 pub record IsWritten (profile : Profile) (message : List Item) (answer : Result GridView TooLong) : Type 0 where
   pub normal : IfOk answer (λ grid. IsNormalGrid profile message grid)
   pub one : IfOk answer (λ grid. (other : GridView) → IsNormalGrid profile message other → other ≡ grid)

@@ -1,6 +1,7 @@
 -- Which message a grid is read as, and how a grid that is not read is refused (ISO/IEC 16022, decode algorithm).
-use Rattle.std.specs.Prelude.{◌≡◌, ℕ, ◌/◌, ◌<◌, ◌≤◌, List, Result, Ok, Err, MatchResult}
+use Rattle.std.specs.Prelude.{◌≡◌, ℕ, ◌/◌, ◌<◌, ◌≤◌, ◌↔◌, List, Result, Ok, Err, MatchResult}
 use Rattle.dm_words.specs.declared.item.Item.{Item}
+use Rattle.dm_words.specs.declared.extent.Extent.{Extent}
 use Rattle.dm_words.specs.declared.fault.WordFault.{WordFault}
 use Rattle.dm_code.specs.Codeword.{IsNear}
 use Rattle.dm_layout.specs.Sizes.{SizeRow, block_check}
@@ -23,14 +24,15 @@ pub record IsCorrected (grid : GridView) (words codewords : List ℕ) : Type 0 w
   pub of_size : AreWordsOf grid.size codewords
   pub near : BlocksAreNear grid.size words codewords
 
--- The grid is read as the message: at most `limit` modules of its borders have the wrong colour, and each block of the words that it holds
--- is near the same block of codewords whose data part spells the message.
-pub record Reads (grid : GridView) (limit : ℕ) (message : List Item) : Type 0 where
+-- The grid is read as the message in an extent: at most `limit` modules of its borders have the wrong colour, and each block of the words that it
+-- holds is near the same block of codewords whose data part spells the message in that extent. That each block is corrected up to half of its check
+-- codewords, and that the fixed square isn't looked at, are rules of this project.
+pub record Reads (extent : Extent) (grid : GridView) (limit : ℕ) (message : List Item) : Type 0 where
   pub border : border_fault_count grid ≤ limit
   pub words : List ℕ
   pub codewords : List ℕ
   pub corrected : IsCorrected grid words codewords
-  pub spelled : Spells (data_part grid.size codewords) message
+  pub spelled : Spells extent (data_part grid.size codewords) message
 
 -- Some codeword of the Reed-Solomon code with k check codewords is near the block.
 abbrev pub HasNear : ℕ → List ℕ → Type 0
@@ -46,19 +48,27 @@ pub record IsFirstBeyond (size : SizeRow) (words : List ℕ) (block : ℕ) : Typ
 abbrev pub reading_of : List Item → List ℕ → ℕ → Reading
 reading_of message counts faults = record { message = message; corrected = record { items = counts }; border_faults = faults }
 
--- The answer for a grid is the number of border faults, where it is more than `limit`; else the first block that no codeword is near; else the
--- fault with which the data part of the corrected codewords is refused; else the message that the data part spells, with the number of corrected
--- codewords of each block and the number of border faults.
-pub data ReadAnswer (grid : GridView) (limit : ℕ) (answer : Result Reading ReadFault) : Type 0 where
-  border : limit < border_fault_count grid → answer ≡ Err (fault.Border (border_fault_count grid)) → ReadAnswer grid limit answer
+-- The answer for a grid in an extent is the first of these that there is: the number of border faults, if it is more than `limit`; the first block
+-- that no codeword is near; the fault with which the data part of the corrected codewords is refused; the message that the data part spells, with the
+-- number of corrected codewords of each block and the number of border faults. Where there are corrected codewords, exactly one of the last two is
+-- there, by a law.
+pub data ReadAnswer (extent : Extent) (grid : GridView) (limit : ℕ) (answer : Result Reading ReadFault) : Type 0 where
+  border : limit < border_fault_count grid → answer ≡ Err (fault.Border (border_fault_count grid)) → ReadAnswer extent grid limit answer
   block : (words : List ℕ) (index : ℕ) → border_fault_count grid ≤ limit → AreHeld grid words → IsFirstBeyond grid.size words index
-      → answer ≡ Err (fault.Block index) → ReadAnswer grid limit answer
+      → answer ≡ Err (fault.Block index) → ReadAnswer extent grid limit answer
   words : (words codewords : List ℕ) (why : WordFault) → border_fault_count grid ≤ limit → IsCorrected grid words codewords
-      → Refused (data_part grid.size codewords) why → answer ≡ Err (fault.Words why) → ReadAnswer grid limit answer
+      → Refused extent (data_part grid.size codewords) why → answer ≡ Err (fault.Words why) → ReadAnswer extent grid limit answer
   message : (words codewords : List ℕ) (message : List Item) → border_fault_count grid ≤ limit → IsCorrected grid words codewords
-      → Spells (data_part grid.size codewords) message → answer ≡ Ok (reading_of message (distances grid.size words codewords) (border_fault_count grid))
-      → ReadAnswer grid limit answer
+      → Spells extent (data_part grid.size codewords) message → answer ≡ Ok (reading_of message (distances grid.size words codewords) (border_fault_count grid))
+      → ReadAnswer extent grid limit answer
 
 -- The answer is a reading of this message.
 abbrev pub IsReadAs : Result Reading ReadFault → List Item → Type 0
 IsReadAs answer wanted = MatchResult answer (λ reading. reading.message ≡ wanted) (λ _. ⊥)
+
+-- What reading a grid answers: the answer defined above; a reading of a message exactly where the grid is read as that message; and a number of border
+-- faults exactly where these are more than `limit`, and this is their number.
+pub record IsRead (extent : Extent) (grid : GridView) (limit : ℕ) (answer : Result Reading ReadFault) : Type 0 where
+  pub answer_is : ReadAnswer extent grid limit answer
+  pub message : (m : List Item) → IsReadAs answer m ↔ Reads extent grid limit m
+  pub border : (count : ℕ) → (answer ≡ Err (fault.Border count)) ↔ ((limit < border_fault_count grid) × (count ≡ border_fault_count grid))

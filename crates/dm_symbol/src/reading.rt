@@ -5,13 +5,13 @@ ghost use Rattle.dm_words.specs.declared.item.Item.{Item};
 ghost use Rattle.dm_layout.specs.Border.{border_fault_count};
 ghost use Rattle.dm_layout.specs.Holds.{Holds};
 ghost use Rattle.dm_symbol.specs.Blocks.{AreWordsOf, BlocksAreNear, distances};
-ghost use Rattle.dm_words.specs.Places.{outcome};
-ghost use Rattle.dm_symbol.specs.Reading.{Reads, ReadAnswer, IsReadAs, IsFirstBeyond, reading_of};
+ghost use Rattle.dm_words.specs.Outcomes.{outcome};
+ghost use Rattle.dm_symbol.specs.Reading.{IsRead, IsFirstBeyond, reading_of};
 
 use crate::correction::mend_block;
 use arrayvec::ArrayVec;
 use dm_layout::{Grid, MOST_BLOCKS, Words, border_faults, lift};
-use dm_words::{Message, WordFault, message_to};
+use dm_words::{Extent, Message, WordFault, message_to_as};
 
 /// What a grid says, and how much of it was wrong.
 #[derive(Clone, Debug, Default, Drop, PartialEq, Eq)]
@@ -36,7 +36,7 @@ pub enum ReadFault {
 }
 
 impl Reading {
-    /// Gives the reading of an empty message, with nothing corrected: a place for [`read_to`].
+    /// Gives the reading of an empty message, with nothing corrected, into which [`read_as_to`] can read.
     pub fn new() -> Reading
         ensures { result ≡ reading_of [] [] 0 }
     {
@@ -48,29 +48,46 @@ impl Reading {
     }
 }
 
-/// Reads a grid (ISO/IEC 16022, decode algorithm): refuses it if more than `border_limit` modules of its borders have the wrong colour,
-/// corrects the blocks in order, each in up to half as many codewords as it has check codewords, and reads the data codewords. The first
-/// of these steps that fails gives the fault. The fixed square isn't looked at, nor is what follows the first pad. The grid is taken to
-/// be upright. A grid with more damage may be near the codewords of another message, and is then read as that message.
+/// Reads a grid in the usual extent: what [`read_as`] answers for [`Extent::Usual`].
 pub fn read(grid: &Grid, border_limit: u16) -> Result<Reading, ReadFault>
-    ensures answer { ReadAnswer grid.now border_limit result }
-    ensures message { (m : List Item) → IsReadAs result m ↔ Reads grid.now border_limit m }
-    ensures border { (count : ℕ) → (result ≡ Err (ReadFault.Border count)) ↔ ((border_limit < border_fault_count grid.now) × (count ≡ border_fault_count grid.now)) }
+    ensures answer { IsRead Extent.Usual grid.now border_limit result }
+{
+    read_as(Extent::Usual, grid, border_limit)
+}
+
+/// Does the same as [`read`] in memory of the caller's: what [`read_as_to`] does for [`Extent::Usual`].
+pub fn read_to(grid: &Grid, border_limit: u16, reading: &mut Reading) -> Result<(), ReadFault>
+    ensures answer { IsRead Extent.Usual grid.now border_limit (outcome result reading.new) }
+    ensures same { (count : ℕ) → result ≡ Err (ReadFault.Border count) → reading.new ≡ reading.old }
+{
+    read_as_to(Extent::Usual, grid, border_limit, reading)
+}
+
+/// Reads a grid in an extent (ISO/IEC 16022, decode algorithm): refuses it if more than `border_limit` modules of its borders have the wrong
+/// colour, corrects the blocks in order, each in up to half as many codewords as it has check codewords, and reads the data codewords, as far
+/// as the extent goes. The first of these steps that fails gives the fault. The fixed square isn't looked at, nor is what follows the first
+/// pad. The grid is taken to be upright. A grid with more damage may be near the codewords of another message, and is then read as that
+/// message. What is read at [`Extent::Usual`] is read at [`Extent::Wide`] with the same answer.
+pub fn read_as(extent: Extent, grid: &Grid, border_limit: u16) -> Result<Reading, ReadFault>
+    ensures answer { IsRead extent grid.now border_limit result }
 {
     let mut reading = Reading::new();
-    match read_to(grid, border_limit, &mut reading) {
+    match read_as_to(extent, grid, border_limit, &mut reading) {
         Ok(()) => Ok(reading),
         Err(fault) => Err(fault),
     }
 }
 
-/// Does the same as [`read`] in a place: if it answers `Ok`, the place holds the reading, whatever it held before. After `Border` it is as
-/// it was, and after another fault it holds some reading. One place serves any number of grids, and isn't cleared for the largest symbol;
-/// the codewords are, 1,152 bytes a call.
-pub fn read_to(grid: &Grid, border_limit: u16, reading: &mut Reading) -> Result<(), ReadFault>
-    ensures answer { ReadAnswer grid.now border_limit (outcome result reading.new) }
-    ensures message { (m : List Item) → IsReadAs (outcome result reading.new) m ↔ Reads grid.now border_limit m }
-    ensures border { (count : ℕ) → (outcome result reading.new ≡ Err (ReadFault.Border count)) ↔ ((border_limit < border_fault_count grid.now) × (count ≡ border_fault_count grid.now)) }
+/// Does the same as [`read_as`] in memory of the caller's: if it answers `Ok`, `reading` holds what the grid says, whatever it held before. After
+/// `Border` it is as it was, and after another fault it holds some reading. One `Reading` serves any number of grids, and isn't cleared for the
+/// largest symbol; the codewords are, 1,152 bytes a call.
+pub fn read_as_to(
+    extent: Extent,
+    grid: &Grid,
+    border_limit: u16,
+    reading: &mut Reading,
+) -> Result<(), ReadFault>
+    ensures answer { IsRead extent grid.now border_limit (outcome result reading.new) }
     ensures same { (count : ℕ) → result ≡ Err (ReadFault.Border count) → reading.new ≡ reading.old }
 {
     let border_faults = border_faults(grid);
@@ -83,7 +100,7 @@ pub fn read_to(grid: &Grid, border_limit: u16, reading: &mut Reading) -> Result<
         Ok(()) => {}
         Err(b) => return Err(ReadFault::Block(b)),
     }
-    match message_to(words.data_part(), &mut reading.message) {
+    match message_to_as(extent, words.data_part(), &mut reading.message) {
         Ok(()) => Ok(()),
         Err(fault) => Err(ReadFault::Words(fault)),
     }

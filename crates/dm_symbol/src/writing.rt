@@ -5,7 +5,7 @@ ghost use Rattle.dm_code.specs.Codeword.{IsCodeword};
 ghost use Rattle.dm_layout.specs.Sizes.{block_check};
 ghost use Rattle.dm_layout.specs.Holds.{IsLaid};
 ghost use Rattle.dm_symbol.specs.Blocks.{AreWordsOf, BlocksAreCodewords, block_at, data_part};
-ghost use Rattle.dm_words.specs.Places.{outcome};
+ghost use Rattle.dm_words.specs.Outcomes.{outcome};
 ghost use Rattle.dm_symbol.specs.NormalGrid.{IsWritten};
 
 use crate::place::light_grid;
@@ -34,8 +34,8 @@ pub fn write_as(profile: Profile, message: &Message) -> Result<Grid, TooLong>
     }
 }
 
-/// Does the same as [`write_as`] in a place: if it answers `Ok`, the place holds the normal grid, whatever it held before. After
-/// `TooLong` it is as it was.
+/// Does the same as [`write_as`], profile and all, in memory of the caller's: if it answers `Ok`, `grid` holds the normal grid, whatever it held
+/// before. After `TooLong` it is as it was.
 pub fn write_to(profile: Profile, message: &Message, grid: &mut Grid) -> Result<(), TooLong>
     ensures answer { IsWritten profile message.now (outcome result grid.new) }
     ensures same { OnErr result (grid.new ≡ grid.old) }

@@ -9,10 +9,10 @@ use Rattle.std.proofs.lemmas.Int.{ints}
 use Rattle.clap.specs.Walk.{Row, Text, first_of}
 use Rattle.dm_tool.specs.CommandLine.{GivesLimit, GivesProfile, IsTaskOf}
 use Rattle.dm_tool.specs.inner.CommandReads.{HasNoTask, IsReadable}
-use Rattle.dm_symbol.specs.declared.Profile.{Profile}
-use Rattle.dm_symbol.specs.declared.Profile.TheVariants.{Ascii, Shorter}
-use Rattle.dm_tool.specs.declared.task.Task.{Task}
-use Rattle.dm_tool.specs.declared.task.Task.TheVariants.{Read, Check, Normal, Write, Table}
+use Rattle.dm_text.specs.declared.Profile.{Profile}
+use Rattle.dm_text.specs.declared.Profile.TheVariants.{Ascii, Shorter}
+use Rattle.dm_text.specs.declared.Task.{Task}
+use Rattle.dm_text.specs.declared.Task.TheVariants.{Read, Check, Normal, Write, Table}
 
 -- Matches that can be read give a limit or none.
 pub limit_given : (rows : List Row) → IsReadable rows → (limit : Option ℕ) × GivesLimit rows limit

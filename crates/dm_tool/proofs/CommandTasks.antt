@@ -11,8 +11,8 @@ use Rattle.clap.specs.Facts.{explicit_source}
 use Rattle.clap.specs.Takes.{is_given}
 use Rattle.dm_tool.specs.CommandLine.{IsTaskOf, dm_app}
 use Rattle.dm_tool.specs.inner.CommandReads.{IsReadable}
-use Rattle.dm_tool.specs.declared.task.Task.{Task}
-use Rattle.dm_tool.specs.declared.task.Task.TheVariants.{Read, Check, Normal, Write, Table}
+use Rattle.dm_text.specs.declared.Task.{Task}
+use Rattle.dm_text.specs.declared.Task.TheVariants.{Read, Check, Normal, Write, Table}
 use Rattle.dm_tool.proofs.CommandWalks.{first_none, later_none}
 use Rattle.dm_tool.proofs.CommandNames.{limit_given, profile_given}
 use Rattle.dm_tool.proofs.CommandMatches.{IsSound, bordered_sound, both_sound, flagged_sound, plain_sound, readable}

@@ -6,10 +6,10 @@ use Rattle.clap.specs.Walk.{Row, Rule, Text, first_of}
 use Rattle.clap.specs.Simple.{App, Shape, new_app, new_rule, new_shape, with_rule, with_subcommand}
 use Rattle.clap.specs.declared.builder.action.ArgAction.TheVariants.{SetTrue}
 use Rattle.clap.specs.declared.builder.value_parser.ValueParser.TheVariants as vp
-use Rattle.dm_symbol.specs.declared.Profile.{Profile}
-use Rattle.dm_symbol.specs.declared.Profile.TheVariants.{Ascii, Shorter}
-use Rattle.dm_tool.specs.declared.task.Task.{Task}
-use Rattle.dm_tool.specs.declared.task.Task.TheVariants.{Read, Check, Normal, Write, Table}
+use Rattle.dm_text.specs.declared.Profile.{Profile}
+use Rattle.dm_text.specs.declared.Profile.TheVariants.{Ascii, Shorter}
+use Rattle.dm_text.specs.declared.Task.{Task}
+use Rattle.dm_text.specs.declared.Task.TheVariants.{Read, Check, Normal, Write, Table}
 
 -- The words of a command line have these texts.
 abbrev pub texts_of : List (Bor Text) → List Text

@@ -1,10 +1,10 @@
 -- The program's endings after a run: its exit status, and its line on standard error.
 use Rattle.std.specs.Prelude.{◌≡◌, ◌<◌, ℕ, List, [], codes, Result, Ok, Err}
-use Rattle.dm_tool.specs.declared.task.RunFault.{RunFault}
-use Rattle.dm_tool.specs.declared.task.RunFault.TheVariants as run
-use Rattle.dm_tool.specs.declared.task.Tally.{Tally}
+use Rattle.dm_text.specs.declared.RunFault.{RunFault}
+use Rattle.dm_text.specs.declared.RunFault.TheVariants as run
+use Rattle.dm_text.specs.declared.Tally.{Tally}
 
--- The program ends with this status and this line.
+-- The program ends with this status, and with this line on standard error.
 abbrev pub Ends : ℕ → List ℕ → ℕ → List ℕ → Type 0
 Ends s l status line = (status ≡ s) × (line ≡ l)
 

@@ -11,10 +11,10 @@ ghost use Rattle.clap.specs.declared.builder.command.Command.TheViews.{out-Comma
 ghost use Rattle.dm_tool.specs.CommandLine.{GivesLimit, GivesProfile, IsTaskOf, NamesTask, border_rule, dm_app, shorter_rule, texts_of, top_app, with_border as bordered, with_both as both, with_shorter as shortened};
 ghost use Rattle.dm_tool.specs.inner.CommandReads.{HasNoTask, IsReadable};
 
-use crate::task::{CallFault, Task};
+use crate::fault::CallFault;
 use clap::error::ErrorKind;
 use clap::{Arg, ArgAction, ArgMatches, Command, Error};
-use dm_symbol::Profile;
+use dm_text::{Profile, Task};
 use std::alloc::{AllocError, Global};
 
 /// The option `--border N`.
@@ -81,7 +81,7 @@ fn top<'a>(alloc: Global) -> Command<'a>
 }
 
 /// The command with one more subcommand, if there was memory for it.
-fn joined<'a>(
+fn add_subcommand<'a>(
     command: Command<'a>,
     sub: Result<Command<'a>, AllocError>,
 ) -> Result<Command<'a>, AllocError>
@@ -95,32 +95,36 @@ fn joined<'a>(
 
 /// The command with the three subcommands whose input are grids.
 fn for_grids<'a>(alloc: Global) -> Result<Command<'a>, AllocError>
-    ensures { IfOk result (λ c. app_of c ≡ with_subcommand (with_subcommand (with_subcommand top_app
-        (bordered (codes "read"))) (bordered (codes "check"))) (both (codes "normal"))) }
+    ensures { IfOk result
+        (λ c. app_of c ≡ with_subcommand
+        (with_subcommand (with_subcommand top_app (bordered (codes "read")))
+        (bordered (codes "check"))) (both (codes "normal"))) }
 {
-    let with_read = joined(top(alloc), with_border(alloc, "read"))?;
-    let with_check = joined(with_read, with_border(alloc, "check"))?;
-    joined(with_check, with_both(alloc, "normal"))
+    let with_read = add_subcommand(top(alloc), with_border(alloc, "read"))?;
+    let with_check = add_subcommand(with_read, with_border(alloc, "check"))?;
+    add_subcommand(with_check, with_both(alloc, "normal"))
 }
 
 /// The command with its five subcommands.
 fn command<'a>(alloc: Global) -> Result<Command<'a>, AllocError>
     ensures { IfOk result (λ c. app_of c ≡ dm_app) }
 {
-    let with_write = joined(for_grids(alloc)?, with_shorter(alloc, "write"))?;
-    joined(with_write, Ok(plain(alloc, "table")))
+    let with_write = add_subcommand(for_grids(alloc)?, with_shorter(alloc, "write"))?;
+    add_subcommand(with_write, Ok(plain(alloc, "table")))
 }
 
 /// The border limit among the matches of a subcommand.
 fn limit_in(matches: &ArgMatches<'_>) -> Option<u16>
-    ensures { IsReadable (rows_of (found_of matches.now)) → GivesLimit (rows_of (found_of matches.now)) result }
+    ensures { IsReadable (rows_of (found_of matches.now))
+        → GivesLimit (rows_of (found_of matches.now)) result }
 {
     matches.get_one::<u16>("border")
 }
 
 /// The profile among the matches of a subcommand.
 fn profile_in(matches: &ArgMatches<'_>) -> Profile
-    ensures { IsReadable (rows_of (found_of matches.now)) → GivesProfile (rows_of (found_of matches.now)) result }
+    ensures { IsReadable (rows_of (found_of matches.now))
+        → GivesProfile (rows_of (found_of matches.now)) result }
 {
     if matches.get_flag("shorter") {
         Profile::Shorter
@@ -157,10 +161,11 @@ fn fault_in(error: Error) -> CallFault
 }
 
 /// The task that the matches of the command name.
-fn named(matches: &ArgMatches<'_>) -> Option<Task>
+fn task_among(matches: &ArgMatches<'_>) -> Option<Task>
     ensures some { IfSome result (λ t. (found : _) → subcommand_rows_of matches.now ≡ Some found
         → IsReadable found.1 → IsTaskOf found.0 found.1 t) }
-    ensures none { IfNone result ((found : _) → subcommand_rows_of matches.now ≡ Some found → HasNoTask found.0) }
+    ensures none { IfNone result
+        ((found : _) → subcommand_rows_of matches.now ≡ Some found → HasNoTask found.0) }
 {
     let (name, inner) = matches.subcommand()?;
     task_in(name, inner)
@@ -173,8 +178,10 @@ fn named(matches: &ArgMatches<'_>) -> Option<Task>
 pub fn task_of<'a>(alloc: Global, words: &'a [&'a str]) -> Result<Task, CallFault>
     ensures task { IfOk result (NamesTask (subcommand_of dm_app (texts_of words.entry.now))) }
     ensures taken { OnOk result (fault_of dm_app (texts_of words.entry.now) ≡ []) }
-    ensures usage { IsErrOf result CallFault.Usage → fault_of dm_app (texts_of words.entry.now) ≢ [] }
-    ensures takes { takes dm_app (texts_of words.entry.now) ≡ true → ¬ (IsErrOf result CallFault.Usage) }
+    ensures usage { IsErrOf result CallFault.Usage
+        → fault_of dm_app (texts_of words.entry.now) ≢ [] }
+    ensures takes { takes dm_app (texts_of words.entry.now) ≡ true
+        → ¬ (IsErrOf result CallFault.Usage) }
 {
     let command = match command(alloc) {
         Ok(command) => command,
@@ -182,7 +189,7 @@ pub fn task_of<'a>(alloc: Global, words: &'a [&'a str]) -> Result<Task, CallFaul
     };
     match command.try_get_matches_from(words) {
         Err(error) => Err(fault_in(error)),
-        Ok(matches) => match named(&matches) {
+        Ok(matches) => match task_among(&matches) {
             Some(task) => Ok(task),
             None => Err(CallFault::Usage),
         },

@@ -4,16 +4,8 @@ ghost use Rattle.std.specs.Prelude.{◌≡◌};
 ghost use Rattle.dm_tool.specs.Endings.{IsEndingOf};
 ghost use Rattle.dm_tool.specs.inner.CallEndings.{IsEndingOfCall};
 
-use crate::task::{CallFault, RunFault, Tally};
-
-/// The line where a read failed.
-pub(crate) const READ_FAILED: &str = "dm_tool: read failed";
-
-/// The line where a write failed.
-pub(crate) const WRITE_FAILED: &str = "dm_tool: write failed";
-
-/// The line where there was more input than is read.
-pub(crate) const TOO_MUCH_INPUT: &str = "dm_tool: too much input";
+use crate::fault::CallFault;
+use dm_text::{READ_FAILED, RunFault, TOO_MUCH_INPUT, Tally, WRITE_FAILED};
 
 /// The line that shows how the program is called.
 pub(crate) const USAGE: &str =

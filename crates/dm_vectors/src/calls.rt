@@ -6,7 +6,7 @@
 use arrayvec::ArrayVec;
 use dm_code::{encode, syndromes};
 use dm_layout::{Grid, LARGEST_SIDE, MOST_CODEWORDS, Size, Words, table};
-use dm_symbol::{Message, NormalFault, Profile, ReadFault, Reading, TooLong, light_grid};
+use dm_symbol::{Extent, Message, NormalFault, Profile, ReadFault, Reading, TooLong, light_grid};
 use gf301::{Poly, generator};
 
 /// The check codewords of these data codewords, and none where there is no such block.
@@ -140,4 +140,17 @@ pub(crate) fn normal(grid: &Grid, limit: u16) -> Result<Grid, NormalFault> {
 
 pub(crate) fn normal_as(profile: Profile, grid: &Grid, limit: u16) -> Result<Grid, NormalFault> {
     dm_symbol::normal_as(profile, grid, limit)
+}
+
+pub(crate) fn read_as(extent: Extent, grid: &Grid, limit: u16) -> Result<Reading, ReadFault> {
+    dm_symbol::read_as(extent, grid, limit)
+}
+
+pub(crate) fn normal_read_as(
+    extent: Extent,
+    profile: Profile,
+    grid: &Grid,
+    limit: u16,
+) -> Result<Grid, NormalFault> {
+    dm_symbol::normal_read_as(extent, profile, grid, limit)
 }

@@ -11,6 +11,7 @@ use dm_symbol::{
     Item, Message, NormalFault, Profile, ReadFault, Reading, TooLong, WordFault, usual_limit,
 };
 
+mod extents;
 mod hostile;
 mod larger;
 mod places;

@@ -8,8 +8,10 @@ use arrayvec::ArrayVec;
 use dm_layout::Size;
 use dm_words::*;
 
+mod hostile;
 mod places;
 mod shorter;
+mod wide;
 
 /// What the codewords spell, and the fault of no codeword where there are too many of them.
 fn message(words: &[u8]) -> Result<Message, WordFault> {
@@ -291,9 +293,10 @@ fn is_written(message: &Message, word: u8, count: usize) -> bool {
 
 #[test]
 fn fills_a_message(rt: HostRuntime) {
-    let mut digits = of_many(b'7', MOST_ITEMS);
-    assert!(rt; digits.push(Item::Fnc1) == Err(Item::Fnc1));
-    assert!(rt; digits.items().len() == MOST_ITEMS);
+    let mut full = of_many(b'7', MESSAGE_ROOM);
+    assert!(rt; full.push(Item::Fnc1) == Err(Item::Fnc1));
+    assert!(rt; full.items().len() == MESSAGE_ROOM);
+    let digits = of_many(b'7', MOST_ITEMS);
     assert!(rt; is_written(&digits, 207, 816));
     assert!(rt; spells(&[207; 816], digits.items()));
 }

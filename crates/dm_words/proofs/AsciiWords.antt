@@ -5,6 +5,7 @@ use Rattle.std.specs.List.{AllByRecursion}
 use Rattle.std.proofs.lemmas.Bool.Decides.{nat_tests}
 use Rattle.std.proofs.lemmas.List.{append-nil}
 use Rattle.dm_words.specs.declared.codeword.Codeword.TheVariants as codeword
+use Rattle.dm_words.specs.declared.extent.Extent.{Extent}
 use Rattle.dm_words.specs.declared.item.Item.{Item}
 use Rattle.dm_words.specs.declared.item.Item.TheVariants.{Byte, Fnc1}
 use Rattle.dm_words.specs.Codewords.{codeword_of}
@@ -12,7 +13,7 @@ use Rattle.dm_words.specs.Joined.{Piece, spelled, gathered, AreJoined}
 use Rattle.dm_words.specs.Ascii.{IsAsciiUnit, character, digits, fnc1, raised, is_digit, digit_pair, single, ascii, IsOneDigit, BeginsWithDigit, IsGreedy, IsAscii}
 use Rattle.dm_words.specs.Pads.{further_pads, pads, padded}
 use Rattle.dm_words.specs.Base256.{AreBytes}
-use Rattle.dm_words.specs.Spells.{IsPart, ascii as ascii_part, IsEnd, nothing, pad, Spells}
+use Rattle.dm_words.specs.Spells.{IsPart, ascii as ascii_part, IsEnd, nothing, pad, plain, Spells}
 use Rattle.dm_words.specs.Messages.{IsItem}
 use Rattle.dm_words.proofs.Segments.{AreBytes-append}
 
@@ -102,9 +103,9 @@ units_of (Byte b ∷ Byte c ∷ m) fit = both (is_digit b) (is_digit c) refl ref
   both false t es et h k = one_more (single b) (Byte b ∷ []) (Byte c ∷ m) (ascii (Byte c ∷ m)) (single_spells b fit.0 []) (not_both b c false t es et refl) k
 
 -- Units are parts wherever they stand.
-joined_units : (place : ℕ) (us : List (Piece (List Item))) (after : List ℕ) → AllByRecursion (λ u. IsAsciiUnit u.words u.what) us → AreJoined IsPart place us after
-joined_units place [] after h = tt
-joined_units place (u ∷ us) after h = (ascii_part h.0, joined_units (place + length u.words) us after h.1)
+joined_units : (extent : Extent) (place : ℕ) (us : List (Piece (List Item))) (after : List ℕ) → AllByRecursion (λ u. IsAsciiUnit u.words u.what) us → AreJoined (IsPart extent) place us after
+joined_units extent place [] after h = tt
+joined_units extent place (u ∷ us) after h = (ascii_part h.0, joined_units extent (place + length u.words) us after h.1)
 
 -- Pads are an end.
 pub pads_end : (place n : ℕ) → IsEnd (pads place n)
@@ -112,11 +113,11 @@ pads_end place zero = nothing refl
 pads_end place (suc n) = pad 129 (further_pads (place + 1) n) refl refl
 
 -- The form by the front of a message, with pads, spells it.
-pub ascii_spells : (m : List Item) (count : ℕ) → AreItems m → Spells (padded (ascii m) count) m
-ascii_spells m count fit =
+pub ascii_spells : (extent : Extent) (m : List Item) (count : ℕ) → AreItems m → Spells extent (padded (ascii m) count) m
+ascii_spells extent m count fit =
     let h = units_of m fit in
     let after = pads (length (ascii m) + 1) (count - length (ascii m)) in
-    record { parts = h.units; after = after; whole = ap (λ (r : List ℕ). r ++ after) h.whole; joined = joined_units 1 h.units after h.each; ended = pads_end (length (ascii m) + 1) (count - length (ascii m)); items = h.items }
+    plain (record { parts = h.units; after = after; whole = ap (λ (r : List ℕ). r ++ after) h.whole; joined = joined_units extent 1 h.units after h.each; ended = pads_end (length (ascii m) + 1) (count - length (ascii m)); items_are = h.items })
 
 -- The form by the front of a message is its ASCII form.
 pub is_ascii : (m : List Item) → AreItems m → IsAscii m (ascii m)

@@ -1,8 +1,9 @@
 -- What codewords spell is a message: its bytes are 0 to 255.
-use Rattle.std.proofs.Common.{◌≡◌, ℕ, ◌+◌, ◌<◌, List, [], ◌∷◌, ◌++◌, length, sym, subst, arith, Some}
+use Rattle.std.proofs.Common.{◌≡◌, ℕ, ◌+◌, ◌<◌, List, [], ◌∷◌, ◌++◌, length, map, sym, subst, arith, Some, Bool, true, false, cond, ltb}
 use Rattle.std.specs.List.{AllByRecursion}
 use Rattle.std.proofs.lemmas.Bool.Decides.{nat_tests}
 use Rattle.std.proofs.lemmas.List.Elements.{All-from_recursion}
+use Rattle.dm_words.specs.declared.extent.Extent.{Extent}
 use Rattle.dm_words.specs.declared.item.Item.{Item}
 use Rattle.dm_words.specs.declared.c40.set.CodeSet.{CodeSet}
 use Rattle.dm_words.specs.declared.c40.set.CodeSet.TheVariants.{C40, Text, X12}
@@ -16,8 +17,12 @@ use Rattle.dm_words.specs.Messages.{IsItem, IsMessage}
 use Rattle.dm_words.specs.Ascii.{IsAsciiUnit, character, digits, fnc1, raised}
 use Rattle.dm_words.specs.Values.{IsCharacter, plain, by_shift, IsSpelling}
 use Rattle.dm_words.specs.Values as values
+use Rattle.dm_words.specs.declared.codeword.Codeword.TheVariants as codeword
+use Rattle.dm_words.specs.Codewords.{codeword_of}
 use Rattle.dm_words.specs.Base256.{AreBytes, byte_items}
-use Rattle.dm_words.specs.Spells.{IsPart, ascii, run, segment, Spells}
+use Rattle.dm_words.specs.Edifact.{IsGroup, edifact_byte, IsEdifactEnd, border, first, second, third, fourth}
+use Rattle.dm_words.specs.Macros.{macro_header, macro_trailer, macro_text}
+use Rattle.dm_words.specs.Spells.{IsPart, ascii, run, segment, edifact, AreParts, plain as plain_parts, by_macro, Spells}
 use Rattle.dm_words.proofs.AsciiWords.{AreItems, character_is, digits_are}
 
 -- A byte of a basic set is below 128.
@@ -64,11 +69,50 @@ unit_items words items (digits w n k e i) = let is = digits_are w n k in rw i (o
 unit_items words items (fnc1 w k e i) = rw i (omega arith, tt)
 unit_items words items (raised s w b k l e i) = let is = character_is w b l in rw i (omega (arith, is.1), tt)
 
+-- Each value is below 64.
+abbrev AreSixBits : List ℕ → Type 0
+AreSixBits values = AllByRecursion (λ v. v < 64) values
+
+-- Two lists of values below 64, joined, are such a list.
+small-append : (a b : List ℕ) → AreSixBits a → AreSixBits b → AreSixBits (a ++ b)
+small-append [] b ha hb = hb
+small-append (v ∷ a) b ha hb = (ha.0, small-append a b ha.1 hb)
+
+-- The values of a group are below 64.
+group_small : (words values : List ℕ) → IsGroup words values → AreSixBits values
+group_small words values g = rw g.values_are (g.first_small, (g.second_small, (g.third_small, (g.fourth_small, tt))))
+
+-- The values of groups are below 64.
+groups_small : (ps : List (Piece (List ℕ))) → AllByRecursion (λ p. IsGroup p.words p.what) ps → AreSixBits (gathered ps)
+groups_small [] h = tt
+groups_small (p ∷ ps) h = small-append p.what (gathered ps) (group_small p.words p.what h.0) (groups_small ps h.1)
+
+-- The values before an unlatch are below 64.
+end_small : (end after last : List ℕ) → IsEdifactEnd end after last → AreSixBits last
+end_small end after last (border w v le) = rw v tt
+end_small end after last (first word rest is lt w v le) = rw v tt
+end_small end after last (second high low value rest small six is lt w v le) = rw v (six, tt)
+end_small end after last (third one two rest g v) = let s = group_small end _ g in rw v (s.0, (s.1.0, tt))
+end_small end after last (fourth one two three g v) = let s = group_small end _ g in rw v (s.0, (s.1.0, (s.1.1.0, tt)))
+
+-- The byte of a value below 64 is below 128.
+edifact_byte_small : (v : ℕ) → v < 64 → edifact_byte v < 256
+edifact_byte_small v lt = by_test (ltb v 31) where
+  by_test : (t : Bool) → cond t (v + 64) v < 256
+  by_test true = omega (arith, lt)
+  by_test false = omega (arith, lt)
+
+-- The bytes of values below 64 are items.
+edifact_values_items : (vs : List ℕ) → AreSixBits vs → AreItems (byte_items (map edifact_byte vs))
+edifact_values_items [] h = tt
+edifact_values_items (v ∷ vs) h = (edifact_byte_small v h.0, edifact_values_items vs h.1)
+
 -- The items of a part are items.
-part_items : (place : ℕ) (words after : List ℕ) (items : List Item) → IsPart place words after items → AreItems items
-part_items place words after items (ascii u) = unit_items words items u
-part_items place words after items (run set r) = rw r.values.items_are (spellings_items set r.values.spellings r.values.each)
-part_items place words after items (segment s) = rw s.items_are (bytes_items s.bytes s.in_range)
+part_items : (extent : Extent) (place : ℕ) (words after : List ℕ) (items : List Item) → IsPart extent place words after items → AreItems items
+part_items extent place words after items (ascii u) = unit_items words items u
+part_items extent place words after items (run set r) = rw r.values.items_are (spellings_items set r.values.spellings r.values.each)
+part_items extent place words after items (segment s) = rw s.items_are (bytes_items s.bytes s.in_range)
+part_items extent place words after items (edifact is r) = rw r.items_are (edifact_values_items (gathered r.groups ++ r.last) (small-append (gathered r.groups) r.last (groups_small r.groups r.each) (end_small r.end after r.last r.ended)))
 
 -- Items, joined, are items.
 items-append : (a b : List Item) → AreItems a → AreItems b → AreItems (a ++ b)
@@ -76,10 +120,34 @@ items-append [] b ha hb = hb
 items-append (i ∷ a) b ha hb = (ha.0, items-append a b ha.1 hb)
 
 -- The items of all parts are items.
-parts_items : (place : ℕ) (ps : List (Piece (List Item))) (after : List ℕ) → AreJoined IsPart place ps after → AreItems (gathered ps)
-parts_items place [] after h = tt
-parts_items place (p ∷ ps) after h = items-append p.what (gathered ps) (part_items place p.words (spelled ps ++ after) p.what h.0) (parts_items (place + length p.words) ps after h.1)
+parts_items : (extent : Extent) (place : ℕ) (ps : List (Piece (List Item))) (after : List ℕ) → AreJoined (IsPart extent) place ps after → AreItems (gathered ps)
+parts_items extent place [] after h = tt
+parts_items extent place (p ∷ ps) after h = items-append p.what (gathered ps) (part_items extent place p.words (spelled ps ++ after) p.what h.0) (parts_items extent (place + length p.words) ps after h.1)
+
+-- The digit of a macro is a byte.
+macro_byte : (w digit : ℕ) → codeword_of w ≡ Some (codeword.Macro digit) → digit < 256
+macro_byte w digit e = grind (arith, nat_tests)
+
+-- The items of all parts from a place on are items.
+items_of_parts : (extent : Extent) (place : ℕ) (words : List ℕ) (m : List Item) → AreParts extent place words m → AreItems m
+items_of_parts extent place words m s = subst AreItems (sym s.items_are) (parts_items extent place s.parts s.after s.joined)
+
+-- The text of a macro is made of items, where its digit is a byte and what stands between the header and the trailer is.
+macro_items : (digit : ℕ) (text : List Item) → digit < 256 → AreItems text → AreItems (macro_text digit text)
+macro_items digit text lt h =
+    items-append (macro_header digit) (text ++ macro_trailer)
+    (omega arith, (omega arith, (omega arith, (omega arith, (omega arith, (lt, (omega arith, tt)))))))
+    (items-append text macro_trailer h (omega arith, (omega arith, tt)))
+
+-- What words spell are items.
+spelled_items : (extent : Extent) (words : List ℕ) (m : List Item) → Spells extent words m → AreItems m
+spelled_items extent words m (plain_parts p) = items_of_parts extent 1 words m p
+spelled_items extent words m (by_macro word digit more text wide k whole p is) = rw is (macro_items digit text (macro_byte word digit k) (items_of_parts extent 2 more text p))
+
+-- The text of a macro is a message, where what stands between the header and the trailer is spelled.
+pub macro_text_is_message : (extent : Extent) (place word digit : ℕ) (words : List ℕ) (text : List Item) → codeword_of word ≡ Some (codeword.Macro digit) → AreParts extent place words text → IsMessage (macro_text digit text)
+macro_text_is_message extent place word digit words text k p = All-from_recursion IsItem (macro_text digit text) (macro_items digit text (macro_byte word digit k) (items_of_parts extent place words text p))
 
 -- What words spell is a message.
-pub spelled_is_message : (words : List ℕ) (m : List Item) → Spells words m → IsMessage m
-spelled_is_message words m s = All-from_recursion IsItem m (subst AreItems (sym s.items) (parts_items 1 s.parts s.after s.joined))
+pub spelled_is_message : (extent : Extent) (words : List ℕ) (m : List Item) → Spells extent words m → IsMessage m
+spelled_is_message extent words m s = All-from_recursion IsItem m (spelled_items extent words m s)

@@ -1,26 +1,39 @@
 -- The laws, as lemmas with the same statements.
-use Rattle.std.proofs.Common.{◌≡◌, ℕ, ◌<◌, ◌≤◌, ◌↔◌, List, length, sym, subst}
+use Rattle.std.proofs.Common.{◌≡◌, ℕ, ◌<◌, ◌≤◌, ◌↔◌, List, length, refl, sym, subst}
 use Rattle.std.proofs.lemmas.List.Elements.{recursion_from_All, All-from_recursion}
+use Rattle.dm_words.specs.declared.extent.Extent.{Extent}
+use Rattle.dm_words.specs.declared.extent.Extent.TheVariants.{Wide}
 use Rattle.dm_words.specs.declared.item.Item.{Item}
 use Rattle.dm_words.specs.declared.c40.set.CodeSet.{CodeSet}
 use Rattle.dm_words.specs.Messages.{IsItem, IsMessage}
 use Rattle.dm_words.specs.Ascii.{ascii, IsAscii}
 use Rattle.dm_words.specs.Pads.{padded}
 use Rattle.dm_words.specs.Values.{IsRest}
-use Rattle.dm_words.specs.Spells.{Spells}
-use Rattle.dm_words.specs.Laws.{HasOneAnswer, AreCodewords, AreRunValues, BeginsNoSpelling}
+use Rattle.dm_words.specs.Macros.{macro_text}
+use Rattle.dm_words.specs.Spells.{by_macro, Spells}
+use Rattle.dm_words.specs.Laws.{HasOneAnswer, AreCodewords, AreRunValues, BeginsNoSpelling, AreMacro}
 use Rattle.dm_words.proofs.WholeReading as reading
 use Rattle.dm_words.proofs.AsciiWords as form
+use Rattle.dm_words.proofs.ItemBytes.{macro_text_is_message}
 use Rattle.dm_words.proofs.PadWords.{length-padded, padded_bytes}
 use Rattle.dm_words.proofs.Values.{rest_begins_no_spelling, no_spelling_is_rest}
 
 -- Codewords spell one message or are refused with one fault.
-pub one_answer : (words : List ℕ) → AreCodewords words → HasOneAnswer words
-one_answer words fit = reading.one_answer words (recursion_from_All (λ w. w < 256) words fit)
+pub one_answer : (extent : Extent) (words : List ℕ) → AreCodewords words → HasOneAnswer extent words
+one_answer extent words fit = reading.one_answer extent words (recursion_from_All (λ w. w < 256) words fit)
 
 -- The ASCII form of a message with pads spells it.
-pub ascii_spells : (m : List Item) (count : ℕ) → IsMessage m → length (ascii m) ≤ count → Spells (padded (ascii m) count) m
-ascii_spells m count fit le = form.ascii_spells m count (recursion_from_All IsItem m fit)
+pub ascii_spells : (extent : Extent) (m : List Item) (count : ℕ) → IsMessage m → length (ascii m) ≤ count → Spells extent (padded (ascii m) count) m
+ascii_spells extent m count fit le = form.ascii_spells extent m count (recursion_from_All IsItem m fit)
+
+-- A macro spells its text in the wide extent.
+pub macro_short : (digit : ℕ) (words : List ℕ) (text : List Item) → AreMacro digit words text → Spells Wide words (macro_text digit text)
+macro_short digit words text m = by_macro m.word digit m.more text refl m.is_macro m.whole m.spelled refl
+
+-- The text of a macro, written out in ASCII, spells the same.
+pub macro_written_out : (digit count : ℕ) (words : List ℕ) (text : List Item) → AreMacro digit words text → length (ascii (macro_text digit text)) ≤ count
+    → Spells Wide (padded (ascii (macro_text digit text)) count) (macro_text digit text)
+macro_written_out digit count words text m le = ascii_spells Wide (macro_text digit text) count (macro_text_is_message Wide 2 m.word digit m.more text m.is_macro m.spelled) le
 
 -- The ASCII form with pads up to a count has that many codewords.
 pub ascii_count : (m : List Item) (count : ℕ) → length (ascii m) ≤ count → length (padded (ascii m) count) ≡ count

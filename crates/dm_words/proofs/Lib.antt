@@ -3,15 +3,18 @@ mod Values
 mod Pairs
 mod Runs
 mod Segments
+mod Groups
 mod Parts
 mod WholeReading
 mod PartLoops
 mod RunLoops
 mod SegmentLoops
+mod GroupLoops
 mod AsciiWords
 mod UnitLoops
 mod PadWords
 mod NormalForms
 mod ItemBytes
+mod Extents
 mod LawLemmas
 pub mod Exported

@@ -6,6 +6,7 @@ use Rattle.std.proofs.lemmas.List.{append-nil, length-append, length-map, length
 use Rattle.std.proofs.Math.Seq.{take-suc}
 use Rattle.std.proofs.lemmas.List.Elements.{recursion_from_All, All-from_recursion}
 use Rattle.dm_layout.specs.Sizes.{most_data}
+use Rattle.dm_words.specs.declared.extent.Extent.{Extent}
 use Rattle.dm_words.specs.declared.item.Item.{Item}
 use Rattle.dm_words.specs.declared.item.Item.TheVariants.{Byte, Fnc1}
 use Rattle.dm_words.specs.declared.profile.Profile.{Profile}
@@ -16,7 +17,7 @@ use Rattle.dm_words.specs.Ascii.{is_digit, digit_pair, single, ascii}
 use Rattle.dm_words.specs.Pads.{pads, padded}
 use Rattle.dm_words.specs.Base256.{written, randomised, AreBytes, byte_items, IsLengthField, short, long, IsSegment}
 use Rattle.dm_words.specs.NormalForm.{has_fnc1, length_numbers, one_segment, shorter, normal_form}
-use Rattle.dm_words.specs.Spells.{segment, Spells}
+use Rattle.dm_words.specs.Spells.{segment, plain, Spells}
 use Rattle.dm_words.specs.Laws.{AreCodewords}
 use Rattle.dm_words.proofs.Segments.{length-written, written-append}
 use Rattle.dm_words.proofs.AsciiWords.{AreItems, pads_end, ascii_bytes}
@@ -62,8 +63,8 @@ bytes_of_items (i ∷ m) fit = (fit.0, bytes_of_items m fit.1)
 -- ---- the segment spells the message
 
 -- One segment of the bytes of a message, and whatever pads stand behind it, spell the message.
-segment_spells : (m : List Item) (count : ℕ) → AreItems m → has_fnc1 m ≡ false → 0 < length m → length m < 1750 → Spells (padded (one_segment (map byte_of m)) count) m
-segment_spells m count fit none some few =
+segment_spells : (extent : Extent) (m : List Item) (count : ℕ) → AreItems m → has_fnc1 m ≡ false → 0 < length m → length m < 1750 → Spells extent (padded (one_segment (map byte_of m)) count) m
+segment_spells extent m count fit none some few =
     let bytes = map byte_of m in
     let words = one_segment bytes in
     let after = pads (length words + 1) (count - length words) in
@@ -79,14 +80,14 @@ segment_spells m count fit none some few =
       items_are = bytes_are_items m none;
     } in
     let p : Piece (List Item) = record { words = words; what = m } in
-    record {
+    plain (record {
       parts = p ∷ [];
       after = after;
       joined = (segment is, tt);
       ended = pads_end (length words + 1) (count - length words);
       whole = ap (λ (r : List ℕ). r ++ after) (sym (append-nil words));
-      items = sym (append-nil m);
-    }
+      items_are = sym (append-nil m);
+    })
 
 -- ---- which of the two is taken
 
@@ -138,21 +139,21 @@ some_items [] lt = absurd (omega arith)
 some_items (i ∷ m) lt = omega arith
 
 -- The shorter form with pads spells the message.
-shorter_spells : (m : List Item) (count : ℕ) → IsMessage m → length (shorter m) ≤ count → count ≤ most_data → Spells (padded (shorter m) count) m
-shorter_spells m count fit le most =
+shorter_spells : (extent : Extent) (m : List Item) (count : ℕ) → IsMessage m → length (shorter m) ≤ count → count ≤ most_data → Spells extent (padded (shorter m) count) m
+shorter_spells extent m count fit le most =
     let items = recursion_from_All IsItem m fit in
     elim (segment_or_ascii m) [
       | inl s ↦
           let few : length m < 1750 = omega (arith, ap length s.is, length-one_segment (map byte_of m), length-map m byte_of) in
-          subst (λ (w : List ℕ). Spells (padded w count) m) (sym s.is) (segment_spells m count items s.none (some_items m s.less) few)
-      | inr e ↦ subst (λ (w : List ℕ). Spells (padded w count) m) (sym e) (form.ascii_spells m count items)
+          subst (λ (w : List ℕ). Spells extent (padded w count) m) (sym s.is) (segment_spells extent m count items s.none (some_items m s.less) few)
+      | inr e ↦ subst (λ (w : List ℕ). Spells extent (padded w count) m) (sym e) (form.ascii_spells extent m count items)
     ]
 
 -- The normal form with pads spells the message.
-pub normal_form_spells : (profile : Profile) (m : List Item) (count : ℕ) → IsMessage m → length (normal_form profile m) ≤ count → count ≤ most_data
-    → Spells (padded (normal_form profile m) count) m
-normal_form_spells Ascii m count fit le most = form.ascii_spells m count (recursion_from_All IsItem m fit)
-normal_form_spells Shorter m count fit le most = shorter_spells m count fit le most
+pub normal_form_spells : (extent : Extent) (profile : Profile) (m : List Item) (count : ℕ) → IsMessage m → length (normal_form profile m) ≤ count → count ≤ most_data
+    → Spells extent (padded (normal_form profile m) count) m
+normal_form_spells extent Ascii m count fit le most = form.ascii_spells extent m count (recursion_from_All IsItem m fit)
+normal_form_spells extent Shorter m count fit le most = shorter_spells extent m count fit le most
 
 -- The normal form with pads up to a count has that many codewords.
 pub normal_form_count : (profile : Profile) (m : List Item) (count : ℕ) → length (normal_form profile m) ≤ count → length (padded (normal_form profile m) count) ≡ count

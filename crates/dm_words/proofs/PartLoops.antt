@@ -1,6 +1,7 @@
 -- The loop that reads one part after the other.
 use Rattle.std.proofs.Common.{◌≡◌, ℕ, suc, ◌+◌, ◌*◌, ◌<◌, ◌≤◌, List, ◌++◌, length, drop, sym, ap, ◌∙◌, append_assoc, arith, Option, Some, None, Result, Ok}
 use Rattle.std.proofs.lemmas.List.{append-nil, length-drop, length-append, drop-drop}
+use Rattle.dm_words.specs.declared.extent.Extent.{Extent}
 use Rattle.dm_words.specs.declared.item.Item.{Item}
 use Rattle.dm_words.specs.declared.fault.WordFault.{WordFault}
 use Rattle.dm_words.specs.inner.Scan.Walk.{Takes, Stops, walk, flat}
@@ -16,27 +17,27 @@ read_to-append : (x y : List Item) (rest : List (List Item)) (why : Option WordF
 read_to-append x y rest why = ap (λ (i : List Item). read_to i why) (sym (append_assoc x y (flat rest)))
 
 -- Reading on takes the part at the front.
-pub read_on-takes : (so_far : List Item) (place : ℕ) (words : List ℕ) (n : ℕ) (items : List Item) → IsBytes words → part_front place words ≡ Takes n items
-    → read_on so_far place words ≡ read_on (so_far ++ items) (place + n) (drop n words)
+pub read_on-takes : (extent : Extent) (so_far : List Item) (place : ℕ) (words : List ℕ) (n : ℕ) (items : List Item) → IsBytes words → part_front extent place words ≡ Takes n items
+    → read_on extent so_far place words ≡ read_on extent (so_far ++ items) (place + n) (drop n words)
 unfolding read_on walk
-read_on-takes so_far place words n items fit e =
-    let r = part_sound.right place words n items fit e in
-    let w = walk-fuel part_front IsPart IsBytes None part_sound (length words) (suc (length (drop n words))) (place + n) (drop n words) (omega (arith, r.1, r.2, length-drop n words)) (omega arith) (part_sound.fits n words fit) in
-    rw (e, w) (read_to-append so_far items (walk part_front None (suc (length (drop n words))) (place + n) (drop n words)).taken (walk part_front None (suc (length (drop n words))) (place + n) (drop n words)).why)
+read_on-takes extent so_far place words n items fit e =
+    let r = (part_sound extent).right place words n items fit e in
+    let w = walk-fuel (part_front extent) (IsPart extent) IsBytes None (part_sound extent) (length words) (suc (length (drop n words))) (place + n) (drop n words) (omega (arith, r.1, r.2, length-drop n words)) (omega arith) ((part_sound extent).fits n words fit) in
+    rw (e, w) (read_to-append so_far items (walk (part_front extent) None (suc (length (drop n words))) (place + n) (drop n words)).taken (walk (part_front extent) None (suc (length (drop n words))) (place + n) (drop n words)).why)
 
 -- Reading on stops where no part stands.
-pub read_on-stops : (so_far : List Item) (place : ℕ) (words : List ℕ) (why : Option WordFault) → part_front place words ≡ Stops why → read_on so_far place words ≡ read_to so_far why
+pub read_on-stops : (extent : Extent) (so_far : List Item) (place : ℕ) (words : List ℕ) (why : Option WordFault) → part_front extent place words ≡ Stops why → read_on extent so_far place words ≡ read_to so_far why
 unfolding read_on walk
-read_on-stops so_far place words why e = rw e (ap (λ (i : List Item). read_to i why) (append-nil so_far))
+read_on-stops extent so_far place words why e = rw e (ap (λ (i : List Item). read_to i why) (append-nil so_far))
 
 -- After a turn of the loop that takes a part, what is read in all is still the same.
-pub goes_on : (words : List ℕ) (at n : ℕ) (old new : List Item) (total : Result (List Item) WordFault) → IsBytes words → at ≤ length words → length old ≤ 2 * at
-    → IsPartTakenOrEnd (Ok (Some n)) old new (part_front (at + 1) (drop at words)) → read_on old (at + 1) (drop at words) ≡ total
-    → (at + n ≤ length words) × (length new ≤ 2 * (at + n)) × (0 < n) × (read_on new (at + n + 1) (drop (at + n) words) ≡ total)
-goes_on words at n old new total fit in_range room took so_far =
+pub goes_on : (extent : Extent) (words : List ℕ) (start at n : ℕ) (first old new : List Item) (total : Result (List Item) WordFault) → IsBytes words → at ≤ length words → start ≤ at → length old + 2 * start ≤ length first + 2 * at
+    → IsPartTakenOrEnd (Ok (Some n)) old new (part_front extent (at + 1) (drop at words)) → read_on extent old (at + 1) (drop at words) ≡ total
+    → (at + n ≤ length words) × (length new + 2 * start ≤ length first + 2 * (at + n)) × (0 < n) × (read_on extent new (at + n + 1) (drop (at + n) words) ≡ total)
+goes_on extent words start at n first old new total fit in_range from room took so_far =
     let items = took.0 in
-    let r = part_room (at + 1) (drop at words) n items (part_sound.fits at words fit) took.1 in
-    let one = read_on-takes old (at + 1) (drop at words) n items (part_sound.fits at words fit) took.1 in
+    let r = part_room extent (at + 1) (drop at words) n items ((part_sound extent).fits at words fit) took.1 in
+    let one = read_on-takes extent old (at + 1) (drop at words) n items ((part_sound extent).fits at words fit) took.1 in
     let place : (at + 1) + n ≡ at + n + 1 = omega arith in
     let rest : drop n (drop at words) ≡ drop (at + n) words = drop-drop n at words in (
       omega (arith, r.2, length-drop at words),
@@ -46,6 +47,6 @@ goes_on words at n old new total fit in_range room took so_far =
     )
 
 -- At the end of the loop, what is read in all is what was read so far.
-pub stops_on : (words : List ℕ) (at : ℕ) (old : List Item) (why : Option WordFault) (total : Result (List Item) WordFault)
-    → part_front (at + 1) (drop at words) ≡ Stops why → read_on old (at + 1) (drop at words) ≡ total → total ≡ read_to old why
-stops_on words at old why total e so_far = sym so_far ∙ read_on-stops old (at + 1) (drop at words) why e
+pub stops_on : (extent : Extent) (words : List ℕ) (at : ℕ) (old : List Item) (why : Option WordFault) (total : Result (List Item) WordFault)
+    → part_front extent (at + 1) (drop at words) ≡ Stops why → read_on extent old (at + 1) (drop at words) ≡ total → total ≡ read_to old why
+stops_on extent words at old why total e so_far = sym so_far ∙ read_on-stops extent old (at + 1) (drop at words) why e

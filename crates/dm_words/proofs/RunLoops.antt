@@ -8,6 +8,7 @@ use Rattle.dm_words.specs.declared.c40.pair.PairsEnd.{PairsEnd}
 use Rattle.dm_words.specs.declared.c40.pair.PairsEnd.TheVariants as stop
 use Rattle.dm_words.specs.declared.c40.value.Rest.{Rest}
 use Rattle.dm_words.specs.declared.c40.value.Rest.TheVariants as left
+use Rattle.dm_words.specs.declared.extent.Extent.{Extent}
 use Rattle.dm_words.specs.declared.item.Item.{Item}
 use Rattle.dm_words.specs.declared.fault.WordFault.{WordFault}
 use Rattle.dm_words.specs.inner.Scan.Walk.{Takes, Stops, Walked, and_before, flat}
@@ -77,12 +78,12 @@ items_stop set values at first old k total e so_far =
     record { values = sym (before.values ∙ append-nil old); place_is = sym before.place_is; why_is = sym before.why_is }
 
 -- What stands behind a latch at a place is known from what the two loops found in the words behind it.
-pub run_is : (set : CodeSet) (place : ℕ) (words values : List ℕ) (count : ℕ) (t : PairsEnd) (read : ℕ) (k : Rest) (f : Option WordFault)
+pub run_is : (extent : Extent) (set : CodeSet) (place : ℕ) (words values : List ℕ) (count : ℕ) (t : PairsEnd) (read : ℕ) (k : Rest) (f : Option WordFault)
     → (let part = take (length words - place) (drop place words) in (values ≡ flat (pairs_in part).taken) × (count ≡ (pairs_in part).place) × (t ≡ (pairs_in part).why))
-    → read ≡ (items_in set values).place → k ≡ (items_in set values).why → run_fault place count t read k ≡ f
-    → run_front set place (drop place words) ≡ run_unless f (1 + count + end_length t) (items_in set values).taken
+    → read ≡ (items_in set values).place → k ≡ (items_in set values).why → run_fault extent place count t read k ≡ f
+    → run_front extent set place (drop place words) ≡ run_unless f (1 + count + end_length t) (items_in set values).taken
 unfolding run_front
-run_is set place words values count t read k f pairs r kk e =
+run_is extent set place words values count t read k f pairs r kk e =
     let all : take (length words - place) (drop place words) ≡ drop place words = take_all _ (drop place words) (omega (arith, length-drop place words)) in
     let here : (values ≡ flat (pairs_in (drop place words)).taken) × (count ≡ (pairs_in (drop place words)).place) × (t ≡ (pairs_in (drop place words)).why) = rw all at pairs in
     rw (← e, r, kk, here.1, here.2, here.0) refl

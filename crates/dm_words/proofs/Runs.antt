@@ -8,12 +8,14 @@ use Rattle.dm_words.specs.declared.c40.pair.PairsEnd.{PairsEnd}
 use Rattle.dm_words.specs.declared.c40.pair.PairsEnd.TheVariants as stop
 use Rattle.dm_words.specs.declared.c40.value.Rest.{Rest}
 use Rattle.dm_words.specs.declared.c40.value.Rest.TheVariants as left
+use Rattle.dm_words.specs.declared.extent.Extent.{Extent}
+use Rattle.dm_words.specs.declared.extent.Extent.TheVariants.{Usual, Wide}
 use Rattle.dm_words.specs.declared.item.Item.{Item}
 use Rattle.dm_words.specs.declared.fault.WordFault.{WordFault}
 use Rattle.dm_words.specs.Codewords.{codeword_of}
 use Rattle.dm_words.specs.Joined.{Piece, spelled, gathered, whats, AreJoined}
 use Rattle.dm_words.specs.declared.fault.WordFault.TheVariants as fault
-use Rattle.dm_words.specs.Values.{IsSpelling, IsFiller, AreValues}
+use Rattle.dm_words.specs.Values.{IsSpelling, IsDropped, filler, waiting, AreValues}
 use Rattle.dm_words.specs.Runs.{IsPair, IsRunEnd, unlatch, symbol_end, last_word, IsRun}
 use Rattle.dm_words.specs.RunFaults.{EndsRun, BeginsBadPair, StopsPairs, OpenRun, pair_place, IsRunFault, value, upper_shift, triplet, unfinished, IsFaultyRun}
 use Rattle.dm_words.specs.inner.Scan.Walk.{Step, Takes, Stops, Walked, flat}
@@ -41,16 +43,19 @@ module _ {A : Type 0} (R : List ℕ → A → Type 0) where
 
 -- ---- what is found is right
 
--- A run has no fault only where its rest is complete and no bad pair follows.
-no_fault : (place n values : ℕ) (t : PairsEnd) (k : Rest) → run_fault place n t values k ≡ None → (k ≡ left.Complete) × (t ≢ stop.BadPair)
-no_fault place n values t (left.Meaningless i) e = absurd cc
-no_fault place n values t left.WrongUpperShift e = absurd cc
-no_fault place n values stop.BadPair left.Waiting e = absurd cc
-no_fault place n values stop.SymbolEnd left.Waiting e = absurd cc
-no_fault place n values stop.Unlatch left.Waiting e = absurd cc
-no_fault place n values stop.BadPair left.Complete e = absurd cc
-no_fault place n values stop.SymbolEnd left.Complete e = (refl, λ h. cc)
-no_fault place n values stop.Unlatch left.Complete e = (refl, λ h. cc)
+-- A run has no fault only where its rest is dropped and no bad pair follows.
+no_fault : (extent : Extent) (set : CodeSet) (rest : List ℕ) (place n values : ℕ) (t : PairsEnd) (k : Rest) → IsRestOf set rest k → run_fault extent place n t values k ≡ None
+    → IsDropped extent set rest × (t ≢ stop.BadPair)
+no_fault extent set rest place n values t (left.Meaningless i) r e = absurd cc
+no_fault extent set rest place n values t left.WrongUpperShift r e = absurd cc
+no_fault extent set rest place n values stop.BadPair left.Waiting r e = absurd cc
+no_fault Usual set rest place n values stop.SymbolEnd left.Waiting r e = absurd cc
+no_fault Usual set rest place n values stop.Unlatch left.Waiting r e = absurd cc
+no_fault Wide set rest place n values stop.SymbolEnd left.Waiting r e = (waiting refl r, λ h. cc)
+no_fault Wide set rest place n values stop.Unlatch left.Waiting r e = (waiting refl r, λ h. cc)
+no_fault extent set rest place n values stop.BadPair left.Complete r e = absurd cc
+no_fault extent set rest place n values stop.SymbolEnd left.Complete r e = (filler r, λ h. cc)
+no_fault extent set rest place n values stop.Unlatch left.Complete r e = (filler r, λ h. cc)
 
 -- The pairs stop where they end or before a bad one.
 stops_pairs : (words : List ℕ) (t : PairsEnd) → IsStop words t → StopsPairs words
@@ -79,15 +84,17 @@ open_run place pair_words others spelled_values rest =
     record { place = place; pair_words = pair_words; others = others; spelled_values = spelled_values; rest = rest }
 
 -- The fault that is found is the one that is there.
-fault_is : (set : CodeSet) (place n values : ℕ) (t : PairsEnd) (k : Rest) (rest words : List ℕ) (f : WordFault) → IsRestOf set rest k → IsStop words t → run_fault place n t values k ≡ Some f → IsRunFault set (open_run place n words values rest) f
-fault_is set place n values t (left.Meaningless i) rest words f r s e = value i r (stops_pairs words t s) cc
-fault_is set place n values t left.WrongUpperShift rest words f r s e = upper_shift r (stops_pairs words t s) cc
-fault_is set place n values stop.BadPair left.Waiting rest words f r s e = triplet (inr r) (bad_pair words _ s refl) cc
-fault_is set place n values stop.BadPair left.Complete rest words f r s e = triplet (inl r) (bad_pair words _ s refl) cc
-fault_is set place n values stop.SymbolEnd left.Waiting rest words f r s e = unfinished r (no_bad_pair words _ s (λ h. cc)) cc
-fault_is set place n values stop.Unlatch left.Waiting rest words f r s e = unfinished r (no_bad_pair words _ s (λ h. cc)) cc
-fault_is set place n values stop.SymbolEnd left.Complete rest words f r s e = absurd cc
-fault_is set place n values stop.Unlatch left.Complete rest words f r s e = absurd cc
+fault_is : (extent : Extent) (set : CodeSet) (place n values : ℕ) (t : PairsEnd) (k : Rest) (rest words : List ℕ) (f : WordFault) → IsRestOf set rest k → IsStop words t → run_fault extent place n t values k ≡ Some f → IsRunFault extent set (open_run place n words values rest) f
+fault_is extent set place n values t (left.Meaningless i) rest words f r s e = value i r (stops_pairs words t s) cc
+fault_is extent set place n values t left.WrongUpperShift rest words f r s e = upper_shift r (stops_pairs words t s) cc
+fault_is extent set place n values stop.BadPair left.Waiting rest words f r s e = triplet (inr r) (bad_pair words _ s refl) cc
+fault_is extent set place n values stop.BadPair left.Complete rest words f r s e = triplet (inl r) (bad_pair words _ s refl) cc
+fault_is Usual set place n values stop.SymbolEnd left.Waiting rest words f r s e = unfinished refl r (no_bad_pair words _ s (λ h. cc)) cc
+fault_is Usual set place n values stop.Unlatch left.Waiting rest words f r s e = unfinished refl r (no_bad_pair words _ s (λ h. cc)) cc
+fault_is Wide set place n values stop.SymbolEnd left.Waiting rest words f r s e = absurd cc
+fault_is Wide set place n values stop.Unlatch left.Waiting rest words f r s e = absurd cc
+fault_is extent set place n values stop.SymbolEnd left.Complete rest words f r s e = absurd cc
+fault_is extent set place n values stop.Unlatch left.Complete rest words f r s e = absurd cc
 
 -- The back of a list of values below 40 is such a list.
 run_values-right : (a b : List ℕ) → AreSmall (a ++ b) → AreSmall b
@@ -107,22 +114,22 @@ pairs_run_values (p ∷ ps) h =
     run_values-append p.what (gathered ps) one (pairs_run_values ps h.1)
 
 -- The first n codewords are a run, by what follows them.
-pub record RunTakes (set : CodeSet) (words : List ℕ) (n : ℕ) (items : List Item) : Type 0 where
-  pub right : IsRun set (take n words) (drop n words) items
+pub record RunTakes (extent : Extent) (set : CodeSet) (words : List ℕ) (n : ℕ) (items : List Item) : Type 0 where
+  pub right : IsRun extent set (take n words) (drop n words) items
   pub some : 0 < n
   pub within : n ≤ length words
 
 -- What is found behind a latch is a run, or a faulty run with the fault that is found.
-abbrev pub RunJudged : CodeSet → ℕ → List ℕ → Step (List Item) (Option WordFault) → Type 0
-RunJudged set place words (Takes n items) = RunTakes set words n items
-RunJudged set place words (Stops None) = ⊥
-RunJudged set place words (Stops (Some f)) = IsFaultyRun set place words f
+abbrev pub RunJudged : Extent → CodeSet → ℕ → List ℕ → Step (List Item) (Option WordFault) → Type 0
+RunJudged extent set place words (Takes n items) = RunTakes extent set words n items
+RunJudged extent set place words (Stops None) = ⊥
+RunJudged extent set place words (Stops (Some f)) = IsFaultyRun extent set place words f
 
 -- A list that is a front and a back is cut behind the front.
 pub cut_behind_front : (words front back : List ℕ) (n : ℕ) → words ≡ front ++ back → n ≡ length front → (take n words ≡ front) × (drop n words ≡ back) × (n ≤ length words)
 cut_behind_front words front back n e len = rw e (take_at front back n (sym len), drop_at front back n (sym len), omega (arith, len, length-append front back))
 
-module _ (set : CodeSet) (place w : ℕ) (is_latch : codeword_of w ≡ Some (codeword.Latch set)) (words : List ℕ) (pw : Walked (List ℕ) PairsEnd) (p : Walks pair_front PairRight IsBytes 0 words pw)
+module _ (extent : Extent) (set : CodeSet) (place w : ℕ) (is_latch : codeword_of w ≡ Some (codeword.Latch set)) (words : List ℕ) (pw : Walked (List ℕ) PairsEnd) (p : Walks pair_front PairRight IsBytes 0 words pw)
     (vw : Walked Item Rest) (v : Walks (spelling_front set) (ItemRight set) Anything 0 (flat pw.taken) vw) where
   -- The values of the pairs are the values of the spellings and a rest.
   joined_values : gathered p.pieces ≡ spelled v.pieces ++ v.after
@@ -145,29 +152,29 @@ module _ (set : CodeSet) (place w : ℕ) (is_latch : codeword_of w ≡ Some (cod
   stop_is = stop_sound pw.place p.after pw.why p.fits p.stopped
 
   -- With this end, the run that is found is a run.
-  run_taken : (end more : List ℕ) (n : ℕ) → p.after ≡ end ++ more → IsRunEnd end more → IsFiller set v.after → n ≡ 1 + length (spelled p.pieces) + length end → RunTakes set (w ∷ words) n vw.taken
-  run_taken end more n e ended filler len =
+  run_taken : (end more : List ℕ) (n : ℕ) → p.after ≡ end ++ more → IsRunEnd end more → IsDropped extent set v.after → n ≡ 1 + length (spelled p.pieces) + length end → RunTakes extent set (w ∷ words) n vw.taken
+  run_taken end more n e ended dropped len =
       let front : List ℕ = w ∷ (spelled p.pieces ++ end) in
       let whole : w ∷ words ≡ front ++ more = ap (λ (r : List ℕ). w ∷ r) (p.whole ∙ ap (λ (r : List ℕ). spelled p.pieces ++ r) e ∙ sym (append_assoc (spelled p.pieces) end more)) in
       let c = cut_behind_front (w ∷ words) front more n whole (omega (arith, len, length-append (spelled p.pieces) end)) in
-      let values : AreValues set (gathered p.pieces) vw.taken = record { spellings = v.pieces; each = spellings_right; filler = v.after; ended = filler; whole = joined_values; items_are = v.taken } in
-      let run : IsRun set front more vw.taken = record { latch = w; is_latch = is_latch; pairs = p.pieces; each = pairs_right; end = end; ended = ended; whole = refl; values = values } in
+      let values : AreValues extent set (gathered p.pieces) vw.taken = record { spellings = v.pieces; each = spellings_right; filler = v.after; ended = dropped; whole = joined_values; items_are = v.taken } in
+      let run : IsRun extent set front more vw.taken = record { latch = w; is_latch = is_latch; pairs = p.pieces; each = pairs_right; end = end; ended = ended; whole = refl; values = values } in
       record { right = rw (c.0, c.1) run; some = omega (arith, len); within = c.2 }
 
   -- However the pairs end without a bad one, the run that is found is a run.
-  taken_by : (t : PairsEnd) (tw : List ℕ) → p.after ≡ tw → IsStop tw t → t ≢ stop.BadPair → IsFiller set v.after → RunTakes set (w ∷ words) (1 + pw.place + end_length t) vw.taken
-  taken_by t tw e (over h is) good filler = rw is (run_taken [] p.after (1 + pw.place + 0) refl (symbol_end refl (e ∙ h)) filler (omega (arith, p.place_is)))
-  taken_by t tw e (one_left x ne h is) good filler = rw is (run_taken [] p.after (1 + pw.place + 0) refl (last_word x ne refl (e ∙ h)) filler (omega (arith, p.place_is)))
-  taken_by t tw e (unlatched more h is) good filler = rw is (run_taken (254 ∷ []) more (1 + pw.place + 1) (e ∙ h) (unlatch refl) filler (omega (arith, p.place_is)))
-  taken_by t tw e (bad x y more ne b h is) good filler = absurd (good is)
+  taken_by : (t : PairsEnd) (tw : List ℕ) → p.after ≡ tw → IsStop tw t → t ≢ stop.BadPair → IsDropped extent set v.after → RunTakes extent set (w ∷ words) (1 + pw.place + end_length t) vw.taken
+  taken_by t tw e (over h is) good dropped = rw is (run_taken [] p.after (1 + pw.place + 0) refl (symbol_end refl (e ∙ h)) dropped (omega (arith, p.place_is)))
+  taken_by t tw e (one_left x ne h is) good dropped = rw is (run_taken [] p.after (1 + pw.place + 0) refl (last_word x ne refl (e ∙ h)) dropped (omega (arith, p.place_is)))
+  taken_by t tw e (unlatched more h is) good dropped = rw is (run_taken (254 ∷ []) more (1 + pw.place + 1) (e ∙ h) (unlatch refl) dropped (omega (arith, p.place_is)))
+  taken_by t tw e (bad x y more ne b h is) good dropped = absurd (good is)
 
   -- Without a fault it is a run, and with a fault a faulty run.
-  judged_by : (f : Option WordFault) → run_fault place pw.place pw.why vw.place vw.why ≡ f → RunJudged set place (w ∷ words) (run_unless f (1 + pw.place + end_length pw.why) vw.taken)
-  judged_by None e = let h = no_fault place pw.place vw.place pw.why vw.why e in taken_by pw.why p.after refl stop_is h.1 (subst (IsRestOf set v.after) h.0 rest_is)
+  judged_by : (f : Option WordFault) → run_fault extent place pw.place pw.why vw.place vw.why ≡ f → RunJudged extent set place (w ∷ words) (run_unless f (1 + pw.place + end_length pw.why) vw.taken)
+  judged_by None e = let h = no_fault extent set v.after place pw.place vw.place pw.why vw.why rest_is e in taken_by pw.why p.after refl stop_is h.1 h.0
   judged_by (Some f) e =
       let a : pw.place ≡ length (spelled p.pieces) = omega (arith, p.place_is) in
       let b : vw.place ≡ length (spelled v.pieces) = omega (arith, v.place_is) in
-      let same : run_fault place (length (spelled p.pieces)) pw.why (length (spelled v.pieces)) vw.why ≡ Some f = rw (← a, ← b) e in
+      let same : run_fault extent place (length (spelled p.pieces)) pw.why (length (spelled v.pieces)) vw.why ≡ Some f = rw (← a, ← b) e in
       record {
         latch = w;
         is_latch = is_latch;
@@ -179,27 +186,27 @@ module _ (set : CodeSet) (place w : ℕ) (is_latch : codeword_of w ≡ Some (cod
         each_spelling = spellings_right;
         rest = v.after;
         values = joined_values;
-        is_fault = fault_is set place (length (spelled p.pieces)) (length (spelled v.pieces)) pw.why vw.why v.after p.after f rest_is stop_is same;
+        is_fault = fault_is extent set place (length (spelled p.pieces)) (length (spelled v.pieces)) pw.why vw.why v.after p.after f rest_is stop_is same;
       }
 
 -- A run that is found is a run, and a faulty one is faulty.
-pub run_judged : (set : CodeSet) (place w : ℕ) (words : List ℕ) → codeword_of w ≡ Some (codeword.Latch set) → IsBytes words → RunJudged set place (w ∷ words) (run_front set place words)
+pub run_judged : (extent : Extent) (set : CodeSet) (place w : ℕ) (words : List ℕ) → codeword_of w ≡ Some (codeword.Latch set) → IsBytes words → RunJudged extent set place (w ∷ words) (run_front extent set place words)
 unfolding run_front
-run_judged set place w words is_latch fit =
-    judged_by set place w is_latch words (pairs_in words)
+run_judged extent set place w words is_latch fit =
+    judged_by extent set place w is_latch words (pairs_in words)
     (walks pair_front PairRight IsBytes stop.SymbolEnd pair_sound (suc (length words)) 0 words (omega arith) fit)
     (items_in set (flat (pairs_in words).taken))
     (walks (spelling_front set) (ItemRight set) Anything left.Complete (item_sound set) (suc (length (flat (pairs_in words).taken))) 0 (flat (pairs_in words).taken) (omega arith) tt)
-    (run_fault place (pairs_in words).place (pairs_in words).why (items_in set (flat (pairs_in words).taken)).place (items_in set (flat (pairs_in words).taken)).why) refl
+    (run_fault extent place (pairs_in words).place (pairs_in words).why (items_in set (flat (pairs_in words).taken)).place (items_in set (flat (pairs_in words).taken)).why) refl
 
 -- ---- what is right is found
 
 -- The pairs and the spellings that stand behind a latch are found there.
-run_again : (set : CodeSet) (place : ℕ) (pairs : List (Piece (List ℕ))) (others : List ℕ) (t : PairsEnd) (spellings : List (Piece Item)) (rest : List ℕ) (kind : Rest)
+run_again : (extent : Extent) (set : CodeSet) (place : ℕ) (pairs : List (Piece (List ℕ))) (others : List ℕ) (t : PairsEnd) (spellings : List (Piece Item)) (rest : List ℕ) (kind : Rest)
     → AllByRecursion (λ p. IsPair p.words p.what) pairs → IsStop others t → AllByRecursion (λ p. IsSpelling set p.words p.what) spellings → IsRestOf set rest kind → gathered pairs ≡ spelled spellings ++ rest
-    → run_front set place (spelled pairs ++ others) ≡ run_unless (run_fault place (length (spelled pairs)) t (length (spelled spellings)) kind) (1 + length (spelled pairs) + end_length t) (whats spellings)
+    → run_front extent set place (spelled pairs ++ others) ≡ run_unless (run_fault extent place (length (spelled pairs)) t (length (spelled spellings)) kind) (1 + length (spelled pairs) + end_length t) (whats spellings)
 unfolding run_front
-run_again set place pairs others t spellings rest kind each stop_right each_spelling rest_right whole =
+run_again extent set place pairs others t spellings rest kind each stop_right each_spelling rest_right whole =
     let p : pairs_in (spelled pairs ++ others) ≡ record { taken = whats pairs; place = length (spelled pairs); why = t } =
     walk-joined pair_front PairRight IsBytes stop.SymbolEnd pair_complete (suc (length (spelled pairs ++ others))) 0 pairs others t (joined_right IsPair 0 pairs others each)
     (stop_complete (0 + length (spelled pairs)) others t stop_right) (omega arith) ∙ ap (λ (k : ℕ). record { taken = whats pairs; place = k; why = t }) (zero-add (length (spelled pairs))) in
@@ -210,12 +217,12 @@ run_again set place pairs others t spellings rest kind each stop_right each_spel
     rw (p, values, v) refl
 
 -- The words begin with the latch of a run, and this answer is found behind it.
-pub record RunFound (set : CodeSet) (place : ℕ) (words : List ℕ) (answer : Step (List Item) (Option WordFault)) : Type 0 where
+pub record RunFound (extent : Extent) (set : CodeSet) (place : ℕ) (words : List ℕ) (answer : Step (List Item) (Option WordFault)) : Type 0 where
   pub latch : ℕ
   pub others : List ℕ
   pub whole : words ≡ latch ∷ others
   pub is_latch : codeword_of latch ≡ Some (codeword.Latch set)
-  pub found : run_front set place others ≡ answer
+  pub found : run_front extent set place others ≡ answer
 
 -- The pairs stop at the end of a run, and not before a bad pair.
 end_found : (end after : List ℕ) → IsRunEnd end after → (t : PairsEnd) × IsStop (end ++ after) t × (end_length t ≡ length end) × (t ≢ stop.BadPair)
@@ -223,19 +230,28 @@ end_found end after (unlatch e) = (stop.Unlatch, rw e (unlatched after refl refl
 end_found end after (symbol_end e h) = (stop.SymbolEnd, rw (e, h) (over refl refl), rw e refl, λ h2. cc)
 end_found end after (last_word w ne e h) = (stop.SymbolEnd, rw (e, h) (one_left w ne refl refl), rw e refl, λ h2. cc)
 
--- A run with no bad pair and nothing but a lone shift left has no fault.
-fault_none : (place n values : ℕ) (t : PairsEnd) → t ≢ stop.BadPair → run_fault place n t values left.Complete ≡ None
-fault_none place n values stop.Unlatch ne = refl
-fault_none place n values stop.SymbolEnd ne = refl
-fault_none place n values stop.BadPair ne = absurd (ne refl)
+-- What is dropped at the end of a run is a rest, which is no fault where no bad pair follows.
+record DroppedFound (extent : Extent) (set : CodeSet) (place n values : ℕ) (rest : List ℕ) (t : PairsEnd) : Type 0 where
+  kind : Rest
+  left_so : IsRestOf set rest kind
+  no_fault_there : run_fault extent place n t values kind ≡ None
+
+-- What is dropped is found.
+dropped_found : (extent : Extent) (set : CodeSet) (place n values : ℕ) (rest : List ℕ) (t : PairsEnd) → IsDropped extent set rest → t ≢ stop.BadPair → DroppedFound extent set place n values rest t
+dropped_found extent set place n values rest stop.Unlatch (filler f) ne = record { kind = left.Complete; left_so = f; no_fault_there = refl }
+dropped_found extent set place n values rest stop.SymbolEnd (filler f) ne = record { kind = left.Complete; left_so = f; no_fault_there = refl }
+dropped_found extent set place n values rest stop.Unlatch (waiting is w) ne = record { kind = left.Waiting; left_so = w; no_fault_there = rw is refl }
+dropped_found extent set place n values rest stop.SymbolEnd (waiting is w) ne = record { kind = left.Waiting; left_so = w; no_fault_there = rw is refl }
+dropped_found extent set place n values rest stop.BadPair d ne = absurd (ne refl)
 
 -- A run that stands at the front is found.
-pub run_complete : (set : CodeSet) (place : ℕ) (words after : List ℕ) (items : List Item) → IsRun set words after items → RunFound set place (words ++ after) (Takes (length words) items) × (0 < length words)
-run_complete set place words after items r =
+pub run_complete : (extent : Extent) (set : CodeSet) (place : ℕ) (words after : List ℕ) (items : List Item) → IsRun extent set words after items → RunFound extent set place (words ++ after) (Takes (length words) items) × (0 < length words)
+run_complete extent set place words after items r =
     let t = end_found r.end after r.ended in
-    let again = run_again set place r.pairs (r.end ++ after) t.0 r.values.spellings r.values.filler left.Complete r.each t.1 r.values.each r.values.ended r.values.whole in
+    let d = dropped_found extent set place (length (spelled r.pairs)) (length (spelled r.values.spellings)) r.values.filler t.0 r.values.ended t.3 in
+    let again = run_again extent set place r.pairs (r.end ++ after) t.0 r.values.spellings r.values.filler d.kind r.each t.1 r.values.each d.left_so r.values.whole in
     let len : 1 + length (spelled r.pairs) + end_length t.0 ≡ length words = omega (arith, t.2, ap length r.whole, length-append (spelled r.pairs) r.end) in
-    let none_there = fault_none place (length (spelled r.pairs)) (length (spelled r.values.spellings)) t.0 t.3 in (
+    let none_there = d.no_fault_there in (
       record {
         latch = r.latch;
         others = spelled r.pairs ++ (r.end ++ after);
@@ -247,44 +263,44 @@ run_complete set place words after items r =
     )
 
 -- A fault of a run tells how its pairs end and what the rest of its values is.
-record FaultFound (set : CodeSet) (place values : ℕ) (rest : List ℕ) (n : ℕ) (words : List ℕ) (f : WordFault) : Type 0 where
+record FaultFound (extent : Extent) (set : CodeSet) (place values : ℕ) (rest : List ℕ) (n : ℕ) (words : List ℕ) (f : WordFault) : Type 0 where
   end : PairsEnd
   kind : Rest
   stops : IsStop words end
   left_so : IsRestOf set rest kind
-  found : run_fault place n end values kind ≡ Some f
+  found : run_fault extent place n end values kind ≡ Some f
 
 -- The pairs stop in one of the ways that the scan knows.
 stop_of : (words : List ℕ) → StopsPairs words → (t : PairsEnd) × IsStop words t
 stop_of words (inl e) = let f = end_found e.end e.after e.ended in (f.0, rw e.whole f.1)
 stop_of words (inr b) = (stop.BadPair, bad b.high b.low b.more b.no_unlatch b.is_bad b.whole refl)
 
--- An Upper Shift that waits is the fault where no bad pair follows.
-fault_unfinished : (place n values : ℕ) (t : PairsEnd) → t ≢ stop.BadPair → run_fault place n t values left.Waiting ≡ Some (fault.Unfinished (pair_place place (values + 1)))
-fault_unfinished place n values stop.Unlatch ne = refl
-fault_unfinished place n values stop.SymbolEnd ne = refl
-fault_unfinished place n values stop.BadPair ne = absurd (ne refl)
+-- An Upper Shift that waits is the fault in the usual extent, where no bad pair follows.
+fault_unfinished : (extent : Extent) (place n values : ℕ) (t : PairsEnd) → extent ≡ Usual → t ≢ stop.BadPair → run_fault extent place n t values left.Waiting ≡ Some (fault.Unfinished (pair_place place (values + 1)))
+fault_unfinished extent place n values stop.Unlatch is ne = rw is refl
+fault_unfinished extent place n values stop.SymbolEnd is ne = rw is refl
+fault_unfinished extent place n values stop.BadPair is ne = absurd (ne refl)
 
 -- The fault that is there tells how the pairs stop and what the rest is.
-fault_found : (set : CodeSet) (place values : ℕ) (rest : List ℕ) (n : ℕ) (words : List ℕ) (f : WordFault) → IsRunFault set (open_run place n words values rest) f → FaultFound set place values rest n words f
-fault_found set place values rest n words f (value index b st is) = let t = stop_of words st in record { end = t.0; kind = left.Meaningless index; stops = t.1; left_so = b; found = ap Some (sym is) }
-fault_found set place values rest n words f (upper_shift b st is) = let t = stop_of words st in record { end = t.0; kind = left.WrongUpperShift; stops = t.1; left_so = b; found = ap Some (sym is) }
-fault_found set place values rest n words f (triplet (inl r) b is) = record { end = stop.BadPair; kind = left.Complete; stops = bad b.high b.low b.more b.no_unlatch b.is_bad b.whole refl; left_so = r; found = ap Some (sym is) }
-fault_found set place values rest n words f (triplet (inr r) b is) = record { end = stop.BadPair; kind = left.Waiting; stops = bad b.high b.low b.more b.no_unlatch b.is_bad b.whole refl; left_so = r; found = ap Some (sym is) }
-fault_found set place values rest n words f (unfinished r e is) =
+fault_found : (extent : Extent) (set : CodeSet) (place values : ℕ) (rest : List ℕ) (n : ℕ) (words : List ℕ) (f : WordFault) → IsRunFault extent set (open_run place n words values rest) f → FaultFound extent set place values rest n words f
+fault_found extent set place values rest n words f (value index b st is) = let t = stop_of words st in record { end = t.0; kind = left.Meaningless index; stops = t.1; left_so = b; found = ap Some (sym is) }
+fault_found extent set place values rest n words f (upper_shift b st is) = let t = stop_of words st in record { end = t.0; kind = left.WrongUpperShift; stops = t.1; left_so = b; found = ap Some (sym is) }
+fault_found extent set place values rest n words f (triplet (inl r) b is) = record { end = stop.BadPair; kind = left.Complete; stops = bad b.high b.low b.more b.no_unlatch b.is_bad b.whole refl; left_so = r; found = ap Some (sym is) }
+fault_found extent set place values rest n words f (triplet (inr r) b is) = record { end = stop.BadPair; kind = left.Waiting; stops = bad b.high b.low b.more b.no_unlatch b.is_bad b.whole refl; left_so = r; found = ap Some (sym is) }
+fault_found extent set place values rest n words f (unfinished usual r e is) =
     let t = end_found e.end e.after e.ended in
-    record { end = t.0; kind = left.Waiting; stops = rw e.whole t.1; left_so = r; found = fault_unfinished place n values t.0 t.3 ∙ ap Some (sym is) }
+    record { end = t.0; kind = left.Waiting; stops = rw e.whole t.1; left_so = r; found = fault_unfinished extent place n values t.0 usual t.3 ∙ ap Some (sym is) }
 
 -- A faulty run that stands at the front is found.
-pub fault_complete : (set : CodeSet) (place : ℕ) (words : List ℕ) (f : WordFault) → IsFaultyRun set place words f → RunFound set place words (Stops (Some f))
-fault_complete set place words f r =
-    let g = fault_found set place (length (spelled r.spellings)) r.rest (length (spelled r.pairs)) r.others f r.is_fault in
+pub fault_complete : (extent : Extent) (set : CodeSet) (place : ℕ) (words : List ℕ) (f : WordFault) → IsFaultyRun extent set place words f → RunFound extent set place words (Stops (Some f))
+fault_complete extent set place words f r =
+    let g = fault_found extent set place (length (spelled r.spellings)) r.rest (length (spelled r.pairs)) r.others f r.is_fault in
     record {
       latch = r.latch;
       others = spelled r.pairs ++ r.others;
       whole = r.whole;
       is_latch = r.is_latch;
-      found = run_again set place r.pairs r.others g.end r.spellings r.rest g.kind r.each g.stops r.each_spelling g.left_so r.values ∙ rw g.found refl;
+      found = run_again extent set place r.pairs r.others g.end r.spellings r.rest g.kind r.each g.stops r.each_spelling g.left_so r.values ∙ rw g.found refl;
     }
 
 -- ---- how many items a run has
@@ -306,8 +322,8 @@ items_room set (p ∷ ps) h =
     omega (arith, one, items_room set ps h.1, length-append p.words (spelled ps))
 
 -- A run has at most two items for each word.
-pub run_room : (set : CodeSet) (words after : List ℕ) (items : List Item) → IsRun set words after items → length items ≤ 2 * length words
-run_room set words after items r =
+pub run_room : (extent : Extent) (set : CodeSet) (words after : List ℕ) (items : List Item) → IsRun extent set words after items → length items ≤ 2 * length words
+run_room extent set words after items r =
     omega (
       arith,
       ap length r.values.items_are,

@@ -12,7 +12,7 @@ use Rattle.dm_words.specs.inner.Scan.Fronts.{plain_at, plain, segment_front}
 use Rattle.dm_words.proofs.Segments.{segment_again, bad_again}
 
 -- The items of two lists of bytes, joined, are those of each, joined.
-byte_items-append : (a b : List ℕ) → byte_items (a ++ b) ≡ byte_items a ++ byte_items b
+pub byte_items-append : (a b : List ℕ) → byte_items (a ++ b) ≡ byte_items a ++ byte_items b
 byte_items-append [] b = refl
 byte_items-append (x ∷ a) b = ap (λ (r : List Item). Byte x ∷ r) (byte_items-append a b)
 

@@ -35,7 +35,8 @@ IsGreedy [] = Unit {0}
 IsGreedy (unit ∷ []) = Unit {0}
 IsGreedy (unit ∷ next ∷ rest) = (IsOneDigit unit.what → BeginsWithDigit next.what → ⊥) × IsGreedy (next ∷ rest)
 
--- The ASCII form of a message is a sequence of units, with no single digit before a digit, whose items, joined, are the message.
+-- The ASCII form of a message is a sequence of units, with no single digit before a digit, whose items, joined, are the message. The standard
+-- allows other sequences; that this one is taken is a rule of this project.
 pub record IsAscii (message : List Item) (words : List ℕ) : Type 0 where
   pub units : List (Piece (List Item))
   pub each : AllByRecursion (λ unit. IsAsciiUnit unit.words unit.what) units

@@ -1,7 +1,7 @@
 -- The codewords of ASCII encodation (ISO/IEC 16022, ASCII encodation).
 use Rattle.std.specs.Prelude.{ℕ, List, [], ◌∷◌, Option}
 use Rattle.dm_words.specs.declared.codeword.Codeword.{Codeword}
-use Rattle.dm_words.specs.declared.codeword.Codeword.TheVariants.{Character, Pad, Digits, Latch, Base256, Fnc1, UpperShift, LeftOut}
+use Rattle.dm_words.specs.declared.codeword.Codeword.TheVariants.{Character, Pad, Digits, Latch, Base256, Edifact, Fnc1, UpperShift, Macro, LeftOut}
 use Rattle.dm_words.specs.declared.c40.set.CodeSet.TheVariants.{C40, Text, X12}
 use Rattle.dm_words.specs.Rows.{Row, one, each, look_up}
 
@@ -19,13 +19,13 @@ codeword_rows =
     one 233 LeftOut ∷
     one 234 LeftOut ∷
     one 235 UpperShift ∷
-    -- Macro 05 is 236, and macro 06 is 237.
-    one 236 LeftOut ∷
-    one 237 LeftOut ∷
+    -- Macro 05 is 236, and macro 06 is 237; 53 and 54 are the digits 5 and 6.
+    one 236 (Macro 53) ∷
+    one 237 (Macro 54) ∷
     one 238 (Latch X12) ∷
     one 239 (Latch Text) ∷
-    -- EDIFACT is 240, and ECI is 241.
-    one 240 LeftOut ∷
+    one 240 Edifact ∷
+    -- ECI is 241.
     one 241 LeftOut ∷
     []
 

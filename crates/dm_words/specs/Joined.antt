@@ -17,8 +17,8 @@ module _ {A : Type 0} where
   whats [] = []
   whats (piece ∷ pieces) = piece.what ∷ whats pieces
 
-  -- Each piece is right where it stands: at its place, which for the first piece is this one, and before everything that follows it, up to
-  -- the end of the list. `after` follows the last piece.
+  -- Each piece is right where it stands, which depends on its place and on all that follows it, up to the end of the list. The first piece
+  -- stands at `place`, and `after` follows the last one.
   abbrev pub AreJoined : (ℕ → List ℕ → List ℕ → A → Type 0) → ℕ → List (Piece A) → List ℕ → Type 0
   AreJoined IsRight place [] after = Unit {0}
   AreJoined IsRight place (piece ∷ pieces) after =

@@ -9,9 +9,12 @@ pub mod Values
 pub mod Runs
 pub mod RunFaults
 pub mod Base256
+pub mod Edifact
+pub mod Macros
 pub mod NormalForm
 pub mod Spells
 pub mod Refused
-pub mod Places
+pub mod Outcomes
+pub mod Answers
 pub mod Laws
 pub mod inner

@@ -1,6 +1,8 @@
--- Messages.
-use Rattle.std.specs.Prelude.{ℕ, ◌*◌, ◌<◌, List, All}
+-- Messages: lists of items, and how many items there can be (ISO/IEC 16022, encodation schemes).
+use Rattle.std.specs.Prelude.{ℕ, ◌+◌, ◌*◌, ◌<◌, List, All}
 use Rattle.dm_layout.specs.Sizes.{most_data}
+use Rattle.dm_words.specs.declared.extent.Extent.{Extent}
+use Rattle.dm_words.specs.declared.extent.Extent.TheVariants.{Usual, Wide}
 use Rattle.dm_words.specs.declared.item.Item.{Item}
 use Rattle.dm_words.specs.declared.item.Item.TheVariants.{Byte, Fnc1}
 
@@ -17,6 +19,11 @@ IsItem item = byte_of item < 256
 abbrev pub IsMessage : List Item → Type 0
 IsMessage message = All IsItem message
 
--- A symbol has room for at most this many items: two for each data codeword of the largest size.
+-- In the usual extent a symbol says at most this many items: two for each data codeword of the largest size. A macro adds some in the wide one.
 abbrev pub most_items : ℕ
 most_items = 2 * most_data
+
+-- This many codewords spell at most this many items: two for each, and in the wide extent seven more, since a macro spells nine.
+abbrev pub most_spelled : Extent → ℕ → ℕ
+most_spelled Usual count = 2 * count
+most_spelled Wide count = 2 * count + 7

@@ -1,6 +1,7 @@
 -- Runs of C40, Text and X12 (ISO/IEC 16022, C40, Text and ANSI X12 encodation).
 use Rattle.std.specs.Prelude.{◌≡◌, ◌≢◌, ℕ, ◌+◌, ◌*◌, ◌<◌, List, [], ◌∷◌, ◌++◌, Some}
 use Rattle.std.specs.List.{AllByRecursion}
+use Rattle.dm_words.specs.declared.extent.Extent.{Extent}
 use Rattle.dm_words.specs.declared.item.Item.{Item}
 use Rattle.dm_words.specs.declared.codeword.Codeword.TheVariants as codeword
 use Rattle.dm_words.specs.declared.c40.set.CodeSet.{CodeSet}
@@ -37,7 +38,7 @@ pub data IsRunEnd (words after : List ℕ) : Type 0 where
   last_word : (word : ℕ) → word ≢ 254 → words ≡ [] → after ≡ word ∷ [] → IsRunEnd words after
 
 -- A run is a latch, then pairs, then an end. The values of all pairs, joined, spell the items.
-pub record IsRun (set : CodeSet) (words after : List ℕ) (items : List Item) : Type 0 where
+pub record IsRun (extent : Extent) (set : CodeSet) (words after : List ℕ) (items : List Item) : Type 0 where
   pub latch : ℕ
   pub is_latch : codeword_of latch ≡ Some (codeword.Latch set)
   pub pairs : List (Piece (List ℕ))
@@ -45,4 +46,4 @@ pub record IsRun (set : CodeSet) (words after : List ℕ) (items : List Item) : 
   pub end : List ℕ
   pub ended : IsRunEnd end after
   pub whole : words ≡ latch ∷ (spelled pairs ++ end)
-  pub values : AreValues set (gathered pairs) items
+  pub values : AreValues extent set (gathered pairs) items

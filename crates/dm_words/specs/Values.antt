@@ -1,6 +1,8 @@
 -- The values of a run of C40, Text or X12, and the items that they spell (ISO/IEC 16022, C40, Text and ANSI X12 encodation).
 use Rattle.std.specs.Prelude.{◌≡◌, ℕ, ◌+◌, List, [], ◌∷◌, ◌++◌, Option, Some, None, ◌⊎◌}
 use Rattle.std.specs.List.{AllByRecursion}
+use Rattle.dm_words.specs.declared.extent.Extent.{Extent}
+use Rattle.dm_words.specs.declared.extent.Extent.TheVariants.{Wide}
 use Rattle.dm_words.specs.declared.item.Item.{Item}
 use Rattle.dm_words.specs.declared.item.Item.TheVariants.{Byte, Fnc1}
 use Rattle.dm_words.specs.declared.c40.set.CodeSet.{CodeSet}
@@ -41,15 +43,6 @@ pub data IsFiller (set : CodeSet) (values : List ℕ) : Type 0 where
   nothing : values ≡ [] → IsFiller set values
   lone_shift : (value : ℕ) (shift : Shift) → basic_of set value ≡ Some (basic.Shift shift) → values ≡ value ∷ [] → IsFiller set values
 
--- The values of a run are spellings of these items, one after the other, and then at most one lone shift.
-pub record AreValues (set : CodeSet) (values : List ℕ) (items : List Item) : Type 0 where
-  pub spellings : List (Piece Item)
-  pub each : AllByRecursion (λ piece. IsSpelling set piece.words piece.what) spellings
-  pub filler : List ℕ
-  pub ended : IsFiller set filler
-  pub whole : values ≡ spelled spellings ++ filler
-  pub items_are : items ≡ whats spellings
-
 -- An Upper Shift waits for its character: it stands alone, or before one lone shift.
 pub record IsWaiting (set : CodeSet) (values : List ℕ) : Type 0 where
   pub upper : List ℕ
@@ -57,6 +50,20 @@ pub record IsWaiting (set : CodeSet) (values : List ℕ) : Type 0 where
   pub is_upper : IsUpperShift set upper
   pub ended : IsFiller set filler
   pub whole : values ≡ upper ++ filler
+
+-- What is dropped at the end of a run is a filler; in the wide extent also an Upper Shift that waits, which some writers fill with.
+pub data IsDropped (extent : Extent) (set : CodeSet) (values : List ℕ) : Type 0 where
+  filler : IsFiller set values → IsDropped extent set values
+  waiting : extent ≡ Wide → IsWaiting set values → IsDropped extent set values
+
+-- The values of a run are spellings of these items, one after the other, and then what is dropped.
+pub record AreValues (extent : Extent) (set : CodeSet) (values : List ℕ) (items : List Item) : Type 0 where
+  pub spellings : List (Piece Item)
+  pub each : AllByRecursion (λ piece. IsSpelling set piece.words piece.what) spellings
+  pub filler : List ℕ
+  pub ended : IsDropped extent set filler
+  pub whole : values ≡ spelled spellings ++ filler
+  pub items_are : items ≡ whats spellings
 
 -- The values begin with a shift and a value that has no meaning after it, with or without an Upper Shift before them. That value stands at
 -- this index.

@@ -7,7 +7,7 @@ ghost use Rattle.dm_words.specs.inner.Scan.Answers.{BeginsAscii, IsSingle, unit_
 
 use crate::codeword::{FNC1, UPPER_SHIFT};
 use crate::item::Item;
-use crate::limits::MOST_ITEMS;
+use crate::limits::MESSAGE_ROOM;
 use arrayvec::ArrayVec;
 use dm_layout::MOST_DATA;
 
@@ -70,7 +70,7 @@ pub struct AsciiForm {
 
 /// Tells what is known of the ASCII form of these items, by one look through them.
 pub fn ascii_form(items: &[Item]) -> AsciiForm
-    requires { length items.now ≤ MOST_ITEMS }
+    requires { length items.now ≤ MESSAGE_ROOM }
     ensures length { result.length ≡ length (ascii items.now) }
     ensures has_fnc1 { result.has_fnc1 ≡ has_fnc1 items.now }
 {

@@ -10,7 +10,7 @@ ghost use Rattle.dm_words.specs.inner.Scan.Answers.{IsPartTaken};
 use crate::codeword::BASE256_LATCH;
 use crate::fault::WordFault;
 use crate::item::{Item, byte};
-use crate::limits::MOST_ITEMS;
+use crate::limits::MESSAGE_ROOM;
 use crate::message::Message;
 use arrayvec::ArrayVec;
 use dm_layout::MOST_DATA;
@@ -42,7 +42,7 @@ fn plain_value(words: &[u8], index: usize) -> u8
 fn push_bytes(words: &[u8], start: usize, count: usize, message: &mut Message)
     requires in_range { start + count ≤ length words.now }
     requires short { length words.now ≤ MOST_DATA }
-    requires room { length message.old + count ≤ MOST_ITEMS }
+    requires room { length message.old + count ≤ MESSAGE_ROOM }
     ensures { message.new ≡ message.old ++ byte_items (take count (plain (start + 1) (drop start words.now))) }
 {
     for i in 0..count {
@@ -54,7 +54,7 @@ fn push_bytes(words: &[u8], start: usize, count: usize, message: &mut Message)
 pub fn segment_part(words: &[u8], at: usize, message: &mut Message) -> Result<usize, WordFault>
     requires in_range { at < length words.now }
     requires short { length words.now ≤ MOST_DATA }
-    requires room { length message.old ≤ 2 * at }
+    requires room { length message.old ≤ 2 * at + 5 }
     ensures { IsPartTaken result message.old message.new (segment_front (at + 1) (plain (at + 2) (drop (at + 1) words.now))) }
 {
     let fault = WordFault::Length(at as u16 + 1);
@@ -111,7 +111,7 @@ fn push_length(words: &mut ArrayVec<u8, MOST_DATA>, count: usize)
 
 /// Gives the number of codewords of one segment of `count` bytes.
 pub fn segment_length(count: usize) -> usize
-    requires { count ≤ MOST_ITEMS }
+    requires { count ≤ MESSAGE_ROOM }
     ensures { result ≡ 1 + length (length_numbers count) + count }
 {
     if count <= MOST_SHORT {

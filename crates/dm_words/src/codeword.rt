@@ -35,9 +35,13 @@ pub enum Codeword {
     Base256,
     /// FNC1.
     Fnc1,
+    /// The latch to EDIFACT.
+    Edifact,
     /// 128 is added to the character that follows.
     UpperShift,
-    /// The first codeword of something that is not read here.
+    /// The macro whose header has the digits 0 and this one, as a character.
+    Macro(u8),
+    /// The first codeword of something that is not read in any extent.
     LeftOut,
 }
 
@@ -53,9 +57,12 @@ pub fn meaning(codeword: u8) -> Option<Codeword>
         BASE256_LATCH => Some(Codeword::Base256),
         FNC1 => Some(Codeword::Fnc1),
         UPPER_SHIFT => Some(Codeword::UpperShift),
+        236 => Some(Codeword::Macro(b'5')),
+        237 => Some(Codeword::Macro(b'6')),
         238 => Some(Codeword::Latch(CodeSet::X12)),
         239 => Some(Codeword::Latch(CodeSet::Text)),
-        233 | 234 | 236 | 237 | 240 | 241 => Some(Codeword::LeftOut),
+        240 => Some(Codeword::Edifact),
+        233 | 234 | 241 => Some(Codeword::LeftOut),
         _ => None,
     }
 }

@@ -1,11 +1,13 @@
 //! Laws of the definitions in `specs/`, and of the limits. Each function has an empty body: its contract is the law.
 
-ghost use Rattle.std.specs.Prelude.{◌≡◌, ℕ, ◌*◌, ◌≤◌, ◌↔◌, List, length};
+ghost use Rattle.std.specs.Prelude.{◌≡◌, ℕ, ◌+◌, ◌*◌, ◌≤◌, ◌↔◌, List, length};
 ghost use Rattle.dm_layout.specs.Sizes.{most_data};
+ghost use Rattle.dm_words.specs.declared.extent.Extent.{Extent};
 ghost use Rattle.dm_words.specs.declared.item.Item.{Item};
+ghost use Rattle.dm_words.specs.declared.fault.WordFault.{WordFault};
 ghost use Rattle.dm_words.specs.declared.c40.set.CodeSet.{CodeSet};
 ghost use Rattle.dm_words.specs.declared.c40.set.Shift.{Shift};
-ghost use Rattle.dm_words.specs.Messages.{IsMessage};
+ghost use Rattle.dm_words.specs.Messages.{IsMessage, most_spelled};
 ghost use Rattle.dm_words.specs.Rows.{IsTable};
 ghost use Rattle.dm_words.specs.Codewords.{codeword_rows};
 ghost use Rattle.dm_words.specs.CodeSets.{basic_rows, shifted_rows};
@@ -15,26 +17,46 @@ ghost use Rattle.dm_words.specs.NormalForm.{normal_form, one_segment, shorter};
 ghost use Rattle.dm_words.specs.Base256.{byte_items};
 ghost use Rattle.dm_words.specs.Pads.{padded};
 ghost use Rattle.dm_words.specs.Values.{IsRest};
+ghost use Rattle.dm_words.specs.Macros.{macro_text};
 ghost use Rattle.dm_words.specs.Spells.{Spells};
-ghost use Rattle.dm_words.specs.Laws.{HasOneAnswer, AreCodewords, AreRunValues, BeginsNoSpelling};
+ghost use Rattle.dm_words.specs.Refused.{Refused};
+ghost use Rattle.dm_words.specs.Laws.{HasOneAnswer, AreCodewords, AreRunValues, BeginsNoSpelling, CanBeLeftOut, AreMacro};
 
-use crate::limits::MOST_ITEMS;
+use crate::limits::{MESSAGE_ROOM, MOST_ITEMS};
 use dm_layout::MOST_DATA;
 
-/// A list of codewords, however long, spells exactly one message and is refused with no fault, or is refused with exactly one
+/// In each extent, a list of codewords, however long, spells exactly one message and is refused with no fault, or is refused with exactly one
 /// fault and spells none.
 pub fn one_answer()
-    ensures { (words : List ℕ) → AreCodewords words → HasOneAnswer words }
+    ensures { (extent : Extent) (words : List ℕ) → AreCodewords words → HasOneAnswer extent words }
 {}
 
-/// What codewords spell is a message: its bytes are 0 to 255.
+/// What codewords spell in either extent is a message: its bytes are 0 to 255.
 pub fn spelled_is_message()
-    ensures { (words : List ℕ) (m : List Item) → Spells words m → IsMessage m }
+    ensures { (extent : Extent) (words : List ℕ) (m : List Item) → Spells extent words m → IsMessage m }
 {}
 
-/// The ASCII form of a message, with pads up to any number of codewords that holds it, has that many codewords, and they spell the message.
+/// What codewords spell in the usual extent they spell in the wide one.
+pub fn wide_reads_the_same()
+    ensures { (words : List ℕ) (m : List Item) → Spells Extent.Usual words m → Spells Extent.Wide words m }
+{}
+
+/// In the wide extent only structured append, reader programming, ECI, or a macro behind the first codeword, are left out.
+pub fn wide_leaves_few_out()
+    ensures { (words : List ℕ) (word place : ℕ) → Refused Extent.Wide words (WordFault.LeftOut word place) → CanBeLeftOut word place }
+{}
+
+/// In the wide extent, the codewords behind a macro spell the message that has their items between the header and the trailer of the macro. The ASCII
+/// form of that text, with pads, spells the same message.
+pub fn macro_spells_its_text()
+    ensures short { (digit : ℕ) (words : List ℕ) (text : List Item) → AreMacro digit words text → Spells Extent.Wide words (macro_text digit text) }
+    ensures written_out { (digit count : ℕ) (words : List ℕ) (text : List Item) → AreMacro digit words text → let written = ascii (macro_text digit text) in length written ≤ count → Spells Extent.Wide (padded written count) (macro_text digit text) }
+{}
+
+/// The ASCII form of a message, with pads up to any number of codewords that holds it, has that many codewords, and they spell the message in each
+/// extent.
 pub fn ascii_spells()
-    ensures message { (m : List Item) (count : ℕ) → IsMessage m → length (ascii m) ≤ count → Spells (padded (ascii m) count) m }
+    ensures message { (extent : Extent) (m : List Item) (count : ℕ) → IsMessage m → length (ascii m) ≤ count → Spells extent (padded (ascii m) count) m }
     ensures count { (m : List Item) (count : ℕ) → length (ascii m) ≤ count → length (padded (ascii m) count) ≡ count }
     ensures codewords { (m : List Item) (count : ℕ) → IsMessage m → AreCodewords (padded (ascii m) count) }
 {}
@@ -46,9 +68,9 @@ pub fn ascii_is_greedy()
 {}
 
 /// The normal form of a message under each profile, with pads up to any number of codewords that holds it and that a symbol can have, has that many
-/// codewords, and they spell the message.
+/// codewords, and they spell the message in each extent.
 pub fn normal_form_spells()
-    ensures message { (profile : Profile) (m : List Item) (count : ℕ) → IsMessage m → length (normal_form profile m) ≤ count → count ≤ most_data → Spells (padded (normal_form profile m) count) m }
+    ensures message { (extent : Extent) (profile : Profile) (m : List Item) (count : ℕ) → IsMessage m → length (normal_form profile m) ≤ count → count ≤ most_data → Spells extent (padded (normal_form profile m) count) m }
     ensures count { (profile : Profile) (m : List Item) (count : ℕ) → length (normal_form profile m) ≤ count → length (padded (normal_form profile m) count) ≡ count }
     ensures codewords { (profile : Profile) (m : List Item) (count : ℕ) → IsMessage m → AreCodewords (padded (normal_form profile m) count) }
 {}
@@ -76,9 +98,10 @@ pub fn tables_are_sound()
     ensures shifted { (set : CodeSet) (shift : Shift) → IsTable (shifted_rows set shift) }
 {}
 
-/// The most data codewords that are read and written are those of the largest size, and a message has room for two items for each. `MOST_DATA` is the
-/// constant of `dm_layout`, whose law `laws::sizes::constants_are_the_limits` says the same of it.
+/// The most data codewords that are read and written are those of the largest size. What is read in the usual extent has two items for each, and a
+/// message has room for the most that are read in the wide extent. `MOST_DATA` is the constant of `dm_layout`, whose law `laws::sizes::constants_are_the_limits` says the same of it.
 pub fn limits_are_those_of_the_table()
     ensures data { MOST_DATA ≡ most_data }
-    ensures items { MOST_ITEMS ≡ 2 * most_data }
+    ensures items { MOST_ITEMS ≡ most_spelled Extent.Usual most_data }
+    ensures room { MESSAGE_ROOM ≡ most_spelled Extent.Wide most_data }
 {}

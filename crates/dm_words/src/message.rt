@@ -4,14 +4,14 @@ ghost use Rattle.std.specs.Prelude.{◌≡◌, ◌<◌, ◌≤◌, ◌++◌, ◌
 ghost use Rattle.dm_words.specs.Messages.{IsMessage};
 
 use crate::item::Item;
-use crate::limits::MOST_ITEMS;
+use crate::limits::MESSAGE_ROOM;
 use arrayvec::ArrayVec;
 use std::marker::Model;
 
-/// A list of at most `MOST_ITEMS` items. The empty message is a message. In contracts it is the list of its items.
+/// A list of at most `MESSAGE_ROOM` items. The empty message is a message. In contracts it is the list of its items.
 #[derive(Clone, Debug, Default, Drop, PartialEq, Eq)]
 pub struct Message {
-    list: ArrayVec<Item, MOST_ITEMS>,
+    list: ArrayVec<Item, MESSAGE_ROOM>,
 }
 
 impl Model for Message {
@@ -45,9 +45,9 @@ impl Message {
         self.list.clear();
     }
 
-    /// Adds an item at the end. Gives the item back exactly where `MOST_ITEMS` are there, and then changes nothing.
+    /// Adds an item at the end. Gives the item back exactly where `MESSAGE_ROOM` are there, and then changes nothing.
     pub fn push(&mut self, item: Item) -> Result<(), Item>
-        ensures room { IsOk result ↔ (length self.old < MOST_ITEMS) }
+        ensures room { IsOk result ↔ (length self.old < MESSAGE_ROOM) }
         ensures added { OnOk result (self.new ≡ self.old ++ item ∷ []) }
         ensures unchanged { OnErr result (self.new ≡ self.old) }
         ensures given_back { IfErr result (λ i. i ≡ item) }
@@ -61,16 +61,16 @@ impl Message {
 
     /// Adds an item at the end, where there is room.
     pub(crate) fn add(&mut self, item: Item)
-        requires { length self.old < MOST_ITEMS }
+        requires { length self.old < MESSAGE_ROOM }
         ensures { self.new ≡ self.old ++ item ∷ [] }
     {
         self.list.push(item);
     }
 
-    /// Gives the items, in order: at most `MOST_ITEMS`, with bytes of 0 to 255.
+    /// Gives the items, in order: at most `MESSAGE_ROOM`, with bytes of 0 to 255.
     pub fn items(&self) -> &[Item]
         ensures value { result.now ≡ self.now }
-        ensures most { length self.now ≤ MOST_ITEMS }
+        ensures most { length self.now ≤ MESSAGE_ROOM }
         ensures bytes { IsMessage self.now }
     {
         self.list.as_slice()

@@ -3,13 +3,15 @@
 ghost use Rattle.std.specs.Prelude.{◌≡◌, ◌<◌, ◌≤◌, ◌↔◌, length, map, false, not, ◌&&◌, if◌then◌else◌, nat_lt, IfOk, OnOk, OnErr, IsErr};
 ghost use Rattle.dm_words.specs.Ascii.{ascii};
 ghost use Rattle.dm_words.specs.NormalForm.{shorter, normal_form, one_segment};
+ghost use Rattle.dm_words.specs.Answers.{IsNormalFormAnswer};
+ghost use Rattle.dm_words.specs.Outcomes.{outcome};
 ghost use Rattle.dm_words.specs.Messages.{byte_of};
 
 use crate::ascii::{AsciiForm, ascii_form, write_ascii};
 use crate::base256::{segment_length, write_segment};
 use crate::fault::TooLong;
 use crate::item::Item;
-use crate::limits::MOST_ITEMS;
+use crate::limits::MESSAGE_ROOM;
 use crate::message::Message;
 use crate::profile::Profile;
 use arrayvec::ArrayVec;
@@ -18,8 +20,7 @@ use dm_layout::MOST_DATA;
 /// Gives the ASCII codewords of a message, without pads: from the left, two digits in one codeword wherever two come first. The answer is `TooLong`
 /// exactly where they are more than `MOST_DATA`. ISO/IEC 16022, ASCII encodation.
 pub fn ascii_words(message: &Message) -> Result<ArrayVec<u8, MOST_DATA>, TooLong>
-    ensures words { IfOk result (λ words. words.items ≡ ascii message.now) }
-    ensures too_long { IsErr result ↔ (MOST_DATA < length (ascii message.now)) }
+    ensures { IsNormalFormAnswer Profile.Ascii message.now result }
 {
     normal_words(Profile::Ascii, message)
 }
@@ -28,8 +29,7 @@ pub fn ascii_words(message: &Message) -> Result<ArrayVec<u8, MOST_DATA>, TooLong
 /// takes fewer codewords than ASCII; else those of [`ascii_words()`]. The length of the segment is always written out. The answer is `TooLong`
 /// exactly where they are more than `MOST_DATA`. ISO/IEC 16022, Base 256 encodation.
 pub fn shorter_words(message: &Message) -> Result<ArrayVec<u8, MOST_DATA>, TooLong>
-    ensures words { IfOk result (λ words. words.items ≡ shorter message.now) }
-    ensures too_long { IsErr result ↔ (MOST_DATA < length (shorter message.now)) }
+    ensures { IsNormalFormAnswer Profile.Shorter message.now result }
 {
     normal_words(Profile::Shorter, message)
 }
@@ -37,8 +37,7 @@ pub fn shorter_words(message: &Message) -> Result<ArrayVec<u8, MOST_DATA>, TooLo
 /// Gives the codewords of a message under a profile: those of [`ascii_words()`] or of [`shorter_words()`]. The answer is `TooLong` exactly where
 /// they are more than `MOST_DATA`.
 pub fn normal_words(profile: Profile, message: &Message) -> Result<ArrayVec<u8, MOST_DATA>, TooLong>
-    ensures words { IfOk result (λ words. words.items ≡ normal_form profile message.now) }
-    ensures too_long { IsErr result ↔ (MOST_DATA < length (normal_form profile message.now)) }
+    ensures { IsNormalFormAnswer profile message.now result }
 {
     let mut words = ArrayVec::new();
     match normal_words_to(profile, message, &mut words) {
@@ -47,17 +46,15 @@ pub fn normal_words(profile: Profile, message: &Message) -> Result<ArrayVec<u8, 
     }
 }
 
-/// Does the same as [`normal_words()`] in a place: if it answers `Ok`, the place holds these codewords, whatever it held before. After `TooLong` it
-/// holds what it held before. Under [`Profile::Shorter`] this does the same work as under [`Profile::Ascii`], except that it may write a segment
+/// Does the same as [`normal_words()`] in memory of the caller's: if it answers `Ok`, `words` holds these codewords, whatever it held before. After
+/// `TooLong` it holds what it held before. Under [`Profile::Shorter`] this does the same work as under [`Profile::Ascii`], except that it may write a segment
 /// instead of ASCII.
 pub fn normal_words_to(
     profile: Profile,
     message: &Message,
     words: &mut ArrayVec<u8, MOST_DATA>,
 ) -> Result<(), TooLong>
-    ensures words { OnOk result (words.new.items ≡ normal_form profile message.now) }
-    ensures most { OnOk result (length words.new.items ≤ MOST_DATA) }
-    ensures too_long { IsErr result ↔ (MOST_DATA < length (normal_form profile message.now)) }
+    ensures answer { IsNormalFormAnswer profile message.now (outcome result words.new) }
     ensures same { OnErr result (words.new.items ≡ words.old.items) }
 {
     let items = message.items();
@@ -84,7 +81,7 @@ struct Form {
 
 /// Tells what is known of the normal form of these items under a profile.
 fn form_of(profile: Profile, items: &[Item]) -> Form
-    requires { length items.now ≤ MOST_ITEMS }
+    requires { length items.now ≤ MESSAGE_ROOM }
     ensures form { normal_form profile items.now ≡ (if result.is_segment then one_segment (map byte_of items.now) else ascii items.now) }
     ensures length { result.length ≡ length (normal_form profile items.now) }
 {

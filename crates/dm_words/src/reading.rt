@@ -1,40 +1,51 @@
 //! Reading: the message that data codewords spell, or the fault with which they are refused.
 
-ghost use Rattle.std.specs.Prelude.{◌≡◌, ◌+◌, ◌≤◌, ◌<◌, ◌*◌, ◌↔◌, List, length, drop, Ok, Err, IfOk, OnOk, Option};
+ghost use Rattle.std.specs.Prelude.{◌≡◌, ◌+◌, ◌≤◌, ◌<◌, ◌*◌, ◌↔◌, List, [], length, drop, Ok, Err, IfOk, OnOk, Option};
 ghost use Rattle.dm_words.specs.declared.item.Item.{Item};
 ghost use Rattle.dm_words.specs.declared.fault.WordFault.{WordFault};
-ghost use Rattle.dm_words.specs.Messages.{IsMessage};
+ghost use Rattle.dm_words.specs.Messages.{IsMessage, most_spelled};
 ghost use Rattle.dm_words.specs.Spells.{Spells};
 ghost use Rattle.dm_words.specs.Refused.{Refused};
-ghost use Rattle.dm_words.specs.Places.{outcome};
-ghost use Rattle.dm_words.specs.inner.Scan.Fronts.{part_front, part_by, raised_unit};
+ghost use Rattle.dm_words.specs.Outcomes.{outcome};
+ghost use Rattle.dm_words.specs.Answers.{IsMessageAnswer};
+ghost use Rattle.dm_words.specs.Macros.{macro_header};
+ghost use Rattle.dm_words.specs.inner.Scan.Fronts.{part_front, part_by, raised_unit, read_on, and_trailer};
 ghost use Rattle.dm_words.specs.inner.Scan.Walk.{Step};
 ghost use Rattle.dm_words.specs.inner.Scan.Answers.{IsPartTakenOrEnd, IsPartTaken};
 
 use crate::base256::segment_part;
 use crate::c40::run::run_part;
 use crate::codeword::{Codeword, meaning};
+use crate::edifact::edifact_part;
+use crate::extent::Extent;
 use crate::fault::WordFault;
 use crate::front::number_at;
 use crate::item::Item;
+use crate::macros::{add_header, add_trailer, macro_digit};
 use crate::message::Message;
 use dm_layout::MOST_DATA;
 
 /// Takes the part at an index: adds its items to the message, and gives the number of its codewords; `None` at the end.
-fn next_part(words: &[u8], at: usize, message: &mut Message) -> Result<Option<usize>, WordFault>
+fn next_part(
+    extent: Extent,
+    words: &[u8],
+    at: usize,
+    message: &mut Message,
+) -> Result<Option<usize>, WordFault>
     requires in_range { at ≤ length words.now }
     requires short { length words.now ≤ MOST_DATA }
-    requires room { length message.old ≤ 2 * at }
-    ensures { IsPartTakenOrEnd result message.old message.new (part_front (at + 1) (drop at words.now)) }
+    requires room { length message.old ≤ 2 * at + 5 }
+    ensures { IsPartTakenOrEnd result message.old message.new (part_front extent (at + 1) (drop at words.now)) }
 {
     match number_at(words, at) {
-        Some(first) => part_of(meaning(first), first, words, at, message),
+        Some(first) => part_of(extent, meaning(first), first, words, at, message),
         None => Ok(None),
     }
 }
 
 /// The same where a codeword stands at the index, by what it means.
 fn part_of(
+    extent: Extent,
     meaning: Option<Codeword>,
     first: u8,
     words: &[u8],
@@ -43,8 +54,8 @@ fn part_of(
 ) -> Result<Option<usize>, WordFault>
     requires in_range { at < length words.now }
     requires short { length words.now ≤ MOST_DATA }
-    requires room { length message.old ≤ 2 * at }
-    ensures { IsPartTakenOrEnd result message.old message.new (part_by (at + 1) first (drop (at + 1) words.now) meaning) }
+    requires room { length message.old ≤ 2 * at + 5 }
+    ensures { IsPartTakenOrEnd result message.old message.new (part_by extent (at + 1) first (drop (at + 1) words.now) meaning) }
 {
     let place = at as u16 + 1;
     match meaning {
@@ -63,9 +74,13 @@ fn part_of(
             Ok(Some(1))
         }
         Some(Codeword::UpperShift) => taken(raised_part(words, at, message)),
-        Some(Codeword::Latch(set)) => taken(run_part(set, words, at, message)),
+        Some(Codeword::Latch(set)) => taken(run_part(extent, set, words, at, message)),
         Some(Codeword::Base256) => taken(segment_part(words, at, message)),
-        Some(Codeword::LeftOut) => Err(WordFault::LeftOut(first, place)),
+        Some(Codeword::Edifact) => match extent {
+            Extent::Usual => Err(WordFault::LeftOut(first, place)),
+            Extent::Wide => Ok(Some(edifact_part(words, at, message))),
+        },
+        Some(Codeword::Macro(_) | Codeword::LeftOut) => Err(WordFault::LeftOut(first, place)),
         None => Err(WordFault::Reserved(place)),
     }
 }
@@ -84,7 +99,7 @@ fn taken(part: Result<usize, WordFault>) -> Result<Option<usize>, WordFault>
 fn raised_part(words: &[u8], at: usize, message: &mut Message) -> Result<usize, WordFault>
     requires in_range { at < length words.now }
     requires short { length words.now ≤ MOST_DATA }
-    requires room { length message.old ≤ 2 * at }
+    requires room { length message.old ≤ 2 * at + 5 }
     ensures { IsPartTaken result message.old message.new (raised_unit (at + 1) (drop (at + 1) words.now)) }
 {
     let place = at as u16 + 1;
@@ -100,36 +115,88 @@ fn raised_part(words: &[u8], at: usize, message: &mut Message) -> Result<usize, 
     }
 }
 
-/// Gives the message that the data codewords of a symbol spell, in any of the five encodations, or the fault with which they are refused. The list
-/// is the whole data part, at most `MOST_DATA` codewords, so its end is the end of the symbol. What follows the first pad is ignored. The first
-/// faulty part from the left decides; `WordFault` says when each fault comes. ISO/IEC 16022, encodation schemes.
+/// Adds the items of all parts from an index on to the message, up to the end.
+fn add_parts(
+    extent: Extent,
+    words: &[u8],
+    start: usize,
+    message: &mut Message,
+) -> Result<(), WordFault>
+    requires in_range { start ≤ length words.now }
+    requires short { length words.now ≤ MOST_DATA }
+    requires room { length message.old ≤ 2 * start + 5 }
+    ensures read { outcome result message.new ≡ read_on extent message.old (start + 1) (drop start words.now) }
+    ensures two_for_each_codeword { OnOk result (length message.new + 2 * start ≤ length message.old + 2 * length words.now) }
+{
+    let mut at = start;
+    while let Some(count) = next_part(extent, words, at, message)? {
+        at += count;
+    }
+    Ok(())
+}
+
+/// Gives the message that the data codewords of a symbol spell, in any of the five encodations of the usual extent, or the fault with which they are
+/// refused. The list is the whole data part, at most `MOST_DATA` codewords, so its end is the end of the symbol. What follows the first pad is
+/// ignored. The first faulty part from the left decides; `WordFault` says when each fault comes. ISO/IEC 16022, encodation schemes.
 pub fn message_of(words: &[u8]) -> Result<Message, WordFault>
     requires { length words.now ≤ MOST_DATA }
-    ensures message { (m : List Item) → (result ≡ Ok m) ↔ Spells words.now m }
-    ensures fault { (why : WordFault) → (result ≡ Err why) ↔ Refused words.now why }
-    ensures two_for_each_codeword { IfOk result (λ m. length m ≤ 2 * length words.now) }
-    ensures bytes { IfOk result IsMessage }
+    ensures { IsMessageAnswer Extent.Usual words.now result }
+{
+    message_of_as(Extent::Usual, words)
+}
+
+/// Does the same as [`message_of()`] in memory of the caller's: if it answers `Ok`, `message` holds the message, whatever it held before. After
+/// a fault it holds some message.
+pub fn message_to(words: &[u8], message: &mut Message) -> Result<(), WordFault>
+    requires { length words.now ≤ MOST_DATA }
+    ensures { IsMessageAnswer Extent.Usual words.now (outcome result message.new) }
+{
+    message_to_as(Extent::Usual, words, message)
+}
+
+/// Gives the message that the data codewords of a symbol spell, in any encodation of the extent, or the fault with which they are refused, as
+/// [`message_of()`] does at [`Extent::Usual`]. At [`Extent::Wide`] it reads EDIFACT too; a macro as the first codeword gives the message its header
+/// and its trailer, so it has up to seven items more than two for each codeword; and an Upper Shift that waits where a run of C40 or Text ends is
+/// dropped. ISO/IEC 16022, encodation schemes, 05 and 06 macro characters.
+pub fn message_of_as(extent: Extent, words: &[u8]) -> Result<Message, WordFault>
+    requires { length words.now ≤ MOST_DATA }
+    ensures { IsMessageAnswer extent words.now result }
 {
     let mut message = Message::new();
-    match message_to(words, &mut message) {
+    match message_to_as(extent, words, &mut message) {
         Ok(()) => Ok(message),
         Err(fault) => Err(fault),
     }
 }
 
-/// Does the same as [`message_of()`] in a place: if it answers `Ok`, the place holds the message, whatever it held before. After a fault
-/// it holds some message.
-pub fn message_to(words: &[u8], message: &mut Message) -> Result<(), WordFault>
+/// Does the same as [`message_of_as()`] in memory of the caller's: if it answers `Ok`, `message` holds the message, whatever it held before.
+/// After a fault it holds some message.
+pub fn message_to_as(extent: Extent, words: &[u8], message: &mut Message) -> Result<(), WordFault>
     requires { length words.now ≤ MOST_DATA }
-    ensures message { (m : List Item) → (outcome result message.new ≡ Ok m) ↔ Spells words.now m }
-    ensures fault { (why : WordFault) → (outcome result message.new ≡ Err why) ↔ Refused words.now why }
-    ensures two_for_each_codeword { OnOk result (length message.new ≤ 2 * length words.now) }
-    ensures bytes { OnOk result (IsMessage message.new) }
+    ensures { IsMessageAnswer extent words.now (outcome result message.new) }
 {
     message.clear();
-    let mut at = 0;
-    while let Some(count) = next_part(words, at, message)? {
-        at += count;
+    match macro_digit(extent, words) {
+        Some(digit) => framed_parts(extent, digit, words, message),
+        None => add_parts(extent, words, 0, message),
     }
+}
+
+/// Adds the header of the macro of this digit, which is the first codeword, the items of all parts behind it, and the trailer to the empty message.
+fn framed_parts(
+    extent: Extent,
+    digit: u8,
+    words: &[u8],
+    message: &mut Message,
+) -> Result<(), WordFault>
+    requires some { 1 ≤ length words.now }
+    requires short { length words.now ≤ MOST_DATA }
+    requires empty { message.old ≡ [] }
+    ensures read { outcome result message.new ≡ and_trailer (read_on extent (macro_header digit) 2 (drop 1 words.now)) }
+    ensures most { OnOk result (length message.new ≤ 2 * length words.now + 7) }
+{
+    add_header(digit, message);
+    add_parts(extent, words, 1, message)?;
+    add_trailer(message);
     Ok(())
 }

@@ -1,6 +1,8 @@
 pub mod Zeros
 pub mod Packing
+pub mod Unpacking
 pub mod Rows
+pub mod MadeGrids
 pub mod Sides
 pub mod Structure
 pub mod Bits

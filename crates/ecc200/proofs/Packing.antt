@@ -1,12 +1,19 @@
 -- Rows of modules that are packed into one number, module after module from the right.
-use Rattle.std.proofs.Common.{◌≡◌, ℕ, zero, suc, ◌+◌, ◌-◌, ◌*◌, ◌/◌, ◌%◌, ◌^◌, ◌<◌, ◌≤◌, Bool, true, false, nat_eq, List, length, get_or, refl, sym, ◌∙◌, ap, arith, mul_comm, Fits, map, take}
+use Rattle.std.proofs.Common.{◌≡◌, ℕ, zero, suc, ◌+◌, ◌-◌, ◌*◌, ◌/◌, ◌%◌, ◌^◌, ◌<◌, ◌≤◌, Bool, true, false, cond, nat_eq, List, length, get_or, refl, sym, ◌∙◌, ap, arith, mul_comm, Fits, map, take, drop, subst, bit_or, inl, inr}
 use Rattle.std.specs.Int.{w128}
 use Rattle.std.proofs.Math.Facts.{Fits-bits}
 use Rattle.std.proofs.Math.Nat.{pow-suc, div-div-eq-div-mul}
 use Rattle.std.proofs.lemmas.Nat.{pow_below}
 use mir.Val.{bool_byte as from_bool}
 use Rattle.std.proofs.lemmas.List.{get_or-map}
-use Rattle.std.proofs.Math.Nat.{mul-le-mul_right}
+use Rattle.std.proofs.Math.Nat.{mul-le-mul_right, mod-eq_of_lt}
+use Rattle.std.specs.Simd.Lanes.{mask_l, chunk}
+use Rattle.std.proofs.lemmas.Bool.{cases_lt}
+use Rattle.std.proofs.lemmas.List.{length-drop, length-map, take_all, get_or-drop}
+use Rattle.std.specs.Int.Bits.{or_shifted_r}
+use Rattle.std.proofs.lemmas.Nat.{pow-add}
+use Rattle.std.proofs.lemmas.Nat.Bits.{bit_at_cat_low, bit_at_cat_high}
+use Rattle.std.proofs.lemmas.Simd.{bit_mask_l, mask_l-lt, length-chunk, get_or-chunk}
 use Rattle.dm_symbol.specs.Grid.{is_dark_in, square_of, square_of_rows}
 use Rattle.dm_layout.proofs.Exported.{same_squares, front_square}
 use Rattle.ecc200.specs.Modules.{is_dark}
@@ -71,3 +78,62 @@ square_packed side modules rows count cells =
     ∙ same_squares side (λ r. is_dark_in (get_or rows r 0)) (λ r c. get_or (map is_dark modules) (r * side + c) false) (λ r c lr lc.
     let room : (r + 1) * side ≤ side * side = mul-le-mul_right side (omega (arith, lr)) in
     cells r c lr lc ∙ sym (get_or-map is_dark modules (r * side + c) 0 false (omega (arith, count, room, lc))))
+
+-- ---- sixteen modules together
+
+-- So many bits more are that many bits in all.
+pub together_small : (row next column : ℕ) → row < 2 ^ column → next < 2 ^ 16 → next * 2 ^ column + row < 2 ^ (column + 16)
+together_small row next column small few =
+    let all : 2 ^ (column + 16) ≡ 2 ^ column * 2 ^ 16 = pow-add 2 column 16 in
+    let most : (next + 1) * 2 ^ column ≤ 2 ^ 16 * 2 ^ column = mul-le-mul_right (2 ^ column) (omega (arith, few)) in
+    omega (arith, all, most, small)
+
+-- Modules that are packed together stand above those before them.
+pub together_is : (row next column : ℕ) → column < 112 → row < 2 ^ column → next < 2 ^ 16 → bit_or row (next * 2 ^ column % 2 ^ 128) ≡ next * 2 ^ column + row
+together_is row next column low small few =
+    let room : next * 2 ^ column < 2 ^ 128 = omega (arith, together_small row next column small few, pow_below (column + 16) 128 (omega arith)) in
+    ap (bit_or row) (mod-eq_of_lt room) ∙ or_shifted_r next column row small
+
+-- Where the modules before a column are packed, and those from it on beside them, the modules before a later column are.
+pub together_more : (modules : List ℕ) (row next column across : ℕ) → row < 2 ^ column
+    → ((k : ℕ) → k < column → k < across → is_dark_in row k ≡ is_dark (get_or modules k 0))
+    → ((k : ℕ) → k < 16 → column + k < across → is_dark_in next k ≡ is_dark (get_or modules (column + k) 0))
+    → (k : ℕ) → k < column + 16 → k < across → is_dark_in (next * 2 ^ column + row) k ≡ is_dark (get_or modules k 0)
+together_more modules row next column across small before after k l within = elim (cases_lt k column) [
+  | inl lt ↦ ap (λ b. nat_eq b 1) (bit_at_cat_low next column row k lt) ∙ before k lt within
+  | inr ge ↦
+      let back : column + (k - column) ≡ k = omega (arith, ge) in
+      ap (λ b. nat_eq b 1) (bit_at_cat_high next column row k small ge) ∙ after (k - column) (omega (arith, ge, l)) (omega (arith, back, within))
+      ∙ ap (λ j. is_dark (get_or modules j 0)) back
+]
+
+-- The rest of a list from a place on has what stands in the list from there on.
+pub rest_at : (xs : List ℕ) (at k d : ℕ) → at + k < length xs
+    → (k < length (take (length xs - at) (drop at xs))) × (get_or (take (length xs - at) (drop at xs)) k d ≡ get_or xs (at + k) d)
+rest_at xs at k d l =
+    let whole : take (length xs - at) (drop at xs) ≡ drop at xs = take_all (length xs - at) (drop at xs) (omega (arith, length-drop at xs)) in
+    (omega (arith, ap length whole, length-drop at xs), ap (λ ys. get_or ys k d) whole ∙ get_or-drop at xs k d)
+
+-- Fewer than sixteen bits are less than sixteen.
+pub short_small : (n k : ℕ) → n < 2 ^ k → k < 16 → n < 2 ^ 16
+short_small n k small l = omega (arith, small, pow_below k 16 l)
+
+-- The mask of sixteen modules has sixteen bits.
+pub mask_small : (modules : List ℕ) (bits : ℕ) → bits ≡ mask_l (map is_dark (chunk 0 16 modules)) → 16 ≤ length modules → bits < 2 ^ 16
+mask_small modules bits e long =
+    let count : length (map is_dark (chunk 0 16 modules)) ≡ 16 = length-map (chunk 0 16 modules) is_dark ∙ length-chunk 0 16 modules long in
+    subst (λ n. n < 2 ^ 16) (sym e) (subst (λ n. mask_l (map is_dark (chunk 0 16 modules)) < 2 ^ n) count (mask_l-lt (map is_dark (chunk 0 16 modules))))
+
+-- A bit of a mask is 1 where its lane is true.
+cond_one : (b : Bool) → nat_eq (cond b 1 0) 1 ≡ b
+cond_one true = refl
+cond_one false = refl
+
+-- Its bits are the modules.
+pub mask_dark : (modules : List ℕ) (bits : ℕ) → bits ≡ mask_l (map is_dark (chunk 0 16 modules)) → 16 ≤ length modules
+    → (column : ℕ) → column < 16 → column < length modules → is_dark_in bits column ≡ is_dark (get_or modules column 0)
+mask_dark modules bits e long column l within =
+    let block = chunk 0 16 modules in
+    let count : length block ≡ 16 = length-chunk 0 16 modules long in
+    ap (λ n. is_dark_in n column) e ∙ ap (λ b. nat_eq b 1) (bit_mask_l (map is_dark block) column) ∙ cond_one (get_or (map is_dark block) column false)
+    ∙ get_or-map is_dark block column 0 false (omega (arith, count, l)) ∙ ap is_dark (get_or-chunk 0 16 modules column 0 l ∙ ap (λ j. get_or modules j 0) (let first : 0 + column ≡ column = omega arith in first))

@@ -1,40 +1,14 @@
 -- Rows of modules that are written one after the other.
-use Rattle.std.proofs.Common.{◌≡◌, ℕ, ◌+◌, ◌*◌, ◌<◌, ◌≤◌, Bool, true, false, List, [], ◌∷◌, ◌++◌, map, set, take, drop, length, get_or, refl, sym, ◌∙◌, ap, arith, append_assoc, length-append}
+use Rattle.std.proofs.Common.{◌≡◌, ℕ, ◌+◌, ◌*◌, ◌<◌, ◌≤◌, Bool, List, [], ◌∷◌, ◌++◌, map, take, drop, length, get_or, sym, ◌∙◌, ap, arith, length-append}
 use Rattle.std.specs.List.{flat_map}
-use Rattle.std.proofs.lemmas.List.{take_more, take_more_set, map-append, length-map, length-take-le, drop-set-lt, drop-drop, append-nil}
+use Rattle.std.proofs.lemmas.List.{take_more, length-map, length-take-le, drop-drop, append-nil}
 use Rattle.std.proofs.lemmas.Grind.{flat_map-append}
 use Rattle.std.proofs.Math.Seq.{take-append_seam, drop-append_seam}
-use mir.Val.{bool_byte as from_bool}
 use Rattle.ecc200.specs.Modules.{module_of}
-
--- A truth value as a number is a module.
-pub module_from_bool : (b : Bool) → from_bool b ≡ module_of b
-module_from_bool true = refl
-module_from_bool false = refl
 
 -- What lies behind one place lies behind the next.
 pub behind_more : {X : Type 0} (xs ys : List X) (k n : ℕ) → drop k xs ≡ drop k ys → drop (k + n) xs ≡ drop (k + n) ys
 behind_more xs ys k n h = sym (drop-drop n k xs) ∙ ap (λ zs. drop n zs) h ∙ drop-drop n k ys
-
--- One more module is written in a row that begins at a place.
-pub row_more : (init all : List ℕ) (cells : List Bool) (start column v : ℕ) → start + column < length all → column < length cells
-    → v ≡ module_of (get_or cells column false) → take (start + column) all ≡ take start init ++ map module_of (take column cells)
-    → take (start + (column + 1)) (set all (start + column) v) ≡ take start init ++ map module_of (take (column + 1) cells)
-row_more init all cells start column v l lc e h =
-    let next : start + (column + 1) ≡ start + column + 1 = omega arith in
-    let front : List ℕ = take start init in
-    let done : List ℕ = map module_of (take column cells) in
-    let line : done ++ v ∷ [] ≡ map module_of (take (column + 1) cells) =
-    ap (λ x. done ++ x ∷ []) e ∙ sym (map-append module_of (take column cells) (get_or cells column false ∷ [])) ∙ ap (map module_of) (sym (take_more cells column false lc)) in
-    ap (λ k. take k (set all (start + column) v)) next ∙ take_more_set all (start + column) v l ∙ ap (λ xs. xs ++ v ∷ []) h
-    ∙ append_assoc front done (v ∷ []) ∙ ap (λ xs. front ++ xs) line
-
--- What lies behind the row stays.
-pub row_behind : (init all : List ℕ) (start column v : ℕ) → drop (start + column) all ≡ drop (start + column) init
-    → drop (start + (column + 1)) (set all (start + column) v) ≡ drop (start + (column + 1)) init
-row_behind init all start column v h =
-    let next : start + (column + 1) ≡ start + column + 1 = omega arith in
-    drop-set-lt (start + (column + 1)) all (start + column) v (omega arith) ∙ ap (λ k. drop k all) next ∙ behind_more all init (start + column) 1 h ∙ ap (λ k. drop k init) (sym next)
 
 -- One more row of a grid is written, after the rows so far and before what lies behind them.
 pub rows_more : (init all new : List ℕ) (rows : List (List Bool)) (row side : ℕ)

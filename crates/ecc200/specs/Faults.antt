@@ -57,3 +57,7 @@ foreign number place = fault 15 number place
 -- This number stands for no profile.
 abbrev pub no_such_profile : ℕ → Fault
 no_such_profile number = fault 16 number 0
+
+-- This number stands for no extent.
+abbrev pub no_such_extent : ℕ → Fault
+no_such_extent number = fault 17 number 0

@@ -1,5 +1,6 @@
 pub mod Arrays
 pub mod Faults
+pub mod Extents
 pub mod Items
 pub mod Modules
 pub mod Readings
@@ -7,4 +8,5 @@ pub mod Symbols
 pub mod Inspections
 pub mod Places
 pub mod Sizes
+pub mod Laws
 pub mod inner

@@ -1,22 +1,29 @@
 -- What the library gives for a grid that is to be read.
-use Rattle.std.specs.Prelude.{◌≡◌, ℕ, List, length, replicate, Result, Ok, Err}
+use Rattle.std.specs.Prelude.{◌≡◌, ℕ, List, length, replicate, Some, None, Result, Ok, Err}
+use Rattle.dm_symbol.specs.declared.Extent.{Extent}
+use Rattle.dm_symbol.specs.declared.Extent.TheVariants.{Wide}
 use Rattle.dm_symbol.specs.declared.Reading.{Reading}
 use Rattle.dm_symbol.specs.declared.ReadFault.{ReadFault}
-use Rattle.dm_symbol.specs.Sizes.{most_blocks}
+use Rattle.dm_symbol.specs.Sizes.{most_blocks, most_data}
 use Rattle.dm_symbol.specs.Grid.{GridView}
-use Rattle.dm_symbol.specs.Messages.{most_items}
+use Rattle.dm_symbol.specs.Messages.{most_spelled}
 use Rattle.dm_symbol.specs.Reading.{ReadAnswer}
 use Rattle.ecc200.specs.declared.fault.Fault.{Fault}
 use Rattle.ecc200.specs.declared.reading.ReadingOut.{ReadingOut}
 use Rattle.ecc200.specs.Arrays.{filled}
-use Rattle.ecc200.specs.Faults.{no_fault, read_fault}
+use Rattle.ecc200.specs.Extents.{extent_of}
+use Rattle.ecc200.specs.Faults.{no_fault, no_such_extent, read_fault}
 use Rattle.ecc200.specs.Items.{numbers_of}
 use Rattle.ecc200.specs.Modules.{IsGridOf, IsModulesFault}
+
+-- No symbol says more items than this, in whatever extent it is read.
+abbrev pub most_read : ℕ
+most_read = most_spelled Wide most_data
 
 -- What is given for a fault has that fault, and all else is 0.
 abbrev pub no_reading : Fault → ReadingOut
 no_reading why =
-    record { fault = why; side = 0; border_faults = 0; block_count = 0; item_count = 0; items = replicate most_items 0; corrected = replicate most_blocks 0 }
+    record { fault = why; side = 0; border_faults = 0; block_count = 0; item_count = 0; items = replicate most_read 0; corrected = replicate most_blocks 0 }
 
 -- A reading of a grid of this side is given in this way.
 abbrev pub reading_shown : ℕ → Reading → ReadingOut
@@ -27,7 +34,7 @@ reading_shown side reading =
       border_faults = reading.border_faults;
       block_count = length reading.corrected.items;
       item_count = length reading.message;
-      items = filled most_items (numbers_of reading.message);
+      items = filled most_read (numbers_of reading.message);
       corrected = filled most_blocks reading.corrected.items;
     }
 
@@ -36,8 +43,13 @@ abbrev pub answer_shown : ℕ → Result Reading ReadFault → ReadingOut
 answer_shown side (Ok reading) = reading_shown side reading
 answer_shown side (Err why) = no_reading (read_fault why)
 
--- Reading these modules gives the reason why they make no grid, or the answer of reading for their grid.
-pub data IsReadAnswer (side : ℕ) (modules : List ℕ) (limit : ℕ) (out : ReadingOut) : Type 0 where
-  no_grid : (why : Fault) → IsModulesFault side modules why → out ≡ no_reading why → IsReadAnswer side modules limit out
-  answered : (grid : GridView) (answer : Result Reading ReadFault) → IsGridOf side modules grid → ReadAnswer grid limit answer
-      → out ≡ answer_shown side answer → IsReadAnswer side modules limit out
+-- Reading these modules in an extent gives the reason why they make no grid, or the answer of reading for their grid.
+pub data ExtentAnswer (extent : Extent) (side : ℕ) (modules : List ℕ) (limit : ℕ) (out : ReadingOut) : Type 0 where
+  no_grid : (why : Fault) → IsModulesFault side modules why → out ≡ no_reading why → ExtentAnswer extent side modules limit out
+  answered : (grid : GridView) (answer : Result Reading ReadFault) → IsGridOf side modules grid → ReadAnswer extent grid limit answer
+      → out ≡ answer_shown side answer → ExtentAnswer extent side modules limit out
+
+-- Reading these modules gives that there is no such extent, or the answer in that extent.
+pub data IsReadAnswer (side : ℕ) (modules : List ℕ) (limit extent : ℕ) (out : ReadingOut) : Type 0 where
+  no_extent : extent_of extent ≡ None → out ≡ no_reading (no_such_extent extent) → IsReadAnswer side modules limit extent out
+  in_extent : (chosen : Extent) → extent_of extent ≡ Some chosen → ExtentAnswer chosen side modules limit out → IsReadAnswer side modules limit extent out

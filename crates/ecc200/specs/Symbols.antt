@@ -1,5 +1,6 @@
 -- What the library gives for a message that is to be written, and for a grid that is to be normalised.
 use Rattle.std.specs.Prelude.{◌≡◌, ℕ, List, nat_eq, if◌then◌else◌, Option, Some, None, get_or, min, replicate, Result, Ok, Err}
+use Rattle.dm_symbol.specs.declared.Extent.{Extent}
 use Rattle.dm_symbol.specs.declared.Item.{Item}
 use Rattle.dm_symbol.specs.declared.Profile.{Profile}
 use Rattle.dm_symbol.specs.declared.Profile.TheVariants.{Ascii, Shorter}
@@ -11,7 +12,8 @@ use Rattle.dm_symbol.specs.Normal.{NormalAnswer}
 use Rattle.ecc200.specs.declared.fault.Fault.{Fault}
 use Rattle.ecc200.specs.declared.symbol.SymbolOut.{SymbolOut}
 use Rattle.ecc200.specs.Arrays.{most_modules, filled}
-use Rattle.ecc200.specs.Faults.{no_fault, normal_fault, too_long, foreign, no_such_profile}
+use Rattle.ecc200.specs.Extents.{extent_of}
+use Rattle.ecc200.specs.Faults.{no_fault, normal_fault, too_long, foreign, no_such_profile, no_such_extent}
 use Rattle.ecc200.specs.Items.{IsFirstForeign, numbers_of}
 use Rattle.ecc200.specs.Modules.{IsGridOf, IsModulesFault, modules_of}
 
@@ -39,12 +41,13 @@ pub data WrittenAnswer (profile : Profile) (numbers : List ℕ) (answer : Result
   no_grid : (message : List Item) → IsMessage message → numbers_of message ≡ numbers → (FitsSomeSize profile message → ⊥) → answer ≡ Err too_long → WrittenAnswer profile numbers answer
   normal : (message : List Item) (grid : GridView) → IsMessage message → numbers_of message ≡ numbers → IsNormalGrid profile message grid → answer ≡ Ok grid → WrittenAnswer profile numbers answer
 
--- The answer to modules under a profile is why they make no grid; or why their grid has no normal grid; or its normal grid.
-pub data NormalisedAnswer (profile : Profile) (side : ℕ) (modules : List ℕ) (limit : ℕ) (answer : Result GridView Fault) : Type 0 where
-  no_grid : (why : Fault) → IsModulesFault side modules why → answer ≡ Err why → NormalisedAnswer profile side modules limit answer
-  refused : (grid : GridView) (why : NormalFault) → IsGridOf side modules grid → NormalAnswer profile grid limit (Err why) → answer ≡ Err (normal_fault why)
-      → NormalisedAnswer profile side modules limit answer
-  normal : (grid normal_grid : GridView) → IsGridOf side modules grid → NormalAnswer profile grid limit (Ok normal_grid) → answer ≡ Ok normal_grid → NormalisedAnswer profile side modules limit answer
+-- The answer to modules in an extent and under a profile is why they make no grid; or why their grid has no normal grid; or its normal grid.
+pub data NormalisedAnswer (extent : Extent) (profile : Profile) (side : ℕ) (modules : List ℕ) (limit : ℕ) (answer : Result GridView Fault) : Type 0 where
+  no_grid : (why : Fault) → IsModulesFault side modules why → answer ≡ Err why → NormalisedAnswer extent profile side modules limit answer
+  refused : (grid : GridView) (why : NormalFault) → IsGridOf side modules grid → NormalAnswer extent profile grid limit (Err why)
+      → answer ≡ Err (normal_fault why) → NormalisedAnswer extent profile side modules limit answer
+  normal : (grid normal_grid : GridView) → IsGridOf side modules grid → NormalAnswer extent profile grid limit (Ok normal_grid)
+      → answer ≡ Ok normal_grid → NormalisedAnswer extent profile side modules limit answer
 
 -- Writing these numbers gives that there is no such profile, or the answer under that profile.
 pub data IsWriteAnswer (numbers : List ℕ) (profile : ℕ) (out : SymbolOut) : Type 0 where
@@ -52,8 +55,14 @@ pub data IsWriteAnswer (numbers : List ℕ) (profile : ℕ) (out : SymbolOut) : 
   answered : (chosen : Profile) (answer : Result GridView Fault) → profile_of profile ≡ Some chosen → WrittenAnswer chosen numbers answer
       → out ≡ answer_shown answer → IsWriteAnswer numbers profile out
 
--- Normalising the grid of these modules gives that there is no such profile, or the answer under that profile.
-pub data IsNormalAnswer (side : ℕ) (modules : List ℕ) (limit profile : ℕ) (out : SymbolOut) : Type 0 where
-  no_profile : profile_of profile ≡ None → out ≡ no_symbol (no_such_profile profile) → IsNormalAnswer side modules limit profile out
-  answered : (chosen : Profile) (answer : Result GridView Fault) → profile_of profile ≡ Some chosen → NormalisedAnswer chosen side modules limit answer
-      → out ≡ answer_shown answer → IsNormalAnswer side modules limit profile out
+-- Normalising the grid of these modules in an extent gives that there is no such profile, or the answer under that profile.
+pub data ProfileAnswer (extent : Extent) (side : ℕ) (modules : List ℕ) (limit profile : ℕ) (out : SymbolOut) : Type 0 where
+  no_profile : profile_of profile ≡ None → out ≡ no_symbol (no_such_profile profile) → ProfileAnswer extent side modules limit profile out
+  answered : (chosen : Profile) (answer : Result GridView Fault) → profile_of profile ≡ Some chosen → NormalisedAnswer extent chosen side modules limit answer
+      → out ≡ answer_shown answer → ProfileAnswer extent side modules limit profile out
+
+-- Normalising the grid of these modules gives that there is no such extent, or the answer in that extent.
+pub data IsNormalAnswer (side : ℕ) (modules : List ℕ) (limit extent profile : ℕ) (out : SymbolOut) : Type 0 where
+  no_extent : extent_of extent ≡ None → out ≡ no_symbol (no_such_extent extent) → IsNormalAnswer side modules limit extent profile out
+  in_extent : (chosen : Extent) → extent_of extent ≡ Some chosen → ProfileAnswer chosen side modules limit profile out
+      → IsNormalAnswer side modules limit extent profile out

@@ -1,1 +1,2 @@
 pub mod PlaceSteps
+pub mod UnpackedCells

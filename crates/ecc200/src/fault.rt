@@ -1,7 +1,7 @@
 //! Faults as numbers.
 
 ghost use Rattle.std.specs.Prelude.{◌≡◌};
-ghost use Rattle.ecc200.specs.Faults.{fault, foreign, no_fault, no_such_profile, no_such_side, normal_fault, read_fault, shape, too_long, word_fault};
+ghost use Rattle.ecc200.specs.Faults.{fault, foreign, no_fault, no_such_extent, no_such_profile, no_such_side, normal_fault, read_fault, shape, too_long, word_fault};
 
 use dm_symbol::{NormalFault, ReadFault, WordFault};
 
@@ -62,6 +62,13 @@ impl Fault {
         ensures { result ≡ no_such_profile number }
     {
         Fault::of(16, number, 0)
+    }
+
+    /// Says that this number stands for no extent.
+    pub(crate) fn no_such_extent(number: u16) -> Fault
+        ensures { result ≡ no_such_extent number }
+    {
+        Fault::of(17, number, 0)
     }
 }
 

@@ -33,6 +33,21 @@ pub(crate) fn message_of(numbers: &[u16]) -> Message
     message
 }
 
+/// Gives the message of these bytes.
+pub(crate) fn message_of_bytes(bytes: &[u8]) -> Message
+    requires { length bytes.now ≤ MOST_ITEMS }
+    ensures numbers { numbers_of result ≡ bytes.now }
+    ensures message { IsMessage result }
+{
+    let mut message = Message::new();
+    for byte in bytes {
+        let _room = message.push(Item::Byte(*byte));
+    }
+    // That its bytes are 0 to 255 is known from this call.
+    let _items = message.items();
+    message
+}
+
 /// Gives the item of a number.
 fn item_of(number: u16) -> Item
     requires { number ≤ 256 }

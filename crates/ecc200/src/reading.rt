@@ -2,13 +2,14 @@
 
 ghost use Rattle.std.specs.Prelude.{◌≡◌};
 ghost use Rattle.dm_symbol.specs.Reading.{usual_limit};
-ghost use Rattle.ecc200.specs.Readings.{IsReadAnswer, no_reading, reading_shown};
+ghost use Rattle.ecc200.specs.Readings.{ExtentAnswer, IsReadAnswer, no_reading, reading_shown};
 
 use crate::arrays::put_bytes;
+use crate::extent::extent_of;
 use crate::fault::{Fault, read_fault};
 use crate::message::put_message;
 use crate::modules::grid_of;
-use dm_symbol::{MOST_BLOCKS, MOST_ITEMS, Reading, read_to, usual_limit};
+use dm_symbol::{Extent, MESSAGE_ROOM, MOST_BLOCKS, Reading, read_as_to, usual_limit};
 
 /// What a grid says, and how much of it was wrong. If there is a fault, all else is 0.
 #[repr(C)]
@@ -19,32 +20,43 @@ pub struct ReadingOut {
     pub border_faults: u16,
     pub block_count: u16,
     pub item_count: u16,
-    pub items: [u16; MOST_ITEMS],
+    pub items: [u16; MESSAGE_ROOM],
     pub corrected: [u8; MOST_BLOCKS],
 }
 
-/// Reads the grid of these modules.
+/// Reads the grid of these modules in an extent.
 #[unsafe(no_mangle)]
 pub extern "C" fn ecc200_read(
     modules: &[u8],
     side: u16,
     border_limit: u16,
+    extent: u16,
     out: &mut ReadingOut,
 ) -> u16
-    ensures answer { IsReadAnswer side modules.now border_limit out.new }
+    ensures answer { IsReadAnswer side modules.now border_limit extent out.new }
     ensures code { result ≡ out.new.fault.code }
+{
+    match extent_of(extent) {
+        Some(extent) => read_modules(extent, modules, side, border_limit, out),
+        None => show_fault(out, Fault::no_such_extent(extent)),
+    }
+    out.fault.code
+}
+
+/// Shows what the grid of these modules says in an extent, or why it says nothing.
+fn read_modules(extent: Extent, modules: &[u8], side: u16, border_limit: u16, out: &mut ReadingOut)
+    ensures { ExtentAnswer extent side modules.now border_limit out.new }
 {
     match grid_of(modules, side) {
         Ok(grid) => {
             let mut reading = Reading::new();
-            match read_to(&grid, border_limit, &mut reading) {
+            match read_as_to(extent, &grid, border_limit, &mut reading) {
                 Ok(()) => show_reading(out, side, &reading),
                 Err(why) => show_fault(out, read_fault(why)),
             }
         }
         Err(why) => show_fault(out, why),
     }
-    out.fault.code
 }
 
 /// Gives the number of wrong border modules that are usually accepted in a symbol of this side.
@@ -64,7 +76,7 @@ fn show_fault(out: &mut ReadingOut, why: Fault)
     out.border_faults = 0;
     out.block_count = 0;
     out.item_count = 0;
-    out.items = [0; MOST_ITEMS];
+    out.items = [0; MESSAGE_ROOM];
     out.corrected = [0; MOST_BLOCKS];
 }
 
@@ -77,7 +89,7 @@ fn show_reading(out: &mut ReadingOut, side: u16, reading: &Reading)
     out.border_faults = reading.border_faults;
     out.block_count = reading.corrected.len() as u16;
     out.item_count = reading.message.items().len() as u16;
-    out.items = [0; MOST_ITEMS];
+    out.items = [0; MESSAGE_ROOM];
     put_message(&mut out.items, &reading.message);
     out.corrected = [0; MOST_BLOCKS];
     put_bytes(&mut out.corrected, reading.corrected.as_slice());

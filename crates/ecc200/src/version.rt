@@ -5,7 +5,7 @@ ghost use Rattle.std.specs.Prelude.{◌≡◌};
 /// The version of the interface: `ECC200_ABI` of the header that declares it.
 #[unsafe(no_mangle)]
 pub extern "C" fn ecc200_abi() -> u16
-    ensures { result ≡ 1 }
+    ensures { result ≡ 2 }
 {
-    1
+    2
 }

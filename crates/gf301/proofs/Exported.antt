@@ -1,5 +1,8 @@
 -- What the crates above cite of the proofs of this one: facts of its definitions, and what they speak of.
-pub use Rattle.gf301.proofs.Additive.{xor_swap, xor_twice}
+unfoldable pub use Rattle.gf301.proofs.Additive.{all_below}
+pub use Rattle.gf301.proofs.Additive.{all_below_at, xor_swap, xor_twice}
+unfoldable pub use Rattle.gf301.proofs.AddedLanes.{IsAddedTo}
+pub use Rattle.gf301.proofs.AddedLanes.{IsDoneTo, added_more, done_more}
 pub use Rattle.gf301.proofs.FieldLaws.{inverse_of, power_injective, product_assoc, product_below, product_cancel, product_cancels, product_comm, product_inverse, product_low_left, product_one_left, product_one_middle, product_one_right, product_positive, product_sum_left, product_sum_right, product_zero_left, product_zero_right, raise_add, raise_below, raise_mul, raise_positive, raise_swap, sum_below, sum_zero}
 unfoldable pub use Rattle.gf301.proofs.Lists.{nonzeros, plus, scale}
 pub use Rattle.gf301.proofs.Series.{conv_below, conv_comm, conv_cons, conv_first, conv_nothing, conv_push, conv_same_left, conv_same_right, conv_scale_left, conv_sum_left, conv_swap, conv_zero, product_at_zero, product_zero_at}

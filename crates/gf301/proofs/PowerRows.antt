@@ -1,11 +1,11 @@
--- The table of powers of powers, and lists to which multiples of others are added sixteen numbers at a time.
-use Rattle.std.proofs.Common.{◌≡◌, ℕ, ◌+◌, ◌-◌, ◌*◌, ◌%◌, ◌<◌, ◌≤◌, List, [], length, get_or, map, take, drop, refl, sym, ap, ◌∙◌, arith, bit_xor, true, eqb, inl, inr}
-use Rattle.std.proofs.lemmas.Bool.{eqb-true, cases_lt}
+-- The table of powers of powers.
+use Rattle.std.proofs.Common.{◌≡◌, ℕ, ◌+◌, ◌-◌, ◌*◌, ◌%◌, ◌<◌, ◌≤◌, List, [], length, get_or, map, take, drop, refl, sym, ap, ◌∙◌, arith, true, eqb}
+use Rattle.std.proofs.lemmas.Bool.{eqb-true}
 use Rattle.std.proofs.lemmas.List.{get_or-map, length-map, ext_get_or, take-take}
 use Rattle.std.proofs.lemmas.Nat.{mod_below}
-use Rattle.std.proofs.lemmas.Simd.{length-zip2, length-chunk, get_or-zip2, get_or-chunk, get_or-put_chunk_below, get_or-put_chunk_at, get_or-put_chunk_above, length-put_chunk}
-use lib.Lanes.{zip2, chunk, put_chunk}
-use Rattle.gf301.specs.Field.{◌⊕◌, ◌⊗◌, raise, power}
+use Rattle.std.proofs.lemmas.Simd.{length-chunk, get_or-chunk}
+use lib.Lanes.{chunk}
+use Rattle.gf301.specs.Field.{◌⊗◌, raise, power}
 use Rattle.gf301.specs.Polynomial.{values_from}
 use Rattle.gf301.specs.declared.field.TheConstants.{POWERS}
 use Rattle.gf301.specs.declared.power_rows.TheConstants.{POWER_ROWS}
@@ -66,41 +66,3 @@ later_powers first =
     get_or-map (λ x. power first ⊗ x) (chunk 0 16 POWERS) i 0 0 (omega (arith, n))
     ∙ ap (λ y. power first ⊗ y) (get_or-chunk 0 16 POWERS i 0 lt ∙ ap (λ j. get_or POWERS j 0) (let q : 0 + i ≡ i = omega arith in q) ∙ powers_at i (omega arith))
     ∙ sym (raise_add 2 first i) ∙ sym (get_or-values_from power first 16 i lt))
-
--- ---- sixteen numbers more of a sum
--- The list s is the sum of a and c times b at its first numbers, up to the place n, and is a from there on.
-pub record IsAddedTo (c : ℕ) (a b s : List ℕ) (n : ℕ) : Type 0 where
-  pub long : length s ≡ length a
-  pub done : (i : ℕ) → i < n → get_or s i 0 ≡ get_or a i 0 ⊕ c ⊗ get_or b i 0
-  pub left : (i : ℕ) → n ≤ i → get_or s i 0 ≡ get_or a i 0
-
--- What is stored at the sixteen places from n on is the sum of the numbers of s and c times those of b there.
-abbrev pub stored : ℕ → List ℕ → List ℕ → ℕ → List ℕ
-stored c b s n = zip2 bit_xor (chunk n 16 s) (map (λ x. c ⊗ x) (chunk n 16 b))
-
--- With these sixteen numbers stored, the sum is done up to sixteen places further.
-pub added_more : (c : ℕ) (a b s : List ℕ) (n : ℕ) → n + 16 ≤ length a → length a ≤ length b → IsAddedTo c a b s n → IsAddedTo c a b (put_chunk n s (stored c b s n)) (n + 16)
-added_more c a b s n h l k =
-    let cs : length (chunk n 16 s) ≡ 16 = length-chunk n 16 s (omega (arith, k.long)) in
-    let cb : length (chunk n 16 b) ≡ 16 = length-chunk n 16 b (omega arith) in
-    let m = map (λ x. c ⊗ x) (chunk n 16 b) in
-    let ml : length m ≡ 16 = length-map (chunk n 16 b) (λ x. c ⊗ x) ∙ cb in
-    let ys = stored c b s n in
-    let yl : length ys ≡ 16 = length-zip2 bit_xor (chunk n 16 s) m (cs ∙ sym ml) ∙ cs in
-    record {
-      long = length-put_chunk n s ys ∙ k.long;
-      done = λ i b'. elim (cases_lt i n) [
-        | inl o ↦ get_or-put_chunk_below n s ys i 0 o ∙ k.done i o
-        | inr o ↦
-            let j = i - n in
-            let jl : j < 16 = omega arith in
-            let q : i ≡ n + j = omega arith in
-            ap (λ z. get_or (put_chunk n s ys) z 0) q
-            ∙ get_or-put_chunk_at n s ys j 0 (omega (arith, yl)) (omega (arith, yl, k.long))
-            ∙ get_or-zip2 bit_xor (chunk n 16 s) m j 0 0 0 (omega (arith, cs)) (omega (arith, ml))
-            ∙ ap (λ z. z ⊕ get_or m j 0) (get_or-chunk n 16 s j 0 jl ∙ k.left (n + j) (omega arith))
-            ∙ ap (λ z. get_or a (n + j) 0 ⊕ z) (get_or-map (λ x. c ⊗ x) (chunk n 16 b) j 0 0 (omega (arith, cb)) ∙ ap (λ x. c ⊗ x) (get_or-chunk n 16 b j 0 jl))
-            ∙ ap (λ z. get_or a z 0 ⊕ c ⊗ get_or b z 0) (sym q)
-      ];
-      left = λ i o. get_or-put_chunk_above n s ys i 0 (omega (arith, yl)) ∙ k.left i (omega arith);
-    }

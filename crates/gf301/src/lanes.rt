@@ -1,6 +1,6 @@
 //! The field in lanes: sixteen elements in one vector, each operation at once in all of them.
 
-ghost use Rattle.std.specs.Prelude.{◌≡◌, ◌≤◌, ◌<◌, ◌/◌, ◌%◌, ℕ, length, get_or, map};
+ghost use Rattle.std.specs.Prelude.{◌≡◌, ◌+◌, ◌*◌, ◌≤◌, ◌<◌, ◌/◌, ◌%◌, ℕ, length, get_or, map};
 ghost use Rattle.std.specs.List.{All};
 ghost use Rattle.std.specs.Simd.Lanes.{zip2};
 ghost use Rattle.gf301.specs.Field.{◌⊕◌, ◌⊗◌, raise, power};
@@ -32,7 +32,7 @@ pub fn lanes_mul(a: Simd<u8, 16>, b: Simd<u8, 16>) -> Simd<u8, 16>
     for _turn in 0..8u8 {
         let is_odd = (bits & u8x16::splat(1)).simd_ne(zero);
         sum ^= is_odd.select(multiple, zero);
-        multiple = doubled(multiple);
+        multiple = double(multiple);
         bits = bits >> u8x16::splat(1);
     }
     sum
@@ -41,7 +41,7 @@ pub fn lanes_mul(a: Simd<u8, 16>, b: Simd<u8, 16>) -> Simd<u8, 16>
 /// Multiplies each lane by 2: its bits move up by one, and where the highest was 1 the field's polynomial 301 is taken away, of
 /// which 45 lies in the lane.
 #[inline]
-fn doubled(a: Simd<u8, 16>) -> Simd<u8, 16>
+fn double(a: Simd<u8, 16>) -> Simd<u8, 16>
     ensures { result ≡ map (λ x. 2 ⊗ x) a }
 {
     let carries = a.simd_ge(u8x16::splat(128));
@@ -80,6 +80,41 @@ pub fn power_row(e: usize, first: usize) -> Simd<u8, 16>
     u8x16::from_slice(&POWER_ROWS[e][first..])
 }
 
+/// Where each lane's number is taken from to move lanes up, from the place 8 - n on for a move by n lanes of at most 8: the
+/// lowest n lanes take the last one.
+static BACK: [u8; 24] = [
+    15, 15, 15, 15, 15, 15, 15, 15, 0, 1, 2, 3, 4, 5, 6, 7, 8, 9, 10, 11, 12, 13, 14, 15,
+];
+
+/// Returns the sixteen powers of an element with exponents of 0 to 15, in this order. The first 1, 2, 4 and 8 powers give as
+/// many more, by products with the next power.
+#[inline]
+pub fn powers_of(x: Gf) -> Simd<u8, 16>
+    ensures { result ≡ values_from (raise x.0) 0 16 }
+{
+    let second = x.mul(x);
+    let fourth = second.mul(second);
+    let eighth = fourth.mul(fourth);
+    let one = u8x16::from_array([1, 0, 0, 0, 0, 0, 0, 0, 0, 0, 0, 0, 0, 0, 0, 0]);
+    let two = append_scaled(one, 1, x);
+    let four = append_scaled(two, 2, second);
+    let eight = append_scaled(four, 4, fourth);
+    append_scaled(eight, 8, eighth)
+}
+
+/// Puts behind the first `count` lanes their products with `c`. The lanes after the first `count`, of at most 8, are 0.
+#[inline]
+fn append_scaled(lanes: Simd<u8, 16>, count: usize, c: Gf) -> Simd<u8, 16>
+    requires few { count ≤ 8 }
+    requires free { (i : ℕ) → count ≤ i → get_or lanes i 0 ≡ 0 }
+    ensures first { (i : ℕ) → i < count → get_or result i 0 ≡ get_or lanes i 0 }
+    ensures scaled { (i : ℕ) → i < count → get_or result (count + i) 0 ≡ c.0 ⊗ get_or lanes i 0 }
+    ensures free { (i : ℕ) → 2 * count ≤ i → get_or result i 0 ≡ 0 }
+{
+    let moved = by_table(lanes, u8x16::from_slice(&BACK[8 - count..]));
+    lanes ^ scaled(c.0, moved)
+}
+
 /// Adds to the numbers of a list the products of `c` with those of another, sixteen at a time. The list's length is a
 /// multiple of 16, and the other is as long or longer.
 #[inline]
@@ -87,7 +122,8 @@ pub fn add_scaled(sum: &mut [u8], c: u8, list: &[u8])
     requires enough { length sum.old ≤ length list.now }
     requires lanes { length sum.old % 16 ≡ 0 }
     ensures long { length sum.new ≡ length sum.old }
-    ensures each { (i : ℕ) → i < length sum.old → get_or sum.new i 0 ≡ get_or sum.old i 0 ⊕ c ⊗ get_or list.now i 0 }
+    ensures each { (i : ℕ) → i < length sum.old
+        → get_or sum.new i 0 ≡ get_or sum.old i 0 ⊕ c ⊗ get_or list.now i 0 }
 {
     for group in 0..sum.len() / 16 {
         let at = 16 * group;

@@ -50,15 +50,18 @@ pub fn powers_and_products_by_number()
 /// The product of two polynomials that aren't empty: its value is the product of the values, and their order doesn't
 /// matter.
 pub fn times_laws()
-    ensures value { (p q : List ℕ) (x : ℕ) → 0 < length p → 0 < length q → value (times p q) x ≡ value p x ⊗ value q x }
-    ensures length { (p q : List ℕ) → 0 < length p → 0 < length q → length (times p q) + 1 ≡ length p + length q }
+    ensures value { (p q : List ℕ) (x : ℕ) → 0 < length p → 0 < length q
+        → value (times p q) x ≡ value p x ⊗ value q x }
+    ensures length { (p q : List ℕ) → 0 < length p → 0 < length q
+        → length (times p q) + 1 ≡ length p + length q }
     ensures bytes { (p q : List ℕ) → Bytes (times p q) }
     ensures commutative { (p q : List ℕ) → times p q ≡ times q p }
 {}
 
 /// A polynomial that isn't 0 has fewer roots than coefficients: with as many different ones, each coefficient is 0.
 pub fn roots_are_few()
-    ensures { (p roots : List ℕ) → Bytes p → Bytes roots → AllPairs (λ r s. r ≢ s) roots → All (λ r. value p r ≡ 0) roots → length p ≤ length roots → All (λ a. a ≡ 0) p }
+    ensures { (p roots : List ℕ) → Bytes p → Bytes roots → AllPairs (λ r s. r ≢ s) roots
+        → All (λ r. value p r ≡ 0) roots → length p ≤ length roots → All (λ a. a ≡ 0) p }
 {}
 
 /// The generator for k check codewords has k + 1 coefficients, of which the first is 1, and among the powers of 2, whose

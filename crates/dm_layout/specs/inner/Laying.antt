@@ -1,6 +1,6 @@
 -- Codewords laid by the rows of their anchors: their bits are scattered from slots into widened rows, which are then folded back into the square.
 -- Byte k of row r of the slots has, with its bits in the opposite order, the codeword of the k-th anchor of row r; row `last`,
--- which is 53 of narrow rows and 96 of wide ones, has that of a corner.
+-- which lies behind those of all anchors, has that of a corner.
 use Rattle.std.specs.Prelude.{ℕ, ◌+◌, ◌-◌, ◌*◌, ◌/◌, ◌%◌, ◌^◌, Bool, ◌&&◌, ◌||◌, nat_eq, nat_le, nat_lt, min, List, get_or, set, bit_or}
 use Rattle.dm_layout.specs.Placement.{cells_of}
 use Rattle.dm_layout.specs.declared.shape.Shape.TheVariants.{Corner1, Corner2}

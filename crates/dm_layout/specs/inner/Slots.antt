@@ -4,6 +4,7 @@ use Rattle.std.specs.Prelude.{◌≡◌, ◌⊎◌, ℕ, ◌+◌, ◌-◌, ◌*�
 use Rattle.std.specs.Int.{bit_at}
 use Rattle.dm_layout.specs.Grid.{is_dark_in}
 use Rattle.dm_layout.specs.inner.Reading.{look_in}
+use Rattle.dm_layout.specs.Sizes.{largest_mapping}
 use Rattle.dm_layout.specs.Placement.{cells_of}
 use Rattle.dm_layout.specs.declared.shape.Cell.{Cell}
 use Rattle.dm_layout.specs.declared.shape.Shape.{Shape}
@@ -45,9 +46,9 @@ pub record IsJoined (n : ℕ) (rows : List ℕ) (r x : ℕ) : Type 0 where
 abbrev pub AreJoined : ℕ → List ℕ → List ℕ → Type 0
 AreJoined n rows news = (r : ℕ) → r < n → IsJoined n rows r (get_or news r 0)
 
--- The codeword of a corner has this slot, which lies behind all others: 16 times 96, the largest side of a mapping square.
+-- The codeword of a corner has this slot, which lies behind all others.
 abbrev pub corner_slot : ℕ
-corner_slot = 1536
+corner_slot = 16 * largest_mapping
 
 -- A slot is that of a corner, or lies in the rows of a mapping square of at most this side.
 abbrev pub HasSlot : ℕ → ℕ → Type 0

@@ -1,5 +1,5 @@
 -- What the walk of the sweep has still to place, by its state. Here rows and columns of the walk are counted from two above and
--- left of the square, so that none is below 0, and the table of filled cells is a number for each row: bit c is set where column c is filled.
+-- left of the square, so that none is below 0, and the table of marked cells is a number for each row: bit c is set where column c is marked.
 use Rattle.std.specs.Prelude.{◌≡◌, ℕ, zero, suc, ◌+◌, ◌-◌, ◌*◌, ◌/◌, ◌%◌, ◌^◌, ◌<◌, ◌≤◌, Bool, true, false, not, ◌&&◌, ◌||◌, nat_eq, nat_lt, nat_le, List, [], ◌∷◌, ◌++◌, drop, get_or, set, length, bit_or, replicate, Option, Some, None}
 use Rattle.std.specs.Option.{option_to_list}
 use Rattle.dm_layout.specs.declared.shape.Cell.{Cell}
@@ -10,11 +10,8 @@ use Rattle.dm_layout.specs.declared.sweep.Leg.TheVariants.{Turn, Up, Down}
 use Rattle.dm_layout.specs.declared.sweep.Cursor.{Cursor}
 use Rattle.dm_layout.specs.declared.sweep.Walk.{Walk}
 use Rattle.dm_layout.specs.declared.cells.Place.{Place}
+use Rattle.dm_layout.specs.Sizes.{largest_mapping}
 use Rattle.dm_layout.specs.Placement.{cells_of, bits_from, places_from}
-
--- The largest mapping square has this side.
-abbrev pub largest_mapping : ℕ
-largest_mapping = 96
 
 -- ---- the cells of a shape
 
@@ -31,30 +28,34 @@ abbrev pub CellsInside : ℕ → List Cell → Type 0
 CellsInside n [] = Unit {0}
 CellsInside n (x ∷ rest) = (x.row < n) × (x.column < n) × CellsInside n rest
 
--- ---- the table of filled cells
+-- ---- the table of marked cells
 
--- A cell is filled if the number of its row has the bit of its column.
-abbrev pub is_filled : List ℕ → ℕ → ℕ → Bool
-is_filled table r c = nat_eq (get_or table r 0 / 2 ^ c % 2) 1
+-- A cell is marked if the number of its row has the bit of its column.
+abbrev pub is_marked : List ℕ → ℕ → ℕ → Bool
+is_marked table r c = nat_eq (get_or table r 0 / 2 ^ c % 2) 1
 
--- This is the table with these cells filled too.
-abbrev pub fill : List ℕ → List Cell → List ℕ
-fill table [] = table
-fill table (x ∷ rest) = fill (set table x.row (bit_or (get_or table x.row 0) (2 ^ x.column))) rest
+-- This is the table with these cells marked too.
+abbrev pub mark : List ℕ → List Cell → List ℕ
+mark table [] = table
+mark table (x ∷ rest) = mark (set table x.row (bit_or (get_or table x.row 0) (2 ^ x.column))) rest
 
--- A standard shape is left out where its anchor is filled; a corner is never left out.
-abbrev pub is_left_out : List ℕ → Shape → Bool
-is_left_out table (Standard r c) = is_filled table r c
-is_left_out table Corner1 = false
-is_left_out table Corner2 = false
-is_left_out table Corner3 = false
-is_left_out table Corner4 = false
+-- The walk passes over a standard shape whose anchor is marked, and never over a corner.
+abbrev pub is_passed : List ℕ → Shape → Bool
+is_passed table (Standard r c) = is_marked table r c
+is_passed table Corner1 = false
+is_passed table Corner2 = false
+is_passed table Corner3 = false
+is_passed table Corner4 = false
+
+-- The table has so many rows and columns: a shape that the walk comes by may reach this far past the square, as long as it isn't placed.
+abbrev pub marked_side : ℕ
+marked_side = largest_mapping + 4
 
 -- ---- one move
 
 -- A turn begins with this corner, if with any.
-abbrev pub corner_at : ℕ → ℕ → ℕ → Option Shape
-corner_at n u v =
+abbrev pub corner_met : ℕ → ℕ → ℕ → Option Shape
+corner_met n u v =
     elim (nat_eq u (n + 2) && nat_eq v 2) [
       | true ↦ Some Corner1
       | false ↦ elim (nat_eq u n && nat_eq v 2 && not (nat_eq (n % 4) 0)) [
@@ -67,15 +68,15 @@ corner_at n u v =
     ]
 
 -- At a cell inside the square the walk comes by the standard shape that has its anchor there, and elsewhere by none.
-abbrev pub inside_at : ℕ → ℕ → ℕ → Option Shape
-inside_at n u v =
+abbrev pub anchor_met : ℕ → ℕ → ℕ → Option Shape
+anchor_met n u v =
     elim (nat_le 2 u && nat_lt u (n + 2) && nat_le 2 v && nat_lt v (n + 2)) [ true ↦ Some (Standard (u - 2) (v - 2)) | false ↦ None ]
 
 -- A move comes by this shape: by a corner where a turn begins, and else by a standard shape.
 abbrev pub candidate_at : ℕ → Leg → ℕ → ℕ → Option Shape
-candidate_at n Turn u v = corner_at n u v
-candidate_at n Up u v = inside_at n u v
-candidate_at n Down u v = inside_at n u v
+candidate_at n Turn u v = corner_met n u v
+candidate_at n Up u v = anchor_met n u v
+candidate_at n Down u v = anchor_met n u v
 
 -- The next move of the walk comes by this shape.
 abbrev pub candidate_of : ℕ → Cursor → Option Shape
@@ -107,16 +108,16 @@ is_over_of n cursor = is_over_at n cursor.leg cursor.row cursor.column
 
 -- ---- all moves
 
--- The walk comes by these shapes in at most so many moves, whether their cells are filled or not.
+-- The walk comes by these shapes in at most so many moves, whether their cells are marked or not.
 unfoldable pub candidates_at : ℕ → ℕ → Leg → ℕ → ℕ → List Shape
 candidates_at zero n leg u v = []
 candidates_at (suc k) n Turn u v =
-    elim (is_over_at n Turn u v) [ true ↦ [] | false ↦ option_to_list (corner_at n u v) ++ candidates_at k n Up u v ]
+    elim (is_over_at n Turn u v) [ true ↦ [] | false ↦ option_to_list (corner_met n u v) ++ candidates_at k n Up u v ]
 candidates_at (suc k) n Up u v =
-    option_to_list (inside_at n u v)
+    option_to_list (anchor_met n u v)
     ++ elim (nat_lt u 4 || nat_le n v) [ true ↦ candidates_at k n Down (u - 1) (v + 5) | false ↦ candidates_at k n Up (u - 2) (v + 2) ]
 candidates_at (suc k) n Down u v =
-    option_to_list (inside_at n u v)
+    option_to_list (anchor_met n u v)
     ++ elim (nat_le n u || nat_lt v 4) [ true ↦ candidates_at k n Turn (u + 5) (v - 1) | false ↦ candidates_at k n Down (u + 2) (v - 2) ]
 
 -- From where it stands, the walk comes by these shapes in at most so many moves.
@@ -124,11 +125,11 @@ unfoldable pub candidates : ℕ → ℕ → Cursor → List Shape
 unfolding candidates_at
 candidates k n cursor = candidates_at k n cursor.leg cursor.row cursor.column
 
--- Of the shapes that it comes by, in turn, the walk places those that aren't left out, and each fills its cells.
-unfoldable pub placed : ℕ → List ℕ → List Shape → List Shape
-placed n table [] = []
-placed n table (s ∷ rest) =
-    elim (is_left_out table s) [ true ↦ placed n table rest | false ↦ s ∷ placed n (fill table (cells_of n s)) rest ]
+-- Of the shapes that it comes by, in turn, the walk places those that it doesn't pass over, and the cells of each are marked.
+unfoldable pub walked : ℕ → List ℕ → List Shape → List Shape
+walked n table [] = []
+walked n table (s ∷ rest) =
+    elim (is_passed table s) [ true ↦ walked n table rest | false ↦ s ∷ walked n (mark table (cells_of n s)) rest ]
 
 -- ---- the state
 
@@ -144,16 +145,16 @@ CursorIsSafe cursor moves = LegIsSafe cursor.leg cursor.row cursor.column × (cu
 
 -- The walk still has these shapes to place.
 abbrev pub shapes_left : Walk → List Shape
-shapes_left w = placed w.mapping w.filled (candidates w.moves w.mapping w.cursor)
+shapes_left w = walked w.mapping w.marked (candidates w.moves w.mapping w.cursor)
 
 -- The cells are those of the next shape that is left, or no shape is left.
 abbrev pub TakesShape : ℕ → List Shape → Option (List Cell) → List Shape → Type 0
 TakesShape n before None after = (before ≡ []) × (after ≡ [])
 TakesShape n before (Some cells) after = (shape : Shape) × (before ≡ shape ∷ after) × (cells ≡ cells_of n shape)
 
--- The walk begins at row 4, column 0, with nothing filled and as many moves left as the square has cells.
+-- The walk begins at row 4, column 0, with nothing marked and as many moves left as the square has cells.
 abbrev pub walk_of : ℕ → Walk
-walk_of n = record { mapping = n; filled = replicate largest_mapping 0; cursor = to Turn 6 2; moves = n * n }
+walk_of n = record { mapping = n; marked = replicate marked_side 0; cursor = to Turn 6 2; moves = n * n }
 
 -- The mapping square of the walk is neither too small nor too large, and its moves are safe.
 pub record WalkIsSafe (w : Walk) : Type 0 where

@@ -4,6 +4,7 @@ ghost use Rattle.std.specs.Prelude.{◌≡◌, ℕ, All, length};
 ghost use Rattle.dm_layout.specs.Sizes.{size_table, codeword_count};
 ghost use Rattle.dm_layout.specs.Placement.{shapes, places_in_order, EachCellOnce, IsPlaceList};
 ghost use Rattle.dm_layout.specs.Sweep.{Sweeps};
+ghost use Rattle.dm_layout.specs.Modules.{EachModuleHasOneKind};
 
 /// The sweep of the standard places the shapes of the closed form, in its order, and ends.
 pub fn sweep_is_the_closed_form()
@@ -24,4 +25,9 @@ pub fn shapes_are_the_codewords()
 /// The list of places by codeword and then by bit, which `Cells` gives, is that of the places of all bits.
 pub fn places_come_in_order()
     ensures { (n : ℕ) → IsPlaceList n (places_in_order n) }
+{}
+
+/// Each module of a symbol is exactly one of these: a module of a border, a module of the fixed square, or one bit of one codeword.
+pub fn each_module_has_one_kind()
+    ensures { EachModuleHasOneKind }
 {}

@@ -1,7 +1,7 @@
 -- The program's endings where no task was run: its exit status, and its line on standard error.
 use Rattle.std.specs.Prelude.{ℕ, List, codes}
-use Rattle.dm_tool.specs.declared.task.CallFault.{CallFault}
-use Rattle.dm_tool.specs.declared.task.CallFault.TheVariants.{Usage, Memory}
+use Rattle.dm_tool.specs.declared.fault.CallFault.{CallFault}
+use Rattle.dm_tool.specs.declared.fault.CallFault.TheVariants.{Usage, Memory}
 use Rattle.dm_tool.specs.Endings.{Ends}
 
 -- A command line that gives no task ends the program: with status 2 and

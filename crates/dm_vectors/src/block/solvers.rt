@@ -200,3 +200,29 @@ fn both_solvers_answer_alike(rt: HostRuntime) {
         assert!(rt; are_alike_in_block(*count, *k));
     }
 }
+
+/// Syndromes, limits, and how many products and inversions `Quick` makes, counted with pen and paper: for each syndrome a product with each
+/// coefficient of the locator that reaches it; where that isn't 0, one for the multiple, one for each coefficient that the multiple of the earlier
+/// locator reaches, and an inversion where the degree grows; and the products of the evaluator. The last two are refused.
+static COUNTS: [(&[u8], usize, u32, u32); 7] = [
+    (&[0, 0, 0, 0, 0], 2, 5, 0),
+    (&[1, 1], 1, 6, 1),
+    (&[1, 0], 1, 8, 1),
+    (&[6, 12, 24, 48], 2, 12, 1),
+    (&[1, 2, 0, 0], 2, 20, 2),
+    (&[0, 1], 1, 2, 0),
+    (&[1, 2, 0, 0], 1, 9, 1),
+];
+
+/// Whether `Quick` counts so many products and inversions.
+fn counts(s: &[u8], t: usize, products: u32, inversions: u32) -> bool {
+    let (_answer, meter) = solved_with_counts(s, t);
+    meter.products == products && meter.inversions == inversions
+}
+
+#[test]
+fn products_and_inversions_are_counted(rt: HostRuntime) {
+    for (s, t, products, inversions) in &COUNTS {
+        assert!(rt; counts(s, *t, *products, *inversions));
+    }
+}

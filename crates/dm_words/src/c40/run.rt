@@ -8,6 +8,7 @@ ghost use Rattle.dm_words.specs.inner.Scan.Answers.{IsPartTaken};
 use crate::c40::pair::{PairsEnd, pairs_of};
 use crate::c40::set::CodeSet;
 use crate::c40::value::{Rest, Spelled, read_values};
+use crate::extent::Extent;
 use crate::fault::WordFault;
 use crate::limits::MOST_VALUES;
 use crate::message::Message;
@@ -22,12 +23,18 @@ fn pair_place(place: u16, index: u16) -> u16
 }
 
 /// Tells what is wrong with the run whose latch stands at a place, if anything is: the first wrong value; if there is none, a bad pair; if there is
-/// none either, an Upper Shift that waits. The pairs have `pair_words` codewords.
-fn fault_of(place: u16, pair_words: usize, end: PairsEnd, spelled: Spelled) -> Option<WordFault>
+/// none either, in the usual extent, an Upper Shift that waits. The pairs have `pair_words` codewords.
+fn fault_of(
+    extent: Extent,
+    place: u16,
+    pair_words: usize,
+    end: PairsEnd,
+    spelled: Spelled,
+) -> Option<WordFault>
     requires place { place ≤ MOST_DATA }
     requires pair_words { pair_words ≤ MOST_DATA }
     requires values { spelled.count ≤ MOST_VALUES }
-    ensures { result ≡ run_fault place pair_words end spelled.count spelled.rest }
+    ensures { result ≡ run_fault extent place pair_words end spelled.count spelled.rest }
 {
     let count = spelled.count as u16;
     match (spelled.rest, end) {
@@ -36,13 +43,17 @@ fn fault_of(place: u16, pair_words: usize, end: PairsEnd, spelled: Spelled) -> O
         }
         (Rest::WrongUpperShift, _) => Some(WordFault::UpperShift(pair_place(place, count + 1))),
         (_, PairsEnd::BadPair) => Some(WordFault::Triplet(place + 1 + pair_words as u16)),
-        (Rest::Waiting, _) => Some(WordFault::Unfinished(pair_place(place, count + 1))),
+        (Rest::Waiting, _) => match extent {
+            Extent::Usual => Some(WordFault::Unfinished(pair_place(place, count + 1))),
+            Extent::Wide => None,
+        },
         (Rest::Complete, _) => None,
     }
 }
 
 /// Takes the run whose latch stands at an index: adds its items to the message, and gives the number of its codewords.
 pub fn run_part(
+    extent: Extent,
     set: CodeSet,
     words: &[u8],
     at: usize,
@@ -50,12 +61,12 @@ pub fn run_part(
 ) -> Result<usize, WordFault>
     requires in_range { at < length words.now }
     requires short { length words.now ≤ MOST_DATA }
-    requires room { length message.old ≤ 2 * at }
-    ensures { IsPartTaken result message.old message.new (run_front set (at + 1) (drop (at + 1) words.now)) }
+    requires room { length message.old ≤ 2 * at + 5 }
+    ensures { IsPartTaken result message.old message.new (run_front extent set (at + 1) (drop (at + 1) words.now)) }
 {
     let pairs = pairs_of(&words[at + 1..]);
     let spelled = read_values(set, pairs.values.as_slice(), message);
-    match fault_of(at as u16 + 1, pairs.word_count, pairs.end, spelled) {
+    match fault_of(extent, at as u16 + 1, pairs.word_count, pairs.end, spelled) {
         Some(fault) => Err(fault),
         None => Ok(1 + pairs.word_count + end_length(pairs.end)),
     }

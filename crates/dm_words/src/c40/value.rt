@@ -7,7 +7,7 @@ ghost use Rattle.dm_words.specs.inner.Scan.Answers.{GivesItem, IsSmall};
 use crate::c40::set::{Basic, CodeSet, Shifted, basic_meaning, shifted_meaning};
 use crate::front::number_at;
 use crate::item::Item;
-use crate::limits::MOST_ITEMS;
+use crate::limits::MESSAGE_ROOM;
 use crate::message::Message;
 
 /// What follows the last whole spelling.
@@ -88,7 +88,7 @@ pub struct Spelled {
 /// Adds the items that the values spell to the message, up to the first rest.
 pub fn read_values(set: CodeSet, values: &[u8], message: &mut Message) -> Spelled
     requires small { All IsSmall values.now }
-    requires room { length message.old + length values.now ≤ MOST_ITEMS }
+    requires room { length message.old + length values.now ≤ MESSAGE_ROOM }
     ensures items { message.new ≡ message.old ++ (items_in set values.now).taken }
     ensures count { result.count ≡ (items_in set values.now).place }
     ensures rest { result.rest ≡ (items_in set values.now).why }

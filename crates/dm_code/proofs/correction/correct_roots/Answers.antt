@@ -1,7 +1,12 @@
-use Rattle.std.proofs.Common.{◌≡◌, ◌-◌, ◌*◌, ◌+◌, ◌<◌, ℕ, suc, List, length, get_or, slice_set, refl, sym, ap, subst, ◌∙◌, arith}
+use Rattle.std.proofs.Common.{◌≡◌, ◌-◌, ◌*◌, ◌/◌, ◌+◌, ◌<◌, ℕ, suc, List, length, get_or, take, slice_set, refl, sym, ap, subst, ◌∙◌, arith}
 use Rattle.gf301.specs.Field.{◌⊕◌, power}
 use Rattle.gf301.specs.Polynomial.{value, coefficient, values_from}
 use Rattle.dm_code.specs.inner.OddTerms.{odd_part}
+use Rattle.dm_code.specs.Codeword.{IsNear}
+use Rattle.dm_code.specs.KeyEquation.{IsLeastPair}
+use Rattle.dm_code.specs.Syndromes.{syndromes_of}
+use Rattle.dm_code.proofs.SyndromeLaws.{syndromes_length}
+use Rattle.dm_code.proofs.ErrorTerms.{error_term, taken_sum}
 use Rattle.dm_code.proofs.First.{first, values_are_first}
 use Rattle.dm_code.proofs.ErrorPlaces.{locator_at}
 use Rattle.dm_code.proofs.Nearness.{IsTrimmed, IsCorrected, corrected_bytes, corrected_near}
@@ -23,8 +28,8 @@ loop-part-init c =
       bytes = λ i. omega (arith, c.type_inv.word i);
       terms = terms_start l t (λ i. omega (arith, c.type_inv.locator i)) (c.as_mut_slice-terms.ensures.value ∙ c.copy_of-terms.ensures);
       numerators = terms_start e u (λ i. omega (arith, c.type_inv.upper_terms i, ap (λ (t : List ℕ). get_or t i 0) ue)) ue;
-      corrected = subst (IsCorrectedFrom l c.args.evaluator.now w w c.args.syndromes.now (length c.args.syndromes.now)) (let z : length w ≡ length w - 0 = omega arith in z)
-          (corrected_start l c.args.evaluator.now w c.args.syndromes.now (length c.args.syndromes.now) c.requires.syndromes);
+      corrected = subst (IsCorrectedFrom l c.args.evaluator.now w w (take c.args.k c.args.syndromes.now) c.args.k) (let z : length w ≡ length w - 0 = omega arith in z)
+          (corrected_start l c.args.evaluator.now w (take c.args.k c.args.syndromes.now) c.args.k c.requires.syndromes);
     }
 
 pub loop-lane-preserved : goal.loop-lane-preserved
@@ -32,9 +37,9 @@ loop-lane-preserved c =
     let l = c.args.locator.now in
     let v = c.args.evaluator.now in
     let w = c.args.word.now in
-    let k = length c.args.syndromes.now in
+    let k = c.args.k in
     let f = c.loop-lane.word in
-    let s = c.loop-lane.syndromes in
+    let s = take k c.loop-lane.syndromes in
     let t = c.loop-part.terms in
     let j = 16 * c.loop-part.part in
     let lane = c.loop-lane.lane in
@@ -49,11 +54,11 @@ loop-lane-preserved c =
     let ne : get_or c.sums-in-loop-part.result.0 lane 0 ≡ value e (power (j + lane)) =
     lane_value e c.loop-part.upper_terms c.sums-in-loop-part.result.0 j lane c.loop-part.invariant.numerators c.sums-in-loop-part.ensures.values below in
     let h : IsCorrectedFrom l v w f s k (suc q) = subst (IsCorrectedFrom l v w f s k) (let r : length w - (j + lane) ≡ suc q = omega arith in r) c.loop-lane.invariant in
-    subst (IsCorrectedFrom l v w c.if-values-lane-eq0.word c.if-values-lane-eq0.syndromes k) next
+    subst (IsCorrectedFrom l v w c.if-values-lane-eq0.word (take k c.if-values-lane-eq0.syndromes) k) next
     (elim c.if-values-lane-eq0.branch [
       | else-values-lane-eq0 b ↦
-          subst (λ g. IsCorrectedFrom l v w g c.if-values-lane-eq0.syndromes k q) (sym b.word-is)
-          (subst (λ u. IsCorrectedFrom l v w f u k q) (sym b.syndromes-is)
+          subst (λ g. IsCorrectedFrom l v w g (take k c.if-values-lane-eq0.syndromes) k q) (sym b.word-is)
+          (subst (λ u. IsCorrectedFrom l v w f (take k u) k q) (sym b.syndromes-is)
           (apart_step l v w f s k q h (λ e. b.if-values-lane-eq0.false (z ∙ ap (λ n. value l (power n)) (sym back) ∙ e))))
       | then-values-lane-eq0 b ↦
           let at = b.power_of_two-at.result.0 in
@@ -61,15 +66,16 @@ loop-lane-preserved c =
           let ae : at ≡ power (j + lane) = b.power_of_two-at.ensures in
           let xe : at ≡ locator_at (length w) q = ae ∙ ap power (sym back) in
           let ze : value l at ≡ 0 = ap (value l) ae ∙ sym z ∙ b.if-values-lane-eq0.true in
-          root_step l v w f c.if-values-lane-eq0.word s c.if-values-lane-eq0.syndromes k q at y h (c.loop-lane.auto.word ∙ c.loop-part.auto.word) (omega arith) xe ze
+          let added = taken_sum (error_term y at) c.loop-lane.syndromes c.if-values-lane-eq0.syndromes k (16 * c.div_ceil-groups.result) (ap length b.syndromes-is ∙ b.add_error.ensures.long)
+          (omega (arith, c.requires.room, c.loop-part.auto.syndromes, c.loop-lane.auto.syndromes)) (omega (arith, c.div_ceil-groups.ensures)) (λ i n. ap (λ u. get_or u i 0) b.syndromes-is ∙ b.add_error.ensures.each i n) in
+          root_step l v w f c.if-values-lane-eq0.word s (take k c.if-values-lane-eq0.syndromes) k q at y h (c.loop-lane.auto.word ∙ c.loop-part.auto.word) (omega arith) xe ze
           (b.word-is ∙ ap (λ n. slice_set f n b.add.result.0) (let r : length f - 1 - (j + lane) ≡ q = omega (arith, c.loop-lane.auto.word, c.loop-part.auto.word) in r)
           ∙ ap (slice_set f q) (b.add.ensures ∙ ap (λ n. get_or f n 0 ⊕ y) (let r : length f - 1 - (j + lane) ≡ q = omega (arith, c.loop-lane.auto.word, c.loop-part.auto.word) in r)))
           b.error_value-value.ensures.byte
           (divided_by l at (get_or c.sums.result.1 lane 0) y (value (first (coefficient v) (length l - 1)) at) (o ∙ ap (odd_part l) (sym ae))
           (λ p. b.error_value-value.ensures.value p ∙ ne ∙ ap (value e) (sym ae)
           ∙ ap (λ u. value u at) (values_are_first (coefficient v) (length l - 1))))
-          (ap length b.syndromes-is ∙ b.add_error.ensures.long)
-          (λ i n. ap (λ u. get_or u i 0) b.syndromes-is ∙ b.add_error.ensures.each i n)
+          added.0 added.1
     ])
 
 pub loop-part-preserved : goal.loop-part-preserved
@@ -77,14 +83,14 @@ loop-part-preserved c =
     let l = c.args.locator.now in
     let v = c.args.evaluator.now in
     let w = c.args.word.now in
-    let k = length c.args.syndromes.now in
+    let k = c.args.k in
     let j = 16 * c.loop-part.part in
     record {
       bytes = c.loop-part.invariant.bytes;
       terms = terms_step l c.loop-part.terms c.step.new.terms j (16 * (c.loop-part.part + 1)) c.loop-part.invariant.terms c.step.ensures.long c.step.ensures.each (omega arith);
       numerators = terms_step (values_from (coefficient v) 0 (length l - 1)) c.loop-part.upper_terms c.step-in-loop-part.new.terms j (16 * (c.loop-part.part + 1))
           c.loop-part.invariant.numerators c.step-in-loop-part.ensures.long c.step-in-loop-part.ensures.each (omega arith);
-      corrected = subst (IsCorrectedFrom l v w c.loop-lane.word c.loop-lane.syndromes k)
+      corrected = subst (IsCorrectedFrom l v w c.loop-lane.word (take k c.loop-lane.syndromes) k)
           (let r : length w - (j + c.loop-lane.lane) ≡ length w - 16 * (c.loop-part.part + 1) = omega (arith, c.min-lane-end.ensures, c.loop-part.auto.word) in r) c.loop-lane.invariant;
     }
 
@@ -104,4 +110,8 @@ returns-clause-near c n h =
     let i = c.loop-part.invariant in
     let t : IsTrimmed l l = record { same = λ i. refl; tight = c.requires.tight } in
     let m : IsCorrected l v w f = record { long = c.loop-part.auto.word; each = λ j b. i.corrected.done j (omega arith) b } in
-    corrected_near w c.args.syndromes.now n l v l f c.requires.checks i.bytes c.requires.long c.requires.syndromes c.requires.key t m h
+    let k = c.args.k in
+    let s = syndromes_of w k in
+    let sk : k ≡ length s = sym (syndromes_length w k) in
+    corrected_near w s n l v l f (omega (arith, c.requires.checks)) i.bytes c.requires.long (ap (syndromes_of w) sk) (subst (λ m. IsLeastPair s (m / 2) l v) sk c.requires.key) t m
+    (subst (λ m. IsNear m w n) sk h)

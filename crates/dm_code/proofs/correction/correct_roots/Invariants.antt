@@ -1,4 +1,4 @@
-use Rattle.std.proofs.Common.{◌+◌, ◌-◌, ◌*◌, ◌<◌, ℕ, length, get_or}
+use Rattle.std.proofs.Common.{◌+◌, ◌-◌, ◌*◌, ◌<◌, ℕ, length, get_or, take}
 use Rattle.gf301.specs.Polynomial.{coefficient, values_from}
 use Rattle.dm_code.proofs.OddTerms.{AreTerms}
 use Rattle.dm_code.proofs.Corrections.{IsCorrectedFrom}
@@ -10,8 +10,8 @@ invariant-loop-part l = record {
   bytes : (i : ℕ) → get_or l.initial.word i 0 < 256;
   terms : AreTerms l.fn.locator l.terms (16 * l.part);
   numerators : AreTerms (values_from (coefficient l.fn.evaluator) 0 (length l.fn.locator - 1)) l.upper_terms (16 * l.part);
-  corrected : IsCorrectedFrom l.fn.locator l.fn.evaluator l.initial.word l.word l.syndromes (length l.initial.syndromes) (length l.initial.word - 16 * l.part);
+  corrected : IsCorrectedFrom l.fn.locator l.fn.evaluator l.initial.word l.word (take l.fn.k l.syndromes) l.fn.k (length l.initial.word - 16 * l.part);
 }
 
 abbrev pub invariant-loop-lane : goal.invariant-loop-lane
-invariant-loop-lane l = IsCorrectedFrom l.fn.locator l.fn.evaluator l.fn.word l.word l.syndromes (length l.fn.syndromes) (length l.fn.word - (l.first + l.lane))
+invariant-loop-lane l = IsCorrectedFrom l.fn.locator l.fn.evaluator l.fn.word l.word (take l.fn.k l.syndromes) l.fn.k (length l.fn.word - (l.first + l.lane))

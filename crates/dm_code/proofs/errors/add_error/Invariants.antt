@@ -1,10 +1,10 @@
-use Rattle.std.proofs.Common.{◌≡◌, ◌<◌, ◌≤◌, ℕ, suc, get_or}
-use Rattle.gf301.specs.Field.{◌⊕◌, ◌⊗◌, raise}
+use Rattle.std.proofs.Common.{◌*◌}
+use Rattle.gf301.proofs.Exported.{IsAddedTo}
+use Rattle.dm_code.proofs.ErrorTerms.{error_term, AreErrorTerms}
 use Rattle.dm_code.proofs.errors.add_error.Given as goal
 
-abbrev pub invariant-loop-i : goal.invariant-loop-i
-invariant-loop-i l = record {
-  term : l.term.0 ≡ l.fn.value.0 ⊗ raise l.at.0 l.i;
-  done : (k : ℕ) → k < l.i → get_or l.syndromes k 0 ≡ get_or l.initial.syndromes k 0 ⊕ l.fn.value.0 ⊗ raise l.at.0 (suc k);
-  left : (k : ℕ) → l.i ≤ k → get_or l.syndromes k 0 ≡ get_or l.initial.syndromes k 0;
+abbrev pub invariant-loop-group : goal.invariant-loop-group
+invariant-loop-group l = record {
+  terms : AreErrorTerms l.fn.value.0 l.fn.at.0 l.terms (16 * l.group);
+  added : IsAddedTo (error_term l.fn.value.0 l.fn.at.0) l.initial.syndromes l.syndromes (16 * l.group);
 }

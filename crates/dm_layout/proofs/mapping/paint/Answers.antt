@@ -57,12 +57,12 @@ loop-i-preserved g c =
       count = ap length c.add_byte.ensures ∙ length-set slots _ _ ∙ c.loop-i.invariant.count;
       so_far =
           subst (λ (xs : List ℕ). AreLaid m g.R.BitRows.last c.list-list.result.now xs (c.loop-i.i + 1)) (sym c.add_byte.ensures)
-          (laid_more m g.R.BitRows.width g.R.BitRows.last c.loop-i.i (get_or c.order-slot-items.result.now c.loop-i.i 0) c.reversed.result c.list-list.result.now slots room
+          (laid_more m g.R.BitRows.width g.R.BitRows.last c.loop-i.i (get_or c.order-slot-items.result.now c.loop-i.i 0) c.reverse.result c.list-list.result.now slots room
           (omega (arith, c.mapping-mapping.ensures.even, e)) (omega (arith, c.loop-i.invariant.count, ends)) (omega (arith, c.type_inv.list c.loop-i.i))
           (subst (λ (i : ℕ). list_all (fits_test i) (shapes i) ≡ true) (sym e) order.fits)
           (omega (arith, k, c.loop-i-test.true))
           (ap (λ (xs : List ℕ). get_or xs c.loop-i.i 0) (c.order-slot-items.ensures ∙ ap order_of e ∙ order.slots ∙ ap (λ (i : ℕ). map slot_of (shapes i)) (sym e)))
-          c.reversed.ensures c.loop-i.invariant.so_far);
+          c.reverse.ensures c.loop-i.invariant.so_far);
     }
 
 pub lay_slots-requires-clause-most : goal.lay_slots-requires-clause-most

@@ -13,6 +13,7 @@ use Rattle.dm_words.specs.declared.c40.value.Rest.{Rest}
 use Rattle.dm_words.specs.Ascii.{single, ascii}
 use Rattle.dm_words.specs.NormalForm.{has_fnc1}
 use Rattle.dm_words.specs.inner.Scan.Walk.{Step, Takes, Stops}
+use Rattle.dm_words.specs.inner.Scan.Fronts.{group_by, edifact_items}
 
 -- A part with the answered number of words was taken, and its items stand behind the old ones; or the end was met; or a fault.
 abbrev pub IsPartTakenOrEnd : Result (Option ℕ) WordFault → List Item → List Item → Step (List Item) (Option WordFault) → Type 0
@@ -24,6 +25,16 @@ IsPartTakenOrEnd (Err f) old new step = step ≡ Stops (Some f)
 abbrev pub IsPartTaken : Result ℕ WordFault → List Item → List Item → Step (List Item) (Option WordFault) → Type 0
 IsPartTaken (Ok n) old new step = (items : List Item) × (step ≡ Takes n items) × (new ≡ old ++ items)
 IsPartTaken (Err f) old new step = step ≡ Stops (Some f)
+
+-- The characters of a group of four values were added up to its unlatch, which ends the run behind this many codewords of the group; or all of them
+-- were, and there is no unlatch.
+abbrev pub IsGroupTaken : Option ℕ → List Item → List Item → List ℕ → Type 0
+IsGroupTaken (Some n) old new group = (values : List ℕ) × ((rest : ℕ × List ℕ) → group_by group rest ≡ (n, values)) × (new ≡ old ++ edifact_items values) × (n ≤ 3)
+IsGroupTaken None old new group = ((rest : ℕ × List ℕ) → group_by group rest ≡ (3 + rest.0, group ++ rest.1)) × (new ≡ old ++ edifact_items group)
+
+-- The run, which has this many codewords with its latch, was taken, and its items stand behind the old ones.
+abbrev pub IsEdifactTaken : ℕ → List Item → List Item → ℕ × List ℕ → Type 0
+IsEdifactTaken n old new run = (n ≡ 1 + run.0) × (new ≡ old ++ edifact_items run.1)
 
 -- The list is empty, or begins with the number, and this is what follows it.
 abbrev pub Begins : Option ℕ → List ℕ → List ℕ → Type 0

@@ -1,5 +1,7 @@
 -- What is found at the front of a list: a part of the words, a pair, an item among the values of a run.
-use Rattle.std.specs.Prelude.{ℕ, suc, ◌+◌, ◌-◌, ◌*◌, ◌/◌, ◌%◌, List, [], ◌∷◌, ◌++◌, length, take, Option, Some, None, Result, Ok, Err, nat_lt, ◌==◌, if◌then◌else◌}
+use Rattle.std.specs.Prelude.{ℕ, suc, ◌+◌, ◌-◌, ◌*◌, ◌/◌, ◌%◌, List, [], ◌∷◌, ◌++◌, length, take, drop, map, Option, Some, None, Result, Ok, Err, nat_lt, ◌==◌, if◌then◌else◌}
+use Rattle.dm_words.specs.declared.extent.Extent.{Extent}
+use Rattle.dm_words.specs.declared.extent.Extent.TheVariants.{Usual, Wide}
 use Rattle.dm_words.specs.declared.item.Item.{Item}
 use Rattle.dm_words.specs.declared.item.Item.TheVariants.{Byte, Fnc1}
 use Rattle.dm_words.specs.declared.fault.WordFault.{WordFault}
@@ -19,6 +21,8 @@ use Rattle.dm_words.specs.Codewords.{codeword_of}
 use Rattle.dm_words.specs.CodeSets.{basic_of, shifted_of}
 use Rattle.dm_words.specs.RunFaults.{pair_place}
 use Rattle.dm_words.specs.Base256.{random_at, byte_items, long_count}
+use Rattle.dm_words.specs.Edifact.{unlatch_value, edifact_byte}
+use Rattle.dm_words.specs.Macros.{macro_header, macro_trailer}
 use Rattle.dm_words.specs.inner.Scan.Walk.{Step, Takes, Stops, Walked, walk, walk_all, flat}
 
 -- ---- the values of a run, each below 40
@@ -84,17 +88,22 @@ abbrev pub end_length : PairsEnd → ℕ
 end_length stop.Unlatch = 1
 end_length _ = 0
 
+-- An Upper Shift that waits where the run ends is a fault in the usual extent, which names this place.
+abbrev pub waiting_fault : Extent → ℕ → Option WordFault
+waiting_fault Usual place = Some (fault.Unfinished place)
+waiting_fault Wide place = None
+
 -- A run has this fault, or none: its latch stands at `place`, its pairs have `words` words and then end in this way, and its whole spellings have
 -- `values` values, with this rest behind them.
-abbrev pub run_fault : ℕ → ℕ → PairsEnd → ℕ → Rest → Option WordFault
-run_fault place words end values (rest.Meaningless index) = Some (fault.Value (pair_place place (values + index)))
-run_fault place words end values rest.WrongUpperShift = Some (fault.UpperShift (pair_place place (values + 1)))
-run_fault place words stop.BadPair values rest.Waiting = Some (fault.Triplet (place + 1 + words))
-run_fault place words stop.BadPair values rest.Complete = Some (fault.Triplet (place + 1 + words))
-run_fault place words stop.SymbolEnd values rest.Waiting = Some (fault.Unfinished (pair_place place (values + 1)))
-run_fault place words stop.Unlatch values rest.Waiting = Some (fault.Unfinished (pair_place place (values + 1)))
-run_fault place words stop.SymbolEnd values rest.Complete = None
-run_fault place words stop.Unlatch values rest.Complete = None
+abbrev pub run_fault : Extent → ℕ → ℕ → PairsEnd → ℕ → Rest → Option WordFault
+run_fault extent place words end values (rest.Meaningless index) = Some (fault.Value (pair_place place (values + index)))
+run_fault extent place words end values rest.WrongUpperShift = Some (fault.UpperShift (pair_place place (values + 1)))
+run_fault extent place words stop.BadPair values rest.Waiting = Some (fault.Triplet (place + 1 + words))
+run_fault extent place words stop.BadPair values rest.Complete = Some (fault.Triplet (place + 1 + words))
+run_fault extent place words stop.SymbolEnd values rest.Waiting = waiting_fault extent (pair_place place (values + 1))
+run_fault extent place words stop.Unlatch values rest.Waiting = waiting_fault extent (pair_place place (values + 1))
+run_fault extent place words stop.SymbolEnd values rest.Complete = None
+run_fault extent place words stop.Unlatch values rest.Complete = None
 
 -- The run is taken, unless it has a fault.
 abbrev pub run_unless : Option WordFault → ℕ → List Item → Step (List Item) (Option WordFault)
@@ -102,8 +111,8 @@ run_unless None count items = Takes count items
 run_unless (Some why) count items = Stops (Some why)
 
 -- The run behind a latch is known from its pairs and its items.
-abbrev pub run_by : ℕ → ℕ → PairsEnd → Walked Item Rest → Step (List Item) (Option WordFault)
-run_by place words end items = run_unless (run_fault place words end items.place items.why) (1 + words + end_length end) items.taken
+abbrev pub run_by : Extent → ℕ → ℕ → PairsEnd → Walked Item Rest → Step (List Item) (Option WordFault)
+run_by extent place words end items = run_unless (run_fault extent place words end items.place items.why) (1 + words + end_length end) items.taken
 
 -- These pairs stand in the words from an index on.
 abbrev pub pairs_from : ℕ → List ℕ → Walked (List ℕ) PairsEnd
@@ -122,8 +131,8 @@ abbrev pub items_in : CodeSet → List ℕ → Walked Item Rest
 items_in set values = items_from set 0 values
 
 -- This run stands behind a latch at a place.
-unfoldable pub run_front : CodeSet → ℕ → List ℕ → Step (List Item) (Option WordFault)
-run_front set place words = let pairs = pairs_in words in run_by place pairs.place pairs.why (items_in set (flat pairs.taken))
+unfoldable pub run_front : Extent → CodeSet → ℕ → List ℕ → Step (List Item) (Option WordFault)
+run_front extent set place words = let pairs = pairs_in words in run_by extent place pairs.place pairs.why (items_in set (flat pairs.taken))
 
 -- ---- segments of Base 256
 
@@ -153,6 +162,37 @@ segment_front place (first ∷ values) =
     if nat_lt 249 first then long_segment place first values else
     segment_by place 1 first values
 
+-- ---- runs of EDIFACT
+
+-- Three codewords have these four values.
+abbrev pub group_values : ℕ → ℕ → ℕ → List ℕ
+group_values high middle low = (high / 4) ∷ (high % 4 * 16 + middle / 16) ∷ (middle % 16 * 4 + low / 64) ∷ (low % 64) ∷ []
+
+-- A run has this many codewords behind its latch, and these values before its unlatch. It begins with a group of these values, and where none of them
+-- is the unlatch, it goes on as `rest`.
+abbrev pub group_by : List ℕ → ℕ × List ℕ → ℕ × List ℕ
+group_by (first ∷ second ∷ third ∷ fourth ∷ []) rest =
+    if first == unlatch_value then (1, []) else
+    if second == unlatch_value then (2, first ∷ []) else
+    if third == unlatch_value then (3, first ∷ second ∷ []) else
+    if fourth == unlatch_value then (3, first ∷ second ∷ third ∷ []) else
+    (3 + rest.0, first ∷ second ∷ third ∷ fourth ∷ rest.1)
+group_by _ rest = rest
+
+-- This run stands at the front of the codewords behind a latch.
+unfoldable pub edifact_run : List ℕ → ℕ × List ℕ
+edifact_run (high ∷ middle ∷ low ∷ more) = group_by (group_values high middle low) (edifact_run more)
+edifact_run _ = (0, [])
+
+-- The values of a run of EDIFACT stand for these items.
+abbrev pub edifact_items : List ℕ → List Item
+edifact_items values = byte_items (map edifact_byte values)
+
+-- Behind the latch of EDIFACT, which is this codeword, a run is taken in the wide extent.
+abbrev pub edifact_by : Extent → ℕ → ℕ → List ℕ → Step (List Item) (Option WordFault)
+edifact_by Usual place word more = Stops (Some (fault.LeftOut word place))
+edifact_by Wide place word more = Takes (1 + (edifact_run more).0) (edifact_items (edifact_run more).1)
+
 -- ---- all parts
 
 -- Behind an Upper Shift, the meaning of the next codeword decides which unit is taken.
@@ -166,21 +206,23 @@ raised_unit place [] = Stops (Some (fault.Unfinished place))
 raised_unit place (next ∷ more) = raised_unit_by place (codeword_of next)
 
 -- At the front of the words, the meaning of the first codeword decides which part is taken.
-abbrev pub part_by : ℕ → ℕ → List ℕ → Option Codeword → Step (List Item) (Option WordFault)
-part_by place word more (Some (codeword.Character byte)) = Takes 1 (Byte byte ∷ [])
-part_by place word more (Some codeword.Pad) = Stops None
-part_by place word more (Some (codeword.Digits number)) = Takes 1 (Byte (48 + number / 10) ∷ Byte (48 + number % 10) ∷ [])
-part_by place word more (Some (codeword.Latch set)) = run_front set place more
-part_by place word more (Some codeword.Base256) = segment_front place (plain (place + 1) more)
-part_by place word more (Some codeword.Fnc1) = Takes 1 (Fnc1 ∷ [])
-part_by place word more (Some codeword.UpperShift) = raised_unit place more
-part_by place word more (Some codeword.LeftOut) = Stops (Some (fault.LeftOut word place))
-part_by place word more None = Stops (Some (fault.Reserved place))
+abbrev pub part_by : Extent → ℕ → ℕ → List ℕ → Option Codeword → Step (List Item) (Option WordFault)
+part_by extent place word more (Some (codeword.Character byte)) = Takes 1 (Byte byte ∷ [])
+part_by extent place word more (Some codeword.Pad) = Stops None
+part_by extent place word more (Some (codeword.Digits number)) = Takes 1 (Byte (48 + number / 10) ∷ Byte (48 + number % 10) ∷ [])
+part_by extent place word more (Some (codeword.Latch set)) = run_front extent set place more
+part_by extent place word more (Some codeword.Base256) = segment_front place (plain (place + 1) more)
+part_by extent place word more (Some codeword.Fnc1) = Takes 1 (Fnc1 ∷ [])
+part_by extent place word more (Some codeword.UpperShift) = raised_unit place more
+part_by extent place word more (Some codeword.Edifact) = edifact_by extent place word more
+part_by extent place word more (Some (codeword.Macro digit)) = Stops (Some (fault.LeftOut word place))
+part_by extent place word more (Some codeword.LeftOut) = Stops (Some (fault.LeftOut word place))
+part_by extent place word more None = Stops (Some (fault.Reserved place))
 
 -- At the front of the words stands a part, the end, or a fault.
-abbrev pub part_front : ℕ → List ℕ → Step (List Item) (Option WordFault)
-part_front place [] = Stops None
-part_front place (word ∷ more) = part_by place word more (codeword_of word)
+abbrev pub part_front : Extent → ℕ → List ℕ → Step (List Item) (Option WordFault)
+part_front extent place [] = Stops None
+part_front extent place (word ∷ more) = part_by extent place word more (codeword_of word)
 
 -- The message is given if the walk came to the end, and else the fault.
 abbrev pub read_to : List Item → Option WordFault → Result (List Item) WordFault
@@ -188,9 +230,30 @@ read_to items None = Ok items
 read_to items (Some why) = Err why
 
 -- This is read from a place on, behind items that were read before.
-unfoldable pub read_on : List Item → ℕ → List ℕ → Result (List Item) WordFault
-read_on items place words = let found = walk part_front None (suc (length words)) place words in read_to (items ++ flat found.taken) found.why
+unfoldable pub read_on : Extent → List Item → ℕ → List ℕ → Result (List Item) WordFault
+read_on extent items place words = let found = walk (part_front extent) None (suc (length words)) place words in read_to (items ++ flat found.taken) found.why
+
+-- A codeword with this meaning is a macro of this digit, or none.
+abbrev pub digit_by : Option Codeword → Option ℕ
+digit_by (Some (codeword.Macro digit)) = Some digit
+digit_by _ = None
+
+-- The words begin with a macro of this digit, or with none that is read.
+abbrev pub macro_digit : Extent → List ℕ → Option ℕ
+macro_digit Usual words = None
+macro_digit Wide [] = None
+macro_digit Wide (word ∷ more) = digit_by (codeword_of word)
+
+-- A message that was read stands before the trailer of a macro.
+abbrev pub and_trailer : Result (List Item) WordFault → Result (List Item) WordFault
+and_trailer (Ok items) = Ok (items ++ macro_trailer)
+and_trailer (Err why) = Err why
+
+-- This is read from all of the words, where they begin with this macro or with none.
+abbrev pub reading_by : Extent → List ℕ → Option ℕ → Result (List Item) WordFault
+reading_by extent words None = read_on extent [] 1 words
+reading_by extent words (Some digit) = and_trailer (read_on extent (macro_header digit) 2 (drop 1 words))
 
 -- This is read from all of the words.
-unfoldable pub reading : List ℕ → Result (List Item) WordFault
-reading words = read_on [] 1 words
+unfoldable pub reading : Extent → List ℕ → Result (List Item) WordFault
+reading extent words = reading_by extent words (macro_digit extent words)

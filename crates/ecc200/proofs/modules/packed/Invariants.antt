@@ -3,9 +3,13 @@ use Rattle.dm_symbol.specs.Grid.{is_dark_in}
 use Rattle.ecc200.specs.Modules.{is_dark}
 use Rattle.ecc200.proofs.modules.packed.Given as goal
 
--- The last modules are packed, the first of them as the lowest bit.
-abbrev pub invariant-loop-i : goal.invariant-loop-i
-invariant-loop-i l = record {
-  bits : (column : ℕ) → column < l.i → is_dark_in l.row column ≡ is_dark (get_or l.modules (l.across - l.i + column) 0);
-  small : l.row < 2 ^ l.i;
+-- The modules before this column are packed, and nothing else.
+abbrev pub invariant-loop-column : goal.invariant-loop-column
+invariant-loop-column l = record {
+  before : (c : ℕ) → c < l.column → c < l.across → is_dark_in l.row c ≡ is_dark (get_or l.modules c 0);
+  small : l.row < 2 ^ l.column;
+  within : l.column < l.across + 16;
 }
+
+abbrev pub decreases-loop-column : goal.decreases-loop-column
+decreases-loop-column l = l.across + 16 - l.column

@@ -1,27 +1,30 @@
-use Rattle.std.proofs.Common.{◌≡◌, ◌<◌, ◌∙◌, ◌*◌, ◌+◌, ◌≤◌, [], length, get_or, ap, arith}
-use Rattle.std.proofs.lemmas.List.{length-set}
+use Rattle.std.proofs.Common.{◌≡◌, ◌∙◌, ◌*◌, ◌+◌, ◌-◌, ◌++◌, [], List, ℕ, length, get_or, ap, arith, drop, map, sym, take}
+use Rattle.std.proofs.lemmas.List.{length-map, take_all}
 use Rattle.std.proofs.lemmas.List.Elements.{All-get_or}
-use Rattle.std.proofs.Math.Nat.{mul-le-mul_right}
+use Rattle.std.proofs.lemmas.Slice.{put_mid-paste}
 use Rattle.ecc200.specs.Modules.{module_of}
-use Rattle.ecc200.proofs.Rows.{module_from_bool, row_more, row_behind}
+use Rattle.ecc200.proofs.Unpacking.{line_is_row}
 use Rattle.ecc200.proofs.modules.put_row.Goals as goal
 
-pub loop-column-preserved : goal.loop-column-preserved
-loop-column-preserved c =
-    let i = c.loop-column.invariant in
+pub returns : goal.returns
+returns c =
     let g = c.args.grid.now in
     let row = c.args.row in
-    let column = c.loop-column.column in
+    let all = c.args.all.now in
+    let side = g.size.side in
+    let cells = get_or g.rows row [] in
+    let line = c.unpacked-line.result in
     let start = c.from.result * c.from-side.result in
-    let side : c.from-side.result ≡ g.size.side = c.from-side.ensures ∙ c.side.ensures.value ∙ ap (λ s. s.side) c.size.ensures.value in
-    let wide : length (get_or g.rows row []) ≡ g.size.side = All-get_or (λ line. length line ≡ g.size.side) g.rows row [] (omega (arith, c.requires.row, c.size.ensures.grid.height)) c.size.ensures.grid.width in
-    let above : (row + 1) * g.size.side ≤ g.size.side * g.size.side = mul-le-mul_right g.size.side (omega (arith, c.requires.row)) in
-    let start_is : start ≡ row * g.size.side = ap (λ x. x * c.from-side.result) c.from.ensures ∙ ap (λ x. row * x) side in
-    let inside : start + column < length c.loop-column.all = omega (arith, start_is, above, c.requires.room, i.room, c.loop-column-test.true, side) in
-    let within : column < length (get_or g.rows row []) = omega (arith, wide, side, c.loop-column-test.true) in
-    record {
-      front = row_more c.args.all.now c.loop-column.all (get_or g.rows row []) start column c.from-in-loop-column.result inside within
-          (c.from-in-loop-column.ensures ∙ module_from_bool c.cell.result ∙ ap module_of c.cell.ensures) i.front;
-      behind = row_behind c.args.all.now c.loop-column.all start column c.from-in-loop-column.result i.behind;
-      room = length-set c.loop-column.all (start + column) c.from-in-loop-column.result ∙ i.room;
-    }
+    let width : c.side-width.result ≡ side = c.side-width.ensures.value ∙ ap (λ s. s.side) c.size.ensures.value in
+    let same : c.from-side.result ≡ side = c.from-side.ensures ∙ width in
+    let start_is : start ≡ row * side = ap (λ x. x * c.from-side.result) c.from.ensures ∙ ap (λ x. row * x) same in
+    let next : row * side + side ≡ (row + 1) * side = omega arith in
+    let wide : length cells ≡ side = All-get_or (λ l. length l ≡ side) g.rows row [] (omega (arith, c.requires.row, c.size.ensures.grid.height)) c.size.ensures.grid.width in
+    let long : length (map module_of cells) ≡ side = length-map cells module_of ∙ wide in
+    let modules = c.copy_from_slice.ensures.after ∙ ap (λ n. take n line) same
+    ∙ line_is_row cells line c.row.result side wide (omega (arith, c.unpacked-line.ensures.room, c.side-width.ensures.most, width))
+    (λ k l. c.unpacked-line.ensures.modules k (omega (arith, l, width))) c.row.ensures.cells in
+    put_mid-paste start (start + c.from-side.result - start) all c.copy_from_slice.new.self (map module_of cells) side modules (omega (arith, same)) (sym long)
+    ∙ ap (λ (m : List ℕ). take start all ++ m ++ drop (start + side) all) (take_all side (map module_of cells) (omega (arith, long)))
+    ∙ ap (λ (n : ℕ). take n all ++ map module_of cells ++ drop (n + side) all) start_is
+    ∙ ap (λ (n : ℕ). take (row * side) all ++ map module_of cells ++ drop n all) next

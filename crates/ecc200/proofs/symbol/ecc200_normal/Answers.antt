@@ -1,11 +1,11 @@
-use Rattle.std.proofs.Common.{Ok, Err, ◌∙◌, sym, ap}
-use Rattle.ecc200.specs.Symbols.{IsNormalAnswer, no_symbol}
-use Rattle.ecc200.proofs.symbol.ecc200_normal.Goals.{in-Some+in-Ok, in-Some+in-Err, in-None}
+use Rattle.std.proofs.Common.{◌∙◌, sym, ap, subst}
+use Rattle.ecc200.specs.Symbols.{IsNormalAnswer, ProfileAnswer, no_symbol}
+use Rattle.ecc200.proofs.symbol.ecc200_normal.Goals.{in-Some, in-None}
 use Rattle.ecc200.proofs.symbol.ecc200_normal.Goals as goal
 
 pub returns-clause-answer : goal.returns-clause-answer
-returns-clause-answer c = elim c.match-profile_of.branch [
-  | in-Some+in-Ok w ↦ IsNormalAnswer.answered w.in-Some.profile (Ok w.normalised.new.normal) (sym w.in-Some.ensures) w.in-Ok.ensures (w.out-is ∙ w.show_grid.ensures)
-  | in-Some+in-Err w ↦ IsNormalAnswer.answered w.in-Some.profile (Err w.in-Err.why) (sym w.in-Some.ensures) w.in-Err.ensures (w.out-is ∙ w.show_fault.ensures)
-  | in-None w ↦ IsNormalAnswer.no_profile (sym c.profile_of.ensures ∙ w.in-None.is) (w.out-is ∙ w.show_fault-in-None.ensures ∙ ap no_symbol w.no_such_profile.ensures)
+returns-clause-answer c = elim c.match-extent_of.branch [
+  | in-Some w ↦ IsNormalAnswer.in_extent w.in-Some.extent (sym c.extent_of.ensures ∙ w.in-Some.is)
+      (subst (λ out. ProfileAnswer w.in-Some.extent c.args.side c.args.modules.now c.args.border_limit c.args.profile out) (sym w.out-is) w.normal_modules.ensures)
+  | in-None w ↦ IsNormalAnswer.no_extent (sym c.extent_of.ensures ∙ w.in-None.is) (w.out-is ∙ w.show_fault.ensures ∙ ap no_symbol w.no_such_extent.ensures)
 ]

@@ -2,11 +2,11 @@ use Rattle.std.proofs.Common.{Err, ap, refl}
 use Rattle.ecc200.specs.Symbols.{NormalisedAnswer}
 use Rattle.ecc200.proofs.symbol.normalised.Goals as goal
 
-pub returns-in-Ok-normal_to : goal.returns-in-Ok-normal_to
-returns-in-Ok-normal_to c = NormalisedAnswer.normal c.in-Ok.grid c.normal_to.new.normal c.in-Ok.ensures.grid c.in-Ok-normal_to.ensures.normal.answer_is refl
+pub returns-in-Ok-normal_read_as_to : goal.returns-in-Ok-normal_read_as_to
+returns-in-Ok-normal_read_as_to c = NormalisedAnswer.normal c.in-Ok.grid c.normal_read_as_to.new.normal c.in-Ok.ensures.grid c.in-Ok-normal_read_as_to.ensures.normal.answer_is refl
 
-pub returns-in-Err-normal_to : goal.returns-in-Err-normal_to
-returns-in-Err-normal_to c = NormalisedAnswer.refused c.in-Ok.grid c.in-Err-normal_to.why c.in-Ok.ensures.grid c.in-Err-normal_to.ensures.normal.answer_is (ap Err c.normal_fault.ensures)
+pub returns-in-Err-normal_read_as_to : goal.returns-in-Err-normal_read_as_to
+returns-in-Err-normal_read_as_to c = NormalisedAnswer.refused c.in-Ok.grid c.in-Err-normal_read_as_to.why c.in-Ok.ensures.grid c.in-Err-normal_read_as_to.ensures.normal.answer_is (ap Err c.normal_fault.ensures)
 
 pub returns-in-Err : goal.returns-in-Err
 returns-in-Err c = NormalisedAnswer.no_grid c.in-Err.why c.in-Err.ensures.fault refl

@@ -15,7 +15,7 @@ loop-turn-preserved c =
     let turns = c.loop-turn.auto in
     let left = 8 - (c.loop-turn._turn + 1) in
     let e : 8 - c.loop-turn._turn ≡ suc left = omega arith in
-    rw c.doubled-multiple.ensures (
+    rw c.double-multiple.ensures (
       turn_lanes c.loop-turn.sum c.loop-turn.multiple c.loop-turn.bits 16 turns.sum.0 turns.multiple.0 turns.bits.0 turns.multiple.1 turns.bits.1 ∙ c.loop-turn.invariant.0,
       fewer_bits left c.loop-turn.bits 16 (subst (λ n. Each1 (λ b. b < 2 ^ n) c.loop-turn.bits) e c.loop-turn.invariant.1),
     )

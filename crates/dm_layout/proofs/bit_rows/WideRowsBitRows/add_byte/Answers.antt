@@ -1,6 +1,7 @@
 use Rattle.std.proofs.Common.{◌≡◌, ◌∙◌, ℕ, ◌+◌, ◌-◌, ◌*◌, ◌/◌, ◌%◌, ◌^◌, ◌<◌, ◌≤◌, List, get_or, set, ap, refl, sym, arith, mul_assoc}
 use Rattle.std.specs.Int.RustNames.{bit_or}
 use Rattle.std.proofs.lemmas.Nat.{pow-add}
+use Rattle.dm_layout.specs.Sizes.{largest_mapping}
 use Rattle.dm_layout.specs.inner.Laying.{with_byte}
 use Rattle.dm_layout.specs.inner.Slots.{HasSlot}
 use Rattle.dm_layout.proofs.LaidSlots.{byte_fits}
@@ -8,10 +9,10 @@ use Rattle.dm_layout.proofs.SlotRows.{row_of_slot}
 use Rattle.dm_layout.proofs.bit_rows.WideRowsBitRows.add_byte.Goals as goal
 
 -- A number that is the moved byte is laid over the row of its slot.
-laid_over : (rows : List ℕ) (x y z : ℕ) → HasSlot 96 x → z ≡ y * 2 ^ (8 * (x % 16)) % 2 ^ 128 → set rows (x / 16) (bit_or (get_or rows (x / 16) 0) z) ≡ with_byte 128 96 rows x y
+laid_over : (rows : List ℕ) (x y z : ℕ) → HasSlot largest_mapping x → z ≡ y * 2 ^ (8 * (x % 16)) % 2 ^ 128 → set rows (x / 16) (bit_or (get_or rows (x / 16) 0) z) ≡ with_byte 128 largest_mapping rows x y
 laid_over rows x y z h e =
     ap (λ (i : ℕ). set rows (x / 16) (bit_or (get_or rows (x / 16) 0) i)) e
-    ∙ ap (λ (row : ℕ). set rows row (bit_or (get_or rows row 0) (y * 2 ^ (8 * (x % 16)) % 2 ^ 128))) (sym (row_of_slot 96 96 x (omega arith) refl h))
+    ∙ ap (λ (row : ℕ). set rows row (bit_or (get_or rows row 0) (y * 2 ^ (8 * (x % 16)) % 2 ^ 128))) (sym (row_of_slot largest_mapping largest_mapping x (omega arith) refl h))
 
 -- A byte in the lower half of a row is moved within 64 bits.
 in_low : (y s : ℕ) → y < 256 → s + 8 ≤ 64 → y * 2 ^ s % 2 ^ 64 ≡ y * 2 ^ s % 2 ^ 128

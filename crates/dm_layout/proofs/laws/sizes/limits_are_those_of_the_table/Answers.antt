@@ -1,5 +1,5 @@
 use Rattle.std.proofs.Common.{refl}
-use Rattle.dm_layout.specs.Sizes.{size_table, block_check, codeword_count, largest_side, most_data, most_codewords, most_blocks, most_block_check}
+use Rattle.dm_layout.specs.Sizes.{size_table, block_check, codeword_count, regions_across, largest_side, largest_mapping, most_across, most_data, most_codewords, most_blocks, most_block_check}
 use Rattle.dm_layout.proofs.TableRows.{greatest}
 use Rattle.dm_layout.proofs.laws.sizes.limits_are_those_of_the_table.Goals as goal
 
@@ -22,3 +22,11 @@ returns-clause-blocks c = greatest (λ row. row.blocks) most_blocks refl refl
 pub returns-clause-checks : goal.returns-clause-checks
 unfolding size_table
 returns-clause-checks c = greatest block_check most_block_check refl refl
+
+pub returns-clause-mapping : goal.returns-clause-mapping
+unfolding size_table
+returns-clause-mapping c = greatest (λ row. row.mapping) largest_mapping refl refl
+
+pub returns-clause-across : goal.returns-clause-across
+unfolding size_table
+returns-clause-across c = greatest regions_across most_across refl refl

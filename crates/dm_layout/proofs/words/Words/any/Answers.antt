@@ -6,7 +6,7 @@ use Rattle.dm_layout.proofs.words.Words.any.Goals as goal
 
 pub invariant_of-result : goal.invariant_of-result
 invariant_of-result c = record {
-  row = c.side-side.ensures.row;
+  row = c.check_count-checks.ensures.row;
   fits = c.check_count-checks.ensures.most;
   count = refl;
   bytes = All-replicate (λ (word : ℕ). word < 256) most_codewords 0 (omega arith);

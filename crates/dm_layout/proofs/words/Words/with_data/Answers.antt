@@ -7,7 +7,7 @@ pub invariant_of-result : goal.invariant_of-result
 invariant_of-result c =
     let front = c.args.front.now in
     rw c.copy_from_slice.ensures.after
-    (front_kept c.args.size front c.side-side.ensures.row c.check_count-checks.ensures.most (omega (arith, c.requires, c.check_count-checks.ensures.most)) (All-from_get_or (λ word. word < 256) front 0 (λ i h. omega (arith, c.type_inv.front i))))
+    (front_kept c.args.size front c.check_count-checks.ensures.row c.check_count-checks.ensures.most (omega (arith, c.requires, c.check_count-checks.ensures.most)) (All-from_get_or (λ word. word < 256) front 0 (λ i h. omega (arith, c.type_inv.front i))))
 
 pub returns-clause-value : goal.returns-clause-value
 returns-clause-value c =

@@ -1,0 +1,6 @@
+use Rattle.dm_symbol.proofs.Readings.{wide_reads_the_usual}
+use Rattle.dm_symbol.proofs.NormalReadings.{wide_normalises_the_usual}
+use Rattle.dm_symbol.proofs.laws.wide_reads_the_usual.Goals as goal
+
+pub returns : goal.returns
+returns c = record { read = wide_reads_the_usual; normal = wide_normalises_the_usual }

@@ -1,0 +1,9 @@
+use Rattle.std.proofs.Common.{◌<◌, length}
+use Rattle.dm_text.specs.inner.OpenLines.{pending_bytes}
+use Rattle.dm_text.proofs.OpenLineSteps.{pending_end}
+use Rattle.dm_text.proofs.open_line.GoodLine.close.Goals as goal
+
+pub returns-then-count-gt0 : goal.returns-then-count-gt0
+returns-then-count-gt0 c line good =
+    let some : 0 < length (pending_bytes c.args.self.pending) = rw (← c.count.ensures) c.if-count-gt0.true in
+    rw c.saturating_add.ensures (pending_end line (pending_bytes c.args.self.pending) c.args.self.front_length c.args.self.items good some)

@@ -1,0 +1,15 @@
+pub mod Devices
+pub mod Readers
+pub mod Spellings
+pub mod MessageLines
+pub mod LineFacts
+pub mod Texts
+pub mod LineFeeds
+pub mod Records
+pub mod RecordFacts
+pub mod RecordFeeds
+pub mod Refusals
+pub mod Answers
+pub mod Runs
+pub mod Cuts
+pub mod inner

@@ -1,0 +1,121 @@
+//! The cells at the front of some text, up to 128 at once.
+
+ghost use Rattle.std.specs.Prelude.{◌≡◌, ◌==◌, ◌≤◌, ◌+◌, ◌∷◌, ◌++◌, [], ℕ, false, map, not, List, IfSome};
+ghost use Rattle.std.specs.Simd.Lanes.{mask_l};
+ghost use Rattle.std.specs.List.{prefix_len};
+ghost use Rattle.std.specs.Int.Bits.{bit_or};
+ghost use Rattle.dm_text.specs.Records.{is_foreign};
+ghost use Rattle.dm_text.specs.inner.OpenRecords.{AreCells, AreFirstCells, is_dark};
+
+use std::simd::prelude::*;
+
+/// This many characters are compared together: with its LF, a whole line of the smaller sizes.
+const BLOCK: usize = 32;
+
+/// This many blocks can be looked at together: with its LF, a whole line of the largest size.
+const BLOCKS_OF_A_LINE: usize = 4;
+
+/// Some cells of a row: characters 0 and 1 that follow one another.
+#[derive(Clone, Copy)]
+pub(crate) struct CellRun {
+    /// The cell of the character `c`, counted from 0, is the bit of weight 2^c, 1 for dark.
+    pub(crate) bits: u128,
+    /// How many cells there are: 1 to 128.
+    pub(crate) count: u16,
+}
+
+impl CellRun {
+    /// The cell of one character.
+    pub(crate) fn of_character(character: u8) -> CellRun
+        requires { is_foreign character ≡ false }
+        ensures { AreCells (character ∷ []) result }
+    {
+        CellRun {
+            bits: u128::from(character == b'1'),
+            count: 1,
+        }
+    }
+
+    /// The cells at the front of a text: those before the first other byte, but at most 128, and fewer near the end
+    /// of the text. None where the first byte is no cell, or where fewer than 32 bytes have come.
+    pub(crate) fn of_text(text: &[u8]) -> Option<CellRun>
+        ensures { IfSome result (λ cells. AreFirstCells text.now cells) }
+    {
+        let Some(mut cells) = CellRun::of_block(text) else {
+            return None;
+        };
+        for block in 1..BLOCKS_OF_A_LINE {
+            if usize::from(cells.count) < block * BLOCK {
+                break;
+            }
+            let Some(next) = CellRun::of_block(&text[block * BLOCK..]) else {
+                break;
+            };
+            cells = cells.join(next);
+        }
+        Some(cells)
+    }
+
+    /// The cells at the front of a text as far as its first 32 bytes.
+    fn of_block(text: &[u8]) -> Option<CellRun>
+        ensures cells { IfSome result (λ cells. AreFirstCells text.now cells) }
+        ensures few { IfSome result (λ cells. cells.count ≤ BLOCK) }
+    {
+        if text.len() < BLOCK {
+            return None;
+        }
+        let block = u8x32::from_slice(text);
+        let count = cell_count(block);
+        if count == 0 {
+            return None;
+        }
+        Some(CellRun {
+            bits: u128::from(dark_bits(block) & ((1 << count) - 1)),
+            count: count as u16,
+        })
+    }
+
+    /// These cells, with others after them.
+    fn join(self, next: CellRun) -> CellRun
+        requires room { self.count + next.count ≤ 128 }
+        requires some { (more : List ℕ) × AreCells more next }
+        ensures { (characters more : List ℕ) → AreCells characters self → AreCells more next
+            → AreCells (characters ++ more) result }
+    {
+        CellRun {
+            bits: self.bits | next.bits << self.count,
+            count: self.count + next.count,
+        }
+    }
+}
+
+/// The dark cells of a block: 1 for the character 1.
+#[inline]
+fn dark_bits(block: u8x32) -> u64
+    ensures { result ≡ mask_l (map is_dark block) }
+{
+    block.simd_eq(u8x32::splat(b'1')).to_bitmask()
+}
+
+/// The other characters of a block: 0 for 0 and 1, which are the two that differ from 1 in the lowest bit at most.
+#[inline]
+fn other_bits(block: u8x32) -> u64
+    ensures { result ≡ mask_l (map (λ b. not (bit_or b 1 == 49)) block) }
+{
+    (block | u8x32::splat(1))
+        .simd_ne(u8x32::splat(b'1'))
+        .to_bitmask()
+}
+
+/// How many characters 0 and 1 stand at the front of a block.
+#[inline]
+fn cell_count(block: u8x32) -> u32
+    ensures { result ≡ prefix_len (λ b. bit_or b 1 == 49) block }
+{
+    let others = other_bits(block);
+    if others == 0 {
+        BLOCK as u32
+    } else {
+        others.trailing_zeros()
+    }
+}

@@ -1,0 +1,106 @@
+//! Words, numbers and grids as text.
+
+ghost use Rattle.std.specs.Prelude.{◌≡◌, ◌≤◌, ◌<◌, ◌++◌, ◌∷◌, [], ◌+◌, ◌*◌, get_or, length, map};
+ghost use Rattle.std.specs.Fmt.{decimal};
+ghost use Rattle.dm_text.specs.Answers.{character_of, grid_text, spaced};
+ghost use Rattle.dm_text.specs.inner.OpenRecords.{cells_in};
+
+use crate::text::Text;
+use dm_symbol::{Grid, LARGEST_SIDE};
+use std::simd::prelude::*;
+
+/// This many cells are written together.
+const TOGETHER: u16 = 16;
+
+/// The byte that has each of sixteen cells, of which the first is the lowest bit.
+const BYTE_OF_CELL: [u8; 16] = [0, 0, 0, 0, 0, 0, 0, 0, 1, 1, 1, 1, 1, 1, 1, 1];
+
+/// The weight of each cell in its byte.
+const WEIGHTS: [u8; 16] = [1, 2, 4, 8, 16, 32, 64, 128, 1, 2, 4, 8, 16, 32, 64, 128];
+
+/// The most bytes of an answer: those of a grid of the largest side, each row with its LF, and of an empty line; and as many as are
+/// written together, since the last ones of a row are written as a whole and then cut.
+pub(crate) const MOST_ANSWER: usize = LARGEST_SIDE * (LARGEST_SIDE + 1) + 1 + TOGETHER as usize;
+
+/// The text of an answer.
+pub(crate) type AnswerText = Text<MOST_ANSWER>;
+
+/// Appends a number in decimal digits.
+pub(crate) fn push_decimal<const N: usize>(text: &mut Text<N>, number: u64)
+    requires { length text.old.items + 20 ≤ N }
+    ensures text { text.new.items ≡ text.old.items ++ decimal number }
+    ensures length { length text.new.items ≤ length text.old.items + 20 }
+{
+    if number >= 10 {
+        push_decimal(text, number / 10);
+    }
+    text.push(b'0' + (number % 10) as u8);
+}
+
+/// Appends numbers in decimal digits, with single spaces between.
+pub(crate) fn push_spaced<const N: usize>(text: &mut Text<N>, numbers: &[u16])
+    requires room { length text.old.items + 64 ≤ N }
+    requires few { length numbers.now ≤ 8 }
+    ensures text { text.new.items ≡ text.old.items ++ spaced numbers.now }
+    ensures length { length text.new.items ≤ length text.old.items + 6 * length numbers.now }
+{
+    for (i, number) in numbers.iter().enumerate() {
+        if i > 0 {
+            text.push(b' ');
+        }
+        push_decimal(text, u64::from(*number));
+    }
+}
+
+/// Appends the rows of a grid, each followed by LF, to an empty text.
+pub(crate) fn push_grid(text: &mut AnswerText, grid: &Grid)
+    requires { text.old.items ≡ [] }
+    ensures text { text.new.items ≡ grid_text grid.now.rows }
+    ensures room { length text.new.items < MOST_ANSWER }
+{
+    for row in 0..grid.size().side() {
+        push_row(text, grid, row);
+    }
+}
+
+/// Appends a row of a grid and LF.
+fn push_row(text: &mut AnswerText, grid: &Grid, row: u16)
+    requires row { row < grid.now.size.side }
+    requires width { length (get_or grid.now.rows row []) ≡ grid.now.size.side }
+    requires room { length text.old.items + grid.now.size.side + TOGETHER < MOST_ANSWER }
+    ensures { text.new.items ≡ text.old.items ++ map character_of (get_or grid.now.rows row []) ++
+        10 ∷ [] }
+{
+    push_cells(text, grid.row(row), grid.size().side());
+    text.push(b'\n');
+}
+
+/// Appends the characters of a row's first cells, of which the first is the lowest bit.
+fn push_cells(text: &mut AnswerText, cells: u128, width: u16)
+    requires width { width ≤ LARGEST_SIDE }
+    requires room { length text.old.items + width + TOGETHER ≤ MOST_ANSWER }
+    ensures { text.new.items ≡ text.old.items ++ map character_of (cells_in width cells) }
+{
+    let start = text.len();
+    let mut rest = cells;
+    let mut column = 0;
+    while column < width {
+        text.push_all(&characters((rest & 0xffff) as u16));
+        rest >>= TOGETHER;
+        column += TOGETHER;
+    }
+    text.truncate(start + usize::from(width));
+}
+
+/// The characters of sixteen cells, of which the first is the lowest bit.
+fn characters(cells: u16) -> [u8; 16]
+    ensures { result ≡ map character_of (cells_in 16 cells) }
+{
+    let low = (cells & 0xff) as u8;
+    let high = (cells >> 8) as u8;
+    let bytes = u8x16::from_array([low, high, 0, 0, 0, 0, 0, 0, 0, 0, 0, 0, 0, 0, 0, 0]);
+    let spread = bytes.swizzle_dyn(u8x16::from_array(BYTE_OF_CELL));
+    let dark = (spread & u8x16::from_array(WEIGHTS)).simd_ne(u8x16::splat(0));
+    dark.select(u8x16::splat(b'1'), u8x16::splat(b'0'))
+        .to_array()
+}

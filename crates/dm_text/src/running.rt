@@ -1,0 +1,321 @@
+//! A task done over a source and a sink.
+
+ghost use Rattle.std.specs.Prelude.{◌≡◌, ◌≤◌, ◌<◌, ◌+◌, ◌-◌, ◌^◌, ◌∷◌, ◌++◌, ◌⊎◌, [], ℕ, false, List, MatchResult, IfOk, OnOk, OnErr, IsErrOf, length, max, take};
+ghost use Rattle.std.specs.Io.KnownBytes.{Appends};
+ghost use Rattle.dm_text.specs.Answers.{Answer as AnAnswer, table_text};
+ghost use Rattle.dm_text.specs.Devices.{AppendsFront, Counts, HasRisen, IsFlushedOnce};
+ghost use Rattle.dm_text.specs.inner.Gathering.{IsPassedOn};
+ghost use Rattle.dm_text.specs.Runs.{IsRun, tally_of, written};
+ghost use Rattle.dm_text.specs.inner.AnsweredSoFar.{Advances, AreCounted, HasBegunAnswers, HasBegunLast, HasTakenText, IsLastAnswered};
+
+use crate::answer::{Answer, Targets};
+use crate::answering::Answering;
+use crate::device::Failed;
+use crate::gathering::{Gathered, gather, put_gathered};
+use crate::sink::{Sink, put};
+use crate::source::Source;
+use crate::table::table_text;
+use crate::task::{RunFault, Tally, Task};
+
+/// The most bytes that are asked for at once.
+const PIECE: usize = 4096;
+
+/// The tally before anything is answered or refused.
+const NO_ANSWER: Tally = Tally {
+    answered: 0,
+    refused: 0,
+};
+
+/// Reads all that the source gives, and writes the answer to each record or line, in order; for
+/// [`Task::Table`] reads nothing, and writes the table of sizes. Gives how many records or lines were
+/// answered, and how many refused.
+///
+/// It asks for at most `most` bytes, and, only once all of them have come, for one byte more.
+/// `Read` and `TooMuchInput` come after the answers to all that was closed by then have been
+/// written; where the sink fails, `Write` comes after a beginning of what was to be written.
+/// A device that failed isn't tried again. It flushes once, when the end of the input has
+/// come and all is written; where that is Ok, the sink's mark of pending bytes is clear.
+///
+/// The clauses are about the bytes that the source and the sink tell; they
+/// say nothing about one that doesn't tell its own.
+pub fn run<I: Source, O: Sink>(
+    task: Task,
+    source: &mut I,
+    sink: &mut O,
+    most: u64,
+) -> Result<Tally, RunFault>
+    requires { most < 2 ^ 64 - 1 }
+    ensures ends { IsRun task most result
+        (I.gave source.old source.new) (I.ended source.new) (I.asked source.old source.new)
+        (I.failed source.old) (I.failed source.new)
+        (O.contents sink.old) (O.contents sink.new) (O.flushed sink.old sink.new)
+        (O.is_pending sink.new) (O.failed sink.old) (O.failed sink.new) }
+{
+    let Some(mut answering) = Answering::new(task) else {
+        return print_table(sink);
+    };
+    let mut tally = NO_ANSWER;
+    let mut left = most;
+    let mut buffer = [0u8; PIECE];
+    let mut targets = Targets::new();
+    let mut answer = Answer::none();
+    let mut gathered = Gathered::new();
+    'pieces: loop {
+        let count = match next_piece(source, &mut buffer, left) {
+            Ok(0) => {
+                return match end(&mut answering, sink, &mut tally, &mut targets, &mut answer) {
+                    Ok(()) => Ok(tally),
+                    Err(Failed) => Err(RunFault::Write),
+                };
+            }
+            Ok(count) => count,
+            Err(Failed) => return Err(RunFault::Read),
+        };
+        if left == 0 {
+            return Err(RunFault::TooMuchInput);
+        }
+        left -= count as u64;
+        let piece = &buffer[..count];
+        if let Err(Failed) = answer_piece(
+            &mut answering,
+            sink,
+            &mut tally,
+            piece,
+            &mut targets,
+            &mut answer,
+            &mut gathered,
+        ) {
+            return Err(RunFault::Write);
+        }
+    }
+}
+
+/// Writes the table of sizes.
+fn print_table<O: Sink>(sink: &mut O) -> Result<Tally, RunFault>
+    ensures tally { IfOk result (λ tally. tally ≡ tally_of []) }
+    ensures ok { OnOk result (Appends (O.contents sink.old) (O.contents sink.new) table_text) }
+    ensures flushed { OnOk result (O.is_pending sink.new ≡ false) }
+    ensures well { OnOk result (O.failed sink.new ≡ O.failed sink.old) }
+    ensures err { OnErr result
+        (AppendsFront (O.contents sink.old) (O.contents sink.new) table_text) }
+    ensures failed { OnErr result (HasRisen (O.failed sink.old) (O.failed sink.new)) }
+    ensures write { (fault : RunFault) → IsErrOf result fault → fault ≡ RunFault.Write }
+    ensures held { OnOk result
+        (IsFlushedOnce (O.flushed sink.old sink.new) (O.contents sink.old) (O.contents sink.new)) }
+    ensures late { OnErr result
+        (O.flushed sink.old sink.new []
+        ⊎
+        (IsFlushedOnce (O.flushed sink.old sink.new) (O.contents sink.old) (O.contents sink.new)
+        × Appends (O.contents sink.old) (O.contents sink.new) table_text)) }
+{
+    let text = table_text();
+    match put_all(sink, text.as_slice()) {
+        Ok(()) => Ok(NO_ANSWER),
+        Err(Failed) => Err(RunFault::Write),
+    }
+}
+
+/// Writes all of the bytes, and flushes.
+fn put_all<O: Sink>(sink: &mut O, bytes: &[u8]) -> Result<(), Failed>
+    ensures ok { OnOk result (Appends (O.contents sink.old) (O.contents sink.new) bytes.now) }
+    ensures flushed { OnOk result (O.is_pending sink.new ≡ false) }
+    ensures err { OnErr result
+        (AppendsFront (O.contents sink.old) (O.contents sink.new) bytes.now) }
+    ensures held { OnOk result
+        (IsFlushedOnce (O.flushed sink.old sink.new) (O.contents sink.old) (O.contents sink.new)) }
+    ensures late { OnErr result
+        (O.flushed sink.old sink.new []
+        ⊎
+        (IsFlushedOnce (O.flushed sink.old sink.new) (O.contents sink.old) (O.contents sink.new)
+        × Appends (O.contents sink.old) (O.contents sink.new) bytes.now)) }
+    ensures count { Counts (O.failed sink.old) (O.failed sink.new) result }
+{
+    put(sink, bytes)?;
+    sink.flush()
+}
+
+/// Reads the next bytes of the source to the front of `buffer`, and says how many: no more than may still come, or one
+/// if none may. The number 0 is the end of the input.
+fn next_piece<I: Source>(
+    source: &mut I,
+    buffer: &mut [u8; PIECE],
+    left: u64,
+) -> Result<usize, Failed>
+    ensures kept { length buffer.new ≡ PIECE }
+    ensures fits { IfOk result (λ n. n ≤ PIECE) }
+    ensures few { IfOk result (λ n. n ≤ max left 1) }
+    ensures bytes { MatchResult result (λ n. I.gave source.old source.new (take n buffer.new))
+        (λ _. I.gave source.old source.new []) }
+    ensures end { IfOk result (λ n. n ≡ 0 → I.ended source.new) }
+    ensures asked { I.asked source.old source.new (max left 1) }
+    ensures count { Counts (I.failed source.old) (I.failed source.new) result }
+{
+    let most = if left < PIECE as u64 {
+        (left as usize).max(1)
+    } else {
+        PIECE
+    };
+    source.read(&mut buffer[..most])
+}
+
+/// Takes a piece of the text, and writes the answers to what it closes. Each is made in `answer`, and they are put
+/// together in `gathered`, which is cleared first; it is written whenever it is full, and at the end.
+fn answer_piece<O: Sink>(
+    answering: &mut Answering,
+    sink: &mut O,
+    tally: &mut Tally,
+    piece: &[u8],
+    targets: &mut Targets,
+    answer: &mut Answer,
+    gathered: &mut Gathered,
+) -> Result<(), Failed>
+    requires stands { HasTakenText answering.old }
+    requires room { tally.old.answered + tally.old.refused + length piece.now < 2 ^ 64 }
+    ensures ok { OnOk result
+        ((more : List AnAnswer) × Advances answering.old piece.now more answering.new
+        × Appends (O.contents sink.old) (O.contents sink.new) (written more)
+        × AreCounted tally.old tally.new more) }
+    ensures sum { OnOk result
+        (tally.new.answered + tally.new.refused ≤ tally.old.answered + tally.old.refused + length
+        piece.now) }
+    ensures err { OnErr result
+        (HasBegunAnswers answering.old piece.now
+        (AppendsFront (O.contents sink.old) (O.contents sink.new))) }
+    ensures unflushed { O.flushed sink.old sink.new [] }
+    ensures count { Counts (O.failed sink.old) (O.failed sink.new) result }
+{
+    gathered.clear();
+    let mut rest = piece;
+    loop {
+        match answering.feed(rest, targets, answer) {
+            None => return put_gathered(sink, gathered),
+            Some(taken) => {
+                if let Err(Failed) = gather_answer(sink, tally, answer, gathered) {
+                    return Err(Failed);
+                }
+                rest = &rest[taken..];
+            }
+        }
+    }
+}
+
+/// Gathers an answer, and counts it.
+fn gather_answer<O: Sink>(
+    sink: &mut O,
+    tally: &mut Tally,
+    answer: &Answer,
+    gathered: &mut Gathered,
+) -> Result<(), Failed>
+    requires room { tally.old.answered + tally.old.refused + 1 < 2 ^ 64 }
+    ensures ok { OnOk result
+        (IsPassedOn (O.contents sink.old) gathered.old.items answer.now.text (O.contents sink.new)
+        gathered.new.items) }
+    ensures tally { OnOk result (AreCounted tally.old tally.new (answer.now ∷ [])) }
+    ensures sum { OnOk result
+        (tally.new.answered + tally.new.refused ≡ tally.old.answered + tally.old.refused + 1) }
+    ensures err { OnErr result
+        (AppendsFront (O.contents sink.old) (O.contents sink.new) gathered.old.items) }
+    ensures unflushed { O.flushed sink.old sink.new [] }
+    ensures count { Counts (O.failed sink.old) (O.failed sink.new) result }
+{
+    match gather(sink, gathered, answer.text()) {
+        Ok(()) => {
+            count(tally, answer.is_refusal());
+            Ok(())
+        }
+        Err(Failed) => Err(Failed),
+    }
+}
+
+/// Writes the answer to what the end of the text closes, and flushes.
+fn end<O: Sink>(
+    answering: &mut Answering,
+    sink: &mut O,
+    tally: &mut Tally,
+    targets: &mut Targets,
+    answer: &mut Answer,
+) -> Result<(), Failed>
+    requires stands { HasTakenText answering.old }
+    requires room { tally.old.answered + tally.old.refused + 1 < 2 ^ 64 }
+    ensures ok { OnOk result
+        (IsLastAnswered answering.old (Appends (O.contents sink.old) (O.contents sink.new))
+        tally.old tally.new) }
+    ensures flushed { OnOk result (O.is_pending sink.new ≡ false) }
+    ensures err { OnErr result
+        (HasBegunLast answering.old (AppendsFront (O.contents sink.old) (O.contents sink.new))) }
+    ensures held { OnOk result
+        (IsFlushedOnce (O.flushed sink.old sink.new) (O.contents sink.old) (O.contents sink.new)) }
+    ensures late { OnErr result
+        (O.flushed sink.old sink.new []
+        ⊎
+        (IsFlushedOnce (O.flushed sink.old sink.new) (O.contents sink.old) (O.contents sink.new)
+        × IsLastAnswered answering.old (Appends (O.contents sink.old) (O.contents sink.new))
+        tally.old tally.new)) }
+    ensures count { Counts (O.failed sink.old) (O.failed sink.new) result }
+{
+    match put_last(answering, sink, tally, targets, answer) {
+        Ok(()) => sink.flush(),
+        Err(Failed) => Err(Failed),
+    }
+}
+
+/// Writes the answer to what the end of the text closes.
+fn put_last<O: Sink>(
+    answering: &mut Answering,
+    sink: &mut O,
+    tally: &mut Tally,
+    targets: &mut Targets,
+    answer: &mut Answer,
+) -> Result<(), Failed>
+    requires stands { HasTakenText answering.old }
+    requires room { tally.old.answered + tally.old.refused + 1 < 2 ^ 64 }
+    ensures ok { OnOk result
+        (IsLastAnswered answering.old (Appends (O.contents sink.old) (O.contents sink.new))
+        tally.old tally.new) }
+    ensures err { OnErr result
+        (HasBegunLast answering.old (AppendsFront (O.contents sink.old) (O.contents sink.new))) }
+    ensures unflushed { O.flushed sink.old sink.new [] }
+    ensures count { Counts (O.failed sink.old) (O.failed sink.new) result }
+{
+    if answering.finish(targets, answer) {
+        put_answer(sink, tally, answer)
+    } else {
+        Ok(())
+    }
+}
+
+/// Writes an answer, and counts it.
+fn put_answer<O: Sink>(sink: &mut O, tally: &mut Tally, answer: &Answer) -> Result<(), Failed>
+    requires room { tally.old.answered + tally.old.refused + 1 < 2 ^ 64 }
+    ensures ok { OnOk result (Appends (O.contents sink.old) (O.contents sink.new) answer.now.text) }
+    ensures tally { OnOk result (AreCounted tally.old tally.new (answer.now ∷ [])) }
+    ensures sum { OnOk result
+        (tally.new.answered + tally.new.refused ≡ tally.old.answered + tally.old.refused + 1) }
+    ensures err { OnErr result
+        (AppendsFront (O.contents sink.old) (O.contents sink.new) answer.now.text) }
+    ensures unflushed { O.flushed sink.old sink.new [] }
+    ensures count { Counts (O.failed sink.old) (O.failed sink.new) result }
+{
+    match put(sink, answer.text()) {
+        Ok(()) => {
+            count(tally, answer.is_refusal());
+            Ok(())
+        }
+        Err(Failed) => Err(Failed),
+    }
+}
+
+/// Counts an answer.
+fn count(tally: &mut Tally, refused: bool)
+    requires room { tally.old.answered + tally.old.refused + 1 < 2 ^ 64 }
+    ensures tally { (answers : List AnAnswer) (answer : AnAnswer) → answer.refused ≡ refused
+        → tally.old ≡ tally_of answers → tally.new ≡ tally_of (answers ++ answer ∷ []) }
+    ensures sum { tally.new.answered + tally.new.refused ≡ tally.old.answered + tally.old.refused
+        + 1 }
+{
+    if refused {
+        tally.refused += 1;
+    } else {
+        tally.answered += 1;
+    }
+}

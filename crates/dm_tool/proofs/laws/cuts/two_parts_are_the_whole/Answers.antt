@@ -1,5 +1,0 @@
-use Rattle.dm_tool.proofs.Cuts.{two_parts}
-use Rattle.dm_tool.proofs.laws.cuts.two_parts_are_the_whole.Goals as goal
-
-pub returns : goal.returns
-returns c = two_parts

@@ -1,6 +1,0 @@
-use Rattle.dm_tool.proofs.LineTexts.{line_ends}
-use Rattle.dm_tool.proofs.line_feed.LineFeed.feed.Goals as goal
-
-pub returns-clause-closed : goal.returns-clause-closed
-returns-clause-closed c = line_ends c.args.self.now c.take_line.new.self c.close.new.self c.args.piece.now c.in-Some.taken c.close.result
-    c.in-Some.ensures.ends c.close.ensures.line c.close.ensures.empty

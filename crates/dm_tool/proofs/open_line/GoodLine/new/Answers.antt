@@ -1,5 +1,0 @@
-use Rattle.dm_tool.proofs.OpenLineSteps.{good_none}
-use Rattle.dm_tool.proofs.open_line.GoodLine.new.Goals as goal
-
-pub returns : goal.returns
-returns c = rw c.new.ensures good_none

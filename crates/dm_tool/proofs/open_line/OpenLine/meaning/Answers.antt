@@ -1,5 +1,0 @@
-use Rattle.dm_tool.proofs.OpenLineSteps.{faulty_end}
-use Rattle.dm_tool.proofs.open_line.OpenLine.meaning.Goals as goal
-
-pub returns-in-Faulty : goal.returns-in-Faulty
-returns-in-Faulty c line facts = faulty_end line c.in-Faulty.column (rw (← c.self.view_is, c.in-Faulty.is) at facts)

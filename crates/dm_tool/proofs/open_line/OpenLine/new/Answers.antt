@@ -1,4 +1,0 @@
-use Rattle.dm_tool.proofs.open_line.OpenLine.new.Goals as goal
-
-pub returns : goal.returns
-returns c = c.new.ensures

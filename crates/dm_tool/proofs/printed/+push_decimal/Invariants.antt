@@ -1,4 +1,0 @@
-use Rattle.dm_tool.proofs.printed.+push_decimal.Given as goal
-
-abbrev pub decreases-push_decimal : goal.decreases-push_decimal
-decreases-push_decimal g l = l.number

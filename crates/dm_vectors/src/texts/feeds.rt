@@ -1,0 +1,264 @@
+//! Texts of messages, and lines and records in pieces.
+
+use arrayvec::ArrayVec;
+use dm_symbol::{Grid, Item, Message, write};
+use dm_text::{
+    Fed, GridFeed, LineFault, LineFed, LineFeed, RecordFault, message_from, message_text,
+};
+
+/// The message has this text.
+fn has_text(message: &Message, text: &[u8]) -> bool {
+    message_text(message).as_slice() == text
+}
+
+/// The line spells a message of these items, which has this text.
+fn spells(line: &[u8], items: &[Item], text: &[u8]) -> bool {
+    match message_from(line) {
+        Ok(message) => message.items() == items && has_text(&message, text),
+        Err(_) => false,
+    }
+}
+
+/// Lines with their items, and the texts of these.
+static MESSAGES: [(&[u8], &[Item], &[u8]); 3] = [
+    (
+        b"\\x41\\F\\xff",
+        &[Item::Byte(65), Item::Fnc1, Item::Byte(255)],
+        b"A\\F\\xFF",
+    ),
+    (b"", &[], b""),
+    (b"\\xc1", &[Item::Byte(193)], b"\\xC1"),
+];
+
+#[test]
+fn messages_are_read_from_lines(rt: HostRuntime) {
+    for (line, items, text) in &MESSAGES {
+        assert!(rt; spells(line, items, text));
+    }
+    assert!(rt; has_text(&Message::new(), b""));
+}
+
+/// The line has this fault.
+fn has_fault(line: &[u8], fault: LineFault) -> bool {
+    match message_from(line) {
+        Ok(_) => false,
+        Err(found) => found == fault,
+    }
+}
+
+/// Lines, and the columns of their faults.
+static BAD_ESCAPES: [(&[u8], u64); 6] = [
+    (b"\\q", 1),
+    (b"ab\\x4", 3),
+    (b"\\x41\\q", 5),
+    (b"A\\", 2),
+    (b"A\tB", 2),
+    (b"\\x4\\", 1),
+];
+
+#[test]
+fn line_faults_have_their_columns(rt: HostRuntime) {
+    for (line, column) in &BAD_ESCAPES {
+        assert!(rt; has_fault(line, LineFault::BadEscape(*column)));
+    }
+    let digits = [b'7'; 1633];
+    assert!(rt; has_fault(&digits, LineFault::TooLong));
+    assert!(rt; message_from(&digits[..1632]).is_ok());
+}
+
+/// What a line came to: its fault, if it has one, and how many items it has.
+type Came = (Option<LineFault>, usize);
+
+/// What the closed line came to.
+fn came(line: Result<Message, LineFault>) -> Came {
+    match line {
+        Ok(message) => (None, message.items().len()),
+        Err(fault) => (Some(fault), 0),
+    }
+}
+
+/// Feeds a piece, and adds what each line that it closes came to.
+fn feed_lines(feed: &mut LineFeed, piece: &[u8], lines: &mut ArrayVec<Came, 8>) {
+    let mut rest = piece;
+    for _ in 0..4 {
+        let LineFed { taken, closed } = feed.feed(rest);
+        let Some(line) = closed else {
+            return;
+        };
+        let _room = lines.try_push(came(line));
+        rest = rest.get(taken..).unwrap_or(b"");
+    }
+}
+
+/// The end of the text closes a line of this message, and nothing more.
+fn ends_in_line(feed: &mut LineFeed, items: &[Item]) -> bool {
+    let is_good = match feed.finish() {
+        Some(Ok(message)) => message.items() == items,
+        _ => false,
+    };
+    is_good && feed.finish().is_none()
+}
+
+#[test]
+fn lines_come_in_pieces(rt: HostRuntime) {
+    let text = b"\\q\n\nA";
+    for cut in 0..=text.len() {
+        let mut feed = LineFeed::new();
+        let mut lines = ArrayVec::new();
+        feed_lines(&mut feed, &text[..cut], &mut lines);
+        feed_lines(&mut feed, &text[cut..], &mut lines);
+        assert!(rt; lines.as_slice() == [(Some(LineFault::BadEscape(1)), 0), (None, 0)].as_slice());
+        assert!(rt; ends_in_line(&mut feed, &[Item::Byte(65)]));
+    }
+}
+
+/// The symbols of `123456` and `A`, with two empty lines between them.
+pub(super) const TWO_GRIDS: &[u8] =
+    b"1010101010\n1100101101\n1100000100\n1100011101\n1100001000\n1000001111\n1110110000\n1111011001\n1001110100\n1111111111\n\n\n1010101010\n1101100011\n1000110100\n1001101011\n1001010000\n1001001011\n1101001100\n1100111101\n1100001000\n1111111111\n";
+
+/// The record is the symbol of the line.
+fn is_symbol_of(record: Result<Grid, RecordFault>, line: &[u8]) -> bool {
+    let Ok(grid) = record else {
+        return false;
+    };
+    let Ok(message) = message_from(line) else {
+        return false;
+    };
+    match write(&message) {
+        Ok(symbol) => grid == symbol,
+        Err(_) => false,
+    }
+}
+
+/// Feeds a piece, and says how many bytes of it were taken, and whether they closed a record: the symbol of `123456`. None
+/// where they closed another one.
+fn feed_record(feed: &mut GridFeed, piece: &[u8]) -> Option<(usize, bool)> {
+    let Fed { taken, closed } = feed.feed(piece);
+    match closed {
+        None => Some((taken, false)),
+        Some(record) => {
+            if is_symbol_of(record, b"123456") {
+                Some((taken, true))
+            } else {
+                None
+            }
+        }
+    }
+}
+
+/// Feeds a whole piece, in which at most one record closes, and says whether one closed: the symbol of `123456`. None
+/// where anything else is found.
+fn closes_first(feed: &mut GridFeed, piece: &[u8]) -> Option<bool> {
+    match feed_record(feed, piece)? {
+        (taken, false) if taken == piece.len() => Some(false),
+        (taken, true) => match feed_record(feed, piece.get(taken..).unwrap_or(b""))? {
+            (_, false) => Some(true),
+            _ => None,
+        },
+        _ => None,
+    }
+}
+
+/// The end of the text closes this record: the symbol of `A`. Nothing comes after it.
+fn ends_in_second(feed: &mut GridFeed) -> bool {
+    let is_good = match feed.finish() {
+        Some(record) => is_symbol_of(record, b"A"),
+        None => false,
+    };
+    is_good && feed.finish().is_none()
+}
+
+/// The two grids in two pieces, cut here.
+fn are_fed(cut: usize) -> bool {
+    let (before, after) = TWO_GRIDS.split_at(cut.min(TWO_GRIDS.len()));
+    let mut feed = GridFeed::new();
+    let first = closes_first(&mut feed, before);
+    let second = closes_first(&mut feed, after);
+    (first == Some(true) && second == Some(false) || first == Some(false) && second == Some(true))
+        && ends_in_second(&mut feed)
+}
+
+#[test]
+fn records_come_in_pieces(rt: HostRuntime) {
+    for cut in 0..=TWO_GRIDS.len() {
+        assert!(rt; are_fed(cut));
+    }
+}
+
+#[test]
+fn records_come_in_bytes(rt: HostRuntime) {
+    let mut feed = GridFeed::new();
+    let mut closed = 0u32;
+    for byte in TWO_GRIDS {
+        match closes_first(&mut feed, &[*byte]) {
+            Some(true) => closed = closed.saturating_add(1),
+            Some(false) => {}
+            None => closed = u32::MAX,
+        }
+    }
+    assert!(rt; closed == 1);
+    assert!(rt; ends_in_second(&mut feed));
+}
+
+/// The piece closes a record with this fault, after so many bytes.
+fn closes(feed: &mut GridFeed, piece: &[u8], count: usize, fault: RecordFault) -> bool {
+    let Fed { taken, closed } = feed.feed(piece);
+    taken == count && is_refused(closed, fault)
+}
+
+/// A record was closed, and has this fault.
+fn is_refused(closed: Option<Result<Grid, RecordFault>>, fault: RecordFault) -> bool {
+    match closed {
+        Some(Err(found)) => found == fault,
+        _ => false,
+    }
+}
+
+/// The piece closes no record.
+fn stays_open(feed: &mut GridFeed, piece: &[u8]) -> bool {
+    feed.feed(piece).closed.is_none()
+}
+
+#[test]
+fn two_records_come_in_one_piece(rt: HostRuntime) {
+    let mut feed = GridFeed::new();
+    let piece = b"1\n\n10x\n\n";
+    assert!(rt; closes(&mut feed, piece, 3, RecordFault::NoSuchSize(1)));
+    assert!(rt; closes(&mut feed, &piece[3..], 5, RecordFault::Character));
+    assert!(rt; feed.finish().is_none());
+}
+
+/// The text, whose end closes the only record in it, has this fault.
+fn ends_refused(text: &[u8], fault: RecordFault) -> bool {
+    let mut feed = GridFeed::new();
+    stays_open(&mut feed, text) && is_refused(feed.finish(), fault)
+}
+
+#[test]
+fn records_are_refused(rt: HostRuntime) {
+    let zeros = [b'0'; 105];
+    let table = [
+        (b"10x\n".as_slice(), RecordFault::Character),
+        (zeros.as_slice(), RecordFault::Large),
+        (&zeros[..53], RecordFault::NotSquare),
+        (b"10\n1\n".as_slice(), RecordFault::NotSquare),
+        (
+            b"1010\n0101\n1010\n0101\n".as_slice(),
+            RecordFault::NoSuchSize(4),
+        ),
+        (b"10\n1".as_slice(), RecordFault::NotSquare),
+    ];
+    for (text, fault) in table {
+        assert!(rt; ends_refused(text, fault));
+    }
+}
+
+#[test]
+fn a_record_that_is_too_long_is_refused_and_left(rt: HostRuntime) {
+    let mut feed = GridFeed::new();
+    for _ in 0..1_000_000u32 {
+        assert!(rt; stays_open(&mut feed, b"2\n"));
+    }
+    assert!(rt; closes(&mut feed, b"\n", 1, RecordFault::Character));
+    assert!(rt; closes_first(&mut feed, TWO_GRIDS) == Some(true));
+}

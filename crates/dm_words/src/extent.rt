@@ -1,0 +1,12 @@
+//! How much is read.
+
+/// Which data codewords are read. What [`Extent::Usual`] reads, [`Extent::Wide`] reads as the same.
+#[derive(Clone, Copy, Debug, Default, PartialEq, Eq)]
+pub enum Extent {
+    /// ASCII, C40, Text, X12 and Base 256.
+    #[default]
+    Usual,
+    /// EDIFACT too, and macro 05 or 06 as the first codeword of the symbol. An Upper Shift that waits for its character at the end of a run of C40
+    /// or Text is taken as a filler.
+    Wide,
+}
