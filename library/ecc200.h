@@ -8,6 +8,8 @@
  *     ecc200_sizes          the table of sizes and limits
  *     ecc200_usual_limit    how many wrong border modules are usually accepted
  *     ecc200_abi            which version of this interface the library has
+ *     ecc200_version        which version of the library this is
+ *     ecc200_code_words     a code in words
  *
  * An example, which writes a symbol, prints it, turns a module over, and reads it:
  *
@@ -24,7 +26,7 @@
  *             for (int column = 0; column < symbol.side; column++)
  *                 fputs(symbol.modules[row * symbol.side + column] ? "##" : "  ", stdout);
  *         symbol.modules[11] ^= 1;
- *         if (ecc200_read(symbol.modules, 100, 10, ecc200_usual_limit(10), &reading) != ECC200_OK)
+ *         if (ecc200_read(symbol.modules, 100, 10, ecc200_usual_limit(10), ECC200_WIDE, &reading) != ECC200_OK)
  *             return 2;
  *         printf("%d items, %d codeword corrected\n", reading.item_count, reading.corrected[0]);
  *     }
@@ -45,21 +47,31 @@
  * holds them, followed by pads; a message that no symbol holds in this form has no normal symbol. Symbols that have normal symbols
  * under one profile say the same exactly if these are equal, byte by byte; and a normal symbol is its own normal symbol.
  *
- * EACH CALL returns, whatever it is given. It allocates nothing and uses less than ECC200_STACK bytes of stack, keeps nothing, waits
- * for nothing, calls nothing but memcpy, memmove and memset, and touches only what it was given: any number of threads may call at
- * once, each with an `out` of its own.
+ * EACH CALL returns, whatever it is given, and touches only what it was given. It allocates nothing and uses less than ECC200_STACK bytes of stack,
+ * keeps nothing, waits for nothing, and calls nothing but memcpy, memmove and memset: any number of threads may call at once, each with an `out` of
+ * its own.
  *
  * WHAT IS WRITTEN: a call writes all of `out`, whatever it held before. If there is a fault, everything in `out` but `fault` is 0; if
  * there is none, `fault` is 0, and so are the elements of an array past those that count. A call whose `out` has a
  * member `fault` returns its code.
  *
+ * PROCESSORS: the library runs on x86-64 processors of the level x86-64-v2, which have SSSE3 and SSE4.2 among others, as those made since 2009
+ * mostly do. On an older one glibc's loader, from 2.33 on, refuses the shared library and programs that are linked with it ("CPU ISA level is
+ * lower than required"); without such a loader an illegal instruction ends the program.
+ *
  * WHAT A CALLER OWES, since C can't check it:
  *  - a pointer points to as many elements as the call says, aligned for their type. It may be NULL if the count is 0; `out` may not;
  *  - `out` overlaps no input, and during the call nobody else writes either of them or reads `out`.
  *
- * The library is proved to do what this file says, except for the bound on the stack, which is tested, and the functions under
- * "Conveniences", which are in C. That this file declares what was proved is tested too. docs/LIBRARY.md says how it is proved, and what
- * is trusted. */
+ * WHAT IS PROVED, for every call whose caller does what is owed: that it returns, that it touches nothing but its arguments and its stack, and all
+ * that comes out, in `out` and as the value returned, as "What is written" and the declarations below say it. It is proved of the functions as they are
+ * written in crates/ecc200, and of nothing in this list:
+ *  - that this file declares what was proved, and that a compiler makes of both what they say: tested;
+ *  - the bound on the stack, and which functions are called: tested, on the library as it is built;
+ *  - that threads may call at once: it follows from what is proved and from nothing being kept, and is tested;
+ *  - ecc200_version, ecc200_code_words and the functions under "Conveniences", which are in C: tested;
+ *  - how often a symbol with too much damage is refused, and not read as another message: no one can promise it.
+ * docs/LIBRARY.md says how it is proved, and what is trusted. */
 #ifndef ECC200_H
 #define ECC200_H
 
@@ -69,113 +81,162 @@
 #if defined(__cplusplus)
 #define ECC200_RESTRICT __restrict
 #define ECC200_ASSERT(condition) static_assert(condition, #condition)
+#define ECC200_CAST(type, value) static_cast<type>(value)
+#define ECC200_SIZE_OF(type, member) sizeof(type::member)
 extern "C" {
 #else
 #define ECC200_RESTRICT restrict
 #define ECC200_ASSERT(condition) _Static_assert(condition, #condition)
+#define ECC200_CAST(type, value) ((type)(value))
+#define ECC200_SIZE_OF(type, member) sizeof(((type *)0)->member)
+#endif
+
+/* One byte, so that a value of the type is passed as an argument of 16 bits, or kept in a member of 8, without a warning. */
+#if defined(__GNUC__)
+#define ECC200_SMALL __attribute__((__packed__))
+#else
+#define ECC200_SMALL
 #endif
 
 /* The version of this interface. It changes when a program that was built with this file would no longer work with the library. */
-#define ECC200_ABI 1
+/* interface.toml: abi */
+#define ECC200_ABI 2
+/* interface.toml: end */
 
 /* The version of the library's interface, to be compared with ECC200_ABI if the library is loaded at run time. */
 uint16_t ecc200_abi(void);
 
+/* The version of the library, by Semantic Versioning: docs/LIBRARY.md says what may change with which number. */
+#define ECC200_VERSION "1.0.0"
+
+/* The same of the library that is linked or loaded. */
+const char *ecc200_version(void);
+
+/* interface.toml: constants */
 enum {
-    ECC200_MOST_SIDE = 104,               /* modules */
-    ECC200_MOST_MODULES = 104 * 104,
-    ECC200_MOST_ITEMS = 1632,             /* no symbol says more items */
-    ECC200_MOST_CODEWORDS = 1152,         /* data and check codewords together */
+    ECC200_MOST_SIDE = 104,       /* modules */
+    ECC200_MOST_MODULES = 10816,
+    ECC200_MOST_ITEMS = 1639,     /* no symbol says more items */
+    ECC200_MOST_CODEWORDS = 1152, /* data and check codewords together */
     ECC200_MOST_BLOCKS = 6,
     ECC200_SIZE_COUNT = 21,
-    ECC200_FNC1 = 256,                    /* an item */
-    ECC200_ANY_LIMIT = 65535,             /* a border limit that refuses nothing */
-    ECC200_BEYOND = 255,                  /* in ecc200_inspection.corrected: this block is beyond correction */
-    ECC200_STACK = 32768                  /* bytes */
+    ECC200_FNC1 = 256,            /* an item */
+    ECC200_ANY_LIMIT = 65535,     /* a border limit that refuses nothing */
+    ECC200_BEYOND = 255,          /* in ecc200_inspection.corrected: this block is beyond correction */
+    ECC200_STACK = 32768          /* bytes */
 };
+/* interface.toml: end */
+
+/* What is read. USUAL: ASCII, C40, Text, X12 and Base 256, as the program reads. WIDE: these, and EDIFACT (240); a macro 05 (236) or 06 (237) as the
+ * first codeword, which stands for the header [)> RS 0 5 GS or [)> RS 0 6 GS and the trailer RS EOT; and runs of C40 and Text in which an Upper
+ * Shift waits where they end. What USUAL reads WIDE reads as the same, with the same corrections. */
+/* interface.toml: extents */
+enum ECC200_SMALL ecc200_extent {
+    ECC200_USUAL = 0,
+    ECC200_WIDE = 1
+};
+/* interface.toml: end */
 
 /* The normal form of a message. */
-enum ecc200_profile {
+/* interface.toml: profiles */
+enum ECC200_SMALL ecc200_profile {
     ECC200_ASCII = 0,
     ECC200_SHORTER = 1
 };
+/* interface.toml: end */
 
 /* ---- Faults */
 
 /* What a call returns, and puts into fault.code. `value` and `place` are 0 unless they are mentioned. */
-enum ecc200_code {
+/* interface.toml: codes */
+enum ECC200_SMALL ecc200_code {
     ECC200_OK = 0,
 
     /* The modules make no symbol. */
-    ECC200_SHAPE = 3,       /* count isn't side * side */
-    ECC200_SIDE = 4,        /* no size has this side; value: the side */
+    ECC200_SHAPE = 3, /* count isn't side * side */
+    ECC200_SIDE = 4,  /* no size has this side; value: the side */
 
     /* The symbol isn't read. `place` counts the data codewords of the symbol from 1. */
     ECC200_BORDER = 5,      /* more border modules have the wrong colour than the limit allows; value: how many have */
     ECC200_BLOCK = 6,       /* a block is damaged beyond correction; place: the first such block, from 0 */
     ECC200_RESERVED = 7,    /* a codeword that ASCII encodation doesn't use: 0, or 242 to 255; place: where it stands */
-    ECC200_LEFT_OUT = 8,    /* value: a codeword that begins something that isn't supported: structured append (233), reader
-                               programming (234), macro 05 (236), macro 06 (237), EDIFACT (240) or ECI (241); place: where it stands */
+    ECC200_LEFT_OUT = 8,    /* value: a codeword that begins something that isn't read: structured append (233), reader programming
+                               (234) or ECI (241); USUAL: macro 05 (236), macro 06 (237) or EDIFACT (240) too; WIDE: a macro that
+                               isn't the first codeword of the symbol too; place: where it stands */
     ECC200_UPPER_SHIFT = 9, /* something other than a character follows an Upper Shift; place: that of the Upper Shift */
     ECC200_TRIPLET = 10,    /* two codewords of C40, Text or X12 that don't stand for three values; place: that of the first */
     ECC200_VALUE = 11,      /* a value of C40 or Text that has no meaning after a shift; place: that of its codewords */
     ECC200_LENGTH = 12,     /* a Base 256 length that is missing, ill-formed, or too large; place: that of the latch */
-    ECC200_UNFINISHED = 13, /* the run or the symbol ends before the character of an Upper Shift; place: that of the Upper Shift */
+    ECC200_UNFINISHED = 13, /* the symbol ends before the character of an Upper Shift, or, USUAL, the run does; place: that of the Upper Shift */
 
     /* The message isn't written. */
-    ECC200_TOO_LONG = 14,   /* no size holds the message in its normal form */
-    ECC200_ITEM = 15,       /* an item above 256; value: the item; place: its index from 0, or 65535 if that is larger */
+    ECC200_TOO_LONG = 14, /* no size holds the message in its normal form */
+    ECC200_ITEM = 15,     /* an item above 256; value: the item; place: its index from 0, or 65535 if that is larger */
 
-    ECC200_PROFILE = 16     /* a profile above 1; value: the profile */
+    /* An argument stands for nothing. */
+    ECC200_PROFILE = 16, /* a profile above 1; value: the profile */
+    ECC200_EXTENT = 17   /* an extent above 1; value: the extent */
 };
+/* interface.toml: end */
 
+/* interface.toml: struct_fault */
 typedef struct ecc200_fault {
     uint16_t code;
     uint16_t value;
     uint16_t place;
 } ecc200_fault;
+/* interface.toml: end */
 
 /* ---- Reading */
 
+/* interface.toml: struct_reading */
 typedef struct ecc200_reading {
     ecc200_fault fault;
     uint16_t side;
     uint16_t border_faults;                /* how many border modules have the wrong colour */
     uint16_t block_count;                  /* 1 to 6 */
-    uint16_t item_count;                   /* 0 to 1632 */
+    uint16_t item_count;                   /* 0 to 1639 */
     uint16_t items[ECC200_MOST_ITEMS];     /* the message: the first item_count count */
     uint8_t corrected[ECC200_MOST_BLOCKS]; /* for each block, how many of its codewords were corrected */
 } ecc200_reading;
+/* interface.toml: end */
 
-/* Reads a symbol. `border_limit`: how many border modules may have the wrong colour, usually ecc200_usual_limit(side). Each block
+/* Reads a symbol, as far as the extent goes. `border_limit`: how many border modules may have the wrong colour, usually ecc200_usual_limit(side). Each block
  * is corrected if it differs in at most `limit` codewords (ecc200_sizes) from a codeword of the error correcting code. Neither the
  * fixed square nor what follows the first pad is looked at.
- * A symbol with more damage than that is mostly refused, but it can come near the codewords of another message, and is then read as
+ * A symbol with more damage than that is refused, unless it has come near the codewords of another message, and is then read as
  * that message: if a wrong message is worse than none, refuse a symbol whose `corrected` comes close to the limit.
- * Returns the first fault that applies: SHAPE, SIDE, BORDER, BLOCK, RESERVED to UNFINISHED. */
-uint16_t ecc200_read(const uint8_t *ECC200_RESTRICT modules, size_t count, uint16_t side, uint16_t border_limit, ecc200_reading *ECC200_RESTRICT out);
+ * Returns the first fault that applies: EXTENT, SHAPE, SIDE, BORDER, BLOCK, RESERVED to UNFINISHED. */
+uint16_t ecc200_read(const uint8_t *ECC200_RESTRICT modules, size_t count, uint16_t side, uint16_t border_limit, uint16_t extent, ecc200_reading *ECC200_RESTRICT out);
 
 /* A quarter of the side, rounded down. */
 uint16_t ecc200_usual_limit(uint16_t side);
 
 /* ---- Writing and normalising */
 
+/* interface.toml: struct_symbol */
 typedef struct ecc200_symbol {
     ecc200_fault fault;
     uint16_t side;
     uint8_t modules[ECC200_MOST_MODULES]; /* the first side * side count */
 } ecc200_symbol;
+/* interface.toml: end */
 
 /* Writes the normal symbol of a message. ecc200_read reads it as that message, with nothing corrected.
  * Returns the first fault that applies: PROFILE, ITEM, TOO_LONG. */
 uint16_t ecc200_write(const uint16_t *ECC200_RESTRICT items, size_t count, uint16_t profile, ecc200_symbol *ECC200_RESTRICT out);
 
-/* Writes the normal symbol of what a symbol says, whatever its size and encodation, and whatever damage was corrected.
- * Returns the first fault that applies: PROFILE, those of ecc200_read, TOO_LONG. */
-uint16_t ecc200_normal(const uint8_t *ECC200_RESTRICT modules, size_t count, uint16_t side, uint16_t border_limit, uint16_t profile, ecc200_symbol *ECC200_RESTRICT out);
+/* Writes the normal symbol of bytes, each of which is an item: what ecc200_write does for the same numbers.
+ * Returns the first fault that applies: PROFILE, TOO_LONG. */
+uint16_t ecc200_write_bytes(const uint8_t *ECC200_RESTRICT bytes, size_t count, uint16_t profile, ecc200_symbol *ECC200_RESTRICT out);
+
+/* Writes the normal symbol of what a symbol says in an extent, whatever its size and encodation, and whatever damage was corrected.
+ * Returns the first fault that applies: EXTENT, PROFILE, those of ecc200_read, TOO_LONG. */
+uint16_t ecc200_normal(const uint8_t *ECC200_RESTRICT modules, size_t count, uint16_t side, uint16_t border_limit, uint16_t extent, uint16_t profile, ecc200_symbol *ECC200_RESTRICT out);
 
 /* ---- Showing and mending */
 
+/* interface.toml: struct_inspection */
 typedef struct ecc200_inspection {
     ecc200_fault fault;
     uint16_t side;
@@ -186,6 +247,7 @@ typedef struct ecc200_inspection {
     uint8_t mended[ECC200_MOST_CODEWORDS]; /* the same with each block corrected; a block beyond correction is left as it is */
     uint8_t corrected[ECC200_MOST_BLOCKS]; /* for each block, in how many codewords the two differ, or ECC200_BEYOND */
 } ecc200_inspection;
+/* interface.toml: end */
 
 /* Gives the codewords of a symbol, corrected as far as they can be: unlike ecc200_read it goes on after a bad border, after a block
  * that is damaged beyond correction, and if the data codewords spell no message. Of B blocks, block b has the codewords b, b + B,
@@ -194,7 +256,8 @@ typedef struct ecc200_inspection {
 uint16_t ecc200_inspect(const uint8_t *ECC200_RESTRICT modules, size_t count, uint16_t side, ecc200_inspection *ECC200_RESTRICT out);
 
 /* What a module is. */
-enum ecc200_kind {
+/* interface.toml: kinds */
+enum ECC200_SMALL ecc200_kind {
     ECC200_NO_MODULE = 0,    /* past the modules of the symbol */
     ECC200_BIT = 1,          /* a bit of a codeword: dark if it is 1 */
     ECC200_BORDER_LIGHT = 2, /* part of the finder and alignment patterns, and should be light */
@@ -202,24 +265,30 @@ enum ecc200_kind {
     ECC200_FIXED_LIGHT = 4,  /* part of the fixed square at the lower right of some sizes, and should be light */
     ECC200_FIXED_DARK = 5
 };
+/* interface.toml: end */
 
+/* interface.toml: struct_place */
 typedef struct ecc200_place {
     uint16_t codeword; /* for a bit, its codeword, counted from 0 in the order of the symbol; else 0 */
     uint8_t bit;       /* for a bit, which one: 1 is the highest, 8 the lowest; else 0 */
     uint8_t kind;      /* an ecc200_kind */
 } ecc200_place;
+/* interface.toml: end */
 
+/* interface.toml: struct_place_table */
 typedef struct ecc200_place_table {
     ecc200_fault fault;
     uint16_t side;
     ecc200_place places[ECC200_MOST_MODULES]; /* for each module, row by row: the first side * side count */
 } ecc200_place_table;
+/* interface.toml: end */
 
 /* Says what each module of a symbol of this side is. SIDE is the only fault. */
 uint16_t ecc200_places(uint16_t side, ecc200_place_table *ECC200_RESTRICT out);
 
 /* ---- Sizes */
 
+/* interface.toml: struct_size */
 typedef struct ecc200_size {
     uint16_t side;            /* modules on a side of the symbol */
     uint16_t regions;         /* data regions */
@@ -230,10 +299,13 @@ typedef struct ecc200_size {
     uint16_t blocks;          /* into which the codewords are dealt */
     uint16_t limit;           /* how many wrong codewords can be corrected in each block */
 } ecc200_size;
+/* interface.toml: end */
 
+/* interface.toml: struct_size_table */
 typedef struct ecc200_size_table {
     ecc200_size sizes[ECC200_SIZE_COUNT];
 } ecc200_size_table;
+/* interface.toml: end */
 
 /* The table of sizes, by rising side. */
 void ecc200_sizes(ecc200_size_table *ECC200_RESTRICT out);
@@ -245,9 +317,9 @@ void ecc200_sizes(ecc200_size_table *ECC200_RESTRICT out);
 static inline size_t ecc200_text(const ecc200_reading *reading, uint8_t *bytes, size_t room, int *gs1) {
     size_t first = reading->item_count > 0 && reading->items[0] == ECC200_FNC1, k;
     if (gs1)
-        *gs1 = (int)first;
+        *gs1 = ECC200_CAST(int, first);
     for (k = first; k < reading->item_count && k - first < room; k++)
-        bytes[k - first] = reading->items[k] == ECC200_FNC1 ? (uint8_t)0x1D : (uint8_t)reading->items[k];
+        bytes[k - first] = ECC200_CAST(uint8_t, reading->items[k] == ECC200_FNC1 ? 0x1D : reading->items[k]);
     return reading->item_count - first;
 }
 
@@ -258,13 +330,14 @@ static inline size_t ecc200_items(const uint8_t *bytes, size_t count, int gs1, u
     if (gs1 && room > 0)
         items[0] = ECC200_FNC1;
     for (k = 0; k < count && k + first < room; k++)
-        items[k + first] = gs1 && bytes[k] == 0x1D ? (uint16_t)ECC200_FNC1 : (uint16_t)bytes[k];
+        items[k + first] = gs1 && bytes[k] == 0x1D ? ECC200_CAST(uint16_t, ECC200_FNC1) : bytes[k];
     return count + first;
 }
 
-/* A code in words, to show to people. */
+/* A code in words, to show to people; ecc200_code_words is the same, for callers that can't use what C defines in a header. */
 static inline const char *ecc200_words(uint16_t code) {
     switch (code) {
+/* interface.toml: words */
     case ECC200_OK: return "no fault";
     case ECC200_SHAPE: return "the modules make no square of this side";
     case ECC200_SIDE: return "no size has this side";
@@ -280,19 +353,63 @@ static inline const char *ecc200_words(uint16_t code) {
     case ECC200_TOO_LONG: return "the message is too long for any size";
     case ECC200_ITEM: return "an item above 256";
     case ECC200_PROFILE: return "no such profile";
+    case ECC200_EXTENT: return "no such extent";
+/* interface.toml: end */
     default: return "not a code of this library";
     }
 }
 
+/* The same, in the library. */
+const char *ecc200_code_words(uint16_t code);
+
 /* ---- The layout with which the library was built: nothing here is for callers. */
 
-ECC200_ASSERT(sizeof(ecc200_fault) == 6 && sizeof(ecc200_place) == 4 && sizeof(ecc200_size) == 16);
-ECC200_ASSERT(sizeof(ecc200_reading) == 3284 && sizeof(ecc200_symbol) == 10824 && sizeof(ecc200_inspection) == 2324);
-ECC200_ASSERT(sizeof(ecc200_place_table) == 43272 && sizeof(ecc200_size_table) == 336);
-ECC200_ASSERT(offsetof(ecc200_reading, item_count) == 12 && offsetof(ecc200_reading, items) == 14 && offsetof(ecc200_reading, corrected) == 3278);
-ECC200_ASSERT(offsetof(ecc200_symbol, side) == 6 && offsetof(ecc200_symbol, modules) == 8);
-ECC200_ASSERT(offsetof(ecc200_inspection, held) == 14 && offsetof(ecc200_inspection, mended) == 1166 && offsetof(ecc200_inspection, corrected) == 2318);
-ECC200_ASSERT(offsetof(ecc200_place_table, places) == 8 && offsetof(ecc200_place, bit) == 2 && offsetof(ecc200_place, kind) == 3);
+/* interface.toml: layout */
+ECC200_ASSERT(sizeof(ecc200_fault) == 6);
+ECC200_ASSERT(offsetof(ecc200_fault, code) == 0 && ECC200_SIZE_OF(ecc200_fault, code) == 2);
+ECC200_ASSERT(offsetof(ecc200_fault, value) == 2 && ECC200_SIZE_OF(ecc200_fault, value) == 2);
+ECC200_ASSERT(offsetof(ecc200_fault, place) == 4 && ECC200_SIZE_OF(ecc200_fault, place) == 2);
+ECC200_ASSERT(sizeof(ecc200_reading) == 3298);
+ECC200_ASSERT(offsetof(ecc200_reading, fault) == 0 && ECC200_SIZE_OF(ecc200_reading, fault) == 6);
+ECC200_ASSERT(offsetof(ecc200_reading, side) == 6 && ECC200_SIZE_OF(ecc200_reading, side) == 2);
+ECC200_ASSERT(offsetof(ecc200_reading, border_faults) == 8 && ECC200_SIZE_OF(ecc200_reading, border_faults) == 2);
+ECC200_ASSERT(offsetof(ecc200_reading, block_count) == 10 && ECC200_SIZE_OF(ecc200_reading, block_count) == 2);
+ECC200_ASSERT(offsetof(ecc200_reading, item_count) == 12 && ECC200_SIZE_OF(ecc200_reading, item_count) == 2);
+ECC200_ASSERT(offsetof(ecc200_reading, items) == 14 && ECC200_SIZE_OF(ecc200_reading, items) == 3278);
+ECC200_ASSERT(offsetof(ecc200_reading, corrected) == 3292 && ECC200_SIZE_OF(ecc200_reading, corrected) == 6);
+ECC200_ASSERT(sizeof(ecc200_symbol) == 10824);
+ECC200_ASSERT(offsetof(ecc200_symbol, fault) == 0 && ECC200_SIZE_OF(ecc200_symbol, fault) == 6);
+ECC200_ASSERT(offsetof(ecc200_symbol, side) == 6 && ECC200_SIZE_OF(ecc200_symbol, side) == 2);
+ECC200_ASSERT(offsetof(ecc200_symbol, modules) == 8 && ECC200_SIZE_OF(ecc200_symbol, modules) == 10816);
+ECC200_ASSERT(sizeof(ecc200_inspection) == 2324);
+ECC200_ASSERT(offsetof(ecc200_inspection, fault) == 0 && ECC200_SIZE_OF(ecc200_inspection, fault) == 6);
+ECC200_ASSERT(offsetof(ecc200_inspection, side) == 6 && ECC200_SIZE_OF(ecc200_inspection, side) == 2);
+ECC200_ASSERT(offsetof(ecc200_inspection, border_faults) == 8 && ECC200_SIZE_OF(ecc200_inspection, border_faults) == 2);
+ECC200_ASSERT(offsetof(ecc200_inspection, block_count) == 10 && ECC200_SIZE_OF(ecc200_inspection, block_count) == 2);
+ECC200_ASSERT(offsetof(ecc200_inspection, codeword_count) == 12 && ECC200_SIZE_OF(ecc200_inspection, codeword_count) == 2);
+ECC200_ASSERT(offsetof(ecc200_inspection, held) == 14 && ECC200_SIZE_OF(ecc200_inspection, held) == 1152);
+ECC200_ASSERT(offsetof(ecc200_inspection, mended) == 1166 && ECC200_SIZE_OF(ecc200_inspection, mended) == 1152);
+ECC200_ASSERT(offsetof(ecc200_inspection, corrected) == 2318 && ECC200_SIZE_OF(ecc200_inspection, corrected) == 6);
+ECC200_ASSERT(sizeof(ecc200_place) == 4);
+ECC200_ASSERT(offsetof(ecc200_place, codeword) == 0 && ECC200_SIZE_OF(ecc200_place, codeword) == 2);
+ECC200_ASSERT(offsetof(ecc200_place, bit) == 2 && ECC200_SIZE_OF(ecc200_place, bit) == 1);
+ECC200_ASSERT(offsetof(ecc200_place, kind) == 3 && ECC200_SIZE_OF(ecc200_place, kind) == 1);
+ECC200_ASSERT(sizeof(ecc200_place_table) == 43272);
+ECC200_ASSERT(offsetof(ecc200_place_table, fault) == 0 && ECC200_SIZE_OF(ecc200_place_table, fault) == 6);
+ECC200_ASSERT(offsetof(ecc200_place_table, side) == 6 && ECC200_SIZE_OF(ecc200_place_table, side) == 2);
+ECC200_ASSERT(offsetof(ecc200_place_table, places) == 8 && ECC200_SIZE_OF(ecc200_place_table, places) == 43264);
+ECC200_ASSERT(sizeof(ecc200_size) == 16);
+ECC200_ASSERT(offsetof(ecc200_size, side) == 0 && ECC200_SIZE_OF(ecc200_size, side) == 2);
+ECC200_ASSERT(offsetof(ecc200_size, regions) == 2 && ECC200_SIZE_OF(ecc200_size, regions) == 2);
+ECC200_ASSERT(offsetof(ecc200_size, region_side) == 4 && ECC200_SIZE_OF(ecc200_size, region_side) == 2);
+ECC200_ASSERT(offsetof(ecc200_size, mapping) == 6 && ECC200_SIZE_OF(ecc200_size, mapping) == 2);
+ECC200_ASSERT(offsetof(ecc200_size, data_codewords) == 8 && ECC200_SIZE_OF(ecc200_size, data_codewords) == 2);
+ECC200_ASSERT(offsetof(ecc200_size, check_codewords) == 10 && ECC200_SIZE_OF(ecc200_size, check_codewords) == 2);
+ECC200_ASSERT(offsetof(ecc200_size, blocks) == 12 && ECC200_SIZE_OF(ecc200_size, blocks) == 2);
+ECC200_ASSERT(offsetof(ecc200_size, limit) == 14 && ECC200_SIZE_OF(ecc200_size, limit) == 2);
+ECC200_ASSERT(sizeof(ecc200_size_table) == 336);
+ECC200_ASSERT(offsetof(ecc200_size_table, sizes) == 0 && ECC200_SIZE_OF(ecc200_size_table, sizes) == 336);
+/* interface.toml: end */
 
 #if defined(__cplusplus)
 }

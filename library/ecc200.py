@@ -5,44 +5,74 @@
     b'123456'
 
 A grid is the rows of a symbol from the top, each with its modules from the left, without a quiet zone: true or 1 is dark, false or 0
-is light. Functions return rows as bytes, whose items are 1 and 0. A symbol stands upright: the solid column is on the left, the solid row
-at the bottom.
+is light. A row is bytes, a list of numbers, or text of the characters 0 and 1. Taken as well are all modules in one bytes, a text with a row
+on each line, a square array, and a Pillow picture with one pixel a module, whose light margin is left out. Functions return rows as bytes,
+whose items are 1 and 0. A symbol stands upright: the solid column is on the left, the solid row at the bottom.
 
 A message is its bytes, and whether FNC1 stands in front, which marks GS1 messages; further FNC1s are the byte 0x1D, GS. To tell FNC1 from
-GS, use the items: 0 to 255, and FNC1.
+GS, use the items: 0 to 255, and FNC1. Text is a message only with the name of its charset.
 
-What can't be read or written raises Refused. All functions may be called from any number of threads.
+What can't be read or written raises Refused. All functions may be called from any number of threads, and let others run meanwhile.
 
-The shared library is looked for at the path in the environment variable ECC200_LIBRARY, then beside this file, then where the system keeps
-its libraries.
+The shared library is looked for at the path in the environment variable ECC200_LIBRARY; if that isn't set, beside this file, then where
+the system keeps its libraries.
 """
+import array
 import ctypes
-import ctypes.util
 import enum
+import functools
+import math
 import os
-from typing import Iterable, List, NamedTuple, Optional, Sequence, Tuple, Union
+import struct
+from typing import Any, Callable, Dict, Iterable, List, NamedTuple, Optional, Protocol, Sequence, Tuple, Type, Union
 
-__all__ = ["ABI", "Code", "FNC1", "Inspection", "Kind", "MOST_ITEMS", "Place", "Profile", "Reading", "Refused", "Size", "inspect",
-           "normal", "places", "read", "sizes", "usual_limit", "write"]
+__all__ = ["ABI", "Code", "Extent", "FNC1", "Grid", "Inspection", "Kind", "MOST_ITEMS", "Message", "Place", "Profile", "Reading", "Refused",
+           "Rows", "Size", "inspect", "normal", "places", "read", "read_many", "sizes", "usual_limit", "version", "write"]
 
-ABI = 1
+# interface.toml: constants
+ABI = 2
+_MOST_MODULES = 10816
+MOST_ITEMS = 1639
+_MOST_CODEWORDS = 1152
+_MOST_BLOCKS = 6
+_SIZE_COUNT = 21
 FNC1 = 256
-MOST_ITEMS = 1632
+_BEYOND = 255
+# interface.toml: end
 _GS = 0x1D
-_MOST_MODULES, _MOST_CODEWORDS, _MOST_BLOCKS, _SIZE_COUNT, _BEYOND = 104 * 104, 1152, 6, 21, 255
 
-Grid = Sequence[Sequence[int]]
+
+class _Array(Protocol):
+    """What numpy's arrays and Pillow's pictures have in common."""
+    @property
+    def __array_interface__(self) -> Dict[str, Any]: ...
+
+
+Grid = Union[str, bytes, bytearray, memoryview, Sequence[str], Sequence[bytes], Sequence[bytearray], Sequence[Sequence[int]], _Array]
+Message = Union[str, bytes, bytearray, memoryview, Iterable[int]]
 Rows = List[bytes]
 
 
 class Profile(enum.IntEnum):
     """The normal form of a message: ASCII encodation, or one Base 256 segment where that is shorter."""
+    # interface.toml: profiles
     ASCII = 0
     SHORTER = 1
+    # interface.toml: end
+
+
+class Extent(enum.IntEnum):
+    """What is read: ASCII, C40, Text, X12 and Base 256; or these, EDIFACT, a macro 05 or 06 in front, and an Upper Shift that waits at the end
+    of a run. What USUAL reads WIDE reads as the same."""
+    # interface.toml: extents
+    USUAL = 0
+    WIDE = 1
+    # interface.toml: end
 
 
 class Code(enum.IntEnum):
     """Why a symbol or a message is refused. ecc200.h explains `value` and `place` for each code."""
+    # interface.toml: codes
     SHAPE = 3
     SIDE = 4
     BORDER = 5
@@ -57,24 +87,8 @@ class Code(enum.IntEnum):
     TOO_LONG = 14
     ITEM = 15
     PROFILE = 16
-
-
-_WORDS = {
-    Code.SHAPE: "the modules make no square of this side",
-    Code.SIDE: "no size has this side",
-    Code.BORDER: "too many border modules have the wrong colour",
-    Code.BLOCK: "a block is damaged beyond correction",
-    Code.RESERVED: "a reserved codeword",
-    Code.LEFT_OUT: "an encodation or function that isn't supported",
-    Code.UPPER_SHIFT: "an Upper Shift that no character follows",
-    Code.TRIPLET: "a pair of codewords that doesn't stand for three values",
-    Code.VALUE: "a value that has no meaning after a shift",
-    Code.LENGTH: "a wrong Base 256 length",
-    Code.UNFINISHED: "the run or the symbol ends before the character of an Upper Shift",
-    Code.TOO_LONG: "the message is too long for any size",
-    Code.ITEM: "an item above 256",
-    Code.PROFILE: "no such profile",
-}
+    EXTENT = 17
+    # interface.toml: end
 
 
 class Refused(ValueError):
@@ -82,7 +96,10 @@ class Refused(ValueError):
 
     def __init__(self, code: int, value: int = 0, place: int = 0) -> None:
         self.code, self.value, self.place = Code(code), value, place
-        super().__init__(f"{_WORDS[self.code]} ({self.code.name}, value {value}, place {place})")
+        super().__init__(f"{_library.ecc200_code_words(code).decode()} ({self.code.name}, value {value}, place {place})")
+
+    def __reduce__(self) -> Tuple[Type["Refused"], Tuple[Code, int, int]]:
+        return type(self), (self.code, self.value, self.place)
 
 
 class Reading(NamedTuple):
@@ -104,11 +121,13 @@ class Inspection(NamedTuple):
 
 class Kind(enum.IntEnum):
     """What a module is: the bit of a codeword, or part of the border or the fixed square, and then its colour."""
+    # interface.toml: kinds
     BIT = 1
     BORDER_LIGHT = 2
     BORDER_DARK = 3
     FIXED_LIGHT = 4
     FIXED_DARK = 5
+    # interface.toml: end
 
 
 class Place(NamedTuple):
@@ -121,6 +140,7 @@ class Place(NamedTuple):
 class Size(NamedTuple):
     """A row of the table of sizes: modules on a side of the symbol, of a region, and of the mapping matrix, which is all regions together;
     codewords; the blocks into which they are dealt; and how many wrong codewords can be corrected in each block."""
+    # interface.toml: size
     side: int
     regions: int
     region_side: int
@@ -129,11 +149,13 @@ class Size(NamedTuple):
     check_codewords: int
     blocks: int
     limit: int
+    # interface.toml: end
 
 
 _u8, _u16 = ctypes.c_uint8, ctypes.c_uint16
 
 
+# interface.toml: structs
 class _Fault(ctypes.Structure):
     _fields_ = [("code", _u16), ("value", _u16), ("place", _u16)]
 
@@ -161,60 +183,167 @@ class _PlacesOut(ctypes.Structure):
 
 
 class _SizeOut(ctypes.Structure):
-    _fields_ = [(name, _u16) for name in Size._fields]
+    _fields_ = [("side", _u16), ("regions", _u16), ("region_side", _u16), ("mapping", _u16), ("data_codewords", _u16),
+                ("check_codewords", _u16), ("blocks", _u16), ("limit", _u16)]
 
 
 class _SizesOut(ctypes.Structure):
     _fields_ = [("sizes", _SizeOut * _SIZE_COUNT)]
+# interface.toml: end
 
 
-def _load() -> ctypes.CDLL:
+# The instructions of x86-64-v2, as Linux calls them: without one of these the library would end the process.
+_INSTRUCTIONS = {"cx16", "lahf_lm", "popcnt", "sse4_1", "sse4_2", "ssse3"}
+
+
+def _lacking(path: str) -> List[str]:
+    """The instructions that the library needs and a processor hasn't, by a file like /proc/cpuinfo; none if that doesn't say."""
+    try:
+        with open(path) as file:
+            flags = next((line.split(":")[1] for line in file if line.startswith("flags")), None)
+    except OSError:
+        flags = None
+    return [] if flags is None else sorted(_INSTRUCTIONS - set(flags.split()))
+
+
+def _opened() -> ctypes.CDLL:
     beside = os.path.join(os.path.dirname(os.path.abspath(__file__)), "libecc200.so")
-    found = os.environ.get("ECC200_LIBRARY") or (beside if os.path.exists(beside) else ctypes.util.find_library("ecc200"))
-    if not found:
-        raise ImportError("libecc200.so wasn't found; set ECC200_LIBRARY to its path")
-    library = ctypes.CDLL(found)
-    modules, size, pointer = ctypes.c_char_p, ctypes.c_size_t, ctypes.POINTER
-    for name, words in {
-        "abi": [],
-        "usual_limit": [_u16],
-        "read": [modules, size, _u16, _u16, pointer(_ReadingOut)],
-        "write": [pointer(_u16), size, _u16, pointer(_SymbolOut)],
-        "normal": [modules, size, _u16, _u16, _u16, pointer(_SymbolOut)],
-        "inspect": [modules, size, _u16, pointer(_InspectionOut)],
-        "places": [_u16, pointer(_PlacesOut)],
-        "sizes": [pointer(_SizesOut)],
-    }.items():
-        function = getattr(library, "ecc200_" + name)
-        function.argtypes, function.restype = words, None if name == "sizes" else _u16
+    named, own, faults = os.environ.get("ECC200_LIBRARY"), f"libecc200.so.{ABI}", []
+    for path in [named] if named else [beside, own, "libecc200.so", os.path.join("/usr/local/lib", own)]:
+        try:
+            return ctypes.CDLL(path)
+        except OSError as why:
+            faults.append(str(why))
+    raise ImportError("libecc200.so can't be loaded; set ECC200_LIBRARY to its path (" + "; ".join(faults) + ")")
+
+
+def _load(processor: str = "/proc/cpuinfo") -> ctypes.CDLL:
+    if _lacking(processor):
+        raise ImportError(f"libecc200.so needs the processor's instructions of x86-64-v2; this one lacks {', '.join(_lacking(processor))}")
+    library = _opened()
     if library.ecc200_abi() != ABI:
-        raise ImportError(f"{found} has version {library.ecc200_abi()} of the interface, but this module needs version {ABI}")
+        raise ImportError(f"{library._name} has version {library.ecc200_abi()} of the interface, but this module needs version {ABI}")
+    modules, count, out, words = ctypes.c_char_p, ctypes.c_size_t, ctypes.c_void_p, ctypes.c_char_p
+    for name, result, given in (
+        ("version", words, []), ("code_words", words, [_u16]), ("abi", _u16, []), ("usual_limit", _u16, [_u16]), ("sizes", None, [out]),
+        ("read", _u16, [modules, count, _u16, _u16, _u16, out]), ("normal", _u16, [modules, count, _u16, _u16, _u16, _u16, out]),
+        ("write", _u16, [out, count, _u16, out]), ("write_bytes", _u16, [modules, count, _u16, out]),
+        ("inspect", _u16, [modules, count, _u16, out]), ("places", _u16, [_u16, out]),
+    ):
+        function = getattr(library, "ecc200_" + name)
+        function.restype, function.argtypes = result, given
     return library
 
 
 _library = _load()
+_ASCII, _WIDE = Profile.ASCII, Extent.WIDE
+_call_read, _call_write_bytes = _library.ecc200_read, _library.ecc200_write_bytes
 
 
-def _refuse(fault: _Fault) -> None:
-    if fault.code:
-        raise Refused(fault.code, fault.value, fault.place)
+# Room for answers: a view of its bytes, and their address. Making it takes as long as a call, so it is kept. `pop` and `append` are atomic: each
+# room serves one call at a time, whatever threads and signal handlers do.
+_Room = Tuple[memoryview, int]
+_readings: List[_Room] = []
+_symbols: List[_Room] = []
 
 
-def _modules(grid: Grid) -> Tuple[bytes, int, int]:
-    """The modules of the rows, their number, and the side."""
-    rows = [bytes(1 if module else 0 for module in row) for row in grid]
-    if any(len(row) != len(rows) for row in rows):
+def _room(rooms: List[_Room], kind: Type[ctypes.Structure]) -> _Room:
+    try:
+        return rooms.pop()
+    except IndexError:
+        made = bytearray(ctypes.sizeof(kind))
+        return memoryview(made), ctypes.addressof(ctypes.c_char.from_buffer(made))
+
+
+_seven, _four = struct.Struct("=7H").unpack_from, struct.Struct("=4H").unpack_from
+_CORRECTED = _ReadingOut.corrected.offset
+_DIGITS = bytes(byte == 0x31 for byte in range(256))
+
+
+def _of_row(row: Any) -> bytes:
+    if isinstance(row, str):
+        if row.strip("01"):
+            raise ValueError(f"a row of text consists of the characters 0 and 1, unlike {row!r}")
+        return row.encode().translate(_DIGITS)
+    return row if isinstance(row, bytes) else bytes(1 if module else 0 for module in row)
+
+
+def _of_picture(picture: Any) -> Sequence[bytes]:
+    shade, cover = picture.convert("RGBA").convert("LA").split()
+    dark = shade.point([1] * 128 + [0] * 128)
+    dark.paste(0, mask=cover.point([255] * 128 + [0] * 128))  # where it is transparent it is light
+    dark = dark.crop(dark.getbbox())
+    return [dark.crop((0, row, dark.width, row + 1)).tobytes() for row in range(dark.height)]
+
+
+def _plain(grid: Any) -> Sequence[Any]:
+    """A grid as rows, or as bytes that are all its modules."""
+    if isinstance(grid, str):
+        return grid.split()
+    if isinstance(grid, (bytes, bytearray, memoryview)):
+        modules = bytes(grid)
+        return modules.split() if b"\n" in modules and not modules.strip(b"01\r\n") else modules
+    if hasattr(grid, "getbbox"):
+        return _of_picture(grid)
+    return _of_row(grid) if getattr(grid, "ndim", 2) == 1 else list(grid)
+
+
+def _modules(grid: Grid) -> Tuple[bytes, int]:
+    """The modules of a grid, and its side."""
+    rows = grid if isinstance(grid, list) else _plain(grid)
+    side = math.isqrt(len(rows)) if isinstance(rows, bytes) else len(rows)
+    try:
+        modules = rows if isinstance(rows, bytes) else b"".join(rows)
+    except TypeError:
+        modules = b""
+    if rows is not modules and (len(modules) != side * side or set(map(len, rows)) - {side}):
+        each = [_of_row(row) for row in rows]
+        modules = b"".join(each) if all(len(row) == side for row in each) else b""
+    if len(modules) != side * side:
         raise Refused(Code.SHAPE)
-    if len(rows) > 65535:
-        raise Refused(Code.SIDE, 65535)
-    modules = b"".join(rows)
-    return modules, len(modules), len(rows)
+    if modules[:1] in (b"0", b"1") and not modules.strip(b"01"):  # characters
+        modules = modules.translate(_DIGITS)
+    return modules, _number(Code.SIDE, side)
 
 
-def _rows(out: _SymbolOut) -> Rows:
-    _refuse(out.fault)
-    modules = bytes(out.modules)
-    return [modules[row * out.side:(row + 1) * out.side] for row in range(out.side)]
+def _number(code: Code, number: int) -> Any:
+    """A number that the library takes as it is, or the refusal that names it."""
+    if 0 <= number <= 65535:
+        return number
+    raise Refused(code, number)
+
+
+def _limit(side: int, border_limit: Optional[int]) -> int:
+    return side // 4 if border_limit is None else max(0, min(border_limit, 65535))
+
+
+def _said(answer: memoryview) -> Reading:
+    code, value, place, _, border_faults, blocks, count = _seven(answer)
+    if code:
+        raise Refused(code, value, place)
+    raw = answer[14:14 + 2 * count].tobytes()
+    data, items, gs1 = raw[::2], struct.unpack(f"={count}H", raw), raw[:2] == b"\0\1"
+    if b"\1" in raw[1::2]:  # the upper byte of an FNC1
+        data = bytes(_GS if item == FNC1 else item for item in items[gs1:])
+    return Reading(data, gs1, items, tuple(answer[_CORRECTED:_CORRECTED + blocks]), border_faults)
+
+
+@functools.lru_cache(maxsize=None)
+def _cut(side: int) -> Callable[[memoryview, int], Tuple[bytes, ...]]:
+    """What takes rows of this side out of an answer: many slices would take longer than the call."""
+    return struct.Struct(f"{side}s" * side).unpack_from
+
+
+def _drawn(answer: memoryview) -> Rows:
+    code, value, place, side = _four(answer)
+    if code:
+        raise Refused(code, value, place)
+    return list(_cut(side)(answer, 8))
+
+
+def version() -> str:
+    """The version of the shared library."""
+    return str(_library.ecc200_version().decode())
 
 
 def usual_limit(side: int) -> int:
@@ -222,76 +351,97 @@ def usual_limit(side: int) -> int:
     return side // 4
 
 
-def _limit(side: int, border_limit: Optional[int]) -> int:
-    return usual_limit(side) if border_limit is None else max(0, min(border_limit, 65535))
-
-
-def _profile(profile: int) -> int:
-    if not 0 <= profile <= 65535:
-        raise Refused(Code.PROFILE, 65535)
-    return profile
-
-
-def read(grid: Grid, border_limit: Optional[int] = None) -> Reading:
+def read(grid: Grid, border_limit: Optional[int] = None, extent: Extent = Extent.WIDE) -> Reading:
     """What a symbol says. `border_limit`: how many border modules may have the wrong colour, by default the usual limit.
 
-    A symbol with more damage than can be corrected is mostly refused, but it can come near the codewords of another message, and is then
+    A symbol with more damage than can be corrected is refused, unless it has come near the codewords of another message, and is then
     read as that message: if that is worse than a refusal, look at `corrected`."""
-    modules, count, side = _modules(grid)
-    out = _ReadingOut()
-    _library.ecc200_read(modules, count, side, _limit(side, border_limit), out)
-    _refuse(out.fault)
-    items = tuple(out.items[:out.item_count])
-    gs1 = items[:1] == (FNC1,)
-    data = bytes(_GS if item == FNC1 else item for item in items[gs1:])
-    return Reading(data, gs1, items, tuple(out.corrected[:out.block_count]), out.border_faults)
+    modules, side = _modules(grid)
+    extent = extent if extent is _WIDE else _number(Code.EXTENT, extent)
+    answer, address = room = _room(_readings, _ReadingOut)
+    try:
+        _call_read(modules, len(modules), side, _limit(side, border_limit), extent, address)
+        return _said(answer)
+    finally:
+        _readings.append(room)
 
 
-def write(message: Union[bytes, Iterable[int]], gs1: bool = False, profile: Profile = Profile.ASCII) -> Rows:
-    """The normal symbol of a message, given as bytes or as items, which are 0 to 255 or FNC1. With `gs1`, FNC1 stands in front and in
-    place of each 0x1D."""
+def read_many(grids: Iterable[Grid], border_limit: Optional[int] = None, extent: Extent = Extent.WIDE) -> List[Union[Reading, Refused]]:
+    """For each grid, in order, what it says or its refusal. An array of three dimensions is taken grid by grid."""
+    answers: List[Union[Reading, Refused]] = []
+    for grid in grids:
+        try:
+            answers.append(read(grid, border_limit, extent))
+        except Refused as why:
+            answers.append(why)
+    return answers
+
+
+def _items(message: Iterable[int], gs1: bool) -> "array.array[int]":
     items = [FNC1 if gs1 and item == _GS else item for item in message]
-    if gs1:
-        items.insert(0, FNC1)
-    for place, item in enumerate(items):
-        if not 0 <= item <= 65535:
-            raise Refused(Code.ITEM, 65535, min(place, 65535))
-    out = _SymbolOut()
-    _library.ecc200_write((_u16 * max(1, len(items)))(*items), len(items), _profile(profile), out)
-    return _rows(out)
+    try:
+        return array.array("H", [FNC1, *items] if gs1 else items)
+    except OverflowError:
+        place = next(place for place, item in enumerate(items) if not 0 <= item <= FNC1)
+        raise Refused(Code.ITEM, items[place], min(place + gs1, 65535)) from None
 
 
-def normal(grid: Grid, border_limit: Optional[int] = None, profile: Profile = Profile.ASCII) -> Rows:
+def write(message: Message, gs1: bool = False, profile: Profile = Profile.ASCII, charset: Optional[str] = None) -> Rows:
+    """The normal symbol of a message, given as bytes, as items, which are 0 to 255 or FNC1, or as text with the charset that makes it bytes.
+    With `gs1`, FNC1 stands in front and in place of each 0x1D."""
+    if isinstance(message, str):
+        if charset is None:
+            raise TypeError("a message is bytes or items; for text name its charset, as in write(text, charset='iso-8859-1')")
+        message = message.encode(charset)
+    profile = profile if profile is _ASCII else _number(Code.PROFILE, profile)
+    answer, address = room = _room(_symbols, _SymbolOut)
+    try:
+        if gs1 or not isinstance(message, bytes):
+            items = _items(message, gs1)
+            _library.ecc200_write(items.buffer_info()[0], len(items), profile, address)
+        else:
+            _call_write_bytes(message, len(message), profile, address)
+        return _drawn(answer)
+    finally:
+        _symbols.append(room)
+
+
+def normal(grid: Grid, border_limit: Optional[int] = None, profile: Profile = Profile.ASCII, extent: Extent = Extent.WIDE) -> Rows:
     """The normal symbol of what a symbol says. Symbols that have normal symbols under one profile say the same exactly if these are
     equal."""
-    modules, count, side = _modules(grid)
-    out = _SymbolOut()
-    _library.ecc200_normal(modules, count, side, _limit(side, border_limit), _profile(profile), out)
-    return _rows(out)
+    modules, side = _modules(grid)
+    wanted, form = _number(Code.EXTENT, extent), _number(Code.PROFILE, profile)
+    answer, address = room = _room(_symbols, _SymbolOut)
+    try:
+        _library.ecc200_normal(modules, len(modules), side, _limit(side, border_limit), wanted, form, address)
+        return _drawn(answer)
+    finally:
+        _symbols.append(room)
 
 
 def inspect(grid: Grid) -> Inspection:
     """The codewords of a symbol, as they stand in it and as they are corrected, even if it can't be read."""
-    modules, count, side = _modules(grid)
+    modules, side = _modules(grid)
     out = _InspectionOut()
-    _library.ecc200_inspect(modules, count, side, out)
-    _refuse(out.fault)
+    code = _library.ecc200_inspect(modules, len(modules), side, ctypes.byref(out))
+    if code:
+        raise Refused(code, out.fault.value, out.fault.place)
     corrected = tuple(None if count == _BEYOND else count for count in out.corrected[:out.block_count])
-    return Inspection(bytes(out.held[:out.codeword_count]), bytes(out.mended[:out.codeword_count]), corrected, out.border_faults)
+    return Inspection(bytes(out.held)[:out.codeword_count], bytes(out.mended)[:out.codeword_count], corrected, out.border_faults)
 
 
 def places(side: int) -> List[List[Place]]:
     """What each module of a symbol of this side is, row by row."""
-    if not 0 <= side <= 65535:
-        raise Refused(Code.SIDE, 65535)
-    out = _PlacesOut()
-    _library.ecc200_places(side, out)
-    _refuse(out.fault)
-    return [[Place(Kind(place.kind), place.codeword, place.bit) for place in out.places[row * side:(row + 1) * side]] for row in range(side)]
+    out, kinds = _PlacesOut(), (Kind.BIT, *Kind)
+    code = _library.ecc200_places(_number(Code.SIDE, side), ctypes.byref(out))
+    if code:
+        raise Refused(code, out.fault.value, out.fault.place)
+    each = [Place(kinds[kind], word, bit) for word, bit, kind in struct.iter_unpack("=HBB", bytes(out)[8:8 + 4 * side * side])]
+    return [each[at:at + side] for at in range(0, side * side, side)]
 
 
 def sizes() -> List[Size]:
     """The table of sizes, by rising side."""
     out = _SizesOut()
-    _library.ecc200_sizes(out)
-    return [Size(*(getattr(size, name) for name in Size._fields)) for size in out.sizes]
+    _library.ecc200_sizes(ctypes.byref(out))
+    return [Size._make(row) for row in struct.iter_unpack("=8H", bytes(out))]

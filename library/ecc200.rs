@@ -6,29 +6,88 @@
 #![allow(dead_code)]
 
 use std::alloc::{self, Layout};
+use std::ffi::{CStr, c_char};
 use std::fmt;
 
 /// FNC1 among the items of a message.
+// interface.toml: fnc1
 pub const FNC1: u16 = 256;
+// interface.toml: end
 /// A border limit that refuses nothing.
+// interface.toml: any_limit
 pub const ANY_LIMIT: u16 = 65535;
+// interface.toml: end
 
-const ABI: u16 = 1;
-const MOST_ITEMS: usize = 1632;
-const MOST_MODULES: usize = 104 * 104;
+// interface.toml: constants
+const ABI: u16 = 2;
+const MOST_MODULES: usize = 10816;
+const MOST_ITEMS: usize = 1639;
 const MOST_CODEWORDS: usize = 1152;
 const MOST_BLOCKS: usize = 6;
 const SIZE_COUNT: usize = 21;
 const BEYOND: u8 = 255;
+// interface.toml: end
+
+/// What is read: ASCII, C40, Text, X12 and Base 256; or these, EDIFACT, a macro 05 or 06 in front, and an Upper Shift that waits at the end of
+/// a run. What `Usual` reads `Wide` reads as the same.
+#[derive(Clone, Copy, Debug, Default, PartialEq, Eq)]
+pub enum Extent {
+    // interface.toml: extents
+    Usual = 0,
+    #[default]
+    Wide = 1,
+    // interface.toml: end
+}
 
 /// The normal form of a message: ASCII encodation, or one Base 256 segment where that is shorter.
 #[derive(Clone, Copy, Debug, PartialEq, Eq)]
 pub enum Profile {
+    // interface.toml: profiles
     Ascii = 0,
     Shorter = 1,
+    // interface.toml: end
 }
 
-/// Why a symbol or a message is refused: a code of `ecc200.h`, and its numbers.
+/// What `Fault::code` may be; `ecc200.h` explains `value` and `place` for each.
+pub mod code {
+    // interface.toml: codes
+    /// No fault.
+    pub const OK: u16 = 0;
+    /// The modules make no square of this side.
+    pub const SHAPE: u16 = 3;
+    /// No size has this side.
+    pub const SIDE: u16 = 4;
+    /// Too many border modules have the wrong colour.
+    pub const BORDER: u16 = 5;
+    /// A block is damaged beyond correction.
+    pub const BLOCK: u16 = 6;
+    /// A reserved codeword.
+    pub const RESERVED: u16 = 7;
+    /// An encodation or function that isn't supported.
+    pub const LEFT_OUT: u16 = 8;
+    /// An Upper Shift that no character follows.
+    pub const UPPER_SHIFT: u16 = 9;
+    /// A pair of codewords that doesn't stand for three values.
+    pub const TRIPLET: u16 = 10;
+    /// A value that has no meaning after a shift.
+    pub const VALUE: u16 = 11;
+    /// A wrong Base 256 length.
+    pub const LENGTH: u16 = 12;
+    /// The run or the symbol ends before the character of an Upper Shift.
+    pub const UNFINISHED: u16 = 13;
+    /// The message is too long for any size.
+    pub const TOO_LONG: u16 = 14;
+    /// An item above 256.
+    pub const ITEM: u16 = 15;
+    /// No such profile.
+    pub const PROFILE: u16 = 16;
+    /// No such extent.
+    pub const EXTENT: u16 = 17;
+    // interface.toml: end
+}
+
+/// Why a symbol or a message is refused: one of [`code`], and its numbers.
+// interface.toml: fault
 #[repr(C)]
 #[derive(Clone, Copy, Debug, Default, PartialEq, Eq)]
 pub struct Fault {
@@ -36,25 +95,29 @@ pub struct Fault {
     pub value: u16,
     pub place: u16,
 }
+// interface.toml: end
 
 impl fmt::Display for Fault {
     fn fmt(&self, f: &mut fmt::Formatter<'_>) -> fmt::Result {
         f.write_str(match self.code {
-            0 => "no fault",
-            3 => "the modules make no square of this side",
-            4 => "no size has this side",
-            5 => "too many border modules have the wrong colour",
-            6 => "a block is damaged beyond correction",
-            7 => "a reserved codeword",
-            8 => "an encodation or function that isn't supported",
-            9 => "an Upper Shift that no character follows",
-            10 => "a pair of codewords that doesn't stand for three values",
-            11 => "a value that has no meaning after a shift",
-            12 => "a wrong Base 256 length",
-            13 => "the run or the symbol ends before the character of an Upper Shift",
-            14 => "the message is too long for any size",
-            15 => "an item above 256",
-            16 => "no such profile",
+            // interface.toml: words
+            code::OK => "no fault",
+            code::SHAPE => "the modules make no square of this side",
+            code::SIDE => "no size has this side",
+            code::BORDER => "too many border modules have the wrong colour",
+            code::BLOCK => "a block is damaged beyond correction",
+            code::RESERVED => "a reserved codeword",
+            code::LEFT_OUT => "an encodation or function that isn't supported",
+            code::UPPER_SHIFT => "an Upper Shift that no character follows",
+            code::TRIPLET => "a pair of codewords that doesn't stand for three values",
+            code::VALUE => "a value that has no meaning after a shift",
+            code::LENGTH => "a wrong Base 256 length",
+            code::UNFINISHED => "the run or the symbol ends before the character of an Upper Shift",
+            code::TOO_LONG => "the message is too long for any size",
+            code::ITEM => "an item above 256",
+            code::PROFILE => "no such profile",
+            code::EXTENT => "no such extent",
+            // interface.toml: end
             _ => "not a code of this library",
         })
     }
@@ -114,6 +177,7 @@ pub enum Place {
 }
 
 /// A row of the table of sizes.
+// interface.toml: size
 #[repr(C)]
 #[derive(Clone, Copy, Debug, Default, PartialEq, Eq)]
 pub struct Size {
@@ -126,10 +190,13 @@ pub struct Size {
     pub blocks: u16,
     pub limit: u16,
 }
+// interface.toml: end
 
 mod sys {
     use super::*;
+    use std::mem::offset_of;
 
+    // interface.toml: structs
     #[repr(C)]
     pub struct ReadingOut {
         pub fault: Fault,
@@ -175,19 +242,71 @@ mod sys {
         pub places: [PlaceOut; MOST_MODULES],
     }
 
+    #[repr(C)]
+    pub struct SizesOut {
+        pub sizes: [Size; SIZE_COUNT],
+    }
+    // interface.toml: end
+
     unsafe extern "C" {
         pub safe fn ecc200_abi() -> u16;
         pub safe fn ecc200_usual_limit(side: u16) -> u16;
-        pub fn ecc200_read(modules: *const u8, count: usize, side: u16, border_limit: u16, out: *mut ReadingOut) -> u16;
+        pub fn ecc200_read(modules: *const u8, count: usize, side: u16, border_limit: u16, extent: u16, out: *mut ReadingOut) -> u16;
+        pub safe fn ecc200_version() -> *const c_char;
+        pub fn ecc200_write_bytes(bytes: *const u8, count: usize, profile: u16, out: *mut SymbolOut) -> u16;
         pub fn ecc200_write(items: *const u16, count: usize, profile: u16, out: *mut SymbolOut) -> u16;
-        pub fn ecc200_normal(modules: *const u8, count: usize, side: u16, border_limit: u16, profile: u16, out: *mut SymbolOut) -> u16;
+        pub fn ecc200_normal(modules: *const u8, count: usize, side: u16, border_limit: u16, extent: u16, profile: u16, out: *mut SymbolOut) -> u16;
         pub fn ecc200_inspect(modules: *const u8, count: usize, side: u16, out: *mut InspectionOut) -> u16;
         pub safe fn ecc200_places(side: u16, out: &mut PlacesOut) -> u16;
-        pub safe fn ecc200_sizes(out: &mut [Size; SIZE_COUNT]);
+        pub safe fn ecc200_sizes(out: &mut SizesOut);
     }
 
-    const _: () = assert!(size_of::<ReadingOut>() == 3284 && size_of::<SymbolOut>() == 10824);
-    const _: () = assert!(size_of::<InspectionOut>() == 2324 && size_of::<PlacesOut>() == 43272);
+    // interface.toml: layout
+    const _: () = assert!(size_of::<Fault>() == 6);
+    const _: () = assert!(offset_of!(Fault, code) == 0);
+    const _: () = assert!(offset_of!(Fault, value) == 2);
+    const _: () = assert!(offset_of!(Fault, place) == 4);
+    const _: () = assert!(size_of::<ReadingOut>() == 3298);
+    const _: () = assert!(offset_of!(ReadingOut, fault) == 0);
+    const _: () = assert!(offset_of!(ReadingOut, side) == 6);
+    const _: () = assert!(offset_of!(ReadingOut, border_faults) == 8);
+    const _: () = assert!(offset_of!(ReadingOut, block_count) == 10);
+    const _: () = assert!(offset_of!(ReadingOut, item_count) == 12);
+    const _: () = assert!(offset_of!(ReadingOut, items) == 14);
+    const _: () = assert!(offset_of!(ReadingOut, corrected) == 3292);
+    const _: () = assert!(size_of::<SymbolOut>() == 10824);
+    const _: () = assert!(offset_of!(SymbolOut, fault) == 0);
+    const _: () = assert!(offset_of!(SymbolOut, side) == 6);
+    const _: () = assert!(offset_of!(SymbolOut, modules) == 8);
+    const _: () = assert!(size_of::<InspectionOut>() == 2324);
+    const _: () = assert!(offset_of!(InspectionOut, fault) == 0);
+    const _: () = assert!(offset_of!(InspectionOut, side) == 6);
+    const _: () = assert!(offset_of!(InspectionOut, border_faults) == 8);
+    const _: () = assert!(offset_of!(InspectionOut, block_count) == 10);
+    const _: () = assert!(offset_of!(InspectionOut, codeword_count) == 12);
+    const _: () = assert!(offset_of!(InspectionOut, held) == 14);
+    const _: () = assert!(offset_of!(InspectionOut, mended) == 1166);
+    const _: () = assert!(offset_of!(InspectionOut, corrected) == 2318);
+    const _: () = assert!(size_of::<PlaceOut>() == 4);
+    const _: () = assert!(offset_of!(PlaceOut, codeword) == 0);
+    const _: () = assert!(offset_of!(PlaceOut, bit) == 2);
+    const _: () = assert!(offset_of!(PlaceOut, kind) == 3);
+    const _: () = assert!(size_of::<PlacesOut>() == 43272);
+    const _: () = assert!(offset_of!(PlacesOut, fault) == 0);
+    const _: () = assert!(offset_of!(PlacesOut, side) == 6);
+    const _: () = assert!(offset_of!(PlacesOut, places) == 8);
+    const _: () = assert!(size_of::<Size>() == 16);
+    const _: () = assert!(offset_of!(Size, side) == 0);
+    const _: () = assert!(offset_of!(Size, regions) == 2);
+    const _: () = assert!(offset_of!(Size, region_side) == 4);
+    const _: () = assert!(offset_of!(Size, mapping) == 6);
+    const _: () = assert!(offset_of!(Size, data_codewords) == 8);
+    const _: () = assert!(offset_of!(Size, check_codewords) == 10);
+    const _: () = assert!(offset_of!(Size, blocks) == 12);
+    const _: () = assert!(offset_of!(Size, limit) == 14);
+    const _: () = assert!(size_of::<SizesOut>() == 336);
+    const _: () = assert!(offset_of!(SizesOut, sizes) == 0);
+    // interface.toml: end
 }
 
 /// A struct of the library with all its bytes 0, on the heap.
@@ -208,15 +327,25 @@ pub fn is_compatible() -> bool {
     sys::ecc200_abi() == ABI
 }
 
+/// The version of the linked library.
+pub fn version() -> &'static str {
+    unsafe { CStr::from_ptr(sys::ecc200_version()) }.to_str().unwrap_or_default()
+}
+
 /// A quarter of the side, rounded down.
 pub fn usual_limit(side: u16) -> u16 {
     sys::ecc200_usual_limit(side)
 }
 
-/// What a symbol says. `border_limit`: how many border modules may have the wrong colour.
+/// What a symbol says, in the extent `Wide`. `border_limit`: how many border modules may have the wrong colour.
 pub fn read(modules: &[u8], side: u16, border_limit: u16) -> Result<Reading, Fault> {
+    read_as(Extent::Wide, modules, side, border_limit)
+}
+
+/// What a symbol says, in an extent.
+pub fn read_as(extent: Extent, modules: &[u8], side: u16, border_limit: u16) -> Result<Reading, Fault> {
     let mut out = unsafe { zeros::<sys::ReadingOut>() };
-    match unsafe { sys::ecc200_read(modules.as_ptr(), modules.len(), side, border_limit, &mut *out) } {
+    match unsafe { sys::ecc200_read(modules.as_ptr(), modules.len(), side, border_limit, extent as u16, &mut *out) } {
         0 => Ok(Reading {
             items: out.items[..usize::from(out.item_count)].to_vec(),
             corrected: out.corrected[..usize::from(out.block_count)].to_vec(),
@@ -241,10 +370,22 @@ pub fn write(items: &[u16], profile: Profile) -> Result<Symbol, Fault> {
     symbol(code, &out)
 }
 
-/// The normal symbol of what a symbol says.
-pub fn normal(modules: &[u8], side: u16, border_limit: u16, profile: Profile) -> Result<Symbol, Fault> {
+/// The normal symbol of bytes, each of which is an item.
+pub fn write_bytes(bytes: &[u8], profile: Profile) -> Result<Symbol, Fault> {
     let mut out = unsafe { zeros::<sys::SymbolOut>() };
-    let code = unsafe { sys::ecc200_normal(modules.as_ptr(), modules.len(), side, border_limit, profile as u16, &mut *out) };
+    let code = unsafe { sys::ecc200_write_bytes(bytes.as_ptr(), bytes.len(), profile as u16, &mut *out) };
+    symbol(code, &out)
+}
+
+/// The normal symbol of what a symbol says, read in the extent `Wide`.
+pub fn normal(modules: &[u8], side: u16, border_limit: u16, profile: Profile) -> Result<Symbol, Fault> {
+    normal_as(Extent::Wide, modules, side, border_limit, profile)
+}
+
+/// The normal symbol of what a symbol says, read in an extent.
+pub fn normal_as(extent: Extent, modules: &[u8], side: u16, border_limit: u16, profile: Profile) -> Result<Symbol, Fault> {
+    let mut out = unsafe { zeros::<sys::SymbolOut>() };
+    let code = unsafe { sys::ecc200_normal(modules.as_ptr(), modules.len(), side, border_limit, extent as u16, profile as u16, &mut *out) };
     symbol(code, &out)
 }
 
@@ -275,17 +416,25 @@ pub fn places(side: u16) -> Result<Vec<Place>, Fault> {
     }
 }
 
+// interface.toml: kinds
+const BIT: u8 = 1;
+const BORDER_LIGHT: u8 = 2;
+const BORDER_DARK: u8 = 3;
+const FIXED_LIGHT: u8 = 4;
+const FIXED_DARK: u8 = 5;
+// interface.toml: end
+
 fn place(at: &sys::PlaceOut) -> Place {
     match at.kind {
-        1 => Place::Bit { codeword: at.codeword, bit: at.bit },
-        kind @ (2 | 3) => Place::Border { dark: kind == 3 },
-        kind => Place::Fixed { dark: kind == 5 },
+        BIT => Place::Bit { codeword: at.codeword, bit: at.bit },
+        kind @ (BORDER_LIGHT | BORDER_DARK) => Place::Border { dark: kind == BORDER_DARK },
+        kind => Place::Fixed { dark: kind == FIXED_DARK },
     }
 }
 
 /// The table of sizes, by rising side.
 pub fn sizes() -> [Size; SIZE_COUNT] {
-    let mut out = [Size::default(); SIZE_COUNT];
+    let mut out = sys::SizesOut { sizes: [Size::default(); SIZE_COUNT] };
     sys::ecc200_sizes(&mut out);
-    out
+    out.sizes
 }

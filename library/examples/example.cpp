@@ -29,7 +29,7 @@ static Symbol write(std::string_view text) {
 static Reading read(const ecc200_symbol &symbol) {
     size_t count = size_t{symbol.side} * symbol.side;
     auto reading = std::make_unique<ecc200_reading>();
-    if (ecc200_read(symbol.modules, count, symbol.side, ecc200_usual_limit(symbol.side), reading.get()) != ECC200_OK) throw Refused(reading->fault);
+    if (ecc200_read(symbol.modules, count, symbol.side, ecc200_usual_limit(symbol.side), ECC200_WIDE, reading.get()) != ECC200_OK) throw Refused(reading->fault);
     return reading;
 }
 

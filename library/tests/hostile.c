@@ -1,6 +1,6 @@
 /* Random calls, with an inaccessible page directly behind each input and each output: nothing outside is touched, each call returns,
  * all of the output is written whatever was in it, and the answers of the calls agree with one another. The first argument is the number
- * of rounds. */
+ * of rounds, the second the extent: 0 or 1. */
 #define _GNU_SOURCE
 #include <ecc200.h>
 #include <stdio.h>
@@ -11,11 +11,15 @@
 enum { AREA = 1 << 17 };
 
 static const uint16_t sides[] = {10, 12, 14, 16, 18, 20, 22, 24, 26, 32, 36, 40, 44, 48, 52, 64, 72, 80, 88, 96, 104, 0, 1, 11, 28, 105, 120, 65535};
+static uint16_t extent;
+static long reads, both;
 static uint8_t *area;
 static ecc200_reading *reading;
 static ecc200_symbol *symbol, *again;
 static ecc200_inspection *inspection;
 static ecc200_place_table *table;
+static ecc200_size_table sizes;
+static unsigned power[255], logarithm[256];
 
 static int fail(const char *what) {
     printf("%s\n", what);
@@ -60,15 +64,67 @@ static uint8_t *written(uint16_t *side, size_t *count) {
     return modules;
 }
 
+/* the field of 256 elements with the polynomial 301 */
+static void make_field(void) {
+    unsigned value = 1;
+    for (unsigned i = 0; i < 255; i++) {
+        power[i] = value, logarithm[value] = i;
+        value = value < 128 ? value << 1 : value << 1 ^ 301;
+    }
+}
+
+static unsigned product(unsigned a, unsigned b) { return a && b ? power[(logarithm[a] + logarithm[b]) % 255] : 0; }
+
+/* the check codewords of each block, behind the data codewords */
+static void add_checks(uint8_t *words, const ecc200_size *size) {
+    unsigned count = size->check_codewords / size->blocks, generator[69] = {1}, rest[69];
+    for (unsigned root = 1; root <= count; root++)
+        for (unsigned i = root; i > 0; i--)
+            generator[i] ^= product(generator[i - 1], power[root]);
+    for (unsigned block = 0; block < size->blocks; block++) {
+        memset(rest, 0, sizeof rest);
+        for (unsigned at = block; at < size->data_codewords; at += size->blocks) {
+            unsigned factor = words[at] ^ rest[0];
+            for (unsigned i = 0; i < count; i++)
+                rest[i] = rest[i + 1] ^ product(factor, generator[i + 1]);
+        }
+        for (unsigned i = 0; i < count; i++)
+            words[size->data_codewords + block + i * size->blocks] = (uint8_t)rest[i];
+    }
+}
+
+/* a symbol whose data codewords are random, but often begin or end something: an encodation, a shift, a macro, the message */
+static uint8_t *spelled(uint16_t *side, size_t *count) {
+    static const uint8_t turns[] = {129, 230, 231, 232, 233, 234, 235, 236, 237, 238, 239, 240, 241, 254, 0, 124, 31};
+    const ecc200_size *size = &sizes.sizes[(size_t)rand() % (rand() % 2 ? 8 : ECC200_SIZE_COUNT)];
+    uint8_t words[ECC200_MOST_CODEWORDS];
+    int often = 2 + rand() % 40;
+    for (int i = 0; i < size->data_codewords; i++)
+        words[i] = rand() % often ? (uint8_t)(1 + rand() % (often % 2 ? 229 : 128)) : turns[(size_t)rand() % sizeof turns];
+    if (rand() % 3 == 0)
+        words[0] = turns[(size_t)rand() % sizeof turns];
+    add_checks(words, size);
+    *side = size->side, *count = (size_t)*side * *side;
+    uint8_t *modules = area + AREA - *count;
+    ecc200_places(*side, table);
+    for (size_t i = 0; i < *count; i++) {
+        const ecc200_place *at = &table->places[i];
+        int is_dark = at->kind == ECC200_BORDER_DARK || at->kind == ECC200_FIXED_DARK;
+        modules[i] = at->kind == ECC200_BIT ? words[at->codeword] >> (8 - at->bit) & 1 : (uint8_t)is_dark;
+    }
+    return modules;
+}
+
 /* a normal symbol is its own, and says what was read */
 static int check_normal(uint16_t profile) {
     static uint16_t items[ECC200_MOST_ITEMS];
     size_t count = (size_t)symbol->side * symbol->side;
     memcpy(items, reading->items, sizeof items);
     uint16_t item_count = reading->item_count;
-    if (ecc200_normal(symbol->modules, count, symbol->side, 0, profile, again) || memcmp(symbol, again, sizeof *symbol))
+    if (ecc200_normal(symbol->modules, count, symbol->side, 0, extent, profile, again) || memcmp(symbol, again, sizeof *symbol))
         return fail("normalising twice isn't once");
-    if (ecc200_read(symbol->modules, count, symbol->side, 0, reading) || reading->item_count != item_count || memcmp(reading->items, items, sizeof items))
+    uint16_t code = ecc200_read(symbol->modules, count, symbol->side, 0, extent, reading);
+    if (code || reading->item_count != item_count || memcmp(reading->items, items, sizeof items))
         return fail("the normal symbol says something else");
     return 0;
 }
@@ -77,21 +133,27 @@ static int round_of(void) {
     static ecc200_reading second;
     uint16_t side = sides[(size_t)rand() % (sizeof sides / sizeof *sides)], profile = (uint16_t)(rand() % 2);
     size_t count;
-    uint8_t *modules = rand() % 3 ? written(&side, &count) : noise(side, &count);
+    int way = rand() % 4;
+    uint8_t *modules = way == 0 ? noise(side, &count) : way == 1 ? written(&side, &count) : spelled(&side, &count);
     uint16_t limit = rand() % 2 ? ECC200_ANY_LIMIT : ecc200_usual_limit(side);
     memset(reading, 0xEE, sizeof *reading), memset(&second, 0x11, sizeof second);
-    uint16_t code = ecc200_read(modules, count, side, limit, reading);
-    ecc200_read(modules, count, side, limit, &second);
+    uint16_t code = ecc200_read(modules, count, side, limit, extent, reading);
+    ecc200_read(modules, count, side, limit, extent, &second);
     if (memcmp(reading, &second, sizeof second) || code != reading->fault.code)
         return fail("a reading isn't a function of its input");
+    uint16_t other = ecc200_read(modules, count, side, limit, extent == ECC200_WIDE ? ECC200_USUAL : ECC200_WIDE, &second);
+    reads += code == ECC200_OK, both += code == ECC200_OK && other == ECC200_OK;
+    if ((extent == ECC200_WIDE ? other : code) == ECC200_OK && memcmp(reading, &second, sizeof second))
+        return fail("what the usual extent reads the wide one reads otherwise");
     memset(inspection, 0xEE, sizeof *inspection);
     uint16_t inspected = ecc200_inspect(modules, count, side, inspection);
     if (inspected != (code == ECC200_SHAPE || code == ECC200_SIDE ? code : 0))
         return fail("an inspection is refused");
-    if (!code && (memcmp(inspection->corrected, reading->corrected, sizeof reading->corrected) || inspection->border_faults != reading->border_faults))
+    int alike = !memcmp(inspection->corrected, reading->corrected, sizeof reading->corrected);
+    if (!code && (!alike || inspection->border_faults != reading->border_faults))
         return fail("an inspection and a reading differ");
     memset(symbol, 0xEE, sizeof *symbol);
-    uint16_t normal = ecc200_normal(modules, count, side, limit, profile, symbol);
+    uint16_t normal = ecc200_normal(modules, count, side, limit, extent, profile, symbol);
     if (normal && normal != ECC200_TOO_LONG && memcmp(&symbol->fault, &reading->fault, sizeof symbol->fault))
         return fail("a reading and a normal symbol are refused differently");
     memset(table, 0xEE, sizeof *table);
@@ -102,15 +164,22 @@ static int round_of(void) {
 
 int main(int argc, char **argv) {
     long rounds = argc > 1 ? atol(argv[1]) : 20000;
+    extent = argc > 2 ? (uint16_t)atoi(argv[2]) : ECC200_WIDE;
     area = guarded(AREA), reading = guarded(sizeof *reading), symbol = guarded(sizeof *symbol), again = guarded(sizeof *again);
     inspection = guarded(sizeof *inspection), table = guarded(sizeof *table);
     if (ecc200_write(NULL, 0, 0, symbol) || symbol->side != 10)
         return fail("the empty message isn't written");
-    if (ecc200_read(NULL, 0, 0, 0, reading) != ECC200_SIDE || ecc200_read(NULL, 0, 10, 0, reading) != ECC200_SHAPE || ecc200_inspect(NULL, 0, 0, inspection) != ECC200_SIDE)
+    if (ecc200_read(NULL, 0, 0, 0, extent, reading) != ECC200_SIDE || ecc200_read(NULL, 0, 10, 0, extent, reading) != ECC200_SHAPE)
+        return fail("no modules are read");
+    if (ecc200_inspect(NULL, 0, 0, inspection) != ECC200_SIDE)
         return fail("no modules make a symbol");
+    if (ecc200_write_bytes(NULL, 0, 0, again) || memcmp(symbol, again, sizeof *symbol))
+        return fail("no bytes aren't the empty message");
+    make_field(), ecc200_sizes(&sizes);
     srand(3);
     for (long i = 0; i < rounds; i++)
         if (round_of())
             return 1;
+    printf("%ld of %ld symbols are read, %ld in both extents\n", reads, rounds, both);
     return 0;
 }

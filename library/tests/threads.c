@@ -28,11 +28,12 @@ typedef struct {
 
 static example examples[CASES], largest;
 static uint16_t items[ECC200_MOST_ITEMS];
+static uint8_t many[813];
 
 static void answer(const example *e, ecc200_reading *reading, ecc200_symbol *normal, ecc200_inspection *inspection) {
     size_t count = (size_t)e->side * e->side;
-    ecc200_read(e->modules, count, e->side, ecc200_usual_limit(e->side), reading);
-    ecc200_normal(e->modules, count, e->side, ecc200_usual_limit(e->side), e->side % 4 == 0, normal);
+    ecc200_read(e->modules, count, e->side, ecc200_usual_limit(e->side), e->side % 3 ? ECC200_WIDE : ECC200_USUAL, reading);
+    ecc200_normal(e->modules, count, e->side, ecc200_usual_limit(e->side), e->side % 3 ? ECC200_WIDE : ECC200_USUAL, e->side % 4 == 0, normal);
     ecc200_inspect(e->modules, count, e->side, inspection);
 }
 
@@ -80,12 +81,16 @@ static int threads_agree(size_t kib) {
 }
 
 static void *do_nothing(void *at) { return at; }
-static void *do_read(void *at) { return ecc200_read(largest.modules, 104 * 104, 104, ECC200_ANY_LIMIT, &largest.reading), at; }
+static void *do_read(void *at) { return ecc200_read(largest.modules, 104 * 104, 104, ECC200_ANY_LIMIT, ECC200_WIDE, &largest.reading), at; }
 static void *do_inspect(void *at) { return ecc200_inspect(largest.modules, 104 * 104, 104, &largest.inspection), at; }
-static void *do_normal(void *at) { return ecc200_normal(largest.modules, 104 * 104, 104, ECC200_ANY_LIMIT, ECC200_ASCII, &largest.normal), at; }
-static void *do_normal_shorter(void *at) { return ecc200_normal(largest.modules, 104 * 104, 104, ECC200_ANY_LIMIT, ECC200_SHORTER, &largest.normal), at; }
-static void *do_write(void *at) { return ecc200_write(items, ECC200_MOST_ITEMS, ECC200_ASCII, &largest.normal), at; }
+static void normal_of_largest(uint16_t profile) {
+    ecc200_normal(largest.modules, 104 * 104, 104, ECC200_ANY_LIMIT, ECC200_WIDE, profile, &largest.normal);
+}
+static void *do_normal(void *at) { return normal_of_largest(ECC200_ASCII), at; }
+static void *do_normal_shorter(void *at) { return normal_of_largest(ECC200_SHORTER), at; }
+static void *do_write(void *at) { return ecc200_write(items, 2 * 816, ECC200_ASCII, &largest.normal), at; }
 static void *do_write_shorter(void *at) { return ecc200_write(items, 813, ECC200_SHORTER, &largest.normal), at; }
+static void *do_write_bytes(void *at) { return ecc200_write_bytes(many, sizeof many, ECC200_SHORTER, &largest.normal), at; }
 static void *do_places(void *at) { static ecc200_place_table table; return ecc200_places(104, &table), at; }
 static void *do_sizes(void *at) { static ecc200_size_table table; return ecc200_sizes(&table), at; }
 
@@ -122,7 +127,8 @@ int main(int argc, char **argv) {
         largest.modules[rand() % (104 * 104)] ^= 1;
     static const struct { const char *name; void *(*call)(void *); } calls[] = {
         {"ecc200_read", do_read}, {"ecc200_inspect", do_inspect}, {"ecc200_normal", do_normal}, {"ecc200_normal, shorter", do_normal_shorter},
-        {"ecc200_write", do_write}, {"ecc200_write, shorter", do_write_shorter}, {"ecc200_places", do_places}, {"ecc200_sizes", do_sizes},
+        {"ecc200_write", do_write}, {"ecc200_write, shorter", do_write_shorter},
+        {"ecc200_write_bytes", do_write_bytes}, {"ecc200_places", do_places}, {"ecc200_sizes", do_sizes},
     };
     size_t alone = touched(do_nothing);
     for (size_t i = 0; i < sizeof calls / sizeof *calls; i++) {

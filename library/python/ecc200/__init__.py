@@ -1,0 +1,21 @@
+"""Data Matrix ECC 200 (ISO/IEC 16022): symbols are read, written, normalised and compared by a library that is proved.
+
+    >>> import ecc200
+    >>> symbol = ecc200.encode("caf\\u00e9", charset="iso-8859-1")
+    >>> symbol.side
+    12
+    >>> ecc200.decode(symbol.rows)[0].data
+    b'caf\\xe9'
+
+`encode` and `decode` are for most; below them `read`, `write`, `normal`, `inspect` and `places` (ecc200.core) work on grids of modules, one call
+of the library each. `ecc200.gs1` has GS1 element strings, `ecc200.pictures` finds symbols in pictures, and `ecc200.drawing` draws them.
+"""
+from . import core, drawing, gs1, pictures
+from .codec import Symbol, decode, encode
+from .core import (ABI, Code, Extent, FNC1, Grid, Inspection, Kind, MOST_ITEMS, Message, Place, Profile, Reading, Refused, Rows, Size, inspect,
+                   normal,
+                   places, read, read_many, sizes, usual_limit, version, write)
+
+__all__ = [*core.__all__, "Symbol", "decode", "drawing", "encode", "gs1", "pictures"]
+__version__ = version()
+_library = core._library

@@ -1,0 +1,88 @@
+"""Messages into symbols, and grids or pictures into what they say."""
+import functools
+from typing import Any, Dict, List, Optional
+
+from . import core, drawing, gs1 as element_strings, pictures
+from .core import Extent, Message, Profile, Reading, Refused, Rows
+
+__all__ = ["Symbol", "decode", "encode"]
+
+
+class Symbol:
+    """A symbol: its rows, and how it is drawn. `module` is the side of a module in millimetres, `quiet` the width of the quiet zone in
+    modules. As an array it is a picture with one pixel a module, 0 dark and 255 light, with its quiet zone."""
+
+    def __init__(self, rows: Rows, module: float = 0.5, quiet: int = 2) -> None:
+        self.rows, self.module, self.quiet = rows, module, quiet
+
+    @property
+    def side(self) -> int:
+        """Modules on a side."""
+        return len(self.rows)
+
+    def __str__(self) -> str:
+        return "".join("".join("01"[module] for module in row) + "\n" for row in self.rows)
+
+    def __repr__(self) -> str:
+        return f"<Symbol of side {self.side}>"
+
+    def __eq__(self, other: object) -> bool:
+        return isinstance(other, Symbol) and self.rows == other.rows
+
+    def __hash__(self) -> int:
+        return hash(b"".join(self.rows))
+
+    @functools.cached_property
+    def __array_interface__(self) -> Dict[str, Any]:
+        side, wide = self.side + 2 * self.quiet, bytes(self.quiet)
+        blank = [bytes(side)] * self.quiet
+        pixels = b"".join([*blank, *(wide + row + wide for row in self.rows), *blank]).translate(b"\xff\0" + bytes(254))
+        return {"version": 3, "shape": (side, side), "typestr": "|u1", "data": pixels}
+
+    def page(self) -> drawing.Page:
+        """The symbol with its quiet zone, as drawing.py draws it."""
+        return drawing.alone(self.rows, self.module, self.quiet)
+
+    def png(self, dpi: float = 300) -> bytes:
+        """A picture at this resolution, in dots an inch; a module is a whole number of dots."""
+        return drawing.png(self.page(), dpi)
+
+    def svg(self) -> bytes:
+        return drawing.svg(self.page())
+
+    def pdf(self) -> bytes:
+        return drawing.pdf([self.page()])
+
+    def _repr_svg_(self) -> str:
+        return self.svg().decode()
+
+
+def encode(message: Message, gs1: bool = False, profile: Profile = Profile.ASCII, charset: Optional[str] = None, unknown: bool = False,
+           module: float = 0.5, quiet: int = 2) -> Symbol:
+    """The normal symbol of a message. With `gs1` a text is an element string with its identifiers in brackets, which is checked (with `unknown`
+    those that aren't in the table pass); other text needs the name of its charset."""
+    if gs1 and isinstance(message, str):
+        message = element_strings.message(element_strings.parse(message, unknown))
+    return Symbol(core.write(message, gs1, profile, charset), module, quiet)
+
+
+def _of_picture(picture: Any, most: int, milliseconds: int) -> List[Reading]:
+    found = pictures.find(picture, most, milliseconds)
+    return [symbol.answer for symbol in found if not isinstance(symbol.answer, Refused)]
+
+
+def decode(picture: Any, most: int = 64, milliseconds: int = 1000, border_limit: Optional[int] = None, extent: Extent = Extent.WIDE) -> List[Reading]:
+    """What the symbols of a grid or of a picture say: a list, empty if nothing is read. Rows, bytes and text are grids; an array or a Pillow
+    picture is a picture, in which at most `most` symbols are looked for during `milliseconds`, wherever they stand.
+
+    Symbols found in a picture are read at the wide extent and the usual limit. A Pillow picture in which nothing is found, or where the
+    library ecc200_sample isn't installed, is read as one symbol with one pixel a module."""
+    is_picture = hasattr(picture, "__array_interface__")
+    if is_picture and (pictures.is_there() or not hasattr(picture, "getbbox")):
+        found = _of_picture(picture, most, milliseconds)
+        if found or not hasattr(picture, "getbbox"):
+            return found
+    try:
+        return [core.read(picture, border_limit, extent)]
+    except Refused:
+        return []

@@ -1,0 +1,232 @@
+"""The subcommands that read: read, check, normal, compare, explain."""
+import argparse
+import json
+import sys
+from typing import Any, Dict, Iterator, List, NamedTuple, Optional, Union
+
+from . import core, explaining, gs1
+from .advice import in_words, righted, why_not_written
+from .core import FNC1, Reading, Refused, Rows
+from .progress import Progress
+from .sources import Source, Trouble, known_charset, sources
+from .spelling import shown, spelled
+from .writing import put_out
+
+__all__ = ["Answer", "answers", "check", "compare", "explain", "normal", "read"]
+
+
+class Answer(NamedTuple):
+    """What a symbol says, or why it isn't read, in words, with the refusal if the library refused; the grid; how it was changed to be read."""
+    source: Source
+    reading: Optional[Reading]
+    rows: Rows
+    fault: str = ""
+    refused: Optional[Refused] = None
+    how: str = ""
+
+
+def _refusal(source: Source, rows: Rows, why: Refused, given: argparse.Namespace) -> Answer:
+    hint = None if source.found else righted(rows, given.border, given.extent)
+    if hint is not None and given.upright:
+        return Answer(source, hint.reading, hint.rows, how=hint.how)
+    fault = in_words(why, rows)
+    if hint is not None:
+        fault = f"it {hint.how}; --upright reads it so" + ("" if core.Code.SIDE >= why.code else f" (as it stands, {fault})")
+    return Answer(source, None, rows, "; ".join(filter(None, (fault, source.fault))), why)
+
+
+def _answer(source: Source, given: argparse.Namespace) -> Answer:
+    if source.rows is None:
+        return Answer(source, None, [], source.fault)
+    rows = source.rows
+    try:
+        if len({len(row) for row in rows} | {len(rows)}) > 1:
+            raise Refused(core.Code.SHAPE)
+        return Answer(source, core.read(rows, given.border, given.extent), rows)
+    except Refused as why:
+        return _refusal(source, rows, why, given)
+
+
+def answers(given: argparse.Namespace, names: List[str]) -> Iterator[Answer]:
+    """An answer for each grid and each symbol of a picture."""
+    progress = Progress("symbols read")
+    try:
+        for source in sources(names, given.most, given.milliseconds, given.margin):
+            yield _answer(source, given)
+            progress.step()
+    finally:
+        progress.end()
+
+
+def _where(answer: Answer, names: List[str]) -> str:
+    file = "" if answer.source.file == "-" and len(names) < 2 else answer.source.file
+    return ", ".join(filter(None, (file, f"symbol {answer.source.number}")))
+
+
+def _complain(answer: Answer, names: List[str]) -> None:
+    sys.stdout.flush()
+    print(f"ecc200: {_where(answer, names)}: {answer.fault}", file=sys.stderr, flush=True)
+
+
+def _elements(reading: Reading, unknown: bool) -> Union[List[gs1.Element], str, None]:
+    """The elements of a GS1 message, or what is wrong with it, or None if it isn't one."""
+    if not reading.gs1:
+        return None
+    try:
+        return gs1.split(reading.data, unknown)
+    except gs1.Faulty as why:
+        return str(why)
+
+
+def _about(answer: Answer) -> Dict[str, Any]:
+    """What JSON has of each symbol, read or not."""
+    told: Dict[str, Any] = {"file": answer.source.file, "symbol": answer.source.number}
+    found = answer.source.found
+    if found is not None:
+        told.update(corners=[[round(value, 2) for value in corner] for corner in found.corners], inverted=found.inverted, mirrored=found.mirrored)
+    if answer.how:
+        told["righted"] = answer.how
+    if answer.reading is None:
+        told["refused"] = answer.fault
+        if answer.refused is not None:
+            told.update(code=answer.refused.code.name, value=answer.refused.value, place=answer.refused.place)
+    else:
+        told.update(side=len(answer.rows), border_faults=answer.reading.border_faults, corrected=list(answer.reading.corrected))
+    return told
+
+
+def _read_json(answer: Answer, given: argparse.Namespace) -> str:
+    told, reading = _about(answer), answer.reading
+    if reading is not None:
+        told.update(text=shown(reading.items[reading.gs1:], given.charset), hex=reading.data.hex(), items=list(reading.items), gs1=reading.gs1)
+        elements = _elements(reading, given.unknown)
+        if isinstance(elements, str):
+            told["gs1_fault"] = elements
+        elif elements is not None:
+            table = gs1.identifiers()
+            told["elements"] = [{"identifier": identifier, "value": value, "title": table[identifier].title if identifier in table else None}
+                                for identifier, value in elements]
+    return json.dumps(told, ensure_ascii=False)
+
+
+def _text(answer: Answer, reading: Reading, given: argparse.Namespace, names: List[str]) -> str:
+    if given.hex:
+        return reading.data.hex()
+    if given.escapes:
+        return spelled(reading.items)
+    elements = _elements(reading, given.unknown)
+    if isinstance(elements, list):
+        return gs1.text(elements)
+    if isinstance(elements, str):
+        _complain(answer._replace(fault=f"marked as GS1 data, but {elements}"), names)
+    return shown(reading.items, given.charset)
+
+
+def read(given: argparse.Namespace) -> int:
+    """Prints what symbols say."""
+    status = 0
+    if given.charset:
+        known_charset(given.charset)
+    for answer in answers(given, given.files):
+        if answer.reading is None:
+            status = 1
+            _complain(answer, given.files)
+        if given.json:
+            print(_read_json(answer, given), flush=True)
+        elif answer.reading is not None:
+            print(_text(answer, answer.reading, given, given.files), flush=True)
+    return status
+
+
+def check(given: argparse.Namespace) -> int:
+    """Prints how much of symbols is wrong."""
+    status, limits = 0, {size.side: size.limit for size in core.sizes()}
+    for answer in answers(given, given.files):
+        if answer.reading is None:
+            status = 1
+            _complain(answer, given.files)
+        if given.json:
+            print(json.dumps(_about(answer), ensure_ascii=False), flush=True)
+        elif answer.reading is not None:
+            side = len(answer.rows)
+            counts = ", ".join(map(str, answer.reading.corrected))
+            print(f"side {side}, {answer.reading.border_faults} border modules wrong, codewords corrected in each block: {counts} "
+                  f"(at most {limits[side]})", flush=True)
+    return status
+
+
+def normal(given: argparse.Namespace) -> int:
+    """Writes the normal symbols of what symbols say."""
+    status, symbols = 0, []
+    for answer in answers(given, given.files):
+        if answer.reading is not None:
+            try:
+                symbols.append(core.normal(answer.rows, given.border, given.profile, given.extent))
+                continue
+            except Refused as why:
+                answer = answer._replace(fault=why_not_written(why))
+        status = 1
+        _complain(answer, given.files)
+    put_out(symbols, given)
+    return status
+
+
+def _only(given: argparse.Namespace, name: str) -> Answer:
+    """The one symbol of a file."""
+    found = list(answers(given, [name]))
+    if len(found) != 1:
+        raise Trouble(f"{name}: to compare there must be one symbol, and there are {len(found) or 'none'}")
+    if found[0].reading is None:
+        raise Trouble(f"{name}: {found[0].fault}")
+    return found[0]
+
+
+def _difference(first: Reading, second: Reading) -> str:
+    """Where two messages differ."""
+    a, b = ([0x1D if item == FNC1 else item for item in reading.items] for reading in (first, second))
+    if a == b and first.gs1 == second.gs1:
+        return "they differ in their separators alone: where one has FNC1, the other has the byte 0x1D"
+    if first.gs1 != second.gs1 and first.data == second.data:
+        return "one is marked as GS1 data by FNC1 in front, and the other isn't"
+    place = next((place for place, (x, y) in enumerate(zip(first.items, second.items)) if x != y), min(len(first.items), len(second.items)))
+    return f"they differ from item {place + 1} on"
+
+
+def compare(given: argparse.Namespace) -> int:
+    """Says whether two symbols say the same."""
+    first, second = (_only(given, name) for name in given.files)
+    assert first.reading is not None and second.reading is not None
+    same = first.reading.items == second.reading.items
+    for name, answer in zip(given.files, (first, second)):
+        assert answer.reading is not None
+        print(f"{name}: {shown(answer.reading.items)} (side {len(answer.rows)}, {sum(answer.reading.corrected)} codewords corrected)")
+    print("the same" if same else f"different: {_difference(first.reading, second.reading)}")
+    return 0 if same else 1
+
+
+def _table(explanation: explaining.Explanation) -> Iterator[str]:
+    yield f"{'place':>5}  {'value':>5}  {'encodation':10}  meaning"
+    for place, value, held, encodation, meaning in explanation.codewords:
+        wrong = f" (corrected; the symbol has {held})" if held != value else ""
+        yield f"{place:5}  {value:5}  {encodation:10}  {meaning}{wrong}".rstrip()
+
+
+def explain(given: argparse.Namespace) -> int:
+    """Prints what each codeword of symbols means."""
+    status = 0
+    for answer in answers(given, given.files):
+        if answer.reading is None:
+            status = 1
+            _complain(answer, given.files)
+        try:
+            explanation = explaining.explain(answer.rows, given.border, given.extent)
+        except Refused:
+            continue
+        if given.json:
+            words = [codeword._asdict() for codeword in explanation.codewords]
+            print(json.dumps({**_about(answer), "codewords": words}, ensure_ascii=False), flush=True)
+        else:
+            print("\n".join(_table(explanation)), flush=True)
+            if answer.reading is not None:
+                print(f"It says {shown(answer.reading.items)}", end="\n\n", flush=True)
+    return status

@@ -1,0 +1,250 @@
+"""The module: grids and messages in all their forms, refusals, many grids, threads and processes."""
+import array
+import copy
+import multiprocessing
+import os
+import pickle
+import signal
+import threading
+import time
+
+from common import MARKS, TOP, holds, marks, raises, same, setting, wanted_module
+
+import ecc200
+from ecc200 import core
+from ecc200.spelling import spelled
+
+
+def answer(grid, **more):
+    """What a grid says, or the numbers of its refusal."""
+    try:
+        return ecc200.read(grid, **more)
+    except ecc200.Refused as why:
+        return why.code, why.value, why.place
+
+
+def plain_forms(lines):
+    rows = [bytes(map(int, line)) for line in lines]
+    flat = b"".join(rows)
+    side = len(rows)
+    return {
+        "rows of bytes": rows, "rows in a tuple": tuple(rows), "rows from an iterator's list": list(iter(rows)),
+        "bytearrays": list(map(bytearray, rows)),
+        "rows of numbers": [list(row) for row in rows], "rows of booleans": [[bool(module) for module in row] for row in rows],
+        "rows of larger numbers": [[module * 1000 for module in row] for row in rows], "rows of text": lines,
+        "rows of digits": [line.encode() for line in lines],
+        "a text": "\n".join(lines) + "\n", "a text in bytes": "\n".join(lines).encode() + b"\n", "flat bytes": flat,
+        "a flat bytearray": bytearray(flat),
+        "flat digits": "".join(lines).encode(), "a flat memoryview": memoryview(flat),
+        "a square memoryview": memoryview(flat).cast("B", (side, side)),
+        "rows of arrays": [array.array("H", list(row)) for row in rows], "rows of 255": [bytes(255 * module for module in row) for row in rows],
+    }
+
+
+def numpy_forms(numpy, lines):
+    grid = numpy.array([[int(module) for module in line] for line in lines], dtype=numpy.uint8)
+    wide = numpy.zeros((2 * len(lines), 3 * len(lines)), dtype=numpy.uint8)
+    wide[::2, ::3] = grid
+    return {"uint8": grid, "bool": grid.astype(bool), "int64": grid.astype(numpy.int64) * -7, "float": grid.astype(float) / 2,
+            "steps": wide[::2, ::3],
+            "fortran": numpy.asfortranarray(grid), "flat": grid.ravel(), "rows of": list(grid), "flat bool": grid.ravel().astype(bool)}
+
+
+def pictures(image, lines):
+    side = len(lines)
+    dark = image.new("L", (side, side), 255)
+    dark.putdata([0 if module == "1" else 255 for line in lines for module in line])
+    roomy = image.new("L", (side + 5, side + 9), 240)
+    roomy.paste(dark, (2, 4))
+    clear = image.new("RGBA", (side + 2, side + 2), (0, 0, 0, 0))
+    clear.paste((10, 20, 30, 255), (1, 1, side + 1, side + 1), dark.point(lambda shade: 255 - shade))
+    return {"L": dark, "1": dark.convert("1"), "RGB": dark.convert("RGB"), "P": dark.convert("P"), "with a margin": roomy, "transparent": clear}
+
+
+def forms():
+    """Each mark says the same in whichever form it is given, and at the usual extent what the program reads."""
+    numpy = wanted_module("numpy", "numpy", "grids as arrays of numpy")
+    pillow = wanted_module("PIL.Image", "Pillow", "grids as pictures of Pillow")
+    with open(os.path.join(MARKS, "read.txt"), encoding="ascii") as file:
+        program = file.read().splitlines()
+    for number, lines in enumerate(marks()):
+        wanted = answer([[int(module) for module in line] for line in lines])
+        given = plain_forms(lines)
+        if numpy:
+            given.update(numpy_forms(numpy, lines))
+        if pillow:
+            given.update(pictures(pillow.Image, lines))
+        for name, grid in given.items():
+            yield same(f"mark {number + 1} as {name}", answer(grid), wanted)
+        usual = answer(lines, extent=ecc200.Extent.USUAL)
+        if isinstance(usual, ecc200.Reading):
+            yield same(f"mark {number + 1}, usual", (usual == wanted, spelled(usual.items)), (True, program[number]))
+        else:
+            yield holds(f"mark {number + 1}, refused", program[number].startswith(f"\\no {usual[0].value} "), f"{usual}, and not {program[number]}")
+
+
+def strange_grids():
+    def code(grid):
+        got = answer(grid)
+        return got[:2] if isinstance(got[0], ecc200.Code) else got
+    shape, side = ecc200.Code.SHAPE, ecc200.Code.SIDE
+    rows = ecc200.write(b"123456")
+    yield same("no rows", code([]), (side, 0))
+    yield same("no bytes", code(b""), (side, 0))
+    yield same("no text", code(""), (side, 0))
+    for name, grid in [("a short row", [*rows[:-1], rows[-1][:-1]]), ("two wrong rows", [rows[0] + b"\1", rows[1][:-1], *rows[2:]]),
+                       ("99 bytes", bytes(99)),
+                       ("a short text", ["1" * 10] * 9), ("an oblong view", memoryview(bytes(200)).cast("B", (10, 20)))]:
+        yield same(name, code(grid), (shape, 0))
+    yield same("a side that no size has", code(bytes(121)), (side, 11))
+    yield same("a side too large for the library", code([bytes(70_000)] * 70_000)[0],
+               side) if os.sysconf("SC_PHYS_PAGES") > 1 << 22 else same("", 0, 0)
+    yield raises("other characters", ValueError, "'10x0'", lambda: ecc200.read(["10x0"] * 4))
+    yield raises("no grid", TypeError, "", lambda: ecc200.read(7))
+
+
+def messages():
+    rows = ecc200.write(b"caf\xe9")
+    for name, message in [("a bytearray", bytearray(b"caf\xe9")), ("a view", memoryview(b"caf\xe9")), ("items", [99, 97, 102, 233]),
+                          ("an iterator", iter(b"caf\xe9")),
+                          ("a tuple", (99, 97, 102, 233)), ("an array", array.array("B", b"caf\xe9"))]:
+        yield same(f"a message as {name}", ecc200.write(message), rows)
+    yield same("text with its charset", ecc200.write("caf\u00e9", charset="latin-1"), rows)
+    yield same("text in UTF-8", ecc200.read(ecc200.write("caf\u00e9", charset="utf-8")).data, b"caf\xc3\xa9")
+    yield raises("text without a charset", TypeError, "charset", lambda: ecc200.write("caf"))
+    yield raises("text that the charset hasn't", UnicodeEncodeError, "", lambda: ecc200.write("\u20ac", charset="latin-1"))
+    yield raises("items that are text", TypeError, "", lambda: ecc200.write(["a"]))
+    yield same("no items", ecc200.write([]), ecc200.write(b""))
+    yield same("FNC1 in front", ecc200.write(b"01\x1d2", gs1=True), ecc200.write([256, 48, 49, 256, 50]))
+    for item in (-1, 65536, 1 << 40):
+        yield raises(f"the item {item}", ecc200.Refused, f"value {item}, place 2", lambda item=item: ecc200.write([65, 66, item]))
+    yield raises("an item of GS1 data", ecc200.Refused, "value -5, place 1", lambda: ecc200.write([-5], gs1=True))
+    for profile in (-1, 2, 65535, 65536, 1 << 33):
+        yield raises(f"the profile {profile}", ecc200.Refused, f"PROFILE, value {profile},",
+                     lambda profile=profile: ecc200.write(b"A", profile=profile))
+        yield raises(f"normal by {profile}", ecc200.Refused, f"PROFILE, value {profile},",
+                     lambda profile=profile: ecc200.normal(rows, profile=profile))
+    for extent in (-1, 2, 65535, 65536):
+        yield raises(f"the extent {extent}", ecc200.Refused, f"EXTENT, value {extent},", lambda extent=extent: ecc200.read(rows, extent=extent))
+        yield raises(f"normal at {extent}", ecc200.Refused, f"EXTENT, value {extent},", lambda extent=extent: ecc200.normal(rows, extent=extent))
+    for side in (-1, 100_000, 11):
+        yield raises(f"places of {side}", ecc200.Refused, f"SIDE, value {side},", lambda side=side: ecc200.places(side))
+    for limit, refused in ((-5, True), (None, True), (27, False), (1 << 40, False)):
+        got = answer([bytes(10)] * 10, border_limit=limit)
+        yield same(f"the limit {limit}", got[0] == ecc200.Code.BORDER, refused)
+
+
+def refusals():
+    for code in ecc200.Code:
+        why = ecc200.Refused(code, 7, 9)
+        for name, other in (("pickled", pickle.loads(pickle.dumps(why))), ("copied", copy.copy(why)), ("copied deeply", copy.deepcopy(why))):
+            yield same(f"{code.name}, {name}", (type(other), other.code, other.value, other.place, str(other)), (type(why), code, 7, 9, str(why)))
+        yield holds(f"the words of {code.name}", str(why).endswith(f" ({code.name}, value 7, place 9)") and not str(why).startswith("not a code"),
+                    str(why))
+    codes = [core._library.ecc200_code_words(code) for code in range(64)]
+    yield same("no code is missing", {number for number, words in enumerate(codes) if not words.startswith(b"not a code")},
+               {0, *map(int, ecc200.Code)})
+
+
+def answer_or_refusal(grid):
+    return ecc200.read_many([grid])[0]
+
+
+def raising(number):
+    raise ecc200.Refused(ecc200.Code.SIDE, number)
+
+
+def raised_in_pool():
+    with multiprocessing.Pool(2) as pool:
+        return pool.map_async(raising, [11] * 4).get(timeout=60)
+
+
+def many():
+    grids = [list(map(str, lines)) for lines in marks()] + [["1"], [bytes(10)] * 10]
+    wanted = [answer(grid) for grid in grids]
+
+    def told(found):
+        return [(each.code, each.value, each.place) if isinstance(each, ecc200.Refused) else each for each in found]
+    yield same("many at once", told(ecc200.read_many(grids)), wanted)
+    yield same("many from an iterator", told(ecc200.read_many(iter(grids))), wanted)
+    with multiprocessing.Pool(2) as pool:
+        yield same("many by processes", told(pool.map_async(answer_or_refusal, grids).get(timeout=60)), wanted)
+    yield raises("a refusal that a process raises", ecc200.Refused, "SIDE, value 11", raised_in_pool)
+    numpy = wanted_module("numpy", "numpy", "many grids in an array")
+    if numpy:
+        block = numpy.array([[list(row) for row in ecc200.write(b"%06d" % number)] for number in range(200)], dtype=numpy.uint8)
+        block[7] = 0
+        wanted = [answer([bytes(row) for row in grid]) for grid in block]
+        for name, some in (("bytes", block), ("booleans", block.astype(bool)), ("numbers", block.astype(numpy.int32)),
+                           ("steps", numpy.repeat(block, 2, 0)[::2])):
+            yield same(f"an array of three dimensions of {name}", told(ecc200.read_many(some)), wanted)
+
+
+def shown():
+    """Inspections and places are those of the marks' symbols; the answer's room is each time a fresh one to the caller."""
+    for size in ecc200.sizes():
+        places = ecc200.places(size.side)
+        bits = sorted((place.codeword, place.bit) for row in places for place in row if place.kind == ecc200.Kind.BIT)
+        yield same(f"the bits of side {size.side}", bits, [(word, bit) for word in range(size.data_codewords + size.check_codewords)
+                                                           for bit in range(1, 9)])
+        yield same(f"the kinds of side {size.side}", {type(place.kind) for row in places for place in row}, {ecc200.Kind})
+        rows = ecc200.write(b"A" * size.data_codewords)
+        yield same(f"the codewords of side {size.side}", ecc200.inspect(rows).held[:size.data_codewords], b"B" * size.data_codewords)
+        yield same(f"its normal symbol, {size.side}", ecc200.normal(rows), rows)
+    first = ecc200.write(b"123456")
+    kept = list(first)
+    ecc200.write(b"7" * 1000)
+    yield same("an answer stays as it was", first, kept)
+
+
+def by_threads():
+    """Answers of eight threads are those of one, and others run during a call."""
+    grids = [[bytes(map(int, line)) for line in lines] for lines in marks()]
+    wanted, got = [answer(grid) for grid in grids], {}
+
+    def work(number):
+        got[number] = [[answer(grid) for grid in grids] for _ in range(20)]
+    threads = [threading.Thread(target=work, args=(number,)) for number in range(8)]
+    for thread in threads:
+        thread.start()
+    for thread in threads:
+        thread.join()
+    yield same("eight threads", all(each == wanted for rounds in got.values() for each in rounds) and len(got), 8)
+    interrupted = []
+
+    def interrupt(*_):
+        interrupted.append(answer(grids[0]))
+    before = signal.signal(signal.SIGALRM, interrupt)
+    signal.setitimer(signal.ITIMER_REAL, 0.0005, 0.0005)
+    until, right = time.monotonic() + 1, True
+    while time.monotonic() < until:
+        right = right and [answer(grid) for grid in grids[100:]] == wanted[100:]
+    signal.setitimer(signal.ITIMER_REAL, 0)
+    signal.signal(signal.SIGALRM, before)
+    yield same("calls in a signal handler", (right, len(interrupted) > 50, set(interrupted) == {wanted[0]}), (True, True, True))
+    yield same("calls let others run", core._library.ecc200_read._flags_ & 4, 0)  # ctypes' flag for functions that keep the interpreter's lock
+
+
+def loading(folder):
+    """Processors that lack an instruction, libraries that aren't there or of another version."""
+    good = "processor\t: 0\nflags\t\t: fpu " + " ".join(sorted(core._INSTRUCTIONS)) + " avx\n"
+    for name, text, lacking in [("has all", good, []), ("has no SSE4.2", good.replace("sse4_2 ", ""), ["sse4_2"]),
+                                ("says nothing", "processor\t: 0\n", []),
+                                ("has none", "flags\t\t: fpu\n", sorted(core._INSTRUCTIONS))]:
+        path = os.path.join(folder, "cpuinfo")
+        with open(path, "w") as file:
+            file.write(text)
+        yield same(f"a processor that {name}", core._lacking(path), lacking)
+        if lacking:
+            yield raises(f"the module on one that {name}", ImportError, "x86-64-v2; this one lacks " + lacking[0], lambda path=path: core._load(path))
+    yield same("a processor that isn't described", core._lacking(os.path.join(folder, "none")), [])
+    with setting(ECC200_LIBRARY=os.path.join(folder, "none.so")):
+        yield raises("no library", ImportError, "ECC200_LIBRARY", core._load)
+    with open(os.path.join(TOP, "packaging", "version"), encoding="ascii") as file:
+        yield same("the version", core.version(), file.read().strip())
+
+
+def tests(folder):
+    for source in (forms, strange_grids, messages, refusals, many, shown, by_threads):
+        yield from source()
+    yield from loading(folder)

@@ -1,0 +1,132 @@
+"""The wheel: built, installed without network, and used in clean environments; what mypy says of the package."""
+import os
+import pwd
+import shutil
+import subprocess
+import zipfile
+
+from common import MARKS, PACKAGE, PYTHON, SAMPLER, SHARED, TOP, clean, has, holds, left_out, run, same, wanted_module
+
+GS1 = "(01)09521234543213(17)251231(10)ABC123"
+USED = """
+import ecc200, ecc200.core, sys
+assert ecc200.read(ecc200.write(b'123456')).data == b'123456'
+assert ecc200.gs1.parse('(01)09521234543213')
+assert not [name for name in sys.modules if name in ('subprocess', 'numpy', 'PIL', 'ctypes.util')], 'modules that need not be loaded'
+print(ecc200.core._library._name)
+"""
+
+
+def version():
+    with open(os.path.join(TOP, "packaging", "version"), encoding="ascii") as file:
+        return file.read().strip()
+
+
+def typed():
+    """What mypy says, strictly, of the package and of a program that uses it."""
+    if wanted_module("mypy", "python3-mypy", "types"):
+        words = [PYTHON, "-m", "mypy", "--cache-dir", os.devnull]
+        status, output, errors = run(words, cwd=PACKAGE)
+        yield holds("mypy --strict", status == 0, output + errors)
+
+
+def built(folder):
+    """The wheel, built from a copy of what is needed, so that nothing of this tree changes."""
+    copy = os.path.join(folder, "tree")
+    for part in ("library/ecc200.py", "library/gs1", "library/python", "packaging/version"):
+        source, target = os.path.join(TOP, part), os.path.join(copy, part)
+        os.makedirs(os.path.dirname(target), exist_ok=True)
+        if os.path.isdir(source):
+            shutil.copytree(source, target, symlinks=True, ignore=shutil.ignore_patterns("out", "__pycache__"))
+        else:
+            shutil.copy(source, target)
+    libraries = {"ECC200_LIBRARY": SHARED, **({"ECC200_SAMPLE_LIBRARY": SAMPLER} if os.path.isfile(SAMPLER) else {})}
+    status, output, errors = run([os.path.join(copy, "library", "python", "build")], env=clean(HOME=folder, **libraries))
+    return os.path.join(copy, "library", "python", output.strip()) if status == 0 else None, output + errors
+
+
+def contents(wheel):
+    with zipfile.ZipFile(wheel) as archive:
+        names = archive.namelist()
+        for name in ("ecc200/core.py", "ecc200/py.typed", "ecc200/identifiers.txt", "ecc200/command.py"):
+            yield holds(f"the wheel has {name}", name in names, str(names))
+        with open(SHARED, "rb") as file:
+            yield same("its library", archive.read("ecc200/libecc200.so"), file.read())
+        with open(os.path.join(TOP, "library", "ecc200.py"), "rb") as file:
+            yield same("its module is library/ecc200.py", archive.read("ecc200/core.py"), file.read())
+        described = archive.read(f"ecc200-{version()}.dist-info/METADATA").decode()
+    for line in (f"Version: {version()}", "License: None has been chosen yet."):
+        yield holds(f"the wheel says {line}", line + "\n" in described, described)
+    yield holds("the wheel is for this kind of machine", "-py3-none-linux_" in os.path.basename(wheel), wheel)
+
+
+def installed(folder, wheel):
+    """An environment without the system's packages, into which the wheel is installed without network."""
+    place = os.path.join(folder, "venv")
+    status, output, errors = run([PYTHON, "-m", "venv", place], env=clean(HOME=folder))
+    if status:
+        left_out.append("the installed wheel (python3-venv isn't installed)")
+        return
+    alone = ["unshare", "-n"] if os.geteuid() == 0 and has("unshare", "installing with no network at all") else []
+    status, output, errors = run([*alone, os.path.join(place, "bin", "pip"), "install", "--no-index", "--no-cache-dir", wheel],
+                                 env=clean(HOME=folder))
+    yield holds("pip install without network", status == 0, output + errors)
+    command, python = os.path.join(place, "bin", "ecc200"), os.path.join(place, "bin", "python3")
+    yield from used("in a clean environment", [], command, python, place)
+    yield from used("with nothing on the path", ["env", "-i"], command, python, place)
+    if os.geteuid() == 0:
+        for folders in (folder, os.path.dirname(wheel)):
+            os.chmod(folders, 0o755)
+        nobody = pwd.getpwnam("nobody")
+        switch = ["setpriv", f"--reuid={nobody.pw_uid}", f"--regid={nobody.pw_gid}", "--clear-groups"]
+        if has("setpriv", "another user"):
+            yield from used("as another user", switch, command, python, place)
+    else:
+        left_out.append("another user (these tests don't run as root)")
+
+
+def used(name, before, command, python, place):
+    """The module and the command do their work, by the library that the wheel carries."""
+    env = {"PATH": os.path.join(place, "none")} if before[:1] != ["setpriv"] else clean()
+    words = [shutil.which(before[0]), *before[1:]] if before else []
+    status, output, errors = run([*words, python, "-c", USED], env=env, cwd="/")
+    yield holds(f"the module {name}", status == 0 and output.strip().startswith(place), output + errors)
+    status, output, errors = run([*words, command, "--version"], env=env, cwd="/")
+    yield same(f"the command's version {name}", (status, output, errors), (0, f"ecc200 {version()}\n", ""))
+    status, grid, errors = run([*words, command, "write", "--gs1", GS1], env=env, cwd="/")
+    yield holds(f"the command writes {name}", status == 0 and len(grid.split()) == 20, errors)
+    status, output, errors = run([*words, command, "read"], grid.encode(), env=env, cwd="/")
+    yield same(f"the command reads {name}", (status, output, errors), (0, GS1 + "\n", ""))
+    with open(os.path.join(MARKS, "grids.txt"), "rb") as file:
+        status, output, errors = run([*words, command, "read", "--escapes"], file.read(), env=env, cwd="/")
+    yield same(f"marks of others {name}", (status, len(output.splitlines())), (0, 147))
+
+
+def from_system(folder):
+    """One file, and a library where the system keeps its own: found without ECC200_LIBRARY, and without a compiler on the path."""
+    place = os.path.join(folder, "one")
+    os.makedirs(place)
+    shutil.copy(os.path.join(TOP, "library", "ecc200.py"), place)
+    own = subprocess.run([PYTHON, "-c", "import re; print(re.search(r'^ABI = (\\d+)', open('ecc200.py').read(), re.M)[1])"], cwd=place,
+                         stdout=subprocess.PIPE)
+    library = os.path.join(folder, "lib")
+    os.makedirs(library)
+    shutil.copy(SHARED, os.path.join(library, f"libecc200.so.{own.stdout.decode().strip()}"))
+    words = [PYTHON, "-c", "import ecc200; print(ecc200.read(ecc200.write(b'A')).data)"]
+    env = {"PATH": os.path.join(folder, "none"), "LD_LIBRARY_PATH": library, "PYTHONDONTWRITEBYTECODE": "1"}
+    yield same("the module alone, with the system's library", run(words, env=env, cwd=place), (0, "b'A'\n", ""))
+    shutil.copy(SHARED, os.path.join(place, "libecc200.so"))
+    env.pop("LD_LIBRARY_PATH")
+    yield same("the module alone, with a library beside it", run(words, env=env, cwd=place), (0, "b'A'\n", ""))
+
+
+def tests(folder):
+    yield from typed()
+    yield from from_system(folder)
+    if not all([wanted_module("setuptools", "python3-setuptools", "the wheel"), wanted_module("wheel.bdist_wheel", "python3-wheel", "the wheel")]):
+        return
+    wheel, said = built(folder)
+    yield holds("library/python/build", wheel is not None, said)
+    if wheel is not None:
+        yield from contents(wheel)
+        yield from installed(folder, wheel)
