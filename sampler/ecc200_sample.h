@@ -1,0 +1,85 @@
+/* ecc200_sample.h: finds square Data Matrix ECC 200 symbols in a picture, and samples them into grids for ecc200.h.
+ *
+ *     ecc200_sample_picture   the symbols of a picture: grid, corners, reading
+ *     ecc200_sample_usual     the usual options
+ *     ecc200_sample_abi       which version of this interface the library has
+ *
+ * An example, for a picture of `width` by `height` bytes, 0 black and 255 white:
+ *
+ *     static ecc200_sample symbol;
+ *     size_t count;
+ *     if (ecc200_sample_picture(luminance, width, height, width, NULL, &symbol, 1, &count) == ECC200_SAMPLE_OK && count == 1)
+ *         printf("%d by %d modules, %d items\n", symbol.side, symbol.side, symbol.reading.item_count);
+ *
+ *     cc example.c $(pkg-config --cflags --libs ecc200_sample)
+ *
+ * The library reads no file formats: a PICTURE is its luminance, a byte a pixel, row by row from the top, each row `stride` bytes after the
+ * one before. The symbols may be turned by any angle, in perspective, mirrored, or light on dark. A grid comes out upright, as ecc200_read
+ * takes it.
+ *
+ * Finding and sampling are tested, not proved. The sampler tries many candidates, and ecc200_read, which is proved, judges each: the
+ * reading is what the grid says. A wrong grid gives no reading or, rarely, a wrong message, as damage to a symbol does; `margin` makes that
+ * rarer still.
+ *
+ * Any number of threads may call at once. A call keeps nothing; it allocates about six bytes a pixel, and frees them. Without memory it
+ * returns NO_MEMORY, unless it is libdmtx that lacks it, which may end the program. */
+#ifndef ECC200_SAMPLE_H
+#define ECC200_SAMPLE_H
+
+#include <ecc200.h>
+
+#if defined(__cplusplus)
+extern "C" {
+#endif
+
+/* The version of this interface. It changes when a program that was built with this file would no longer work with the library. */
+#define ECC200_SAMPLE_ABI 1
+
+/* The version of the library's interface, to be compared with ECC200_SAMPLE_ABI if the library is loaded at run time. */
+uint16_t ecc200_sample_abi(void);
+
+enum {
+    ECC200_SAMPLE_MOST_SIDE = 32767,  /* pixels: no picture may be wider or higher */
+    ECC200_SAMPLE_USUAL_TIME = 1000   /* milliseconds */
+};
+
+/* What a call returns. */
+enum ecc200_sample_code {
+    ECC200_SAMPLE_OK = 0,
+    ECC200_SAMPLE_PICTURE = 1,        /* width or height is 0 or above ECC200_SAMPLE_MOST_SIDE, or the stride is less than the width */
+    ECC200_SAMPLE_NO_MEMORY = 2
+};
+
+typedef struct ecc200_sample_options {
+    uint32_t milliseconds;            /* how long to try at most. What is being tried is ended, so a call may take a little longer */
+    uint16_t least_side;              /* symbols of fewer modules a side are passed over; 0: none is */
+    uint16_t margin;                  /* how many corrections each block must leave unused, of those that its size allows */
+    uint16_t keep_unread;             /* not 0: if no symbol is read, the most likely grid that isn't read is given, with its fault */
+} ecc200_sample_options;
+
+typedef struct ecc200_sample_point {
+    double x, y;                      /* pixels from the left and from the top edge of the picture: its first pixel's centre is (0.5, 0.5) */
+} ecc200_sample_point;
+
+typedef struct ecc200_sample {
+    ecc200_sample_point corners[4];   /* of the upright symbol: top left, top right, bottom right, bottom left, where they are in the picture */
+    uint16_t side;                    /* modules */
+    uint8_t inverted;                 /* 1: the symbol is light on dark in the picture; the grid has its dark modules as 1 all the same */
+    uint8_t mirrored;                 /* 1: the picture shows it as in a mirror */
+    uint8_t modules[ECC200_MOST_MODULES]; /* the first side * side count */
+    ecc200_reading reading;           /* what ecc200_read says of these modules, at the usual border limit */
+} ecc200_sample;
+
+/* The usual options: a second, every side, no margin, nothing unread. */
+ecc200_sample_options ecc200_sample_usual(void);
+
+/* Finds at most `room` symbols in a picture, writes them into `out`, and their number into *count. With room for one, the search ends with
+ * the first; else it goes on until there are `room`, or nothing more is found, or the time is over. `options` may be NULL: the usual ones.
+ * Returns PICTURE or NO_MEMORY with a count of 0; otherwise OK, with a count of 0 if there is none. */
+uint16_t ecc200_sample_picture(const uint8_t *luminance, size_t width, size_t height, size_t stride, const ecc200_sample_options *options,
+                               ecc200_sample *out, size_t room, size_t *count);
+
+#if defined(__cplusplus)
+}
+#endif
+#endif

@@ -1,0 +1,17 @@
+/* Where the solid borders of a symbol may be: two straight outlines of about one length that meet at a corner. */
+#ifndef FINDER_H
+#define FINDER_H
+
+#include "outline.h"
+
+struct elbow {
+    struct point corner; /* bottom left of the upright symbol */
+    struct point top;    /* top left: where the left border ends */
+    struct point right;  /* bottom right: where the bottom border ends */
+    double score;
+};
+
+/* Writes at most `room` elbows, the most likely first, and returns their number. Stops at the time `end`. */
+int elbows_found(const struct plane *dark, const struct lines *lines, int64_t end, struct elbow *out, int room);
+
+#endif

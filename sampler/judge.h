@@ -1,0 +1,34 @@
+/* Tries the ways to sample a placement, and lets the reader judge each. */
+#ifndef JUDGE_H
+#define JUDGE_H
+
+#include "ecc200_sample.h"
+#include "track.h"
+
+/* A placement that was sampled before. */
+struct tried {
+    int side;
+    bool is_inverted;
+    struct point corners[4];
+};
+
+enum { MOST_TRIED = 64 };
+
+struct judge {
+    const struct plane *picture, *smooth;   /* as it is, and smoothed */
+    const ecc200_sample_options *options;
+    struct layouts *layouts;
+    int64_t end;                            /* when to stop */
+    bool has_no_memory;                     /* whether memory was wanted that isn't there */
+    bool is_inverted;                       /* whether `picture` is the picture inverted */
+    ecc200_sample *trial;                   /* room for a candidate */
+    ecc200_sample *unread;                  /* the likeliest candidate that wasn't read, or NULL if none is wanted */
+    double unread_score;                    /* 0: there is none yet */
+    struct tried tried[MOST_TRIED];         /* the latest ones */
+    int tried_count;
+};
+
+/* Whether the placement, or one near it, is read; then `out` is the candidate with the fewest corrections. */
+bool judged(struct judge *judge, const struct placement *placement, ecc200_sample *out);
+
+#endif

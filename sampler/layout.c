@@ -1,0 +1,68 @@
+#include "layout.h"
+
+#include <ecc200.h>
+#include <stdlib.h>
+
+static const int SIDES[SIZES] = {10, 12, 14, 16, 18, 20, 22, 24, 26, 32, 36, 40, 44, 48, 52, 64, 72, 80, 88, 96, 104};
+
+const int *sides(void) {
+    return SIDES;
+}
+
+int colour_at(const struct layout *layout, int x, int y) {
+    bool inside = x >= 0 && y >= 0 && x < layout->side && y < layout->side;
+    return inside ? layout->colour[y * layout->side + x] : LIGHT;
+}
+
+static void add_witness(struct layout *layout, double x, double y, bool is_upright, int before, int after) {
+    if (before == UNKNOWN || after == UNKNOWN || before == after || layout->witness_count == MOST_WITNESSES)
+        return;
+    layout->witnesses[layout->witness_count++] = (struct witness){(float)x, (float)y, is_upright, after == DARK};
+}
+
+static void find_witnesses(struct layout *layout) {
+    for (int y = 0; y <= layout->side; y++)
+        for (int x = 0; x <= layout->side; x++) {
+            int here = colour_at(layout, x, y);
+            if (y < layout->side)
+                add_witness(layout, x, y + 0.5, true, colour_at(layout, x - 1, y), here);
+            if (x < layout->side)
+                add_witness(layout, x + 0.5, y, false, colour_at(layout, x, y - 1), here);
+        }
+}
+
+static struct layout *made(int side) {
+    static const uint8_t colours[] = {UNKNOWN, UNKNOWN, LIGHT, DARK, LIGHT, DARK}; /* by kind */
+    struct layout *layout = calloc(1, sizeof *layout);
+    ecc200_place_table *table = malloc(sizeof *table);
+    ecc200_size_table *rows = malloc(sizeof *rows);
+    if (layout != NULL && table != NULL && rows != NULL && ecc200_places((uint16_t)side, table) == ECC200_OK) {
+        layout->side = side;
+        for (int k = 0; k < side * side; k++)
+            layout->colour[k] = colours[table->places[k].kind];
+        ecc200_sizes(rows);
+        for (int k = 0; k < SIZES; k++)
+            if (rows->sizes[k].side == side)
+                layout->region = rows->sizes[k].region_side + 2, layout->limit = rows->sizes[k].limit;
+        find_witnesses(layout);
+    } else {
+        free(layout);
+        layout = NULL;
+    }
+    free(table);
+    free(rows);
+    return layout;
+}
+
+const struct layout *layout_of(struct layouts *layouts, int side) {
+    for (int k = 0; k < SIZES; k++)
+        if (SIDES[k] == side)
+            return layouts->made[k] != NULL ? layouts->made[k] : (layouts->made[k] = made(side));
+    return NULL;
+}
+
+void layouts_free(struct layouts *layouts) {
+    for (int k = 0; k < SIZES; k++)
+        free(layouts->made[k]);
+    *layouts = (struct layouts){0};
+}

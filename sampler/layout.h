@@ -1,0 +1,38 @@
+/* What the border of each size looks like, with the alignment patterns inside. */
+#ifndef LAYOUT_H
+#define LAYOUT_H
+
+#include <stdbool.h>
+#include <stdint.h>
+
+enum { SIZES = 21, MOST_SIDE = 104, LIGHT = 0, DARK = 1, UNKNOWN = 2, MOST_WITNESSES = 3072 };
+
+/* An edge between two modules of known and different colours, of which one may lie outside the symbol. */
+struct witness {
+    float x, y;          /* the middle of the edge */
+    int8_t is_upright;   /* 1: an edge along y, whose place is its x; 0: one along x */
+    int8_t darkens;      /* 1: what follows, to the right or below, is dark; 0: it is light */
+};
+
+struct layout {
+    int side, region;    /* modules; `region` with its border */
+    int limit;           /* how many wrong codewords can be corrected in each block */
+    uint8_t colour[MOST_SIDE * MOST_SIDE]; /* LIGHT, DARK, UNKNOWN: row by row */
+    struct witness witnesses[MOST_WITNESSES];
+    int witness_count;
+};
+
+/* The sides, by rising size. */
+const int *sides(void);
+
+/* The layout of a side, made at the first call; NULL if there is no memory, or no such side. `made` holds those that were made. */
+struct layouts {
+    struct layout *made[SIZES];
+};
+const struct layout *layout_of(struct layouts *layouts, int side);
+void layouts_free(struct layouts *layouts);
+
+/* The colour of a module; outside, where the quiet zone is, LIGHT. */
+int colour_at(const struct layout *layout, int x, int y);
+
+#endif

@@ -1,0 +1,22 @@
+/* Straight pieces of the outlines of dark areas. */
+#ifndef OUTLINE_H
+#define OUTLINE_H
+
+#include "clock.h"
+#include "plane.h"
+
+/* Who goes from `from` to `to` has the dark area on the right, in a picture whose y grows downwards. */
+struct line {
+    struct point from, to;
+};
+
+struct lines {
+    struct line *items;
+    int count, room;
+};
+
+/* The longest straight pieces of at least `least` pixels in a plane of 0 and 1 with a light frame, at most `room` of them, the longest first.
+ * The pieces that lie on one line are also there as one. Stops at the time `end`. False if there is no memory. */
+bool lines_found(const struct plane *dark, double least, int64_t end, struct lines *out);
+
+#endif

@@ -1,0 +1,16 @@
+/* What is printed of a symbol. */
+#ifndef REPORT_H
+#define REPORT_H
+
+#include "../ecc200_sample.h"
+
+/* As a record: a line of 0 and 1 for each row, from the top, and an empty line. To standard output. */
+void report_record(const ecc200_sample *symbol);
+
+/* As a line of JSON, to standard output. */
+void report_json(const char *file, const ecc200_sample *symbol);
+
+/* The file, and the corners in pixels: top left, top right, bottom right, bottom left. To standard error. */
+void report_corners(const char *file, const ecc200_sample *symbol);
+
+#endif

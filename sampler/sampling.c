@@ -1,0 +1,134 @@
+#include "sampling.h"
+
+#include <math.h>
+#include <string.h>
+
+enum { POINTS = 4 };
+static const double FIRST = -0.27, APART = 0.18; /* modules: where the points of a module are */
+
+void sampled(const struct plane *plane, const struct layout *layout, const struct bent *bent, double x, double y, struct brightnesses *out) {
+    int side = layout->side, region = side / bent->across;
+    out->side = side;
+    for (int row = 0; row < side; row++)
+        for (int column = 0; column < side; column++) {
+            const struct homography *to_picture = &bent->to_picture[row / region * bent->across + column / region];
+            double total = 0;
+            for (int k = 0; k < POINTS * POINTS; k++) {
+                double right = column + 0.5 + x + FIRST + APART * (k % POINTS), down = row + 0.5 + y + FIRST + APART * (k / POINTS);
+                total += brightness(plane, mapped(to_picture, right, down));
+            }
+            out->of[row * side + column] = (float)(total / (POINTS * POINTS));
+        }
+}
+
+/* A level of brightness that changes evenly over the symbol: a + b x + c y, from -0.5 to 0.5. */
+struct level {
+    double a, b, c;
+};
+
+/* The place of a row or column in the middle of a module, from -0.5 to 0.5. */
+static double place_of(int side, int k) {
+    return (k + 0.5) / side - 0.5;
+}
+
+static double level_at(const struct level *level, int side, int column, int row) {
+    return level->a + level->b * place_of(side, column) + level->c * place_of(side, row);
+}
+
+/* What is summed up to fit a level: of the modules, of their products with x and y, and of these with the brightness. */
+struct sums {
+    double n, x, y, xx, xy, yy, v, xv, yv;
+};
+
+static void add_module(struct sums *sums, double x, double y, double v) {
+    sums->n++, sums->x += x, sums->y += y, sums->xx += x * x, sums->xy += x * y, sums->yy += y * y;
+    sums->v += v, sums->xv += x * v, sums->yv += y * v;
+}
+
+/* The level of the modules of a class, without those that are farther than `most` from the level before. */
+static bool fit_level(const float *of, int side, const uint8_t *class, int wanted, const struct level *before, double most, struct level *out) {
+    struct sums sums = {0};
+    for (int row = 0; row < side; row++) {
+        double y = place_of(side, row);
+        for (int column = 0; column < side; column++, of++, class++) {
+            double x = place_of(side, column);
+            if (*class == wanted && (before == NULL || fabs(*of - before->a - before->b * x - before->c * y) <= most))
+                add_module(&sums, x, y, *of);
+        }
+    }
+    double stiff = 0.2, matrix[9] = {sums.n, sums.x, sums.y, sums.x, sums.xx + stiff, sums.xy, sums.y, sums.xy, sums.yy + stiff};
+    double values[3] = {sums.v, sums.xv, sums.yv};
+    if (sums.n < 4 || !solved(matrix, values, 3))
+        return false;
+    *out = (struct level){values[0], values[1], values[2]};
+    return true;
+}
+
+struct levels {
+    struct level of[2]; /* LIGHT and DARK */
+};
+
+static bool fit_levels(const float *of, int side, const uint8_t *class, struct levels *out) {
+    struct levels first;
+    for (int colour = LIGHT; colour <= DARK; colour++)
+        if (!fit_level(of, side, class, colour, NULL, 0, &first.of[colour]))
+            return false;
+    *out = first;
+    double contrast = first.of[LIGHT].a - first.of[DARK].a;
+    if (contrast < 3)
+        return false;
+    for (int colour = LIGHT; colour <= DARK; colour++)
+        if (!fit_level(of, side, class, colour, &first.of[colour], 0.4 * contrast, &out->of[colour]))
+            out->of[colour] = first.of[colour];
+    return out->of[LIGHT].a - out->of[DARK].a >= 3;
+}
+
+/* The brightness of the place (x, y), which may lie one module outside, where the quiet zone is. */
+static float around(const struct brightnesses *from, const struct levels *levels, int x, int y) {
+    int side = from->side;
+    if (x >= 0 && y >= 0 && x < side && y < side)
+        return from->of[y * side + x];
+    int column = x < 0 ? 0 : x >= side ? side - 1 : x, row = y < 0 ? 0 : y >= side ? side - 1 : y;
+    return (float)level_at(&levels->of[LIGHT], side, column, row);
+}
+
+static void sharpen(const struct brightnesses *from, const struct levels *levels, double by, float *out) {
+    int side = from->side;
+    for (int y = 0; y < side; y++)
+        for (int x = 0; x < side; x++) {
+            float beside = around(from, levels, x - 1, y) + around(from, levels, x + 1, y);
+            float sum = beside + around(from, levels, x, y - 1) + around(from, levels, x, y + 1);
+            float here = from->of[y * side + x];
+            out[y * side + x] = here + (float)by * (4 * here - sum);
+        }
+}
+
+static void divide(const float *of, int side, const struct levels *levels, double offset, uint8_t *modules) {
+    for (int row = 0; row < side; row++)
+        for (int column = 0; column < side; column++) {
+            double light = level_at(&levels->of[LIGHT], side, column, row), dark = level_at(&levels->of[DARK], side, column, row);
+            *modules++ = *of++ < dark + (0.5 + offset) * (light - dark);
+        }
+}
+
+bool told_apart(const struct brightnesses *from, const struct layout *layout, struct rule rule, uint8_t *modules) {
+    float sharp[MOST_SIDE * MOST_SIDE];
+    const float *of = from->of;
+    struct levels levels;
+    if (!fit_levels(of, from->side, layout->colour, &levels))
+        return false;
+    if (rule.sharpening > 0) {
+        sharpen(from, &levels, rule.sharpening, sharp);
+        of = sharp;
+        if (!fit_levels(of, from->side, layout->colour, &levels))
+            return false;
+    }
+    divide(of, from->side, &levels, 0, modules);
+    for (int round = 0; rule.is_by_all && round < 2; round++) {
+        if (!fit_levels(of, from->side, modules, &levels))
+            return false;
+        divide(of, from->side, &levels, 0, modules);
+    }
+    divide(of, from->side, &levels, rule.offset, modules);
+    return true;
+}

@@ -1,0 +1,33 @@
+/* From a placement to modules: their brightness, and what counts as dark. */
+#ifndef SAMPLING_H
+#define SAMPLING_H
+
+#include "layout.h"
+#include "plane.h"
+
+struct brightnesses {
+    int side;
+    float of[MOST_SIDE * MOST_SIDE];
+};
+
+/* How a symbol may bend: a transformation for each of its regions, region by region from the top, each row from the left. */
+enum { MOST_REGIONS = 16 };
+struct bent {
+    int across;            /* regions in a row */
+    struct homography to_picture[MOST_REGIONS];
+};
+
+/* The mean brightness of each module's middle. The grid is moved by (x, y) modules. */
+void sampled(const struct plane *plane, const struct layout *layout, const struct bent *bent, double x, double y, struct brightnesses *out);
+
+/* How dark modules are told from light ones. */
+struct rule {
+    double sharpening;     /* how much of the difference to the four neighbours is added: undoes blur */
+    double offset;         /* of the threshold, as a share of the contrast: above 0, more modules are dark */
+    bool is_by_all;        /* whether the levels are those of all modules; else of the border alone */
+};
+
+/* Writes 1 for each dark module. False if the border shows no contrast. */
+bool told_apart(const struct brightnesses *from, const struct layout *layout, struct rule rule, uint8_t *modules);
+
+#endif

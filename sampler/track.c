@@ -1,0 +1,283 @@
+#include "track.h"
+
+#include <math.h>
+
+static const double WIDEST = 0.44;                 /* by how much, in radians, opposite borders may differ in direction */
+static const double LEAST_TRACK = 0.68, LEAST_SOLID = 0.6;
+
+/* ---- The width of a module */
+
+/* How far it is dark from a point on a border inwards, in pixels. */
+static double depth_at(const struct plane *dark, struct point at, struct point inwards, double most) {
+    double depth = 0, light = 0;
+    for (double way = 0.5; way < most && light < 1.5; way += 0.5) {
+        bool is_dark = dark_at(dark, sum(at, scaled(inwards, way))) != 0;
+        light = is_dark ? 0 : light + 0.5;
+        depth = is_dark ? way + 0.25 : depth;
+    }
+    return depth;
+}
+
+/* About how wide a module is along `inwards`: the solid border is one module deep wherever a light one follows. */
+static double module_width(const struct plane *dark, struct point from, struct point to, struct point inwards) {
+    enum { PLACES = 96, DEPTHS = 256 };
+    double whole = length(difference(to, from)), most = whole / 6;
+    int histogram[DEPTHS] = {0}, counted = 0;
+    for (int k = 0; k < PLACES; k++) {
+        struct point at = sum(from, scaled(difference(to, from), 0.05 + 0.9 * k / PLACES));
+        int depth = (int)(2 * depth_at(dark, at, inwards, most));
+        if (depth > 1)
+            histogram[depth < DEPTHS ? depth : DEPTHS - 1]++, counted++;
+    }
+    int passed = 0, depth = 0;
+    while (depth < DEPTHS - 1 && (passed += histogram[depth]) * 10 < counted * 3)
+        depth++;
+    return fmax(1, 0.5 * depth + 0.25);
+}
+
+/* ---- The line along an alternating border */
+
+struct track {
+    struct point from, along; /* a point on the middle of the track, and its direction, of length 1 */
+    double score;
+    int darks;                /* how many dark modules it shows */
+};
+
+/* How evenly the turns of a profile, from dark to light and back, follow one another. */
+struct rhythm {
+    double last, mean;   /* the place of the last turn, and the mean distance of the latest ones */
+    int turns, good;
+    double bad;
+};
+
+/* Takes a turn into account. False where the track has ended: nothing turns for too long. */
+static bool add_turn(struct rhythm *rhythm, double place) {
+    double distance = place - rhythm->last;
+    rhythm->last = place;
+    if (rhythm->turns++ == 0)
+        return true;
+    if (rhythm->turns == 2)
+        rhythm->mean = distance;
+    if (rhythm->turns > 4 && distance > 2.6 * rhythm->mean)
+        return false;
+    bool is_good = distance > 0.55 * rhythm->mean && distance < 1.7 * rhythm->mean;
+    rhythm->good += is_good;
+    rhythm->bad += is_good ? 0 : 1;
+    rhythm->mean += 0.3 * (distance - rhythm->mean);
+    return true;
+}
+
+/* Follows the turns of brightness along the track, of at least `least` in brightness, and counts those that come evenly. */
+static void follow(const struct plane *grey, struct track *track, double step, double longest, int least) {
+    struct rhythm rhythm = {0};
+    bool seeks_dark = true;
+    int extreme = 255;
+    double place = 0;
+    track->darks = 0;
+    struct point at = track->from, move = scaled(track->along, step);
+    for (double way = 0; way < longest && rhythm.bad < rhythm.good + 4; way += step, at = sum(at, move)) {
+        int here = grey_at(grey, at);
+        if (seeks_dark ? here < extreme : here > extreme) {
+            extreme = here, place = way;
+        } else if (seeks_dark ? here >= extreme + least : here <= extreme - least) {
+            if (!add_turn(&rhythm, place))
+                break;
+            track->darks += seeks_dark;
+            seeks_dark = !seeks_dark, extreme = here, place = way;
+        }
+    }
+    track->score = rhythm.good - 1.3 * rhythm.bad;
+}
+
+/* The share of dark pixels beside the track, outside of the symbol. */
+static double darkness_beside(const struct plane *dark, const struct track *track, struct point outwards, double module, double whole) {
+    int count = 0;
+    enum { PLACES = 40 };
+    for (int k = 0; k < PLACES; k++)
+        count += dark_at(dark, sum(sum(track->from, scaled(outwards, 1.1 * module)), scaled(track->along, whole * (k + 0.5) / PLACES)));
+    return (double)count / PLACES;
+}
+
+/* What the tracks near one end of a solid border have in common. */
+struct start {
+    struct point end, inwards, along; /* the end; the directions back along its own border and along the other, of length 1 */
+    double whole, module;             /* pixels: the other border's length; about the width of a module */
+    int least;                        /* the least turn of brightness */
+};
+
+/* A range of tracks: where they begin, in modules from the end of the solid border, and their angles, both in steps around a middle. */
+struct fan {
+    double shift, shift_reach, shift_step, angle, angle_reach, angle_step;
+};
+
+/* Looks at the tracks of a fan, and if one is better than the best, turns the fan's middle to it. */
+static void look_around(const struct scene *scene, const struct start *start, struct fan *fan, struct track *best) {
+    struct fan from = *fan;
+    double last = from.shift + from.shift_reach + 0.01;
+    for (double s = from.shift - from.shift_reach; s <= last && !clock_reached(scene->end); s += from.shift_step)
+        for (double a = from.angle - from.angle_reach; a <= from.angle + from.angle_reach; a += from.angle_step) {
+            struct track track = {.from = sum(start->end, scaled(start->inwards, s * start->module)), .along = turned(start->along, a)};
+            follow(scene->grey, &track, fmax(start->module / 7, 0.5), 1.4 * start->whole, start->least);
+            track.score -= 0.3 * fabs(s - 0.5);
+            if (track.score <= best->score)
+                continue;
+            double beside = darkness_beside(scene->dark, &track, scaled(start->inwards, -1), start->module, start->whole);
+            track.score *= 1 - beside;
+            if (track.score > best->score)
+                *best = track, fan->shift = s, fan->angle = a;
+        }
+}
+
+static struct start start_at(struct point end, struct point back, struct point other, double module, int least) {
+    double whole = length(other);
+    return (struct start){end, scaled(back, 1 / length(back)), scaled(other, 1 / whole), whole, module, least};
+}
+
+/* The best track of the start, among those from so many modules around `shift`. */
+static struct track track_from(const struct scene *scene, const struct start *start, double shift, double reach) {
+    double fine = fmax(0.4 * start->module / start->whole, 0.003);
+    struct track best = {.score = 0.5};
+    struct fan coarse = {shift, reach, 0.25, 0, WIDEST, fine};
+    look_around(scene, start, &coarse, &best);
+    struct fan narrow = {coarse.shift, 0.2, 0.1, coarse.angle, fine, fine / 4};
+    look_around(scene, start, &narrow, &best);
+    return best;
+}
+
+/* Whether the track shows nearly two even turns for each dark module. */
+static bool is_even(const struct track *track) {
+    return track->darks > 4 && track->score > track->darks;
+}
+
+/* The tracks from both ends. If one is clear and the other isn't, that border was perhaps seen too short or too long. */
+static void find_tracks(const struct scene *scene, const struct start starts[2], struct track tracks[2]) {
+    for (int k = 0; k < 2; k++)
+        tracks[k] = track_from(scene, &starts[k], 0.75, 1.25);
+    for (int k = 0; k < 2; k++) {
+        if (!is_even(&tracks[1 - k]) || is_even(&tracks[k]))
+            continue;
+        struct track other = track_from(scene, &starts[k], 0, 5);
+        if (other.score > tracks[k].score)
+            tracks[k] = other;
+    }
+}
+
+/* ---- The size */
+
+struct fit {
+    int right, counted, solid, solid_counted;
+};
+
+/* Looks at a module of an alternating border between its two neighbours on it: it should be darker than these, or lighter. */
+static void look(const int of[3], bool is_dark, struct fit *fit) {
+    int bend = of[0] + of[2] - 2 * of[1];
+    fit->right += is_dark ? bend > 0 : bend < 0;
+    fit->counted++;
+}
+
+/* How well the outer border of a placement shows. */
+static struct fit fit_of(const struct scene *scene, const struct homography *to_picture, int side) {
+    struct fit fit = {0};
+    int top[3] = {0}, right[3] = {0};
+    for (int k = 0; k < side; k++) {
+        top[k % 3] = grey_at(scene->grey, mapped(to_picture, k + 0.5, 0.5));
+        right[k % 3] = grey_at(scene->grey, mapped(to_picture, side - 0.5, k + 0.5));
+        fit.solid += dark_at(scene->dark, mapped(to_picture, 0.5, k + 0.5)) + dark_at(scene->dark, mapped(to_picture, k + 0.5, side - 0.5));
+        fit.solid_counted += 2;
+        if (k < 2)
+            continue;
+        int along[3] = {top[(k - 2) % 3], top[(k - 1) % 3], top[k % 3]}, down[3] = {right[(k - 2) % 3], right[(k - 1) % 3], right[k % 3]};
+        look(along, k % 2 == 1, &fit);
+        look(down, k % 2 == 0, &fit);
+    }
+    return fit;
+}
+
+static void keep_best(struct placement out[MOST_PLACEMENTS], int *count, struct placement placement) {
+    int at = *count;
+    while (at > 0 && out[at - 1].score < placement.score)
+        at--;
+    if (at == MOST_PLACEMENTS)
+        return;
+    *count += *count < MOST_PLACEMENTS;
+    for (int k = *count - 1; k > at; k--)
+        out[k] = out[k - 1];
+    out[at] = placement;
+}
+
+/* Points of a symbol, and where they are in the picture, of which the fourth isn't known exactly. */
+struct frame {
+    struct point modules[4], pixels[4];
+};
+
+/* The frame of a side, with the fourth point moved by so many modules each way: the best of these. */
+static struct placement best_near(const struct scene *scene, const struct frame *frame, int side, double reach, double step) {
+    struct placement best = {.side = side, .score = 0};
+    struct point along = scaled(difference(frame->pixels[3], frame->pixels[0]), 1.0 / side);
+    struct point down = scaled(difference(frame->pixels[2], frame->pixels[3]), 1.0 / side);
+    for (double x = -reach; x <= reach; x += step)
+        for (double y = -reach; y <= reach; y += step) {
+            struct point pixels[4] = {frame->pixels[0], frame->pixels[1], frame->pixels[2]};
+            pixels[3] = sum(frame->pixels[3], sum(scaled(along, x), scaled(down, y)));
+            struct homography to_picture;
+            if (!through(frame->modules, pixels, &to_picture))
+                continue;
+            struct fit fit = fit_of(scene, &to_picture, side);
+            double track = (double)fit.right / fit.counted, solid = (double)fit.solid / fit.solid_counted;
+            double score = solid < LEAST_SOLID || track < LEAST_TRACK ? 0 : 0.75 * track + 0.25 * solid;
+            if (score > best.score)
+                best.score = score, best.to_picture = to_picture;
+        }
+    return best;
+}
+
+/* The brightness of the quiet zone beside a border less that of the border, about. */
+static int contrast_of(const struct plane *grey, struct point from, struct point to, struct point inwards) {
+    enum { PLACES = 24 };
+    int total = 0;
+    for (int k = 0; k < PLACES; k++) {
+        struct point at = sum(from, scaled(difference(to, from), (k + 0.5) / PLACES));
+        total += grey_at(grey, sum(at, scaled(inwards, -0.5))) - grey_at(grey, sum(at, scaled(inwards, 0.5)));
+    }
+    return total / PLACES;
+}
+
+int placements_of(const struct scene *scene, const struct elbow *elbow, struct placement out[MOST_PLACEMENTS]) {
+    struct point along = difference(elbow->right, elbow->corner), up = difference(elbow->top, elbow->corner), meeting;
+    double wide = length(along), high = length(up);
+    double across = fmin(module_width(scene->dark, elbow->corner, elbow->top, scaled(along, 1 / wide)), 0.1 * wide);
+    double upwards = fmin(module_width(scene->dark, elbow->corner, elbow->right, scaled(up, 1 / high)), 0.1 * high);
+    int contrast = contrast_of(scene->grey, elbow->corner, elbow->top, scaled(along, across / wide)) +
+                   contrast_of(scene->grey, elbow->corner, elbow->right, scaled(up, upwards / high));
+    int least = contrast / 2 / 7 > 4 ? contrast / 2 / 7 : 4, count = 0;
+    double module = fmin(across, upwards);
+    struct start starts[2] = {start_at(elbow->top, scaled(up, -1), along, module, least),
+                              start_at(elbow->right, scaled(along, -1), up, module, least)};
+    struct track tracks[2], *top = &tracks[0], *right = &tracks[1];
+    find_tracks(scene, starts, tracks);
+    if (top->score < 2 || right->score < 2 || !intersection(top->from, top->along, right->from, right->along, &meeting))
+        return 0;
+    int fewer = top->darks < right->darks ? top->darks : right->darks, more = top->darks + right->darks - fewer;
+    for (int k = 0; k < SIZES; k++) {
+        double side = sides()[k];
+        if (side < 0.75 * 2 * fewer || side > 1.35 * 2 * more)
+            continue;
+        struct frame frame = {{{0, 0.5}, {0, side}, {side - 0.5, side}, {side - 0.5, 0.5}}, {top->from, elbow->corner, right->from, meeting}};
+        struct placement placement = best_near(scene, &frame, (int)side, 1.0, 0.5);
+        if (placement.score > 0)
+            keep_best(out, &count, placement);
+    }
+    return count;
+}
+
+int placements_between(const struct scene *scene, const struct point corners[4], struct placement out[MOST_PLACEMENTS]) {
+    int count = 0;
+    for (int k = 0; k < SIZES; k++) {
+        double side = sides()[k];
+        struct frame frame = {{{0, 0}, {0, side}, {side, side}, {side, 0}}, {corners[0], corners[3], corners[2], corners[1]}};
+        struct placement placement = best_near(scene, &frame, (int)side, 0.5, 0.5);
+        if (placement.score > 0)
+            keep_best(out, &count, placement);
+    }
+    return count;
+}

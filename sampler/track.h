@@ -1,0 +1,29 @@
+/* From the solid borders to the whole symbol: the alternating borders opposite them, and with these the size and the fourth corner. */
+#ifndef TRACK_H
+#define TRACK_H
+
+#include "finder.h"
+#include "layout.h"
+
+/* A picture in grey, and where it is dark. */
+struct scene {
+    const struct plane *grey, *dark;
+    int64_t end;                  /* when to stop looking */
+};
+
+/* Where a symbol may be. */
+struct placement {
+    struct homography to_picture; /* from modules to pixels */
+    int side;
+    double score;                 /* the share of border modules that have the right colour */
+};
+
+enum { MOST_PLACEMENTS = 4 };
+
+/* The placements of an elbow, the likeliest first; returns their number. */
+int placements_of(const struct scene *scene, const struct elbow *elbow, struct placement out[MOST_PLACEMENTS]);
+
+/* The sizes under which four corners, as in ecc200_sample.h, fit the border best. */
+int placements_between(const struct scene *scene, const struct point corners[4], struct placement out[MOST_PLACEMENTS]);
+
+#endif
