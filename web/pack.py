@@ -1,31 +1,85 @@
 #!/usr/bin/env python3
-"""Packs the page, its styles, its script and the library into one HTML file that opens from disk: pack.py LIBRARY.wasm PAGE.html
+"""Packs the page, its styles, its modules and the library into one HTML file that opens from disk: pack.py LIBRARY.wasm PAGE.html
 
-The file fetches nothing: its policy, which the browser enforces, lets it run this one script and make no connection.
+The file fetches nothing: its policy, which the browser enforces, lets it run this one script and workers made of it, and make no connection.
+The modules of the page become one script, those of its worker another, which the page starts from its own text.
 """
 import base64
 import hashlib
 import pathlib
+import re
 import sys
 
 HERE = pathlib.Path(__file__).parent
+IDENTIFIERS = HERE.parent / "library" / "gs1" / "identifiers.txt"
 LOOKS = '<link rel="stylesheet" href="style.css">'
 SCRIPT = '<script type="module" src="page.mjs"></script>'
 CHARSET = '<meta charset="utf-8">'
+IMPORT = re.compile(r'^import (?:\{[^}]*\} from )?"\./([a-z0-9]+\.mjs)";\n', re.M)
+DECLARED = re.compile(r"^(?:export )?(?:async )?(?:const|let|function|class) "
+                      r"(?:\{([^}]*)\}|\[([^\]]*)\]|([\w$]+(?: = [^,;({\[]+(?:, [\w$]+ = [^,;({\[]+)*;)?))", re.M)
 
 
-def packed(library):
-    page, looks, script = ((HERE / name).read_text(encoding="utf-8") for name in ("index.html", "style.css", "page.mjs"))
-    assert all(page.count(line) == 1 for line in (LOOKS, SCRIPT, CHARSET)) and "</script" not in script
-    script = f"\n{script}"
+def sources():
+    """The modules by their names."""
+    return {file.name: file.read_text(encoding="utf-8") for file in sorted(HERE.glob("*.mjs"))}
+
+
+def order(modules, first):
+    """The modules that this one needs, each after those that it imports, where they don't import one another."""
+    done, under_way = [], set()
+
+    def visit(name):
+        if name in under_way:
+            return
+        under_way.add(name)
+        for other in IMPORT.findall(modules[name]):
+            visit(other)
+        done.append(name)
+
+    visit(first)
+    return done
+
+
+def declared(text):
+    """The names that a module declares at its top level."""
+    names = []
+    for listed, ordered, plain in DECLARED.findall(text):
+        if plain:
+            names += re.findall(r"([\w$]+)(?: = |$)", plain)
+        else:
+            names += [name.split(":")[-1].strip() for name in (listed or ordered).split(",")]
+    return names
+
+
+def joined(modules, first):
+    """One script of a module and all that it needs. No two may declare the same name."""
+    names, texts = {}, []
+    for name in order(modules, first):
+        for each in declared(modules[name]):
+            assert each not in names, f"{name} and {names[each]} both declare {each}"
+            names[each] = name
+        text = re.sub(r"^export ", "", IMPORT.sub("", modules[name]), flags=re.M)
+        assert "import " not in re.sub(r"//.*|await import", "", text).split("\n")[0] and "</script" not in text, name
+        texts.append(text)
+    return "\n" + "\n".join(texts)
+
+
+def packed(library, modules):
+    page, looks = ((HERE / name).read_text(encoding="utf-8") for name in ("index.html", "style.css"))
+    assert all(page.count(line) == 1 for line in (LOOKS, SCRIPT, CHARSET))
+    script = joined(modules, "page.mjs")
     own = base64.b64encode(hashlib.sha256(script.encode()).digest()).decode()
-    policy = f"default-src 'none'; script-src 'sha256-{own}' 'wasm-unsafe-eval'; style-src 'unsafe-inline'; img-src data: blob:; base-uri 'none'; form-action 'none'"
+    policy = (f"default-src 'none'; script-src 'sha256-{own}' 'wasm-unsafe-eval'; worker-src blob:; style-src 'unsafe-inline'; img-src data: blob:; "
+              "media-src blob:; base-uri 'none'; form-action 'none'")
     page = page.replace(CHARSET, f'{CHARSET}\n<meta http-equiv="Content-Security-Policy" content="{policy}">')
     page = page.replace(LOOKS, f"<style>\n{looks}</style>")
-    text = base64.b64encode(library).decode()
-    return page.replace(SCRIPT, f'<script type="text/plain" id="library">{text}</script>\n<script type="module">{script}</script>')
+    plain = {"library": base64.b64encode(library).decode(), "worker": joined(modules, "worker.mjs"),
+             "identifiers": IDENTIFIERS.read_text(encoding="utf-8")}
+    parts = [f'<script type="text/plain" id="{name}">{text}</script>' for name, text in plain.items()]
+    return page.replace(SCRIPT, "\n".join([*parts, f'<script type="module">{script}</script>']))
 
 
 if __name__ == "__main__":
     wasm, out = map(pathlib.Path, sys.argv[1:])
-    out.write_text(packed(wasm.read_bytes()), encoding="utf-8")
+    out.write_text(packed(wasm.read_bytes(), sources()), encoding="utf-8")

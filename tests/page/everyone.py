@@ -1,12 +1,12 @@
 """The page connects to nobody and serves everyone: contrast, names, narrow screens, old browsers."""
-from stage import By, count, find, on, push, run, text_of, wait_for, write
+from stage import By, count, find, media, metrics, on, push, run, text_of, usual_metrics, wait_for, write
 
 
 def one_file():
     """The page is one file: it fetches nothing, and its policy allows no connection."""
     count.expect("resources", run("return performance.getEntriesByType('resource').map((it) => it.name).filter((it) => !/^(data|blob):/.test(it))"), [])
     policy = on.page.find_element(By.CSS_SELECTOR, "meta[http-equiv=Content-Security-Policy]").get_attribute("content")
-    count.expect("policy", (policy.startswith("default-src 'none'; script-src 'sha256-"), "connect-src" in policy), (True, False))
+    count.expect("policy", (policy.startswith("default-src 'none'; script-src 'sha256-"), "connect-src" in policy, "'unsafe-inline'" in policy.split("style-src")[0]), (True, False, False))
     count.expect("no failure", find("broken").is_displayed(), False)
 
 
@@ -15,15 +15,11 @@ CONTRAST = """
     const light = (c) => { const [r, g, b] = c.map((v) => { v /= 255; return v <= 0.03928 ? v / 12.92 : ((v + 0.055) / 1.055) ** 2.4; }); return 0.2126 * r + 0.7152 * g + 0.0722 * b; };
     const low = [];
     for (const node of document.querySelectorAll("body *")) {
-        if (![...node.childNodes].some((it) => it.nodeType === 3 && it.textContent.trim()) || !node.checkVisibility() || node.closest("svg, button:disabled, .unseen, .toast, .skip, noscript, script, style")) continue;
+        if (![...node.childNodes].some((it) => it.nodeType === 3 && it.textContent.trim()) || !node.checkVisibility() || node.closest("svg, button[aria-disabled=true], .unseen, .toast, .skip, noscript, script, style")) continue;
         const [a, b] = [light(channels(getComputedStyle(node).color)), light(over(node))].sort((x, y) => y - x), ratio = (a + 0.05) / (b + 0.05);
         if (ratio < 4.5) low.push(`${node.tagName} ${node.className} ${node.id} ${ratio.toFixed(2)}`);
     }
     return [...new Set(low)];"""
-
-
-def media(**features):
-    on.page.execute_cdp_cmd("Emulation.setEmulatedMedia", {"features": [{"name": name.replace("_", "-"), "value": value} for name, value in features.items()]})
 
 
 def to_be_seen_by_all():
@@ -40,13 +36,16 @@ def to_be_seen_by_all():
     roles = {"button", "textbox", "spinbutton", "radio", "tab", "tabpanel", "listbox", "application", "region", "heading"}
     nameless = [node["role"]["value"] for node in tree if not node.get("ignored") and node.get("role", {}).get("value") in roles and not node.get("name", {}).get("value")]
     count.expect("each control has a name", nameless, [])
+    write("0" * 1632)  # the largest numbers
     for width in (320, 390, 768):
-        on.page.execute_cdp_cmd("Emulation.setDeviceMetricsOverride", {"width": width, "height": 800, "deviceScaleFactor": 2, "mobile": True})
+        metrics(width, 800, mobile=True, scale=2)
         for pane in ("tab-write", "tab-read"):
             push(pane)
             count.expect(f"width {width}, {pane}", run("return document.documentElement.scrollWidth <= innerWidth"), True)
         push("tab-write")
-    on.page.execute_cdp_cmd("Emulation.clearDeviceMetricsOverride", {})
+        too_wide = run("return [...document.querySelectorAll('#facts dt, #facts dd')].filter((it) => it.scrollWidth > it.clientWidth).map((it) => it.textContent)")
+        count.expect(f"width {width}: each fact has its place", too_wide, [])
+    usual_metrics()
 
 
 def old_browser():
@@ -55,7 +54,7 @@ def old_browser():
     on.page.refresh()
     said = wait_for(lambda: text_of("broken"))
     count.expect("old browser", said, "This browser can’t run the library, which is built for WebAssembly with 64-bit memory. Recent versions of Chrome, Edge and Firefox have it.")
-    count.expect("old browser: nothing else", [it.is_displayed() for it in on.page.find_elements(By.CSS_SELECTOR, "main > section, main > .bench")], [False] * 3)
+    count.expect("old browser: nothing else", [it.is_displayed() for it in on.page.find_elements(By.CSS_SELECTOR, "main > section, main > .bench, main > details")], [False] * 5)
     on.page.execute_cdp_cmd("Page.removeScriptToEvaluateOnNewDocument", script)
     on.page.refresh()
     wait_for(lambda: run("return 'mitsubadoor' in globalThis"))

@@ -3,10 +3,9 @@ import random
 import shutil
 import struct
 import subprocess
-import time
 import zlib
 
-from stage import Keys, agree, count, find, grid, on, push, put, run, shown, text_of, turned, wait_for, write, written
+from stage import Keys, agree, count, find, grid, on, push, put, run, settle, shown, text_of, turned, usable, wait_for, write, written
 
 
 def png(rows, scale, around, light=255, dark=0):
@@ -14,8 +13,26 @@ def png(rows, scale, around, light=255, dark=0):
     side = len(rows) + 2 * around
     blank = [bytes([light]) * (side * scale)] * (around * scale)
     lines = blank + [b"".join(bytes([dark if module == "1" else light]) * scale for module in "0" * around + row + "0" * around) for row in rows for _ in range(scale)] + blank
+    return chunks(side * scale, side * scale, b"".join(b"\0" + line for line in lines))
+
+
+def chunks(width, height, lines):
+    """The file of a grey picture, of lines with a zero in front of each."""
     chunk = lambda kind, body: struct.pack(">I", len(body)) + kind + body + struct.pack(">I", zlib.crc32(kind + body))
-    return b"\x89PNG\r\n\x1a\n" + chunk(b"IHDR", struct.pack(">IIBBBBB", side * scale, side * scale, 8, 0, 0, 0, 0)) + chunk(b"IDAT", zlib.compress(b"".join(b"\0" + line for line in lines))) + chunk(b"IEND", b"")
+    return b"\x89PNG\r\n\x1a\n" + chunk(b"IHDR", struct.pack(">IIBBBBB", width, height, 8, 0, 0, 0, 0)) + chunk(b"IDAT", zlib.compress(lines, 1)) + chunk(b"IEND", b"")
+
+
+def specked(rows, others, scale):
+    """The picture of a grid in which the pixels that are looked at for another side show another grid: both sides fit it about equally well."""
+    width, side = len(rows) * scale, len(others)
+    pixels = [[row[x // scale] for x in range(width)] for row in rows for _ in range(scale)]
+    looked_at = [[int((k + (0.2 + 0.6 * (look + 0.5) / 5)) * (width / side)) for look in range(5)] for k in range(side)]
+    for row, lines in zip(others, looked_at):
+        for module, columns in zip(row, looked_at):
+            for y in lines:
+                for x in columns:
+                    pixels[y][x] = module
+    return png(["".join(row) for row in pixels], 1, 8)
 
 
 def opened(name, body):
@@ -24,7 +41,9 @@ def opened(name, body):
     file.write_bytes(body)
     run("document.getElementById('picture-hint').textContent = ''")
     find("picture").send_keys(str(file))
-    return wait_for(lambda: text_of("picture-hint"))
+    wait_for(lambda: text_of("picture-hint"))
+    settle()
+    return text_of("picture-hint")
 
 
 def pictures():
@@ -43,14 +62,22 @@ def pictures():
         how = ", and ".join(filter(None, [inverted and "inverted, light for dark", mirrored and "mirrored left to right", ["", "turned a quarter to the right", "turned upside down", "turned a quarter to the left"][quarters]]))
         side = text.index("\n")
         count.expect(f"picture {name}: said", said, f"{name}: side {side}. " + (f"The symbol is {how}: found by trying, and shown upright." if how else "Read as it stands."))
-    spoilt = "\n".join(["0" * 10, *written("123456").split("\n")[1:-1], "0" * 10])
-    said = opened("i.png", png(["1" + row[1:] for row in spoilt.split("\n")], 8, 3))
-    count.expect("a picture that isn't read has the largest modules that fit", (said.split(".")[1].split(":")[1], said.split(". ")[1]), (" side 10", "It can’t be read as it stands, nor turned, mirrored or inverted"))
+    rows = written("123456").split("\n")
+    said = opened("specked.png", specked(rows, written("12345678").split("\n"), 47))
+    count.expect("of two sides that fit about equally well the smaller is taken", (shown()["says"], said), ("123456", "specked.png: side 10. Read as it stands."))
+    spoilt = [rows[0], *(row[0] + row[1:9].translate(str.maketrans("01", "10")) + row[9] for row in rows[1:5]), *rows[5:]]
+    said = opened("i.png", png(spoilt, 8, 3))
+    count.expect("a symbol that isn't read is shown as it stands", (said, shown()["state"]),
+                 ("i.png: side 10. It can’t be read as it stands, nor turned, mirrored or inverted. It is shown as it stands.", "Refused"))
     before = grid()
     noise = ["".join(random.choice("01") for _ in range(23)) for _ in range(23)]
-    count.expect("noise", opened("noise.png", png(noise, 5, 2)).split(".")[0], "No symbol of equal squares was found")
-    count.expect("one colour", opened("white.png", png(["0" * 10] * 10, 2, 2)), "The picture has only one colour.")
-    count.expect("no picture", opened("text.png", b"no picture"), "The file can’t be opened as a picture.")
+    no_symbol = "No symbol that can be read was found in the picture."
+    whole = png(rows, 8, 3)
+    for name, body, why in (("noise.png", png(noise, 5, 2), no_symbol), ("white.png", png(["0" * 10] * 10, 2, 2), "The picture has only one colour."),
+                            ("square.png", png(["1" * 10] * 10, 8, 3), no_symbol), ("text.png", b"no picture", "The file can’t be opened as a picture."),
+                            ("half.png", whole[: len(whole) // 2], "The file is cut off: the end of the picture is missing.")):
+        count.expect(f"{name} is no symbol", opened(name, body), f"{name}: {why}")
+        count.expect(f"{name}: no verdict of the one before", (shown()["state"], shown()["says"], usable("save-png")), ("Nothing is read", "", False))
     count.expect("what isn't opened changes nothing", grid(), before)
     push("tab-write")
 
@@ -63,8 +90,7 @@ def saved():
     for file in (svg, picture):
         file.unlink(missing_ok=True)
     push("save-svg", "save-png")
-    wait_for(lambda: svg.exists() and picture.exists())
-    time.sleep(0.2)
+    wait_for(lambda: svg.exists() and svg.read_bytes().endswith(b"</svg>\n") and picture.exists() and picture.read_bytes()[-8:-4] == b"IEND")
     text = svg.read_text()
     count.expect("SVG", text.startswith('<svg xmlns="http://www.w3.org/2000/svg" width="5.6mm" height="5.6mm" viewBox="-2 -2 14 14"'), True)
     body = picture.read_bytes()
@@ -77,14 +103,14 @@ def saved():
     for name, file in (("SVG", svg), ("PNG", picture)):
         count.expect(f"{name} opened again", (opened(f"again{file.suffix}", file.read_bytes()), grid()), (f"again{file.suffix}: side 10. Read as it stands.", written("123456")))
     if shutil.which("dmtxread"):
-        out = subprocess.run(["dmtxread", "-n", str(picture)], stdout=subprocess.PIPE, timeout=60, check=False).stdout.decode()
+        out = subprocess.run(["dmtxread", "-n", str(picture)], stdout=subprocess.PIPE, timeout=300, check=False).stdout.decode()
         count.expect("PNG by dmtxread", out.strip(), "123456")
     else:
         print("left out: the saved picture read by another reader, since dmtxread isn't installed")
     put("millimetres", "0.5")
     write("Mitsubadoor")
     find("copy").click()
-    count.expect("copied", wait_for(lambda: text_of("toast")), "Copied: a line for each row")
+    count.expect("copied", wait_for(lambda: text_of("toast")), "Copied: the symbol, a line for each row")
     push("tab-read")
     find("grid").send_keys(Keys.CONTROL, "a", Keys.NULL, Keys.DELETE)
     find("grid").send_keys(Keys.CONTROL, "v", Keys.NULL)

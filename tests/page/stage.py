@@ -12,10 +12,11 @@ try:
     from selenium.webdriver.common.action_chains import ActionChains
     from selenium.webdriver.common.by import By
     from selenium.webdriver.common.keys import Keys
+    from selenium.webdriver.remote.remote_connection import RemoteConnection
 except ImportError:
     if os.path.realpath(sys.executable) != os.path.realpath(DEBIANS) and os.path.exists(DEBIANS):
         os.execv(DEBIANS, [DEBIANS, *sys.argv])  # Debian's packages are seen by Debian's interpreter alone
-    webdriver = ActionChains = By = Keys = Service = None
+    webdriver = ActionChains = By = Keys = RemoteConnection = Service = None
 
 QUIET = 2
 LEFT_OUT = {"structured append": 233, "reader programming": 234, "macro 05": 236, "macro 06": 237, "EDIFACT": 240, "an ECI": 241}
@@ -23,14 +24,14 @@ LEFT_OUT = {"structured append": 233, "reader programming": 234, "macro 05": 236
 # What the page shows, as plain text: the verdict, the meters and the facts.
 SHOWN = """
     const text = (id) => document.getElementById(id).textContent, meters = [...document.querySelectorAll("#meters .meter")];
-    return { state: text("state"), says: text("says"), why: text("why"), side: parseInt(document.querySelector("#facts dd").textContent),
-             meters: meters.map((meter) => meter.querySelector(".count").textContent) };"""
+    return { state: text("state"), says: text("says"), why: text("why"), side: parseInt(document.querySelector("#facts dd")?.textContent),
+             meters: meters.map((meter) => meter.querySelector(".count").textContent.replace(/ (can be corrected|accepted)$/, "")) };"""
 
 
 class On:
     """What the tests run on."""
 
-    program = page = folder = shots = None
+    program = page = folder = shots = part = None
 
 
 on = On()
@@ -51,7 +52,12 @@ class Count:
         self.failed += 1
         if self.stops:
             raise Failed(name)
-        print(f"{name}: {str(got)[:600]!r}, and not {str(wanted)[:600]!r}")
+        print(f"{name}: {str(got)[:600]!r}, and not {str(wanted)[:600]!r}", flush=True)
+
+    def expect_soon(self, name, what, wanted):
+        """As `expect`, of what takes its time."""
+        wait_for(lambda: what() == wanted)
+        self.expect(name, what(), wanted)
 
 
 count = Count()
@@ -73,6 +79,11 @@ def refused(line):
     return " ".join([words[1], *([words[3]] if words[1] in ("5", "6") else words[3:])])
 
 
+def is_wide(answer):
+    """Whether the program leaves a grid out that the page reads: the page reads the wide extent, with EDIFACT and macros."""
+    return re.match(r"refused 8 (236 1|237 1|240 \d+)$", answer[0]) is not None
+
+
 def told(grids):
     """What the program's `read` and `check` answer to grids: message and counts, or the refusal."""
     reads, checks = (ran(task, "\n".join(grid.rstrip("\n") + "\n" for grid in grids)).splitlines() for task in ("read", "check"))
@@ -83,7 +94,7 @@ def told(grids):
 
 def as_program(shown):
     """What the page shows, in the program's words: message and counts, or the refusal. Its parts have to agree."""
-    bounds = [line.split(" of at most ") for line in shown["meters"]]
+    bounds = [line.split(" wrong, ") for line in shown["meters"]]
     beyond = [b for b, line in enumerate(shown["meters"][:-1]) if line.startswith("more than ")]
     if shown["state"] != "Refused":
         assert not beyond, shown
@@ -137,19 +148,30 @@ def shown():
     return run(SHOWN)
 
 
+def settle():
+    """Waits until the page's workers have answered all that they were asked."""
+    on.page.execute_async_script("mitsubadoor.idle().then(() => arguments[0]())")
+
+
 def put(name, text):
     """Gives a field a value as typing does, but all at once."""
     run("const n = document.getElementById(arguments[0]); n.value = arguments[1]; n.dispatchEvent(new Event('input', { bubbles: true }))", name, text)
+    settle()
 
 
 def push(*names):
     for name in names:
         run("document.getElementById(arguments[0]).click()", name)
+        settle()
 
 
 def write(message, profile=0):
     push("tab-write", f"profile-{profile}")
     put("message", message)
+
+
+def usable(name):
+    return find(name).get_attribute("aria-disabled") != "true"
 
 
 def grid():
@@ -180,8 +202,38 @@ def turned(text, quarters, mirrored, inverted):
 
 def offset(cell, side):
     """Where a module lies from the middle of the symbol, in pixels."""
-    scale = find("symbol").rect["width"] / (side + 2 * QUIET)
-    return [round((at + QUIET + 0.5) * scale - find("symbol").rect["width"] / 2) for at in (cell % side, cell // side)]
+    width = find("symbol").rect["width"]
+    scale = width / (side + 2 * QUIET)
+    return [round((at + QUIET + 0.5) * scale - width / 2) for at in (cell % side, cell // side)]
+
+
+def metrics(width, height, mobile=False, scale=1):
+    """Makes the window of this size, or a phone's."""
+    on.page.execute_cdp_cmd("Emulation.setDeviceMetricsOverride", {"width": width, "height": height, "deviceScaleFactor": scale, "mobile": mobile})
+    wait_for(lambda: run("return innerWidth === arguments[0] && innerHeight === arguments[1]", width, height), seconds=5)
+
+
+def usual_metrics():
+    on.page.execute_cdp_cmd("Emulation.clearDeviceMetricsOverride", {})
+
+
+def media(**features):
+    """Emulates media features, such as prefers_color_scheme="dark"."""
+    named = {name.replace("_", "-"): value for name, value in features.items()}
+    on.page.execute_cdp_cmd("Emulation.setEmulatedMedia", {"features": [{"name": name, "value": value} for name, value in named.items()]})
+    wait_for(lambda: run("return Object.entries(arguments[0]).every(([name, value]) => matchMedia(`(${name}: ${value})`).matches)", named))
+
+
+def to_top():
+    """Scrolls to the top of the page, where it stays: what a swipe has set going has come to rest."""
+    on.page.execute_async_script("""
+        const [done] = arguments;
+        let frames = 0;
+        const look = () => {
+            if (scrollY) { scrollTo(0, 0); frames = 0; } else frames++;
+            if (frames > 10) done(); else requestAnimationFrame(look);
+        };
+        look();""")
 
 
 def acting():
@@ -191,10 +243,16 @@ def acting():
 def click(*cells, side=10):
     for cell in cells:
         acting().move_to_element_with_offset(find("symbol"), *offset(cell, side)).click().perform()
+        settle()
 
 
-def wait_for(what):
-    for _ in range(100):
+LONGEST, LONGEST_OF_BUGS = 60, 20  # seconds that a thing may take to come, on however busy a machine; and where bugs are planted
+
+
+def wait_for(what, seconds=None):
+    """Waits until something is so, and returns it; what it is at the end, if it doesn't come."""
+    end = time.monotonic() + (seconds or (LONGEST_OF_BUGS if count.stops else LONGEST))
+    while time.monotonic() < end:
         got = what()
         if got:
             return got
@@ -212,7 +270,7 @@ def drawn(side):
             const { naturalWidth: width, naturalHeight: height } = image, pen = Object.assign(document.createElement("canvas"), { width, height }).getContext("2d");
             pen.drawImage(image, 0, 0);
             const { data } = pen.getImageData(0, 0, width, height), rows = [];
-            const at = (line) => Math.min(width - 2, Math.max(1, Math.floor(1 + ((line + 0.12) * (width - 2)) / all)));
+            const at = (line) => Math.min(width - 1, Math.floor(((line + 0.12) * width) / all));
             for (let r = 0; r < all; r++) {
                 let row = "";
                 for (let c = 0; c < all; c++) { const p = 4 * (at(r) * width + at(c)); row += data[p] + data[p + 1] + data[p + 2] < 384 ? 1 : 0; }
@@ -228,7 +286,7 @@ def drawn(side):
 def coloured():
     """The colours in the symbol other than dark and light, and what is marked: turned over, or wrong from the start."""
     return run("""
-        const fills = [...document.querySelectorAll("#symbol > path")].map((path) => path.getAttribute("fill")).filter((fill) => fill !== "none" && fill !== "#14181f");
+        const fills = [...document.querySelectorAll("#symbol > path")].map((path) => path.getAttribute("fill")).filter((fill) => fill !== "none" && fill !== "#14181f" && fill !== "url(#hatch)");
         return [...fills, ...["turned", "wrong"].filter((it) => document.querySelector(`#symbol .${it}`))];""")
 
 

@@ -1,11 +1,14 @@
 """Messages, profiles, grids as text, marks of other encoders, and two symbols compared."""
 import pathlib
 
-from stage import By, Keys, agree, as_program, count, find, grid, on, push, put, run, shown, text_of, told, turned, write, written
+from pictures import png
+from stage import By, Keys, agree, as_program, count, find, grid, is_wide, on, push, put, run, settle, shown, text_of, told, turned, write, written
 
 HERE = pathlib.Path(__file__).resolve().parent
 # The marks of other encoders, and three that dmtxwrite made (-e c, t and x): characters of each shift set, with and without an Upper Shift.
 MARKS = (HERE.parent / "marks" / "grids.txt", HERE / "shifts.txt")
+# Marks in EDIFACT and with macros, and how they were made: encoder, side, message, and perhaps what the encoder wrote instead, with tabs between.
+WIDE_GRIDS, WIDE_MADE = HERE.parent / "marks" / "wide_grids.txt", HERE.parent / "marks" / "wide_made.txt"
 
 
 def spellings():
@@ -28,6 +31,7 @@ def spellings():
             buttons = {button.text: button for button in find("message-hint").find_elements(By.TAG_NAME, "button")}
             count.expect(f"ways to spell {text!r}", sorted(buttons), sorted(f"Spell it {each}" for each in spelt))
             buttons[f"Spell it {way}"].click()
+            settle()
             count.expect(f"{text!r} {way}", find("message").get_attribute("value"), wanted)
     write("A" * 10)
     find("message").send_keys(Keys.ENTER)
@@ -61,8 +65,9 @@ def pasted():
     push("example-turned")
     count.expect("turned and inverted", (find("grid-hint").text, shown()["says"]), ("The grid is inverted, light for dark, and turned a quarter to the right: found by trying, and shown upright.", "Every answer is proved."))
     push("example-edifact")
-    count.expect("EDIFACT", shown()["why"], "Data codeword 1 begins EDIFACT, an encodation that isn’t read here.")
-    agree("EDIFACT")
+    count.expect("EDIFACT", (shown()["state"], shown()["says"]), ("Read", "GOODS"))
+    briefs = run("return mitsubadoor.mark.seen.told.map((it) => it.brief)")
+    count.expect("codewords of EDIFACT", briefs, ["EDI", "GOOD", "↲", "↲", "S"])
     for text, why in [("10\n1x0", "Row 1 has a character other than #, X, . and space."), ("10\n12", "Row 2 has a character other than 0 and 1."), ("111\n11", "Not a square: there are 2 rows, and row 1 has 3 modules."),
                       ("1\n0\n1", "Not a square: there are 3 rows, and row 1 has 1 module."), ("11\n11", "A square of side 2, but no size has this side."),
                       ("1" * 105, "More than 104 rows or columns: symbols as large as that aren’t read here."), ("1\n" * 105, "More than 104 rows or columns: symbols as large as that aren’t read here.")]:
@@ -85,7 +90,7 @@ def pasted():
     count.expect("a wrong module that wasn't turned here has a dot", [len(on.page.find_elements(By.CSS_SELECTOR, f"#symbol .{it}")) for it in ("wrong", "turned")], [1, 0])
     push("to-limit")
     agree("pasted, to the limit")
-    count.expect("pasted, to the limit: meters", shown()["meters"][0], "7 of at most 7" if len(clean.split("\n")) == 18 else "6 of at most 6")
+    count.expect("pasted, to the limit: meters", shown()["meters"][0], "7 wrong, 7" if len(clean.split("\n")) == 18 else "6 wrong, 6")
     push("undo")
     count.expect("pasted, undone", grid(), spoilt)
     quarter = ["", "turned a quarter to the right", "turned upside down", "turned a quarter to the left"]
@@ -105,13 +110,26 @@ def other_encoders():
     """The marks of other encoders: what is shown, and what each of their codewords stands for."""
     grids = [record.rstrip("\n") + "\n" for file in MARKS for record in file.read_text().split("\n\n") if record.strip()]
     push("tab-read")
-    for text, answer in zip(grids, told(grids)):
+    answers = told(grids)
+    for text, answer in [(text, answer) for text, answer in zip(grids, answers) if not is_wide(answer)]:
         put("grid", text)
         name = f"mark of another encoder, {answer[0][:20]}"
         count.expect(name, as_program(shown()), answer)
         if shown()["state"] != "Refused":
             count.expect(f"{name}: its codewords", run("return mitsubadoor.spelled(mitsubadoor.mark.seen.told.flatMap((it) => it.items))"), answer[0])
             count.expect(f"{name}: one for each", run("const { told, size } = mitsubadoor.mark.seen; return told.length === size.data"), True)
+    wide_marks()
+
+
+def wide_marks():
+    """Marks in EDIFACT and with macros: what is read is what was written, and so is what their codewords stand for."""
+    grids = [record for record in WIDE_GRIDS.read_text().split("\n\n") if record.strip()]
+    messages = [line.split("\t")[-1] for line in WIDE_MADE.read_text().splitlines() if line and not line.startswith("#")]
+    count.expect("a message for each mark", len(messages), len(grids))
+    for text, message in zip(grids, messages):
+        put("grid", text)
+        stands = run("return mitsubadoor.spelled(mitsubadoor.mark.seen.told.flatMap((it) => it.items))")
+        count.expect(f"wide mark {message[:20]}", (shown()["state"].split(",")[0], shown()["says"], stands), ("Read", message, message))
 
 
 def compared():
@@ -119,13 +137,24 @@ def compared():
     count.expect("same", head(), ["Yes, they say the same.", "Their modules differ, but both have this one normal symbol:"])
     count.expect("one normal symbol", len(find("same").find_elements(By.TAG_NAME, "svg")), 1)
     area = lambda slot: find(f"slot-{slot}").find_element(By.TAG_NAME, "textarea")
-    fill = lambda slot, text: run("arguments[0].value = arguments[1]; arguments[0].dispatchEvent(new Event('input'))", area(slot), text)
-    take = lambda slot: run("arguments[0].click()", find(f"slot-{slot}").find_element(By.TAG_NAME, "button"))
+
+    def fill(slot, text):
+        run("arguments[0].value = arguments[1]; arguments[0].dispatchEvent(new Event('input'))", area(slot), text)
+        settle()
+
+    def take(slot):
+        run("arguments[0].click()", find(f"slot-{slot}").find_element(By.TAG_NAME, "button"))
+        settle()
+
     write("another")
     take("a")
     count.expect("different", (head(), len(find("same").find_elements(By.TAG_NAME, "svg"))), (["No, they say different things.", "Their normal symbols differ:"], 2))
-    fill("b", "1" * 10)
+    fill("b", "1" * 10 + "\n" + "0" * 9)
     count.expect("no grid", head(), ["No answer", "Symbol B isn’t a grid."])
+    fill("b", "another")
+    count.expect("a message", head(), ["Yes, they say the same.", "Both have this one normal symbol:"])
+    fill("b", "caf\u00e9")
+    count.expect("no message", (head(), "Column 4 is \u00e9" in find("slot-b").text), (["No answer", "Symbol B can’t be taken."], True))
     take("b")
     count.expect("alike", head(), ["Yes, they say the same.", "Both have this one normal symbol:"])
     fill("b", turned(written("another"), 1, False, True))
@@ -149,3 +178,10 @@ def compared():
     take("b")
     if shown()["state"] == "Refused":
         count.expect("refused", head(), ["No answer", "Symbol B isn’t read."])
+    picture = on.folder / "compared.png"
+    picture.write_bytes(png(written("another").split("\n"), 4, 2))
+    fill("a", "another")
+    find("picture-B").send_keys(str(picture))
+    settle()
+    count.expect("a picture", head(), ["Yes, they say the same.", "Both have this one normal symbol:"])
+    count.expect("large enough to see", find("slot-b").find_element(By.TAG_NAME, "svg").rect["width"] >= 200, True)

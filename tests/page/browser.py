@@ -1,0 +1,75 @@
+"""The browser of the page's test: started, lost and started again, and ended with every process that it has left."""
+import os
+import pathlib
+import shutil
+import signal
+
+from stage import RemoteConnection, Service, on, webdriver
+
+PATIENCE = 900  # seconds in which each command to the browser has to be answered
+WORDS = ("--headless=new", "--no-sandbox", "--disable-gpu", "--disable-dev-shm-usage", "--hide-scrollbars", "--window-size=1240,1500")
+started = []  # the drivers, of which each leads a session of processes
+
+
+def options_of(folder):
+    options = webdriver.ChromeOptions()
+    for word in (*WORDS, f"--user-data-dir={folder}"):
+        options.add_argument(word)
+    options.add_experimental_option("prefs", {"download.default_directory": str(on.folder), "profile.default_content_setting_values.automatic_downloads": 1,
+                                              "profile.content_settings.exceptions.clipboard": {"*": {"setting": 1}}})
+    options.set_capability("goog:loggingPrefs", {"browser": "ALL"})
+    return options
+
+
+def opened():
+    """A new browser, with a profile of its own."""
+    RemoteConnection.set_timeout(PATIENCE)
+    service = Service(shutil.which("chromedriver"), popen_kw={"start_new_session": True})
+    started.append(service)
+    browser = webdriver.Chrome(service=service, options=options_of(on.folder / f"profile-{len(started)}"))
+    browser.set_script_timeout(PATIENCE)
+    return browser
+
+
+def start():
+    """Starts the browser. On a busy machine it may not come at once: then it is tried once more."""
+    try:
+        on.page = opened()
+    except Exception as fault:
+        print(f"the browser didn't start, and is started once more: {first_line(fault)}", flush=True)
+        end()
+        on.page = opened()
+
+
+def start_again(part, fault):
+    print(f"the browser was lost in {part}, and is started again: {first_line(fault)}", flush=True)
+    end()
+    on.page = opened()
+
+
+def is_lost():
+    """Whether the browser doesn't answer any more, or has closed its page."""
+    try:
+        return on.page.execute_script("return 1") != 1
+    except Exception:
+        return True
+
+
+def first_line(fault):
+    return f"{type(fault).__name__}: {str(fault).splitlines()[0] if str(fault) else 'nothing more is known'}"
+
+
+def end():
+    """Ends the browser. What a lost driver has left is ended by its number: all processes of the session that the driver leads."""
+    try:
+        on.page.quit()
+    except Exception:
+        pass
+    on.page = None
+    leaders = {service.process.pid for service in started if getattr(service, "process", None)}
+    for stat in pathlib.Path("/proc").glob("[0-9]*/stat"):
+        try:
+            if int(stat.read_text().rpartition(")")[2].split()[3]) in leaders:
+                os.kill(int(stat.parent.name), signal.SIGKILL)
+        except (OSError, ValueError):
+            pass  # it has ended meanwhile

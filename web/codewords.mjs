@@ -1,0 +1,112 @@
+// What each data codeword stands for, in each of the encodations that are read.
+import { FNC1, plural } from "./common.mjs";
+import { isPlain, spelledItem } from "./messages.mjs";
+
+const LATCHES = { 230: "C40", 231: "Base 256", 238: "X12", 239: "Text", 240: "EDIFACT" };
+const MACROS = { 236: "05", 237: "06" };
+const TRAILER = [30, 4]; // RS and EOT, at the end of a macro's message
+const SHIFTS = ["Shift 1", "Shift 2", "Shift 3"];
+const PAD = 129, UPPER_SHIFT = 235, UNLATCH = 254, EDIFACT_UNLATCH = 31;
+
+function character(item) {
+  if (item === 32) return "a space";
+  return isPlain(item) || item === 92 ? `the character ${String.fromCharCode(item)}` : `the byte ${item}`;
+}
+const shown = (items) => items.map((item) => (item === 32 ? "␣" : spelledItem(item))).join("");
+const macroFront = (number) => [...Array.from("[)>", (c) => c.charCodeAt(0)), 30, ...Array.from(number, (c) => c.charCodeAt(0)), 29];
+
+// A list of { items, text, brief } for codewords that spell a message.
+export function meanings(data) {
+  const told = [], reading = { data, told, say: (text, brief = "", items = []) => told.push({ text, brief, items }) };
+  const macro = MACROS[data[0]];
+  const aboutMacro = `macro ${macro}: the characters [)> RS ${macro} GS in front of the message, and RS EOT after it`;
+  if (macro) reading.say(aboutMacro, `M${macro}`, macroFront(macro));
+  while (told.length < data.length && data[told.length] !== PAD) sayOne(reading);
+  if (macro) {
+    const last = told[told.length - 1];
+    Object.assign(last, { items: [...last.items, ...TRAILER], text: `${last.text}; RS EOT of the macro ${told.length > 1 ? "follow" : "end it"}` });
+  }
+  if (told.length < data.length) reading.say("the end of the message, and the first pad", "end");
+  while (told.length < data.length) reading.say("a pad, which fills up the symbol", "pad");
+  return told;
+}
+
+// One codeword in ASCII, or a latch and its whole run.
+function sayOne(reading) {
+  const { data, told, say } = reading, value = data[told.length];
+  if (value >= 1 && value <= 128) say(character(value - 1), shown([value - 1]), [value - 1]);
+  else if (value >= 130 && value <= 229) {
+    const digits = String(value - 130).padStart(2, "0");
+    say(`the digits ${digits}`, digits, [...digits].map((c) => c.charCodeAt(0)));
+  } else if (value === 232) say("FNC1", "\\F", [FNC1]);
+  else if (value === UPPER_SHIFT) {
+    say("an Upper Shift: 128 more for the next", "+128");
+    const item = data[told.length] + 127;
+    if (told.length < data.length) say(`the byte ${item}, with the 128 of the Upper Shift`, shown([item]), [item]);
+  } else if (LATCHES[value]) {
+    say(`a latch to ${LATCHES[value]}`, { 231: "256", 240: "EDI" }[value] ?? LATCHES[value]);
+    if (value === 231) sayBytes(reading);
+    else if (value === 240) sayGroups(reading);
+    else sayTriplets(LATCHES[value], reading);
+  } else say("nothing that is read here");
+}
+
+// A Base 256 segment: a length of one or two codewords, then bytes; a number that depends on the place is added to each.
+function sayBytes({ data, told, say }) {
+  const plain = (at) => (data[at] - (((149 * (at + 1)) % 255) + 1) + 256) % 256, most = () => data.length - told.length;
+  let length = plain(told.length);
+  if (length < 250) say(length ? `the length, ${plural(length, "byte", "bytes")}` : "the length: to the end of the symbol", String(length));
+  else {
+    length = 250 * (length - 249) + plain(told.length + 1);
+    say(`the length, ${length} bytes, together with the next`, String(length));
+    say(`the length, ${length} bytes, together with the one before`, "↲");
+  }
+  for (let left = length ? Math.min(length, most()) : most(); left; left--) {
+    const item = plain(told.length);
+    say(item >= 32 && item <= 126 ? `the byte ${item}, ${character(item)}` : `the byte ${item}`, shown([item]), [item]);
+  }
+}
+
+const edifactItem = (value) => (value < 32 ? value + 64 : value);
+
+// EDIFACT: groups of three codewords with four values of six bits, up to an unlatch, or until no more than two codewords are left.
+function sayGroups({ data, told, say }) {
+  while (data.length - told.length > 2) {
+    const [a, b, c] = data.subarray(told.length, told.length + 3), values = [a >> 2, ((a & 3) << 4) | (b >> 4), ((b & 15) << 2) | (c >> 6), c & 63];
+    const end = values.indexOf(EDIFACT_UNLATCH), read = end < 0 ? values : values.slice(0, end + 1);
+    const items = read.filter((value) => value !== EDIFACT_UNLATCH).map(edifactItem);
+    const names = read.map((value) => (value === EDIFACT_UNLATCH ? "an unlatch, back to ASCII" : shown([edifactItem(value)]))).join(", ");
+    const count = end < 0 ? 3 : Math.min(end + 1, 3), what = `the EDIFACT ${read.length === 1 ? "value" : "values"} ${read.join(", ")}`;
+    say(`${what}${count > 1 ? `, together with the next${count > 2 ? " two" : ""}` : ""}: ${names}`, shown(items) || "ASC", items);
+    for (let k = 1; k < count; k++) say(`${what}, together with ${count > 2 ? "its two neighbours" : "the one before"}: ${names}`, "↲");
+    if (end >= 0) return;
+  }
+}
+
+// Pairs of C40, Text or X12, each of three values, up to an unlatch or until no pair is left.
+function sayTriplets(mode, { data, told, say }) {
+  let shift = 0, upper = 0;
+  const valueOf = (value) => { // [what it is called, its items]
+    const set = shift;
+    shift = 0;
+    if (mode !== "X12" && !set && value < 3) { shift = value + 1; return [SHIFTS[value], []]; }
+    if (set === 2 && value === 30) { upper = 128; return ["Upper Shift", []]; }
+    const item = set === 2 && value === 27 ? FNC1 : characterOf(mode, set, value) + upper;
+    upper = 0;
+    return [shown([item]), [item]];
+  };
+  while (data.length - told.length >= 2 && data[told.length] !== UNLATCH) {
+    const pair = data[told.length] * 256 + data[told.length + 1] - 1, values = [Math.floor(pair / 1600), Math.floor(pair / 40) % 40, pair % 40];
+    const parts = values.map(valueOf), names = parts.map(([name]) => name).join(", "), items = parts.flatMap(([, some]) => some);
+    say(`the ${mode} values ${values.join(", ")}, together with the next: ${names}`, shown(items), items);
+    say(`the ${mode} values ${values.join(", ")}, together with the one before: ${names}`, "↲");
+  }
+  if (data[told.length] === UNLATCH) say("an unlatch, back to ASCII", "ASC");
+}
+function characterOf(mode, set, value) {
+  if (mode === "X12" && value < 4) return [13, 42, 62, 32][value];
+  if (set === 1) return value;
+  if (set === 2) return value + (value < 15 ? 33 : value < 22 ? 43 : 69);
+  if (set === 3) return mode === "C40" || value === 0 || value > 26 ? value + 96 : value + 64;
+  return value === 3 ? 32 : value < 14 ? value + 44 : value + (mode === "Text" ? 83 : 51);
+}

@@ -1,0 +1,11 @@
+// What both the page and its worker know: numbers of the library's interface, and small helpers.
+
+export const ABI = 2, FNC1 = 256, BEYOND = 255, MOST_SIDE = 104, MOST_ITEMS = 1639, SIZE_COUNT = 21;
+export const USUAL = 0, WIDE = 1, ASCII = 0, SHORTER = 1;
+export const BORDER_FAULT = 5, BLOCK_FAULT = 6, TOO_LONG = 14;
+export const BIT = 1, BORDER_LIGHT = 2, BORDER_DARK = 3;
+export const MOST_TEXT = 20000; // characters of a message, or of a grid: the longest of either has fewer
+
+export const plural = (count, one, many) => `${count.toLocaleString("en")} ${count === 1 ? one : many}`;
+export const sideOf = (modules) => Math.round(Math.sqrt(modules.length));
+export const isSame = (a, b) => a.length === b.length && a.every((value, k) => value === b[k]);

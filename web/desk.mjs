@@ -1,0 +1,63 @@
+// Where the page asks its workers. Each desk has one, which answers one question at a time; a question that waits is replaced by a newer
+// one of its lane. An answer never throws: it is what the worker says, { failed: why }, { stopped: true }, or undefined if replaced.
+
+const allDesks = [];
+const listeners = [];
+const wake = () => { for (const listener of listeners) listener(); };
+export const whenChanged = (listener) => listeners.push(listener);
+export const isWorking = () => allDesks.some((desk) => desk.running || desk.waiting.length);
+export const stopAll = () => { for (const desk of allDesks) desk.stop(); };
+export const workingSince = () => allDesks.reduce((first, { running }) => Math.min(first, running?.since ?? Infinity), Infinity);
+
+export class Desk {
+  constructor(script, library) {
+    Object.assign(this, { script, library, worker: null, ready: null, running: null, waiting: [], count: 0, tell: null });
+    allDesks.push(this);
+  }
+  // Starts a worker with the library; what it says of the library, or { failed }.
+  start() {
+    this.worker = new Worker(this.script);
+    this.worker.onmessage = ({ data }) => this.hear(data);
+    this.worker.onerror = (event) => { event.preventDefault(); this.end({ failed: event.message || "the worker broke off" }); };
+    this.ready = this.ask("load", this.library, "load");
+    return this.ready;
+  }
+  ask(kind, given, lane, transfer = []) {
+    if (!this.worker && kind !== "load") this.start();
+    return new Promise((resolve) => {
+      this.waiting = this.waiting.filter((question) => {
+        if (question.lane === lane) question.resolve(undefined);
+        return question.lane !== lane;
+      });
+      this.waiting.push({ number: ++this.count, kind, given, lane, transfer, resolve });
+      this.next();
+    });
+  }
+  next() {
+    if (!this.running && this.waiting.length) {
+      this.running = Object.assign(this.waiting.shift(), { since: performance.now() });
+      const { number, kind, given, transfer } = this.running;
+      try { this.worker.postMessage({ number, kind, given }, transfer); } catch (why) { this.hear({ number, failed: why.message }); return; }
+    }
+    wake();
+  }
+  hear({ number, answer, failed, progress }) {
+    if (progress) { this.tell?.(progress); return; }
+    if (number !== this.running?.number) return;
+    const { resolve } = this.running;
+    this.running = null;
+    resolve(failed === undefined ? answer : { failed });
+    this.next();
+  }
+  // Ends the worker, with this answer to all that was asked; the next question starts another.
+  end(answer) {
+    this.worker?.terminate();
+    this.worker = null;
+    const asked = [this.running, ...this.waiting].filter(Boolean);
+    this.running = null;
+    this.waiting = [];
+    for (const question of asked) question.resolve(answer);
+    wake();
+  }
+  stop() { if (this.running) this.end({ stopped: true }); }
+}

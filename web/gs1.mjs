@@ -1,0 +1,155 @@
+// GS1 messages: element strings as people write them, with identifiers in parentheses, and as a symbol holds them. The identifiers are those
+// of library/gs1/identifiers.txt, which is packed into the page.
+import { FNC1, MOST_TEXT, plural } from "./common.mjs";
+import { parse, tooMuch } from "./messages.mjs";
+
+const SEPARATOR = 29; // GS, which may stand in place of an FNC1 between elements
+const known = new Map();
+
+// ---- What a value must be
+
+const CHARSETS = {
+  N: { all: /^[0-9]*$/, words: ["digit", "digits"] },
+  X: { all: /^[!"%-?A-Z_a-z]*$/, words: ["character", "characters"] },
+  Y: { all: /^[#\-/0-9A-Z]*$/, words: ["character", "characters"] },
+  Z: { all: /^[-0-9A-Z_a-z=]*$/, words: ["character", "characters"] },
+};
+const lengthWords = ({ charset, least, most }) => `${least < most ? `${least} to ` : ""}${plural(most, ...CHARSETS[charset].words)}`;
+
+// The check digit of the digits before it: weights of 3 and 1 from the right.
+const checkDigit = (digits) => (10 - ([...digits].reverse().reduce((sum, digit, k) => sum + digit * (k % 2 ? 1 : 3), 0) % 10)) % 10;
+
+// The check pair of the characters before it: each by its place among the 82, weighted with primes from the right, modulo 1021.
+const OF_PAIRS = "!\"%&'()*+,-./0123456789:;<=>?ABCDEFGHIJKLMNOPQRSTUVWXYZ_abcdefghijklmnopqrstuvwxyz", PAIR = "23456789ABCDEFGHJKLMNPQRSTUVWXYZ";
+const PRIMES = [2, 3, 5, 7, 11, 13, 17, 19, 23, 29, 31, 37, 41, 43, 47, 53, 59, 61, 67, 71, 73, 79, 83];
+function checkPair(text) {
+  const sum = [...text].reverse().reduce((all, c, k) => all + OF_PAIRS.indexOf(c) * PRIMES[k], 0) % 1021;
+  return PAIR[Math.floor(sum / 32)] + PAIR[sum % 32];
+}
+const MONTHS = ["January", "February", "March", "April", "May", "June", "July", "August", "September", "October", "November", "December"];
+const numberAt = (text, at) => Number(text.slice(at, at + 2));
+
+// A day: { words } or { fault }. Day 00 is the end of the month, where that may stand.
+function dayOf(year, text, mayLackDay) {
+  const month = numberAt(text, 0), day = numberAt(text, 2);
+  if (month < 1 || month > 12) return { fault: `${text.slice(0, 2)} is no month` };
+  if (day === 0 && mayLackDay) return { words: `the end of ${MONTHS[month - 1]} ${year}` };
+  if (day < 1 || day > new Date(year, month, 0).getDate()) return { fault: `${text.slice(2, 4)} is no day of that month` };
+  return { words: `${day} ${MONTHS[month - 1]} ${year}` };
+}
+// Of a year of two digits the century is the one that puts it at most 49 years back or 50 ahead.
+function fullYear(year) {
+  const now = new Date().getFullYear();
+  return [-100, 0, 100].map((more) => Math.floor(now / 100) * 100 + more + year).find((each) => each >= now - 49 && each <= now + 50);
+}
+const below = (most, what) => (text) => (Number(text) < most ? {} : { fault: `${text} is no ${what}` });
+const CHECKS = {
+  check(text) {
+    const right = checkDigit(text.slice(0, -1));
+    return Number(text.at(-1)) === right ? { words: "the check digit is right" } : { fault: `the check digit ${text.at(-1)} should be ${right}` };
+  },
+  pair(text) {
+    const right = checkPair(text.slice(0, -2));
+    return text.slice(-2) === right ? { words: "the check pair is right" } : { fault: `the check pair ${text.slice(-2)} should be ${right}` };
+  },
+  date: (text) => dayOf(fullYear(numberAt(text, 0)), text.slice(2), false),
+  "month-day": (text) => dayOf(fullYear(numberAt(text, 0)), text.slice(2), true),
+  "full-date": (text) => dayOf(Number(text.slice(0, 4)), text.slice(4), false),
+  time: (text) => (text === "9999" || (numberAt(text, 0) < 24 && numberAt(text, 2) < 60) ? {} : { fault: `${text} is no time of day` }),
+  hour: below(24, "hour"),
+  minute: below(60, "minute"),
+  second: below(60, "second"),
+  minus: (text) => (text === "-" ? {} : { fault: `${text} stands where only a minus sign may` }),
+};
+
+// A value of decimals: the last digit of the identifiers 3100 to 3699 and 3900 to 3959 says how many.
+function decimalOf(identifier, text) {
+  if (!/^3[1-6]\d\d$|^39[0-5]\d$/.test(identifier) || !/^\d+$/.test(text)) return "";
+  const places = Number(identifier[3]), currency = /^39[13]/.test(identifier) ? 3 : 0, digits = text.slice(currency).padStart(places + 1, "0");
+  return places ? `${digits.slice(0, -places)}.${digits.slice(-places)}`.replace(/^0+(?=\d)/, "") : "";
+}
+
+const NO_DIGITS = "it has something other than digits", NO_CHARACTERS = "it has a character that isn’t allowed here";
+
+// What is wrong with a value, or what it means.
+function judgedValue(identifier, { parts }, text) {
+  const notes = [decimalOf(identifier, text)];
+  let at = 0;
+  for (const part of parts) {
+    const own = text.slice(at, at + part.most);
+    if (!own && part.mayLack) break;
+    if (own.length < part.least) return { fault: `too short: ${lengthWords(part)} ${parts.length > 1 ? "are due in a part" : "are due"}` };
+    if (!CHARSETS[part.charset].all.test(own)) return { fault: part.charset === "N" ? NO_DIGITS : NO_CHARACTERS };
+    const { words, fault } = CHECKS[part.check]?.(own) ?? {};
+    if (fault) return { fault };
+    notes.push(words);
+    at += own.length;
+  }
+  if (at < text.length) return { fault: `too long by ${plural(text.length - at, "character", "characters")}` };
+  return { note: notes.filter(Boolean).join("; ") };
+}
+
+// ---- The identifiers
+
+function partOf(words) {
+  const [, open, charset, range, count, check] = /^(\[?)([NXYZ])(\.\.)?(\d+)(?::([a-z-]+))?\]?$/.exec(words);
+  return { charset, least: range ? 1 : Number(count), most: Number(count), check, mayLack: open === "[" };
+}
+// Each line has: the identifier, or the first and the last of several; `fixed` or `fnc1`; since when; the parts of the value; the title.
+export function readIdentifiers(text) {
+  for (const line of text.split("\n")) {
+    const [, first, last, ending, parts, name] = /^(\d{2,4})(?:-(\d{2,4}))?\s+(fixed|fnc1)\s+\S+\s+(\S+)\s+(.*)$/.exec(line) ?? [];
+    if (!first) continue;
+    for (let number = Number(first); number <= Number(last ?? first); number++)
+      known.set(String(number).padStart(first.length, "0"), { isFixed: ending === "fixed", parts: parts.split("+").map(partOf), name });
+  }
+}
+// The identifier at the beginning of a text.
+const identifierAt = (text) => [2, 3, 4].map((length) => text.slice(0, length)).find((some) => known.has(some));
+
+// ---- As a symbol holds them
+
+const textOf = (items) => items.map((item) => (item === FNC1 ? "\u001D" : String.fromCharCode(item))).join("");
+export function elementsIn(items) {
+  const elements = [];
+  for (let at = 0; at < items.length;) {
+    const rest = items.slice(at), gap = rest.findIndex((item) => item === FNC1 || item === SEPARATOR), whole = gap < 0 ? rest : rest.slice(0, gap);
+    const identifier = identifierAt(textOf(whole.slice(0, 4))), entry = known.get(identifier);
+    if (!entry) {
+      elements.push({ identifier: "", name: "no identifier begins here", items: whole, fault: "unknown" });
+      at += whole.length + 1;
+      continue;
+    }
+    const length = entry.isFixed ? entry.parts.reduce((sum, { most }) => sum + most, 0) : Infinity;
+    const value = whole.slice(identifier.length).slice(0, length);
+    elements.push({ identifier, name: entry.name, items: value, ...judgedValue(identifier, entry, textOf(value)) });
+    at += identifier.length + value.length;
+    if (items[at] === FNC1 || items[at] === SEPARATOR) at++;
+  }
+  return elements.length ? elements : [{ identifier: "", name: "no element follows the FNC1", items: [], fault: "empty" }];
+}
+
+// ---- As people write them
+
+const MARK = /\((\d{2,4})\)/g;
+const isElements = (text) => { const found = /^\((\d{2,4})\)/.exec(text); return found !== null && known.has(found[1]); };
+
+// Why a text has no items, in words.
+export const whyNot = ({ column, why }) => (column ? `Column ${column} ${why}.` : why);
+
+// The items of what is entered: of element strings, or of a spelled message. { items, isElements }, or what is wrong.
+export function itemsOf(text) {
+  if (text.length > MOST_TEXT) return { why: tooMuch(text) };
+  if (!isElements(text)) return parse(text);
+  const marks = [...text.matchAll(MARK)].filter(([, identifier]) => known.has(identifier)), items = [FNC1];
+  for (const [k, found] of marks.entries()) {
+    const begin = found.index + found[0].length, end = marks[k + 1]?.index ?? text.length, value = parse(text.slice(begin, end));
+    if (!value.items) {
+      const ways = value.ways?.map((way) => ({ ...way, text: text.slice(0, begin) + way.text + text.slice(end) }));
+      return { ...value, column: begin + value.column, ways };
+    }
+    items.push(...Array.from(found[1], (digit) => digit.charCodeAt(0)), ...value.items);
+    if (k + 1 < marks.length && !known.get(found[1]).isFixed) items.push(FNC1);
+  }
+  return { items, isElements: true };
+}

@@ -1,0 +1,147 @@
+// A symbol's modules in a photograph: a homography, how well a side's border agrees with the picture there, and the modules by their medians.
+import { sumsOf } from "./regions.mjs";
+
+// The picture, with the means of its windows at hand.
+export class Photograph {
+  constructor(grey, width, height) { Object.assign(this, { grey, width, height, sums: sumsOf(grey, width, height) }); }
+  // The mean of a square window around a point; outside of the picture that of its edge.
+  mean(x, y, radius) {
+    const { width, height, sums } = this, across = width + 1;
+    const left = Math.min(width - 1, Math.max(0, Math.round(x - radius))), top = Math.min(height - 1, Math.max(0, Math.round(y - radius)));
+    const right = Math.min(width, Math.max(left + 1, Math.round(x + radius))), bottom = Math.min(height, Math.max(top + 1, Math.round(y + radius)));
+    const sum = sums[bottom * across + right] - sums[top * across + right] - sums[bottom * across + left] + sums[top * across + left];
+    return sum / ((right - left) * (bottom - top));
+  }
+  // The pixel at a point, between its four neighbours.
+  at(x, y) {
+    const { width, height, grey } = this, px = Math.min(width - 1.001, Math.max(0, x - 0.5)), py = Math.min(height - 1.001, Math.max(0, y - 0.5));
+    const c = Math.floor(px), r = Math.floor(py), a = px - c, b = py - r, k = r * width + c;
+    const under = r + 1 < height ? k + width : k, next = c + 1 < width ? 1 : 0;
+    return (1 - b) * ((1 - a) * grey[k] + a * grey[k + next]) + b * ((1 - a) * grey[under] + a * grey[under + next]);
+  }
+}
+
+// The homography that takes the unit square to four corners: lower left, lower right, upper right, upper left of a symbol, as (u, v) with
+// v upwards; as eight numbers.
+export function homography([a, b, c, d]) {
+  const [dx1, dy1, dx2, dy2] = [b[0] - c[0], b[1] - c[1], d[0] - c[0], d[1] - c[1]];
+  const [sx, sy] = [a[0] - b[0] + c[0] - d[0], a[1] - b[1] + c[1] - d[1]];
+  const turn = dx1 * dy2 - dx2 * dy1, g = (sx * dy2 - dx2 * sy) / turn, h = (dx1 * sy - sx * dy1) / turn;
+  return [b[0] - a[0] + g * b[0], d[0] - a[0] + h * d[0], a[0], b[1] - a[1] + g * b[1], d[1] - a[1] + h * d[1], a[1], g, h];
+}
+const reach = ([a, b, c, d]) => Math.sqrt(Math.abs((c[0] - a[0]) * (d[1] - b[1]) - (c[1] - a[1]) * (d[0] - b[0])) / 2);
+
+// The border modules of a side: [row, column, whether dark], those of all its regions.
+const borders = new Map();
+export function borderOf({ side, regions }) {
+  if (!borders.has(side)) {
+    const across = Math.sqrt(regions), each = side / across, list = [];
+    for (let r = 0; r < side; r++) {
+      for (let c = 0; c < side; c++) {
+        const y = r % each, x = c % each;
+        if (x === 0 || y === each - 1) list.push([r, c, 1]);
+        else if (y === 0) list.push([r, c, x % 2 ? 0 : 1]);
+        else if (x === each - 1) list.push([r, c, y % 2 ? 1 : 0]);
+      }
+    }
+    borders.set(side, list);
+  }
+  return borders.get(side);
+}
+
+// How far apart light and dark border modules are, in spreads: from minus to plus some 10; noise gives 0.
+export function borderScore(photo, corners, size) {
+  const [p, q, x0, r, s, y0, g, h] = homography(corners), { side } = size, radius = (0.28 * reach(corners)) / side;
+  let dark = 0, light = 0, darks = 0, lights = 0, squares = 0;
+  for (const [row, column, isDark] of borderOf(size)) {
+    const u = (column + 0.5) / side, v = 1 - (row + 0.5) / side, w = g * u + h * v + 1;
+    const value = photo.mean((p * u + q * v + x0) / w, (r * u + s * v + y0) / w, radius);
+    squares += value * value;
+    if (isDark) { dark += value; darks++; } else { light += value; lights++; }
+  }
+  const [meanDark, meanLight] = [dark / darks, light / lights], spread = squares - darks * meanDark ** 2 - lights * meanLight ** 2;
+  return (meanLight - meanDark) / (Math.sqrt(Math.max(0, spread) / (darks + lights)) + 3);
+}
+// The corners moved a little, as long as that brings the score up. Steps are in modules.
+export function climbed(score, corners, side, steps, rounds = 3) {
+  let best = corners.map((corner) => corner.slice()), top = score(best);
+  const module = reach(corners) / side;
+  const tried = (moved) => { const value = score(moved); if (value > top + 1e-6) { top = value; best = moved; return true; } return false; };
+  for (const step of steps) {
+    for (let round = 0, isBetter = true; isBetter && round < rounds; round++) {
+      isBetter = false;
+      for (const move of MOVES) {
+        for (const way of [step * module, -step * module]) {
+          if (tried(best.map(([x, y], k) => [x + way * move[k][0], y + way * move[k][1]]))) { isBetter = true; break; }
+        }
+      }
+    }
+  }
+  return { corners: best, score: top };
+}
+// All four corners, one corner, or one edge, along x or y.
+const MOVED = ["1111", "1000", "0100", "0010", "0001", "1100", "0110", "0011", "1001"];
+const MOVES = MOVED.flatMap((which) => [[...which].map((on) => [+on, 0]), [...which].map((on) => [0, +on])]);
+
+const LOOKS = [-0.26, -0.13, 0, 0.13, 0.26];
+// The median of each module, row by row.
+export function medians(photo, corners, side) {
+  const [p, q, x0, r, s, y0, g, h] = homography(corners), out = new Float32Array(side * side), some = new Float32Array(LOOKS.length ** 2);
+  for (let k = 0; k < out.length; k++) {
+    let count = 0;
+    for (const dy of LOOKS) {
+      for (const dx of LOOKS) {
+        const u = ((k % side) + 0.5 + dx) / side, v = 1 - (Math.floor(k / side) + 0.5 + dy) / side, w = g * u + h * v + 1;
+        some[count++] = photo.at((p * u + q * v + x0) / w, (r * u + s * v + y0) / w);
+      }
+    }
+    out[k] = some.sort()[count >> 1];
+  }
+  return out;
+}
+// Sums over all entries above and to the left, and the sum over a window of the side.
+class Sums {
+  constructor(side, valueOf) {
+    Object.assign(this, { side, sums: new Float64Array((side + 1) ** 2) });
+    for (let k = 0; k < side * side; k++) {
+      const at = (Math.floor(k / side) + 1) * (side + 1) + (k % side) + 1;
+      this.sums[at] = valueOf(k) + this.sums[at - 1] + this.sums[at - side - 1] - this.sums[at - side - 2];
+    }
+  }
+  around(k, far) {
+    const { side, sums } = this, r = Math.floor(k / side), c = k % side, across = side + 1;
+    const top = Math.max(0, r - far), bottom = Math.min(side, r + far + 1), left = Math.max(0, c - far), right = Math.min(side, c + far + 1);
+    return sums[bottom * across + right] - sums[top * across + right] - sums[bottom * across + left] + sums[top * across + left];
+  }
+}
+const NEIGHBOURS = 6; // modules on each side by which a level is told
+
+// The level between dark and light around each module: of the means of what is darker and lighter than the middle.
+function middles(values, side) {
+  const sorted = Float32Array.from(values).sort(), middle = (sorted[sorted.length >> 3] + sorted[(7 * sorted.length) >> 3]) / 2;
+  const halves = [(k) => values[k] <= middle, (k) => values[k] > middle].map((isIn) =>
+    ({ sums: new Sums(side, (k) => (isIn(k) ? values[k] : 0)), counts: new Sums(side, (k) => (isIn(k) ? 1 : 0)) }));
+  return Float32Array.from(values, (_, k) => {
+    const [dark, light] = halves.map(({ sums, counts }) => sums.around(k, NEIGHBOURS) / Math.max(1, counts.around(k, NEIGHBOURS)));
+    return dark && light ? (dark + light) / 2 : middle;
+  });
+}
+// The modules: dark where the median is below the level around it.
+export function modulesAt(photo, corners, side) {
+  const values = medians(photo, corners, side), level = middles(values, side);
+  return Uint8Array.from(values, (value, k) => (value < level[k] ? 1 : 0));
+}
+// How far all modules are from the level between dark and light: it grows as the lattice comes to lie on the modules.
+export function contrast(photo, corners, side) {
+  const [p, q, x0, r, s, y0, g, h] = homography(corners), radius = (0.25 * reach(corners)) / side;
+  let sum = 0, squares = 0;
+  for (let row = 0; row < side; row++) {
+    for (let column = 0; column < side; column++) {
+      const u = (column + 0.5) / side, v = 1 - (row + 0.5) / side, w = g * u + h * v + 1;
+      const value = photo.mean((p * u + q * v + x0) / w, (r * u + s * v + y0) / w, radius);
+      sum += value;
+      squares += value * value;
+    }
+  }
+  return squares / (side * side) - (sum / (side * side)) ** 2;
+}

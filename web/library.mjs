@@ -1,0 +1,83 @@
+// The proved library, ecc200.wasm, whose interface is that of library/ecc200.h: WebAssembly with 64-bit memory, so that addresses and
+// lengths are BigInts. For everything about Data Matrix symbols (sizes, places, codewords, correction, messages, borders, normal forms)
+// the page asks it.
+import { ABI, BIT, MOST_ITEMS, SIZE_COUNT, WIDE, sideOf } from "./common.mjs";
+
+const ROOM = { items: 12288, out: 20480 }; // in the page of memory that the caller adds, after the modules
+
+export class Library {
+  static async load(bytes) {
+    const { instance } = await WebAssembly.instantiate(bytes, {});
+    return new Library(instance.exports);
+  }
+  constructor(exports) {
+    this.c = exports;
+    if (exports.ecc200_abi() !== ABI) throw new Error("the library has another interface than this page");
+    const start = this.grow(1) * 65536;
+    this.modulesAt = start;
+    this.itemsAt = start + ROOM.items;
+    this.outAt = start + ROOM.out;
+    this.sizes = new Map(this.sizeTable().map((size) => [size.side, size]));
+    this.maps = new Map();
+  }
+  // Older engines count pages in ordinary numbers.
+  grow(pages) {
+    try { return Number(this.c.memory.grow(BigInt(pages))); } catch { return Number(this.c.memory.grow(pages)); }
+  }
+  bytes(at, count) { return new Uint8Array(this.c.memory.buffer, at, count); }
+  numbers(at, count) { return new Uint16Array(this.c.memory.buffer, at, count); }
+  get out() { return BigInt(this.outAt); }
+  fault() { const [code, value, place] = this.numbers(this.outAt, 3); return { fault: { code, value, place } }; }
+  // The arguments that give the modules of a symbol.
+  given(modules) {
+    this.bytes(this.modulesAt, modules.length).set(modules);
+    return [BigInt(this.modulesAt), BigInt(modules.length), sideOf(modules)];
+  }
+  symbol() {
+    const [side] = this.numbers(this.outAt + 6, 1);
+    return { side, modules: this.bytes(this.outAt + 8, side * side).slice() };
+  }
+  sizeTable() {
+    this.c.ecc200_sizes(this.out);
+    return Array.from({ length: SIZE_COUNT }, (_, k) => {
+      const [side, regions, regionSide, mapping, data, check, blocks, limit] = this.numbers(this.outAt + 16 * k, 8);
+      return { side, regions, regionSide, mapping, data, check, blocks, limit };
+    });
+  }
+  usualLimit(side) { return this.c.ecc200_usual_limit(side); }
+  read(modules, limit) {
+    if (this.c.ecc200_read(...this.given(modules), limit, WIDE, this.out)) return this.fault();
+    const [border, blocks, items] = this.numbers(this.outAt + 8, 3), list = this.numbers(this.outAt + 14, items);
+    return { border, items: Array.from(list), corrected: Array.from(this.bytes(this.outAt + 14 + 2 * MOST_ITEMS, blocks)) };
+  }
+  write(items, profile) {
+    const some = items.slice(0, MOST_ITEMS + 1); // one item too many has the same effect as all of them
+    this.numbers(this.itemsAt, some.length).set(some);
+    return this.c.ecc200_write(BigInt(this.itemsAt), BigInt(some.length), profile, this.out) ? this.fault() : this.symbol();
+  }
+  normal(modules, limit, profile) {
+    return this.c.ecc200_normal(...this.given(modules), limit, WIDE, profile, this.out) ? this.fault() : this.symbol();
+  }
+  inspect(modules) {
+    if (this.c.ecc200_inspect(...this.given(modules), this.out)) return this.fault();
+    const [border, blocks, codewords] = this.numbers(this.outAt + 8, 3), list = (at, count) => this.bytes(this.outAt + at, count).slice();
+    return { border, held: list(14, codewords), mended: list(1166, codewords), corrected: Array.from(list(2318, blocks)) };
+  }
+  // What each module of a symbol of this side is: its kind and, for a bit, its codeword and number; and the modules of each codeword.
+  map(side) {
+    if (!this.maps.has(side)) {
+      this.c.ecc200_places(side, this.out);
+      const { data, check } = this.sizes.get(side), all = side * side;
+      const kind = new Uint8Array(all), word = new Uint16Array(all), bit = new Uint8Array(all);
+      const modules = Array.from({ length: data + check }, () => []);
+      for (let k = 0; k < all; k++) {
+        const at = this.outAt + 8 + 4 * k;
+        [word[k]] = this.numbers(at, 1);
+        [bit[k], kind[k]] = this.bytes(at + 2, 2);
+        if (kind[k] === BIT) modules[word[k]].push(k);
+      }
+      this.maps.set(side, { kind, word, bit, modules });
+    }
+    return this.maps.get(side);
+  }
+}

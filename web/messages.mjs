@@ -1,0 +1,44 @@
+// How messages are spelled: \\ is the backslash, \F FNC1, \xHH a byte, and any other character of 32 to 126 itself.
+import { FNC1, MOST_TEXT } from "./common.mjs";
+
+export function parse(text) {
+  const items = [];
+  for (let at = 0; at < text.length;) {
+    const code = text.codePointAt(at), rest = text.slice(at, at + 4);
+    if (rest.startsWith("\\\\")) { items.push(92); at += 2; }
+    else if (rest.startsWith("\\F")) { items.push(FNC1); at += 2; }
+    else if (/^\\x[0-9A-Fa-f]{2}$/.test(rest)) { items.push(parseInt(rest.slice(2), 16)); at += 4; }
+    else if (code === 92) return { column: at + 1, why: STRAY, ways: [{ name: "with the backslash doubled", text: doubled(text) }] };
+    else if (code >= 32 && code <= 126) { items.push(code); at += 1; }
+    else return { column: at + 1, why: `is ${named(code)}, which has no spelling of its own`, ways: respelled(text) };
+  }
+  return { items };
+}
+const STRAY = "is a backslash that doesn’t begin a spelling; those are \\\\, \\F and \\xHH";
+export const tooMuch = (text) => `${text.length.toLocaleString("en")} characters, and no more than ${MOST_TEXT.toLocaleString("en")} are looked at.`;
+
+// The text with each backslash that begins no spelling doubled.
+const doubled = (text) => text.replace(/\\(?:\\|F|x[0-9A-Fa-f]{2})|\\/g, (found) => (found.length > 1 ? found : "\\\\"));
+
+const CONTROLS = { 9: "a tab", 10: "a line break", 13: "a line break" };
+const INVISIBLE = /[\p{C}\p{Z}\p{M}\u115F\u1160\u3164\uFFA0]/u; // controls, formats, spaces, marks that stand on the letter before, and fillers
+const codePoint = (code) => `U+${code.toString(16).toUpperCase().padStart(4, "0")}`;
+export function named(code) {
+  if (CONTROLS[code]) return CONTROLS[code];
+  if (code < 32 || code === 127) return `the control character ${codePoint(code)}`;
+  const character = String.fromCodePoint(code);
+  return INVISIBLE.test(character) ? `the invisible character ${codePoint(code)}` : character;
+}
+const hexed = (byte) => "\\x" + byte.toString(16).toUpperCase().padStart(2, "0");
+
+// The text with each character that has no spelling as bytes: those of Latin-1, if it has them, and those of UTF-8.
+function respelled(text) {
+  const spell = (bytesOf) => Array.from(text, (c) => (c >= " " && c <= "~" ? c : bytesOf(c).map(hexed).join(""))).join("");
+  const utf8 = { name: "as UTF-8", text: spell((c) => [...new TextEncoder().encode(c)]) };
+  if (Array.from(text).some((c) => c.codePointAt(0) > 255)) return [utf8];
+  const latin = { name: "as Latin-1", text: spell((c) => [c.codePointAt(0)]) };
+  return latin.text === utf8.text ? [{ name: "as bytes", text: utf8.text }] : [latin, utf8];
+}
+export const isPlain = (item) => item >= 32 && item <= 126 && item !== 92;
+export const spelledItem = (item) => (isPlain(item) ? String.fromCharCode(item) : item === 92 ? "\\\\" : item === FNC1 ? "\\F" : hexed(item));
+export const spelled = (items) => items.map(spelledItem).join("");

@@ -1,0 +1,77 @@
+// Symbols in pictures whose modules are equal squares that stand straight.
+import { found, hasBorder } from "./grids.mjs";
+
+export const NO_COLOURS = "The picture has only one colour.";
+
+// The grey of each pixel, transparent ones as on white paper.
+export function greyOf({ data, width, height }) {
+  const grey = new Uint8Array(width * height);
+  for (let k = 0, p = 0; k < grey.length; k++, p += 4) {
+    const alpha = data[p + 3];
+    grey[k] = (255 * (255 - alpha) + ((data[p] * 77 + data[p + 1] * 150 + data[p + 2] * 29) >> 8) * alpha) / 255;
+  }
+  return grey;
+}
+
+// The smallest rectangle that holds all pixels of a kind.
+function frame(isInk, width, height) {
+  let left = width, top = height, right = -1, bottom = -1;
+  for (let y = 0; y < height; y++) {
+    for (let x = 0; x < width; x++) {
+      if (!isInk(y * width + x)) continue;
+      if (x < left) left = x;
+      if (x > right) right = x;
+      if (y < top) top = y;
+      bottom = y;
+    }
+  }
+  return { left, top, width: right - left + 1, height: bottom - top + 1 };
+}
+
+// The grid of a side in a frame, and the share of sampled pixels that differ from most of their module.
+function sampled(isInk, pictureWidth, at, side) {
+  const each = [at.width / side, at.height / side], looks = Math.min(5, Math.floor(Math.min(...each))), modules = new Uint8Array(side * side);
+  let odd = 0;
+  for (let k = 0; k < modules.length; k++) {
+    let ink = 0;
+    for (let look = 0; look < looks * looks; look++) {
+      const [dx, dy] = [look % looks, Math.floor(look / looks)].map((step) => 0.2 + (0.6 * (step + 0.5)) / looks);
+      const x = at.left + Math.floor(((k % side) + dx) * each[0]), y = at.top + Math.floor((Math.floor(k / side) + dy) * each[1]);
+      ink += isInk(y * pictureWidth + x) ? 1 : 0;
+    }
+    modules[k] = 2 * ink > looks * looks ? 1 : 0;
+    odd += Math.min(ink, looks * looks - ink);
+  }
+  return { modules, odd: odd / (modules.length * looks * looks) };
+}
+function extent(grey) {
+  let least = 255, most = 0;
+  for (const value of grey) {
+    if (value < least) least = value;
+    if (value > most) most = value;
+  }
+  return [least, most];
+}
+
+// The symbol within the frame of what is darker than the middle grey or of what is lighter. Among sides that fit about equally well the
+// smallest comes first, since one module can also be seen as four. One that isn't read is given too if it has the border of a symbol.
+export function squareSymbol(lib, grey, width, height) {
+  const [least, most] = extent(grey), middle = (least + most) / 2;
+  if (most - least < 32) return { why: NO_COLOURS };
+  const isDark = (k) => grey[k] < middle, likely = [];
+  for (const isInk of [isDark, (k) => !isDark(k)]) {
+    const at = frame(isInk, width, height);
+    if (Math.abs(at.width - at.height) > Math.max(1, at.width / 50)) continue;
+    for (const side of lib.sizes.keys()) {
+      if (Math.min(at.width, at.height) < side) continue;
+      likely.push({ ...sampled(isDark, width, at, side), isExact: at.width === at.height && at.width % side === 0 });
+    }
+  }
+  likely.sort((a, b) => Math.round(50 * a.odd) - Math.round(50 * b.odd) || a.modules.length - b.modules.length);
+  for (const { modules, odd } of likely) {
+    const symbol = odd < 0.1 && found(lib, modules);
+    if (symbol && symbol.isRead) return symbol;
+  }
+  const unread = likely.find(({ modules, odd, isExact }) => odd < 0.02 && isExact && hasBorder(lib, modules));
+  return unread ? found(lib, unread.modules) : { why: "" };
+}
