@@ -1,38 +1,55 @@
-# What people run by hand. `make test` is the merge gate.
-PREFIX ?= /usr/local
+# What people run by hand; `make` alone lists it. `make test` is the merge gate.
 TOOL := crates/dm_tool/out/dm_tool
-# The crates below the program, lowest first, with the one that has their tests, and the program. The library for C is built by itself.
-CRATES := $(shell sed -n 's/^\([a-z0-9_]*\):.*/\1/p' crates.txt)
 # They try the wrong bodies, and test what no contract mentions. Each ends with a line 'N passed, M failed', and with status 1 if something failed.
-SCRIPTS := tests/definitions tests/program tests/library tests/edits tests/marks/run tests/scale tests/page/run
+SCRIPTS := tests/definitions tests/tables tests/program tests/library tests/packages tests/dask tests/python/run tests/sampler tests/edits tests/marks/run tests/recipes tests/scale tests/page/run
+# Where to install; packaging/install says more.
+export PREFIX DESTDIR LIBDIR PYTHONDIR
 
-.PHONY: build library try test $(SCRIPTS) install install-library bench
+.PHONY: help build library page sampler wheel try test $(SCRIPTS) install install-library uninstall deb dist bench
+
+# Processor times on an idle machine of 2.5 GHz. What is proved already isn't proved again.
+help:
+	@echo "make build     proves the program and everything below it: ten minutes on four processors"
+	@echo "make library   proves the library for C and builds it, static and shared: a minute after make build"
+	@echo "make page      builds the page, one file for a browser: a minute after make build"
+	@echo "make sampler   builds what finds symbols in pictures, over the library: seconds; libdmtx-dev, libpng-dev and libjpeg-dev are needed"
+	@echo "make wheel     builds the Python package's wheel, with the libraries that are built: seconds"
+	@echo "make try       shows the program at work, unproved if it isn't built yet: half a minute"
+	@echo "make test      the merge gate, every proof from scratch and all tests: over an hour of processor time"
+	@echo "make install   installs program, library, callers, man pages and docs below PREFIX=/usr/local; DESTDIR, LIBDIR and PYTHONDIR as usual"
+	@echo "make install-library, make uninstall   the library alone; removes what make install put there"
+	@echo "make deb       builds Debian packages into out/deb: ten seconds after make build library sampler"
+	@echo "make dist      makes an archive of the sources and a prebuilt one in out/dist: seconds after make build library page"
+	@echo "make bench     times the program and the library beside others that are installed: minutes"
+	@echo
+	@echo "The program is $(TOOL), the library is in library/out. README.md begins with what to do without the toolchain."
 
 # Proves the program and everything below it, and leaves it at crates/dm_tool/out/dm_tool.
 build:
-	@mkdir -p out && : > out/build.log
-	@echo "Proving $(words $(CRATES)) crates, lowest first; what the toolchain says goes to out/build.log."
-	@for crate in $(CRATES); do \
-	  if [ $$crate = dm_tool ]; then step='rt run -- table'; else step='rt lib'; fi; \
-	  begun=$$(date +%s); \
-	  (cd crates/$$crate && $$step) > out/step.log 2>&1 < /dev/null; status=$$?; \
-	  cat out/step.log >> out/build.log; \
-	  if [ $$status -ne 0 ]; then tail -n 5 out/step.log; echo "  $$crate: failed; out/build.log says more"; exit 1; fi; \
-	  echo "  $$crate: proved, $$(($$(date +%s) - begun)) s"; \
-	done
+	@tools/prove
 	@echo "The program is $(TOOL). It writes 123456 as"
 	@printf '123456\n' | $(TOOL) write
 
 # Proves the library ecc200 and what has changed below it, and leaves it as library/out/libecc200.a and libecc200.so.
 library:
-	@echo "Proving the library; what the toolchain says goes to library/out/build.log."
 	@library/build
 	@echo "The library is library/out/libecc200.a and library/out/libecc200.so; its manual is library/ecc200.h."
 
-# Shows the program at work at once. This proves nothing.
+# Builds the page, one file that opens from disk: web/out/mitsubadoor.html. Its library is proved for WebAssembly too.
+page:
+	web/build
+
+# Builds the sampler, from pictures to grids, over the library that `make library` left: sampler/out/dm_sample and libecc200_sample.so.
+sampler: library
+	sampler/build
+
+# Builds the Python package's wheel over the libraries that are built: library/python/out/ecc200-VERSION-py3-none-PLATFORM.whl.
+wheel: library
+	library/python/build
+
+# Shows the program at work: writing, damage, reading with a correction, a refusal.
 try:
-	@echo "Unproved, for a first look (make build proves the program): dm_tool writes 123456 as"
-	@printf '123456\n' | try/run write
+	@try/tour
 
 # The merge gate: every proof from scratch and the crates' tests by rt ci, then the scripts, of which tests/edits tries the edits that must fail.
 test:
@@ -42,25 +59,25 @@ test:
 $(SCRIPTS):
 	$@
 
-install: build install-library
-	install -D $(TOOL) $(DESTDIR)$(PREFIX)/bin/dm_tool
+install: build library
+	packaging/install
 
-# Installs the library, its header, and what pkg-config reads.
+# The library, its header, callers and manual, and what pkg-config and CMake read.
 install-library: library
-	install -D -m 644 library/ecc200.h $(DESTDIR)$(PREFIX)/include/ecc200.h
-	install -D -m 644 library/out/libecc200.a $(DESTDIR)$(PREFIX)/lib/libecc200.a
-	install -D -m 755 library/out/libecc200.so $(DESTDIR)$(PREFIX)/lib/libecc200.so.1
-	ln -sf libecc200.so.1 $(DESTDIR)$(PREFIX)/lib/libecc200.so
-	@mkdir -p $(DESTDIR)$(PREFIX)/lib/pkgconfig
-	sed 's|@PREFIX@|$(PREFIX)|' library/ecc200.pc.in > $(DESTDIR)$(PREFIX)/lib/pkgconfig/ecc200.pc
+	packaging/install 'libecc200-[0-9]*' libecc200-dev python3-ecc200
+
+uninstall:
+	packaging/install --uninstall
+
+# Debian packages, by debhelper, of what is proved and built: out/deb.
+deb: build library sampler
+	packaging/deb
+
+# Two archives in out/dist: the sources, and what is proved and built from them.
+dist: build library page sampler
+	packaging/dist
 
 # Times the program that `make build` left, and the library that `make library` left, beside others that are installed.
 bench:
 	bench/run
 	@if [ -f library/out/libecc200.a ]; then bench/library; else echo "left out: the library (not built: run \`make library\` first)"; fi
-
-.PHONY: page
-
-# Builds the page, one file that opens from disk: web/out/mitsubadoor.html. Its library is proved for WebAssembly too.
-page:
-	web/build

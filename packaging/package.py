@@ -1,0 +1,99 @@
+"""What packaging/files.txt and packaging/version say, for the scripts of this folder."""
+import os
+import re
+from typing import Dict, Iterator, List, NamedTuple
+
+TOP = os.path.dirname(os.path.dirname(os.path.abspath(__file__)))
+
+
+def text(*parts):
+    with open(os.path.join(TOP, *parts), encoding="utf-8") as file:
+        return file.read()
+
+
+def version():
+    """The one version of all that is built here."""
+    return text("packaging", "version").strip()
+
+
+def abi():
+    """The number of the library's interface, as its header has it."""
+    return re.search(r"^#define ECC200_ABI (\d+)", text("library", "ecc200.h"), re.M)[1]
+
+
+def sample_abi():
+    """The same of the sampler's library."""
+    return re.search(r"^#define ECC200_SAMPLE_ABI (\d+)", text("sampler", "ecc200_sample.h"), re.M)[1]
+
+
+def numbers():
+    """What is filled in by name."""
+    return {"VERSION": version(), "ABI": abi(), "SAMPLE_ABI": sample_abi()}
+
+
+def filled(words, values):
+    """A text with each @NAME@ replaced."""
+    return re.sub(r"@(\w+)@", lambda found: values[found[1]], words)
+
+
+class Part(NamedTuple):
+    """A line of files.txt."""
+    package: str
+    source: str  # a path below the top, or the target of a link
+    place: str   # a path below one of the folders
+    is_link: bool
+
+
+def parts() -> Iterator[Part]:
+    """The lines of files.txt, each folder as the files in it."""
+    lines = "".join(line for line in text("packaging", "files.txt").splitlines(keepends=True) if not line.startswith("#"))
+    for line in filled(lines, numbers()).splitlines():
+        if not line.strip():
+            continue
+        package, *words, place = line.split()
+        if words[0] == "->":
+            yield Part(package, words[1], place, True)
+            continue
+        source = words[0]
+        for file in files_below(source) if source.endswith("/") else [source]:
+            ending = file[len(source):] if source.endswith("/") else os.path.basename(file) if place.endswith("/") else ""
+            yield Part(package, file, (place + ending).removesuffix(".in"), False)
+
+
+def files_below(folder) -> List[str]:
+    """The files of a folder, without what runs leave there."""
+    found = []
+    for at, folders, names in os.walk(os.path.join(TOP, folder)):
+        folders[:] = sorted(it for it in folders if it not in ("__pycache__", "out"))
+        found += [os.path.relpath(os.path.join(at, name), TOP) for name in sorted(names) if not name.endswith(".pyc")]
+    return found
+
+
+def packages() -> List[str]:
+    return list(dict.fromkeys(part.package for part in parts()))
+
+
+class Folders:
+    """Where the parts go: below a prefix, with folders for libraries and for Python that may lie elsewhere; all absolute."""
+
+    def __init__(self, prefix, library="", python=""):
+        prefix = os.path.abspath(prefix)
+        self.of: Dict[str, str] = {name: os.path.join(prefix, name) for name in ("bin", "include", "share")}
+        self.of["lib"] = os.path.join(prefix, library or "lib")
+        self.of["python"] = os.path.join(prefix, python or "share/ecc200/python")
+        self.prefix = prefix
+
+    def path(self, place):
+        first, rest = place.split("/", 1)
+        return os.path.join(self.of[first], rest)
+
+    def values(self):
+        """What is filled into files that end in .in: folders below the prefix by way of it, as pkg-config moves them."""
+        def below(folder):
+            return re.sub(f"^{re.escape(self.prefix)}(?=/)", "${prefix}", folder) if self.prefix != "/" else folder
+
+        def between(folder, start):
+            return os.path.relpath(self.of[folder], self.of[start])
+
+        return {**numbers(), "PREFIX": self.prefix, "LIBDIR": below(self.of["lib"]), "INCLUDEDIR": below(self.of["include"]),
+                "INCLUDE_FROM_LIB": between("include", "lib"), "LIB_FROM_BIN": between("lib", "bin"), "PYTHON_FROM_BIN": between("python", "bin")}

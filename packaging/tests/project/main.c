@@ -1,0 +1,24 @@
+/* Writes a symbol, hurts it, and reads it: what is printed is the version, the message, and how many codewords were corrected. */
+#include <ecc200.h>
+#include <stdio.h>
+#include <string.h>
+
+int main(void) {
+    static ecc200_symbol symbol;
+    static ecc200_reading reading;
+    const char *text = "Mitsubadoor";
+    uint8_t bytes[ECC200_MOST_ITEMS];
+    enum ecc200_profile profile = ECC200_ASCII;
+    uint16_t code = ecc200_write_bytes((const uint8_t *)text, strlen(text), profile, &symbol);
+    if (code != ECC200_OK) {
+        puts(ecc200_code_words(code));
+        return 1;
+    }
+    symbol.modules[symbol.side + 1] ^= 1;
+    size_t modules = (size_t)symbol.side * symbol.side;
+    if (ecc200_read(symbol.modules, modules, symbol.side, ecc200_usual_limit(symbol.side), ECC200_USUAL, &reading) != ECC200_OK)
+        return 2;
+    size_t count = ecc200_text(&reading, bytes, sizeof bytes, NULL);
+    printf("%s %.*s %d\n", ecc200_version(), (int)count, (const char *)bytes, reading.corrected[0]);
+    return 0;
+}
