@@ -57,7 +57,7 @@ static Mark made(const ecc200_size &size, size_t length) {
         size_t at = chance() % mark.damaged.size();
         mark.damaged[at] ^= 1;
         int corrected = 0;
-        if (!ecc200_read(mark.damaged.data(), mark.damaged.size(), size.side, 0, &reading))
+        if (!ecc200_read(mark.damaged.data(), mark.damaged.size(), size.side, 0, ECC200_USUAL, &reading))
             for (int b = 0; b < size.blocks; b++) corrected += reading.corrected[b];
         if (corrected == done + 1) done++;
         else mark.damaged[at] ^= 1;
@@ -82,7 +82,7 @@ template <class Work> static void timed(const char *work, const char *who, const
 }
 
 static void read(const std::vector<uint8_t> &modules, const Mark &mark) {
-    if (ecc200_read(modules.data(), modules.size(), mark.side, ecc200_usual_limit(mark.side), &reading) || reading.item_count != mark.items.size()
+    if (ecc200_read(modules.data(), modules.size(), mark.side, ecc200_usual_limit(mark.side), ECC200_USUAL, &reading) || reading.item_count != mark.items.size()
         || !std::equal(mark.items.begin(), mark.items.end(), reading.items))
         die("ecc200 reads something else");
 }
@@ -91,7 +91,7 @@ static void time_ours(const std::vector<Mark> &marks) {
     timed("read", "ecc200", marks, [](const Mark &mark) { read(mark.clean, mark); });
     timed("read, damaged", "ecc200", marks, [](const Mark &mark) { read(mark.damaged, mark); });
     timed("normal, damaged", "ecc200", marks, [](const Mark &mark) {
-        if (ecc200_normal(mark.damaged.data(), mark.damaged.size(), mark.side, 0, ECC200_ASCII, &symbol) || std::memcmp(symbol.modules, mark.clean.data(), mark.clean.size()))
+        if (ecc200_normal(mark.damaged.data(), mark.damaged.size(), mark.side, 0, ECC200_USUAL, ECC200_ASCII, &symbol) || std::memcmp(symbol.modules, mark.clean.data(), mark.clean.size()))
             die("ecc200 normalises to something else");
     });
     timed("inspect, damaged", "ecc200", marks, [](const Mark &mark) {

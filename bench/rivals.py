@@ -71,7 +71,7 @@ class ZxingCpp:
         self.rest = CHOSE_OTHERS
         self.name = "zxing-cpp" + version_of("libzxing-dev")
         self.built = os.path.join(folder, "zxing_cpp")
-        self.notes = []
+        self.notes = {}
 
     def missing(self):
         """The packages without which it can't be timed."""
@@ -109,7 +109,7 @@ class Encoder:
         self.rest = ", the same as its own" if self.same else CHOSE_OTHERS
         self.name = " ".join([("lib" if self.same else "") + library + version_of(self.package), *way])
         self.built = os.path.join(folder, library + "_writes")
-        self.notes = []
+        self.notes = {}
 
     def missing(self):
         """The packages without which it can't be timed."""
