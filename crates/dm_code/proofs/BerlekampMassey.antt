@@ -1,12 +1,13 @@
 -- The algorithm of Berlekamp and Massey: what it keeps of the values that it has taken, and its steps.
-use Rattle.std.proofs.Common.{◌≡◌, ℕ, zero, suc, ◌+◌, ◌-◌, ◌<◌, ◌≤◌, List, [], ◌∷◌, length, refl, sym, ap, subst, ◌∙◌, arith, bit_xor, inl, inr}
+use Rattle.std.proofs.Common.{◌≡◌, ℕ, zero, suc, ◌+◌, ◌-◌, ◌<◌, ◌≤◌, List, ◌∷◌, length, take, length-take, replicate, refl, sym, ap, subst, ◌∙◌, arith, bit_xor, inl, inr}
 use Rattle.std.proofs.lemmas.Bool.{cases_lt, cases_eq}
-use Rattle.std.proofs.lemmas.List.{get_or_past}
+use Rattle.std.proofs.lemmas.List.{get_or_past, get_or-take}
 use lib.Bits.{xor_self, xor_zero_r}
 use Rattle.gf301.specs.Field.{◌⊕◌, ◌⊗◌}
 use Rattle.gf301.specs.Polynomial.{Bytes, coefficient, convolution}
-use Rattle.gf301.proofs.Exported.{product_assoc, product_comm, product_one_left, product_one_right, product_zero_left, conv_below, conv_first, conv_same_left, conv_scale_left, conv_sum_left, conv_swap, conv_zero, product_at_zero, product_zero_at}
+use Rattle.gf301.proofs.Exported.{product_assoc, product_comm, product_one_left, product_one_right, product_zero_left, conv_below, conv_first, conv_same_left, conv_scale_left, conv_sum_left, conv_swap, conv_zero, product_at_zero, product_below, product_zero_at, same_functions, sum_below}
 use Rattle.dm_code.specs.KeyEquation.{IsLeastPair, IsExact, NoPair}
+use Rattle.dm_code.specs.inner.Ones.{IsOne}
 use Rattle.dm_code.proofs.Connections.{Connects, first_is_least, none_connects, pair_connects}
 use Rattle.dm_code.proofs.Multiples.{both_zero}
 
@@ -139,8 +140,9 @@ connects_corrected l f g s d e n c k z h q same =
 -- After n values of s: the locator l of degree d connects them, and none of a smaller degree does; y times the earlier
 -- locator e, moved up by the gap, corrects at the next place.
 pub record IsSearch (s l e : List ℕ) (y gap d n : ℕ) : Type 0 where
-  pub long : length l ≡ d + 1
-  pub room : d + gap + length e ≡ n + 2
+  pub room : d + gap ≤ n + 1
+  pub short : (i : ℕ) → suc n < d + gap + i → coefficient e i ≡ 0
+  pub bytes : (i : ℕ) → coefficient l i < 256
   pub below : d ≤ n
   pub some : 0 < gap
   pub connects : Connects (coefficient l) (coefficient s) d n
@@ -154,18 +156,72 @@ restated {s = s} {l = l} {e = e} {f = f} {y = y} {z = z} {gap = gap} {hap = hap}
     (subst (λ x. IsSearch s l x z hap c k) q
     (subst (λ x. IsSearch s l e x hap c k) r (subst (λ x. IsSearch s l e y x c k) t (subst (λ x. IsSearch s l e y gap x k) u (subst (λ x. IsSearch s l e y gap d x) v h)))))
 
+-- What is kept still holds for lists with the same coefficients.
+pub search_listed : {s l e m f : List ℕ} {y gap d n : ℕ} → IsSearch s l e y gap d n → ((i : ℕ) → coefficient l i ≡ coefficient m i) → ((i : ℕ) → coefficient e i ≡ coefficient f i)
+    → IsSearch s m f y gap d n
+search_listed {s = s} {l = l} {e = e} {m = m} {f = f} {y = y} {gap = gap} {d = d} {n = n} h p q = record {
+  room = h.room;
+  short = λ i b. sym (q i) ∙ h.short i b;
+  bytes = λ i. subst (λ x. x < 256) (p i) (h.bytes i);
+  below = h.below;
+  some = h.some;
+  connects = subst (λ (g : ℕ → ℕ). Connects g (coefficient s) d n) (same_functions {f = coefficient l} {g = coefficient m} p) h.connects;
+  least = h.least;
+  corrects = subst (λ (g : ℕ → ℕ). Corrects (moved gap (λ i. y ⊗ g i)) (coefficient s) d n) (same_functions {f = coefficient e} {g = coefficient f} q) h.corrects;
+}
+
+-- Coefficients that are 0 past a degree are those of the list up to it.
+pub coefficients_taken : (l : List ℕ) (n : ℕ) → ((i : ℕ) → n ≤ i → coefficient l i ≡ 0) → (i : ℕ) → coefficient l i ≡ coefficient (take n l) i
+coefficients_taken l n h i =
+    elim (cases_lt i n) [
+      | inl b ↦ sym (get_or-take n l i 0 b)
+      | inr b ↦ h i b ∙ sym (get_or_past (take n l) i 0 (let q : length (take n l) ≤ i = simp length-take (omega arith) in q))
+    ]
+
+-- So it does for the coefficients of the locator up to its degree.
+pub search_taken : {s l e p : List ℕ} {y gap d n : ℕ} → IsSearch s l e y gap d n → p ≡ take (d + 1) l → IsSearch s p e y gap d n
+search_taken {l = l} {d = d} h q =
+    search_listed h (λ i. coefficients_taken l (d + 1) (λ j b. h.connects.degree j (omega arith)) i ∙ ap (λ u. coefficient u i) (sym q)) (λ i. refl)
+
+-- These have the locator's product with the values.
+pub taken_product : {s l e p : List ℕ} {y gap d n : ℕ} → IsSearch s l e y gap d n → p ≡ take (d + 1) l → (i : ℕ) → convolution (coefficient p) (coefficient s) i ≡ convolution (coefficient l) (coefficient s) i
+taken_product {s = s} {l = l} {p = p} {d = d} h q i =
+    conv_same_left (coefficient p) (coefficient l) (coefficient s) i
+    (λ j b. ap (λ u. coefficient u j) q ∙ sym (coefficients_taken l (d + 1) (λ k c. h.connects.degree k (omega arith)) j))
+
+-- Zeros are the coefficients 0.
+pub zeros_everywhere : (n i : ℕ) → coefficient (replicate n 0) i ≡ 0
+zeros_everywhere zero i = refl
+zeros_everywhere (suc n) zero = refl
+zeros_everywhere (suc n) (suc i) = zeros_everywhere n i
+
+-- Past the 1 of a list of 1 and zeros the coefficients are 0.
+later_zeros : (n i : ℕ) → 0 < i → coefficient (1 ∷ replicate n 0) i ≡ 0
+later_zeros n zero h = absurd (omega arith)
+later_zeros n (suc i) h = zeros_everywhere n i
+
+-- A list of 1 and zeros is the polynomial 1.
+pub one_before_zeros : (n : ℕ) → IsOne (1 ∷ replicate n 0)
+one_before_zeros n = record { one = refl; zeros = later_zeros n }
+
+-- The coefficients of the polynomial 1 are bytes.
+one_below : (p : List ℕ) → IsOne p → (i : ℕ) → coefficient p i < 256
+one_below p h zero = subst (λ x. x < 256) (sym h.one) (omega arith)
+one_below p h (suc i) = subst (λ x. x < 256) (sym (h.zeros (suc i) (omega arith))) (omega arith)
+
 -- Before any value is taken, the locator 1 is kept.
-pub search_start : (s : List ℕ) → IsSearch s (1 ∷ []) (1 ∷ []) 1 1 0 0
+pub search_start : (s l e : List ℕ) → IsOne l → IsOne e → IsSearch s l e 1 1 0 0
 unfolding moved
-search_start s = record {
-  long = refl;
-  room = refl;
+search_start s l e h k = record {
+  room = omega arith;
+  short = λ i b. k.zeros i (omega arith);
+  bytes = one_below l h;
   below = omega arith;
   some = omega arith;
-  connects = record { one = refl; degree = λ i h. get_or_past (1 ∷ []) i 0 (omega arith); gives = λ i a b. absurd (omega arith) };
+  connects = record { one = h.one; degree = λ i b. h.zeros i b; gives = λ i a b. absurd (omega arith) };
   least = λ g c k. omega arith;
   corrects = record {
-    degree = moved_degree 0 (λ i. 1 ⊗ coefficient (1 ∷ []) i) 0 0 (λ i h. product_zero_at 1 (coefficient (1 ∷ []) i) (get_or_past (1 ∷ []) i 0 (omega arith)));
+    degree = moved_degree 0 (λ i. 1 ⊗ coefficient e i) 0 0 (λ i h. product_zero_at 1 (coefficient e i) (k.zeros i (omega arith)));
     one = λ p. absurd (omega arith);
     gives = λ p. absurd (omega arith);
   };
@@ -174,8 +230,9 @@ search_start s = record {
 -- The next value is taken without a change of the locator where there is no discrepancy.
 pub search_kept : {s l e : List ℕ} {y gap d n : ℕ} → IsSearch s l e y gap d n → convolution (coefficient l) (coefficient s) n ≡ 0 → IsSearch s l e y (suc gap) d (suc n)
 search_kept {s = s} {l = l} {e = e} {y = y} {gap = gap} {d = d} {n = n} h z = record {
-  long = h.long;
   room = omega (arith, h.room);
+  short = λ i b. h.short i (omega arith);
+  bytes = h.bytes;
   below = omega (arith, h.below);
   some = omega arith;
   connects = connects_next (coefficient l) (coefficient s) d n h.connects z;
@@ -201,6 +258,12 @@ corrected_at l e m x y gap h i =
           ∙ ap (bit_xor (coefficient l i)) (product_assoc x y (coefficient e j) ∙ ap (λ z. x ⊗ z) (sym (moved_at gap f j i q)))
     ]
 
+-- The corrected coefficients are bytes.
+bytes_corrected : (l e m : List ℕ) (x y gap : ℕ) → IsCorrected l e m x y gap → ((i : ℕ) → coefficient l i < 256) → (i : ℕ) → coefficient m i < 256
+bytes_corrected l e m x y gap h b i =
+    let z = moved gap (λ j. y ⊗ coefficient e j) i in
+    subst (λ v. v < 256) (sym (corrected_at l e m x y gap h i)) (sum_below (coefficient l i) (x ⊗ z) (b i) (product_below x z))
+
 -- The corrected locator connects the next value as well.
 search_connects : (s l e m : List ℕ) (x y gap d c n : ℕ) → IsSearch s l e y gap d n → x ≡ convolution (coefficient l) (coefficient s) n → IsCorrected l e m x y gap
     → d ≤ c → suc n ≤ d + c → Connects (coefficient m) (coefficient s) c (suc n)
@@ -210,11 +273,12 @@ search_connects s l e m x y gap d c n h q k a b =
     (λ i. corrected_at l e m x y gap k i ∙ ap (λ z. coefficient l i ⊕ z ⊗ f i) q)
 
 -- The next value is taken with a correction that leaves the degree as it is.
-pub search_same : {s l e m : List ℕ} {x y gap d n : ℕ} → IsSearch s l e y gap d n → x ≡ convolution (coefficient l) (coefficient s) n → IsCorrected l e m x y gap → length m ≡ d + 1
+pub search_same : {s l e m : List ℕ} {x y gap d n : ℕ} → IsSearch s l e y gap d n → x ≡ convolution (coefficient l) (coefficient s) n → IsCorrected l e m x y gap
     → suc n ≤ d + d → IsSearch s m e y (suc gap) d (suc n)
-search_same {s = s} {l = l} {e = e} {m = m} {x = x} {y = y} {gap = gap} {d = d} {n = n} h q k r b = record {
-  long = r;
+search_same {s = s} {l = l} {e = e} {m = m} {x = x} {y = y} {gap = gap} {d = d} {n = n} h q k b = record {
   room = omega (arith, h.room);
+  short = λ i b. h.short i (omega arith);
+  bytes = bytes_corrected l e m x y gap k h.bytes;
   below = omega (arith, h.below);
   some = omega arith;
   connects = search_connects s l e m x y gap d d n h q k (omega arith) b;
@@ -223,11 +287,12 @@ search_same {s = s} {l = l} {e = e} {m = m} {x = x} {y = y} {gap = gap} {d = d} 
 }
 
 -- The next value is taken with a correction by which the degree grows to c.
-pub search_grown : {s l e m : List ℕ} {x y z gap d c n : ℕ} → IsSearch s l e y gap d n → x ≡ convolution (coefficient l) (coefficient s) n → IsCorrected l e m x y gap → length m ≡ c + 1
+pub search_grown : {s l e m : List ℕ} {x y z gap d c n : ℕ} → IsSearch s l e y gap d n → x ≡ convolution (coefficient l) (coefficient s) n → IsCorrected l e m x y gap
     → 0 < x → x ⊗ z ≡ 1 → d ≤ c → d + c ≡ suc n → IsSearch s m l z 1 c (suc n)
-search_grown {s = s} {l = l} {e = e} {m = m} {x = x} {y = y} {z = z} {gap = gap} {d = d} {c = c} {n = n} h q k r p o a b = record {
-  long = r;
-  room = omega (arith, h.long);
+search_grown {s = s} {l = l} {e = e} {m = m} {x = x} {y = y} {z = z} {gap = gap} {d = d} {c = c} {n = n} h q k p o a b = record {
+  room = omega (arith, b);
+  short = λ i r. h.connects.degree i (omega arith);
+  bytes = bytes_corrected l e m x y gap k h.bytes;
   below = omega (arith, h.below);
   some = omega arith;
   connects = search_connects s l e m x y gap d c n h q k a (omega arith);
@@ -237,7 +302,7 @@ search_grown {s = s} {l = l} {e = e} {m = m} {x = x} {y = y} {z = z} {gap = gap}
   corrects = corrects_next 0 (λ i. z ⊗ coefficient l i) (coefficient s) c n (corrects_grown (coefficient l) (coefficient s) d c n z h.connects b (ap (λ v. v ⊗ z) (sym q) ∙ o));
 }
 
--- ---- the answers
+-- ---- the results
 -- Where the degree would grow above t, there is no pair within t.
 pub search_refuses : {s l e : List ℕ} {x y gap d n t : ℕ} → IsSearch s l e y gap d n → x ≡ convolution (coefficient l) (coefficient s) n → 0 < x → n < length s → d + t < suc n → NoPair s t
 search_refuses {s = s} {l = l} {d = d} {n = n} {t = t} h q p b a =
@@ -246,19 +311,18 @@ search_refuses {s = s} {l = l} {d = d} {n = n} {t = t} h q p b a =
     omega arith)
 
 -- After all values the locator and the coefficients of its product below its degree are the least pair.
-pub search_answers : {s l e w : List ℕ} {y gap d n t : ℕ} → IsSearch s l e y gap d n → n ≡ length s → d ≤ t → Bytes l → Bytes w → length w + 1 ≡ length l
+pub search_results : {s l e w : List ℕ} {y gap d n t : ℕ} → IsSearch s l e y gap d n → n ≡ length s → d ≤ t → Bytes l → Bytes w → length w ≡ d
     → ((i : ℕ) → i < length w → coefficient w i ≡ convolution (coefficient l) (coefficient s) i) → IsLeastPair s t l w
-search_answers {s = s} {l = l} {w = w} {d = d} {t = t} h q b bl bw k a =
-    let r : length w ≡ d = omega (arith, h.long) in
+search_results {s = s} {l = l} {w = w} {d = d} {t = t} h q b bl bw r a =
     first_is_least s l w t d b
     (λ c k g v. let z : d ≤ c = h.least g c (subst (λ m. Connects g (coefficient s) c m) (sym q) v) in omega arith)
     (subst (λ m. Connects (coefficient l) (coefficient s) d m) q h.connects) bl bw r (λ i c. a i (omega arith))
 
 -- Its lists have no number too many, since no locator of a smaller degree connects the values.
-pub search_exact : {s l e w : List ℕ} {y gap d n t : ℕ} → IsSearch s l e y gap d n → n ≡ length s → length w + 1 ≡ length l → IsLeastPair s t l w → IsExact l w
-search_exact {s = s} {l = l} {w = w} {d = d} {t = t} h q k p = record {
+pub search_exact : {s l e w : List ℕ} {y gap d n t : ℕ} → IsSearch s l e y gap d n → n ≡ length s → length l ≡ d + 1 → length w ≡ d → IsLeastPair s t l w → IsExact l w
+search_exact {s = s} {l = l} {w = w} {d = d} {t = t} h q k r p = record {
   locator = omega arith;
   evaluator = λ c b.
       let z : d ≤ c = h.least (coefficient l) c (subst (λ m. Connects (coefficient l) (coefficient s) c m) (sym q) (pair_connects s l w t c p.pair b)) in
-      omega (arith, h.long);
+      omega arith;
 }

@@ -1,4 +1,4 @@
--- What the answers of a correction rest on: a word is a codeword where its syndromes are 0, and then it is near to itself.
+-- What the results of a correction rest on: a word is a codeword where its syndromes are 0, and then it is near to itself.
 use Rattle.std.proofs.Common.{◌≡◌, ℕ, zero, suc, ◌+◌, ◌/◌, ◌<◌, ◌≤◌, List, [], ◌∷◌, ◌++◌, length, get_or, take, drop, refl, sym, ap, subst, ◌∙◌, arith, All, replicate}
 use Rattle.std.proofs.lemmas.Grind.{common_steps}
 use Rattle.std.proofs.lemmas.List.{ext_get_or, length-replicate, get_or-replicate}

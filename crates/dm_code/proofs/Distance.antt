@@ -59,7 +59,7 @@ differing_none v w (suc n) h =
     let i : differing v w n ≡ 0 = differing_none v w n (λ j l. h j (omega arith)) in
     omega (arith, differs_same (get_or v n 0) (get_or w n 0) (h n (omega arith)))
 
--- Words with one front differ in no more places than follow it.
+-- Words with one prefix differ in no more places than follow it.
 pub distance_after : (f c d : List ℕ) → distance (f ++ c) (f ++ d) ≤ length c
 distance_after f c d =
     let m : differing (f ++ c) (f ++ d) (length f + length c) ≤ differing (f ++ c) (f ++ d) (length f) + length c = differing_more (f ++ c) (f ++ d) (length f) (length c) in

@@ -1,6 +1,6 @@
 -- The places of the errors. An error list has, at each place, what was added to the codeword; a place's locator is 2 to
--- the power of the number of places after it. Every pair of the key equation within few enough places is 0 at the locators
--- of the errors, and the least pair only there.
+-- the power of the number of places after it. Read with the highest power first, the locator of every pair of the key
+-- equation within few enough places is 0 at the locators of the errors, and that of the least pair only there.
 use Rattle.std.proofs.Common.{◌≡◌, ℕ, zero, suc, ◌+◌, ◌-◌, ◌<◌, ◌≤◌, List, [], ◌∷◌, length, get_or, refl, sym, ap, subst, ◌∙◌, arith, bit_xor, inl, inr}
 use Rattle.std.proofs.lemmas.Bool.{cases_lt, cases_eq}
 use Rattle.std.proofs.lemmas.List.{get_or_past}

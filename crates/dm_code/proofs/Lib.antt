@@ -6,6 +6,7 @@ mod SyndromeLanes
 mod Bytes
 mod Degrees
 mod Connections
+mod LaneDots
 mod BerlekampMassey
 mod Counts
 mod First
@@ -20,7 +21,6 @@ mod Nearness
 mod OddTerms
 mod Corrections
 mod ErrorTerms
-mod LaneTerms
 mod CleanWords
 mod Choices
 mod NearOrNone

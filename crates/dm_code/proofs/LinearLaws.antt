@@ -172,13 +172,13 @@ free_down rows c v h z s = solves_at rows (suc c) (c + 1) (MOST_ERRORS - suc c) 
 pub free_up : (rows : List (List ℕ)) (c : ℕ) (v : ℕ → ℕ) → c < MOST_ERRORS → ((k : ℕ) → k < length rows → row rows k c ≡ 0) → Solves rows (c + 1) (MOST_ERRORS - (c + 1)) v → Solves rows c (MOST_ERRORS - c) v
 free_up rows c v h z s = solves_at rows c c (suc (MOST_ERRORS - suc c)) (MOST_ERRORS - c) v refl (omega arith) (solves_sooner rows c (MOST_ERRORS - suc c) v z (solves_at rows (c + 1) (suc c) (MOST_ERRORS - (c + 1)) (MOST_ERRORS - suc c) v (omega arith) (omega arith) s))
 
--- Where the column c is 0 in each row, an answer with a solution in the unknowns after c is right for those from c on.
+-- Where the column c is 0 in each row, a result with a solution in the unknowns after c is right for those from c on.
 pub free_some : (rows : List (List ℕ)) (c : ℕ) (o : Option (List ℕ)) → c < MOST_ERRORS → ((k : ℕ) → k < length rows → row rows k c ≡ 0)
     → IfSome o (λ v. Solves rows (c + 1) (MOST_ERRORS - (c + 1)) (coefficient v)) → IfSome o (λ v. Solves rows c (MOST_ERRORS - c) (coefficient v))
 free_some rows c (Some v) h z m = free_up rows c (coefficient v) h z m
 free_some rows c None h z m = tt
 
--- Where the column c is 0 in each row, an answer that there is no solution in the unknowns after c is right for those from c on.
+-- Where the column c is 0 in each row, a result that there is no solution in the unknowns after c is right for those from c on.
 pub free_none : (rows : List (List ℕ)) (c : ℕ) (o : Option (List ℕ)) → c < MOST_ERRORS → ((k : ℕ) → k < length rows → row rows k c ≡ 0)
     → IfNone o (Unsolvable rows (c + 1) (MOST_ERRORS - (c + 1))) → IfNone o (Unsolvable rows c (MOST_ERRORS - c))
 free_none rows c (Some v) h z m = tt

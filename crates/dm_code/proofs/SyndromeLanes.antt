@@ -1,14 +1,14 @@
 -- Syndromes in lanes: the values of a word at sixteen elements, part by part, and at one element, sixteen codewords at a time.
-use Rattle.std.proofs.Common.{◌≡◌, ℕ, zero, suc, ◌+◌, ◌^◌, ◌≤◌, List, [], ◌∷◌, ◌++◌, length, map, take, drop, replicate, get_or, refl, sym, ap, ◌∙◌, arith, bit_xor, drop-cons, length-drop, w8, Fits}
+use Rattle.std.proofs.Common.{◌≡◌, ℕ, zero, suc, ◌+◌, ◌≤◌, List, [], ◌∷◌, ◌++◌, length, map, take, drop, replicate, get_or, refl, sym, ap, ◌∙◌, arith, bit_xor, drop-cons, length-drop}
 use Rattle.std.proofs.lemmas.List.{append-nil, take-replicate, length-replicate}
-use Rattle.std.proofs.lemmas.Simd.{splat_is_map, zip2_of_maps}
-use Rattle.std.proofs.Math.Nat.{add-zero, zero-add, pow-succ'}
+use Rattle.std.proofs.lemmas.Simd.{splat_is_map}
+use Rattle.std.proofs.Math.Nat.{add-zero, zero-add}
 use borrow.Rule.Slice.PartMut.{put_mid}
-use lib.Lanes.{zip2, Each1}
+use lib.Lanes.{zip2}
 use lib.Bits.{xor_comm}
 use Rattle.gf301.specs.Field.{◌⊕◌, ◌⊗◌, raise, power}
 use Rattle.gf301.specs.Polynomial.{value, values_from}
-use Rattle.gf301.proofs.Exported.{product_comm, product_one_right, product_zero_left, raise_add, plus, scale, length_scale, value_plus, value_scale, value_zeros}
+use Rattle.gf301.proofs.Exported.{product_comm, product_zero_left, plus, scale, length_scale, value_plus, value_scale, value_zeros}
 use Rattle.dm_code.proofs.Register.{value_append}
 use Rattle.dm_code.specs.Syndromes.{syndromes_of}
 
@@ -18,10 +18,10 @@ unfolding value
 lanes_start xs n e = splat_is_map xs n 0 e
 
 -- A codeword in front adds its multiple of the power of each element.
-lanes_front : (a : ℕ) (p xs : List ℕ) → zip2 bit_xor (map (value p) xs) (map (λ x. a ⊗ x) (map (λ x. raise x (length p)) xs)) ≡ map (value (a ∷ p)) xs
+lanes_first : (a : ℕ) (p xs : List ℕ) → zip2 bit_xor (map (value p) xs) (map (λ x. a ⊗ x) (map (λ x. raise x (length p)) xs)) ≡ map (value (a ∷ p)) xs
 unfolding value
-lanes_front a p [] = refl
-lanes_front a p (x ∷ xs) = λ i. xor_comm (value p x) (a ⊗ raise x (length p)) i ∷ lanes_front a p xs i
+lanes_first a p [] = refl
+lanes_first a p (x ∷ xs) = λ i. xor_comm (value p x) (a ⊗ raise x (length p)) i ∷ lanes_first a p xs i
 
 -- The codeword in front of the n last ones of a word adds its multiple of the powers n.
 pub lanes_more : (w xs : List ℕ) (i n : ℕ) → i + suc n ≡ length w
@@ -29,7 +29,7 @@ pub lanes_more : (w xs : List ℕ) (i n : ℕ) → i + suc n ≡ length w
 lanes_more w xs i n e =
     let l : length (drop (suc i) w) ≡ n = simp length-drop (omega arith) in
     ap (λ m. zip2 bit_xor (map (value (drop (suc i) w)) xs) (map (λ x. get_or w i 0 ⊗ x) (map (λ x. raise x m) xs))) (sym l)
-    ∙ lanes_front (get_or w i 0) (drop (suc i) w) xs
+    ∙ lanes_first (get_or w i 0) (drop (suc i) w) xs
     ∙ ap (λ t. map (value t) xs) (sym (drop-cons w i 0 (omega arith)))
 
 -- ---- parts of a word
@@ -45,7 +45,7 @@ drop_whole [] (suc n) h = refl
 drop_whole (a ∷ w) zero h = absurd (omega arith)
 drop_whole (a ∷ w) (suc n) h = drop_whole w n (omega arith)
 
--- The front of an empty list is the list itself.
+-- A prefix of an empty list is the list itself.
 take_none : (m : ℕ) (w : List ℕ) → length w ≡ 0 → take m w ≡ w
 take_none zero [] h = refl
 take_none (suc m) [] h = refl
@@ -56,19 +56,6 @@ pub take_parts : (n m : ℕ) (w : List ℕ) → take (n + m) w ≡ take n w ++ t
 take_parts zero m w = ap (λ j. take j w) (zero-add m)
 take_parts (suc n) m [] = ap (λ j. take j []) (let e : suc n + m ≡ suc (n + m) = omega arith in e) ∙ sym (take_none m [] refl)
 take_parts (suc n) m (a ∷ w) = ap (λ j. take j (a ∷ w)) (let e : suc n + m ≡ suc (n + m) = omega arith in e) ∙ ap (λ t. a ∷ t) (take_parts n m w)
-
--- ---- powers by squaring
--- Each element is its own first power.
-pub first_powers : (xs : List ℕ) → Each1 (Fits w8) xs → xs ≡ map (λ x. raise x (2 ^ 0)) xs
-unfolding raise
-first_powers [] f = refl
-first_powers (x ∷ xs) f = λ i. sym (product_one_right x f.0.fits) i ∷ first_powers xs f.1 i
-
--- The squares of the powers 2^n are the powers 2^(n + 1).
-pub squares : (xs ys : List ℕ) (n : ℕ) → ys ≡ map (λ x. raise x (2 ^ n)) xs → zip2 (λ x y. x ⊗ y) ys ys ≡ map (λ x. raise x (2 ^ (n + 1))) xs
-squares xs ys n e =
-    zip2_of_maps (λ x y. x ⊗ y) (λ x. raise x (2 ^ n)) (λ x. raise x (2 ^ n)) xs e e
-    ∙ ap (λ f. map f xs) (λ i x. (sym (raise_add x (2 ^ n) (2 ^ n)) ∙ ap (raise x) (let q : 2 ^ n + 2 ^ n ≡ 2 ^ (n + 1) = omega (arith, pow-succ' 2 n, ap (λ m. 2 ^ m) (let r : n + 1 ≡ suc n = omega arith in r)) in q)) i)
 
 -- ---- sixteen codewords at a time
 -- The sum of two lists is taken lane by lane.

@@ -1,2 +1,4 @@
 pub mod LinearSystem
 pub mod OddTerms
+pub mod Ones
+pub mod Backwards

@@ -8,12 +8,13 @@ ghost use Rattle.dm_code.specs.Syndromes.{syndromes_of};
 ghost use Rattle.dm_code.specs.KeyEquation.{IsBelow, IsLeastPair};
 
 use crate::encoding::remainder;
-use crate::errors::{add_error, error_value, first_coefficients, step, sums, trim_zeros};
+use crate::errors::{add_error, error_value};
 use crate::key::{Key, KeySolver};
-use crate::limits::{LONGEST_WORD, MOST_COEFFICIENTS, SYNDROMES_ROOM};
+use crate::limits::{LONGEST_WORD, MOST_COEFFICIENTS};
+use crate::polynomial::{first_coefficients, sums, trim_zeros};
 use crate::syndrome::syndromes;
 use arrayvec::ArrayVec;
-use gf301::{Gf, MOST_CHECKS};
+use gf301::{CHECKS_ROOM, Gf, MOST_CHECKS};
 
 /// A corrected word.
 #[derive(Clone, Debug, PartialEq, Eq, Drop)]
@@ -28,13 +29,13 @@ pub struct Fixed {
 #[derive(Clone, Copy, Debug, PartialEq, Eq)]
 pub struct BeyondLimit;
 
-/// Returns the codeword of k check codewords that differs from the word in at most k div 2 places, and says in how many. It is
-/// answered exactly where there is one, and [`BeyondLimit`] exactly where there is none; a word that is a codeword is answered
-/// with itself and 0. The word has k + 1 to [`LONGEST_WORD`] codewords, the data codewords first, and k is 1 to [`MOST_CHECKS`]
-/// (ISO/IEC 16022, error checking and correction).
+/// Gives the codeword of k check codewords that differs from the word in at most k div 2 places, and in how many it does, exactly
+/// where there is one, and [`BeyondLimit`] exactly where there is none; a word that is a codeword gives itself and 0. The word has
+/// k + 1 to [`LONGEST_WORD`] codewords, the data codewords first, and k is 1 to [`MOST_CHECKS`] (ISO/IEC 16022, error checking and
+/// correction).
 ///
-/// No such word lies within k div 2 places of two codewords, so there is no choice. A word with more
-/// wrong codewords than that may lie near to another codeword, and is then corrected to it.
+/// No such word lies within k div 2 places of two codewords, so there is no choice. A word with more wrong codewords than that
+/// may lie near to another codeword, and is then corrected to it.
 ///
 /// For a word of n codewords, with t for k div 2, the work is about n k + k k + 2 n t + t k products, sixteen at a time, and that
 /// of the solver; for a codeword it is n k alone.
@@ -74,33 +75,35 @@ pub fn correct<S: KeySolver>(solver: &S, word: &[u8], k: usize) -> Result<Fixed,
     }
 }
 
-/// Corrects the word at each place whose locator is a root of the error locator. Where a codeword is near, the word then
-/// is this codeword. The first k of the syndromes are kept those of the word, so that the answer is tested without new ones.
+/// Corrects the word at each place whose locator's inverse is a root of the error locator. Where a codeword is near, the word
+/// then is this codeword. The first k of the syndromes stay those of the word, so that the corrected word is tested without
+/// new ones.
 fn correct_errors(word: &mut [u8], syndromes: &mut [u8], k: usize, key: &Key)
     requires checks { 0 < k }
     requires most { k ≤ MOST_CHECKS }
     requires long { length word.old ≤ LONGEST_WORD }
-    requires room { length syndromes.old ≡ SYNDROMES_ROOM }
+    requires room { length syndromes.old ≡ CHECKS_ROOM }
     requires syndromes { take k syndromes.old ≡ syndromes_of word.old k }
     requires key { IsLeastPair (syndromes_of word.old k) (k / 2) key.now.locator.items
         key.now.evaluator.items }
     ensures near { (c : List ℕ) → IsNear k word.old c → word.new ≡ c }
     ensures long { length word.new ≡ length word.old }
     ensures bytes { Bytes word.new }
-    ensures room { length syndromes.new ≡ SYNDROMES_ROOM }
+    ensures room { length syndromes.new ≡ CHECKS_ROOM }
     ensures kept { take k syndromes.new ≡ syndromes_of word.new k }
 {
     let locator = trim_zeros(&key.locator);
     correct_roots(word, syndromes, k, locator, &key.evaluator);
 }
 
-/// Does what [`correct_errors`] does, for a locator without zeros at its end. Roots are looked for, and what gives the errors'
-/// values is computed, at sixteen places at once, from the last place on.
+/// Does what [`correct_errors`] does, for a locator without zeros at its end. Sixteen places at once, from the last place on, are
+/// tested for roots, and what gives the errors' values is computed there. The lists are read with the highest power first: the
+/// locator then has the wrong places' locators as roots.
 fn correct_roots(word: &mut [u8], syndromes: &mut [u8], k: usize, locator: &[u8], evaluator: &[u8])
     requires checks { 0 < k }
     requires most { k ≤ MOST_CHECKS }
     requires long { length word.old ≤ LONGEST_WORD }
-    requires room { length syndromes.old ≡ SYNDROMES_ROOM }
+    requires room { length syndromes.old ≡ CHECKS_ROOM }
     requires syndromes { take k syndromes.old ≡ syndromes_of word.old k }
     requires short { length locator.now ≤ MOST_COEFFICIENTS }
     requires tight { (n : ℕ) → IsBelow n locator.now → length locator.now ≤ n }
@@ -108,21 +111,18 @@ fn correct_roots(word: &mut [u8], syndromes: &mut [u8], k: usize, locator: &[u8]
     ensures near { (c : List ℕ) → IsNear k word.old c → word.new ≡ c }
     ensures long { length word.new ≡ length word.old }
     ensures bytes { Bytes word.new }
-    ensures room { length syndromes.new ≡ SYNDROMES_ROOM }
+    ensures room { length syndromes.new ≡ CHECKS_ROOM }
     ensures kept { take k syndromes.new ≡ syndromes_of word.new k }
 {
-    let mut terms: ArrayVec<u8, MOST_COEFFICIENTS> = copy_of(locator);
-    let terms = terms.as_mut_slice();
-    let mut upper_terms = first_coefficients(evaluator, locator.len().saturating_sub(1));
-    let upper_terms = upper_terms.as_mut_slice();
+    let upper = first_coefficients(evaluator, locator.len().saturating_sub(1));
     let groups = k.div_ceil(16);
     for part in 0..word.len().div_ceil(16) {
-        let (values, divisors) = sums(terms);
-        let (numerators, _) = sums(upper_terms);
+        let first = 16 * part;
+        let (values, divisors) = sums(locator, first);
+        let (numerators, _) = sums(&upper, first);
         let values = values.to_array();
         let divisors = divisors.to_array();
         let numerators = numerators.to_array();
-        let first = 16 * part;
         for lane in 0..(word.len() - first).min(16) {
             if values[lane] == 0 {
                 let place = word.len() - 1 - (first + lane);
@@ -132,13 +132,11 @@ fn correct_roots(word: &mut [u8], syndromes: &mut [u8], k: usize, locator: &[u8]
                 add_error(syndromes, groups, value, at);
             }
         }
-        step(terms);
-        step(upper_terms);
     }
 }
 
 /// Copies the list.
-fn copy_of<const N: usize>(list: &[u8]) -> ArrayVec<u8, N>
+pub(crate) fn copy_of<const N: usize>(list: &[u8]) -> ArrayVec<u8, N>
     requires { length list.now ≤ N }
     ensures { result.items ≡ list.now }
 {
@@ -148,16 +146,16 @@ fn copy_of<const N: usize>(list: &[u8]) -> ArrayVec<u8, N>
 }
 
 /// Puts zeros behind the syndromes.
-fn with_room(syndromes: &[u8]) -> [u8; SYNDROMES_ROOM]
+fn with_room(syndromes: &[u8]) -> [u8; CHECKS_ROOM]
     requires { length syndromes.now ≤ MOST_CHECKS }
     ensures { take (length syndromes.now) result ≡ syndromes.now }
 {
-    let mut room = [0; SYNDROMES_ROOM];
+    let mut room = [0; CHECKS_ROOM];
     room[..syndromes.len()].copy_from_slice(syndromes);
     room
 }
 
-/// Says whether every number of the list is 0.
+/// Whether every number of the list is 0.
 fn are_zero(list: &[u8]) -> bool
     ensures { IsTrue result ↔ All (λ a. a ≡ 0) list.now }
 {

@@ -29,7 +29,7 @@ impl KeySolver for Elimination {
     }
 }
 
-/// Returns the equations for a locator of a degree of at most `degree`: at each place from `degree` on, the product of the
+/// Gives the equations for a locator of a degree of at most `degree`: at each place from `degree` on, the product of the
 /// locator and the syndromes has the coefficient 0.
 fn rows_of(s: &[u8], degree: usize) -> ArrayVec<Row, MOST_CHECKS>
     requires small { degree ≤ MOST_ERRORS }
@@ -46,7 +46,7 @@ fn rows_of(s: &[u8], degree: usize) -> ArrayVec<Row, MOST_CHECKS>
     rows
 }
 
-/// Returns the equation of the place `i + degree`. Its unknowns are the coefficients of the locator, that of x^0 last.
+/// Gives the equation of the place `i + degree`. Its unknowns are the coefficients of the locator, that of x^0 last.
 fn row_of(s: &[u8], degree: usize, i: usize) -> Row
     requires small { degree ≤ MOST_ERRORS }
     requires within { i + degree < length s.now }
@@ -60,7 +60,7 @@ fn row_of(s: &[u8], degree: usize, i: usize) -> Row
     row
 }
 
-/// Returns the pair of a locator that solves the equations.
+/// Gives the pair of the locator that solves the equations: its coefficients are the solution's from the last one back.
 fn key_of(s: &[u8], solution: &Row, degree: usize) -> Key
     requires small { degree ≤ MOST_ERRORS }
     requires within { degree ≤ length s.now }
@@ -82,13 +82,14 @@ fn key_of(s: &[u8], solution: &Row, degree: usize) -> Key
     Key { locator, evaluator }
 }
 
-/// Returns the first `count` coefficients of the product of the locator and the syndromes.
+/// Gives the first `count` coefficients of the product of the locator and the syndromes.
 fn evaluator_of(s: &[u8], locator: &[u8], count: usize) -> ArrayVec<u8, MOST_ERRORS>
     requires small { count ≤ MOST_ERRORS }
     requires within { count ≤ length s.now }
     ensures long { array_vec_len result ≡ count }
     ensures each { (i : ℕ) → i < count
-        → coefficient result.items i ≡ convolution (coefficient locator.now) (coefficient s.now) i }
+        → coefficient result.items i
+        ≡ convolution (coefficient locator.now) (coefficient s.now) i }
 {
     let mut evaluator: ArrayVec<u8, MOST_ERRORS> = ArrayVec::new();
     for i in 0..count {

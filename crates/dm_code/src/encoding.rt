@@ -8,12 +8,12 @@ ghost use Rattle.dm_code.specs.Syndromes.{syndromes_of};
 
 use crate::limits::LONGEST_WORD;
 use arrayvec::ArrayVec;
-use gf301::{MOST_CHECKS, add_scaled, taps};
+use gf301::{CHECKS_ROOM, MOST_CHECKS, add_scaled, taps};
 
 /// Room for a word, and behind it for the rest of the last sixteen numbers that a step of the division writes: at most 15.
-const ROOM: usize = LONGEST_WORD + 15;
+const DIVISION_ROOM: usize = LONGEST_WORD + 15;
 
-/// Returns the k check codewords of the data codewords `front`, k of 1 to [`MOST_CHECKS`], where both together are at most
+/// Gives the k check codewords of the data codewords `front`, k of 1 to [`MOST_CHECKS`], where both together are at most
 /// [`LONGEST_WORD`]: the one list of k codewords that completes `front` to a codeword of k checks.
 pub fn encode(front: &[u8], k: usize) -> ArrayVec<u8, MOST_CHECKS>
     requires some { 1 ≤ k }
@@ -22,10 +22,11 @@ pub fn encode(front: &[u8], k: usize) -> ArrayVec<u8, MOST_CHECKS>
     ensures count { length result.items ≡ k }
     ensures bytes { Bytes result.items }
     ensures completes { IsCodeword k (front.now ++ result.items) }
-    ensures only { (c : List ℕ) → length c ≡ k → IsCodeword k (front.now ++ c) → c ≡ result.items }
+    ensures only { (c : List ℕ) → length c ≡ k → IsCodeword k (front.now ++ c)
+        → c ≡ result.items }
 {
     let count = front.len();
-    let mut rest = [0; ROOM];
+    let mut rest = [0; DIVISION_ROOM];
     rest[..count].copy_from_slice(front);
     divide(&mut rest, count, k);
     let mut checks = ArrayVec::new();
@@ -33,9 +34,9 @@ pub fn encode(front: &[u8], k: usize) -> ArrayVec<u8, MOST_CHECKS>
     checks
 }
 
-/// Returns what is left of a word when it is divided by the generator for k check codewords, k of 1 to [`MOST_CHECKS`]: k
+/// Gives what is left of a word when it is divided by the generator for k check codewords, k of 1 to [`MOST_CHECKS`]: k
 /// numbers, with the same syndromes as the word. They are all 0 where the word is a codeword.
-pub fn remainder(word: &[u8], k: usize) -> ArrayVec<u8, MOST_CHECKS>
+pub(crate) fn remainder(word: &[u8], k: usize) -> ArrayVec<u8, MOST_CHECKS>
     requires some { 1 ≤ k }
     requires most { k ≤ MOST_CHECKS }
     requires whole { k ≤ length word.now }
@@ -43,7 +44,7 @@ pub fn remainder(word: &[u8], k: usize) -> ArrayVec<u8, MOST_CHECKS>
     ensures { syndromes_of result.items k ≡ syndromes_of word.now k }
 {
     let count = word.len() - k;
-    let mut rest = [0; ROOM];
+    let mut rest = [0; DIVISION_ROOM];
     rest[..word.len()].copy_from_slice(word);
     divide(&mut rest, count, k);
     let mut left = ArrayVec::new();
@@ -53,7 +54,7 @@ pub fn remainder(word: &[u8], k: usize) -> ArrayVec<u8, MOST_CHECKS>
 
 /// Divides the first `count` + k numbers, as a polynomial, by the generator for k check codewords: takes a multiple of it
 /// away from each of the first `count` places on, so that its last k numbers are then what is left.
-fn divide(rest: &mut [u8; ROOM], count: usize, k: usize)
+fn divide(rest: &mut [u8; DIVISION_ROOM], count: usize, k: usize)
     requires some { 1 ≤ k }
     requires most { k ≤ MOST_CHECKS }
     requires room { count + k ≤ LONGEST_WORD }
@@ -67,13 +68,13 @@ fn divide(rest: &mut [u8; ROOM], count: usize, k: usize)
         2 => divide_in::<32>(rest, count, k),
         3 => divide_in::<48>(rest, count, k),
         4 => divide_in::<64>(rest, count, k),
-        _ => divide_in::<80>(rest, count, k),
+        _ => divide_in::<CHECKS_ROOM>(rest, count, k),
     }
 }
 
 /// Does what [`divide`] does, with a multiple that is `WIDTH` numbers wide: k, and what is missing to a multiple of 16. The
 /// compiler has a loop for each width, in which the generator's coefficients stay in lanes.
-fn divide_in<const WIDTH: usize>(rest: &mut [u8; ROOM], count: usize, k: usize)
+fn divide_in<const WIDTH: usize>(rest: &mut [u8; DIVISION_ROOM], count: usize, k: usize)
     requires lanes { WIDTH % 16 ≡ 0 }
     requires enough { k ≤ WIDTH }
     requires tight { WIDTH < k + 16 }

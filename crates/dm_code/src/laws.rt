@@ -51,7 +51,7 @@ pub fn least_pair_is_one()
 {}
 
 /// With 2 t at most the number of syndromes, two least pairs whose lists have no number too many are the same lists: what
-/// [`crate::Quick`] answers is determined, list by list.
+/// [`crate::Quick`] gives is determined, list by list.
 pub fn exact_least_pair_is_one()
     ensures { ExactLeastPairIsOne }
 {}

@@ -7,17 +7,18 @@
 //!
 //! [`encode`] makes the check codewords of a block. [`correct`] gives the codeword within k div 2 wrong codewords of a
 //! word, or says that there is none; it divides the word by the generator, takes the [`syndromes`] of what is left, has a
-//! [`KeySolver`] solve the key equation for them, and finds the wrong places and what is wrong there from the answer. There
-//! are two solvers: [`Quick`], whose work grows with the square of the number of syndromes at the most, and
-//! [`Elimination`], whose work grows with its fourth power at the most.
+//! [`KeySolver`] solve the key equation for them, and finds the wrong places and what is wrong there from its pair of
+//! polynomials, the [`Key`]. There are two solvers: [`Quick`], whose work grows with the square of the number of syndromes at
+//! the most, and [`Elimination`], whose work grows with its fourth power at the most.
 //!
-//! Everything but the solvers works in lanes, on sixteen codewords, roots or places at once ([`gf301::scaled`]): check
-//! codewords are what is left of a division in place, syndromes are sums over parts of a word, and roots of the error
-//! locator are looked for at sixteen places together.
+//! Everything but [`Elimination`] works in lanes, on sixteen codewords, roots, places or coefficients at once: check
+//! codewords are what is left of a division in place, syndromes are sums over parts of a word, and wrong places are looked
+//! for sixteen at a time.
 //!
 //! The definitions that the contracts cite are in `specs/`: `Codeword`, `Syndromes` and `KeyEquation`. What holds of these
 //! definitions, whatever the code does, is stated in `CodewordLaws` and `KeyEquationLaws` there and proved in [`laws`].
-//! `inner` has the definitions that private functions alone cite: `LinearSystem` for the elimination, `OddTerms` for finding errors.
+//! `inner` has the definitions that private functions alone cite: `LinearSystem` for the elimination, `OddTerms` for finding
+//! errors, `Ones` and `Backwards` for [`Quick`].
 #![tactic(auto)]
 
 mod correction;
@@ -27,6 +28,7 @@ mod errors;
 mod key;
 pub mod laws;
 mod limits;
+mod polynomial;
 mod quick;
 mod syndrome;
 mod system;

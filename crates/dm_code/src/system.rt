@@ -11,10 +11,10 @@ use gf301::{Gf, MOST_CHECKS};
 
 /// An equation, a coefficient for each unknown: the sum of the products of coefficients and unknowns is 0. The last
 /// unknown is 1.
-pub type Row = [u8; MOST_COEFFICIENTS];
+pub(crate) type Row = [u8; MOST_COEFFICIENTS];
 
-/// Returns a solution of the rows in the unknowns from the place `first` on, and None where they have none.
-pub fn solve(rows: &[Row], first: usize) -> Option<Row>
+/// Gives a solution of the rows in the unknowns from the place `first` on, and None where they have none.
+pub(crate) fn solve(rows: &[Row], first: usize) -> Option<Row>
     requires within { first ≤ MOST_ERRORS }
     requires few { length rows.now ≤ MOST_CHECKS }
     ensures solution { IfSome result
@@ -36,7 +36,7 @@ pub fn solve(rows: &[Row], first: usize) -> Option<Row>
     }
 }
 
-/// Returns the solution of the rows in the last unknown alone, which is 1 where no row has it.
+/// Gives the solution of the rows in the last unknown alone, which is 1 where no row has it.
 fn last_unknown(rows: &[Row]) -> Option<Row>
     ensures solution { IfSome result (λ v. Solves rows.now MOST_ERRORS 0 (coefficient v)) }
     ensures none { IfNone result (Unsolvable rows.now MOST_ERRORS 0) }
@@ -51,10 +51,11 @@ fn last_unknown(rows: &[Row]) -> Option<Row>
     }
 }
 
-/// Returns a row in which the coefficient of this unknown isn't 0.
+/// Gives the place of a row in which the coefficient of this unknown isn't 0, and None where there is none.
 fn pivot(rows: &[Row], unknown: usize) -> Option<usize>
     requires { unknown < MOST_COEFFICIENTS }
-    ensures { MatchOption result ((k : ℕ) → k < length rows.now → row rows.now k unknown ≡ 0)
+    ensures { MatchOption result
+        ((k : ℕ) → k < length rows.now → row rows.now k unknown ≡ 0)
         (λ p. (p < length rows.now)
         × (0 < row rows.now p unknown) × (row rows.now p unknown < 256)) }
 {
@@ -67,7 +68,7 @@ fn pivot(rows: &[Row], unknown: usize) -> Option<usize>
     None
 }
 
-/// Returns the rows less multiples of the pivot row `p`, so that this unknown is left in none of them. `inverse` is the inverse
+/// Gives the rows less multiples of the pivot row `p`, so that this unknown is left in none of them. `inverse` is the inverse
 /// of its coefficient in the pivot row.
 fn without(rows: &[Row], p: usize, inverse: Gf, unknown: usize) -> ArrayVec<Row, MOST_CHECKS>
     requires within { unknown < MOST_COEFFICIENTS }
@@ -85,9 +86,10 @@ fn without(rows: &[Row], p: usize, inverse: Gf, unknown: usize) -> ArrayVec<Row,
     less
 }
 
-/// Returns `f` plus `x` times `g`.
+/// Gives `f` plus `x` times `g`.
 fn with_multiple(f: &Row, x: Gf, g: &Row) -> Row
-    ensures { (j : ℕ) → coefficient result j ≡ coefficient f.now j ⊕ x.0 ⊗ coefficient g.now j }
+    ensures { (j : ℕ)
+        → coefficient result j ≡ coefficient f.now j ⊕ x.0 ⊗ coefficient g.now j }
 {
     let mut sum = *f;
     for j in 0..MOST_COEFFICIENTS {
@@ -96,7 +98,7 @@ fn with_multiple(f: &Row, x: Gf, g: &Row) -> Row
     sum
 }
 
-/// Returns the sum of the products of the two rows, place by place, from the place `first` on.
+/// Gives the sum of the products of the two rows, place by place, from the place `first` on.
 fn dot_from(f: &Row, v: &Row, first: usize) -> Gf
     requires { first ≤ MOST_COEFFICIENTS }
     ensures { result.0

@@ -9,7 +9,7 @@ use Rattle.gf301.specs.Field.{◌⊕◌, ◌⊗◌, carryless, modulo_301}
 use Rattle.gf301.proofs.Additive.{all_below, all_below_at}
 use Rattle.gf301.proofs.FieldLaws.{product_sum_right, product_comm, product_assoc, product_zero_right, product_one_right}
 
--- A lane of the answer of a comparison is 255 or 0, and its highest bit tells which.
+-- A lane of the result of a comparison is 255 or 0, and its highest bit tells which.
 flag : (b : Bool) → top 7 (cond b 255 0) ≡ b
 flag true = refl
 flag false = refl

@@ -18,28 +18,28 @@ use Rattle.gf301.proofs.Tables.{powers_at, power_mod}
 abbrev pub row : ℕ → List ℕ
 row e = get_or POWER_ROWS e []
 
--- All 2835 numbers are looked up in the table of powers: at most 9 seconds and 0.7 GB for this whole file.
-rows_test : all_below 35 (λ e. all_below 81 (λ j. eqb (get_or (row e) j 0) (get_or POWERS (e * j % 255) 0))) ≡ true
+-- All 8960 numbers are looked up in the table of powers: at most 30 seconds for this whole file.
+rows_test : all_below 35 (λ e. all_below 256 (λ j. eqb (get_or (row e) j 0) (get_or POWERS (e * j % 255) 0))) ≡ true
 unfolding all_below
 rows_test = refl
 
 -- The row of e holds at the place j the power e * j of 2.
-row_at : (e j : ℕ) → e < 35 → j < 81 → get_or (row e) j 0 ≡ power (e * j)
+row_at : (e j : ℕ) → e < 35 → j < 256 → get_or (row e) j 0 ≡ power (e * j)
 row_at e j h l =
-    eqb-true _ _ (all_below_at 81 (λ j. eqb (get_or (row e) j 0) (get_or POWERS (e * j % 255) 0)) (all_below_at 35 (λ e. all_below 81 (λ j. eqb (get_or (row e) j 0) (get_or POWERS (e * j % 255) 0))) rows_test e h) j l)
+    eqb-true _ _ (all_below_at 256 (λ j. eqb (get_or (row e) j 0) (get_or POWERS (e * j % 255) 0)) (all_below_at 35 (λ e. all_below 256 (λ j. eqb (get_or (row e) j 0) (get_or POWERS (e * j % 255) 0))) rows_test e h) j l)
     ∙ powers_at (e * j % 255) (mod_below (e * j) 255 (omega arith)) ∙ power_mod (e * j)
 
--- Each row has 81 numbers: 35 cases.
-lengths_test : all_below 35 (λ e. eqb (length (row e)) 81) ≡ true
+-- Each row has 256 numbers: 35 cases.
+lengths_test : all_below 35 (λ e. eqb (length (row e)) 256) ≡ true
 unfolding all_below
 lengths_test = refl
 
--- The row of an exponent has 81 numbers.
-row_length : (e : ℕ) → e < 35 → length (row e) ≡ 81
-row_length e h = eqb-true (length (row e)) 81 (all_below_at 35 (λ e. eqb (length (row e)) 81) lengths_test e h)
+-- The row of an exponent has 256 numbers.
+row_length : (e : ℕ) → e < 35 → length (row e) ≡ 256
+row_length e h = eqb-true (length (row e)) 256 (all_below_at 35 (λ e. eqb (length (row e)) 256) lengths_test e h)
 
 -- Sixteen numbers of the row of e are the powers e of sixteen powers of 2 in their order.
-row_lanes : (e first : ℕ) → e < 35 → first ≤ 65 → chunk first 16 (row e) ≡ map (λ x. raise x e) (values_from power first 16)
+row_lanes : (e first : ℕ) → e < 35 → first ≤ 240 → chunk first 16 (row e) ≡ map (λ x. raise x e) (values_from power first 16)
 row_lanes e first h l =
     let n : length (chunk first 16 (row e)) ≡ 16 = length-chunk first 16 (row e) (omega (arith, row_length e h)) in
     ext_get_or 0 (chunk first 16 (row e)) (map (λ x. raise x e) (values_from power first 16))
@@ -52,7 +52,7 @@ row_lanes e first h l =
     ∙ sym (get_or-map (λ x. raise x e) (values_from power first 16) i 0 0 (omega (arith, length-values_from power first 16))))
 
 -- These are read from the part of the row that begins with the first of them.
-pub row_read : (e first : ℕ) → e < 35 → first ≤ 65 → take 16 (take (length (row e) - first) (drop first (row e))) ≡ map (λ x. raise x e) (values_from power first 16)
+pub row_read : (e first : ℕ) → e < 35 → first ≤ 240 → take 16 (take (length (row e) - first) (drop first (row e))) ≡ map (λ x. raise x e) (values_from power first 16)
 row_read e first h l = take-take 16 (length (row e) - first) (drop first (row e)) (omega (arith, row_length e h)) ∙ row_lanes e first h l
 
 -- The first sixteen powers of 2, times the one with an exponent, are those from this exponent on.

@@ -126,7 +126,7 @@ high_places v long f k d h =
     let byte : get_or v k 0 < 256 = Each1-get_or (λ x. x < 256) v k 0 within (below_from_Fits w8 v f) in
     omega (arith, ap (λ l. get_or l k d) (zip2_splat down v 16 4 long) ∙ get_or-map (λ x. down x 4) v k 0 d within, byte)
 
--- What `scaled` computes is the product in every lane.
+-- What `scale` computes is the product in every lane.
 pub scaled_lanes : (c : ℕ) (v rs ss : List ℕ) → c < 256 → length v ≡ 16 → Each1 (Fits w8) v
     → rs ≡ map (λ i. get_or (low_row c) i 0) (zip2 bit_and v (replicate 16 15)) → ss ≡ map (λ i. get_or (high_row c) i 0) (zip2 down v (replicate 16 4))
     → zip2 bit_xor rs ss ≡ map (λ x. c ⊗ x) v

@@ -135,7 +135,7 @@ conv_push_past [] a s n h = absurd (omega arith)
 conv_push_past (b ∷ p) a s zero h = refl
 conv_push_past (b ∷ p) a s (suc n) h = ap (bit_xor (b ⊗ s (suc n))) (conv_push_past p a s n (omega arith))
 
--- ---- A coefficient more of a list that is taken from the front
+-- ---- A coefficient more of a list that is taken from its beginning
 -- With one coefficient more taken, its product with the coefficient that belongs to it is added.
 pub conv_more : (p : List ℕ) (s : ℕ → ℕ) (n i : ℕ) → i < length p → i ≤ n
     → convolution (coefficient (take (i + 1) p)) s n ≡ convolution (coefficient (take i p)) s n ⊕ get_or p i 0 ⊗ s (n - i)

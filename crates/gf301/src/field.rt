@@ -63,7 +63,7 @@ impl Gf {
         Gf(low ^ high)
     }
 
-    /// Returns the element whose product with this one is 1. 0 has none.
+    /// Gives the element whose product with this one is 1. 0 has none.
     pub fn inverse(self) -> Gf
         requires { 0 < self.0 }
         ensures product { self.0 ⊗ result.0 ≡ 1 }
@@ -72,14 +72,14 @@ impl Gf {
         Gf::power_of_two(255 - u16::from(self.log()))
     }
 
-    /// Returns 2 to the power e, for every e. The powers repeat after 255 of them.
+    /// Gives 2 to the power e, for every e. The powers repeat after 255 of them.
     pub fn power_of_two(e: u16) -> Gf
         ensures { result.0 ≡ power e }
     {
         Gf(POWERS[usize::from(e % 255)])
     }
 
-    /// Returns the logarithm to base 2: the one e of 0 to 254 with 2 to the power e equal to this element. 0 has none.
+    /// Gives the logarithm to base 2: the one e of 0 to 254 with 2 to the power e equal to this element. 0 has none.
     pub fn log(self) -> u8
         requires { 0 < self.0 }
         ensures below { result < 255 }

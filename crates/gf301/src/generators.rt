@@ -11,7 +11,10 @@ use crate::tap_rows::TAP_ROWS;
 /// The most check codewords of a block, which the square symbols of sides 48 and 96 have.
 pub const MOST_CHECKS: usize = 68;
 
-/// Returns the generator polynomial for k check codewords, k of 1 to [`MOST_CHECKS`]: (x - 2^1) (x - 2^2) .. (x - 2^k), with
+/// Room for the most check codewords, or as many other numbers, in whole groups of sixteen.
+pub const CHECKS_ROOM: usize = (MOST_CHECKS + 15) / 16 * 16;
+
+/// Gives the generator polynomial for k check codewords, k of 1 to [`MOST_CHECKS`]: (x - 2^1) (x - 2^2) .. (x - 2^k), with
 /// k + 1 coefficients, of which the first is 1.
 pub fn generator(k: usize) -> Poly
     requires some { 1 ≤ k }
@@ -26,12 +29,12 @@ pub fn generator(k: usize) -> Poly
     product
 }
 
-/// Returns the coefficients of the generator for k check codewords after the first, k of at most [`MOST_CHECKS`], and then
-/// zeros.
+/// Gives the coefficients of the generator for k check codewords after the first, k of at most [`MOST_CHECKS`], and then
+/// zeros up to [`CHECKS_ROOM`] numbers.
 #[inline]
-pub fn taps(k: usize) -> &'static [u8; 80]
+pub fn taps(k: usize) -> &'static [u8; CHECKS_ROOM]
     requires { k ≤ MOST_CHECKS }
-    ensures { (i : ℕ) → i < 80 → get_or result.now i 0 ≡ coefficient (generator k) (suc i) }
+    ensures { (i : ℕ) → i < CHECKS_ROOM → get_or result.now i 0 ≡ coefficient (generator k) (suc i) }
 {
     &TAP_ROWS[k]
 }

@@ -12,11 +12,12 @@ use crate::power_rows::POWER_ROWS;
 use crate::product_rows::{HIGH, LOW};
 use std::simd::prelude::*;
 
-/// Returns the sixteen powers of 2 with exponents of `first` to `first` + 15, in this order.
+/// Gives the sixteen powers of 2 with exponents of `first` to `first` + 15, in this order, for any `first`. [`power_row`] gives
+/// the same from a table where `first` is at most 240.
 pub fn powers(first: u16) -> [u8; 16]
     ensures { result ≡ values_from power first 16 }
 {
-    scaled(Gf::power_of_two(first).0, u8x16::from_slice(&POWERS)).to_array()
+    scale(Gf::power_of_two(first).0, u8x16::from_slice(&POWERS)).to_array()
 }
 
 /// Multiplies the two elements in each lane. It takes no table: `a` is doubled over and over, and the bits of `b`, from the
@@ -51,7 +52,7 @@ fn double(a: Simd<u8, 16>) -> Simd<u8, 16>
 /// Multiplies each lane by `c`: the product is the sum of the products of `c` with the low and the high four bits there, which
 /// are looked up.
 #[inline]
-pub fn scaled(c: u8, v: Simd<u8, 16>) -> Simd<u8, 16>
+pub fn scale(c: u8, v: Simd<u8, 16>) -> Simd<u8, 16>
     ensures { result ≡ map (λ x. c ⊗ x) v }
 {
     let row = 16 * usize::from(c);
@@ -69,24 +70,24 @@ fn by_table(table: Simd<u8, 16>, places: Simd<u8, 16>) -> Simd<u8, 16>
     table.swizzle_dyn(places)
 }
 
-/// Returns the sixteen powers of 2 with exponents of `first` to `first` + 15, each to the power e, which is at most half of
-/// [`MOST_CHECKS`]. `first` is at most 65.
+/// Gives the sixteen powers of 2 with exponents of `first` to `first` + 15, each to the power e, which is at most half of
+/// [`MOST_CHECKS`]. `first` is at most 240, since a row of the table has 256 numbers.
 #[inline]
 pub fn power_row(e: usize, first: usize) -> Simd<u8, 16>
     requires exponent { e ≤ MOST_CHECKS / 2 }
-    requires first { first ≤ 65 }
+    requires first { first ≤ 240 }
     ensures { result ≡ map (λ x. raise x e) (values_from power first 16) }
 {
     u8x16::from_slice(&POWER_ROWS[e][first..])
 }
 
-/// Where each lane's number is taken from to move lanes up, from the place 8 - n on for a move by n lanes of at most 8: the
-/// lowest n lanes take the last one.
+/// The sixteen numbers from the place 8 - n on, n of at most 8, say for each lane from which lane it is filled when all lanes
+/// move up by n. The lowest n lanes are filled from the last one.
 static BACK: [u8; 24] = [
     15, 15, 15, 15, 15, 15, 15, 15, 0, 1, 2, 3, 4, 5, 6, 7, 8, 9, 10, 11, 12, 13, 14, 15,
 ];
 
-/// Returns the sixteen powers of an element with exponents of 0 to 15, in this order. The first 1, 2, 4 and 8 powers give as
+/// Gives the sixteen powers of an element with exponents of 0 to 15, in this order. The first 1, 2, 4 and 8 powers give as
 /// many more, by products with the next power.
 #[inline]
 pub fn powers_of(x: Gf) -> Simd<u8, 16>
@@ -102,17 +103,18 @@ pub fn powers_of(x: Gf) -> Simd<u8, 16>
     append_scaled(eight, 8, eighth)
 }
 
-/// Puts behind the first `count` lanes their products with `c`. The lanes after the first `count`, of at most 8, are 0.
+/// Puts the products of the first `count` lanes with `c` behind them. `count` is at most 8, and the lanes from there on are 0.
 #[inline]
 fn append_scaled(lanes: Simd<u8, 16>, count: usize, c: Gf) -> Simd<u8, 16>
     requires few { count ≤ 8 }
     requires free { (i : ℕ) → count ≤ i → get_or lanes i 0 ≡ 0 }
     ensures first { (i : ℕ) → i < count → get_or result i 0 ≡ get_or lanes i 0 }
-    ensures scaled { (i : ℕ) → i < count → get_or result (count + i) 0 ≡ c.0 ⊗ get_or lanes i 0 }
+    ensures scaled { (i : ℕ) → i < count
+        → get_or result (count + i) 0 ≡ c.0 ⊗ get_or lanes i 0 }
     ensures free { (i : ℕ) → 2 * count ≤ i → get_or result i 0 ≡ 0 }
 {
     let moved = by_table(lanes, u8x16::from_slice(&BACK[8 - count..]));
-    lanes ^ scaled(c.0, moved)
+    lanes ^ scale(c.0, moved)
 }
 
 /// Adds to the numbers of a list the products of `c` with those of another, sixteen at a time. The list's length is a
@@ -127,7 +129,7 @@ pub fn add_scaled(sum: &mut [u8], c: u8, list: &[u8])
 {
     for group in 0..sum.len() / 16 {
         let at = 16 * group;
-        let more = scaled(c, u8x16::from_slice(&list[at..]));
+        let more = scale(c, u8x16::from_slice(&list[at..]));
         let next = u8x16::from_slice(&sum[at..]) ^ more;
         next.copy_to_slice(&mut sum[at..]);
     }

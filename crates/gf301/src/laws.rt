@@ -24,8 +24,10 @@ pub fn product_laws()
     ensures distributive { (a b c : ℕ) → a ⊗ (b ⊕ c) ≡ a ⊗ b ⊕ a ⊗ c }
     ensures zero { (a : ℕ) → a ⊗ 0 ≡ 0 }
     ensures one { (a : ℕ) → a < 256 → a ⊗ 1 ≡ a }
-    ensures inverse { (a : ℕ) → 0 < a → a < 256 → (b : ℕ) × (b < 256) × (a ⊗ b ≡ 1) }
-    ensures cancels { (a b c : ℕ) → 0 < a → a < 256 → b < 256 → c < 256 → a ⊗ b ≡ a ⊗ c → b ≡ c }
+    ensures inverse { (a : ℕ) → 0 < a → a < 256
+        → (b : ℕ) × (b < 256) × (a ⊗ b ≡ 1) }
+    ensures cancels { (a b c : ℕ) → 0 < a → a < 256 → b < 256 → c < 256
+        → a ⊗ b ≡ a ⊗ c → b ≡ c }
 {}
 
 /// The powers of 2 with exponents of 0 to 254 are the elements other than 0, each once, and then they repeat.
@@ -61,7 +63,8 @@ pub fn times_laws()
 /// A polynomial that isn't 0 has fewer roots than coefficients: with as many different ones, each coefficient is 0.
 pub fn roots_are_few()
     ensures { (p roots : List ℕ) → Bytes p → Bytes roots → AllPairs (λ r s. r ≢ s) roots
-        → All (λ r. value p r ≡ 0) roots → length p ≤ length roots → All (λ a. a ≡ 0) p }
+        → All (λ r. value p r ≡ 0) roots → length p ≤ length roots
+        → All (λ a. a ≡ 0) p }
 {}
 
 /// The generator for k check codewords has k + 1 coefficients, of which the first is 1, and among the powers of 2, whose

@@ -1,16 +1,17 @@
 //! Operations of the field that are counted.
 
-ghost use Rattle.std.specs.Prelude.{◌≡◌, ◌+◌, ◌-◌, ◌^◌, ◌<◌, ℕ};
-ghost use Rattle.gf301.specs.Field.{◌⊗◌};
+ghost use Rattle.std.specs.Prelude.{◌≡◌, ◌+◌, ◌-◌, ◌^◌, ◌%◌, ◌<◌, ◌≤◌, ℕ, length, get_or};
+ghost use Rattle.gf301.specs.Field.{◌⊕◌, ◌⊗◌};
 
 use crate::field::Gf;
+use crate::lanes::add_scaled;
 
-/// Counts the products and inversions that are made through it.
+/// Counts products and inversions: those that are made through it, and products in lanes that a caller adds.
 #[derive(Clone, Copy, Debug, Default, PartialEq, Eq)]
 pub struct Meter {
-    /// The number of products, of [`Meter::mul`].
+    /// The number of products: those of [`Meter::mul`] and [`Meter::add_scaled`], and those that a caller adds.
     pub products: u32,
-    /// The number of inversions, of [`Meter::inverse`].
+    /// The number of inversions, which are those of [`Meter::inverse`].
     pub inversions: u32,
 }
 
@@ -26,7 +27,7 @@ impl Meter {
         a.mul(b)
     }
 
-    /// Returns the element whose product with `a` is 1; 0 has none. This counts as an inversion; fewer than `u32::MAX` have
+    /// Gives the element whose product with `a` is 1; 0 has none. This counts as an inversion; fewer than `u32::MAX` have
     /// been counted before.
     pub fn inverse(&mut self, a: Gf) -> Gf
         requires some { 0 < a.0 }
@@ -38,5 +39,23 @@ impl Meter {
     {
         self.inversions += 1;
         a.inverse()
+    }
+
+    /// Does what [`add_scaled`] does, which counts as `count` products: those with the numbers of the other list before the zeros
+    /// at its end. There is room for as many in `u32`.
+    #[inline]
+    pub fn add_scaled(&mut self, sum: &mut [u8], c: Gf, list: &[u8], count: u32)
+        requires enough { length sum.old ≤ length list.now }
+        requires lanes { length sum.old % 16 ≡ 0 }
+        requires zeros { (i : ℕ) → count ≤ i → get_or list.now i 0 ≡ 0 }
+        requires room { self.old.products + count < 2 ^ 32 }
+        ensures long { length sum.new ≡ length sum.old }
+        ensures each { (i : ℕ) → i < length sum.old
+            → get_or sum.new i 0 ≡ get_or sum.old i 0 ⊕ c.0 ⊗ get_or list.now i 0 }
+        ensures counted { self.new.products ≡ self.old.products + count }
+        ensures kept { self.new.inversions ≡ self.old.inversions }
+    {
+        self.products += count;
+        add_scaled(sum, c.0, list);
     }
 }

@@ -9,7 +9,7 @@ use arrayvec::ArrayVec;
 /// A polynomial of at most 256 coefficients, the highest power first.
 pub type Poly = ArrayVec<u8, 256>;
 
-/// Returns the value of the polynomial `p` at the element `at`. The value of the empty list is 0.
+/// Gives the value of the polynomial `p` at the element `at`. The value of the empty list is 0.
 pub fn value_at(p: &[u8], at: Gf) -> Gf
     ensures { result.0 ≡ value p.now at.0 }
 {
@@ -35,7 +35,7 @@ pub fn times(p: &[u8], q: &[u8]) -> Poly
     product
 }
 
-/// Returns the coefficient of the product of two lists at this place, counted from 0: the sum of the products of the
+/// Gives the coefficient of the product of two lists at this place, counted from 0: the sum of the products of the
 /// coefficients whose places add up to it.
 pub fn product_at(p: &[u8], q: &[u8], place: usize) -> Gf
     ensures { result.0 ≡ convolution (coefficient p.now) (coefficient q.now) place }

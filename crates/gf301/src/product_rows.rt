@@ -1,4 +1,5 @@
 //! The products of each element with the two halves of a byte.
+//! `tools/tables` makes this file: change it there.
 
 /// For each element c, from the place 16 c on, its products with the elements 0 to 15.
 pub(crate) static LOW: [u8; 4096] = [

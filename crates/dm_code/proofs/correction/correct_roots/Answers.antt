@@ -1,4 +1,4 @@
-use Rattle.std.proofs.Common.{◌≡◌, ◌-◌, ◌*◌, ◌/◌, ◌+◌, ◌<◌, ℕ, suc, List, length, get_or, take, slice_set, refl, sym, ap, subst, ◌∙◌, arith}
+use Rattle.std.proofs.Common.{◌≡◌, ◌-◌, ◌*◌, ◌/◌, ◌+◌, ◌<◌, suc, length, get_or, map, take, slice_set, refl, sym, ap, subst, ◌∙◌, arith}
 use Rattle.gf301.specs.Field.{◌⊕◌, power}
 use Rattle.gf301.specs.Polynomial.{value, coefficient, values_from}
 use Rattle.dm_code.specs.inner.OddTerms.{odd_part}
@@ -11,7 +11,7 @@ use Rattle.dm_code.proofs.First.{first, values_are_first}
 use Rattle.dm_code.proofs.ErrorPlaces.{locator_at}
 use Rattle.dm_code.proofs.Nearness.{IsTrimmed, IsCorrected, corrected_bytes, corrected_near}
 use Rattle.dm_code.proofs.OddTerms.{lane_value, lane_odd, divided_by}
-use Rattle.dm_code.proofs.Corrections.{terms_start, terms_step, IsCorrectedFrom, corrected_start, apart_step, root_step}
+use Rattle.dm_code.proofs.Corrections.{IsCorrectedFrom, corrected_start, apart_step, root_step}
 use Rattle.dm_code.proofs.correction.correct_roots.Goals as goal
 use Rattle.dm_code.proofs.correction.correct_roots.Goals.{then-values-lane-eq0, else-values-lane-eq0}
 
@@ -19,15 +19,8 @@ pub loop-part-init : goal.loop-part-init
 loop-part-init c =
     let l = c.args.locator.now in
     let w = c.args.word.now in
-    let t = c.as_mut_slice-terms.result.now in
-    let e = values_from (coefficient c.args.evaluator.now) 0 (length l - 1) in
-    let u = c.as_mut_slice-upper_terms.result.now in
-    let ue : u ≡ e =
-    c.as_mut_slice-upper_terms.ensures.value ∙ c.first_coefficients-upper_terms.ensures ∙ ap (values_from (coefficient c.args.evaluator.now) 0) c.saturating_sub.ensures in
     record {
       bytes = λ i. omega (arith, c.type_inv.word i);
-      terms = terms_start l t (λ i. omega (arith, c.type_inv.locator i)) (c.as_mut_slice-terms.ensures.value ∙ c.copy_of-terms.ensures);
-      numerators = terms_start e u (λ i. omega (arith, c.type_inv.upper_terms i, ap (λ (t : List ℕ). get_or t i 0) ue)) ue;
       corrected = subst (IsCorrectedFrom l c.args.evaluator.now w w (take c.args.k c.args.syndromes.now) c.args.k) (let z : length w ≡ length w - 0 = omega arith in z)
           (corrected_start l c.args.evaluator.now w (take c.args.k c.args.syndromes.now) c.args.k c.requires.syndromes);
     }
@@ -40,7 +33,6 @@ loop-lane-preserved c =
     let k = c.args.k in
     let f = c.loop-lane.word in
     let s = take k c.loop-lane.syndromes in
-    let t = c.loop-part.terms in
     let j = 16 * c.loop-part.part in
     let lane = c.loop-lane.lane in
     let below : lane < 16 = omega (arith, c.min-lane-end.ensures) in
@@ -48,11 +40,13 @@ loop-lane-preserved c =
     let q = length w - suc (j + lane) in
     let back : length w - suc q ≡ j + lane = omega arith in
     let next : q ≡ length w - (j + (lane + 1)) = omega arith in
-    let z : get_or c.sums.result.0 lane 0 ≡ value l (power (j + lane)) = lane_value l t c.sums.result.0 j lane c.loop-part.invariant.terms c.sums.ensures.values below in
-    let o : get_or c.sums.result.1 lane 0 ≡ odd_part l (power (j + lane)) = lane_odd l t c.sums.result.1 j lane c.loop-part.invariant.terms c.sums.ensures.odd below in
+    let z : get_or c.sums.result.0 lane 0 ≡ value l (power (j + lane)) = lane_value l c.sums.result.0 j lane c.sums.ensures.values below in
+    let o : get_or c.sums.result.1 lane 0 ≡ odd_part l (power (j + lane)) = lane_odd l c.sums.result.1 j lane c.sums.ensures.odd below in
     let e = values_from (coefficient v) 0 (length l - 1) in
+    let ue : c.deref.result.now ≡ e = c.deref.ensures.0 ∙ c.first_coefficients-upper.ensures ∙ ap (values_from (coefficient v) 0) c.saturating_sub.ensures in
     let ne : get_or c.sums-in-loop-part.result.0 lane 0 ≡ value e (power (j + lane)) =
-    lane_value e c.loop-part.upper_terms c.sums-in-loop-part.result.0 j lane c.loop-part.invariant.numerators c.sums-in-loop-part.ensures.values below in
+    lane_value e c.sums-in-loop-part.result.0 j lane
+    (c.sums-in-loop-part.ensures.values ∙ ap (λ u. map (value u) (values_from power j 16)) ue) below in
     let h : IsCorrectedFrom l v w f s k (suc q) = subst (IsCorrectedFrom l v w f s k) (let r : length w - (j + lane) ≡ suc q = omega arith in r) c.loop-lane.invariant in
     subst (IsCorrectedFrom l v w c.if-values-lane-eq0.word (take k c.if-values-lane-eq0.syndromes) k) next
     (elim c.if-values-lane-eq0.branch [
@@ -87,9 +81,6 @@ loop-part-preserved c =
     let j = 16 * c.loop-part.part in
     record {
       bytes = c.loop-part.invariant.bytes;
-      terms = terms_step l c.loop-part.terms c.step.new.terms j (16 * (c.loop-part.part + 1)) c.loop-part.invariant.terms c.step.ensures.long c.step.ensures.each (omega arith);
-      numerators = terms_step (values_from (coefficient v) 0 (length l - 1)) c.loop-part.upper_terms c.step-in-loop-part.new.terms j (16 * (c.loop-part.part + 1))
-          c.loop-part.invariant.numerators c.step-in-loop-part.ensures.long c.step-in-loop-part.ensures.each (omega arith);
       corrected = subst (IsCorrectedFrom l v w c.loop-lane.word (take k c.loop-lane.syndromes) k)
           (let r : length w - (j + c.loop-lane.lane) ≡ length w - 16 * (c.loop-part.part + 1) = omega (arith, c.min-lane-end.ensures, c.loop-part.auto.word) in r) c.loop-lane.invariant;
     }

@@ -1,15 +1,11 @@
 use Rattle.std.proofs.Common.{◌+◌, ◌-◌, ◌*◌, ◌<◌, ℕ, length, get_or, take}
-use Rattle.gf301.specs.Polynomial.{coefficient, values_from}
-use Rattle.dm_code.proofs.OddTerms.{AreTerms}
 use Rattle.dm_code.proofs.Corrections.{IsCorrectedFrom}
 use Rattle.dm_code.proofs.correction.correct_roots.Given as goal
 
--- From the last place on, the places are corrected; the terms are those at the locator of the next one.
+-- From the last place on, the places are corrected.
 abbrev pub invariant-loop-part : goal.invariant-loop-part
 invariant-loop-part l = record {
   bytes : (i : ℕ) → get_or l.initial.word i 0 < 256;
-  terms : AreTerms l.fn.locator l.terms (16 * l.part);
-  numerators : AreTerms (values_from (coefficient l.fn.evaluator) 0 (length l.fn.locator - 1)) l.upper_terms (16 * l.part);
   corrected : IsCorrectedFrom l.fn.locator l.fn.evaluator l.initial.word l.word (take l.fn.k l.syndromes) l.fn.k (length l.initial.word - 16 * l.part);
 }
 
