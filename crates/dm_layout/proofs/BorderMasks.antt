@@ -48,12 +48,12 @@ counted_ones (suc n) x f l same =
     let j : suc n ≡ n + 1 = omega arith in
     let parts : h * 2 ^ n + r ≡ x = div-add-mod' x (2 ^ n) in
     let rl : r < 2 ^ n = mod-lt x (pow_pos n) in
-    let front : count_ones r ≡ count_by f (range_with_len 0 n) = counted_ones n r f rl (λ c lc.
+    let prefix : count_ones r ≡ count_by f (range_with_len 0 n) = counted_ones n r f rl (λ c lc.
     ap (λ (i : ℕ). nat_eq i 1) (sym (bit_at_cat_low h n r c lc)) ∙ ap (λ (i : ℕ). is_dark_in i c) parts ∙ same c (omega arith)) in
     let first : count_ones h ≡ cond (f n) 1 0 = ones_of_digit h (half n x l) ∙ ap (λ (b : Bool). cond b 1 0) (same n (omega arith)) in
     let more = count_more f n in
     let whole : count_ones x ≡ count_ones h + count_ones r = ap count_ones (sym parts) ∙ ones_cat n h r rl in
-    let all : count_ones x ≡ count_by f (range_with_len 0 (n + 1)) = omega (arith, whole, front, first, more) in
+    let all : count_ones x ≡ count_by f (range_with_len 0 (n + 1)) = omega (arith, whole, prefix, first, more) in
     all ∙ ap (λ (i : ℕ). count_by f (range_with_len 0 i)) (sym j)
   where
     half : (n x : ℕ) → x < 2 ^ suc n → x / 2 ^ n < 2
@@ -348,3 +348,10 @@ module _ (size : SizeRow) (last left both even all : ℕ) (b : AreBorders size l
 -- The place of the next row in its square follows from the place of the row before it.
 pub row_below : (s row inner : ℕ) → inner ≡ row % s → (inner + 1) % s ≡ (row + 1) % s
 row_below s row inner e = ap (λ (i : ℕ). (i + 1) % s) e ∙ mod-add-mod row s 1
+
+-- A row of a square has its place in it, if the square's first row is a multiple of its side.
+pub row_of_square : (s first inner : ℕ) → first % s ≡ 0 → inner < s → (first + inner) % s ≡ inner
+row_of_square s first inner e l =
+    let whole : first / s * s + first % s ≡ first = div-add-mod' first s in
+    let is : first + inner ≡ first / s * s + inner = omega (arith, whole, e) in
+    ap (λ (i : ℕ). i % s) is ∙ mod-mul-add (first / s) s inner l

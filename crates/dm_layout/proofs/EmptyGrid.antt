@@ -7,8 +7,8 @@ use Rattle.std.proofs.lemmas.Bool.Decides.{eqb_tells}
 use Rattle.dm_layout.proofs.Ranges.{same_tests}
 use Rattle.dm_layout.specs.Sizes.{SizeRow, IsRow, regions_across, largest_side}
 use Rattle.dm_layout.specs.Grid.{GridView, IsGrid, cell_at, is_dark_in}
-use Rattle.dm_layout.specs.inner.Drawing.{mapping_line, is_fixed_dark, empty_colour, empty_grid}
-use Rattle.dm_layout.specs.Border.{is_border, border_is_dark, symbol_line}
+use Rattle.dm_layout.specs.inner.Drawing.{HasBorders, mapping_line, is_fixed_dark, empty_colour, empty_grid}
+use Rattle.dm_layout.specs.Border.{is_border, border_is_dark, is_on_edge, edge_is_dark, symbol_line}
 use Rattle.dm_layout.proofs.TableRows.{row_facts}
 use Rattle.dm_layout.proofs.GridLemmas.{grid_of_square, cell_of_square, same_grids}
 use Rattle.dm_layout.proofs.PackedRows.{one_cell}
@@ -24,6 +24,25 @@ drawn_above_more r row border dark cell h = by_row (cases_lt r row) (eqb_tells r
     by_row (inl l) (inr e) = rw (lt-ltb r row l, e.0, lt-ltb r (row + 1) (omega (arith, l))) (or-false (border && dark))
     by_row (inr l) (inl e) = let z = e.1 in rw (le-ltb r row l, e.0, lt-ltb r (row + 1) (omega (arith, z))) (h z)
     by_row (inr l) (inr e) = let z = e.1 in rw (le-ltb r row l, e.0, le-ltb r (row + 1) (omega (arith, l, z))) refl
+
+-- When the border cells of one more row are darkened, the borders above the next row are drawn.
+pub borders_more : (s : SizeRow) (g k : GridView) (row inner x : ℕ) → HasBorders s row g → k.size ≡ g.size → IsGrid k → ((r c : ℕ) → r < g.size.side → c < g.size.side → cell_at k r c ≡ (cell_at g r c || (nat_eq r row && is_dark_in x c))) →
+    row % (s.region_side + 2) ≡ inner → ((c : ℕ) → c < s.side → is_dark_in x c ≡ is_on_edge s.region_side inner (c % (s.region_side + 2)) && edge_is_dark s.region_side inner (c % (s.region_side + 2))) → HasBorders s (row + 1) k
+borders_more s g k row inner x old same grid drawn place dark = record {
+  same_size = same ∙ old.same_size;
+  square = grid;
+  cells = λ r c lr lc.
+      here r c lr lc
+      ∙ ap (λ (b : Bool). b || (nat_eq r row && is_dark_in x c)) (old.cells r c lr lc)
+      ∙ drawn_above_more r row (is_border s r c) (border_is_dark s r c) (is_dark_in x c)
+      (λ e.
+      dark c lc
+      ∙ ap (λ (i : ℕ). is_on_edge s.region_side i (c % (s.region_side + 2)) && edge_is_dark s.region_side i (c % (s.region_side + 2))) (sym place)
+      ∙ ap (λ (i : ℕ). is_border s i c && border_is_dark s i c) (sym e));
+}
+  where
+    here : (r c : ℕ) → r < s.side → c < s.side → cell_at k r c ≡ (cell_at g r c || (nat_eq r row && is_dark_in x c))
+    here = subst (λ (t : SizeRow). (r c : ℕ) → r < t.side → c < t.side → cell_at k r c ≡ (cell_at g r c || (nat_eq r row && is_dark_in x c))) old.same_size drawn
 
 -- A data region is no larger than the mapping square, and with its border no larger than the symbol.
 pub sides_of : (s : SizeRow) → IsRow s → (s.region_side ≤ s.mapping) × (s.region_side + 2 ≤ s.side)

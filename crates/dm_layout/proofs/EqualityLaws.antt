@@ -29,10 +29,10 @@ told_grids g h a b e =
 pub equal_itself : {A : Type 0} (E : A → A → Bool) → IsEquivalence E → (x y : A) → x ≡ y → E x y ≡ true
 equal_itself E e x y p = ap (E x) (sym p) ∙ e.refl x
 
--- The answer of `==` is true exactly where the two grids are the same.
-pub answer_tells : (g h : GridView) (b : Bool) → IsGrid g → IsGrid h → b ≡ equal_grids g h → IsTrue b ↔ (g ≡ h)
-answer_tells g h true x y v = ((λ _. told_grids g h x y (sym v)), λ _. refl)
-answer_tells g h false x y v = ((λ t. cc), λ e. let k : equal_grids g h ≡ true = equal_itself equal_grids grids_equiv g h e in let f : false ≡ true = v ∙ k in cc)
+-- The result of `==` is true exactly where the two grids are the same.
+pub result_tells : (g h : GridView) (b : Bool) → IsGrid g → IsGrid h → b ≡ equal_grids g h → IsTrue b ↔ (g ≡ h)
+result_tells g h true x y v = ((λ _. told_grids g h x y (sym v)), λ _. refl)
+result_tells g h false x y v = ((λ t. cc), λ e. let k : equal_grids g h ≡ true = equal_itself equal_grids grids_equiv g h e in let f : false ≡ true = v ∙ k in cc)
 
 -- ---- grids whose rows are kept as numbers
 
@@ -43,13 +43,13 @@ pub record AreRowsOf (grid : GridView) (xs : List ℕ) : Type 0 where
   pub rows : grid.rows ≡ square_of_rows grid.size.side xs
 
 -- Comparing the rows of two grids as numbers compares the grids.
-pub rows_answer : (g h : GridView) (xs ys : List ℕ) (b : Bool) → IsGrid g → IsGrid h → g.size.side ≡ h.size.side → AreRowsOf g xs → AreRowsOf h ys → b ≡ pointwise nat_eq xs ys → b ≡ equal_grids g h
-rows_answer g h xs ys true x y e p q v =
+pub rows_result : (g h : GridView) (xs ys : List ℕ) (b : Bool) → IsGrid g → IsGrid h → g.size.side ≡ h.size.side → AreRowsOf g xs → AreRowsOf h ys → b ≡ pointwise nat_eq xs ys → b ≡ equal_grids g h
+rows_result g h xs ys true x y e p q v =
     let same = same_text xs ys v in
     let sizes = same_row g.size h.size x.row y.row e in
     let rows : g.rows ≡ h.rows = p.rows ∙ ap (square_of_rows g.size.side) same ∙ ap (λ n. square_of_rows n ys) e ∙ sym q.rows in
     sym (equal_itself equal_grids grids_equiv g h (same_parts g.size h.size g.rows h.rows sizes rows))
-rows_answer g h xs ys false x y e p q v = by_grids (equal_grids g h) refl
+rows_result g h xs ys false x y e p q v = by_grids (equal_grids g h) refl
   where
     same_numbers : g ≡ h → xs ≡ ys
     same_numbers f =

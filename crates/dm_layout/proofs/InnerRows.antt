@@ -13,7 +13,7 @@ use Rattle.std.proofs.lemmas.Nat.{pow-add, mul-add-lt, div-mul-add, pow_below}
 use Rattle.std.proofs.lemmas.Nat.Bits.{bit_at_cat_low, bit_at_cat_high}
 use Rattle.dm_layout.specs.Border.{symbol_line, mapped_cell}
 use Rattle.dm_layout.specs.Grid.{GridView, IsGrid, cell_at, is_dark_in}
-use Rattle.dm_layout.proofs.PackedRows.{weight, front_cell}
+use Rattle.dm_layout.proofs.PackedRows.{weight, prefix_cell}
 
 -- ---- the bits of a row that is moved to the right
 
@@ -84,7 +84,7 @@ one_more inner row d a least small narrow so_far c l = by_part (below (nat_lt c 
         let q : c / d ≡ a = ap (λ (i : ℕ). i / d) is ∙ div-mul-add a d j lj in
         let line : s + j ≡ symbol_line d c = omega (arith, q) in
         ap (λ (i : ℕ). nat_eq i 1) (bit_at_cat_high (part_of row d a) (a * d) inner c narrow m)
-        ∙ front_cell (row / 2 ^ s) d j small lj
+        ∙ prefix_cell (row / 2 ^ s) d j small lj
         ∙ ap (λ (i : ℕ). nat_eq i 1) (moved_bit row s j)
         ∙ ap (is_dark_in row) line
 
@@ -114,7 +114,7 @@ cut_first row d n least some fits =
           let l : c < d = omega arith in
           let q : c / d ≡ 0 = ap (λ (i : ℕ). i / d) (omega arith) ∙ div-mul-add 0 d c l in
           let line : 1 + c ≡ symbol_line d c = omega (arith, q) in
-          front_cell (row / 2 ^ 1) d c small l ∙ ap (λ (i : ℕ). nat_eq i 1) (moved_bit row 1 c) ∙ ap (is_dark_in row) line;
+          prefix_cell (row / 2 ^ 1) d c small l ∙ ap (λ (i : ℕ). nat_eq i 1) (moved_bit row 1 c) ∙ ap (is_dark_in row) line;
     }
   where
     below : (x m n : ℕ) → m ≡ n → 0 < n → x % m < n

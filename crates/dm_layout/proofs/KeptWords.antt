@@ -1,4 +1,4 @@
--- Codewords that are kept at the front of a list of bytes.
+-- Codewords that are kept at the start of a list of bytes.
 use Rattle.std.proofs.Common.{◌≡◌, ℕ, ◌+◌, ◌-◌, ◌<◌, ◌≤◌, List, length, take, drop, replicate, ◌∙◌, arith, length-take, ap, ◌++◌}
 use Rattle.std.specs.Prelude.{All}
 use Rattle.std.proofs.Math.Seq.{take-append-add}
@@ -18,38 +18,38 @@ words_of_kept size kept h = record {
 }
 
 -- Codewords, and zeros behind them, are kept.
-pub front_kept : (size : SizeRow) (front : List ℕ) → IsRow size → codeword_count size ≤ most_codewords → length front ≤ most_codewords → All (λ word. word < 256) front
-    → AreKept size (front ++ drop (length front) (replicate most_codewords 0))
-front_kept size front row fits room bytes =
+pub prefix_kept : (size : SizeRow) (prefix : List ℕ) → IsRow size → codeword_count size ≤ most_codewords → length prefix ≤ most_codewords → All (λ word. word < 256) prefix
+    → AreKept size (prefix ++ drop (length prefix) (replicate most_codewords 0))
+prefix_kept size prefix row fits room bytes =
     let none : ℕ = 0 in
-    let zeros : List ℕ = drop (length front) (replicate most_codewords none) in
-    let long : length zeros ≡ most_codewords - length front = ap length (drop-replicate (length front) most_codewords none) ∙ length-replicate (most_codewords - length front) none in
+    let zeros : List ℕ = drop (length prefix) (replicate most_codewords none) in
+    let long : length zeros ≡ most_codewords - length prefix = ap length (drop-replicate (length prefix) most_codewords none) ∙ length-replicate (most_codewords - length prefix) none in
     record {
       row = row;
       fits = fits;
-      count = omega (arith, length-append front zeros, long, room);
-      bytes = All-append (λ (word : ℕ). word < 256) front zeros bytes (All-drop (λ (word : ℕ). word < 256) (length front) (replicate most_codewords none) (All-replicate (λ (word : ℕ). word < 256) most_codewords none (omega arith)));
+      count = omega (arith, length-append prefix zeros, long, room);
+      bytes = All-append (λ (word : ℕ). word < 256) prefix zeros bytes (All-drop (λ (word : ℕ). word < 256) (length prefix) (replicate most_codewords none) (All-replicate (λ (word : ℕ). word < 256) most_codewords none (omega arith)));
     }
 
 -- The codewords of the size are then these data codewords and zeros.
-pub zeros_behind : (size : SizeRow) (front : List ℕ) → codeword_count size ≤ most_codewords → length front ≡ size.data_count
-    → take (codeword_count size) (front ++ drop (length front) (replicate most_codewords 0)) ≡ front ++ replicate size.check_count 0
-zeros_behind size front fits count =
-    let all : codeword_count size ≡ length front + size.check_count = omega (arith, count) in
-    ap (λ n. take n (front ++ drop (length front) (replicate most_codewords 0))) all
-    ∙ take-append-add front (drop (length front) (replicate most_codewords 0)) size.check_count
-    ∙ ap (λ zeros. front ++ take size.check_count zeros) (drop-replicate (length front) most_codewords 0)
-    ∙ ap (λ zeros. front ++ zeros) (take-replicate size.check_count (most_codewords - length front) 0 (omega (arith, fits, count)))
+pub zeros_behind : (size : SizeRow) (prefix : List ℕ) → codeword_count size ≤ most_codewords → length prefix ≡ size.data_count
+    → take (codeword_count size) (prefix ++ drop (length prefix) (replicate most_codewords 0)) ≡ prefix ++ replicate size.check_count 0
+zeros_behind size prefix fits count =
+    let all : codeword_count size ≡ length prefix + size.check_count = omega (arith, count) in
+    ap (λ n. take n (prefix ++ drop (length prefix) (replicate most_codewords 0))) all
+    ∙ take-append-add prefix (drop (length prefix) (replicate most_codewords 0)) size.check_count
+    ∙ ap (λ zeros. prefix ++ take size.check_count zeros) (drop-replicate (length prefix) most_codewords 0)
+    ∙ ap (λ zeros. prefix ++ zeros) (take-replicate size.check_count (most_codewords - length prefix) 0 (omega (arith, fits, count)))
 
 -- Codewords of the size that are put among what is kept are kept with it.
 pub part_kept : (size : SizeRow) (start count : ℕ) (kept part : List ℕ) → AreKept size kept → start + count ≤ most_codewords → length part ≡ count → All (λ word. word < 256) part
     → AreKept size (put_mid start count kept part)
 part_kept size start count kept part h room long bytes =
-    let front : All (λ word. word < 256) (take start kept) = All-take (λ word. word < 256) start kept h.bytes in
-    let back : All (λ word. word < 256) (drop count (drop start kept)) = All-drop (λ word. word < 256) count _ (All-drop (λ word. word < 256) start kept h.bytes) in
+    let prefix : All (λ word. word < 256) (take start kept) = All-take (λ word. word < 256) start kept h.bytes in
+    let rest : All (λ word. word < 256) (drop count (drop start kept)) = All-drop (λ word. word < 256) count _ (All-drop (λ word. word < 256) start kept h.bytes) in
     record {
       row = h.row;
       fits = h.fits;
       count = same_len_mid start count kept part (omega (arith, long, h.count, length-take count (drop start kept), length-drop start kept)) ∙ h.count;
-      bytes = All-append (λ word. word < 256) (take start kept) _ front (All-append (λ word. word < 256) part _ bytes back);
+      bytes = All-append (λ word. word < 256) (take start kept) _ prefix (All-append (λ word. word < 256) part _ bytes rest);
     }

@@ -3,7 +3,7 @@ use Rattle.std.proofs.Common.{◌≡◌, ◌⊎◌, inl, inr, ℕ, ◌+◌, ◌-
 use Rattle.std.specs.Int.RustNames.{bit_or}
 use lib.Bits.{bit_and}
 use Rattle.std.proofs.Math.Bool.{or-false, and_comm}
-use Rattle.std.proofs.lemmas.Bool.{eqb-true, eqb-false, ne_eqb, lt-ltb, le-ltb, lt-leb, le-leb, cases_lt}
+use Rattle.std.proofs.lemmas.Bool.{ltb-true, eqb-true, eqb-false, ne_eqb, lt-ltb, le-ltb, lt-leb, le-leb, cases_lt}
 use Rattle.std.proofs.lemmas.List.{length-set}
 use Rattle.dm_layout.specs.Grid.{is_dark_in}
 use Rattle.dm_layout.specs.inner.Laying.{part_of, by_anchors, scattered, with_scattered}
@@ -16,15 +16,20 @@ use Rattle.dm_layout.proofs.WidenedRows.{put_over}
 -- ---- one row of slots is scattered
 
 -- Masked bits of a number, moved to the left, darken the columns that its part darkens.
-part_up : (slots : List ℕ) (q width mask low count s c : ℕ) → ((i : ℕ) → i < width → is_dark_in mask i ≡ nat_lt (i % 8) count) → c < width →
-    is_dark_in (bit_and (get_or slots q 0 / 2 ^ low) mask * 2 ^ s % 2 ^ width) c ≡ part_of slots q s low count c
-part_up slots q width mask low count s c masked l =
+part_up : (x : ℕ) (slots : List ℕ) (q width mask low count s c : ℕ) → ((i : ℕ) → i < width → is_dark_in mask i ≡ nat_lt (i % 8) count) → ((i : ℕ) → i < width → is_dark_in x i ≡ look_in slots q i) → width % 8 ≡ 0 → low + count ≤ 8 → c < width →
+    is_dark_in (bit_and (x / 2 ^ low) mask * 2 ^ s % 2 ^ width) c ≡ part_of slots q s low count c
+part_up x slots q width mask low count s c masked same bytes whole l =
     let z : low + (c - s) ≡ c - s + low = omega arith in
     let t : Bool = nat_lt ((c - s) % 8) count in
-    masked_up width mask count (get_or slots q 0 / 2 ^ low) s c masked l
-    ∙ ap (λ (d : ℕ). nat_le s c && (nat_eq d 1 && t)) (moved_bit (get_or slots q 0) low (c - s))
-    ∙ ap (λ (i : ℕ). nat_le s c && (look_in slots q i && t)) z
-    ∙ ap (λ (b : Bool). nat_le s c && b) (and_comm (look_in slots q (c - s + low)) t)
+    masked_up width mask count (x / 2 ^ low) s c masked l
+    ∙ ap (λ (d : ℕ). nat_le s c && (nat_eq d 1 && t)) (moved_bit x low (c - s))
+    ∙ ap (λ (i : ℕ). nat_le s c && (is_dark_in x i && t)) z
+    ∙ ap (λ (b : Bool). nat_le s c && b) (and_comm (is_dark_in x (c - s + low)) t)
+    ∙ ap (λ (b : Bool). nat_le s c && b) (there t refl)
+  where
+    there : (t : Bool) → nat_lt ((c - s) % 8) count ≡ t → (t && is_dark_in x (c - s + low)) ≡ (t && look_in slots q (c - s + low))
+    there true e = let h = ltb-true ((c - s) % 8) count e in same (c - s + low) (omega (arith, h, bytes, whole, l))
+    there false e = refl
 
 -- The rows with one more row of slots, whose parts are laid over three of them.
 abbrev pub with_row : ℕ → ℕ → ℕ → List ℕ → ℕ → ℕ → ℕ → List ℕ
@@ -33,20 +38,17 @@ with_row width two three rows row x s =
     let b : List ℕ = set a (row + 1) (bit_or (get_or a (row + 1) 0) (bit_and (x / 2 ^ 2) three * 2 ^ s % 2 ^ width)) in
     set b (row + 2) (bit_or (get_or b (row + 2) 0) (bit_and (x / 2 ^ 5) three * 2 ^ s % 2 ^ width))
 
-pub row_scattered : (width two three : ℕ) → ((c : ℕ) → c < width → (is_dark_in two c ≡ nat_lt (c % 8) 2) × (is_dark_in three c ≡ nat_lt (c % 8) 3)) → (rows slots : List ℕ) (row s r c : ℕ) → row + 2 < length rows → c < width →
-    look_in (with_row width two three rows row (get_or slots row 0) s) r c ≡ with_scattered (look_in rows r c) slots row s r c
-row_scattered width two three masked rows slots row s r c fits l =
+pub row_scattered : (width two three : ℕ) → ((c : ℕ) → c < width → (is_dark_in two c ≡ nat_lt (c % 8) 2) × (is_dark_in three c ≡ nat_lt (c % 8) 3)) → width % 8 ≡ 0 → (rows slots : List ℕ) (x row s r c : ℕ) → ((i : ℕ) → i < width → is_dark_in x i ≡ look_in slots row i) →
+    row + 2 < length rows → c < width → look_in (with_row width two three rows row x s) r c ≡ with_scattered (look_in rows r c) slots row s r c
+row_scattered width two three masked bytes rows slots x row s r c same fits l =
     put_over b (row + 2) z r c (omega (arith, fits, length-set rows row (bit_or (get_or rows row 0) x0), length-set a (row + 1) (bit_or (get_or a (row + 1) 0) y)))
     ∙ ap (λ (t : Bool). t || (nat_eq r (row + 2) && is_dark_in z c)) (put_over a (row + 1) y r c (omega (arith, fits, length-set rows row (bit_or (get_or rows row 0) x0))))
     ∙ ap (λ (t : Bool). (t || (nat_eq r (row + 1) && is_dark_in y c)) || (nat_eq r (row + 2) && is_dark_in z c)) (put_over rows row x0 r c (omega (arith, fits)))
     ∙ ap (λ (t : Bool). ((look_in rows r c || (nat_eq r row && t)) || (nat_eq r (row + 1) && is_dark_in y c)) || (nat_eq r (row + 2) && is_dark_in z c))
-    (ap (λ (i : ℕ). is_dark_in (bit_and i two * 2 ^ s % 2 ^ width) c) whole ∙ part_up slots row width two 0 2 s c (λ i h. (masked i h).0) l)
-    ∙ ap (λ (t : Bool). ((look_in rows r c || (nat_eq r row && part_of slots row s 0 2 c)) || (nat_eq r (row + 1) && t)) || (nat_eq r (row + 2) && is_dark_in z c)) (part_up slots row width three 2 3 s c (λ i h. (masked i h).1) l)
-    ∙ ap (λ (t : Bool). ((look_in rows r c || (nat_eq r row && part_of slots row s 0 2 c)) || (nat_eq r (row + 1) && part_of slots row s 2 3 c)) || (nat_eq r (row + 2) && t)) (part_up slots row width three 5 3 s c (λ i h. (masked i h).1) l)
+    (ap (λ (i : ℕ). is_dark_in (bit_and i two * 2 ^ s % 2 ^ width) c) whole ∙ part_up x slots row width two 0 2 s c (λ i h. (masked i h).0) same bytes (omega arith) l)
+    ∙ ap (λ (t : Bool). ((look_in rows r c || (nat_eq r row && part_of slots row s 0 2 c)) || (nat_eq r (row + 1) && t)) || (nat_eq r (row + 2) && is_dark_in z c)) (part_up x slots row width three 2 3 s c (λ i h. (masked i h).1) same bytes (omega arith) l)
+    ∙ ap (λ (t : Bool). ((look_in rows r c || (nat_eq r row && part_of slots row s 0 2 c)) || (nat_eq r (row + 1) && part_of slots row s 2 3 c)) || (nat_eq r (row + 2) && t)) (part_up x slots row width three 5 3 s c (λ i h. (masked i h).1) same bytes (omega arith) l)
   where
-    x : ℕ
-    x = get_or slots row 0
-
     x0 : ℕ
     x0 = bit_and x two * 2 ^ s % 2 ^ width
 

@@ -1,9 +1,7 @@
 -- That the codewords in slots, scattered and folded, lie at their places.
-use Rattle.std.proofs.Common.{◌≡◌, ◌≢◌, ℕ, zero, suc, ◌+◌, ◌-◌, ◌*◌, ◌/◌, ◌%◌, ◌^◌, ◌<◌, ◌≤◌, min, Bool, true, false, ◌&&◌, ◌||◌, nat_eq, nat_le, nat_lt, List, [], ◌∷◌, map, length, get_or, set, drop, replicate, refl, sym, ◌∙◌, ap, arith, get_or-set_same, get_or-set_other, drop-cons, drop_of_length-le}
+use Rattle.std.proofs.Common.{◌≡◌, ◌≢◌, ℕ, zero, suc, ◌+◌, ◌-◌, ◌*◌, ◌/◌, ◌%◌, ◌^◌, ◌<◌, ◌≤◌, Bool, true, false, ◌&&◌, ◌||◌, nat_eq, nat_le, nat_lt, List, [], ◌∷◌, map, length, get_or, set, drop, replicate, refl, sym, ◌∙◌, ap, arith, get_or-set_same, get_or-set_other, drop-cons, drop_of_length-le}
 use Rattle.std.specs.Int.RustNames.{bit_or}
 use Rattle.std.specs.List.{list_all}
-use Rattle.std.proofs.Math.Nat.{mod-eq_of_lt}
-use Rattle.std.proofs.Math.Pow.{pow_mono}
 use Rattle.std.proofs.Math.Bool.{or_assoc, or-false, and-false}
 use Rattle.std.proofs.lemmas.Bool.{and_parts, ltb-true, eqb-true}
 use Rattle.std.proofs.lemmas.List.{get_or-map}
@@ -19,7 +17,7 @@ use Rattle.dm_layout.specs.inner.Reading.{marks_in}
 use Rattle.dm_layout.specs.inner.Slots.{corner_slot, first_column, reversed_bits, slot_of}
 use Rattle.dm_layout.proofs.FoldedRows.{folded_or, folded_same, folded_none}
 use Rattle.dm_layout.proofs.OnePlace.{eight}
-use Rattle.dm_layout.proofs.LaidSlots.{marks_low, marks_reversed, marks_turned, marks_or, wide_cells, scattered_shape, scattered_corner, folded_marks, wide_folded}
+use Rattle.dm_layout.proofs.LaidSlots.{byte_fits, marks_low, marks_reversed, marks_turned, marks_or, wide_cells, scattered_shape, scattered_corner, folded_marks, wide_folded}
 use Rattle.dm_layout.proofs.LiftedWords.{kind_test, inside_test, fits_test}
 use Rattle.dm_layout.proofs.Painting.{marks, marks_word, light_at}
 
@@ -28,8 +26,8 @@ abbrev pub corner_cells : ℕ → List Cell
 corner_cells n = elim (nat_eq (n % 8) 4) [ true ↦ cells_of n Corner1 | false ↦ elim (nat_eq (n % 8) 6) [ true ↦ cells_of n Corner2 | false ↦ [] ] ]
 
 -- The square with all that is in the slots.
-abbrev pub laid_slots : ℕ → ℕ → List ℕ → ℕ → ℕ → Bool
-laid_slots n last slots r c = folded n (scattered n slots) r c || marks_low (get_or slots last 0) 0 (corner_cells n) r c
+abbrev pub laid_slots : ℕ → List ℕ → ℕ → ℕ → Bool
+laid_slots n slots r c = folded n (scattered n slots) r c || marks_low (get_or slots largest_mapping 0) 0 (corner_cells n) r c
 
 -- It doesn't matter on which side something is added.
 add_left : (a b x : Bool) → ((a || x) || b) ≡ ((a || b) || x)
@@ -39,68 +37,55 @@ add_left false true false = refl
 add_left false false true = refl
 add_left false false false = refl
 
--- Slots have room for a mapping square if their rows are as many and as wide as it needs.
-pub record AreRoom (n width last : ℕ) : Type 0 where
-  pub least : 8 ≤ n
-  pub fits : n + 16 ≤ width
-  pub most : n ≤ last
-  pub last_most : last ≤ largest_mapping
-
-module _ (n width last y : ℕ) (slots : List ℕ) (room : AreRoom n width last) (even : n % 2 ≡ 0) (inside : last < length slots) (small : y < 256) where
+module _ (n y : ℕ) (slots : List ℕ) (least : 8 ≤ n) (most : n ≤ largest_mapping) (even : n % 2 ≡ 0) (inside : largest_mapping < length slots) (small : y < 256) where
   -- A byte that is added to the slot of an anchor is laid over the row of the anchor, at its place.
-  anchor_byte : (i j : ℕ) → i < n → j < n → with_byte width last slots (16 * i + j / 8) y ≡ set slots i (bit_or (get_or slots i 0) (y * 2 ^ (8 * (j / 8)) % 2 ^ width))
+  anchor_byte : (i j : ℕ) → i < n → j < n → with_byte slots (16 * i + j / 8) y ≡ set slots i (bit_or (get_or slots i 0) (y * 2 ^ (8 * (j / 8)) % 2 ^ 128))
   anchor_byte i j li lj =
-      let row : min ((16 * i + j / 8) / 16) last ≡ i = omega (arith, li, lj, room.most, room.last_most) in
-      let place : (16 * i + j / 8) % 16 ≡ j / 8 = omega (arith, lj, room.most, room.last_most) in
-      ap (λ (k : ℕ). set slots k (bit_or (get_or slots k 0) (y * 2 ^ (8 * ((16 * i + j / 8) % 16)) % 2 ^ width))) row
-      ∙ ap (λ (k : ℕ). set slots i (bit_or (get_or slots i 0) (y * 2 ^ (8 * k) % 2 ^ width))) place
+      let row : (16 * i + j / 8) / 16 ≡ i = omega (arith, li, lj, most) in
+      let place : (16 * i + j / 8) % 16 ≡ j / 8 = omega (arith, lj, most) in
+      ap (λ (k : ℕ). set slots k (bit_or (get_or slots k 0) (y * 2 ^ (8 * ((16 * i + j / 8) % 16))))) row
+      ∙ ap (λ (k : ℕ). set slots i (bit_or (get_or slots i 0) (y * 2 ^ (8 * k)))) place
+      ∙ ap (λ (k : ℕ). set slots i (bit_or (get_or slots i 0) k)) (sym (byte_fits y (8 * (j / 8)) 128 small (omega (arith, lj, most))))
 
   -- A byte that is added to the slot of a corner is laid over the last row.
-  corner_byte : with_byte width last slots corner_slot y ≡ set slots last (bit_or (get_or slots last 0) y)
-  corner_byte =
-      let row : min (corner_slot / 16) last ≡ last = omega (arith, room.last_most) in
-      let wide : 8 ≤ width = omega (arith, room.fits) in
-      let byte : 2 ^ 8 ≤ 2 ^ width = pow_mono wide in
-      let same : y * 1 ≡ y = omega arith in
-      ap (λ (k : ℕ). set slots k (bit_or (get_or slots k 0) (y * 1 % 2 ^ width))) row
-      ∙ ap (λ (x : ℕ). set slots last (bit_or (get_or slots last 0) (x % 2 ^ width))) same
-      ∙ ap (λ (x : ℕ). set slots last (bit_or (get_or slots last 0) x)) (mod-eq_of_lt (omega (arith, small, byte)))
+  corner_byte : with_byte slots corner_slot y ≡ set slots largest_mapping (bit_or (get_or slots largest_mapping 0) y)
+  corner_byte = let same : y * 1 ≡ y = omega arith in ap (λ (x : ℕ). set slots largest_mapping (bit_or (get_or slots largest_mapping 0) x)) same
 
   -- One more byte in the slot of an anchor marks the cells of the anchor's standard shape.
   put_standard : (i j r c : ℕ) → i < n → j < n → (5 * i + j) % 8 ≡ 4 → r < n → c < n →
-      laid_slots n last (with_byte width last slots (16 * i + j / 8) y) r c ≡ (laid_slots n last slots r c || marks_low y 0 (standard n i j) r c)
+      laid_slots n (with_byte slots (16 * i + j / 8) y) r c ≡ (laid_slots n slots r c || marks_low y 0 (standard n i j) r c)
   put_standard i j r c li lj anchor lr lc =
-      let other : last ≢ i = omega (arith, li, room.most) in
+      let other : largest_mapping ≢ i = omega (arith, li, most) in
       let all =
-      folded_same n width (scattered n news) (λ u v. scattered n slots u v || marks_low y 0 (wide_cells i j) u v) r c lc (omega (arith, room.fits))
-      (λ u v _. scattered_shape n slots i j y width u v li anchor small (omega (arith, lj, room.fits)) (omega (arith, li, room.most, inside))) in
-      ap (λ (xs : List ℕ). laid_slots n last xs r c) (anchor_byte i j li lj)
-      ∙ ap (λ (x : ℕ). folded n (scattered n news) r c || marks_low x 0 (corner_cells n) r c) (get_or-set_other slots i last (bit_or (get_or slots i 0) (y * 2 ^ (8 * (j / 8)) % 2 ^ width)) 0 other)
+      folded_same n 128 (scattered n news) (λ u v. scattered n slots u v || marks_low y 0 (wide_cells i j) u v) r c lc (omega (arith, most))
+      (λ u v _. scattered_shape n slots i j y 128 u v li anchor small (omega (arith, lj, most)) (omega (arith, li, most, inside))) in
+      ap (λ (xs : List ℕ). laid_slots n xs r c) (anchor_byte i j li lj)
+      ∙ ap (λ (x : ℕ). folded n (scattered n news) r c || marks_low x 0 (corner_cells n) r c) (get_or-set_other slots i largest_mapping (bit_or (get_or slots i 0) (y * 2 ^ (8 * (j / 8)) % 2 ^ 128)) 0 other)
       ∙ ap (λ (b : Bool). b || corner) (all ∙ folded_or n (scattered n slots) (marks_low y 0 (wide_cells i j)) r c)
-      ∙ ap (λ (b : Bool). (folded n (scattered n slots) r c || b) || corner) (folded_marks n y 0 r c (wide_cells i j) (standard n i j) lc (wide_folded n i j r c room.least even li lj anchor lr lc))
+      ∙ ap (λ (b : Bool). (folded n (scattered n slots) r c || b) || corner) (folded_marks n y 0 r c (wide_cells i j) (standard n i j) lc (wide_folded n i j r c least even li lj anchor lr lc))
       ∙ add_left (folded n (scattered n slots) r c) corner (marks_low y 0 (standard n i j) r c)
     where
       news : List ℕ
-      news = set slots i (bit_or (get_or slots i 0) (y * 2 ^ (8 * (j / 8)) % 2 ^ width))
+      news = set slots i (bit_or (get_or slots i 0) (y * 2 ^ (8 * (j / 8)) % 2 ^ 128))
 
       corner : Bool
-      corner = marks_low (get_or slots last 0) 0 (corner_cells n) r c
+      corner = marks_low (get_or slots largest_mapping 0) 0 (corner_cells n) r c
 
   -- One more byte in the slot of the corner marks the cells of the corner.
-  put_corner : (xs : List Cell) (r c : ℕ) → c < n → corner_cells n ≡ xs → laid_slots n last (with_byte width last slots corner_slot y) r c ≡ (laid_slots n last slots r c || marks_low y 0 xs r c)
+  put_corner : (xs : List Cell) (r c : ℕ) → c < n → corner_cells n ≡ xs → laid_slots n (with_byte slots corner_slot y) r c ≡ (laid_slots n slots r c || marks_low y 0 xs r c)
   put_corner xs r c lc e =
-      ap (λ (ss : List ℕ). laid_slots n last ss r c) corner_byte
-      ∙ ap (λ (b : Bool). b || marks_low (get_or news last 0) 0 (corner_cells n) r c) (folded_same n width (scattered n news) (scattered n slots) r c lc (omega (arith, room.fits)) (λ u v _. scattered_corner n slots last y u v room.most inside))
-      ∙ ap (λ (x : ℕ). folded n (scattered n slots) r c || marks_low x 0 (corner_cells n) r c) (get_or-set_same slots last (bit_or (get_or slots last 0) y) 0 inside)
-      ∙ ap (λ (b : Bool). folded n (scattered n slots) r c || b) (marks_or (get_or slots last 0) y 0 (corner_cells n) r c)
-      ∙ sym (or_assoc (folded n (scattered n slots) r c) (marks_low (get_or slots last 0) 0 (corner_cells n) r c) (marks_low y 0 (corner_cells n) r c))
-      ∙ ap (λ (cs : List Cell). laid_slots n last slots r c || marks_low y 0 cs r c) e
+      ap (λ (ss : List ℕ). laid_slots n ss r c) corner_byte
+      ∙ ap (λ (b : Bool). b || marks_low (get_or news largest_mapping 0) 0 (corner_cells n) r c) (folded_same n 128 (scattered n news) (scattered n slots) r c lc (omega (arith, most)) (λ u v _. scattered_corner n slots largest_mapping y u v most inside))
+      ∙ ap (λ (x : ℕ). folded n (scattered n slots) r c || marks_low x 0 (corner_cells n) r c) (get_or-set_same slots largest_mapping (bit_or (get_or slots largest_mapping 0) y) 0 inside)
+      ∙ ap (λ (b : Bool). folded n (scattered n slots) r c || b) (marks_or (get_or slots largest_mapping 0) y 0 (corner_cells n) r c)
+      ∙ sym (or_assoc (folded n (scattered n slots) r c) (marks_low (get_or slots largest_mapping 0) 0 (corner_cells n) r c) (marks_low y 0 (corner_cells n) r c))
+      ∙ ap (λ (cs : List Cell). laid_slots n slots r c || marks_low y 0 cs r c) e
     where
       news : List ℕ
-      news = set slots last (bit_or (get_or slots last 0) y)
+      news = set slots largest_mapping (bit_or (get_or slots largest_mapping 0) y)
 
   -- One more byte in the slot of a shape that fits marks the cells of the shape.
-  put_low : (s : Shape) (r c : ℕ) → fits_test n s ≡ true → r < n → c < n → laid_slots n last (with_byte width last slots (slot_of s) y) r c ≡ (laid_slots n last slots r c || marks_low y 0 (cells_of n s) r c)
+  put_low : (s : Shape) (r c : ℕ) → fits_test n s ≡ true → r < n → c < n → laid_slots n (with_byte slots (slot_of s) y) r c ≡ (laid_slots n slots r c || marks_low y 0 (cells_of n s) r c)
   put_low (Standard i j) r c fits lr lc =
       let both = and_parts (kind_test n (Standard i j)) (inside_test n (standard n i j)) fits in
       let kind = and_parts (nat_lt i n && nat_lt j n) (nat_eq ((5 * i + j) % 8) 4) both.0 in
@@ -122,18 +107,18 @@ reversed_small : (w : ℕ) → reversed_bits w < 256
 reversed_small w = omega arith
 
 -- One more codeword in its slot marks the cells of its shape.
-slot_put : (n width last w : ℕ) (slots : List ℕ) (s : Shape) (r c : ℕ) → AreRoom n width last → n % 2 ≡ 0 → last < length slots → w < 256 → fits_test n s ≡ true → r < n → c < n →
-    laid_slots n last (with_byte width last slots (slot_of s) (reversed_bits w)) r c ≡ (laid_slots n last slots r c || marks_in w 0 (cells_of n s) r c)
-slot_put n width last w slots s r c room even inside small fits lr lc =
+slot_put : (n w : ℕ) (slots : List ℕ) (s : Shape) (r c : ℕ) → 8 ≤ n → n ≤ largest_mapping → n % 2 ≡ 0 → largest_mapping < length slots → w < 256 → fits_test n s ≡ true → r < n → c < n →
+    laid_slots n (with_byte slots (slot_of s) (reversed_bits w)) r c ≡ (laid_slots n slots r c || marks_in w 0 (cells_of n s) r c)
+slot_put n w slots s r c least most even inside small fits lr lc =
     let k = eight n s in
-    put_low n width last (reversed_bits w) slots room even inside (reversed_small w) s r c fits lr lc ∙ ap (λ (b : Bool). laid_slots n last slots r c || b) (marks_reversed w (cells_of n s) r c small (omega arith))
+    put_low n (reversed_bits w) slots least most even inside (reversed_small w) s r c fits lr lc ∙ ap (λ (b : Bool). laid_slots n slots r c || b) (marks_reversed w (cells_of n s) r c small (omega arith))
 
 -- ---- all codewords
 
 -- The square with what is in the slots, and with the codewords from number i on, is that of all codewords.
-abbrev pub AreLaid : ℕ → ℕ → List ℕ → List ℕ → ℕ → Type 0
-AreLaid n last words slots i =
-    (r c : ℕ) → r < n → c < n → (laid_slots n last slots r c || marks words (places_from n i (drop i (shapes n))) r c) ≡ marks words (places_in_order n) r c
+abbrev pub AreLaid : ℕ → List ℕ → List ℕ → ℕ → Type 0
+AreLaid n words slots i =
+    (r c : ℕ) → r < n → c < n → (laid_slots n slots r c || marks words (places_from n i (drop i (shapes n))) r c) ≡ marks words (places_in_order n) r c
 
 -- Each shape of a list in which all fit fits.
 fits_here : (n i : ℕ) (ss : List Shape) → list_all (fits_test n) ss ≡ true → i < length ss → fits_test n (get_or ss i Corner1) ≡ true
@@ -142,21 +127,21 @@ fits_here n zero (s ∷ ss) h l = (and_parts (fits_test n s) (list_all (fits_tes
 fits_here n (suc i) (s ∷ ss) h l = fits_here n i ss (and_parts (fits_test n s) (list_all (fits_test n) ss) h).1 (omega arith)
 
 -- When the next codeword is put into its slot, the square is still that of all codewords.
-pub laid_more : (n width last i x y : ℕ) (words slots : List ℕ) → AreRoom n width last → n % 2 ≡ 0 → last < length slots → get_or words i 0 < 256 → list_all (fits_test n) (shapes n) ≡ true → i < length (shapes n) →
-    x ≡ get_or (map slot_of (shapes n)) i 0 → y ≡ reversed_bits (get_or words i 0) → AreLaid n last words slots i → AreLaid n last words (with_byte width last slots x y) (i + 1)
-laid_more n width last i x y words slots room even inside small fits l ex ey so_far r c lr lc =
+pub laid_more : (n i x y : ℕ) (words slots : List ℕ) → 8 ≤ n → n ≤ largest_mapping → n % 2 ≡ 0 → largest_mapping < length slots → get_or words i 0 < 256 → list_all (fits_test n) (shapes n) ≡ true → i < length (shapes n) →
+    x ≡ get_or (map slot_of (shapes n)) i 0 → y ≡ reversed_bits (get_or words i 0) → AreLaid n words slots i → AreLaid n words (with_byte slots x y) (i + 1)
+laid_more n i x y words slots least most even inside small fits l ex ey so_far r c lr lc =
     let s : Shape = get_or (shapes n) i Corner1 in
     let w : ℕ = get_or words i 0 in
     let next : suc i ≡ i + 1 = omega arith in
     let rest : List Place = places_from n (suc i) (drop (suc i) (shapes n)) in
     let at : x ≡ slot_of s = ex ∙ get_or-map slot_of (shapes n) i Corner1 0 l in
-    ap (λ (j : ℕ). laid_slots n last (with_byte width last slots x y) r c || marks words (places_from n j (drop j (shapes n))) r c) (sym next)
-    ∙ ap (λ (j : ℕ). laid_slots n last (with_byte width last slots j y) r c || marks words rest r c) at
-    ∙ ap (λ (j : ℕ). laid_slots n last (with_byte width last slots (slot_of s) j) r c || marks words rest r c) ey
-    ∙ ap (λ (b : Bool). b || marks words rest r c) (slot_put n width last w slots s r c room even inside small (fits_here n i (shapes n) fits l) lr lc)
-    ∙ or_assoc (laid_slots n last slots r c) (marks_in w 0 (cells_of n s) r c) (marks words rest r c)
-    ∙ ap (λ (b : Bool). laid_slots n last slots r c || b) (sym (marks_word words i 0 (cells_of n s) rest r c))
-    ∙ ap (λ (ss : List Shape). laid_slots n last slots r c || marks words (places_from n i ss) r c) (sym (drop-cons (shapes n) i Corner1 l))
+    ap (λ (j : ℕ). laid_slots n (with_byte slots x y) r c || marks words (places_from n j (drop j (shapes n))) r c) (sym next)
+    ∙ ap (λ (j : ℕ). laid_slots n (with_byte slots j y) r c || marks words rest r c) at
+    ∙ ap (λ (j : ℕ). laid_slots n (with_byte slots (slot_of s) j) r c || marks words rest r c) ey
+    ∙ ap (λ (b : Bool). b || marks words rest r c) (slot_put n w slots s r c least most even inside small (fits_here n i (shapes n) fits l) lr lc)
+    ∙ or_assoc (laid_slots n slots r c) (marks_in w 0 (cells_of n s) r c) (marks words rest r c)
+    ∙ ap (λ (b : Bool). laid_slots n slots r c || b) (sym (marks_word words i 0 (cells_of n s) rest r c))
+    ∙ ap (λ (ss : List Shape). laid_slots n slots r c || marks words (places_from n i ss) r c) (sym (drop-cons (shapes n) i Corner1 l))
     ∙ so_far r c lr lc
 
 -- Slots of zeros scatter to no cell.
@@ -190,13 +175,13 @@ marks_none y k (x ∷ xs) r c dark =
     ∙ marks_none y (suc k) xs r c dark
 
 -- With slots of zeros and all codewords still to come, the square is that of all codewords.
-pub laid_first : (n last m : ℕ) (words slots : List ℕ) → slots ≡ replicate m 0 → AreLaid n last words slots 0
+pub laid_first : (n m : ℕ) (words slots : List ℕ) → slots ≡ replicate m 0 → AreLaid n words slots 0
 unfolding places_in_order
-laid_first n last m words slots e r c lr lc =
-    ap (λ (ss : List ℕ). laid_slots n last ss r c || marks words (places_from n 0 (shapes n)) r c) e
-    ∙ ap (λ (b : Bool). (b || marks_low (get_or (replicate m 0) last 0) 0 (corner_cells n) r c) || marks words (places_from n 0 (shapes n)) r c)
+laid_first n m words slots e r c lr lc =
+    ap (λ (ss : List ℕ). laid_slots n ss r c || marks words (places_from n 0 (shapes n)) r c) e
+    ∙ ap (λ (b : Bool). (b || marks_low (get_or (replicate m 0) largest_mapping 0) 0 (corner_cells n) r c) || marks words (places_from n 0 (shapes n)) r c)
     (folded_same n (n + 8) (scattered n (replicate m 0)) (λ i j. false) r c lc (omega arith) (λ i j _. scattered_none n m i j) ∙ folded_none n r c)
-    ∙ ap (λ (b : Bool). b || marks words (places_from n 0 (shapes n)) r c) (marks_none (get_or (replicate m 0) last 0) 0 (corner_cells n) r c (light_at m last))
+    ∙ ap (λ (b : Bool). b || marks words (places_from n 0 (shapes n)) r c) (marks_none (get_or (replicate m 0) largest_mapping 0) 0 (corner_cells n) r c (light_at m largest_mapping))
 
 -- The byte in the slot of the corner marks what the codeword of the corner does.
 corner_same : (n y r c : ℕ) → marks_low y 0 (corner_cells n) r c ≡ corner_marks n (reversed_bits (y % 256)) r c
@@ -213,10 +198,10 @@ corner_same n y r c = by (nat_eq (n % 8) 4) (nat_eq (n % 8) 6) refl refl
     by false false e f = refl
 
 -- Once the last codeword is in its slot, the scattered and folded slots are the square of all codewords.
-pub laid_all : (n last i : ℕ) (words slots : List ℕ) → length (shapes n) ≤ i → AreLaid n last words slots i →
-    (r c : ℕ) → r < n → c < n → (folded n (scattered n slots) r c || corner_marks n (reversed_bits (get_or slots last 0 % 256)) r c) ≡ marks words (places_in_order n) r c
-laid_all n last i words slots l laid r c lr lc =
-    ap (λ (b : Bool). folded n (scattered n slots) r c || b) (sym (corner_same n (get_or slots last 0) r c))
-    ∙ sym (or-false (laid_slots n last slots r c))
-    ∙ ap (λ (ss : List Shape). laid_slots n last slots r c || marks words (places_from n i ss) r c) (sym (drop_of_length-le (shapes n) l))
+pub laid_all : (n i : ℕ) (words slots : List ℕ) → length (shapes n) ≤ i → AreLaid n words slots i →
+    (r c : ℕ) → r < n → c < n → (folded n (scattered n slots) r c || corner_marks n (reversed_bits (get_or slots largest_mapping 0 % 256)) r c) ≡ marks words (places_in_order n) r c
+laid_all n i words slots l laid r c lr lc =
+    ap (λ (b : Bool). folded n (scattered n slots) r c || b) (sym (corner_same n (get_or slots largest_mapping 0) r c))
+    ∙ sym (or-false (laid_slots n slots r c))
+    ∙ ap (λ (ss : List Shape). laid_slots n slots r c || marks words (places_from n i ss) r c) (sym (drop_of_length-le (shapes n) l))
     ∙ laid r c lr lc

@@ -15,6 +15,7 @@ mod PlacementRows
 mod BlockLemmas
 mod GridLemmas
 mod PackedRows
+mod CellLanes
 mod Ranges
 mod SymbolLines
 mod PlaceOrder
@@ -37,6 +38,7 @@ mod SlotOrder
 mod FoldedRows
 mod LaidSlots
 mod LaidWords
+mod SlotBytes
 mod DrawnRows
 mod BorderMasks
 mod BorderLemmas

@@ -1,8 +1,6 @@
 -- That the codewords of widened rows, read slot by slot, are those of the grid.
 use Rattle.std.proofs.Common.{◌≡◌, ℕ, ◌+◌, ◌-◌, ◌*◌, ◌/◌, ◌%◌, ◌^◌, ◌<◌, ◌≤◌, Bool, true, false, ◌&&◌, nat_eq, nat_lt, List, [], ◌∷◌, map, get_or, refl, sym, ◌∙◌, ap, arith}
 use Rattle.std.specs.List.{list_all}
-use Rattle.std.specs.Prelude.{min}
-use Rattle.std.proofs.Math.Nat.{min-eq_left}
 use Rattle.std.proofs.lemmas.Bool.{and_parts, ltb-true, ltb-false, eqb-true}
 use Rattle.dm_layout.specs.declared.shape.Cell.{Cell}
 use Rattle.dm_layout.specs.declared.shape.Shape.{Shape}
@@ -135,19 +133,17 @@ module _ (n : ℕ) (look : ℕ → ℕ → Bool) (rows : List ℕ) (least : 8 �
       ap (λ (d : ℕ). bits_in rows (2 * a + d) xs) (sym (digit-has (get_or rows (x.row + 2) 0) (2 ^ (x.column + 4))) ∙ ap digit (wide.inside x.row x.column h.0 h.1))
       ∙ plain_bits (2 * a + digit (look x.row x.column)) xs h.2
 
-  module _ (last : ℕ) (news : List ℕ) (within : n ≤ last) (slots : HasSlots n last rows news) where
+  module _ (news : List ℕ) (slots : HasSlots n rows news) where
     -- The byte of an anchor stands in the row of that anchor.
-    in_row : (r k : ℕ) → r < n → k < 16 → slot_byte last news (16 * r + k) ≡ get_or news r 0 / 2 ^ (8 * k) % 256
+    in_row : (r k : ℕ) → r < n → k < 16 → slot_byte news (16 * r + k) ≡ get_or news r 0 / 2 ^ (8 * k) % 256
     in_row r k l lk =
         let q : (16 * r + k) / 16 ≡ r = omega arith in
         let p : (16 * r + k) % 16 ≡ k = omega arith in
-        let m : min r last ≡ r = min-eq_left (omega arith) in
-        ap (λ (i : ℕ). get_or news (min i last) 0 / 2 ^ (8 * ((16 * r + k) % 16)) % 256) q
-        ∙ ap (λ (i : ℕ). get_or news i 0 / 2 ^ (8 * ((16 * r + k) % 16)) % 256) m
+        ap (λ (i : ℕ). get_or news i 0 / 2 ^ (8 * ((16 * r + k) % 16)) % 256) q
         ∙ ap (λ (i : ℕ). get_or news r 0 / 2 ^ (8 * i) % 256) p
 
     -- The codeword of a shape stands in its slot.
-    shape_word : (s : Shape) → fits_test n s ≡ true → reversed_bits (slot_byte last news (slot_of s)) ≡ word_of look (cells_of n s)
+    shape_word : (s : Shape) → fits_test n s ≡ true → reversed_bits (slot_byte news (slot_of s)) ≡ word_of look (cells_of n s)
     shape_word (Standard r c) fits =
         let both = and_parts (kind_test n (Standard r c)) (inside_test n (standard n r c)) fits in
         let kind = and_parts (nat_lt r n && nat_lt c n) (nat_eq ((5 * r + c) % 8) 4) both.0 in
@@ -166,8 +162,8 @@ module _ (n : ℕ) (look : ℕ → ℕ → Bool) (rows : List ℕ) (least : 8 �
     shape_word Corner4 fits = cc
 
     -- The codewords of all shapes stand in their slots.
-    pub slot_words : (ss : List Shape) → list_all (fits_test n) ss ≡ true → map (λ x. reversed_bits (slot_byte last news x)) (map slot_of ss) ≡ map (λ sh. word_of look (cells_of n sh)) ss
+    pub slot_words : (ss : List Shape) → list_all (fits_test n) ss ≡ true → map (λ x. reversed_bits (slot_byte news x)) (map slot_of ss) ≡ map (λ sh. word_of look (cells_of n sh)) ss
     slot_words [] fits = refl
     slot_words (s ∷ ss) fits =
         let both = and_parts (fits_test n s) (list_all (fits_test n) ss) fits in
-        ap (λ (w : ℕ). w ∷ map (λ x. reversed_bits (slot_byte last news x)) (map slot_of ss)) (shape_word s both.0) ∙ ap (λ (ws : List ℕ). word_of look (cells_of n s) ∷ ws) (slot_words ss both.1)
+        ap (λ (w : ℕ). w ∷ map (λ x. reversed_bits (slot_byte news x)) (map slot_of ss)) (shape_word s both.0) ∙ ap (λ (ws : List ℕ). word_of look (cells_of n s) ∷ ws) (slot_words ss both.1)

@@ -15,7 +15,7 @@ use Rattle.dm_layout.specs.Border.{symbol_line}
 use Rattle.dm_layout.specs.Grid.{is_dark_in, cell_at}
 use Rattle.dm_layout.specs.inner.Keeping.{kept_grid, IsKept}
 use Rattle.dm_layout.proofs.InnerRows.{moved_bit}
-use Rattle.dm_layout.proofs.PackedRows.{weight, front_cell, cell_of_kept, kept_set, kept_narrow}
+use Rattle.dm_layout.proofs.PackedRows.{weight, prefix_cell, cell_of_kept, kept_set, kept_narrow}
 use Rattle.dm_layout.proofs.SymbolLines.{symbol_line-form, region_below}
 
 -- ---- rows in which cells are made dark
@@ -115,7 +115,7 @@ module _ (inner d a outer : ℕ) (least : 8 ≤ d) (small : d < 128) (old : IsOu
           ap (is_dark_in (p * 2 ^ k + outer)) line
           ∙ ap (λ (i : ℕ). nat_eq i 1) (bit_at_cat_high p k outer (a * (d + 2) + 1 + j) narrow_k far)
           ∙ ap (is_dark_in p) back
-          ∙ front_cell (inner / 2 ^ (a * d)) d j small lj
+          ∙ prefix_cell (inner / 2 ^ (a * d)) d j small lj
           ∙ ap (λ (i : ℕ). nat_eq i 1) (moved_bit inner (a * d) j)
           ∙ ap (is_dark_in inner) (sym is)
 
@@ -196,7 +196,7 @@ in_parts x y p d w outer out e f = f ∙ ap (λ (i : ℕ). i * w + out) e ∙ sa
     same : (y * d + p) * w + out ≡ y * (w * d) + (p * w + out)
     same = omega arith
 
-module _ (inner d a n outer front : ℕ) (least : 8 ≤ d) (few : n ≤ most_across) (l : a + 1 < n) (most : n * d ≤ largest_mapping) (narrow : inner < 2 ^ (n * d)) (old : IsOpened inner d a outer) (is : front ≡ 2 ^ (a * (d + 2) + 1 + d) - 1) where
+module _ (inner d a n outer prefix : ℕ) (least : 8 ≤ d) (few : n ≤ most_across) (l : a + 1 < n) (most : n * d ≤ largest_mapping) (narrow : inner < 2 ^ (n * d)) (old : IsOpened inner d a outer) (is : prefix ≡ 2 ^ (a * (d + 2) + 1 + d) - 1) where
   abbrev x : ℕ
   x = inner / 2 ^ (a * d)
 
@@ -225,7 +225,7 @@ module _ (inner d a n outer front : ℕ) (least : 8 ≤ d) (few : n ≤ most_acr
   form : outer ≡ y * 2 ^ (q + d) + low
   form = in_parts x y (x % 2 ^ d) (2 ^ d) (2 ^ q) outer old.out (sym (div-add-mod' x (2 ^ d))) old.sum ∙ ap (λ (i : ℕ). y * i + low) (sym (pow-add 2 q d))
 
-  left_is : bit_and outer front ≡ low
+  left_is : bit_and outer prefix ≡ low
   left_is = ap (bit_and outer) is ∙ and_mask outer (q + d) ∙ ap (λ (i : ℕ). i % 2 ^ (q + d)) form ∙ mod-mul-add y (2 ^ (q + d)) low low_small
 
   y_is : y ≡ inner / 2 ^ ((a + 1) * d)
@@ -234,7 +234,7 @@ module _ (inner d a n outer front : ℕ) (least : 8 ≤ d) (few : n ≤ most_acr
       div-div-eq-div-mul inner (2 ^ (a * d)) (2 ^ d) ∙ ap (λ (i : ℕ). inner / i) (sym (pow-add 2 (a * d) d)) ∙ ap (λ (i : ℕ). inner / 2 ^ i) t
 
   -- The rest of the row is moved by two columns more.
-  moved : (outer - bit_and outer front) * 4 ≡ y * 2 ^ ((a + 1) * (d + 2) + 1)
+  moved : (outer - bit_and outer prefix) * 4 ≡ y * 2 ^ ((a + 1) * (d + 2) + 1)
   moved =
       let t : q + d + 2 ≡ (a + 1) * (d + 2) + 1 = omega arith in
       let r : outer - low ≡ y * 2 ^ (q + d) = rest outer low (y * 2 ^ (q + d)) form in
@@ -265,21 +265,21 @@ module _ (inner d a n outer front : ℕ) (least : 8 ≤ d) (few : n ≤ most_acr
       below u v w t z e f g h = omega (arith, e, f, g, h)
 
   -- One more border is opened.
-  pub opened_more : IsNext inner d a outer (bit_and outer front)
+  pub opened_more : IsNext inner d a outer (bit_and outer prefix)
   opened_more =
       let s = moved_small in
       let e = left_is in
-      let t : (outer - bit_and outer front) * 4 % 2 ^ 128 ≡ y * 2 ^ ((a + 1) * (d + 2) + 1) = ap (λ (i : ℕ). i % 2 ^ 128) moved ∙ mod-eq_of_lt (omega (arith, s)) in
+      let t : (outer - bit_and outer prefix) * 4 % 2 ^ 128 ≡ y * 2 ^ ((a + 1) * (d + 2) + 1) = ap (λ (i : ℕ). i % 2 ^ 128) moved ∙ mod-eq_of_lt (omega (arith, s)) in
       let b : 2 ^ (q + d) < 2 ^ 120 = pow_below (q + d) 120 (let w = wide in omega (arith, w, l, few)) in
       let ls = low_small in
       record {
-        part = and_le_l outer front;
-        fits = below (bit_and outer front) low ((outer - bit_and outer front) * 4 % 2 ^ 128) (y * 2 ^ ((a + 1) * (d + 2) + 1)) (2 ^ (q + d)) e t ls b s;
+        part = and_le_l outer prefix;
+        fits = below (bit_and outer prefix) low ((outer - bit_and outer prefix) * 4 % 2 ^ 128) (y * 2 ^ ((a + 1) * (d + 2) + 1)) (2 ^ (q + d)) e t ls b s;
         next = record {
           out = piece_of inner d a * 2 ^ q + old.out;
           is = out_more inner old.out d a n least (omega (arith, l)) most old.is;
           sum =
-              ap (λ (i : ℕ). i + (outer - bit_and outer front) * 4 % 2 ^ 128) left_is
+              ap (λ (i : ℕ). i + (outer - bit_and outer prefix) * 4 % 2 ^ 128) left_is
               ∙ ap (λ (i : ℕ). low + i) (t ∙ ap (λ (i : ℕ). i * 2 ^ ((a + 1) * (d + 2) + 1)) y_is)
               ∙ ap (λ (i : ℕ). x % i * 2 ^ q + old.out + inner / 2 ^ ((a + 1) * d) * 2 ^ ((a + 1) * (d + 2) + 1)) (sym (weight d small_d))
               ∙ turned (piece_of inner d a * 2 ^ q + old.out) (inner / 2 ^ ((a + 1) * d) * 2 ^ ((a + 1) * (d + 2) + 1));

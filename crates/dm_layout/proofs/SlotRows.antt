@@ -20,8 +20,7 @@ use Rattle.dm_layout.proofs.Ranges.{all_below}
 use Rattle.dm_layout.proofs.OuterRows.{or_dark}
 use Rattle.dm_layout.specs.Placement.{cells_of}
 use Rattle.dm_layout.specs.declared.shape.Shape.TheVariants.{Corner1, Corner2}
-use Rattle.dm_layout.specs.inner.Slots.{IsJoined, AreJoined, HasSlot, HasSlots, corner_slot, first_column, slot_byte, word_in}
-use Rattle.std.proofs.Math.Nat.{min-eq_left, min-eq_right}
+use Rattle.dm_layout.specs.inner.Slots.{IsJoined, AreJoined, HasSlots, corner_slot, first_column, slot_byte, word_in}
 use Rattle.dm_layout.proofs.InnerRows.{moved_bit}
 use Rattle.dm_layout.proofs.WidenedRows.{bit_up, none_up, low_bit}
 
@@ -218,56 +217,40 @@ are_joined n width rows r x wide bits = record {
     byte : (k t : ℕ) → t < 8 → is_dark_in (x / 2 ^ (8 * k) % 256) t ≡ is_dark_in x (8 * k + t)
     byte k t h = low_bit (x / 2 ^ (8 * k)) 8 t h ∙ ap (λ (i : ℕ). nat_eq i 1) (moved_bit x (8 * k) t)
 
--- The rows above `row` are joined, and the others are as before.
-pub record AreSoFar (n : ℕ) (olds rows : List ℕ) (row : ℕ) : Type 0 where
-  pub done : (r : ℕ) → r < row → IsJoined n olds r (get_or rows r 0)
-  pub rest : (r : ℕ) → row ≤ r → get_or rows r 0 ≡ get_or olds r 0
-
 -- When one more row is joined, the rows above the next are joined.
-pub join_more : (n width : ℕ) (olds rows news : List ℕ) (row : ℕ) → n + 8 ≤ width → news ≡ set rows row (get_or news row 0) →
-    ((c : ℕ) → c < width → is_dark_in (get_or news row 0) c ≡ is_joined (get_or rows row 0 / 2 ^ first_column row) (get_or rows (row + 1) 0 / 2 ^ first_column row) (get_or rows (row + 2) 0 / 2 ^ first_column row) c) →
-    AreSoFar n olds rows row → AreSoFar n olds news (row + 1)
-join_more n width olds rows news row wide is bits so_far = record {
-  done = below_more (λ r. IsJoined n olds r (get_or news r 0)) row
-      (λ r l. let ne : r ≢ row = omega arith in subst (λ (x : ℕ). IsJoined n olds r x) (sym (other r ne)) (so_far.done r l))
-      (are_joined n width olds row (get_or news row 0) wide
-      (λ c l. bits c l
-      ∙ ap (λ (x : ℕ). is_joined (x / 2 ^ first_column row) (get_or rows (row + 1) 0 / 2 ^ first_column row) (get_or rows (row + 2) 0 / 2 ^ first_column row) c) (so_far.rest row (omega arith))
-      ∙ ap (λ (x : ℕ). is_joined (get_or olds row 0 / 2 ^ first_column row) (x / 2 ^ first_column row) (get_or rows (row + 2) 0 / 2 ^ first_column row) c) (so_far.rest (row + 1) (omega arith))
-      ∙ ap (λ (x : ℕ). is_joined (get_or olds row 0 / 2 ^ first_column row) (get_or olds (row + 1) 0 / 2 ^ first_column row) (x / 2 ^ first_column row) c) (so_far.rest (row + 2) (omega arith))));
-  rest = λ r l. let ne : r ≢ row = omega arith in other r ne ∙ so_far.rest r (omega arith);
-}
+pub join_more : (n width : ℕ) (rows slots news : List ℕ) (x row : ℕ) → n + 8 ≤ width → row < length slots → news ≡ set slots row x →
+    ((c : ℕ) → c < width → is_dark_in x c ≡ is_joined (get_or rows row 0 / 2 ^ first_column row) (get_or rows (row + 1) 0 / 2 ^ first_column row) (get_or rows (row + 2) 0 / 2 ^ first_column row) c) →
+    ((r : ℕ) → r < row → IsJoined n rows r (get_or slots r 0)) → (r : ℕ) → r < row + 1 → IsJoined n rows r (get_or news r 0)
+join_more n width rows slots news x row wide room is bits so_far = below_more (λ r. IsJoined n rows r (get_or news r 0)) row before here
   where
-    other : (r : ℕ) → r ≢ row → get_or news r 0 ≡ get_or rows r 0
-    other r ne = ap (λ (xs : List ℕ). get_or xs r 0) is ∙ get_or-set_other rows row r (get_or news row 0) 0 ne
+    before : (r : ℕ) → r < row → IsJoined n rows r (get_or news r 0)
+    before r l =
+        let ne : r ≢ row = omega arith in
+        subst (λ (y : ℕ). IsJoined n rows r y) (sym (ap (λ (xs : List ℕ). get_or xs r 0) is ∙ get_or-set_other slots row r x 0 ne)) (so_far r l)
+
+    here : IsJoined n rows row (get_or news row 0)
+    here = subst (λ (y : ℕ). IsJoined n rows row y) (sym (ap (λ (xs : List ℕ). get_or xs row 0) is ∙ get_or-set_same slots row x 0 room)) (are_joined n width rows row x wide bits)
 
 -- The slot of a corner has the lowest byte of the row behind all others.
-pub corner_slot_is : (last : ℕ) (rows : List ℕ) → last ≤ largest_mapping → slot_byte last rows corner_slot ≡ get_or rows last 0 % 256
-corner_slot_is last rows most =
-    let z : get_or rows last 0 / 1 % 256 ≡ get_or rows last 0 % 256 = omega arith in
-    ap (λ (i : ℕ). get_or rows i 0 / 1 % 256) (min-eq_right most) ∙ z
+pub corner_slot_is : (rows : List ℕ) → slot_byte rows corner_slot ≡ get_or rows largest_mapping 0 % 256
+corner_slot_is rows = let z : get_or rows largest_mapping 0 / 1 % 256 ≡ get_or rows largest_mapping 0 % 256 = omega arith in z
 
 -- Joined rows, with the codeword of a corner put behind them, have the slots of all codewords.
-pub corner_beside : (n last : ℕ) (rows joined news : List ℕ) (b w : ℕ) → n ≤ last → last ≤ largest_mapping → last < length joined → news ≡ set joined last b → b < 256 → b ≡ reversed_bits w → w < 256 → AreJoined n rows joined →
-    (n % 8 ≡ 4 → w ≡ word_in rows (cells_of n Corner1)) → (n % 8 ≡ 6 → w ≡ word_in rows (cells_of n Corner2)) → HasSlots n last rows news
-corner_beside n last rows joined news b w within most room is fits e small anchors first second = record {
+pub corner_beside : (n : ℕ) (rows joined news : List ℕ) (b w : ℕ) → n ≤ largest_mapping → largest_mapping < length joined → news ≡ set joined largest_mapping b → b < 256 → b ≡ reversed_bits w → w < 256 → AreJoined n rows joined →
+    (n % 8 ≡ 4 → w ≡ word_in rows (cells_of n Corner1)) → (n % 8 ≡ 6 → w ≡ word_in rows (cells_of n Corner2)) → HasSlots n rows news
+corner_beside n rows joined news b w within room is fits e small anchors first second = record {
   anchors = λ r l.
-      let ne : r ≢ last = omega arith in
-      subst (λ (x : ℕ). IsJoined n rows r x) (sym (ap (λ (xs : List ℕ). get_or xs r 0) is ∙ get_or-set_other joined last r b 0 ne)) (anchors r l);
+      let ne : r ≢ largest_mapping = omega arith in
+      subst (λ (x : ℕ). IsJoined n rows r x) (sym (ap (λ (xs : List ℕ). get_or xs r 0) is ∙ get_or-set_other joined largest_mapping r b 0 ne)) (anchors r l);
   corner1 = λ h. corner ∙ first h;
   corner2 = λ h. corner ∙ second h;
 }
   where
-    corner : reversed_bits (slot_byte last news corner_slot) ≡ w
+    corner : reversed_bits (slot_byte news corner_slot) ≡ w
     corner =
         let z : b % 256 ≡ b = omega arith in
-        ap reversed_bits (corner_slot_is last news most)
-        ∙ ap (λ (xs : List ℕ). reversed_bits (get_or xs last 0 % 256)) is
-        ∙ ap (λ (x : ℕ). reversed_bits (x % 256)) (get_or-set_same joined last b 0 room)
+        ap reversed_bits (corner_slot_is news)
+        ∙ ap (λ (xs : List ℕ). reversed_bits (get_or xs largest_mapping 0 % 256)) is
+        ∙ ap (λ (x : ℕ). reversed_bits (x % 256)) (get_or-set_same joined largest_mapping b 0 room)
         ∙ ap reversed_bits (z ∙ e)
         ∙ reversed_twice w small
-
--- A slot lies in no row behind that of the corner.
-pub row_of_slot : (most last x : ℕ) → most ≤ last → last ≡ largest_mapping → HasSlot most x → min (x / 16) last ≡ x / 16
-row_of_slot most last x l e (inl is) = min-eq_left (omega (arith, is))
-row_of_slot most last x l e (inr within) = let h = within.0 in min-eq_left (omega (arith, h))

@@ -1,4 +1,4 @@
--- What `==` answers of grids and of codewords: whether the sides and what they hold agree.
+-- What `==` gives for grids and for codewords: whether the sides and what they hold agree.
 use Rattle.std.specs.Prelude.{Bool, nat_eq}
 use Rattle.std.specs.Bool.{beq}
 use Rattle.std.specs.Ordering.{on, eq_of_both}

@@ -35,7 +35,8 @@ standard n r c =
     ∷ wrapped_cell n r c 1 0 ∷ wrapped_cell n r c 0 2 ∷ wrapped_cell n r c 0 1 ∷ wrapped_cell n r c 0 0 ∷ []
 
 -- A codeword lies in the eight cells of its shape, which is the standard
--- one or one of four that lie on corners of the square.
+-- one or one of four that lie on corners of the square. The standard has four; corners 3 and 4 come by in no
+-- square of the table of sizes.
 abbrev pub cells_of : ℕ → Shape → List Cell
 cells_of n (Standard r c) = standard n r c
 cells_of n Corner1 =
@@ -73,6 +74,7 @@ in_odd_row n s r = elim (nat_le r s && nat_eq (r % 2) 1) [ true ↦ shape_at n r
 
 -- Just before the anchors of sum s comes corner 1 if n mod 8 is 4 and s
 -- is n, corner 2 if n mod 8 is 6 and s is n - 2, and else no corner.
+-- Corners 3 and 4 come by in no square of the table of sizes.
 abbrev pub corner_before : ℕ → ℕ → List Shape
 corner_before n s =
     elim (nat_eq (n % 8) 4 && nat_eq s n) [

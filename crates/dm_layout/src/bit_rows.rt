@@ -1,18 +1,20 @@
 //! Rows of bits as numbers, as wide and as many as a mapping square asks for.
 //!
 //! The codewords are lifted and laid by the same functions in two widths: 64 bits serve all mapping squares up to side 48, and
-//! 128 bits the larger ones. A small symbol thus pays neither for the rows nor for the columns of the largest.
+//! 128 bits the larger ones. A small symbol thus pays neither for the rows nor for the columns of the largest; only its slots are
+//! those of the largest, and are all cleared.
 
 ghost use Rattle.std.specs.Prelude.{◌≡◌, ℕ, ◌+◌, ◌*◌, ◌/◌, ◌%◌, ◌^◌, ◌<◌, ◌≤◌, List, get_or, length, set, replicate, bit_or};
 ghost use Rattle.std.specs.Int.{bit_at};
 ghost use Rattle.std.proofs.Common.{rules};
 ghost use Rattle.dm_layout.specs.Grid.{is_dark_in};
 ghost use Rattle.dm_layout.specs.Sizes.{largest_mapping};
-ghost use Rattle.dm_layout.specs.inner.Laying.{with_byte, with_scattered};
+ghost use Rattle.dm_layout.specs.inner.Laying.{with_scattered};
 ghost use Rattle.dm_layout.specs.inner.Reading.{look_in};
-ghost use Rattle.dm_layout.specs.inner.Slots.{is_joined, slot_byte, HasSlot};
+ghost use Rattle.dm_layout.specs.inner.Slots.{is_joined};
 
 use crate::size::LARGEST_MAPPING;
+use crate::slot_rows::Slots;
 
 /// The side of the largest mapping square whose rows are numbers of 64 bits: all squares of up to four regions.
 pub(crate) const NARROW_MAPPING: u16 = 48;
@@ -49,9 +51,6 @@ pub(crate) trait BitRows: Sized + Drop {
     // How many bits a row has.
     ghost width: { ℕ };
 
-    // The row that keeps the codeword of a corner once the codewords stand in their slots.
-    ghost last: { ℕ };
-
     // The numbers.
     ghost numbers: { Self → List ℕ };
 
@@ -83,49 +82,30 @@ pub(crate) trait BitRows: Sized + Drop {
             ≡ set (numbers self.old) row
             (get_or (numbers self.old) from 0 * 2 ^ shift % 2 ^ width / 16) };
 
-    /// Makes a row the codewords of the anchors in it, a byte each, from it and the two rows below: the anchors' shapes begin in this
-    /// column and every eighth after it.
-    fn join(&mut self, row: usize, column: u16)
-        requires row { row + 2 < length (numbers self.old) }
+    /// Gives the codewords of the anchors of a row, a byte each, from it and the two rows below: the anchors' shapes begin in
+    /// this column and every eighth after it.
+    fn join(&self, row: usize, column: u16) -> u128
+        requires row { row + 2 < length (numbers self.now) }
         requires column { column ≤ 9 }
-        ensures others { numbers self.new
-            ≡ set (numbers self.old) row (get_or (numbers self.new) row 0) }
-        ensures joined { (c : ℕ) → c < width → is_dark_in (get_or (numbers self.new) row 0) c
-            ≡ is_joined (get_or (numbers self.old) row 0 / 2 ^ column)
-            (get_or (numbers self.old) (row + 1) 0 / 2 ^ column)
-            (get_or (numbers self.old) (row + 2) 0 / 2 ^ column) c };
+        ensures { (c : ℕ) → c < width → is_dark_in result c
+            ≡ is_joined (get_or (numbers self.now) row 0 / 2 ^ column)
+            (get_or (numbers self.now) (row + 1) 0 / 2 ^ column)
+            (get_or (numbers self.now) (row + 2) 0 / 2 ^ column) c };
 
-    /// Puts the codeword of a corner, with its bits in the opposite order.
-    fn put_corner(&mut self, byte: u8)
-        requires { length (numbers self.old) ≡ most + 6 }
-        ensures { numbers self.new ≡ set (numbers self.old) last byte };
-
-    /// The byte of a slot, in joined rows.
-    fn byte(&self, slot: u16) -> u8
-        requires room { length (numbers self.now) ≡ most + 6 }
-        requires slot { HasSlot most slot }
-        ensures { result ≡ slot_byte last (numbers self.now) slot };
-
-    /// A bit of a row.
+    /// Gives a bit of a row.
     fn bit(&self, row: usize, column: u16) -> u16
         requires row { row < length (numbers self.now) }
         requires column { column < most + 4 }
         ensures { result ≡ bit_at (get_or (numbers self.now) row 0) column };
 
-    /// Adds a byte to its slot: in the row of its anchor, or in the one that keeps the codeword of a corner.
-    fn add_byte(&mut self, slot: u16, byte: u8)
-        requires room { length (numbers self.old) ≡ most + 6 }
-        requires slot { HasSlot most slot }
-        ensures { numbers self.new ≡ with_byte width last (numbers self.old) slot byte };
-
     /// Lays the codewords of a row of slots over widened rows, where they begin at this column.
-    fn scatter(&mut self, slots: &Self, row: usize, column: u16)
+    fn scatter(&mut self, slots: &Slots, row: usize, column: u16)
         requires row { row + 2 < length (numbers self.old) }
-        requires slots { row < length (numbers slots.now) }
+        requires slots { row ≤ largest_mapping }
         requires column { column ≤ 9 }
         ensures room { length (numbers self.new) ≡ length (numbers self.old) }
         ensures cells { (r c : ℕ) → c < width → look_in (numbers self.new) r c
-            ≡ with_scattered (look_in (numbers self.old) r c) (numbers slots.now) row column r c };
+            ≡ with_scattered (look_in (numbers self.old) r c) slots.now row column r c };
 
     /// Lays over a row another one, 4 - shift columns further to the right.
     fn lower(&mut self, row: usize, from: usize, shift: u16)
@@ -153,21 +133,18 @@ pub(crate) trait BitRows: Sized + Drop {
             ≡ set (numbers self.old) row (bit_or (get_or (numbers self.old) row 0)
             (bit * 2 ^ column % 2 ^ width)) };
 
-    /// A row without its four leftmost columns.
+    /// Gives a row without its four leftmost columns.
     fn inner(&self, row: usize) -> u128
         requires { row < length (numbers self.now) }
         ensures { result ≡ get_or (numbers self.now) row 0 / 2 ^ 4 };
 
-    ghost fits: { (most ≤ last) × (last ≤ largest_mapping)
-        × (last < most + 6) × (most + 16 ≤ width) };
+    ghost fits: { (most ≤ largest_mapping) × (most + 16 ≤ width) };
 }
 
 impl BitRows for NarrowRows {
     ghost most = { 48 };
 
     ghost width = { 64 };
-
-    ghost last = { 53 };
 
     ghost numbers = { λ rows. rows };
 
@@ -194,21 +171,12 @@ impl BitRows for NarrowRows {
     }
 
     #[inline(always)]
-    fn join(&mut self, row: usize, column: u16) {
-        self[row] = (self[row] >> column) & NARROW_LOW_TWO_BITS
-            | ((self[row + 1] >> column) & NARROW_LOW_THREE_BITS) << 2
-            | ((self[row + 2] >> column) & NARROW_LOW_THREE_BITS) << 5;
-    }
-
-    #[inline(always)]
-    fn put_corner(&mut self, byte: u8) {
-        self[NARROW_WIDENED - 1] = u64::from(byte);
-    }
-
-    #[inline(always)]
-    fn byte(&self, slot: u16) -> u8 {
-        let row = (slot / 16).min(NARROW_WIDENED as u16 - 1) as usize;
-        ((self[row] >> (8 * (slot % 16))) % 256) as u8
+    fn join(&self, row: usize, column: u16) -> u128 {
+        u128::from(
+            (self[row] >> column) & NARROW_LOW_TWO_BITS
+                | ((self[row + 1] >> column) & NARROW_LOW_THREE_BITS) << 2
+                | ((self[row + 2] >> column) & NARROW_LOW_THREE_BITS) << 5,
+        )
     }
 
     #[inline(always)]
@@ -217,14 +185,8 @@ impl BitRows for NarrowRows {
     }
 
     #[inline(always)]
-    fn add_byte(&mut self, slot: u16, byte: u8) {
-        let row = ((slot / 16) as usize).min(NARROW_WIDENED - 1);
-        self[row] |= u64::from(byte) << (8 * (slot % 16));
-    }
-
-    #[inline(always)]
-    fn scatter(&mut self, slots: &NarrowRows, row: usize, column: u16) {
-        let codewords = slots[row];
+    fn scatter(&mut self, slots: &Slots, row: usize, column: u16) {
+        let codewords = (slots.row(row) % (1 << 64)) as u64;
         self[row] |= (codewords & NARROW_LOW_TWO_BITS) << column;
         self[row + 1] |= ((codewords >> 2) & NARROW_LOW_THREE_BITS) << column;
         self[row + 2] |= ((codewords >> 5) & NARROW_LOW_THREE_BITS) << column;
@@ -256,8 +218,6 @@ impl BitRows for WideRows {
 
     ghost width = { 128 };
 
-    ghost last = { largest_mapping };
-
     ghost numbers = { λ rows. rows };
 
     ghost fits = { Prim.search rules };
@@ -283,20 +243,10 @@ impl BitRows for WideRows {
     }
 
     #[inline(always)]
-    fn join(&mut self, row: usize, column: u16) {
-        self[row] = (self[row] >> column) & LOW_TWO_BITS
+    fn join(&self, row: usize, column: u16) -> u128 {
+        (self[row] >> column) & LOW_TWO_BITS
             | ((self[row + 1] >> column) & LOW_THREE_BITS) << 2
-            | ((self[row + 2] >> column) & LOW_THREE_BITS) << 5;
-    }
-
-    #[inline(always)]
-    fn put_corner(&mut self, byte: u8) {
-        self[LARGEST_MAPPING] = u128::from(byte);
-    }
-
-    #[inline(always)]
-    fn byte(&self, slot: u16) -> u8 {
-        ((self[(slot / 16) as usize] >> (8 * (slot % 16))) % 256) as u8
+            | ((self[row + 2] >> column) & LOW_THREE_BITS) << 5
     }
 
     #[inline(always)]
@@ -305,19 +255,8 @@ impl BitRows for WideRows {
     }
 
     #[inline(always)]
-    fn add_byte(&mut self, slot: u16, byte: u8) {
-        let row = (slot / 16) as usize;
-        let place = slot % 16;
-        if place < 8 {
-            self[row] |= u128::from(u64::from(byte) << (8 * place));
-        } else {
-            self[row] |= u128::from(u64::from(byte) << (8 * (place - 8))) << 64;
-        }
-    }
-
-    #[inline(always)]
-    fn scatter(&mut self, slots: &WideRows, row: usize, column: u16) {
-        let codewords = slots[row];
+    fn scatter(&mut self, slots: &Slots, row: usize, column: u16) {
+        let codewords = slots.row(row);
         self[row] |= (codewords & LOW_TWO_BITS) << column;
         self[row + 1] |= ((codewords >> 2) & LOW_THREE_BITS) << column;
         self[row + 2] |= ((codewords >> 5) & LOW_THREE_BITS) << column;

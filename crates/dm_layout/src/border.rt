@@ -4,15 +4,15 @@ ghost use Rattle.std.specs.Prelude.{◌≡◌, ℕ, ◌+◌, ◌%◌, ◌^◌, �
 ghost use Rattle.std.specs.List.{range_with_len};
 ghost use Rattle.dm_layout.specs.Grid.{IsGrid, is_dark_in};
 ghost use Rattle.dm_layout.specs.Border.{is_on_edge, edge_is_dark, border_fault_count};
-ghost use Rattle.dm_layout.specs.inner.Drawing.{empty_grid};
+ghost use Rattle.dm_layout.specs.inner.Drawing.{empty_grid, HasBorders};
 ghost use Rattle.dm_layout.specs.inner.BorderMasks.{is_wrong};
 
 use crate::grid::Grid;
-use crate::packed::front;
+use crate::packed::prefix;
 use crate::size::Size;
 use std::marker::Model;
 
-/// How many border cells have another colour than [`border_colour`](crate::border_colour) prescribes.
+/// Gives how many border cells have another colour than [`border_colour`](crate::border_colour) prescribes.
 pub fn border_faults(grid: &Grid) -> u16
     ensures { result ≡ border_fault_count grid.now }
 {
@@ -30,12 +30,12 @@ pub fn border_faults(grid: &Grid) -> u16
 /// A row in which the cells of even columns are dark.
 const EVEN_COLUMNS: u128 = 0x5555_5555_5555_5555_5555_5555_5555_5555;
 
-/// The border cells of a symbol's rows, as bits: the cell of column `c` is the bit of weight 2^c. A row is
-/// known by its place inside the square of a region and its border, counted from 0 at the top.
+/// The border cells of a symbol's rows, as bits: the cell of column `c` is the bit of weight 2^c. Which row it is doesn't matter, but
+/// only its place inside the square of a region and its border, counted from 0 at the top; functions call this place `inner`.
 #[derive(Drop)]
 struct Borders {
     size: Size,
-    /// The last row of such a square.
+    /// The last row inside such a square.
     last: u16,
     /// The left columns of the squares.
     left: u128,
@@ -59,7 +59,7 @@ impl Model for Borders {
 }
 
 impl Borders {
-    /// The borders of a symbol of this size.
+    /// Gives the borders of a symbol of this size.
     fn new(size: Size) -> Borders
         ensures { result ≡ size }
     {
@@ -77,12 +77,12 @@ impl Borders {
             last,
             left,
             both,
-            even: front(EVEN_COLUMNS, side),
-            all: front(u128::MAX, side),
+            even: prefix(EVEN_COLUMNS, side),
+            all: prefix(u128::MAX, side),
         }
     }
 
-    /// The border cells of a row.
+    /// Gives the border cells of a row.
     fn cells(&self, inner: u16) -> u128
         ensures cells { (column : ℕ) → column < self.now.side → is_dark_in result column
             ≡ is_on_edge self.now.region_side inner (column % (self.now.region_side + 2)) }
@@ -95,7 +95,7 @@ impl Borders {
         }
     }
 
-    /// The border cells of a row that are to be dark.
+    /// Gives the border cells of a row that are to be dark.
     fn dark(&self, inner: u16) -> u128
         ensures cells { (column : ℕ) → column < self.now.side → is_dark_in result column
             ≡ is_on_edge self.now.region_side inner (column % (self.now.region_side + 2))
@@ -113,7 +113,23 @@ impl Borders {
         }
     }
 
-    /// How many border cells of a row have the wrong colour.
+    /// Darkens those border cells of one row of regions that are to be dark. The squares of these regions begin at the row `first` of the
+    /// symbol, from which on all cells are light.
+    #[inline(always)]
+    fn draw_squares(&self, grid: &mut Grid, first: u16)
+        requires first { first % (self.now.region_side + 2) ≡ 0 }
+        requires fits { first + (self.now.region_side + 2) ≤ self.now.side }
+        requires above { HasBorders self.now first grid.old }
+        ensures { HasBorders self.now (first + (self.now.region_side + 2)) grid.new }
+    {
+        grid.darken(first, self.dark(0));
+        for inner in 1..self.last {
+            grid.darken(first + inner, self.dark(inner));
+        }
+        grid.darken(first + self.last, self.dark(self.last));
+    }
+
+    /// Gives how many border cells of a row have the wrong colour.
     fn row_faults(&self, row: u128, inner: u16) -> u16
         ensures count { result
             ≡ count_by (is_wrong self.now.region_side inner row) (range_with_len 0 self.now.side) }
@@ -123,7 +139,7 @@ impl Borders {
         wrong.count_ones() as u16
     }
 
-    /// The place in its square of the row below.
+    /// Gives the place in its square of the row below.
     fn below(&self, inner: u16) -> u16
         requires { inner < self.now.region_side + 2 }
         ensures { result ≡ (inner + 1) % (self.now.region_side + 2) }
@@ -132,18 +148,17 @@ impl Borders {
     }
 }
 
-/// Turns this into the grid of a size with correct borders and fixed square and all other cells light.
+/// Turns `grid` into that of a size with correct borders, the fixed square, and all other cells light.
 pub(crate) fn draw_borders(grid: &mut Grid, size: Size)
     ensures value { grid.new ≡ empty_grid size }
     ensures grid { IsGrid grid.new }
 {
     let side = size.side();
     let borders = Borders::new(size);
-    grid.begin(size);
-    let mut inner = 0;
-    for row in 0..side {
-        grid.darken(row, borders.dark(inner));
-        inner = borders.below(inner);
+    let square = size.region_side() + 2;
+    grid.lighten(size);
+    for region in 0..size.regions_across() {
+        borders.draw_squares(grid, region * square);
     }
     if size.mapping() % 4 == 2 {
         grid.darken(side - 3, 1 << (side - 3));

@@ -25,7 +25,7 @@ pub struct Place {
 }
 
 /// The places of all bits of all codewords of a symbol, by codeword and then by bit: an iterator, which ends
-/// after 8 places for each codeword (ISO/IEC 16022, module placement).
+/// after 8 places for each codeword (ISO/IEC 16022, module placement). In contracts it is the list of the places that are left.
 #[derive(Drop)]
 pub struct Cells {
     walk: Walk,
@@ -46,7 +46,7 @@ impl Model for Cells {
 }
 
 impl Cells {
-    /// All places of a symbol of this size.
+    /// Gives all places of a symbol of this size.
     pub fn new(size: Size) -> Cells
         ensures { result ≡ places_in_order size.mapping }
     {
@@ -66,7 +66,7 @@ impl Iterator for Cells {
 
     ghost remaining = { item_count (λ s. s) };
 
-    /// The next place.
+    /// Gives the next place.
     #[inline]
     fn next(&mut self) -> Option<Place> {
         if self.bit == 8 {

@@ -5,14 +5,14 @@ ghost use Rattle.dm_layout.specs.Sizes.{row_with_side};
 ghost use Rattle.dm_layout.specs.Grid.{IsGrid, is_dark_in, cell_at, square_of, square_of_rows};
 ghost use Rattle.dm_layout.specs.inner.Drawing.{IsLight};
 
-use crate::packed::{front, is_dark, packed_row};
+use crate::packed::{is_dark, packed_row, prefix};
 use crate::size::{LARGEST_SIDE, Size};
 use std::marker::Model;
 
 /// Why cells make no grid.
 #[derive(Clone, Copy, Debug, PartialEq, Eq)]
 pub enum GridFault {
-    /// The number of cells is not the side times itself.
+    /// The number of cells is not the side times itself or, where rows are given, the number of rows is not the side.
     NotSquare,
     /// No size has this side.
     NoSuchSize,
@@ -24,6 +24,8 @@ pub enum GridFault {
 ///
 /// Each row is kept as one number: the cell of column `c`, counted from 0 at the left, is the bit of weight 2^c, 1
 /// for dark. The bits from the side on are 0, and the rows from the side on mean nothing.
+///
+/// In contracts it is a `GridView` of `specs/Grid.antt`.
 #[derive(Clone, Debug, Drop)]
 pub struct Grid {
     size: Size,
@@ -42,9 +44,8 @@ impl Model for Grid {
 }
 
 impl Grid {
-    /// The grid of `side` rows of `side` cells; `cells` has them row by row from the
-    /// top, true for dark. The error is `NotSquare` if the number of cells is not
-    /// the side times itself, and otherwise `NoSuchSize` if no size has this side.
+    /// Gives the grid of `side` rows of `side` cells; `cells` has them row by row from the top, true for dark. The error is
+    /// `NotSquare` if the number of cells is not the side times itself, and otherwise `NoSuchSize` if no size has this side.
     pub fn new(side: u16, cells: &[bool]) -> Result<Grid, GridFault>
         ensures not_square { (result ≡ Err GridFault.NotSquare) ↔ (length cells.now ≢ side * side) }
         ensures no_such_size { (result ≡ Err GridFault.NoSuchSize)
@@ -66,10 +67,9 @@ impl Grid {
         Ok(Grid { size, rows })
     }
 
-    /// The grid of `side` rows of `side` cells; `rows` has a number for each row from the top,
-    /// in which the cell of column `c`, counted from 0 at the left, is the bit of weight 2^c,
-    /// 1 for dark. The bits from the side on may be anything. The error is `NotSquare` if the
-    /// number of rows is not the side, and otherwise `NoSuchSize` if no size has this side.
+    /// Gives the grid of `side` rows of `side` cells; `rows` has a number for each row from the top, in which the cell of
+    /// column `c`, counted from 0 at the left, is the bit of weight 2^c, 1 for dark. The bits from the side on may be anything.
+    /// The error is `NotSquare` if the number of rows is not the side, and otherwise `NoSuchSize` if no size has this side.
     pub fn of_rows(side: u16, rows: &[u128]) -> Result<Grid, GridFault>
         ensures not_square { (result ≡ Err GridFault.NotSquare) ↔ (length rows.now ≢ side) }
         ensures no_such_size { (result ≡ Err GridFault.NoSuchSize)
@@ -98,25 +98,25 @@ impl Grid {
     }
 
     /// Turns this into the grid of this size with these rows, each cut to as many cells as the side.
-    fn put_rows(&mut self, square: Size, rows: &[u128])
-        requires { length rows.now ≡ square.side }
-        ensures size { self.new.size ≡ square }
-        ensures cells { self.new.rows ≡ square_of_rows square.side rows.now }
+    fn put_rows(&mut self, new_size: Size, rows: &[u128])
+        requires { length rows.now ≡ new_size.side }
+        ensures size { self.new.size ≡ new_size }
+        ensures cells { self.new.rows ≡ square_of_rows new_size.side rows.now }
     {
-        let side = square.side();
-        self.size = square;
+        let side = new_size.side();
+        self.size = new_size;
         for row in 0..rows.len() {
-            self.rows[row] = front(rows[row], side);
+            self.rows[row] = prefix(rows[row], side);
         }
     }
 
-    /// The grid of a size with all cells light.
+    /// Gives the grid of a size with all cells light.
     pub(crate) fn light(size: Size) -> Grid
         ensures size { result.size ≡ size }
         ensures grid { IsGrid result }
         ensures light { IsLight result }
     {
-        // The contract of this call bounds the side by the largest.
+        // For the proof alone: what `side` ensures says that the side is at most the largest.
         let _side = size.side();
         Grid {
             size,
@@ -125,7 +125,7 @@ impl Grid {
     }
 
     /// Turns this into the grid of a size with all cells light.
-    pub(crate) fn begin(&mut self, size: Size)
+    pub(crate) fn lighten(&mut self, size: Size)
         ensures size { self.new.size ≡ size }
         ensures grid { IsGrid self.new }
         ensures light { IsLight self.new }
@@ -136,7 +136,7 @@ impl Grid {
         }
     }
 
-    /// The size of the symbol.
+    /// Gives the size of the symbol.
     pub fn size(&self) -> Size
         ensures value { result ≡ self.now.size }
         ensures grid { IsGrid self.now }
@@ -154,8 +154,8 @@ impl Grid {
         is_dark(self.rows[row as usize], column)
     }
 
-    /// A row, counted from 0 at the top and below the side, as a number: the cell of column `c`, counted from 0 at
-    /// the left, is the bit of weight 2^c, 1 for dark. The bits from the side on are 0.
+    /// Gives a row, counted from 0 at the top and below the side, as a number: the cell of column `c`, counted from 0 at the
+    /// left, is the bit of weight 2^c, 1 for dark. The bits from the side on are 0.
     pub fn row(&self, row: u16) -> u128
         requires { row < self.now.size.side }
         ensures width { result < 2 ^ self.now.size.side }
@@ -178,7 +178,7 @@ impl Grid {
         self.rows[row as usize] |= cells;
     }
 
-    /// The rows from the top, each as a number.
+    /// Gives the rows from the top, each as a number.
     fn kept_rows(&self) -> &[u128]
         ensures height { length result.now ≡ self.now.size.side }
         ensures width { All (λ row. row < 2 ^ self.now.size.side) result.now }
@@ -188,7 +188,7 @@ impl Grid {
     }
 }
 
-/// The size of the square that these rows make, or why they make none.
+/// Gives the size of the square that these rows make, or why they make none.
 fn size_of_square(side: u16, rows: &[u128]) -> Result<Size, GridFault>
     ensures not_square { (result ≡ Err GridFault.NotSquare) ↔ (length rows.now ≢ side) }
     ensures no_such_size { (result ≡ Err GridFault.NoSuchSize)

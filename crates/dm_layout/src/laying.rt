@@ -1,9 +1,10 @@
-//! All codewords of a row of anchors laid at once.
+//! The codewords laid into the mapping square, those of a row of anchors at once.
 //!
-//! Their bits are scattered into widened rows, in which no standard shape wraps; these are then folded back into the square. A row of
-//! the square is two rows further down, and its columns are four columns further to the right.
+//! Their bits are scattered into widened rows, in which no standard shape wraps; what lies above the square and left of it is then folded
+//! back into it. Row r of the square is row r + 2 of the widened rows, and its column c is their column c + 4.
 
 ghost use Rattle.std.specs.Prelude.{◌≡◌, ℕ, ◌+◌, ◌-◌, ◌%◌, ◌<◌, ◌≤◌, ◌&&◌, ◌||◌, nat_le, nat_lt, get_or, length, replicate};
+ghost use Rattle.dm_layout.specs.Sizes.{largest_mapping};
 ghost use Rattle.dm_layout.specs.inner.Laying.{scattered, lowered, folded, corner_marks};
 ghost use Rattle.dm_layout.specs.inner.Reading.{look_in, marks_in};
 ghost use Rattle.dm_layout.specs.inner.Slots.{reversed_bits};
@@ -11,16 +12,16 @@ ghost use Rattle.dm_layout.specs.inner.Walking.{CellsInside};
 
 use crate::bit_rows::BitRows;
 use crate::shape::{Cell, Shape, wrap_shift};
+use crate::slot_rows::Slots;
 use crate::slots::{CORNER_SLOT, codeword, first_column};
 
 /// Makes the cells of all standard shapes dark where the bits of their codewords are 1, in widened rows without a dark cell.
-fn scatter<R: BitRows>(rows: &mut R, slots: &R, mapping: u16)
+fn scatter<R: BitRows>(rows: &mut R, slots: &Slots, mapping: u16)
     requires most { mapping ≤ R.most }
     requires light { R.numbers rows.old ≡ replicate (R.most + 6) 0 }
-    requires slots { length (R.numbers slots.now) ≡ R.most + 6 }
     ensures room { length (R.numbers rows.new) ≡ R.most + 6 }
     ensures cells { (r c : ℕ) → c < R.width → look_in (R.numbers rows.new) r c
-        ≡ scattered mapping (R.numbers slots.now) r c }
+        ≡ scattered mapping slots.now r c }
 {
     for row in 0..mapping {
         rows.scatter(slots, row as usize, first_column(row));
@@ -61,7 +62,7 @@ fn move_columns<R: BitRows>(rows: &mut R, mapping: u16, shift: u16)
     }
 }
 
-/// Folds widened rows into the square.
+/// Folds what lies above the square and left of it in widened rows back into the square.
 fn fold<R: BitRows>(rows: &mut R, mapping: u16)
     requires room { length (R.numbers rows.old) ≡ R.most + 6 }
     requires least { 8 ≤ mapping }
@@ -110,17 +111,16 @@ fn put_corner<R: BitRows>(rows: &mut R, mapping: u16, word: u8)
 }
 
 /// Lays the codewords in these slots over widened rows without a dark cell.
-pub(crate) fn lay_slots<R: BitRows>(rows: &mut R, slots: &R, mapping: u16)
+pub(crate) fn lay_slots<R: BitRows>(rows: &mut R, slots: &Slots, mapping: u16)
     requires least { 8 ≤ mapping }
     requires most { mapping ≤ R.most }
     requires even { mapping % 2 ≡ 0 }
     requires light { R.numbers rows.old ≡ replicate (R.most + 6) 0 }
-    requires slots { length (R.numbers slots.now) ≡ R.most + 6 }
     ensures room { length (R.numbers rows.new) ≡ R.most + 6 }
     ensures cells { (r c : ℕ) → r < mapping → c < mapping
         → look_in (R.numbers rows.new) (r + 2) (c + 4)
-        ≡ (folded mapping (scattered mapping (R.numbers slots.now)) r c
-        || corner_marks mapping (reversed_bits (get_or (R.numbers slots.now) R.last 0 % 256)) r c) }
+        ≡ (folded mapping (scattered mapping slots.now) r c
+        || corner_marks mapping (reversed_bits (get_or slots.now largest_mapping 0 % 256)) r c) }
 {
     scatter(rows, slots, mapping);
     fold(rows, mapping);

@@ -1,6 +1,6 @@
 //! The mapping square as rows of bits, and the codewords in it.
 
-ghost use Rattle.std.specs.Prelude.{◌≡◌, ◌⊎◌, ℕ, ◌+◌, ◌-◌, ◌*◌, ◌%◌, ◌^◌, ◌<◌, ◌≤◌, ◌&&◌, ◌||◌, nat_eq, false, true, get_or, length, replicate};
+ghost use Rattle.std.specs.Prelude.{◌≡◌, ◌⊎◌, ℕ, ◌+◌, ◌-◌, ◌*◌, ◌%◌, ◌^◌, ◌<◌, ◌≤◌, ◌||◌, false, true, get_or, length, replicate};
 ghost use Rattle.dm_layout.specs.Border.{mapped_cell, symbol_line, is_border, border_is_dark, is_fixed};
 ghost use Rattle.dm_layout.specs.Grid.{IsGrid, cell_at, is_dark_in};
 ghost use Rattle.dm_layout.specs.Placement.{IsPlace};
@@ -15,6 +15,7 @@ use crate::border::draw_borders;
 use crate::grid::Grid;
 use crate::laying::lay_slots;
 use crate::size::{MOST_ACROSS, Size};
+use crate::slot_rows::Slots;
 use crate::slots::{order, reverse};
 use crate::words::Words;
 
@@ -32,9 +33,9 @@ pub(crate) fn paint<R: BitRows>(words: &Words, rows: &mut R)
 {
     let mapping = words.size().mapping();
     let list = words.list();
-    let mut slots = R::light();
+    let mut slots = Slots::empty();
     for (i, slot) in order(mapping).iter().enumerate() {
-        slots.add_byte(*slot, reverse(list[i]));
+        slots.add(*slot, reverse(list[i]));
     }
     lay_slots(rows, &slots, mapping);
 }
@@ -42,29 +43,34 @@ pub(crate) fn paint<R: BitRows>(words: &Words, rows: &mut R)
 /// The most regions that stand side by side, without the last one.
 const MOST_BEFORE_LAST: usize = MOST_ACROSS - 1;
 
-/// For each of `across` regions but the last, as bits: the columns of a row of the symbol left of the region's right border.
-fn fronts(region_side: u16, across: u16) -> [u128; MOST_BEFORE_LAST]
+/// Gives for each of `across` regions but the last, as bits, the columns of a row of the symbol left of the region's right border.
+fn prefixes(region_side: u16, across: u16) -> [u128; MOST_BEFORE_LAST]
     requires some { 1 ≤ across }
     requires few { across ≤ most_across }
     requires fits { across * region_side ≤ largest_mapping }
     ensures { (region : ℕ) → region + 1 < across → get_or result region 0
         ≡ 2 ^ (region * (region_side + 2) + 1 + region_side) - 1 }
 {
-    let mut fronts = [0; MOST_BEFORE_LAST];
+    let mut prefixes = [0; MOST_BEFORE_LAST];
     for region in 0..across - 1 {
-        fronts[region as usize] = (1 << (region * (region_side + 2) + 1 + region_side)) - 1;
+        prefixes[region as usize] = (1 << (region * (region_side + 2) + 1 + region_side)) - 1;
     }
-    fronts
+    prefixes
 }
 
-/// The row of the symbol in which a row of the mapping square lies between the borders of `across` regions: after each region but the
-/// last, what lies to the right is moved by two columns.
-fn outer_row(inner: u128, region_side: u16, across: u16, fronts: &[u128; MOST_BEFORE_LAST]) -> u128
+/// Gives the row of the symbol in which a row of the mapping square lies between the borders of `across` regions: after each
+/// region but the last, what lies to the right is moved by two columns.
+fn outer_row(
+    inner: u128,
+    region_side: u16,
+    across: u16,
+    prefixes: &[u128; MOST_BEFORE_LAST],
+) -> u128
     requires least { 8 ≤ region_side }
     requires some { 1 ≤ across }
     requires few { across ≤ most_across }
     requires fits { across * region_side ≤ largest_mapping }
-    requires fronts { (region : ℕ) → region + 1 < across → get_or fronts.now region 0
+    requires prefixes { (region : ℕ) → region + 1 < across → get_or prefixes.now region 0
         ≡ 2 ^ (region * (region_side + 2) + 1 + region_side) - 1 }
     ensures mapped { (column : ℕ) → column < across * region_side
         → is_dark_in result (symbol_line region_side column) ≡ is_dark_in inner column }
@@ -75,7 +81,7 @@ fn outer_row(inner: u128, region_side: u16, across: u16, fronts: &[u128; MOST_BE
 {
     let mut outer = (inner % (1 << (across * region_side))) << 1;
     for region in 0..across - 1 {
-        let left = outer & fronts[region as usize];
+        let left = outer & prefixes[region as usize];
         outer = left + ((outer - left) << 2);
     }
     outer
@@ -87,13 +93,14 @@ fn draw_regions<R: BitRows>(
     grid: &mut Grid,
     size: Size,
     rows: &R,
-    fronts: &[u128; MOST_BEFORE_LAST],
+    prefixes: &[u128; MOST_BEFORE_LAST],
     region: u16,
 )
     requires room { length (R.numbers rows.now) ≡ R.most + 6 }
     requires fits { size.mapping ≤ R.most }
     requires region { region < regions_across size }
-    requires fronts { (before : ℕ) → before + 1 < regions_across size → get_or fronts.now before 0
+    requires prefixes { (before : ℕ) → before + 1 < regions_across size
+        → get_or prefixes.now before 0
         ≡ 2 ^ (before * (size.region_side + 2) + 1 + size.region_side) - 1 }
     requires above { IsDrawn size (λ r c. look_in (R.numbers rows.now) (r + 2) (c + 4))
         (region * size.region_side) grid.old }
@@ -104,7 +111,7 @@ fn draw_regions<R: BitRows>(
     let across = size.regions_across();
     let first = region * region_side;
     for line in first..first + region_side {
-        let cells = outer_row(rows.inner(line as usize + 2), region_side, across, fronts);
+        let cells = outer_row(rows.inner(line as usize + 2), region_side, across, prefixes);
         grid.darken(line + 2 * region + 1, cells);
     }
 }
@@ -122,9 +129,9 @@ pub(crate) fn draw_rows<R: BitRows>(grid: &mut Grid, size: Size, rows: &R)
 {
     let region_side = size.region_side();
     let across = size.regions_across();
-    let fronts = fronts(region_side, across);
+    let prefixes = prefixes(region_side, across);
     draw_borders(grid, size);
     for region in 0..across {
-        draw_regions(grid, size, rows, &fronts, region);
+        draw_regions(grid, size, rows, &prefixes, region);
     }
 }

@@ -13,7 +13,7 @@ pub(crate) fn is_dark(row: u128, column: u16) -> bool
     (row >> column) % 2 == 1
 }
 
-/// The row with the cell of one column in this colour.
+/// Gives the row with the cell of one column in this colour.
 pub(crate) fn with_colour(row: u128, column: u16, dark: bool) -> u128
     requires { column < largest_side }
     ensures cells { (other : ℕ) → other < largest_side → is_dark_in result other
@@ -24,8 +24,8 @@ pub(crate) fn with_colour(row: u128, column: u16, dark: bool) -> u128
     if dark { row | bit } else { row & !bit }
 }
 
-/// The row whose first `side` cells are those of `row`; all others are light.
-pub(crate) fn front(row: u128, side: u16) -> u128
+/// Gives the first `side` cells of a row; all others are light.
+pub(crate) fn prefix(row: u128, side: u16) -> u128
     requires { side ≤ largest_side }
     ensures cells { (column : ℕ) → column < side → is_dark_in result column
         ≡ is_dark_in row column }
@@ -34,7 +34,7 @@ pub(crate) fn front(row: u128, side: u16) -> u128
     row % (1 << side)
 }
 
-/// The row with these cells, from the left; all others are light.
+/// Gives the row with these cells, from the left; all others are light.
 pub(crate) fn packed_row(cells: &[bool]) -> u128
     requires { length cells.now ≤ largest_side }
     ensures cells { (column : ℕ) → column < length cells.now → is_dark_in result column

@@ -1,10 +1,13 @@
 //! The sizes of square symbols: ISO/IEC 16022, symbol sizes and capacities.
 #![tactic(auto, unfolding(crate::specs::Sizes::size_table))]
 
-ghost use Rattle.std.specs.Prelude.{◌≡◌, ◌+◌, ◌*◌, ◌/◌, ◌%◌, ◌<◌, ◌≤◌, ◌↔◌, All, IfSome, IfNone};
+ghost use Rattle.std.specs.Prelude.{◌≡◌, ◌+◌, ◌*◌, ◌/◌, ◌%◌, ◌<◌, ◌≤◌, All, IfSome, IfNone};
 ghost use Rattle.dm_layout.specs.Sizes.{size_table, row_with_side, row_for_words, IsRow, codeword_count, block_data, block_check, block_length, regions_across, largest_side, most_across, most_data, most_codewords, most_blocks, most_block_check, longest_block};
 
 use std::marker::Model;
+
+/// How many sizes there are.
+pub const SIZE_COUNT: usize = 21;
 
 /// The largest side of a symbol, in cells.
 pub const LARGEST_SIDE: usize = 104;
@@ -24,10 +27,13 @@ pub const MOST_CODEWORDS: usize = 1152;
 /// The most blocks of a symbol.
 pub const MOST_BLOCKS: usize = 6;
 
-/// No block has more codewords than this: as many as the field has elements other than 0.
+/// No block has more codewords than this: as many as the field has elements other than 0. `dm_code` has the same number as
+/// `LONGEST_WORD`, and neither crate stands on the other: in `dm_symbol`, `codeword_near` has each block corrected, and its proof
+/// shows that no block is longer than a word may be.
 pub const LONGEST_BLOCK: usize = 255;
 
-/// A size of a square symbol: a row of the standard's table of sizes and capacities.
+/// A size of a square symbol: a row of the standard's table of sizes and capacities. In contracts it is a `SizeRow` of
+/// `specs/Sizes.antt`.
 #[derive(Clone, Copy, Debug, PartialEq, Eq)]
 pub struct Size {
     side: u16,
@@ -68,7 +74,7 @@ macro_rules! row {
     };
 }
 
-const TABLE: [Size; 21] = [
+const TABLE: [Size; SIZE_COUNT] = [
     row!(10 1 8 8 3 5 1 2),
     row!(12 1 10 10 5 7 1 3),
     row!(14 1 12 12 8 10 1 5),
@@ -92,14 +98,14 @@ const TABLE: [Size; 21] = [
     row!(104 16 24 96 816 336 6 28),
 ];
 
-/// All sizes, by rising side.
-pub fn table() -> [Size; 21]
+/// Gives all sizes, by rising side.
+pub fn table() -> [Size; SIZE_COUNT]
     ensures { result ≡ size_table }
 {
     TABLE
 }
 
-/// The first size of the table that has at least `count` data codewords.
+/// Gives the first size of the table that has at least `count` data codewords.
 fn first_with(count: u16) -> Option<Size>
     ensures { result ≡ row_for_words count }
 {
@@ -107,14 +113,14 @@ fn first_with(count: u16) -> Option<Size>
 }
 
 impl Size {
-    /// The size with this side in cells, or None where the table has none.
+    /// Gives the size with this side in cells, or None where the table has none.
     pub fn of_side(side: u16) -> Option<Size>
         ensures { result ≡ row_with_side side }
     {
         TABLE.iter().copied().find(|size| size.side == side)
     }
 
-    /// The smallest size with at least `count` data codewords, or None where no size has as many.
+    /// Gives the smallest size with at least `count` data codewords, or None where no size has as many.
     pub fn for_words(count: u16) -> Option<Size>
         ensures value { result ≡ row_for_words count }
         ensures row { IfSome result IsRow }
@@ -126,7 +132,7 @@ impl Size {
         first_with(count)
     }
 
-    /// The cells of a side of the symbol, borders among them.
+    /// Gives how many cells a side of the symbol has, those of borders among them.
     pub fn side(self) -> u16
         ensures value { result ≡ self.side }
         ensures row { IsRow self }
@@ -135,7 +141,7 @@ impl Size {
         self.side
     }
 
-    /// How many regions the symbol has.
+    /// Gives how many regions the symbol has.
     pub fn regions(self) -> u16
         ensures value { result ≡ self.regions }
         ensures square { self.regions ≡ regions_across self * regions_across self }
@@ -143,7 +149,7 @@ impl Size {
         self.regions
     }
 
-    /// How many regions stand side by side.
+    /// Gives how many regions stand side by side.
     pub(crate) fn regions_across(self) -> u16
         ensures value { result ≡ regions_across self }
         ensures row { IsRow self }
@@ -154,7 +160,7 @@ impl Size {
         self.mapping / self.region_side
     }
 
-    /// The cells of a side of one region, without its border.
+    /// Gives how many cells a side of one region has, without its border.
     pub fn region_side(self) -> u16
         ensures value { result ≡ self.region_side }
         ensures even { self.region_side % 2 ≡ 0 }
@@ -165,7 +171,7 @@ impl Size {
         self.region_side
     }
 
-    /// The cells of a side of the mapping square: all regions put together without their borders.
+    /// Gives how many cells a side of the mapping square has, which is all regions put together without their borders.
     pub fn mapping(self) -> u16
         ensures value { result ≡ self.mapping }
         ensures row { IsRow self }
@@ -177,7 +183,7 @@ impl Size {
         self.mapping
     }
 
-    /// How many data codewords the symbol has.
+    /// Gives how many data codewords the symbol has.
     pub fn data_count(self) -> u16
         ensures value { result ≡ self.data_count }
         ensures some { 0 < self.data_count }
@@ -187,7 +193,7 @@ impl Size {
         self.data_count
     }
 
-    /// How many check codewords the symbol has.
+    /// Gives how many check codewords the symbol has.
     pub fn check_count(self) -> u16
         ensures value { result ≡ self.check_count }
         ensures row { IsRow self }
@@ -198,7 +204,7 @@ impl Size {
         self.check_count
     }
 
-    /// How many blocks the codewords of the symbol are dealt into.
+    /// Gives how many blocks the codewords of the symbol are dealt into.
     pub fn blocks(self) -> u16
         ensures value { result ≡ self.blocks }
         ensures some { 0 < self.blocks }
@@ -208,7 +214,7 @@ impl Size {
         self.blocks
     }
 
-    /// How many data codewords a block has.
+    /// Gives how many data codewords a block has.
     pub fn block_data(self) -> u16
         ensures value { result ≡ block_data self }
         ensures some { 0 < block_data self }
@@ -217,7 +223,7 @@ impl Size {
         self.data_count / self.blocks
     }
 
-    /// How many check codewords a block has, 5 to 68.
+    /// Gives how many check codewords a block has, 5 to 68.
     pub fn block_check(self) -> u16
         ensures value { result ≡ block_check self }
         ensures some { 5 ≤ block_check self }
@@ -227,7 +233,7 @@ impl Size {
         self.check_count / self.blocks
     }
 
-    /// How many wrong codewords can be corrected in a block: half of its check codewords, rounded down.
+    /// Gives how many wrong codewords can be corrected in a block: half of its check codewords, rounded down.
     pub fn limit(self) -> u16
         ensures value { result ≡ self.limit }
         ensures half { self.limit ≡ block_check self / 2 }

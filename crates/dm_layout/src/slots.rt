@@ -13,9 +13,10 @@ use crate::bit_rows::BitRows;
 use crate::order_rows::*;
 use crate::shape::{Cell, Shape};
 use crate::size::LARGEST_MAPPING;
+use crate::slot_rows::{ROW_SLOTS, Slots};
 
 /// The slot of the codeword of a corner, which lies behind all others.
-pub(crate) const CORNER_SLOT: u16 = 16 * LARGEST_MAPPING as u16;
+pub(crate) const CORNER_SLOT: u16 = (ROW_SLOTS * LARGEST_MAPPING) as u16;
 
 /// Each byte with its bits in the opposite order.
 static REVERSED: [u8; 256] = [
@@ -34,14 +35,14 @@ static REVERSED: [u8; 256] = [
     239, 31, 159, 95, 223, 63, 191, 127, 255,
 ];
 
-/// A byte with its bits in the opposite order.
+/// Gives a byte with its bits in the opposite order.
 pub(crate) fn reverse(byte: u8) -> u8
     ensures { result ≡ reversed_bits byte }
 {
     REVERSED[byte as usize]
 }
 
-/// The codeword in these cells.
+/// Gives the codeword in these cells.
 fn word_of_cells<R: BitRows>(rows: &R, cells: &[Cell; 8]) -> u8
     requires room { length (R.numbers rows.now) ≡ R.most + 6 }
     requires inside { CellsInside R.most cells.now }
@@ -54,7 +55,7 @@ fn word_of_cells<R: BitRows>(rows: &R, cells: &[Cell; 8]) -> u8
     word as u8
 }
 
-/// The codeword of the corner, where there is one, in widened rows.
+/// Gives the codeword of the corner, where there is one, in widened rows.
 #[inline(always)]
 fn corner_word<R: BitRows>(rows: &R, mapping: u16) -> u8
     requires room { length (R.numbers rows.now) ≡ R.most + 6 }
@@ -74,7 +75,7 @@ fn corner_word<R: BitRows>(rows: &R, mapping: u16) -> u8
     }
 }
 
-/// The column of the widened rows in which the first codeword of a row of anchors begins.
+/// Gives the column of the widened rows in which the first codeword of a row of anchors begins.
 pub(crate) fn first_column(row: u16) -> u16
     requires { row < largest_mapping }
     ensures { result ≡ first_column_by row }
@@ -82,42 +83,43 @@ pub(crate) fn first_column(row: u16) -> u16
     (4 + 3 * row) % 8 + 2
 }
 
-/// Makes each of the widened rows the codewords of its anchors; each has its bits in the opposite order.
-fn join_anchors<R: BitRows>(rows: &mut R, mapping: u16)
-    requires room { length (R.numbers rows.old) ≡ R.most + 6 }
+/// Puts the codewords of all anchors into their slots; each has its bits in the opposite order.
+fn join_anchors<R: BitRows>(rows: &R, slots: &mut Slots, mapping: u16)
+    requires room { length (R.numbers rows.now) ≡ R.most + 6 }
     requires small { mapping ≤ R.most }
-    ensures room { length (R.numbers rows.new) ≡ R.most + 6 }
-    ensures joined { AreJoined mapping (R.numbers rows.old) (R.numbers rows.new) }
+    requires slots { length slots.old ≡ largest_mapping + 1 }
+    ensures room { length slots.new ≡ largest_mapping + 1 }
+    ensures joined { AreJoined mapping (R.numbers rows.now) slots.new }
 {
     for row in 0..mapping {
-        rows.join(row as usize, first_column(row));
+        slots.put_row(row as usize, rows.join(row as usize, first_column(row)));
     }
 }
 
-/// Puts the codewords in widened rows into their slots.
-pub(crate) fn join_rows<R: BitRows>(rows: &mut R, mapping: u16)
-    requires room { length (R.numbers rows.old) ≡ R.most + 6 }
+/// Gives the codewords in widened rows, in their slots.
+pub(crate) fn join_rows<R: BitRows>(rows: &R, mapping: u16) -> Slots
+    requires room { length (R.numbers rows.now) ≡ R.most + 6 }
     requires low { 8 ≤ mapping }
     requires small { mapping ≤ R.most }
-    ensures room { length (R.numbers rows.new) ≡ R.most + 6 }
-    ensures slots { HasSlots mapping R.last (R.numbers rows.old) (R.numbers rows.new) }
+    ensures { HasSlots mapping (R.numbers rows.now) result }
 {
+    let mut slots = Slots::empty();
+    join_anchors(rows, &mut slots, mapping);
     let corner = corner_word(rows, mapping);
-    join_anchors(rows, mapping);
-    rows.put_corner(reverse(corner));
+    slots.put_row(LARGEST_MAPPING, u128::from(reverse(corner)));
+    slots
 }
 
-/// The codeword of a slot, from joined rows.
+/// Gives the codeword of a slot.
 #[inline(always)]
-pub(crate) fn codeword<R: BitRows>(rows: &R, slot: u16) -> u8
-    requires room { length (R.numbers rows.now) ≡ R.most + 6 }
-    requires slot { HasSlot R.most slot }
-    ensures { result ≡ reversed_bits (slot_byte R.last (R.numbers rows.now) slot) }
+pub(crate) fn codeword(slots: &Slots, slot: u16) -> u8
+    requires { HasSlot largest_mapping slot }
+    ensures { result ≡ reversed_bits (slot_byte slots.now slot) }
 {
-    reverse(rows.byte(slot))
+    reverse(slots.byte(slot))
 }
 
-/// The slots of the codewords in order.
+/// Gives the slots of the codewords in order.
 pub(crate) fn order(mapping: u16) -> &'static [u16]
     ensures { result.now ≡ order_of mapping }
 {

@@ -11,7 +11,7 @@ use crate::size::LARGEST_MAPPING;
 
 /// A part of a turn of the sweep.
 #[derive(Clone, Copy)]
-pub enum Leg {
+pub(crate) enum Leg {
     /// The turn begins, with or without a corner.
     Turn,
     /// Two rows up and two columns right at each move.
@@ -22,13 +22,13 @@ pub enum Leg {
 
 /// Where the sweep is. Row and column count from two above and left of the square, so that none is below 0.
 #[derive(Clone, Copy)]
-pub struct Cursor {
-    pub leg: Leg,
-    pub row: u16,
-    pub column: u16,
+pub(crate) struct Cursor {
+    leg: Leg,
+    row: u16,
+    column: u16,
 }
 
-/// The corner with which a turn begins, if it begins with one.
+/// Gives the corner with which a turn begins here, if it begins with one.
 fn corner(n: u16, row: u16, column: u16) -> Option<Shape>
     requires small { n ≤ largest_mapping }
     ensures value { result ≡ corner_met n row column }
@@ -47,8 +47,8 @@ fn corner(n: u16, row: u16, column: u16) -> Option<Shape>
     }
 }
 
-/// The standard shape at a cell inside the square.
-fn inside(n: u16, row: u16, column: u16) -> Option<Shape>
+/// Gives the standard shape whose anchor stands here, or None outside the square.
+fn standard_shape(n: u16, row: u16, column: u16) -> Option<Shape>
     requires small { n ≤ largest_mapping }
     ensures value { result ≡ anchor_met n row column }
     ensures anchor { IfSome result (AnchorInside n) }
@@ -72,7 +72,7 @@ impl Cursor {
         }
     }
 
-    /// The shape to place here, unless its anchor is marked.
+    /// Gives the shape to place here, unless its anchor is marked.
     fn candidate(self, n: u16) -> Option<Shape>
         requires small { n ≤ largest_mapping }
         ensures value { result ≡ candidate_of n self }
@@ -80,11 +80,11 @@ impl Cursor {
     {
         match self.leg {
             Leg::Turn => corner(n, self.row, self.column),
-            Leg::Up | Leg::Down => inside(n, self.row, self.column),
+            Leg::Up | Leg::Down => standard_shape(n, self.row, self.column),
         }
     }
 
-    /// Where the next move ends. Before it, at most `moves` moves are left.
+    /// Gives where the next move ends. Before it, at most `moves` moves are left.
     fn after_move(self, n: u16, moves: u16) -> Cursor
         requires small { n ≤ largest_mapping }
         requires one_more { 0 < moves }
@@ -162,7 +162,7 @@ fn mark_cells(marked: &mut [u128; MARKED_SIDE], cells: &[Cell; 8])
 /// The sweep of one mapping square: where it is, how many moves it has left at most, and the table of marked cells, a
 /// number for each row with a bit for each column.
 #[derive(Drop)]
-pub struct Walk {
+pub(crate) struct Walk {
     mapping: u16,
     marked: [u128; MARKED_SIDE],
     cursor: Cursor,
@@ -170,8 +170,8 @@ pub struct Walk {
 }
 
 impl Walk {
-    /// The sweep before its first move: at row 4, column 0, with nothing marked. It ends within as many moves
-    /// as the square has cells.
+    /// Begins the sweep, before its first move: at row 4, column 0, with nothing marked. It ends within as many moves as the
+    /// square has cells.
     pub(crate) fn new(mapping: u16) -> Walk
         requires { mapping ≤ largest_mapping }
         ensures { result ≡ walk_of mapping }
@@ -188,7 +188,7 @@ impl Walk {
         }
     }
 
-    /// One move, and the shape that it places, if it places one.
+    /// Makes one move, and gives the shape that it places, if it places one.
     fn step(&mut self) -> Option<Shape>
         requires safe { WalkIsSafe self.old }
         requires more { 0 < self.old.moves }
@@ -211,7 +211,7 @@ impl Walk {
         Some(shape)
     }
 
-    /// The next shape that is placed.
+    /// Gives the next shape that is placed.
     fn next_shape(&mut self) -> Option<Shape>
         requires safe { WalkIsSafe self.old }
         ensures left { YieldsFirst shapes_left self.old result self.new }
@@ -227,7 +227,7 @@ impl Walk {
         None
     }
 
-    /// The cells of the next shape that is placed. The iterator over places calls this once for each codeword, so it
+    /// Gives the cells of the next shape that is placed. The iterator over places calls this once for each codeword, so it
     /// isn't inlined into the iterator's `next`.
     #[inline(never)]
     pub(crate) fn next_cells(&mut self) -> Option<[Cell; 8]>

@@ -1,7 +1,7 @@
 //! The mapping square as rows of bits, widened so that no standard shape wraps.
 //!
-//! Row r of the mapping square is row r + 2, and its column c is the bit of weight 2^(c + 4). In the two rows above and in the four
-//! bits to the right of it, which are the columns left of the square, stand the modules to which shapes at its upper and its left edge wrap.
+//! Row r of the mapping square is row r + 2, and its column c is the bit of weight 2^(c + 4). In the two rows above it and in the four
+//! lowest bits, which are the columns left of it, stand the modules to which shapes at its upper and its left edge wrap.
 
 ghost use Rattle.std.specs.Prelude.{◌≡◌, ℕ, ◌+◌, ◌-◌, ◌*◌, ◌%◌, ◌^◌, ◌<◌, ◌≤◌, ◌&&◌, ◌||◌, nat_le, nat_lt, false, length, replicate};
 ghost use Rattle.dm_layout.specs.Border.{mapped_cell, symbol_line};
@@ -14,7 +14,7 @@ use crate::bit_rows::BitRows;
 use crate::grid::Grid;
 use crate::shape::wrap_shift;
 
-/// The row of the mapping square that lies in a row of the symbol between the borders of `across` regions.
+/// Gives the row of the mapping square that lies in a row of the symbol between the borders of `across` regions.
 #[inline(always)]
 fn inner_row(row: u128, region_side: u16, across: u16) -> u128
     requires least { 8 ≤ region_side }

@@ -8,8 +8,8 @@ use crate::size::{MOST_CODEWORDS, Size};
 use std::marker::Model;
 
 /// The codewords of a symbol of some [`Size`]: exactly its data codewords and then its check codewords,
-/// in the order in which they are placed. They stand at the front of an array for the most codewords; what
-/// stands behind them means nothing.
+/// in the order in which they are placed. They stand at the start of an array for the most codewords; what
+/// stands behind them means nothing. In contracts it is a `WordsView` of `specs/Words.antt`.
 #[derive(Clone, Debug, Drop)]
 pub struct Words {
     size: Size,
@@ -28,31 +28,32 @@ impl Model for Words {
 }
 
 impl Words {
-    /// The codewords `list` of a symbol of this size, data and then checks, in the order of the symbol: as
-    /// many as the size's data and check codewords together.
+    /// Gives the codewords `list` of a symbol of this size, data and then checks, in the order of the symbol: as many as the
+    /// size's data and check codewords together.
     pub fn new(size: Size, list: &[u8]) -> Words
         requires { length list.now ≡ codeword_count size }
         ensures value { result ≡ record { size = size; list = list.now } }
         ensures words { IsWords result }
     {
-        // That they fit is known from what this call ensures.
+        // For the proof alone: what `check_count` ensures says that the codewords fit.
         let _checks = size.check_count();
         let mut kept = [0; MOST_CODEWORDS];
         kept[..list.len()].copy_from_slice(list);
         Words { size, kept }
     }
 
-    /// Codewords of this size with these data codewords, as many as the size has. The check codewords are 0 until they are put.
-    pub fn with_data(size: Size, front: &[u8]) -> Words
-        requires { length front.now ≡ size.data_count }
+    /// Gives codewords of this size with these data codewords, as many as the size has. The check codewords are 0 until they
+    /// are put.
+    pub fn with_data(size: Size, prefix: &[u8]) -> Words
+        requires { length prefix.now ≡ size.data_count }
         ensures value { result
-            ≡ record { size = size; list = front.now ++ replicate size.check_count 0 } }
+            ≡ record { size = size; list = prefix.now ++ replicate size.check_count 0 } }
         ensures words { IsWords result }
     {
-        // That they fit is known from what this call ensures.
+        // For the proof alone: what `check_count` ensures says that the codewords fit.
         let _checks = size.check_count();
         let mut kept = [0; MOST_CODEWORDS];
-        kept[..front.len()].copy_from_slice(front);
+        kept[..prefix.len()].copy_from_slice(prefix);
         Words { size, kept }
     }
 
@@ -68,12 +69,12 @@ impl Words {
         self.kept[start..end].copy_from_slice(checks);
     }
 
-    /// Codewords of this size with any values, for [`lift_to`](crate::lift_to) to replace.
+    /// Gives codewords of this size with any values, for [`lift_to`](crate::lift_to) to replace.
     pub(crate) fn any(size: Size) -> Words
         ensures size { result.size ≡ size }
         ensures words { IsWords result }
     {
-        // That they fit is known from what this call ensures.
+        // For the proof alone: what `check_count` ensures says that the codewords fit.
         let _checks = size.check_count();
         Words {
             size,
@@ -82,16 +83,16 @@ impl Words {
     }
 
     /// Turns these into codewords of this size with any values.
-    pub(crate) fn begin(&mut self, size: Size)
+    pub(crate) fn resize(&mut self, size: Size)
         ensures size { self.new.size ≡ size }
         ensures words { IsWords self.new }
     {
-        // That they fit is known from what this call ensures.
+        // For the proof alone: what `check_count` ensures says that the codewords fit.
         let _checks = size.check_count();
         self.size = size;
     }
 
-    /// How many codewords there are.
+    /// Gives how many codewords there are.
     fn count(&self) -> usize
         ensures value { result ≡ codeword_count self.now.size }
         ensures fits { result ≤ most_codewords }
@@ -99,7 +100,7 @@ impl Words {
         (self.size.data_count() + self.size.check_count()) as usize
     }
 
-    /// The size of the symbol.
+    /// Gives the size of the symbol.
     pub fn size(&self) -> Size
         ensures value { result ≡ self.now.size }
         ensures words { IsWords self.now }
@@ -107,7 +108,7 @@ impl Words {
         self.size
     }
 
-    /// All codewords, in the order of the symbol.
+    /// Gives all codewords, in the order of the symbol.
     pub fn list(&self) -> &[u8]
         ensures value { result.now ≡ self.now.list }
         ensures words { IsWords self.now }
@@ -115,7 +116,7 @@ impl Words {
         &self.kept[..self.count()]
     }
 
-    /// The data codewords.
+    /// Gives the data codewords.
     pub fn data_part(&self) -> &[u8]
         ensures value { result.now ≡ data_of self.now }
         ensures words { IsWords self.now }

@@ -30,6 +30,12 @@ empty_colour size row column =
 abbrev pub empty_grid : SizeRow → GridView
 empty_grid size = record { size = size; rows = square_by size.side (empty_colour size) }
 
+-- In a grid whose borders are drawn as far as `row`, the border cells above it have their colours, and all other cells are light.
+pub record HasBorders (size : SizeRow) (row : ℕ) (grid : GridView) : Type 0 where
+  pub same_size : grid.size ≡ size
+  pub square : IsGrid grid
+  pub cells : (r c : ℕ) → r < size.side → c < size.side → cell_at grid r c ≡ nat_lt r row && is_border size r c && border_is_dark size r c
+
 -- ---- the rows of the mapping square
 
 -- In a grid that is drawn as far as `line`, the rows above it are put between correct borders.

@@ -1,4 +1,4 @@
--- How grids and codewords are kept: at the front of an array that is large enough for those of every size. The views and the invariants of
+-- How grids and codewords are kept: at the start of an array that is large enough for those of every size. The views and the invariants of
 -- their types cite this.
 use Rattle.std.specs.Prelude.{◌≡◌, ℕ, ◌^◌, ◌<◌, ◌≤◌, List, length, take, All}
 use Rattle.dm_layout.specs.Sizes.{SizeRow, IsRow, codeword_count, largest_side, most_codewords}

@@ -1,7 +1,7 @@
 -- Codewords laid by the rows of their anchors: their bits are scattered from slots into widened rows, which are then folded back into the square.
--- Byte k of row r of the slots has, with its bits in the opposite order, the codeword of the k-th anchor of row r; row `last`,
+-- Byte k of row r of the slots has, with its bits in the opposite order, the codeword of the k-th anchor of row r; the last row,
 -- which lies behind those of all anchors, has that of a corner.
-use Rattle.std.specs.Prelude.{ℕ, ◌+◌, ◌-◌, ◌*◌, ◌/◌, ◌%◌, ◌^◌, Bool, ◌&&◌, ◌||◌, nat_eq, nat_le, nat_lt, min, List, get_or, set, bit_or}
+use Rattle.std.specs.Prelude.{ℕ, ◌+◌, ◌-◌, ◌*◌, ◌/◌, ◌%◌, ◌^◌, Bool, ◌&&◌, ◌||◌, nat_eq, nat_le, nat_lt, List, get_or, set, bit_or}
 use Rattle.dm_layout.specs.Placement.{cells_of}
 use Rattle.dm_layout.specs.declared.shape.Shape.TheVariants.{Corner1, Corner2}
 use Rattle.dm_layout.specs.inner.Reading.{look_in, marks_in}
@@ -20,9 +20,9 @@ with_scattered old slots row first r c = ((old || (nat_eq r row && part_of slots
 abbrev pub by_anchors : ℕ → List ℕ → ℕ → ℕ → ℕ → ℕ → Bool
 by_anchors n slots r low count c = nat_lt r n && part_of slots r (first_column r) low count c
 
--- In rows of slots, numbers of some width, one more byte is laid over its slot, which is that of an anchor or, in row `last`, that of a corner.
-abbrev pub with_byte : ℕ → ℕ → List ℕ → ℕ → ℕ → List ℕ
-with_byte width last slots x y = set slots (min (x / 16) last) (bit_or (get_or slots (min (x / 16) last) 0) (y * 2 ^ (8 * (x % 16)) % 2 ^ width))
+-- In rows of slots one more byte is laid over that of its slot.
+abbrev pub with_byte : List ℕ → ℕ → ℕ → List ℕ
+with_byte slots x y = set slots (x / 16) (bit_or (get_or slots (x / 16) 0) (y * 2 ^ (8 * (x % 16))))
 
 -- In the widened rows of the codewords, two bits of each lie in the row two above its anchor's, three in the row
 -- above the anchor's, and three in the anchor's own.

@@ -1,7 +1,7 @@
 -- The codewords of the anchors of a row as the bytes of one number, with their bits in the opposite order, and where each codeword stands.
 -- The anchors of row r have columns that leave (3r + 4) mod 8 when divided by 8.
-use Rattle.std.specs.Prelude.{◌≡◌, ◌⊎◌, ℕ, ◌+◌, ◌-◌, ◌*◌, ◌/◌, ◌%◌, ◌^◌, ◌<◌, Bool, ◌&&◌, ◌||◌, nat_eq, nat_le, nat_lt, min, List, [], ◌∷◌, get_or, if◌then◌else◌}
-use Rattle.std.specs.Int.{bit_at}
+use Rattle.std.specs.Prelude.{◌≡◌, ◌⊎◌, ℕ, ◌+◌, ◌-◌, ◌*◌, ◌/◌, ◌%◌, ◌^◌, ◌<◌, Bool, ◌&&◌, ◌||◌, nat_eq, nat_le, nat_lt, List, [], ◌∷◌, map, get_or, length, if◌then◌else◌}
+use Rattle.std.specs.Int.{bit_at, from_le_bytes, w128}
 use Rattle.dm_layout.specs.Grid.{is_dark_in}
 use Rattle.dm_layout.specs.inner.Reading.{look_in}
 use Rattle.dm_layout.specs.Sizes.{largest_mapping}
@@ -54,15 +54,24 @@ corner_slot = 16 * largest_mapping
 abbrev pub HasSlot : ℕ → ℕ → Type 0
 HasSlot most x = (x ≡ corner_slot) ⊎ ((x / 16 < most) × (8 * (x % 16) < most))
 
--- A slot has its byte in the joined row to which it belongs; that of a corner stands in the row behind all others.
-abbrev pub slot_byte : ℕ → List ℕ → ℕ → ℕ
-slot_byte last rows x = get_or rows (min (x / 16) last) 0 / 2 ^ (8 * (x % 16)) % 256
+-- Rows of slots, sixteen bytes each, are kept as numbers whose lowest byte is the first.
+abbrev pub slot_numbers : List (List ℕ) → List ℕ
+slot_numbers rows = map (from_le_bytes w128) rows
+
+-- Each row of slots has sixteen bytes.
+pub record AreSlotRows (rows : List (List ℕ)) : Type 0 where
+  pub wide : (r : ℕ) → r < length rows → length (get_or rows r []) ≡ 16
+  pub bytes : (r i : ℕ) → r < length rows → get_or (get_or rows r []) i 0 < 256
+
+-- A slot has its byte in the row of slots to which it belongs; that of a corner stands in the row behind all others.
+abbrev pub slot_byte : List ℕ → ℕ → ℕ
+slot_byte rows x = get_or rows (x / 16) 0 / 2 ^ (8 * (x % 16)) % 256
 
 -- The codewords of the mapping square of side n stand in their slots, as widened rows have them.
-pub record HasSlots (n last : ℕ) (rows news : List ℕ) : Type 0 where
+pub record HasSlots (n : ℕ) (rows news : List ℕ) : Type 0 where
   pub anchors : AreJoined n rows news
-  pub corner1 : n % 8 ≡ 4 → reversed_bits (slot_byte last news corner_slot) ≡ word_in rows (cells_of n Corner1)
-  pub corner2 : n % 8 ≡ 6 → reversed_bits (slot_byte last news corner_slot) ≡ word_in rows (cells_of n Corner2)
+  pub corner1 : n % 8 ≡ 4 → reversed_bits (slot_byte news corner_slot) ≡ word_in rows (cells_of n Corner1)
+  pub corner2 : n % 8 ≡ 6 → reversed_bits (slot_byte news corner_slot) ≡ word_in rows (cells_of n Corner2)
 
 -- The codeword of a standard shape has slot 16 r + c div 8, r and c being the row and the column of its anchor, and
 -- that of a corner the slot behind all others.

@@ -139,7 +139,7 @@ LegIsSafe Turn u v = 2 ≤ u
 LegIsSafe Up u v = 2 ≤ u
 LegIsSafe Down u v = 2 ≤ v
 
--- The moves that are left go neither below 0 nor past what the numbers hold.
+-- The moves that are left go neither below 0 nor past 60,000, a round number that their numbers of 16 bits hold.
 abbrev pub CursorIsSafe : Cursor → ℕ → Type 0
 CursorIsSafe cursor moves = LegIsSafe cursor.leg cursor.row cursor.column × (cursor.row + 5 * moves ≤ 60000) × (cursor.column + 5 * moves ≤ 60000)
 
@@ -167,7 +167,7 @@ pub record WalkIsSafe (w : Walk) : Type 0 where
 abbrev pub places_left : List Cell → ℕ → ℕ → Walk → List Place
 places_left current taken bit w = bits_from (taken - 1) bit (drop bit current) ++ places_from w.mapping taken (shapes_left w)
 
--- The walk is safe, at most eight bits of the current shape have been given, and the numbers of the codewords fit.
+-- The walk is safe, at most eight bits of the current shape have been given, and the numbers of the codewords stay below 60,000, as above.
 pub record CellsAreSafe (current : List Cell) (taken bit : ℕ) (w : Walk) : Type 0 where
   pub walk : WalkIsSafe w
   pub within : bit ≤ 8

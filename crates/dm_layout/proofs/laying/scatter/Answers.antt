@@ -11,12 +11,12 @@ pub loop-row-init : goal.loop-row-init
 loop-row-init g c = record {
   count = ap length c.requires.light ∙ length-replicate (g.R.BitRows.most + 6) 0;
   so_far = λ r q l.
-      scattered_none (g.R.BitRows.numbers c.args.rows.now) (g.R.BitRows.numbers c.args.slots.now) (λ i j. ap (λ (rows : List ℕ). look_in rows i j) c.requires.light ∙ light_at (g.R.BitRows.most + 6) i j) r q;
+      scattered_none (g.R.BitRows.numbers c.args.rows.now) c.args.slots.now (λ i j. ap (λ (rows : List ℕ). look_in rows i j) c.requires.light ∙ light_at (g.R.BitRows.most + 6) i j) r q;
 }
 
 pub loop-row-preserved : goal.loop-row-preserved
 loop-row-preserved g c =
-    let slots = g.R.BitRows.numbers c.args.slots.now in
+    let slots = c.args.slots.now in
     let row : ℕ = c.loop-row.row in
     record {
       count = c.scatter.ensures.room ∙ c.loop-row.invariant.count;
@@ -30,4 +30,4 @@ loop-row-preserved g c =
 pub returns-clause-cells : goal.returns-clause-cells
 returns-clause-cells g c = λ r q l.
     let e : c.loop-row.row ≡ c.args.mapping = omega (arith, c.loop-row-test.false, c.loop-row.auto.row-end) in
-    c.loop-row.invariant.so_far r q l ∙ ap (λ (i : ℕ). scattered i (g.R.BitRows.numbers c.args.slots.now) r q) e
+    c.loop-row.invariant.so_far r q l ∙ ap (λ (i : ℕ). scattered i c.args.slots.now r q) e

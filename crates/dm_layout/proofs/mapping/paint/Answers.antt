@@ -1,11 +1,11 @@
 use Rattle.std.proofs.Common.{◌≡◌, ℕ, ◌+◌, ◌<◌, List, map, length, get_or, true, ap, sym, ◌∙◌, subst, arith}
 use Rattle.std.specs.List.{list_all}
 use Rattle.std.proofs.lemmas.List.{length-set, length-replicate}
-use Rattle.dm_layout.specs.Sizes.{SizeRow, IsRow, codeword_count}
+use Rattle.dm_layout.specs.Sizes.{SizeRow, IsRow, codeword_count, largest_mapping}
 use Rattle.dm_layout.specs.Placement.{shapes, places_in_order}
 use Rattle.dm_layout.specs.inner.Reading.{look_in}
 use Rattle.dm_layout.specs.inner.Slots.{order_of, slot_of}
-use Rattle.dm_layout.proofs.LaidWords.{AreRoom, AreLaid, laid_first, laid_more, laid_all}
+use Rattle.dm_layout.proofs.LaidWords.{AreLaid, laid_first, laid_more, laid_all}
 use Rattle.dm_layout.proofs.LiftedWords.{fits_test}
 use Rattle.dm_layout.proofs.Painting.{marks, marks_bit, marks_no_fixed}
 use Rattle.dm_layout.proofs.PlacementRows.{side_at_row, count_at_row, once_at_row}
@@ -18,8 +18,8 @@ shape_count s m xs row e f = ap (λ (i : ℕ). length (shapes i)) e ∙ count_at
 
 pub loop-i-init : goal.loop-i-init
 loop-i-init g c = record {
-  count = ap length c.light-slots.ensures ∙ length-replicate (g.R.BitRows.most + 6) 0;
-  so_far = laid_first c.mapping-mapping.result g.R.BitRows.last (g.R.BitRows.most + 6) c.list-list.result.now (g.R.BitRows.numbers c.light-slots.result) c.light-slots.ensures;
+  count = ap length c.empty-slots.ensures ∙ length-replicate {A = ℕ} (largest_mapping + 1) 0;
+  so_far = laid_first c.mapping-mapping.result (largest_mapping + 1) c.list-list.result.now c.empty-slots.result c.empty-slots.ensures;
 }
 
 pub bounds-list-i : goal.bounds-list-i
@@ -29,11 +29,10 @@ bounds-list-i g c =
     let e = ap codeword_count c.size.ensures.value in
     omega (arith, c.list-list.ensures.words.count, n, k, e, c.loop-i-test.true)
 
-pub add_byte-requires-clause-slot : goal.add_byte-requires-clause-slot
-add_byte-requires-clause-slot g c =
+pub add-requires : goal.add-requires
+add-requires g c =
     let e = c.mapping-mapping.ensures.value in
-    let es = ap (λ (s : SizeRow). s.mapping) c.size.ensures.value in
-    slot_in_rows c.size.result c.mapping-mapping.result g.R.BitRows.most c.loop-i.i c.order-slot-items.result.now c.mapping-mapping.ensures.row e (omega (arith, e, es, c.requires.fits))
+    slot_in_rows c.size.result c.mapping-mapping.result largest_mapping c.loop-i.i c.order-slot-items.result.now c.mapping-mapping.ensures.row e (side_at_row c.size.result c.mapping-mapping.result c.mapping-mapping.ensures.row e)
     (side_at_row c.size.result c.mapping-mapping.result c.mapping-mapping.ensures.row e) c.order-slot-items.ensures c.loop-i-test.true
 
 pub loop-i-preserved : goal.loop-i-preserved
@@ -41,24 +40,15 @@ loop-i-preserved g c =
     let m : ℕ = c.mapping-mapping.result in
     let row = c.mapping-mapping.ensures.row in
     let e = c.mapping-mapping.ensures.value in
-    let em = e ∙ ap (λ (s : SizeRow). s.mapping) c.size.ensures.value in
     let order = order_at_row c.size.result row in
     let k = shape_count c.size.result m c.order-slot-items.result.now row e c.order-slot-items.ensures in
-    let ends = g.met.R.BitRows.fits in
-    let room : AreRoom m g.R.BitRows.width g.R.BitRows.last =
+    let slots = c.loop-i.slots in
     record {
-      least = omega (arith, c.mapping-mapping.ensures.least, e);
-      fits = omega (arith, em, c.requires.fits, g.met.R.BitRows.fits);
-      most = omega (arith, em, c.requires.fits, ends);
-      last_most = omega (arith, ends);
-    } in
-    let slots = g.R.BitRows.numbers c.loop-i.slots in
-    record {
-      count = ap length c.add_byte.ensures ∙ length-set slots _ _ ∙ c.loop-i.invariant.count;
+      count = ap length c.add.ensures ∙ length-set slots _ _ ∙ c.loop-i.invariant.count;
       so_far =
-          subst (λ (xs : List ℕ). AreLaid m g.R.BitRows.last c.list-list.result.now xs (c.loop-i.i + 1)) (sym c.add_byte.ensures)
-          (laid_more m g.R.BitRows.width g.R.BitRows.last c.loop-i.i (get_or c.order-slot-items.result.now c.loop-i.i 0) c.reverse.result c.list-list.result.now slots room
-          (omega (arith, c.mapping-mapping.ensures.even, e)) (omega (arith, c.loop-i.invariant.count, ends)) (omega (arith, c.type_inv.list c.loop-i.i))
+          subst (λ (xs : List ℕ). AreLaid m c.list-list.result.now xs (c.loop-i.i + 1)) (sym c.add.ensures)
+          (laid_more m c.loop-i.i (get_or c.order-slot-items.result.now c.loop-i.i 0) c.reverse.result c.list-list.result.now slots (omega (arith, c.mapping-mapping.ensures.least, e)) (side_at_row c.size.result m row e)
+          (omega (arith, c.mapping-mapping.ensures.even, e)) (omega (arith, c.loop-i.invariant.count)) (omega (arith, c.type_inv.list c.loop-i.i))
           (subst (λ (i : ℕ). list_all (fits_test i) (shapes i) ≡ true) (sym e) order.fits)
           (omega (arith, k, c.loop-i-test.true))
           (ap (λ (xs : List ℕ). get_or xs c.loop-i.i 0) (c.order-slot-items.ensures ∙ ap order_of e ∙ order.slots ∙ ap (λ (i : ℕ). map slot_of (shapes i)) (sym e)))
@@ -71,7 +61,7 @@ lay_slots-requires-clause-most g c =
     omega (arith, em, c.requires.fits)
 
 -- The painted rows are dark where the codewords' bits are 1.
-painted : (g : _) (c : goal.After-drop-slots g) (r q : ℕ) → r < c.args.words.now.size.mapping → q < c.args.words.now.size.mapping →
+painted : (g : _) (c : goal.After-lay_slots g) (r q : ℕ) → r < c.args.words.now.size.mapping → q < c.args.words.now.size.mapping →
     look_in (g.R.BitRows.numbers c.lay_slots.new.rows) (r + 2) (q + 4) ≡ marks c.args.words.now.list (places_in_order c.args.words.now.size.mapping) r q
 painted g c r q lr lq =
     let m : ℕ = c.mapping-mapping.result in
@@ -81,7 +71,7 @@ painted g c r q lr lq =
     let i : r < m = omega (arith, em, lr) in
     let j : q < m = omega (arith, em, lq) in
     c.lay_slots.ensures.cells r q i j
-    ∙ laid_all m g.R.BitRows.last c.loop-i.i c.list-list.result.now (g.R.BitRows.numbers c.loop-i.slots) (omega (arith, k, c.loop-i-test.false)) c.loop-i.invariant.so_far r q i j
+    ∙ laid_all m c.loop-i.i c.list-list.result.now c.loop-i.slots (omega (arith, k, c.loop-i-test.false)) c.loop-i.invariant.so_far r q i j
     ∙ ap (λ (n : ℕ). marks c.list-list.result.now (places_in_order n) r q) em
     ∙ ap (λ (ws : List ℕ). marks ws (places_in_order c.args.words.now.size.mapping) r q) c.list-list.ensures.value
 

@@ -1,9 +1,10 @@
 use Rattle.std.proofs.Common.{◌≡◌, ◌+◌, length}
+use Rattle.dm_layout.specs.Sizes.{largest_mapping}
 use Rattle.dm_layout.proofs.LaidWords.{AreLaid}
 use Rattle.dm_layout.proofs.mapping.paint.Given as goal
 
 abbrev pub invariant-loop-i : goal.invariant-loop-i
 invariant-loop-i g l = record {
-  count : length (g.R.BitRows.numbers l.slots) ≡ g.R.BitRows.most + 6;
-  so_far : AreLaid l.mapping g.R.BitRows.last l.list (g.R.BitRows.numbers l.slots) l.i;
+  count : length l.slots ≡ largest_mapping + 1;
+  so_far : AreLaid l.mapping l.list l.slots l.i;
 }

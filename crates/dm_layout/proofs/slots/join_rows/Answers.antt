@@ -1,14 +1,15 @@
-use Rattle.std.proofs.Common.{◌∙◌, length, ap, arith}
-use Rattle.std.proofs.lemmas.List.{length-set}
+use Rattle.std.proofs.Common.{ℕ, set, ◌+◌, ◌∙◌, length, ap, arith}
+use Rattle.std.proofs.lemmas.List.{length-replicate}
+use Rattle.dm_layout.specs.Sizes.{largest_mapping}
 use Rattle.dm_layout.proofs.SlotRows.{corner_beside}
 use Rattle.dm_layout.proofs.slots.join_rows.Goals as goal
 
-pub returns-clause-room : goal.returns-clause-room
-returns-clause-room g c = ap length c.put_corner.ensures ∙ length-set (g.R.BitRows.numbers c.join_anchors.new.rows) g.R.BitRows.last _ ∙ c.join_anchors.ensures.room
+pub join_anchors-requires-clause-slots : goal.join_anchors-requires-clause-slots
+join_anchors-requires-clause-slots g c = ap length c.empty-slots.ensures ∙ length-replicate {A = ℕ} (largest_mapping + 1) 0
 
-pub returns-clause-slots : goal.returns-clause-slots
-returns-clause-slots g c =
+pub returns : goal.returns
+returns g c =
     let fits = g.met.R.BitRows.fits in
-    corner_beside c.args.mapping g.R.BitRows.last (g.R.BitRows.numbers c.args.rows.now) (g.R.BitRows.numbers c.join_anchors.new.rows) (g.R.BitRows.numbers c.put_corner.new.self) c.reverse.result c.corner_word-corner.result
-    (omega (arith, fits.0, c.requires.small)) fits.1 (omega (arith, fits.2, c.join_anchors.ensures.room)) c.put_corner.ensures c.reverse.type_inv c.reverse.ensures c.corner_word-corner.type_inv c.join_anchors.ensures.joined
+    corner_beside c.args.mapping (g.R.BitRows.numbers c.args.rows.now) c.join_anchors.new.slots c.put_row.new.self c.reverse.result c.corner_word-corner.result
+    (omega (arith, fits.0, c.requires.small)) (omega (arith, c.join_anchors.ensures.room)) (c.put_row.ensures ∙ ap (λ (x : ℕ). set c.join_anchors.new.slots largest_mapping x) c.from.ensures) c.reverse.type_inv c.reverse.ensures c.corner_word-corner.type_inv c.join_anchors.ensures.joined
     c.corner_word-corner.ensures.first c.corner_word-corner.ensures.second

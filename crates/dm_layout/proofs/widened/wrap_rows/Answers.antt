@@ -13,4 +13,4 @@ returns-clause-above g c = λ r q lr lq ls.
     let n : ℕ = c.args.mapping in
     let olds = g.R.BitRows.numbers c.args.rows.now in
     ap (λ (xs : List ℕ). look_in xs r q) (both_put g.R.BitRows.width n c.args.shift olds _ _ c.wrap_above.ensures c.wrap_above-2.ensures)
-    ∙ row_above g.R.BitRows.width olds n c.args.shift r q c.requires.least (omega (arith, c.requires.room)) lr (omega (arith, lq, c.requires.most, g.met.R.BitRows.fits.3)) ls
+    ∙ row_above g.R.BitRows.width olds n c.args.shift r q c.requires.least (omega (arith, c.requires.room)) lr (omega (arith, lq, c.requires.most, g.met.R.BitRows.fits.1)) ls

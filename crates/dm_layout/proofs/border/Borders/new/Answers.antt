@@ -19,6 +19,6 @@ loop-region-preserved c =
 pub invariant_of-result : goal.invariant_of-result
 invariant_of-result c =
     let last : ℕ = c.region_side-last.result + 1 in
-    are_borders c.args.size c.side-side.result last c.loop-region.region c.loop-region.left c.loop-region.both c.front.result c.front-2.result c.side-side.ensures.row c.side-side.ensures.value
+    are_borders c.args.size c.side-side.result last c.loop-region.region c.loop-region.left c.loop-region.both c.prefix.result c.prefix-2.result c.side-side.ensures.row c.side-side.ensures.value
     (ap (λ (i : ℕ). i + 1) c.region_side-last.ensures.value) (omega arith) c.loop-region.invariant
-    c.front.ensures.cells c.front.ensures.width c.front-2.ensures.cells c.front-2.ensures.width
+    c.prefix.ensures.cells c.prefix.ensures.width c.prefix-2.ensures.cells c.prefix-2.ensures.width

@@ -8,5 +8,5 @@ pub returns-clause-cells : goal.returns-clause-cells
 returns-clause-cells c =
     let rows = c.loop-row.self-inside.rows in
     ap (λ (s : SizeRow). square_of_rows s.side rows) c.loop-row.invariant.size
-    ∙ square_of_packed c.args.square c.args.square.side c.loop-row.row (λ (r : ℕ). is_dark_in (get_or c.args.rows.now r 0)) rows refl
+    ∙ square_of_packed c.args.new_size c.args.new_size.side c.loop-row.row (λ (r : ℕ). is_dark_in (get_or c.args.rows.now r 0)) rows refl
     (omega (arith, c.requires, c.loop-row-test.false)) c.loop-row.invariant.packed

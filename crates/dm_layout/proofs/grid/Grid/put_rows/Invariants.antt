@@ -5,6 +5,6 @@ use Rattle.dm_layout.proofs.grid.Grid.put_rows.Given as goal
 
 abbrev pub invariant-loop-row : goal.invariant-loop-row
 invariant-loop-row l = record {
-  size : l.self-inside.size ≡ l.fn.square;
-  packed : IsPacked l.fn.square.side l.row (λ r. is_dark_in (get_or l.rows r 0)) l.self-inside.rows;
+  size : l.self-inside.size ≡ l.fn.new_size;
+  packed : IsPacked l.fn.new_size.side l.row (λ r. is_dark_in (get_or l.rows r 0)) l.self-inside.rows;
 }

@@ -2,7 +2,7 @@ use Rattle.std.proofs.Common.{◌+◌, ap, arith}
 use Rattle.dm_layout.specs.Sizes.{SizeRow}
 use Rattle.dm_layout.specs.inner.Reading.{look_in}
 use Rattle.dm_layout.proofs.DrawnRows.{laid_by}
-use Rattle.dm_layout.proofs.placing.lay_in.Goals as goal
+use Rattle.dm_layout.proofs.placing.lay_rows.Goals as goal
 
 pub draw_rows-requires-clause-fits : goal.draw_rows-requires-clause-fits
 draw_rows-requires-clause-fits g c =

@@ -4,7 +4,7 @@ use Rattle.std.proofs.Math.Pow.{pow_pos}
 use Rattle.std.proofs.lemmas.List.{length-set}
 use Rattle.dm_layout.specs.Sizes.{largest_mapping, most_across}
 use Rattle.dm_layout.proofs.PackedRows.{weight}
-use Rattle.dm_layout.proofs.mapping.fronts.Goals as goal
+use Rattle.dm_layout.proofs.mapping.prefixes.Goals as goal
 
 -- Each region but the last ends within the row.
 inside : (region across d : ℕ) → region + 1 < across → across ≤ most_across → across * d ≤ largest_mapping → region * (d + 2) + 1 + d < 128
@@ -14,8 +14,8 @@ inside region across d l few fits = let m : (region + 1) * d ≤ across * d = mu
 ends : (region across d : ℕ) → region < across - 1 → across ≤ most_across → across * d ≤ largest_mapping → 1 * 2 ^ (region * (d + 2) + 1 + d) % 2 ^ 128 ≡ 2 ^ (region * (d + 2) + 1 + d)
 ends region across d l few fits = weight (region * (d + 2) + 1 + d) (inside region across d (omega (arith, l)) few fits)
 
-pub overflow_sub-fronts : goal.overflow_sub-fronts
-overflow_sub-fronts c =
+pub overflow_sub-prefixes : goal.overflow_sub-prefixes
+overflow_sub-prefixes c =
     let k : ℕ = c.loop-region.region * (c.args.region_side + 2) + 1 + c.args.region_side in
     let w = ends c.loop-region.region c.args.across c.args.region_side c.loop-region-test.true c.requires.few c.requires.fits in
     let p = pow_pos k in
@@ -26,12 +26,12 @@ loop-region-preserved c =
     let region : ℕ = c.loop-region.region in
     let d : ℕ = c.args.region_side in
     let i = c.loop-region.invariant in
-    let fronts : List ℕ = c.loop-region.fronts in
+    let prefixes : List ℕ = c.loop-region.prefixes in
     let l : region + 1 < c.args.across = omega (arith, c.loop-region-test.true) in
     let w = ends region c.args.across d c.loop-region-test.true c.requires.few c.requires.fits in
     record {
-      count = ap (λ (n : ℕ). n + 1) (length-set fronts region _) ∙ i.count;
+      count = ap (λ (n : ℕ). n + 1) (length-set prefixes region _) ∙ i.count;
       so_far =
-          below_more (λ k. get_or (set fronts region _) k 0 ≡ 2 ^ (k * (d + 2) + 1 + d) - 1) region (λ k h. get_or-set_other fronts region k _ 0 (λ e. omega (arith, e, h)) ∙ i.so_far k h)
-          (get_or-set_same fronts region _ 0 (omega (arith, i.count, l, c.requires.few)) ∙ ap (λ (x : ℕ). x - 1) w);
+          below_more (λ k. get_or (set prefixes region _) k 0 ≡ 2 ^ (k * (d + 2) + 1 + d) - 1) region (λ k h. get_or-set_other prefixes region k _ 0 (λ e. omega (arith, e, h)) ∙ i.so_far k h)
+          (get_or-set_same prefixes region _ 0 (omega (arith, i.count, l, c.requires.few)) ∙ ap (λ (x : ℕ). x - 1) w);
     }

@@ -1,7 +1,7 @@
 use Rattle.std.proofs.Common.{◌≡◌, ℕ, sym, ap, subst, arith}
 use Rattle.dm_layout.specs.Sizes.{SizeRow, IsRow}
 use Rattle.dm_layout.proofs.PackedRows.{kept_light, grid_of_kept}
-use Rattle.dm_layout.proofs.grid.Grid.begin.Goals as goal
+use Rattle.dm_layout.proofs.grid.Grid.lighten.Goals as goal
 
 -- A size that is the given one stands in the table and has the given side.
 row_here : (s t : SizeRow) (side : ℕ) → s ≡ t → IsRow t → side ≡ t.side → IsRow s × (s.side ≡ side)

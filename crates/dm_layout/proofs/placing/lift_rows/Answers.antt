@@ -1,7 +1,7 @@
 use Rattle.std.proofs.Common.{◌≡◌, true, ℕ, ◌+◌, ◌<◌, List, map, take, length, get_or, ap, sym, subst, arith, ◌∙◌}
 use Rattle.std.specs.List.{list_all}
 use Rattle.std.proofs.lemmas.List.{length-map, take_all}
-use Rattle.dm_layout.specs.Sizes.{SizeRow, codeword_count}
+use Rattle.dm_layout.specs.Sizes.{SizeRow, codeword_count, largest_mapping}
 use Rattle.dm_layout.specs.Border.{mapped_cell}
 use Rattle.dm_layout.specs.Placement.{shapes, cells_of}
 use Rattle.dm_layout.specs.inner.Slots.{order_of, reversed_bits, slot_byte, slot_of}
@@ -11,17 +11,16 @@ use Rattle.dm_layout.proofs.LiftedWords.{slot_words, fits_test}
 use Rattle.dm_layout.proofs.PlacementRows.{side_at_row}
 use Rattle.dm_layout.proofs.SlotOrder.{order_at_row, slot_in_rows, slot_count, read_more}
 use Rattle.dm_layout.proofs.Reading.{one_list, held, gathered_all, word_of}
-use Rattle.dm_layout.proofs.placing.lift_in.Goals as goal
+use Rattle.dm_layout.proofs.placing.lift_rows.Goals as goal
 
 -- The codeword in a slot.
-abbrev word_by : ℕ → List ℕ → ℕ → ℕ
-word_by last rows x = reversed_bits (slot_byte last rows x)
+abbrev word_by : List ℕ → ℕ → ℕ
+word_by slots x = reversed_bits (slot_byte slots x)
 
-pub codeword-requires-clause-slot : goal.codeword-requires-clause-slot
-codeword-requires-clause-slot g c =
+pub codeword-requires : goal.codeword-requires
+codeword-requires g c =
     let e = c.mapping-mapping.ensures.value in
-    let es = ap (λ (s : SizeRow). s.mapping) c.size-size.ensures.value in
-    slot_in_rows c.size-size.result c.mapping-mapping.result g.R.BitRows.most c.loop-i.i c.order-slot-items.result.now c.mapping-mapping.ensures.row e (omega (arith, e, es, c.requires))
+    slot_in_rows c.size-size.result c.mapping-mapping.result largest_mapping c.loop-i.i c.order-slot-items.result.now c.mapping-mapping.ensures.row e (side_at_row c.size-size.result c.mapping-mapping.result c.mapping-mapping.ensures.row e)
     (side_at_row c.size-size.result c.mapping-mapping.result c.mapping-mapping.ensures.row e) c.order-slot-items.ensures c.loop-i-test.true
 
 pub put-requires : goal.put-requires
@@ -32,7 +31,7 @@ put-requires g c =
 
 pub loop-i-preserved : goal.loop-i-preserved
 loop-i-preserved g c =
-    let f = word_by g.R.BitRows.last (g.R.BitRows.numbers c.join_rows.new.rows) in
+    let f = word_by c.join_rows-slots.result in
     let k = ap length c.order-slot-items.ensures in
     let n = slot_count c.size-size.result c.mapping-mapping.result c.order-slot-items.result.now c.mapping-mapping.ensures.row c.mapping-mapping.ensures.value c.order-slot-items.ensures in
     let e = ap codeword_count (c.loop-i.invariant.size ∙ sym c.size-size.ensures.value) in
@@ -51,7 +50,7 @@ returns-clause-holds g c =
     let n : ℕ = c.args.grid.now.size.mapping in
     let m : ℕ = c.mapping-mapping.result in
     let row = c.mapping-mapping.ensures.row in
-    let f = word_by g.R.BitRows.last (g.R.BitRows.numbers c.join_rows.new.rows) in
+    let f = word_by c.join_rows-slots.result in
     let em : m ≡ n = c.mapping-mapping.ensures.value ∙ ap (λ (s : SizeRow). s.mapping) c.size-size.ensures.value in
     let order = order_at_row c.size-size.result row in
     let es : c.size-size.result.mapping ≡ n = ap (λ (s : SizeRow). s.mapping) c.size-size.ensures.value in
@@ -63,7 +62,7 @@ returns-clause-holds g c =
     let wide : IsWidened m (mapped_cell c.args.grid.now) rows = subst (λ (i : ℕ). IsWidened i (mapped_cell c.args.grid.now) rows) (sym em) c.widen.ensures.widened in
     let words =
     slot_words m (mapped_cell c.args.grid.now) rows (omega (arith, c.mapping-mapping.ensures.least, c.mapping-mapping.ensures.value)) (side_at_row c.size-size.result m row c.mapping-mapping.ensures.value)
-    (omega (arith, c.mapping-mapping.ensures.even, c.mapping-mapping.ensures.value)) wide g.R.BitRows.last (g.R.BitRows.numbers c.join_rows.new.rows) (omega (arith, em, c.requires, g.met.R.BitRows.fits.0)) c.join_rows.ensures.slots (shapes m)
+    (omega (arith, c.mapping-mapping.ensures.even, c.mapping-mapping.ensures.value)) wide c.join_rows-slots.result c.join_rows-slots.ensures (shapes m)
     (subst (λ (i : ℕ). list_all (fits_test i) (shapes i) ≡ true) (sym c.mapping-mapping.ensures.value) order.fits) in
     held c.args.grid.now c.loop-i.words c.size-size.ensures.grid c.loop-i.invariant.words c.loop-i.invariant.size
     (sym (take_all c.loop-i.i c.loop-i.words.list (omega (arith, c.loop-i.invariant.words.count, count, ec, c.loop-i-test.false)))

@@ -1,6 +1,6 @@
 use Rattle.std.proofs.Common.{◌≡◌, ℕ, ◌<◌, get_or, length}
 use Rattle.dm_layout.specs.Sizes.{largest_side}
-use Rattle.dm_layout.proofs.grid.Grid.begin.Given as goal
+use Rattle.dm_layout.proofs.grid.Grid.lighten.Given as goal
 
 abbrev pub invariant-loop-row : goal.invariant-loop-row
 invariant-loop-row l = record {
