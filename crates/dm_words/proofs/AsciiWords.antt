@@ -31,7 +31,7 @@ character_of b lt = grind (arith, nat_tests)
 digits_of : (n : ℕ) → n < 100 → codeword_of (130 + n) ≡ Some (codeword.Digits n)
 digits_of n lt = grind (arith, nat_tests)
 
--- ---- the form by the front spells the message
+-- ---- the form from the left spells the message
 
 -- The codewords of a byte by itself are a unit that means it.
 single_spells : (b : ℕ) → b < 256 → (after : List ℕ) → IsAsciiUnit (single b) (Byte b ∷ [])
@@ -89,7 +89,7 @@ one_more words items m rest u apart h =
 not_both : (b c : ℕ) (s t : Bool) → is_digit b ≡ s → is_digit c ≡ t → (s && t) ≡ false → IsTrue (is_digit b) → IsTrue (is_digit c) → ⊥
 not_both b c s t es et e hb hc = grind (arith, nat_tests)
 
--- The form by the front of a message is a joining of such units.
+-- The form from the left of a message is a joining of such units.
 units_of : (m : List Item) → AreItems m → HasUnits m (ascii m)
 units_of [] fit = record { units = []; each = tt; greedy = tt; items = refl; whole = refl }
 units_of (Fnc1 ∷ m) fit = one_more (232 ∷ []) (Fnc1 ∷ []) m (ascii m) (fnc1 232 refl refl refl) (λ one begins. one) (units_of m fit.1)
@@ -112,14 +112,14 @@ pub pads_end : (place n : ℕ) → IsEnd (pads place n)
 pads_end place zero = nothing refl
 pads_end place (suc n) = pad 129 (further_pads (place + 1) n) refl refl
 
--- The form by the front of a message, with pads, spells it.
+-- The form from the left of a message, with pads, spells it.
 pub ascii_spells : (extent : Extent) (m : List Item) (count : ℕ) → AreItems m → Spells extent (padded (ascii m) count) m
 ascii_spells extent m count fit =
     let h = units_of m fit in
     let after = pads (length (ascii m) + 1) (count - length (ascii m)) in
     plain (record { parts = h.units; after = after; whole = ap (λ (r : List ℕ). r ++ after) h.whole; joined = joined_units extent 1 h.units after h.each; ended = pads_end (length (ascii m) + 1) (count - length (ascii m)); items_are = h.items })
 
--- The form by the front of a message is its ASCII form.
+-- The form from the left of a message is its ASCII form.
 pub is_ascii : (m : List Item) → AreItems m → IsAscii m (ascii m)
 is_ascii m fit = let h = units_of m fit in record { units = h.units; each = h.each; greedy = h.greedy; items = h.items; whole = h.whole }
 
@@ -137,7 +137,7 @@ pair_byte b c hb hc =
     let lc : c ≤ 57 = grind (arith, nat_tests) in
     omega arith
 
--- The form by the front of a message is a list of codewords.
+-- The form from the left of a message is a list of codewords.
 pub ascii_bytes : (m : List Item) → AreItems m → AreBytes (ascii m)
 ascii_bytes [] fit = tt
 ascii_bytes (Fnc1 ∷ m) fit = (omega arith, ascii_bytes m fit.1)
@@ -177,7 +177,7 @@ ascii_single b (Byte c ∷ rest) apart = not_pair (is_digit b) (is_digit c) apar
   not_pair true false no_pair = refl
   not_pair false t no_pair = refl
 
--- Two digits at the front are taken together.
+-- Two digits that come first are taken together.
 ascii_pair : (b c : ℕ) (rest : List Item) → is_digit b ≡ true → is_digit c ≡ true → ascii (Byte b ∷ Byte c ∷ rest) ≡ digit_pair b c ∷ ascii rest
 ascii_pair b c rest hb hc = rw (hb, hc) refl
 
@@ -193,7 +193,7 @@ apart_from : (u : Piece (List Item)) (us : List (Piece (List Item))) → AllByRe
 apart_from u [] each greedy one begins = begins
 apart_from u (v ∷ us) each greedy one begins = greedy.0 one (first_begins v us each.0 begins)
 
--- The units behind a greedy front are greedy.
+-- The units behind a greedy prefix are greedy.
 greedy_rest : (u : Piece (List Item)) (us : List (Piece (List Item))) → IsGreedy (u ∷ us) → IsGreedy us
 greedy_rest u [] g = tt
 greedy_rest u (v ∷ us) g = g.1
@@ -218,12 +218,12 @@ unit_first words items rest (raised s w b k l e i) apart =
     let two : single (b + 128) ≡ s ∷ w ∷ [] = (let t : ltb (b + 128) 128 ≡ false = grind (arith, nat_tests) in let v : b + 128 - 127 ≡ w = omega (arith, is.0) in rw (t, v, shift_is s k) refl) in
     rw (i, e) (ascii_single (b + 128) rest none ∙ ap (λ (r : List ℕ). r ++ ascii rest) two)
 
--- Greedy units are the form by the front of what they mean.
+-- Greedy units are the form from the left of what they mean.
 units_are : (us : List (Piece (List Item))) → AllByRecursion (λ u. IsAsciiUnit u.words u.what) us → IsGreedy us → spelled us ≡ ascii (gathered us)
 units_are [] each greedy = refl
 units_are (u ∷ us) each greedy =
     ap (λ (r : List ℕ). u.words ++ r) (units_are us each.1 (greedy_rest u us greedy)) ∙ sym (unit_first u.words u.what (gathered us) each.0 (apart_from u us each.1 greedy))
 
--- The ASCII form of a message is the form by its front.
+-- The ASCII form of a message is the form from its left.
 pub ascii_only : (m : List Item) (words : List ℕ) → IsAscii m words → words ≡ ascii m
 ascii_only m words h = h.whole ∙ units_are h.units h.each h.greedy ∙ ap ascii (sym h.items)

@@ -69,7 +69,7 @@ is_macro w digit k = by_tests (eqb w 236) (eqb w 237) refl refl where
   by_tests false true es et = inr (eqb-true _ _ et)
   by_tests false false es et = absurd (grind (arith, nat_tests))
 
--- Such a codeword stands at the front, at this place.
+-- Such a codeword stands first, at this place.
 record BeginsLeftOut (place : ℕ) (words : List ℕ) (word p : ℕ) : Type 0 where
   more : List ℕ
   whole : words ≡ word ∷ more
@@ -83,7 +83,7 @@ no_run set behind word p (upper_shift b s e) = cc
 no_run set behind word p (triplet r b e) = cc
 no_run set behind word p (unfinished u r s e) = cc
 
--- Where something is left out, its codeword stands at the front.
+-- Where something is left out, its codeword stands first.
 begins_left_out : (place : ℕ) (words : List ℕ) (word p : ℕ) → IsFault Wide place words (fault.LeftOut word p) → BeginsLeftOut place words word p
 begins_left_out place words word p (reserved w more k e is) = absurd cc
 begins_left_out place words word p (left_out w more k e is) =

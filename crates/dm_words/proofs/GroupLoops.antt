@@ -5,8 +5,8 @@ use Rattle.std.proofs.Math.Seq.{drop-cons}
 use Rattle.dm_words.specs.declared.item.Item.{Item}
 use Rattle.dm_words.specs.declared.item.Item.TheVariants.{Byte}
 use Rattle.dm_words.specs.Edifact.{edifact_byte}
-use Rattle.dm_words.specs.inner.Scan.Fronts.{group_values, group_by, edifact_run, edifact_items}
-use Rattle.dm_words.specs.inner.Scan.Answers.{IsGroupTaken}
+use Rattle.dm_words.specs.inner.Scan.Prefixes.{group_values, group_by, edifact_run, edifact_items}
+use Rattle.dm_words.specs.inner.Scan.Results.{IsGroupTaken}
 use Rattle.dm_words.proofs.SegmentLoops.{byte_items-append}
 use Rattle.dm_words.proofs.Groups.{is_not, border_found}
 

@@ -8,10 +8,10 @@ use Rattle.dm_words.specs.declared.item.Item.{Item}
 use Rattle.dm_words.specs.declared.codeword.Codeword.TheVariants as codeword
 use Rattle.dm_words.specs.Codewords.{codeword_of}
 use Rattle.dm_words.specs.Joined.{Piece, spelled, gathered}
-use Rattle.dm_words.specs.Edifact.{IsGroup, unlatch_value, edifact_byte, IsEdifactEnd, border, first, second, third, fourth, IsEdifactRun}
-use Rattle.dm_words.specs.inner.Scan.Fronts.{group_values, group_by, edifact_run, edifact_items}
+use Rattle.dm_words.specs.Edifact.{IsGroup, unlatch_value, edifact_byte, IsEdifactEnd, few_left, first, second, third, fourth, IsEdifactRun}
+use Rattle.dm_words.specs.inner.Scan.Prefixes.{group_values, group_by, edifact_run, edifact_items}
 use Rattle.dm_words.proofs.Pairs.{IsBytes}
-use Rattle.dm_words.proofs.Runs.{cut_behind_front}
+use Rattle.dm_words.proofs.Runs.{cut_behind_prefix}
 use Rattle.dm_words.proofs.Segments.{byte_items-length}
 
 -- No value is the unlatch.
@@ -119,9 +119,9 @@ module _ (a b c : ℕ) (more : List ℕ) (la : a < 256) (lb : b < 256) (lc : c <
 
 -- At the border of a group, where at most two codewords are left, the run ends.
 at_border : (words : List ℕ) → length words ≤ 2 → HasRun words 0 []
-at_border words le = ends_at_once words [] words [] 0 (border refl refl le) refl refl tt
+at_border words le = ends_at_once words [] words [] 0 (few_left refl refl le) refl refl tt
 
--- The run that is found stands at the front.
+-- The run that is found is a prefix.
 run_found : (words : List ℕ) → IsBytes words → HasRun words (edifact_run words).0 (edifact_run words).1
 unfolding edifact_run
 run_found [] fit = at_border [] (omega arith)
@@ -140,10 +140,10 @@ pub record EdifactTakes (words : List ℕ) (n : ℕ) (items : List Item) : Type 
 pub edifact_judged : (w : ℕ) (words : List ℕ) → codeword_of w ≡ Some codeword.Edifact → IsBytes words → EdifactTakes (w ∷ words) (1 + (edifact_run words).0) (edifact_items (edifact_run words).1)
 edifact_judged w words is_latch fit =
     let r = run_found words fit in
-    let front : List ℕ = w ∷ (spelled r.groups ++ r.end) in
-    let whole : w ∷ words ≡ front ++ r.after = ap (λ (x : List ℕ). w ∷ x) (r.whole ∙ sym (append_assoc (spelled r.groups) r.end r.after)) in
-    let c = cut_behind_front (w ∷ words) front r.after (1 + (edifact_run words).0) whole (omega (arith, r.count, length-append (spelled r.groups) r.end)) in
-    let run : IsEdifactRun front r.after (edifact_items (edifact_run words).1) = record {
+    let prefix : List ℕ = w ∷ (spelled r.groups ++ r.end) in
+    let whole : w ∷ words ≡ prefix ++ r.after = ap (λ (x : List ℕ). w ∷ x) (r.whole ∙ sym (append_assoc (spelled r.groups) r.end r.after)) in
+    let c = cut_behind_prefix (w ∷ words) prefix r.after (1 + (edifact_run words).0) whole (omega (arith, r.count, length-append (spelled r.groups) r.end)) in
+    let run : IsEdifactRun prefix r.after (edifact_items (edifact_run words).1) = record {
       latch = w;
       is_latch = is_latch;
       groups = r.groups;
@@ -202,7 +202,7 @@ second_found high low value rest (c ∷ more) small is lt ne le =
 
 -- The end of a run is found.
 end_found : (end after last : List ℕ) → IsEdifactEnd end after last → NoUnlatch last → edifact_run (end ++ after) ≡ (length end, last)
-end_found end after last (border w v le) none = rw (w, v) (border_found after le)
+end_found end after last (few_left w v le) none = rw (w, v) (border_found after le)
 end_found end after last (first word rest is lt w v le) none = rw (w, v) (first_found word rest after is lt le)
 end_found end after last (second high low value rest small six is lt w v le) none = let n : NoUnlatch (value ∷ []) = rw v at none in rw (w, v) (second_found high low value rest after small is lt n.0 le)
 end_found end after last (third one two rest g v) none =
@@ -212,7 +212,7 @@ end_found end after last (fourth one two three g v) none =
     let n : NoUnlatch (one ∷ two ∷ three ∷ []) = rw v at none in
     values_found end _ after g ∙ rw (is_not one n.0, is_not two n.1.0, is_not three n.1.1.0, g.words_are, v) refl
 
--- The front and the back of values without an unlatch have none.
+-- A prefix and the rest of values without an unlatch have none.
 NoUnlatch-right : (x y : List ℕ) → NoUnlatch (x ++ y) → NoUnlatch y
 NoUnlatch-right [] y none = none
 NoUnlatch-right (v ∷ x) y none = NoUnlatch-right x y none.1
@@ -246,7 +246,7 @@ pub record EdifactFound (words : List ℕ) (n : ℕ) (items : List Item) : Type 
   pub count : 1 + (edifact_run others).0 ≡ n
   pub found : edifact_items (edifact_run others).1 ≡ items
 
--- A run that stands at the front is found.
+-- A run that is a prefix is found.
 pub edifact_complete : (words after : List ℕ) (items : List Item) → IsEdifactRun words after items → EdifactFound (words ++ after) (length words) items × (0 < length words)
 edifact_complete words after items r =
     let again = groups_found r.groups r.end after r.last r.each r.ended r.no_unlatch in
@@ -275,7 +275,7 @@ groups_room (p ∷ ps) h =
 
 -- The end of a run has at most one value for each codeword.
 end_room : (end after last : List ℕ) → IsEdifactEnd end after last → length last ≤ length end
-end_room end after last (border w v le) = rw (w, v) (omega arith)
+end_room end after last (few_left w v le) = rw (w, v) (omega arith)
 end_room end after last (first word rest is lt w v le) = rw (w, v) (omega arith)
 end_room end after last (second high low value rest small six is lt w v le) = rw (w, v) (omega arith)
 end_room end after last (third one two rest g v) = rw (g.words_are, v) (omega arith)

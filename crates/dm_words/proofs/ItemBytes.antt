@@ -20,7 +20,7 @@ use Rattle.dm_words.specs.Values as values
 use Rattle.dm_words.specs.declared.codeword.Codeword.TheVariants as codeword
 use Rattle.dm_words.specs.Codewords.{codeword_of}
 use Rattle.dm_words.specs.Base256.{AreBytes, byte_items}
-use Rattle.dm_words.specs.Edifact.{IsGroup, edifact_byte, IsEdifactEnd, border, first, second, third, fourth}
+use Rattle.dm_words.specs.Edifact.{IsGroup, edifact_byte, IsEdifactEnd, few_left, first, second, third, fourth}
 use Rattle.dm_words.specs.Macros.{macro_header, macro_trailer, macro_text}
 use Rattle.dm_words.specs.Spells.{IsPart, ascii, run, segment, edifact, AreParts, plain as plain_parts, by_macro, Spells}
 use Rattle.dm_words.proofs.AsciiWords.{AreItems, character_is, digits_are}
@@ -89,7 +89,7 @@ groups_small (p ∷ ps) h = small-append p.what (gathered ps) (group_small p.wor
 
 -- The values before an unlatch are below 64.
 end_small : (end after last : List ℕ) → IsEdifactEnd end after last → AreSixBits last
-end_small end after last (border w v le) = rw v tt
+end_small end after last (few_left w v le) = rw v tt
 end_small end after last (first word rest is lt w v le) = rw v tt
 end_small end after last (second high low value rest small six is lt w v le) = rw v (six, tt)
 end_small end after last (third one two rest g v) = let s = group_small end _ g in rw v (s.0, (s.1.0, tt))

@@ -11,7 +11,7 @@ use Rattle.dm_words.specs.Pads.{padded}
 use Rattle.dm_words.specs.Values.{IsRest}
 use Rattle.dm_words.specs.Macros.{macro_text}
 use Rattle.dm_words.specs.Spells.{by_macro, Spells}
-use Rattle.dm_words.specs.Laws.{HasOneAnswer, AreCodewords, AreRunValues, BeginsNoSpelling, AreMacro}
+use Rattle.dm_words.specs.Laws.{HasOneResult, AreCodewords, AreRunValues, BeginsNoSpelling, AreMacro}
 use Rattle.dm_words.proofs.WholeReading as reading
 use Rattle.dm_words.proofs.AsciiWords as form
 use Rattle.dm_words.proofs.ItemBytes.{macro_text_is_message}
@@ -19,8 +19,8 @@ use Rattle.dm_words.proofs.PadWords.{length-padded, padded_bytes}
 use Rattle.dm_words.proofs.Values.{rest_begins_no_spelling, no_spelling_is_rest}
 
 -- Codewords spell one message or are refused with one fault.
-pub one_answer : (extent : Extent) (words : List ℕ) → AreCodewords words → HasOneAnswer extent words
-one_answer extent words fit = reading.one_answer extent words (recursion_from_All (λ w. w < 256) words fit)
+pub one_result : (extent : Extent) (words : List ℕ) → AreCodewords words → HasOneResult extent words
+one_result extent words fit = reading.one_result extent words (recursion_from_All (λ w. w < 256) words fit)
 
 -- The ASCII form of a message with pads spells it.
 pub ascii_spells : (extent : Extent) (m : List Item) (count : ℕ) → IsMessage m → length (ascii m) ≤ count → Spells extent (padded (ascii m) count) m
@@ -47,6 +47,6 @@ ascii_codewords m count fit = All-from_recursion (λ w. w < 256) (padded (ascii 
 pub ascii_is_greedy : (m : List Item) (words : List ℕ) → IsMessage m → IsAscii m words ↔ (words ≡ ascii m)
 ascii_is_greedy m words fit = ((λ h. form.ascii_only m words h), (λ e. subst (λ (w : List ℕ). IsAscii m w) (sym e) (form.is_ascii m (recursion_from_All IsItem m fit))))
 
--- What can follow the last whole spelling has no whole spelling at its front, and nothing else has none.
+-- What can follow the last whole spelling has no whole spelling as a prefix, and nothing else has none.
 pub rest_has_no_spelling : (set : CodeSet) (values : List ℕ) → AreRunValues values → IsRest set values ↔ BeginsNoSpelling set values
 rest_has_no_spelling set values fit = ((λ r. rest_begins_no_spelling set values r), (λ none. no_spelling_is_rest set values fit none))

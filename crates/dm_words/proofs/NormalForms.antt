@@ -1,8 +1,10 @@
 -- The normal form of a message spells it.
-use Rattle.std.proofs.Common.{◌≡◌, ◌⊎◌, inl, inr, ℕ, ◌+◌, ◌-◌, ◌*◌, ◌/◌, ◌%◌, ◌<◌, ◌≤◌, List, [], ◌∷◌, ◌++◌, length, map, take, get_or, append_assoc, add-one, refl, sym, ap, subst, ◌∙◌, arith, Bool, true, false, not, cond, ltb, ◌&&◌}
+use Rattle.std.proofs.Common.{◌≡◌, ◌⊎◌, inl, inr, ℕ, ◌+◌, ◌-◌, ◌*◌, ◌/◌, ◌%◌, ◌<◌, ◌≤◌, List, [], ◌∷◌, ◌++◌, length, map, take, drop, get_or, append_assoc, add-one, refl, sym, ap, subst, ◌∙◌, arith, Bool, true, false, not, cond, ltb, ◌&&◌, is_lt, nat_cmp, Less, Equal, Greater}
+use Rattle.std.specs.Prelude.{◌==◌}
+use Rattle.std.specs.Ordering.{ord_max}
 use Rattle.std.proofs.lemmas.Bool.{cases_lt, cases_Bool}
 use Rattle.std.proofs.lemmas.Bool.Decides.{nat_tests}
-use Rattle.std.proofs.lemmas.List.{append-nil, length-append, length-map, length-take, map-append}
+use Rattle.std.proofs.lemmas.List.{append-nil, at_drop_more, length-append, length-map, length-take, map-append}
 use Rattle.std.proofs.Math.Seq.{take-suc}
 use Rattle.std.proofs.lemmas.List.Elements.{recursion_from_All, All-from_recursion}
 use Rattle.dm_layout.specs.Sizes.{most_data}
@@ -218,6 +220,69 @@ some_single b = by_test (ltb b 128)
     by_test : (t : Bool) → 0 < length (cond t ((b + 1) ∷ []) (235 ∷ (b - 127) ∷ []))
     by_test true = omega arith
     by_test false = omega arith
+
+-- A byte by itself has one codeword below 128, and else two.
+few_single : (b : ℕ) → (length (single b) ≤ 2) × (b < 128 → length (single b) ≤ 1)
+few_single b = by_test (ltb b 128) refl where
+  by_test : (t : Bool) → ltb b 128 ≡ t
+      → (length (cond t ((b + 1) ∷ []) (235 ∷ (b - 127) ∷ [])) ≤ 2) × (b < 128 → length (cond t ((b + 1) ∷ []) (235 ∷ (b - 127) ∷ [])) ≤ 1)
+  by_test true e = (omega arith, λ lt. omega arith)
+  by_test false e = (omega arith, λ lt. absurd (let le : 128 ≤ b = grind (arith, nat_tests) in omega (arith, le, lt)))
+
+-- With one item before them, the ASCII codewords of items are no fewer, and at most two more, or one more where the byte of that item is below 128.
+pub record IsLonger (i : Item) (m : List Item) : Type 0 where
+  pub no_fewer : length (ascii m) ≤ length (ascii (i ∷ m))
+  pub two_more : length (ascii (i ∷ m)) ≤ 2 + length (ascii m)
+  pub one_more : byte_of i < 128 → length (ascii (i ∷ m)) ≤ 1 + length (ascii m)
+
+-- A byte that stands by itself makes the ASCII form of the items behind it so much longer.
+longer_alone : (b : ℕ) (m : List Item) → ascii (Byte b ∷ m) ≡ single b ++ ascii m → IsLonger (Byte b) m
+longer_alone b m e =
+    let n = length-append (single b) (ascii m) in
+    let all : length (ascii (Byte b ∷ m)) ≡ length (single b) + length (ascii m) = ap length e ∙ n in
+    let f = few_single b in
+    record {
+      no_fewer = omega (arith, all);
+      two_more = omega (arith, all, f.0);
+      one_more = λ lt. omega (arith, all, f.1 lt);
+    }
+
+-- One more item makes the ASCII form of the items behind it so much longer.
+pub longer : (i : Item) (m : List Item) → IsLonger i m
+longer Fnc1 m = record { no_fewer = omega arith; two_more = omega arith; one_more = λ lt. omega arith }
+longer (Byte b) [] = longer_alone b [] (sym (append-nil (single b)))
+longer (Byte b) (Fnc1 ∷ m) = longer_alone b (Fnc1 ∷ m) refl
+longer (Byte b) (Byte c ∷ m) = both (is_digit b) (is_digit c) refl refl (longer (Byte c) m) where
+  both : (s t : Bool) → is_digit b ≡ s → is_digit c ≡ t → IsLonger (Byte c) m → IsLonger (Byte b) (Byte c ∷ m)
+  both true true es et h =
+      let lt : c < 128 = grind (arith, nat_tests) in
+      let pair : ascii (Byte b ∷ Byte c ∷ m) ≡ digit_pair b c ∷ ascii m = rw (es, et) refl in
+      let all : length (ascii (Byte b ∷ Byte c ∷ m)) ≡ 1 + length (ascii m) = ap length pair ∙ (omega arith) in
+      record { no_fewer = omega (arith, all, h.one_more lt); two_more = omega (arith, all, h.no_fewer); one_more = λ l. omega (arith, all, h.no_fewer) }
+  both true false es et h = longer_alone b (Byte c ∷ m) (rw (es, et) refl)
+  both false t es et h = longer_alone b (Byte c ∷ m) (rw es refl)
+
+-- The ASCII form has at most two codewords for each item.
+pub two_words : (m : List Item) → length (ascii m) ≤ 2 * length m
+two_words [] = omega arith
+two_words (i ∷ m) = omega (arith, (longer i m).two_more, two_words m)
+
+-- Where the greater of two numbers is below a third, both are.
+both_below : (a b n : ℕ) → ord_max nat_cmp a b < n → (a < n) × (b < n)
+both_below a b n below = by_test (ltb b a) (b == a) refl below where
+  by_test : (t s : Bool) → ltb b a ≡ t → cond (is_lt (cond t Less (cond s Equal Greater))) a b < n → (a < n) × (b < n)
+  by_test true s e l = (l, (let lt : b < a = grind (arith, nat_tests) in omega (arith, lt, l)))
+  by_test false true e l = ((let le : a ≤ b = grind (arith, nat_tests) in omega (arith, le, l)), l)
+  by_test false false e l = ((let le : a ≤ b = grind (arith, nat_tests) in omega (arith, le, l)), l)
+
+-- A turn of the loop that looks for the greatest byte: where this is below 128, each item so far makes the ASCII form longer by at most one codeword.
+pub below_turn : (m : List Item) (k most b greater : ℕ) (d : Item) → k < length m → b ≡ byte_of (get_or m k d) → greater ≡ ord_max nat_cmp most b
+    → (most < 128 → length (ascii m) ≤ k + length (ascii (drop k m))) → greater < 128 → length (ascii m) ≤ k + 1 + length (ascii (drop (k + 1) m))
+below_turn m k most b greater d lt is greatest so_far below =
+    let both = both_below most b 128 (subst (λ (x : ℕ). x < 128) greatest below) in
+    let here : length (ascii (drop k m)) ≡ length (ascii (get_or m k d ∷ drop (k + 1) m)) = at_drop_more (λ (r : List Item). length (ascii r)) m k d lt in
+    let one = (longer (get_or m k d) (drop (k + 1) m)).one_more (subst (λ (x : ℕ). x < 128) is both.1) in
+    omega (arith, so_far both.0, here, one)
 
 -- A message has at most two items for each codeword of its ASCII form.
 two_items : (m : List Item) → length m ≤ 2 * length (ascii m)

@@ -7,7 +7,7 @@ use Rattle.dm_words.specs.declared.c40.pair.PairsEnd.{PairsEnd}
 use Rattle.dm_words.specs.declared.c40.pair.PairsEnd.TheVariants as stop
 use Rattle.dm_words.specs.Runs.{IsPair}
 use Rattle.dm_words.specs.inner.Scan.Walk.{Step, Takes, Stops}
-use Rattle.dm_words.specs.inner.Scan.Fronts.{values_of, pair_by, pair_front}
+use Rattle.dm_words.specs.inner.Scan.Prefixes.{values_of, pair_by, first_pair}
 use Rattle.dm_words.proofs.Walks.{IsSound, IsComplete}
 
 -- Each word is 0 to 255.
@@ -18,7 +18,7 @@ IsBytes words = (i : ℕ) → get_or words i 0 < 256
 pub IsBytes-drop : (n : ℕ) (words : List ℕ) → IsBytes words → IsBytes (drop n words)
 IsBytes-drop n words h i = rw get_or-drop (h (n + i))
 
--- No pair stands at the front of the words, for this reason.
+-- No pair is a prefix of the words, for this reason.
 pub data IsStop (words : List ℕ) (kind : PairsEnd) : Type 0 where
   over : words ≡ [] → kind ≡ stop.SymbolEnd → IsStop words kind
   one_left : (w : ℕ) → w ≢ 254 → words ≡ w ∷ [] → kind ≡ stop.SymbolEnd → IsStop words kind
@@ -33,7 +33,7 @@ PairRight place words after values = IsPair words values
 abbrev Right : List ℕ → ℕ → List ℕ → Type 0
 Right words n values = IsPair (take n words) values × (0 < n) × (n ≤ length words)
 
--- What is found at the front is right.
+-- What is found first is right.
 abbrev Judged : List ℕ → Step (List ℕ) PairsEnd → Type 0
 Judged words (Takes n values) = Right words n values
 Judged words (Stops kind) = IsStop words kind
@@ -69,20 +69,20 @@ judged_one v true e = let is : v ≡ 254 = eqb-true _ _ e in unlatched [] (ap (�
 judged_one v false e = one_left v (λ is. (let t : eqb v 254 ≡ true = rw is refl in cc)) refl refl
 
 -- What is found is right, however many words are left.
-judged : (place : ℕ) (words : List ℕ) → IsBytes words → Judged words (pair_front place words)
+judged : (place : ℕ) (words : List ℕ) → IsBytes words → Judged words (first_pair place words)
 judged place [] fit = over refl refl
 judged place (v ∷ []) fit = judged_one v _ refl
 judged place (v ∷ w ∷ more) fit = judged_two v w more _ (fit 1) refl
 
 -- A pair that is found is a pair.
-pub pair_sound : IsSound pair_front PairRight IsBytes
+pub pair_sound : IsSound first_pair PairRight IsBytes
 pair_sound = record {
   right = λ place words n values fit e. let P : Step (List ℕ) PairsEnd → Type 0 = λ s. Judged words s in subst P e (judged place words fit);
   fits = IsBytes-drop;
 }
 
 -- Where no pair is found, none stands.
-pub stop_sound : (place : ℕ) (words : List ℕ) (kind : PairsEnd) → IsBytes words → pair_front place words ≡ Stops kind → IsStop words kind
+pub stop_sound : (place : ℕ) (words : List ℕ) (kind : PairsEnd) → IsBytes words → first_pair place words ≡ Stops kind → IsStop words kind
 stop_sound place words kind fit e = let P : Step (List ℕ) PairsEnd → Type 0 = λ s. Judged words s in subst P e (judged place words fit)
 
 -- ---- the other way
@@ -95,8 +95,8 @@ values_again n a b c la lb lc e = (omega arith, omega arith, omega arith)
 not_unlatch : (v w n : ℕ) → 256 * v + w ≡ n → n ≤ 64000 → eqb v 254 ≡ false
 not_unlatch v w n e le = let ne : v ≢ 254 = omega arith in grind (arith, nat_tests)
 
--- A pair that stands at the front is found.
-pub pair_complete : IsComplete pair_front PairRight
+-- A pair that is a prefix is found.
+pub pair_complete : IsComplete first_pair PairRight
 pair_complete place words after values p =
     let n = 256 * p.high + p.low in
     let le : n ≤ 64000 = omega (arith, p.number, p.first_small, p.second_small, p.third_small) in
@@ -108,7 +108,7 @@ pair_complete place words after values p =
     rw (p.words_are, p.values_are) ((rw (x, y, z, d.0, d.1, d.2) refl), omega arith)
 
 -- Where no pair stands, none is found.
-pub stop_complete : (place : ℕ) (words : List ℕ) (kind : PairsEnd) → IsStop words kind → pair_front place words ≡ Stops kind
+pub stop_complete : (place : ℕ) (words : List ℕ) (kind : PairsEnd) → IsStop words kind → first_pair place words ≡ Stops kind
 stop_complete place words kind (over e is) = rw (e, is) refl
 stop_complete place words kind (one_left w ne e is) = (let t : eqb w 254 ≡ false = grind (arith, nat_tests) in rw (e, is, t) refl)
 stop_complete place words kind (unlatched [] e is) = rw (e, is) refl

@@ -19,7 +19,7 @@ use Rattle.dm_words.specs.Values.{IsSpelling, IsDropped, filler, waiting, AreVal
 use Rattle.dm_words.specs.Runs.{IsPair, IsRunEnd, unlatch, symbol_end, last_word, IsRun}
 use Rattle.dm_words.specs.RunFaults.{EndsRun, BeginsBadPair, StopsPairs, OpenRun, pair_place, IsRunFault, value, upper_shift, triplet, unfinished, IsFaultyRun}
 use Rattle.dm_words.specs.inner.Scan.Walk.{Step, Takes, Stops, Walked, flat}
-use Rattle.dm_words.specs.inner.Scan.Fronts.{pair_front, spelling_front, run_fault, end_length, run_unless, pairs_in, items_in, run_front}
+use Rattle.dm_words.specs.inner.Scan.Prefixes.{first_pair, first_spelling, run_fault, end_length, run_unless, pairs_in, items_in, run_behind}
 use Rattle.dm_words.proofs.Walks.{Walks, walks, walk-joined}
 use Rattle.dm_words.proofs.Values.{ItemRight, Anything, AreSmall, IsRestOf, item_sound, rest_sound, item_complete, rest_complete}
 use Rattle.dm_words.proofs.Pairs.{IsBytes, PairRight, IsStop, over, one_left, unlatched, bad, pair_sound, stop_sound, pair_complete, stop_complete}
@@ -125,12 +125,12 @@ RunJudged extent set place words (Takes n items) = RunTakes extent set words n i
 RunJudged extent set place words (Stops None) = ⊥
 RunJudged extent set place words (Stops (Some f)) = IsFaultyRun extent set place words f
 
--- A list that is a front and a back is cut behind the front.
-pub cut_behind_front : (words front back : List ℕ) (n : ℕ) → words ≡ front ++ back → n ≡ length front → (take n words ≡ front) × (drop n words ≡ back) × (n ≤ length words)
-cut_behind_front words front back n e len = rw e (take_at front back n (sym len), drop_at front back n (sym len), omega (arith, len, length-append front back))
+-- A list that is a prefix and a rest is cut behind the prefix.
+pub cut_behind_prefix : (words prefix back : List ℕ) (n : ℕ) → words ≡ prefix ++ back → n ≡ length prefix → (take n words ≡ prefix) × (drop n words ≡ back) × (n ≤ length words)
+cut_behind_prefix words prefix back n e len = rw e (take_at prefix back n (sym len), drop_at prefix back n (sym len), omega (arith, len, length-append prefix back))
 
-module _ (extent : Extent) (set : CodeSet) (place w : ℕ) (is_latch : codeword_of w ≡ Some (codeword.Latch set)) (words : List ℕ) (pw : Walked (List ℕ) PairsEnd) (p : Walks pair_front PairRight IsBytes 0 words pw)
-    (vw : Walked Item Rest) (v : Walks (spelling_front set) (ItemRight set) Anything 0 (flat pw.taken) vw) where
+module _ (extent : Extent) (set : CodeSet) (place w : ℕ) (is_latch : codeword_of w ≡ Some (codeword.Latch set)) (words : List ℕ) (pw : Walked (List ℕ) PairsEnd) (p : Walks first_pair PairRight IsBytes 0 words pw)
+    (vw : Walked Item Rest) (v : Walks (first_spelling set) (ItemRight set) Anything 0 (flat pw.taken) vw) where
   -- The values of the pairs are the values of the spellings and a rest.
   joined_values : gathered p.pieces ≡ spelled v.pieces ++ v.after
   joined_values = sym (flat-whats p.pieces) ∙ sym (ap flat p.taken) ∙ v.whole
@@ -154,11 +154,11 @@ module _ (extent : Extent) (set : CodeSet) (place w : ℕ) (is_latch : codeword_
   -- With this end, the run that is found is a run.
   run_taken : (end more : List ℕ) (n : ℕ) → p.after ≡ end ++ more → IsRunEnd end more → IsDropped extent set v.after → n ≡ 1 + length (spelled p.pieces) + length end → RunTakes extent set (w ∷ words) n vw.taken
   run_taken end more n e ended dropped len =
-      let front : List ℕ = w ∷ (spelled p.pieces ++ end) in
-      let whole : w ∷ words ≡ front ++ more = ap (λ (r : List ℕ). w ∷ r) (p.whole ∙ ap (λ (r : List ℕ). spelled p.pieces ++ r) e ∙ sym (append_assoc (spelled p.pieces) end more)) in
-      let c = cut_behind_front (w ∷ words) front more n whole (omega (arith, len, length-append (spelled p.pieces) end)) in
+      let prefix : List ℕ = w ∷ (spelled p.pieces ++ end) in
+      let whole : w ∷ words ≡ prefix ++ more = ap (λ (r : List ℕ). w ∷ r) (p.whole ∙ ap (λ (r : List ℕ). spelled p.pieces ++ r) e ∙ sym (append_assoc (spelled p.pieces) end more)) in
+      let c = cut_behind_prefix (w ∷ words) prefix more n whole (omega (arith, len, length-append (spelled p.pieces) end)) in
       let values : AreValues extent set (gathered p.pieces) vw.taken = record { spellings = v.pieces; each = spellings_right; filler = v.after; ended = dropped; whole = joined_values; items_are = v.taken } in
-      let run : IsRun extent set front more vw.taken = record { latch = w; is_latch = is_latch; pairs = p.pieces; each = pairs_right; end = end; ended = ended; whole = refl; values = values } in
+      let run : IsRun extent set prefix more vw.taken = record { latch = w; is_latch = is_latch; pairs = p.pieces; each = pairs_right; end = end; ended = ended; whole = refl; values = values } in
       record { right = rw (c.0, c.1) run; some = omega (arith, len); within = c.2 }
 
   -- However the pairs end without a bad one, the run that is found is a run.
@@ -190,13 +190,13 @@ module _ (extent : Extent) (set : CodeSet) (place w : ℕ) (is_latch : codeword_
       }
 
 -- A run that is found is a run, and a faulty one is faulty.
-pub run_judged : (extent : Extent) (set : CodeSet) (place w : ℕ) (words : List ℕ) → codeword_of w ≡ Some (codeword.Latch set) → IsBytes words → RunJudged extent set place (w ∷ words) (run_front extent set place words)
-unfolding run_front
+pub run_judged : (extent : Extent) (set : CodeSet) (place w : ℕ) (words : List ℕ) → codeword_of w ≡ Some (codeword.Latch set) → IsBytes words → RunJudged extent set place (w ∷ words) (run_behind extent set place words)
+unfolding run_behind
 run_judged extent set place w words is_latch fit =
     judged_by extent set place w is_latch words (pairs_in words)
-    (walks pair_front PairRight IsBytes stop.SymbolEnd pair_sound (suc (length words)) 0 words (omega arith) fit)
+    (walks first_pair PairRight IsBytes stop.SymbolEnd pair_sound (suc (length words)) 0 words (omega arith) fit)
     (items_in set (flat (pairs_in words).taken))
-    (walks (spelling_front set) (ItemRight set) Anything left.Complete (item_sound set) (suc (length (flat (pairs_in words).taken))) 0 (flat (pairs_in words).taken) (omega arith) tt)
+    (walks (first_spelling set) (ItemRight set) Anything left.Complete (item_sound set) (suc (length (flat (pairs_in words).taken))) 0 (flat (pairs_in words).taken) (omega arith) tt)
     (run_fault extent place (pairs_in words).place (pairs_in words).why (items_in set (flat (pairs_in words).taken)).place (items_in set (flat (pairs_in words).taken)).why) refl
 
 -- ---- what is right is found
@@ -204,25 +204,25 @@ run_judged extent set place w words is_latch fit =
 -- The pairs and the spellings that stand behind a latch are found there.
 run_again : (extent : Extent) (set : CodeSet) (place : ℕ) (pairs : List (Piece (List ℕ))) (others : List ℕ) (t : PairsEnd) (spellings : List (Piece Item)) (rest : List ℕ) (kind : Rest)
     → AllByRecursion (λ p. IsPair p.words p.what) pairs → IsStop others t → AllByRecursion (λ p. IsSpelling set p.words p.what) spellings → IsRestOf set rest kind → gathered pairs ≡ spelled spellings ++ rest
-    → run_front extent set place (spelled pairs ++ others) ≡ run_unless (run_fault extent place (length (spelled pairs)) t (length (spelled spellings)) kind) (1 + length (spelled pairs) + end_length t) (whats spellings)
-unfolding run_front
+    → run_behind extent set place (spelled pairs ++ others) ≡ run_unless (run_fault extent place (length (spelled pairs)) t (length (spelled spellings)) kind) (1 + length (spelled pairs) + end_length t) (whats spellings)
+unfolding run_behind
 run_again extent set place pairs others t spellings rest kind each stop_right each_spelling rest_right whole =
     let p : pairs_in (spelled pairs ++ others) ≡ record { taken = whats pairs; place = length (spelled pairs); why = t } =
-    walk-joined pair_front PairRight IsBytes stop.SymbolEnd pair_complete (suc (length (spelled pairs ++ others))) 0 pairs others t (joined_right IsPair 0 pairs others each)
+    walk-joined first_pair PairRight IsBytes stop.SymbolEnd pair_complete (suc (length (spelled pairs ++ others))) 0 pairs others t (joined_right IsPair 0 pairs others each)
     (stop_complete (0 + length (spelled pairs)) others t stop_right) (omega arith) ∙ ap (λ (k : ℕ). record { taken = whats pairs; place = k; why = t }) (zero-add (length (spelled pairs))) in
     let v : items_in set (spelled spellings ++ rest) ≡ record { taken = whats spellings; place = length (spelled spellings); why = kind } =
-    walk-joined (spelling_front set) (ItemRight set) Anything left.Complete (item_complete set) (suc (length (spelled spellings ++ rest))) 0 spellings rest kind (joined_right (IsSpelling set) 0 spellings rest each_spelling)
+    walk-joined (first_spelling set) (ItemRight set) Anything left.Complete (item_complete set) (suc (length (spelled spellings ++ rest))) 0 spellings rest kind (joined_right (IsSpelling set) 0 spellings rest each_spelling)
     (rest_complete set (0 + length (spelled spellings)) rest kind rest_right) (omega arith) ∙ ap (λ (k : ℕ). record { taken = whats spellings; place = k; why = kind }) (zero-add (length (spelled spellings))) in
     let values : flat (whats pairs) ≡ spelled spellings ++ rest = flat-whats pairs ∙ whole in
     rw (p, values, v) refl
 
--- The words begin with the latch of a run, and this answer is found behind it.
-pub record RunFound (extent : Extent) (set : CodeSet) (place : ℕ) (words : List ℕ) (answer : Step (List Item) (Option WordFault)) : Type 0 where
+-- The words begin with the latch of a run, and this is found behind it.
+pub record RunFound (extent : Extent) (set : CodeSet) (place : ℕ) (words : List ℕ) (step : Step (List Item) (Option WordFault)) : Type 0 where
   pub latch : ℕ
   pub others : List ℕ
   pub whole : words ≡ latch ∷ others
   pub is_latch : codeword_of latch ≡ Some (codeword.Latch set)
-  pub found : run_front extent set place others ≡ answer
+  pub found : run_behind extent set place others ≡ step
 
 -- The pairs stop at the end of a run, and not before a bad pair.
 end_found : (end after : List ℕ) → IsRunEnd end after → (t : PairsEnd) × IsStop (end ++ after) t × (end_length t ≡ length end) × (t ≢ stop.BadPair)
@@ -244,7 +244,7 @@ dropped_found extent set place n values rest stop.Unlatch (waiting is w) ne = re
 dropped_found extent set place n values rest stop.SymbolEnd (waiting is w) ne = record { kind = left.Waiting; left_so = w; no_fault_there = rw is refl }
 dropped_found extent set place n values rest stop.BadPair d ne = absurd (ne refl)
 
--- A run that stands at the front is found.
+-- A run that is a prefix is found.
 pub run_complete : (extent : Extent) (set : CodeSet) (place : ℕ) (words after : List ℕ) (items : List Item) → IsRun extent set words after items → RunFound extent set place (words ++ after) (Takes (length words) items) × (0 < length words)
 run_complete extent set place words after items r =
     let t = end_found r.end after r.ended in
@@ -291,7 +291,7 @@ fault_found extent set place values rest n words f (unfinished usual r e is) =
     let t = end_found e.end e.after e.ended in
     record { end = t.0; kind = left.Waiting; stops = rw e.whole t.1; left_so = r; found = fault_unfinished extent place n values t.0 usual t.3 ∙ ap Some (sym is) }
 
--- A faulty run that stands at the front is found.
+-- A faulty run that is a prefix is found.
 pub fault_complete : (extent : Extent) (set : CodeSet) (place : ℕ) (words : List ℕ) (f : WordFault) → IsFaultyRun extent set place words f → RunFound extent set place words (Stops (Some f))
 fault_complete extent set place words f r =
     let g = fault_found extent set place (length (spelled r.spellings)) r.rest (length (spelled r.pairs)) r.others f r.is_fault in

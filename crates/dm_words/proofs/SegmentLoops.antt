@@ -8,7 +8,7 @@ use Rattle.dm_words.specs.declared.fault.WordFault.{WordFault}
 use Rattle.dm_words.specs.declared.fault.WordFault.TheVariants as fault
 use Rattle.dm_words.specs.Base256.{byte_items, long_count, IsLengthField, short, long, missing, past_short, no_second, wrong_second, past_long}
 use Rattle.dm_words.specs.inner.Scan.Walk.{Step, Takes, Stops}
-use Rattle.dm_words.specs.inner.Scan.Fronts.{plain_at, plain, segment_front}
+use Rattle.dm_words.specs.inner.Scan.Prefixes.{plain_at, plain, segment_behind}
 use Rattle.dm_words.proofs.Segments.{segment_again, bad_again}
 
 -- The items of two lists of bytes, joined, are those of each, joined.
@@ -46,12 +46,12 @@ plain_first words place k d lt is =
     ap (plain place) cut ∙ ap (λ (v : ℕ). v ∷ plain (place + 1) (drop (k + 1) words)) (sym is)
 
 -- A length field and as many bytes as it says are taken.
-pub segment_takes : (place : ℕ) (field values : List ℕ) (n : ℕ) → n ≤ length values → ((after : List ℕ) → IsLengthField field n after) → segment_front place (field ++ values) ≡ Takes (1 + length field + n) (byte_items (take n values))
+pub segment_takes : (place : ℕ) (field values : List ℕ) (n : ℕ) → n ≤ length values → ((after : List ℕ) → IsLengthField field n after) → segment_behind place (field ++ values) ≡ Takes (1 + length field + n) (byte_items (take n values))
 segment_takes place field values n le counted =
     let len : length (take n values) ≡ n = omega (arith, length-take n values) in
     let regrouped : (field ++ take n values) ++ drop n values ≡ field ++ values = append_assoc field (take n values) (drop n values) ∙ ap (λ (r : List ℕ). field ++ r) (take-append-drop n values) in
     let again = segment_again place field (take n values) (drop n values) (subst (λ (k : ℕ). IsLengthField field k (drop n values)) (sym len) (counted (drop n values))) in
-    ap (segment_front place) (sym regrouped) ∙ again ∙ ap (λ (k : ℕ). Takes (1 + length field + k) (byte_items (take n values))) len
+    ap (segment_behind place) (sym regrouped) ∙ again ∙ ap (λ (k : ℕ). Takes (1 + length field + k) (byte_items (take n values))) len
 
 -- Equal numbers make equal pairs.
 pair_path : {a b x y : ℕ} → a ≡ x → b ≡ y → (let p : ℕ × ℕ = (a, b) in p) ≡ (x, y)
@@ -60,13 +60,13 @@ pair_path e f = cc
 -- ---- the exits of the function that reads a segment whose latch stands at an index
 
 module _ (words : List ℕ) (at : ℕ) where
-  -- This answer is found behind the latch.
-  abbrev pub Answers : Step (List Item) (Option WordFault) → Type 0
-  Answers answer = segment_front (at + 1) (plain (at + 2) (drop (at + 1) words)) ≡ answer
+  -- This is found behind the latch.
+  abbrev pub Finds : Step (List Item) (Option WordFault) → Type 0
+  Finds step = segment_behind (at + 1) (plain (at + 2) (drop (at + 1) words)) ≡ step
 
   -- The length is bad.
   abbrev Bad : Type 0
-  Bad = Answers (Stops (Some (fault.Length (at + 1))))
+  Bad = Finds (Stops (Some (fault.Length (at + 1))))
 
   -- The length is bad where no codeword follows the latch.
   pub nothing_left : length words - at - 1 ≡ 0 → Bad
@@ -88,8 +88,8 @@ module _ (words : List ℕ) (at : ℕ) where
     length-others = length-plain (at + 2 + 1) (drop (at + 2) words) ∙ omega (arith, length-drop (at + 2) words)
 
     -- A first length number of 0 takes all bytes up to the end of the symbol.
-    pub to_the_end_found : d ≡ 0 → Answers (Takes (length words - at - 1 + 1) (byte_items (take (length words - at - 1 - 1) others)))
-    unfolding segment_front
+    pub to_the_end_found : d ≡ 0 → Finds (Takes (length words - at - 1 + 1) (byte_items (take (length words - at - 1 - 1) others)))
+    unfolding segment_behind
     to_the_end_found zero_d =
         let all : take (length words - at - 1 - 1) others ≡ others = take_all _ others (omega (arith, length-others)) in
         let n : 2 + length others ≡ length words - at - 1 + 1 = omega (arith, length-others) in
@@ -100,7 +100,7 @@ module _ (words : List ℕ) (at : ℕ) where
     past_short_found le past = rw values_are (bad_again (at + 1) (d ∷ others) (past_short d others le refl (omega (arith, length-others))))
 
     -- A first length number of 1 to 249 takes as many bytes as it says.
-    pub short_found : 0 < d → d ≤ 249 → d ≤ length words - at - 1 - 1 → Answers (Takes (d + 2) (byte_items (take d others)))
+    pub short_found : 0 < d → d ≤ 249 → d ≤ length words - at - 1 - 1 → Finds (Takes (d + 2) (byte_items (take d others)))
     short_found pos le within =
         let found = segment_takes (at + 1) (d ∷ []) others d (omega (arith, length-others)) (λ after. short d pos le refl refl) in
         rw values_are (found ∙ ap (λ (k : ℕ). Takes k (byte_items (take d others))) (omega arith))
@@ -133,7 +133,7 @@ module _ (words : List ℕ) (at : ℕ) where
       past_long_found le past = rw (values_are, others_are) (bad_again (at + 1) (d ∷ f ∷ more) (past_long d f more big le refl (omega (arith, length-more))))
 
       -- Two length numbers take as many bytes as they say.
-      pub long_found : f ≤ 249 → long_count d f ≤ length words - at - 1 - 2 → Answers (Takes (long_count d f + 3) (byte_items (take (long_count d f) more)))
+      pub long_found : f ≤ 249 → long_count d f ≤ length words - at - 1 - 2 → Finds (Takes (long_count d f + 3) (byte_items (take (long_count d f) more)))
       long_found le within =
           let found = segment_takes (at + 1) (d ∷ f ∷ []) more (long_count d f) (omega (arith, length-more)) (λ after. long d f big (omega (arith, is)) le refl refl) in
           rw (values_are, others_are) (found ∙ ap (λ (k : ℕ). Takes k (byte_items (take (long_count d f) more))) (omega arith))

@@ -10,9 +10,9 @@ use Rattle.dm_words.specs.declared.fault.WordFault.TheVariants as fault
 use Rattle.dm_words.specs.Codewords.{codeword_of}
 use Rattle.dm_words.specs.Base256.{random_at, written, AreBytes, byte_items, long_count, IsLengthField, to_the_end, short, long, IsSegment, IsBadLength, missing, past_short, no_second, wrong_second, past_long, IsFaultySegment}
 use Rattle.dm_words.specs.inner.Scan.Walk.{Step, Takes, Stops}
-use Rattle.dm_words.specs.inner.Scan.Fronts.{plain, segment_by, long_segment, segment_front}
+use Rattle.dm_words.specs.inner.Scan.Prefixes.{plain, segment_by, long_segment, segment_behind}
 use Rattle.dm_words.proofs.Pairs.{IsBytes}
-use Rattle.dm_words.proofs.Runs.{cut_behind_front}
+use Rattle.dm_words.proofs.Runs.{cut_behind_prefix}
 
 -- ---- written values and plain ones
 
@@ -91,11 +91,11 @@ module _ (place w : ℕ) (is_latch : codeword_of w ≡ Some codeword.Base256) (w
   taken : (field bytes more : List ℕ) (n : ℕ) → words ≡ written (place + 1) ((field ++ bytes) ++ more) → AreBytes bytes
       → IsLengthField field (length bytes) (written (place + 1 + length (field ++ bytes)) more) → n ≡ 1 + length field + length bytes → SegmentTakes place (w ∷ words) n (byte_items bytes)
   taken field bytes more n e fit counted len =
-      let front : List ℕ = w ∷ written (place + 1) (field ++ bytes) in
+      let prefix : List ℕ = w ∷ written (place + 1) (field ++ bytes) in
       let back : List ℕ = written (place + 1 + length (field ++ bytes)) more in
-      let whole : w ∷ words ≡ front ++ back = ap (λ (r : List ℕ). w ∷ r) (e ∙ written-append (place + 1) (field ++ bytes) more) in
-      let c = cut_behind_front (w ∷ words) front back n whole (omega (arith, len, length-written (place + 1) (field ++ bytes), length-append field bytes)) in
-      let right : IsSegment place front back (byte_items bytes) = record { latch = w; is_latch = is_latch; field = field; bytes = bytes; whole = refl; in_range = fit; counted = counted; items_are = refl } in
+      let whole : w ∷ words ≡ prefix ++ back = ap (λ (r : List ℕ). w ∷ r) (e ∙ written-append (place + 1) (field ++ bytes) more) in
+      let c = cut_behind_prefix (w ∷ words) prefix back n whole (omega (arith, len, length-written (place + 1) (field ++ bytes), length-append field bytes)) in
+      let right : IsSegment place prefix back (byte_items bytes) = record { latch = w; is_latch = is_latch; field = field; bytes = bytes; whole = refl; in_range = fit; counted = counted; items_are = refl } in
       record { right = rw (c.0, c.1) right; some = omega (arith, len); within = c.2 }
 
   -- With a bad length, the segment is faulty.
@@ -140,20 +140,20 @@ module _ (place w : ℕ) (is_latch : codeword_of w ≡ Some codeword.Base256) (w
       by_count (d ∷ []) values d _ eq (fit.0, tt) fit.1 refl (λ lt. past_short d values le refl lt) (λ count after is. short d pos le refl is)
 
   -- What is found by the values behind the latch is right.
-  by_values : (values : List ℕ) → words ≡ written (place + 1) values → AreBytes values → SegmentJudged place (w ∷ words) (segment_front place values)
-  unfolding segment_front
+  by_values : (values : List ℕ) → words ≡ written (place + 1) values → AreBytes values → SegmentJudged place (w ∷ words) (segment_behind place values)
+  unfolding segment_behind
   by_values [] eq fit = faulty [] eq fit (missing refl)
   by_values (d ∷ values) eq fit = by_first d values _ _ eq fit refl refl
 
 -- A segment that is found is a segment, and a bad length is bad.
-pub segment_judged : (place w : ℕ) (words : List ℕ) → codeword_of w ≡ Some codeword.Base256 → IsBytes words → SegmentJudged place (w ∷ words) (segment_front place (plain (place + 1) words))
+pub segment_judged : (place w : ℕ) (words : List ℕ) → codeword_of w ≡ Some codeword.Base256 → IsBytes words → SegmentJudged place (w ∷ words) (segment_behind place (plain (place + 1) words))
 segment_judged place w words is_latch fit = by_values place w is_latch words (plain (place + 1) words) (sym (written-plain (place + 1) words fit)) (plain_small (place + 1) words)
 
 -- ---- what is right is found
 
 -- A field and its bytes are found.
-pub segment_again : (place : ℕ) (field bytes more : List ℕ) → IsLengthField field (length bytes) more → segment_front place ((field ++ bytes) ++ more) ≡ Takes (1 + length field + length bytes) (byte_items bytes)
-unfolding segment_front
+pub segment_again : (place : ℕ) (field bytes more : List ℕ) → IsLengthField field (length bytes) more → segment_behind place ((field ++ bytes) ++ more) ≡ Takes (1 + length field + length bytes) (byte_items bytes)
+unfolding segment_behind
 segment_again place field bytes more (to_the_end f m) = rw (f, m, append-nil bytes) refl
 segment_again place field bytes more (short d pos le f len) =
     let a : eqb d 0 ≡ false = grind (arith, nat_tests) in
@@ -168,8 +168,8 @@ segment_again place field bytes more (long d e big small le f len) =
     rw (f, len, a, b, b2, c, take_at bytes more (long_count d e) len) refl
 
 -- A bad length is found.
-pub bad_again : (place : ℕ) (values : List ℕ) → IsBadLength values → segment_front place values ≡ Stops (Some (fault.Length place))
-unfolding segment_front
+pub bad_again : (place : ℕ) (values : List ℕ) → IsBadLength values → segment_behind place values ≡ Stops (Some (fault.Length place))
+unfolding segment_behind
 bad_again place values (missing e) = rw e refl
 bad_again place values (past_short d more le e lt) =
     let a : eqb d 0 ≡ false = (let pos : 0 < d = omega arith in grind (arith, nat_tests)) in
@@ -192,13 +192,13 @@ bad_again place values (past_long d f more big le e lt) =
     let g : ltb (length more) (long_count d f) ≡ true = grind (arith, nat_tests) in
     rw (e, a, b, c, g) refl
 
--- The words begin with the latch of a segment, and this answer is found behind it.
-pub record SegmentFound (place : ℕ) (words : List ℕ) (answer : Step (List Item) (Option WordFault)) : Type 0 where
+-- The words begin with the latch of a segment, and this is found behind it.
+pub record SegmentFound (place : ℕ) (words : List ℕ) (step : Step (List Item) (Option WordFault)) : Type 0 where
   pub latch : ℕ
   pub others : List ℕ
   pub whole : words ≡ latch ∷ others
   pub is_latch : codeword_of latch ≡ Some codeword.Base256
-  pub found : segment_front place (plain (place + 1) others) ≡ answer
+  pub found : segment_behind place (plain (place + 1) others) ≡ step
 
 -- Words that are written for values, and further words, stand for these values and for those of the further words.
 plain-append : (place : ℕ) (vs ws : List ℕ) → AreBytes vs → plain place (written place vs ++ ws) ≡ vs ++ plain (place + length vs) ws
@@ -220,7 +220,7 @@ field_before place field count after (to_the_end f m) = to_the_end f (rw m refl)
 field_before place field count after (short d pos le f len) = short d pos le f len
 field_before place field count after (long d e big small le f len) = long d e big small le f len
 
--- A segment that stands at the front is found.
+-- A segment that is a prefix is found.
 pub segment_complete : (place : ℕ) (words after : List ℕ) (items : List Item) → IsSegment place words after items → SegmentFound place (words ++ after) (Takes (length words) items) × (0 < length words)
 segment_complete place words after items s =
     let q = place + 1 + length (s.field ++ s.bytes) in
@@ -232,19 +232,19 @@ segment_complete place words after items s =
         others = written (place + 1) (s.field ++ s.bytes) ++ after;
         whole = ap (λ (x : List ℕ). x ++ after) s.whole;
         is_latch = s.is_latch;
-        found = ap (segment_front place) (plain-append (place + 1) (s.field ++ s.bytes) after fit) ∙ again ∙ rw (len, s.items_are) refl;
+        found = ap (segment_behind place) (plain-append (place + 1) (s.field ++ s.bytes) after fit) ∙ again ∙ rw (len, s.items_are) refl;
       },
       omega (arith, len),
     )
 
--- A bad length that stands at the front is found.
+-- A bad length that is a prefix is found.
 pub bad_complete : (place : ℕ) (words : List ℕ) → IsFaultySegment place words → SegmentFound place words (Stops (Some (fault.Length place)))
 bad_complete place words s = record {
   latch = s.latch;
   others = written (place + 1) s.values;
   whole = s.whole;
   is_latch = s.is_latch;
-  found = ap (segment_front place) (plain-written (place + 1) s.values s.in_range) ∙ bad_again place s.values s.is_bad;
+  found = ap (segment_behind place) (plain-written (place + 1) s.values s.in_range) ∙ bad_again place s.values s.is_bad;
 }
 
 -- There is one item for each byte.

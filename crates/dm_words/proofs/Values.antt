@@ -19,7 +19,7 @@ use Rattle.dm_words.specs.CodeSets.{basic_of, shifted_of}
 use Rattle.dm_words.specs.Values.{IsShifted, IsUpperShift, IsCharacter, plain, by_shift, IsSpelling, character, fnc1, raised, IsFiller, nothing, lone_shift, IsWaiting, BeginsWithoutMeaning, at_once, after_upper_shift, BeginsWrongUpperShift, IsRest, complete, waiting, meaningless, wrong_upper_shift}
 use Rattle.dm_words.specs.Laws.{AreRunValues, BeginsNoSpelling}
 use Rattle.dm_words.specs.inner.Scan.Walk.{Step, Takes, Stops}
-use Rattle.dm_words.specs.inner.Scan.Fronts.{raised_shifted, raised_by, raised_front, shifted_by, spelling_by, spelling_front}
+use Rattle.dm_words.specs.inner.Scan.Prefixes.{raised_shifted, raised_by, first_raised, shifted_by, spelling_by, first_spelling}
 use Rattle.dm_words.proofs.Walks.{IsSound, IsComplete}
 
 -- A spelling is right wherever it stands.
@@ -91,35 +91,35 @@ judged_spelling set s [] (Some (basic.Shift shift)) es = λ fit. lone_shift s sh
 judged_spelling set s (v ∷ more) (Some (basic.Shift shift)) es = judged_shifted set s v shift more (shifted_of set shift v) es refl
 
 -- Whatever is found is right.
-judged : (set : CodeSet) (place : ℕ) (values : List ℕ) → Judged set values (spelling_front set place values)
+judged : (set : CodeSet) (place : ℕ) (values : List ℕ) → Judged set values (first_spelling set place values)
 judged set place [] = λ fit. nothing refl
 judged set place (s ∷ more) = judged_spelling set s more (basic_of set s) refl
 
 -- A spelling that is found is one.
-pub item_sound : (set : CodeSet) → IsSound (spelling_front set) (ItemRight set) Anything
+pub item_sound : (set : CodeSet) → IsSound (first_spelling set) (ItemRight set) Anything
 item_sound set = record {
   right = λ place values n item fit e. let P : Step Item Rest → Type 0 = λ s. Judged set values s in subst P e (judged set place values);
   fits = λ n values fit. tt;
 }
 
 -- A rest that is found is of its kind.
-pub rest_sound : (set : CodeSet) (place : ℕ) (values : List ℕ) (kind : Rest) → AreSmall values → spelling_front set place values ≡ Stops kind → IsRestOf set values kind
+pub rest_sound : (set : CodeSet) (place : ℕ) (values : List ℕ) (kind : Rest) → AreSmall values → first_spelling set place values ≡ Stops kind → IsRestOf set values kind
 rest_sound set place values kind fit e = (let P : Step Item Rest → Type 0 = λ s. Judged set values s in subst P e (judged set place values)) fit
 
 -- ---- the other way
 
 -- A character behind an Upper Shift is found.
-raised_character : (set : CodeSet) (values after : List ℕ) (b : ℕ) → IsCharacter set values b → (raised_front set (values ++ after) ≡ Takes (2 + length values) (Byte (b + 128))) × (0 < length values)
+raised_character : (set : CodeSet) (values after : List ℕ) (b : ℕ) → IsCharacter set values b → (first_raised set (values ++ after) ≡ Takes (2 + length values) (Byte (b + 128))) × (0 < length values)
 raised_character set values after b (plain v e w) = rw w ((rw e refl), omega arith)
 raised_character set values after b (by_shift s) = rw s.whole ((rw (s.is_shift, s.means) refl), omega arith)
 
--- A character at the front is found.
-one_character : (set : CodeSet) (place : ℕ) (values after : List ℕ) (b : ℕ) → IsCharacter set values b → (spelling_front set place (values ++ after) ≡ Takes (length values) (Byte b)) × (0 < length values)
+-- A character that is a prefix is found.
+one_character : (set : CodeSet) (place : ℕ) (values after : List ℕ) (b : ℕ) → IsCharacter set values b → (first_spelling set place (values ++ after) ≡ Takes (length values) (Byte b)) × (0 < length values)
 one_character set place values after b (plain v e w) = rw w ((rw e refl), omega arith)
 one_character set place values after b (by_shift s) = rw s.whole ((rw (s.is_shift, s.means) refl), omega arith)
 
--- A spelling at the front is found.
-pub item_complete : (set : CodeSet) → IsComplete (spelling_front set) (ItemRight set)
+-- A spelling that is a prefix is found.
+pub item_complete : (set : CodeSet) → IsComplete (first_spelling set) (ItemRight set)
 item_complete set place values after item (character b c i) = rw i (one_character set place values after b c)
 item_complete set place values after item (fnc1 s i) = rw (s.whole, i) ((rw (s.is_shift, s.means) refl), omega arith)
 item_complete set place values after item (raised upper more b u c w i) =
@@ -127,18 +127,18 @@ item_complete set place values after item (raised upper more b u c w i) =
     rw (w, u.whole, i) ((rw (u.is_shift, u.means, r.0) (ap (λ (n : ℕ). Takes n (Byte (b + 128))) (omega arith))), omega arith)
 
 -- An Upper Shift that waits is found.
-waiting_complete : (set : CodeSet) (place : ℕ) (values upper filler : List ℕ) → IsUpperShift set upper → IsFiller set filler → values ≡ upper ++ filler → spelling_front set place values ≡ Stops left.Waiting
+waiting_complete : (set : CodeSet) (place : ℕ) (values upper filler : List ℕ) → IsUpperShift set upper → IsFiller set filler → values ≡ upper ++ filler → first_spelling set place values ≡ Stops left.Waiting
 waiting_complete set place values upper filler u (nothing e) w = rw (w, u.whole, e) (rw (u.is_shift, u.means) refl)
 waiting_complete set place values upper filler u (lone_shift v shift e is) w = rw (w, u.whole, is) (rw (u.is_shift, u.means, e) refl)
 
 -- An Upper Shift before something that is not a character is found.
 wrong_complete : (set : CodeSet) (place : ℕ) (values upper pair more : List ℕ) → IsUpperShift set upper → IsShifted set pair (Some shifted.Fnc1) ⊎ IsUpperShift set pair → values ≡ upper ++ (pair ++ more)
-    → spelling_front set place values ≡ Stops left.WrongUpperShift
+    → first_spelling set place values ≡ Stops left.WrongUpperShift
 wrong_complete set place values upper pair more u (inl t) w = rw (w, u.whole, t.whole) (rw (u.is_shift, u.means, t.is_shift, t.means) refl)
 wrong_complete set place values upper pair more u (inr t) w = rw (w, u.whole, t.whole) (rw (u.is_shift, u.means, t.is_shift, t.means) refl)
 
 -- A rest of each kind is found.
-pub rest_complete : (set : CodeSet) (place : ℕ) (values : List ℕ) (kind : Rest) → IsRestOf set values kind → spelling_front set place values ≡ Stops kind
+pub rest_complete : (set : CodeSet) (place : ℕ) (values : List ℕ) (kind : Rest) → IsRestOf set values kind → first_spelling set place values ≡ Stops kind
 rest_complete set place values left.Complete (nothing w) = rw w refl
 rest_complete set place values left.Complete (lone_shift v shift e w) = rw w (rw e refl)
 rest_complete set place values left.Waiting r = waiting_complete set place values r.upper r.filler r.is_upper r.ended r.whole
@@ -146,7 +146,7 @@ rest_complete set place values left.WrongUpperShift r = wrong_complete set place
 rest_complete set place values (left.Meaningless index) (at_once pair more s w i) = rw (w, s.whole, i) (rw (s.is_shift, s.means) refl)
 rest_complete set place values (left.Meaningless index) (after_upper_shift upper pair more u s w i) = rw (w, u.whole, s.whole, i) (rw (u.is_shift, u.means, s.is_shift, s.means) refl)
 
--- ---- what can stand behind the last whole spelling has no whole spelling at its front
+-- ---- what can stand behind the last whole spelling has no whole spelling as a prefix
 
 -- A rest has a kind.
 kind_of : (set : CodeSet) (values : List ℕ) → IsRest set values → (kind : Rest) × IsRestOf set values kind
@@ -162,20 +162,20 @@ rest_of set values left.Waiting r = waiting r
 rest_of set values left.WrongUpperShift r = wrong_upper_shift r
 rest_of set values (left.Meaningless index) r = meaningless index r
 
--- No whole spelling stands at the front of a rest.
+-- No whole spelling is a prefix of a rest.
 pub rest_begins_no_spelling : (set : CodeSet) (values : List ℕ) → IsRest set values → BeginsNoSpelling set values
-rest_begins_no_spelling set values r front more item e s =
+rest_begins_no_spelling set values r prefix more item e s =
     let k = kind_of set values r in
     let stops = rest_complete set 0 values k.0 k.1 in
-    let takes = (item_complete set 0 front more item s).0 in
-    let both : Stops k.0 ≡ Takes (length front) item = sym stops ∙ ap (spelling_front set 0) e ∙ takes in
+    let takes = (item_complete set 0 prefix more item s).0 in
+    let both : Stops k.0 ≡ Takes (length prefix) item = sym stops ∙ ap (first_spelling set 0) e ∙ takes in
     cc
 
--- Whatever is found at the front, values with no whole spelling there are a rest.
-no_spelling_by : (set : CodeSet) (values : List ℕ) (s : Step Item Rest) → spelling_front set 0 values ≡ s → AreSmall values → BeginsNoSpelling set values → IsRest set values
+-- Whatever is found first, values with no whole spelling there are a rest.
+no_spelling_by : (set : CodeSet) (values : List ℕ) (s : Step Item Rest) → first_spelling set 0 values ≡ s → AreSmall values → BeginsNoSpelling set values → IsRest set values
 no_spelling_by set values (Takes n item) e fit none = absurd (none (take n values) (drop n values) item (sym (take-append-drop n values)) ((item_sound set).right 0 values n item tt e).0)
 no_spelling_by set values (Stops kind) e fit none = rest_of set values kind (rest_sound set 0 values kind fit e)
 
--- Values with no whole spelling at their front are a rest.
+-- Values with no whole spelling as a prefix are a rest.
 pub no_spelling_is_rest : (set : CodeSet) (values : List ℕ) → AreRunValues values → BeginsNoSpelling set values → IsRest set values
-no_spelling_is_rest set values fit none = no_spelling_by set values (spelling_front set 0 values) refl (recursion_from_All (λ v. v < 40) values fit) none
+no_spelling_is_rest set values fit none = no_spelling_by set values (first_spelling set 0 values) refl (recursion_from_All (λ v. v < 40) values fit) none

@@ -5,7 +5,7 @@ use Rattle.dm_words.specs.Joined.{Piece, spelled, whats, AreJoined}
 use Rattle.dm_words.specs.inner.Scan.Walk.{Step, Takes, Stops, Walked, and_before, by_step, walk, walk_all}
 
 module _ {A S : Type 0} where
-  -- A walk took these pieces and stopped in front of these words.
+  -- A walk took these pieces and stopped before these words.
   pub record Walks (step : ℕ → List ℕ → Step A S) (IsRight : ℕ → List ℕ → List ℕ → A → Type 0) (Fit : List ℕ → Type 0)
       (place : ℕ) (words : List ℕ) (w : Walked A S) : Type 0 where
     pub pieces : List (Piece A)
@@ -48,7 +48,7 @@ module _ {A S : Type 0} where
           fits = v.fits;
         }
 
-    -- Whatever stands at the front, a walk that is sound takes right pieces.
+    -- Whatever is found first, a walk that is sound takes right pieces.
     walks_by : (fuel place : ℕ) (words : List ℕ) (s : Step A S) → step place words ≡ s → length words < suc fuel → Fit words → IsSound step IsRight Fit
         → ((p : ℕ) (ws : List ℕ) → length ws < fuel → Fit ws → Walks step IsRight Fit p ws (walk step never fuel p ws))
         → Walks step IsRight Fit place words (by_step s (λ n a. and_before a (walk step never fuel (place + n) (drop n words))) (λ z. record { taken = []; place = place; why = z }))
@@ -84,7 +84,7 @@ module _ {A S : Type 0} where
         rw (grouped, c.0, drop_at p.words (spelled ps ++ after) (length p.words) refl, rest, there) refl
 
 module _ {A S : Type 0} (step : ℕ → List ℕ → Step A S) (IsRight : ℕ → List ℕ → List ℕ → A → Type 0) (Fit : List ℕ → Type 0) (never : S) where
-  -- Whatever stands at the front, more fuel changes nothing.
+  -- Whatever is found first, more fuel changes nothing.
   same_by : (f g place : ℕ) (words : List ℕ) (s : Step A S) → step place words ≡ s → length words < suc f → length words < suc g → Fit words → IsSound step IsRight Fit
       → ((place : ℕ) (words : List ℕ) → length words < f → length words < g → Fit words → walk step never f place words ≡ walk step never g place words)
       → by_step s (λ n a. and_before a (walk step never f (place + n) (drop n words))) (λ z. record { taken = []; place = place; why = z })

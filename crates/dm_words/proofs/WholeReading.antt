@@ -9,7 +9,7 @@ use Rattle.std.specs.Prelude.{OnOk, IfOk}
 use Rattle.dm_words.specs.Messages.{most_spelled}
 use Rattle.dm_words.specs.Joined.{spelled}
 use Rattle.dm_words.specs.Base256.{AreBytes}
-use Rattle.dm_words.specs.Laws.{HasOneAnswer}
+use Rattle.dm_words.specs.Laws.{HasOneResult}
 use Rattle.dm_words.specs.declared.codeword.Codeword.{Codeword}
 use Rattle.dm_words.specs.declared.codeword.Codeword.TheVariants as codeword
 use Rattle.dm_words.specs.Codewords.{codeword_of}
@@ -17,9 +17,9 @@ use Rattle.dm_words.specs.Macros.{macro_header, macro_trailer, macro_text}
 use Rattle.dm_words.specs.Spells.{IsPart, AreParts, plain, by_macro, Spells}
 use Rattle.dm_words.specs.Refused.{IsFault, HaveFault, BeginNoMacro, plain as plain_fault, by_macro as behind_macro, Refused}
 use Rattle.dm_words.specs.Outcomes.{outcome}
-use Rattle.dm_words.specs.Answers.{IsMessageAnswer}
+use Rattle.dm_words.specs.Results.{IsMessageResult}
 use Rattle.dm_words.specs.inner.Scan.Walk.{Stops, Walked, walk, flat}
-use Rattle.dm_words.specs.inner.Scan.Fronts.{part_by, part_front, read_to, read_on, digit_by, macro_digit, and_trailer, reading_by, reading}
+use Rattle.dm_words.specs.inner.Scan.Prefixes.{part_by, first_part, read_to, read_on, digit_by, macro_digit, and_trailer, reading_by, reading}
 use Rattle.dm_words.proofs.Walks.{Walks, walks, walk-joined}
 use Rattle.dm_words.proofs.Pairs.{IsBytes, IsBytes-drop}
 use Rattle.dm_words.proofs.Runs.{flat-whats}
@@ -31,11 +31,11 @@ use Rattle.dm_words.proofs.Parts.{part_sound, part_complete, fault_sound, fault_
 
 -- This walk goes over all parts from a place on.
 abbrev walked : Extent → ℕ → List ℕ → Walked (List Item) (Option WordFault)
-walked extent place words = walk (part_front extent) None (suc (length words)) place words
+walked extent place words = walk (first_part extent) None (suc (length words)) place words
 
 -- The walk takes parts, one after the other.
-the_walk : (extent : Extent) (place : ℕ) (words : List ℕ) → IsBytes words → Walks (part_front extent) (IsPart extent) IsBytes place words (walked extent place words)
-the_walk extent place words fit = walks (part_front extent) (IsPart extent) IsBytes None (part_sound extent) (suc (length words)) place words (omega arith) fit
+the_walk : (extent : Extent) (place : ℕ) (words : List ℕ) → IsBytes words → Walks (first_part extent) (IsPart extent) IsBytes place words (walked extent place words)
+the_walk extent place words fit = walks (first_part extent) (IsPart extent) IsBytes None (part_sound extent) (suc (length words)) place words (omega arith) fit
 
 -- Behind items that were read before, a message is these and the items of parts, and a fault is there.
 record Tells (extent : Extent) (so_far : List Item) (place : ℕ) (words : List ℕ) (r : Result (List Item) WordFault) : Type 0 where
@@ -44,7 +44,7 @@ record Tells (extent : Extent) (so_far : List Item) (place : ℕ) (words : List 
 
 -- A walk that came to the end gives items that are spelled; another one gives a fault that is there.
 walk_tells : (extent : Extent) (so_far : List Item) (place : ℕ) (words : List ℕ) (w : Walked (List Item) (Option WordFault)) (why : Option WordFault) → w.why ≡ why
-    → Walks (part_front extent) (IsPart extent) IsBytes place words w → Tells extent so_far place words (read_to (so_far ++ flat w.taken) why)
+    → Walks (first_part extent) (IsPart extent) IsBytes place words w → Tells extent so_far place words (read_to (so_far ++ flat w.taken) why)
 walk_tells extent so_far place words w None e v = record {
   items = λ m h. (
     flat w.taken,
@@ -80,14 +80,14 @@ read_tells extent so_far place words fit = walk_tells extent so_far place words 
 parts_read : (extent : Extent) (so_far : List Item) (place : ℕ) (words : List ℕ) (text : List Item) → AreParts extent place words text → read_on extent so_far place words ≡ Ok (so_far ++ text)
 unfolding read_on
 parts_read extent so_far place words text s =
-    let w = walk-joined (part_front extent) (IsPart extent) IsBytes None (part_complete extent) (suc (length (spelled s.parts ++ s.after))) place s.parts s.after None s.joined (end_complete extent (place + length (spelled s.parts)) s.after s.ended) (omega arith) in
+    let w = walk-joined (first_part extent) (IsPart extent) IsBytes None (part_complete extent) (suc (length (spelled s.parts ++ s.after))) place s.parts s.after None s.joined (end_complete extent (place + length (spelled s.parts)) s.after s.ended) (omega arith) in
     rw (s.whole, w, s.items_are, flat-whats s.parts) refl
 
 -- A fault that is there from a place on is found.
 fault_read : (extent : Extent) (so_far : List Item) (place : ℕ) (words : List ℕ) (f : WordFault) → HaveFault extent place words f → read_on extent so_far place words ≡ Err f
 unfolding read_on
 fault_read extent so_far place words f r =
-    let w = walk-joined (part_front extent) (IsPart extent) IsBytes None (part_complete extent) (suc (length (spelled r.parts ++ r.after))) place r.parts r.after (Some f) r.joined (fault_complete extent (place + length (spelled r.parts)) r.after f r.faulty) (omega arith) in
+    let w = walk-joined (first_part extent) (IsPart extent) IsBytes None (part_complete extent) (suc (length (spelled r.parts ++ r.after))) place r.parts r.after (Some f) r.joined (fault_complete extent (place + length (spelled r.parts)) r.after f r.faulty) (omega arith) in
     rw (r.whole, w) refl
 
 -- ---- macros
@@ -132,15 +132,15 @@ no_macro extent words none word digit more wide k e = (let some = macro_complete
 no_parts : (extent : Extent) (words : List ℕ) (digit : ℕ) (m : List Item) → macro_digit extent words ≡ Some digit → AreParts extent 1 words m → ⊥
 no_parts extent words digit m e s =
     let b = macro_sound extent words digit e in
-    let there : part_front extent 1 words ≡ Stops (Some (fault.LeftOut b.word 1)) = ap (part_front extent 1) b.whole ∙ ap (λ (k : Option Codeword). part_by extent 1 b.word b.more k) b.is_macro in
+    let there : first_part extent 1 words ≡ Stops (Some (fault.LeftOut b.word 1)) = ap (first_part extent 1) b.whole ∙ ap (λ (k : Option Codeword). part_by extent 1 b.word b.more k) b.is_macro in
     let stops = read_on-stops extent [] 1 words (Some (fault.LeftOut b.word 1)) there in
     let reads = parts_read extent [] 1 words m s in
     cc
 
 -- ---- the whole
 
--- A message that is read is spelled, and a fault that is found is one with which the codewords are refused.
-record Answers (extent : Extent) (words : List ℕ) (r : Result (List Item) WordFault) : Type 0 where
+-- A right reading: a message that is read is spelled, and a fault that is found is one with which the codewords are refused.
+record IsRightReading (extent : Extent) (words : List ℕ) (r : Result (List Item) WordFault) : Type 0 where
   message_is : (m : List Item) → r ≡ Ok m → Spells extent words m
   fault_is : (f : WordFault) → r ≡ Err f → Refused extent words f
 
@@ -155,7 +155,7 @@ trailer_fault (Ok n) f e = absurd cc
 trailer_fault (Err g) f e = (let same : g ≡ f = cc in ap Err same)
 
 -- What is read is right, with a macro or without one.
-reading_tells : (extent : Extent) (words : List ℕ) (digit : Option ℕ) → macro_digit extent words ≡ digit → IsBytes words → Answers extent words (reading_by extent words digit)
+reading_tells : (extent : Extent) (words : List ℕ) (digit : Option ℕ) → macro_digit extent words ≡ digit → IsBytes words → IsRightReading extent words (reading_by extent words digit)
 reading_tells extent words None e fit =
     let t = read_tells extent [] 1 words fit in
     record {
@@ -177,7 +177,7 @@ reading_tells extent words (Some digit) e fit =
     }
 
 -- What is read is right.
-reads : (extent : Extent) (words : List ℕ) → IsBytes words → Answers extent words (reading extent words)
+reads : (extent : Extent) (words : List ℕ) → IsBytes words → IsRightReading extent words (reading extent words)
 unfolding reading
 reads extent words fit = reading_tells extent words (macro_digit extent words) refl fit
 
@@ -211,16 +211,16 @@ refused_reads extent words f (behind_macro word digit more wide k whole h) =
     let read = fault_read extent (macro_header digit) 2 more f h in
     rw (found, rest, read) refl
 
--- Where a call answers what is read, and with no more items than can be spelled, this is the right answer.
-pub is_message_answer : (extent : Extent) (words : List ℕ) (answer : Result (List Item) WordFault) → IsBytes words → answer ≡ reading extent words
-    → IfOk answer (λ m. length m ≤ most_spelled extent (length words)) → IsMessageAnswer extent words answer
-is_message_answer extent words (Ok m) fit is few = record {
+-- Where a call gives what is read, and with no more items than can be spelled, this is the right result.
+pub is_message_result : (extent : Extent) (words : List ℕ) (result : Result (List Item) WordFault) → IsBytes words → result ≡ reading extent words
+    → IfOk result (λ m. length m ≤ most_spelled extent (length words)) → IsMessageResult extent words result
+is_message_result extent words (Ok m) fit is few = record {
   message = λ n. ((λ e. (reads extent words fit).message_is n (sym is ∙ e)), (λ s. is ∙ spelled_reads extent words n s));
   fault = λ why. ((λ e. (reads extent words fit).fault_is why (sym is ∙ e)), (λ f. is ∙ refused_reads extent words why f));
   most = few;
   bytes = spelled_is_message extent words m ((reads extent words fit).message_is m (sym is));
 }
-is_message_answer extent words (Err f) fit is few = record {
+is_message_result extent words (Err f) fit is few = record {
   message = λ n. ((λ e. (reads extent words fit).message_is n (sym is ∙ e)), (λ s. is ∙ spelled_reads extent words n s));
   fault = λ why. ((λ e. (reads extent words fit).fault_is why (sym is ∙ e)), (λ w. is ∙ refused_reads extent words why w));
   most = tt;
@@ -246,15 +246,15 @@ few_plain Wide count (Ok u) before m none few = omega (arith, ap length none, fe
 few_plain extent count (Err f) before m none few = tt
 
 -- Behind a macro, the message is read from the second codeword on and stands between the header and the trailer.
-pub reads_behind_macro : (extent : Extent) (words : List ℕ) (digit : ℕ) (answer : Result (List Item) WordFault) → macro_digit extent words ≡ Some digit
-    → answer ≡ and_trailer (read_on extent (macro_header digit) 2 (drop 1 words)) → answer ≡ reading extent words
+pub reads_behind_macro : (extent : Extent) (words : List ℕ) (digit : ℕ) (result : Result (List Item) WordFault) → macro_digit extent words ≡ Some digit
+    → result ≡ and_trailer (read_on extent (macro_header digit) 2 (drop 1 words)) → result ≡ reading extent words
 unfolding reading
-reads_behind_macro extent words digit answer e is = rw e is
+reads_behind_macro extent words digit result e is = rw e is
 
 -- Without a macro, the message is read from the first codeword on.
-pub reads_plain : (extent : Extent) (words : List ℕ) (answer : Result (List Item) WordFault) → macro_digit extent words ≡ None → answer ≡ read_on extent [] 1 words → answer ≡ reading extent words
+pub reads_plain : (extent : Extent) (words : List ℕ) (result : Result (List Item) WordFault) → macro_digit extent words ≡ None → result ≡ read_on extent [] 1 words → result ≡ reading extent words
 unfolding reading
-reads_plain extent words answer e is = rw e is
+reads_plain extent words result e is = rw e is
 
 -- Bytes by recursion are bytes by index.
 pub bytes_at : (words : List ℕ) → AreBytes words → IsBytes words
@@ -262,21 +262,21 @@ bytes_at [] fit i = omega arith
 bytes_at (w ∷ words) fit zero = fit.0
 bytes_at (w ∷ words) fit (suc i) = bytes_at words fit.1 i
 
--- Codewords have one answer, by what is read from them.
-answer_of : (extent : Extent) (words : List ℕ) (r : Result (List Item) WordFault) → reading extent words ≡ r → IsBytes words → HasOneAnswer extent words
-answer_of extent words (Ok m) e fit = inl (record {
+-- Codewords have one result, by what is read from them.
+result_of : (extent : Extent) (words : List ℕ) (r : Result (List Item) WordFault) → reading extent words ≡ r → IsBytes words → HasOneResult extent words
+result_of extent words (Ok m) e fit = inl (record {
   message = m;
   spells = (reads extent words fit).message_is m e;
   only = λ n s. (let h = spelled_reads extent words n s in cc);
   not_refused = λ f r. (let h = refused_reads extent words f r in cc);
 })
-answer_of extent words (Err f) e fit = inr (record {
+result_of extent words (Err f) e fit = inr (record {
   why = f;
   refused = (reads extent words fit).fault_is f e;
   only = λ g r. (let h = refused_reads extent words g r in cc);
   not_spelled = λ m s. (let h = spelled_reads extent words m s in cc);
 })
 
--- Codewords have one answer: a message or a fault.
-pub one_answer : (extent : Extent) (words : List ℕ) → AreBytes words → HasOneAnswer extent words
-one_answer extent words fit = answer_of extent words (reading extent words) refl (bytes_at words fit)
+-- Codewords have one result: a message or a fault.
+pub one_result : (extent : Extent) (words : List ℕ) → AreBytes words → HasOneResult extent words
+one_result extent words fit = result_of extent words (reading extent words) refl (bytes_at words fit)

@@ -4,7 +4,7 @@ use Rattle.std.specs.List.{AllByRecursion}
 use Rattle.dm_words.specs.declared.item.Item.{Item}
 use Rattle.dm_words.specs.declared.item.Item.TheVariants.{Byte, Fnc1}
 use Rattle.dm_words.specs.declared.codeword.Codeword.TheVariants as codeword
-use Rattle.dm_words.specs.Codewords.{codeword_of}
+use Rattle.dm_words.specs.Codewords.{codeword_of, first_digits, fnc1_word, upper_shift}
 use Rattle.dm_words.specs.Joined.{Piece, spelled, gathered}
 
 -- A unit of ASCII is a character, two digits, FNC1, or an Upper Shift and a character, whose byte it raises by 128.
@@ -46,16 +46,16 @@ pub record IsAscii (message : List Item) (words : List ℕ) : Type 0 where
 
 -- Two digits, given as bytes, have this codeword.
 abbrev pub digit_pair : ℕ → ℕ → ℕ
-digit_pair tens ones = 130 + (10 * (tens - 48) + (ones - 48))
+digit_pair tens ones = first_digits + (10 * (tens - 48) + (ones - 48))
 
 -- A byte of 0 to 255 has these codewords by itself.
 abbrev pub single : ℕ → List ℕ
-single byte = if nat_lt byte 128 then (byte + 1) ∷ [] else 235 ∷ (byte - 127) ∷ []
+single byte = if nat_lt byte 128 then (byte + 1) ∷ [] else upper_shift ∷ (byte - 127) ∷ []
 
--- The ASCII form is computed from the front of the message, whose bytes are 0 to 255: where two digits come first, they are taken together.
+-- The ASCII form is computed from the left, whose bytes are 0 to 255: where two digits come first, they are taken together.
 abbrev pub ascii : List Item → List ℕ
 ascii [] = []
-ascii (Fnc1 ∷ rest) = 232 ∷ ascii rest
+ascii (Fnc1 ∷ rest) = fnc1_word ∷ ascii rest
 ascii (Byte byte ∷ []) = single byte
 ascii (Byte byte ∷ Fnc1 ∷ rest) = single byte ++ ascii (Fnc1 ∷ rest)
 ascii (Byte byte ∷ Byte next ∷ rest) = if is_digit byte && is_digit next then digit_pair byte next ∷ ascii rest else single byte ++ ascii (Byte next ∷ rest)

@@ -28,16 +28,20 @@ abbrev pub byte_items : List ℕ → List Item
 byte_items [] = []
 byte_items (byte ∷ bytes) = Byte byte ∷ byte_items bytes
 
+-- A length field of one number says that there are up to this many bytes.
+abbrev pub most_short : ℕ
+most_short = 249
+
 -- A length field of two numbers says that there are this many bytes.
 abbrev pub long_count : ℕ → ℕ → ℕ
-long_count first second = 250 * (first - 249) + second
+long_count first second = (most_short + 1) * (first - most_short) + second
 
 -- A length field for `count` bytes is the one number 0, for all bytes up to the end of the symbol; or one number of 1 to 249, which is the count
 -- itself; or a first number of 250 to 255 and a second one of 0 to 249. `after` are the codewords after those bytes.
 pub data IsLengthField (field : List ℕ) (count : ℕ) (after : List ℕ) : Type 0 where
   to_the_end : field ≡ 0 ∷ [] → after ≡ [] → IsLengthField field count after
-  short : (first : ℕ) → 0 < first → first ≤ 249 → field ≡ first ∷ [] → count ≡ first → IsLengthField field count after
-  long : (first second : ℕ) → 249 < first → first < 256 → second ≤ 249 → field ≡ first ∷ second ∷ []
+  short : (first : ℕ) → 0 < first → first ≤ most_short → field ≡ first ∷ [] → count ≡ first → IsLengthField field count after
+  long : (first second : ℕ) → most_short < first → first < 256 → second ≤ most_short → field ≡ first ∷ second ∷ []
       → count ≡ long_count first second → IsLengthField field count after
 
 -- A segment is a latch, which stands at this place, a length field, and as many bytes as that says.
@@ -56,10 +60,10 @@ pub record IsSegment (place : ℕ) (words after : List ℕ) (items : List Item) 
 -- than the two say.
 pub data IsBadLength (values : List ℕ) : Type 0 where
   missing : values ≡ [] → IsBadLength values
-  past_short : (first : ℕ) (more : List ℕ) → first ≤ 249 → values ≡ first ∷ more → length more < first → IsBadLength values
-  no_second : (first : ℕ) → 249 < first → values ≡ first ∷ [] → IsBadLength values
-  wrong_second : (first second : ℕ) (more : List ℕ) → 249 < first → 249 < second → values ≡ first ∷ second ∷ more → IsBadLength values
-  past_long : (first second : ℕ) (more : List ℕ) → 249 < first → second ≤ 249 → values ≡ first ∷ second ∷ more
+  past_short : (first : ℕ) (more : List ℕ) → first ≤ most_short → values ≡ first ∷ more → length more < first → IsBadLength values
+  no_second : (first : ℕ) → most_short < first → values ≡ first ∷ [] → IsBadLength values
+  wrong_second : (first second : ℕ) (more : List ℕ) → most_short < first → most_short < second → values ≡ first ∷ second ∷ more → IsBadLength values
+  past_long : (first second : ℕ) (more : List ℕ) → most_short < first → second ≤ most_short → values ≡ first ∷ second ∷ more
       → length more < long_count first second → IsBadLength values
 
 -- A faulty segment is a latch at a place and all codewords after it up to the end of the symbol, whose values begin with a bad length.

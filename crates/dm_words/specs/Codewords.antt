@@ -29,6 +29,30 @@ codeword_rows =
     one 241 LeftOut ∷
     []
 
+-- The first pad of a symbol is this codeword.
+abbrev pub first_pad : ℕ
+first_pad = 129
+
+-- Digits 00 are this codeword; those of the other pairs follow, up to 99.
+abbrev pub first_digits : ℕ
+first_digits = 130
+
+-- The latch to Base 256 is this codeword.
+abbrev pub base256_latch : ℕ
+base256_latch = 231
+
+-- FNC1 is this codeword.
+abbrev pub fnc1_word : ℕ
+fnc1_word = 232
+
+-- The Upper Shift is this codeword.
+abbrev pub upper_shift : ℕ
+upper_shift = 235
+
+-- The unlatch is this codeword, which ends a run of C40, Text or X12. It has no meaning in ASCII encodation, so the table doesn't have it.
+abbrev pub unlatch_word : ℕ
+unlatch_word = 254
+
 -- A codeword has this meaning; where it is not used, this is `None`.
 abbrev pub codeword_of : ℕ → Option Codeword
 codeword_of word = look_up codeword_rows word

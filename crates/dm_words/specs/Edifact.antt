@@ -33,13 +33,13 @@ unlatch_value = 31
 
 -- The values 0 to 30 stand for the bytes 64 to 94, and 32 to 63 for themselves.
 abbrev pub edifact_byte : ℕ → ℕ
-edifact_byte value = if nat_lt value 31 then value + 64 else value
+edifact_byte value = if nat_lt value unlatch_value then value + 64 else value
 
 -- A run ends in one of these ways, each with its codewords and the values before the unlatch, if it has one; `after` are the codewords that
 -- follow, up to the end of the symbol, including pads. That the bits behind an unlatch aren't looked at, and that a run may be empty, are rules of this project.
 pub data IsEdifactEnd (words after values : List ℕ) : Type 0 where
   -- At most two codewords are left in the symbol, where a group would begin. They are read in ASCII.
-  border : words ≡ [] → values ≡ [] → length after ≤ 2 → IsEdifactEnd words after values
+  few_left : words ≡ [] → values ≡ [] → length after ≤ 2 → IsEdifactEnd words after values
   -- The unlatch is the first value of a group, and takes one codeword; its two lowest bits aren't looked at.
   first : (word rest : ℕ) → word ≡ 4 * unlatch_value + rest → rest < 4 → words ≡ word ∷ [] → values ≡ [] → 2 ≤ length after → IsEdifactEnd words after values
   -- The unlatch is the second value of a group, and takes two codewords; their four lowest bits aren't looked at.

@@ -6,7 +6,7 @@ use Rattle.dm_words.specs.declared.item.Item.{Item}
 use Rattle.dm_words.specs.declared.codeword.Codeword.TheVariants as codeword
 use Rattle.dm_words.specs.declared.fault.WordFault.{WordFault}
 use Rattle.dm_words.specs.declared.c40.set.CodeSet.{CodeSet}
-use Rattle.dm_words.specs.Values.{IsSpelling}
+use Rattle.dm_words.specs.Values.{IsRunValue, IsSpelling}
 use Rattle.dm_words.specs.Codewords.{codeword_of}
 use Rattle.dm_words.specs.Spells.{AreParts, Spells}
 use Rattle.dm_words.specs.Refused.{Refused}
@@ -25,9 +25,9 @@ pub record RefusedOnly (extent : Extent) (words : List ℕ) : Type 0 where
   pub only : (other : WordFault) → Refused extent words other → other ≡ why
   pub not_spelled : (message : List Item) → Spells extent words message → ⊥
 
--- In an extent, the words have one answer: a message, or a fault.
-abbrev pub HasOneAnswer : Extent → List ℕ → Type 0
-HasOneAnswer extent words = SpellsOnly extent words ⊎ RefusedOnly extent words
+-- In an extent, the words have one result: a message, or a fault.
+abbrev pub HasOneResult : Extent → List ℕ → Type 0
+HasOneResult extent words = SpellsOnly extent words ⊎ RefusedOnly extent words
 
 -- In the wide extent this codeword can be left out at this place: structured append, reader programming and ECI everywhere, a macro behind the first
 -- codeword of the symbol.
@@ -48,8 +48,8 @@ AreCodewords words = All (λ word. word < 256) words
 
 -- Each of these values of a run is 0 to 39.
 abbrev pub AreRunValues : List ℕ → Type 0
-AreRunValues values = All (λ value. value < 40) values
+AreRunValues values = All IsRunValue values
 
--- No whole spelling stands at the front of the values.
+-- No whole spelling is a prefix of the values.
 abbrev pub BeginsNoSpelling : CodeSet → List ℕ → Type 0
-BeginsNoSpelling set values = (front more : List ℕ) (item : Item) → values ≡ front ++ more → IsSpelling set front item → ⊥
+BeginsNoSpelling set values = (prefix more : List ℕ) (item : Item) → values ≡ prefix ++ more → IsSpelling set prefix item → ⊥

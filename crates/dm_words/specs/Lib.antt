@@ -15,6 +15,6 @@ pub mod NormalForm
 pub mod Spells
 pub mod Refused
 pub mod Outcomes
-pub mod Answers
+pub mod Results
 pub mod Laws
 pub mod inner

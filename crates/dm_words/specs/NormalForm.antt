@@ -7,7 +7,8 @@ use Rattle.dm_words.specs.declared.profile.Profile.{Profile}
 use Rattle.dm_words.specs.declared.profile.Profile.TheVariants.{Ascii, Shorter}
 use Rattle.dm_words.specs.Messages.{byte_of}
 use Rattle.dm_words.specs.Ascii.{ascii}
-use Rattle.dm_words.specs.Base256.{written}
+use Rattle.dm_words.specs.Base256.{most_short, written}
+use Rattle.dm_words.specs.Codewords.{base256_latch}
 
 -- FNC1 is among the items.
 abbrev pub has_fnc1 : List Item → Bool
@@ -18,11 +19,11 @@ has_fnc1 (Fnc1 ∷ rest) = true
 -- The length field of a segment is written out as one number up to 249 bytes, and else as two. From 1750 bytes on the first number would be more
 -- than 255, but no symbol holds that many.
 abbrev pub length_numbers : ℕ → List ℕ
-length_numbers count = if nat_le count 249 then count ∷ [] else (249 + count / 250) ∷ (count % 250) ∷ []
+length_numbers count = if nat_le count most_short then count ∷ [] else (most_short + count / (most_short + 1)) ∷ (count % (most_short + 1)) ∷ []
 
 -- The bytes stand in one segment of Base 256 whose latch is the first codeword of the symbol: the latch, the length field and the bytes.
 abbrev pub one_segment : List ℕ → List ℕ
-one_segment bytes = 231 ∷ written 2 (length_numbers (length bytes) ++ bytes)
+one_segment bytes = base256_latch ∷ written 2 (length_numbers (length bytes) ++ bytes)
 
 -- The shorter form of a message is one segment of all its bytes, if it has no FNC1 and the segment has fewer codewords than the ASCII form; else it
 -- is the ASCII form. So the ASCII form is taken where both have equally many codewords.

@@ -17,9 +17,9 @@ module _ {M : Type 0} where
       if nat_le first sought && nat_le sought last then Some (meaning (low + (sought - first))) else look_up rows sought
 
   -- A row has as many numbers as it has meanings.
-  abbrev pub IsEven : Row M → Type 0
-  IsEven (one number meaning) = Unit {0}
-  IsEven (each first last low high meaning) = (first ≤ last) × (first + high ≡ last + low)
+  abbrev pub IsBalanced : Row M → Type 0
+  IsBalanced (one number meaning) = Unit {0}
+  IsBalanced (each first last low high meaning) = (first ≤ last) × (first + high ≡ last + low)
 
   -- A row begins with this number.
   abbrev pub first_number : Row M → ℕ
@@ -39,5 +39,5 @@ module _ {M : Type 0} where
 
   -- Each row has as many numbers as meanings, and no number stands in two rows.
   pub record IsTable (rows : List (Row M)) : Type 0 where
-    pub even : All IsEven rows
+    pub balanced : All IsBalanced rows
     pub rising : AreRising rows

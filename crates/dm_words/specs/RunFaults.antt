@@ -8,7 +8,7 @@ use Rattle.dm_words.specs.declared.fault.WordFault.{WordFault}
 use Rattle.dm_words.specs.declared.fault.WordFault.TheVariants as fault
 use Rattle.dm_words.specs.declared.codeword.Codeword.TheVariants as codeword
 use Rattle.dm_words.specs.declared.c40.set.CodeSet.{CodeSet}
-use Rattle.dm_words.specs.Codewords.{codeword_of}
+use Rattle.dm_words.specs.Codewords.{codeword_of, unlatch_word}
 use Rattle.dm_words.specs.Joined.{Piece, spelled, gathered}
 use Rattle.dm_words.specs.Values.{IsSpelling, IsFiller, IsWaiting, BeginsWithoutMeaning, BeginsWrongUpperShift}
 use Rattle.dm_words.specs.Runs.{IsPair, IsRunEnd}
@@ -25,7 +25,7 @@ pub record BeginsBadPair (words : List ℕ) : Type 0 where
   pub high : ℕ
   pub low : ℕ
   pub more : List ℕ
-  pub no_unlatch : high ≢ 254
+  pub no_unlatch : high ≢ unlatch_word
   pub is_bad : (256 * high + low ≡ 0) ⊎ (64000 < 256 * high + low)
   pub whole : words ≡ high ∷ low ∷ more
 

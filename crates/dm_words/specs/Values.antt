@@ -1,5 +1,5 @@
 -- The values of a run of C40, Text or X12, and the items that they spell (ISO/IEC 16022, C40, Text and ANSI X12 encodation).
-use Rattle.std.specs.Prelude.{◌≡◌, ℕ, ◌+◌, List, [], ◌∷◌, ◌++◌, Option, Some, None, ◌⊎◌}
+use Rattle.std.specs.Prelude.{◌≡◌, ℕ, ◌+◌, ◌<◌, List, [], ◌∷◌, ◌++◌, Option, Some, None, ◌⊎◌}
 use Rattle.std.specs.List.{AllByRecursion}
 use Rattle.dm_words.specs.declared.extent.Extent.{Extent}
 use Rattle.dm_words.specs.declared.extent.Extent.TheVariants.{Wide}
@@ -12,6 +12,10 @@ use Rattle.dm_words.specs.declared.c40.set.Shifted.{Shifted}
 use Rattle.dm_words.specs.declared.c40.set.Shifted.TheVariants as shifted
 use Rattle.dm_words.specs.CodeSets.{basic_of, shifted_of}
 use Rattle.dm_words.specs.Joined.{Piece, spelled, whats}
+
+-- A value of a run is 0 to 39.
+abbrev pub IsRunValue : ℕ → Type 0
+IsRunValue value = value < 40
 
 -- A shift and the value after it together have this meaning; `None` says that they have none.
 pub record IsShifted (set : CodeSet) (values : List ℕ) (meaning : Option Shifted) : Type 0 where

@@ -1,1 +1,2 @@
+-- Definitions that the contracts of private functions cite; no contract of a public function and no law does.
 pub mod Scan

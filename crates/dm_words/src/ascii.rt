@@ -1,12 +1,12 @@
 //! The ASCII codewords of a message (ISO/IEC 16022, ASCII encodation).
 
-ghost use Rattle.std.specs.Prelude.{◌≡◌, ◌+◌, ◌≤◌, ◌<◌, ◌++◌, length};
+ghost use Rattle.std.specs.Prelude.{◌≡◌, ◌+◌, ◌≤◌, ◌<◌, ◌++◌, IsTrue, length};
 ghost use Rattle.dm_words.specs.Ascii.{ascii, is_digit};
 ghost use Rattle.dm_words.specs.NormalForm.{has_fnc1};
-ghost use Rattle.dm_words.specs.inner.Scan.Answers.{BeginsAscii, IsSingle, unit_words, unit_items};
+ghost use Rattle.dm_words.specs.inner.Scan.Results.{BeginsAscii, IsSingle, unit_words, unit_items, unit_is_fnc1};
 
-use crate::codeword::{FNC1, UPPER_SHIFT};
-use crate::item::Item;
+use crate::codeword::{FIRST_DIGITS, FNC1, UPPER_SHIFT};
+use crate::item::{Item, byte};
 use crate::limits::MESSAGE_ROOM;
 use arrayvec::ArrayVec;
 use dm_layout::MOST_DATA;
@@ -24,10 +24,11 @@ pub enum Unit {
     Fnc1,
 }
 
+/// Whether the byte is a digit, 0 to 9.
 fn is_digit(byte: u8) -> bool
     ensures { result ≡ is_digit byte }
 {
-    48 <= byte && byte <= 57
+    b'0' <= byte && byte <= b'9'
 }
 
 /// Gives the unit of one byte.
@@ -41,7 +42,7 @@ fn single(byte: u8) -> Unit
     }
 }
 
-/// The unit at an index.
+/// Gives the unit that begins at an index.
 fn unit_at(items: &[Item], at: usize) -> Unit
     requires { at < length items.now }
     ensures { BeginsAscii result items.now at }
@@ -54,7 +55,7 @@ fn unit_at(items: &[Item], at: usize) -> Unit
         && let Item::Byte(second) = items[at + 1]
         && is_digit(second)
     {
-        return Unit::Digits(130 + 10 * (first - 48) + (second - 48));
+        return Unit::Digits(FIRST_DIGITS + 10 * (first - b'0') + (second - b'0'));
     }
     single(first)
 }
@@ -68,8 +69,8 @@ pub struct AsciiForm {
     pub has_fnc1: bool,
 }
 
-/// Tells what is known of the ASCII form of these items, by one look through them.
-pub fn ascii_form(items: &[Item]) -> AsciiForm
+/// Gives what is known of the ASCII form of these items, by one look through them.
+pub(crate) fn ascii_form(items: &[Item]) -> AsciiForm
     requires { length items.now ≤ MESSAGE_ROOM }
     ensures length { result.length ≡ length (ascii items.now) }
     ensures has_fnc1 { result.has_fnc1 ≡ has_fnc1 items.now }
@@ -103,11 +104,18 @@ pub fn ascii_form(items: &[Item]) -> AsciiForm
     form
 }
 
+/// Whether the unit is FNC1.
+fn is_fnc1(unit: Unit) -> bool
+    ensures { result ≡ unit_is_fnc1 unit }
+{
+    matches!(unit, Unit::Fnc1)
+}
+
 /// Adds the codewords of a unit, and gives the number of its items.
 fn write_unit(unit: Unit, words: &mut ArrayVec<u8, MOST_DATA>) -> usize
     requires { length words.old.items + length (unit_words unit) ≤ MOST_DATA }
     ensures words { words.new.items ≡ words.old.items ++ unit_words unit }
-    ensures count { result ≡ unit_items unit }
+    ensures item_count { result ≡ unit_items unit }
 {
     match unit {
         Unit::One(word) => {
@@ -130,14 +138,44 @@ fn write_unit(unit: Unit, words: &mut ArrayVec<u8, MOST_DATA>) -> usize
     }
 }
 
-/// Writes the ASCII codewords of the items into the place: from the left, two digits in one codeword wherever two come first.
-pub fn write_ascii(items: &[Item], words: &mut ArrayVec<u8, MOST_DATA>)
+/// Writes the ASCII codewords of the items into the target: from the left, two digits in one codeword wherever two come first. Gives what is then known
+/// of them.
+pub(crate) fn write_ascii(items: &[Item], words: &mut ArrayVec<u8, MOST_DATA>) -> AsciiForm
     requires { length (ascii items.now) ≤ MOST_DATA }
-    ensures { words.new.items ≡ ascii items.now }
+    ensures words { words.new.items ≡ ascii items.now }
+    ensures length { result.length ≡ length (ascii items.now) }
+    ensures has_fnc1 { result.has_fnc1 ≡ has_fnc1 items.now }
 {
     words.clear();
+    let mut has_fnc1 = false;
     let mut at = 0;
     while at < items.len() {
-        at += write_unit(unit_at(items, at), words);
+        let unit = unit_at(items, at);
+        has_fnc1 |= is_fnc1(unit);
+        at += write_unit(unit, words);
     }
+    AsciiForm {
+        length: words.len(),
+        has_fnc1,
+    }
+}
+
+/// Whether the ASCII codewords of the items are surely no more than `MOST_DATA`: there are at most half as many items, or at most as many and none
+/// takes two codewords.
+pub(crate) fn surely_fits(items: &[Item]) -> bool
+    ensures { IsTrue result → length (ascii items.now) ≤ MOST_DATA }
+{
+    items.len() <= MOST_DATA / 2 || items.len() <= MOST_DATA && are_below_128(items)
+}
+
+/// Whether each item has a byte below 128 or is FNC1, so that it takes at most one codeword.
+// The loop has no other end than that of the items, so that it looks at many of them at once.
+fn are_below_128(items: &[Item]) -> bool
+    ensures { IsTrue result → length (ascii items.now) ≤ length items.now }
+{
+    let mut most = 0;
+    for item in items {
+        most = most.max(byte(*item));
+    }
+    most < 128
 }

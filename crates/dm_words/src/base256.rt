@@ -4,10 +4,10 @@ ghost use Rattle.std.specs.Prelude.{◌≡◌, ℕ, ◌+◌, ◌≤◌, ◌<◌,
 ghost use Rattle.dm_words.specs.Messages.{byte_of};
 ghost use Rattle.dm_words.specs.Base256.{byte_items, random_at, randomised, written};
 ghost use Rattle.dm_words.specs.NormalForm.{length_numbers, one_segment};
-ghost use Rattle.dm_words.specs.inner.Scan.Fronts.{plain_at, plain, segment_front};
-ghost use Rattle.dm_words.specs.inner.Scan.Answers.{IsPartTaken};
+ghost use Rattle.dm_words.specs.inner.Scan.Prefixes.{plain_at, plain, segment_behind};
+ghost use Rattle.dm_words.specs.inner.Scan.Results.{HasRoomAt, IsPartTaken};
 
-use crate::codeword::BASE256_LATCH;
+use crate::codeword::{BASE256_LATCH, RANDOM_FACTOR};
 use crate::fault::WordFault;
 use crate::item::{Item, byte};
 use crate::limits::MESSAGE_ROOM;
@@ -18,15 +18,12 @@ use dm_layout::MOST_DATA;
 /// The most bytes whose length is one number.
 const MOST_SHORT: usize = 249;
 
-/// By how much the pseudo-random number rises from a place to the next, where 1 follows 255: the factor of the 255-state randomising.
-const STEP: u32 = 149;
-
 /// Gives the pseudo-random number of a place of the symbol: 1 to 255.
 fn random(place: usize) -> u32
     requires { place ≤ MOST_DATA }
     ensures { result ≡ random_at place }
 {
-    STEP * place as u32 % 255 + 1
+    RANDOM_FACTOR * place as u32 % 255 + 1
 }
 
 /// Gives the value that the codeword at an index stands for: the randomising is taken away.
@@ -43,7 +40,8 @@ fn push_bytes(words: &[u8], start: usize, count: usize, message: &mut Message)
     requires in_range { start + count ≤ length words.now }
     requires short { length words.now ≤ MOST_DATA }
     requires room { length message.old + count ≤ MESSAGE_ROOM }
-    ensures { message.new ≡ message.old ++ byte_items (take count (plain (start + 1) (drop start words.now))) }
+    ensures { message.new
+        ≡ message.old ++ byte_items (take count (plain (start + 1) (drop start words.now))) }
 {
     for i in 0..count {
         message.add(Item::Byte(plain_value(words, start + i)));
@@ -51,11 +49,16 @@ fn push_bytes(words: &[u8], start: usize, count: usize, message: &mut Message)
 }
 
 /// Takes the segment whose latch stands at an index: adds its bytes to the message, and gives the number of its codewords.
-pub fn segment_part(words: &[u8], at: usize, message: &mut Message) -> Result<usize, WordFault>
+pub(crate) fn segment_part(
+    words: &[u8],
+    at: usize,
+    message: &mut Message,
+) -> Result<usize, WordFault>
     requires in_range { at < length words.now }
     requires short { length words.now ≤ MOST_DATA }
-    requires room { length message.old ≤ 2 * at + 5 }
-    ensures { IsPartTaken result message.old message.new (segment_front (at + 1) (plain (at + 2) (drop (at + 1) words.now))) }
+    requires room { HasRoomAt at message.old }
+    ensures { IsPartTaken result message.old message.new
+        (segment_behind (at + 1) (plain (at + 2) (drop (at + 1) words.now))) }
 {
     let fault = WordFault::Length(at as u16 + 1);
     let left = words.len() - at - 1;
@@ -89,7 +92,8 @@ pub fn segment_part(words: &[u8], at: usize, message: &mut Message) -> Result<us
 /// Writes a value as the next codeword of a symbol that begins with these words.
 fn push_value(words: &mut ArrayVec<u8, MOST_DATA>, value: u8)
     requires { length words.old.items < MOST_DATA }
-    ensures { words.new.items ≡ words.old.items ++ randomised (length words.old.items + 1) value ∷ [] }
+    ensures { words.new.items
+        ≡ words.old.items ++ randomised (length words.old.items + 1) value ∷ [] }
 {
     let place = words.len() + 1;
     words.push(((value as u32 + random(place)) % 256) as u8);
@@ -99,7 +103,8 @@ fn push_value(words: &mut ArrayVec<u8, MOST_DATA>, value: u8)
 fn push_length(words: &mut ArrayVec<u8, MOST_DATA>, count: usize)
     requires room { length words.old.items + 2 ≤ MOST_DATA }
     requires few { count ≤ MOST_DATA }
-    ensures { words.new.items ≡ words.old.items ++ written (length words.old.items + 1) (length_numbers count) }
+    ensures { words.new.items
+        ≡ words.old.items ++ written (length words.old.items + 1) (length_numbers count) }
 {
     if count <= MOST_SHORT {
         push_value(words, count as u8);
@@ -110,7 +115,7 @@ fn push_length(words: &mut ArrayVec<u8, MOST_DATA>, count: usize)
 }
 
 /// Gives the number of codewords of one segment of `count` bytes.
-pub fn segment_length(count: usize) -> usize
+pub(crate) fn segment_length(count: usize) -> usize
     requires { count ≤ MESSAGE_ROOM }
     ensures { result ≡ 1 + length (length_numbers count) + count }
 {
@@ -121,21 +126,22 @@ pub fn segment_length(count: usize) -> usize
     }
 }
 
-/// Gives the pseudo-random number of the next place, from that of a place.
+/// Gives the pseudo-random number of the next place, from that of a place: it rises by the factor, and 1 follows 255.
 fn next_random(number: u32) -> u32
     requires { number ≤ 255 }
-    ensures next { (place : ℕ) → number ≡ random_at place → result ≡ random_at (place + 1) }
+    ensures next { (place : ℕ) → number ≡ random_at place
+        → result ≡ random_at (place + 1) }
     ensures most { result ≤ 255 }
 {
-    if number <= 255 - STEP {
-        number + STEP
+    if number <= 255 - RANDOM_FACTOR {
+        number + RANDOM_FACTOR
     } else {
-        number - (255 - STEP)
+        number - (255 - RANDOM_FACTOR)
     }
 }
 
-/// Writes the bytes of the items, in one segment whose latch is the first codeword of the symbol, into the place.
-pub fn write_segment(items: &[Item], words: &mut ArrayVec<u8, MOST_DATA>)
+/// Writes the bytes of the items, in one segment whose latch is the first codeword of the symbol, into the target.
+pub(crate) fn write_segment(items: &[Item], words: &mut ArrayVec<u8, MOST_DATA>)
     requires { length (one_segment (map byte_of items.now)) ≤ MOST_DATA }
     ensures { words.new.items ≡ one_segment (map byte_of items.now) }
 {

@@ -8,6 +8,9 @@ use crate::c40::set::CodeSet;
 /// The first pad of a symbol, which ends the message. Each further one is randomised by its place.
 pub const FIRST_PAD: u8 = 129;
 
+/// The codeword of the two digits 00. Those of the other pairs follow, up to 99.
+pub const FIRST_DIGITS: u8 = 130;
+
 /// The latch to Base 256.
 pub const BASE256_LATCH: u8 = 231;
 
@@ -19,6 +22,9 @@ pub const UPPER_SHIFT: u8 = 235;
 
 /// The unlatch, which ends a run of C40, Text or X12. It has no meaning in ASCII encodation.
 pub const UNLATCH: u8 = 254;
+
+/// The factor of both of the standard's randomisings: that of pads, and that of Base 256.
+pub const RANDOM_FACTOR: u32 = 149;
 
 /// What a codeword means where ASCII encodation is in force.
 #[derive(Clone, Copy)]
@@ -46,13 +52,13 @@ pub enum Codeword {
 }
 
 /// Gives the meaning of a codeword in ASCII encodation, or `None` where it has none.
-pub fn meaning(codeword: u8) -> Option<Codeword>
+pub(crate) fn meaning(codeword: u8) -> Option<Codeword>
     ensures { result ≡ codeword_of codeword }
 {
     match codeword {
         1..=128 => Some(Codeword::Character(codeword - 1)),
         FIRST_PAD => Some(Codeword::Pad),
-        130..=229 => Some(Codeword::Digits(codeword - 130)),
+        FIRST_DIGITS..=229 => Some(Codeword::Digits(codeword - FIRST_DIGITS)),
         230 => Some(Codeword::Latch(CodeSet::C40)),
         BASE256_LATCH => Some(Codeword::Base256),
         FNC1 => Some(Codeword::Fnc1),

@@ -3,8 +3,8 @@
 
 ghost use Rattle.std.specs.Prelude.{◌≡◌, ℕ, ◌+◌, ◌≤◌, ◌<◌, ◌*◌, ◌∷◌, [], length, drop, Ok};
 ghost use Rattle.dm_words.specs.Edifact.{edifact_byte};
-ghost use Rattle.dm_words.specs.inner.Scan.Fronts.{group_values, edifact_run, edifact_items};
-ghost use Rattle.dm_words.specs.inner.Scan.Answers.{IsGroupTaken, IsEdifactTaken};
+ghost use Rattle.dm_words.specs.inner.Scan.Prefixes.{group_values, edifact_run, edifact_items};
+ghost use Rattle.dm_words.specs.inner.Scan.Results.{HasRoomAt, IsGroupTaken, IsEdifactTaken};
 
 use crate::item::Item;
 use crate::limits::MESSAGE_ROOM;
@@ -56,11 +56,12 @@ fn group_part(high: u8, middle: u8, low: u8, message: &mut Message) -> Option<us
 }
 
 /// Takes the run whose latch stands at an index: adds its characters to the message, and gives the number of its codewords.
-pub fn edifact_part(words: &[u8], at: usize, message: &mut Message) -> usize
+pub(crate) fn edifact_part(words: &[u8], at: usize, message: &mut Message) -> usize
     requires in_range { at < length words.now }
     requires short { length words.now ≤ MOST_DATA }
-    requires room { length message.old ≤ 2 * at + 5 }
-    ensures { IsEdifactTaken result message.old message.new (edifact_run (drop (at + 1) words.now)) }
+    requires room { HasRoomAt at message.old }
+    ensures { IsEdifactTaken result message.old message.new
+        (edifact_run (drop (at + 1) words.now)) }
 {
     let mut next = at + 1;
     while words.len() - next > 2 {

@@ -21,6 +21,6 @@ pub enum WordFault {
     Unfinished(u16),
 }
 
-/// The codewords of the message, under its profile, are more than `MOST_DATA`.
+/// The codewords of the message, under the profile that is asked for, are more than `MOST_DATA`.
 #[derive(Clone, Copy, Debug, PartialEq, Eq)]
 pub struct TooLong;

@@ -3,7 +3,8 @@
 ghost use Rattle.std.specs.Prelude.{◌≡◌};
 ghost use Rattle.dm_words.specs.Messages.{byte_of};
 
-/// An item of a message: a byte, or the function character FNC1. No item is interpreted.
+/// An item of a message: a byte, or the function character FNC1. No item is interpreted. There is a default since `ArrayVec` asks for one; which item
+/// it is doesn't matter.
 #[derive(Clone, Copy, Debug, Default, PartialEq, Eq)]
 pub enum Item {
     /// A byte, of 0 to 255.
@@ -14,7 +15,7 @@ pub enum Item {
 }
 
 /// Gives the byte of an item; FNC1 has none, and counts as 0.
-pub fn byte(item: Item) -> u8
+pub(crate) fn byte(item: Item) -> u8
     ensures { result ≡ byte_of item }
 {
     match item {

@@ -20,75 +20,95 @@ ghost use Rattle.dm_words.specs.Values.{IsRest};
 ghost use Rattle.dm_words.specs.Macros.{macro_text};
 ghost use Rattle.dm_words.specs.Spells.{Spells};
 ghost use Rattle.dm_words.specs.Refused.{Refused};
-ghost use Rattle.dm_words.specs.Laws.{HasOneAnswer, AreCodewords, AreRunValues, BeginsNoSpelling, CanBeLeftOut, AreMacro};
+ghost use Rattle.dm_words.specs.Laws.{HasOneResult, AreCodewords, AreRunValues, BeginsNoSpelling, CanBeLeftOut, AreMacro};
 
 use crate::limits::{MESSAGE_ROOM, MOST_ITEMS};
 use dm_layout::MOST_DATA;
 
 /// In each extent, a list of codewords, however long, spells exactly one message and is refused with no fault, or is refused with exactly one
 /// fault and spells none.
-pub fn one_answer()
-    ensures { (extent : Extent) (words : List ℕ) → AreCodewords words → HasOneAnswer extent words }
+pub fn one_result()
+    ensures { (extent : Extent) (words : List ℕ) → AreCodewords words
+        → HasOneResult extent words }
 {}
 
 /// What codewords spell in either extent is a message: its bytes are 0 to 255.
 pub fn spelled_is_message()
-    ensures { (extent : Extent) (words : List ℕ) (m : List Item) → Spells extent words m → IsMessage m }
+    ensures { (extent : Extent) (words : List ℕ) (m : List Item)
+        → Spells extent words m → IsMessage m }
 {}
 
 /// What codewords spell in the usual extent they spell in the wide one.
 pub fn wide_reads_the_same()
-    ensures { (words : List ℕ) (m : List Item) → Spells Extent.Usual words m → Spells Extent.Wide words m }
+    ensures { (words : List ℕ) (m : List Item)
+        → Spells Extent.Usual words m → Spells Extent.Wide words m }
 {}
 
 /// In the wide extent only structured append, reader programming, ECI, or a macro behind the first codeword, are left out.
 pub fn wide_leaves_few_out()
-    ensures { (words : List ℕ) (word place : ℕ) → Refused Extent.Wide words (WordFault.LeftOut word place) → CanBeLeftOut word place }
+    ensures { (words : List ℕ) (word place : ℕ)
+        → Refused Extent.Wide words (WordFault.LeftOut word place) → CanBeLeftOut word place }
 {}
 
 /// In the wide extent, the codewords behind a macro spell the message that has their items between the header and the trailer of the macro. The ASCII
 /// form of that text, with pads, spells the same message.
 pub fn macro_spells_its_text()
-    ensures short { (digit : ℕ) (words : List ℕ) (text : List Item) → AreMacro digit words text → Spells Extent.Wide words (macro_text digit text) }
-    ensures written_out { (digit count : ℕ) (words : List ℕ) (text : List Item) → AreMacro digit words text → let written = ascii (macro_text digit text) in length written ≤ count → Spells Extent.Wide (padded written count) (macro_text digit text) }
+    ensures short { (digit : ℕ) (words : List ℕ) (text : List Item)
+        → AreMacro digit words text → Spells Extent.Wide words (macro_text digit text) }
+    ensures written_out { (digit count : ℕ) (words : List ℕ) (text : List Item)
+        → AreMacro digit words text
+        → let written = ascii (macro_text digit text) in length written ≤ count
+        → Spells Extent.Wide (padded written count) (macro_text digit text) }
 {}
 
 /// The ASCII form of a message, with pads up to any number of codewords that holds it, has that many codewords, and they spell the message in each
 /// extent.
 pub fn ascii_spells()
-    ensures message { (extent : Extent) (m : List Item) (count : ℕ) → IsMessage m → length (ascii m) ≤ count → Spells extent (padded (ascii m) count) m }
-    ensures count { (m : List Item) (count : ℕ) → length (ascii m) ≤ count → length (padded (ascii m) count) ≡ count }
-    ensures codewords { (m : List Item) (count : ℕ) → IsMessage m → AreCodewords (padded (ascii m) count) }
+    ensures message { (extent : Extent) (m : List Item) (count : ℕ) → IsMessage m
+        → length (ascii m) ≤ count → Spells extent (padded (ascii m) count) m }
+    ensures count { (m : List Item) (count : ℕ)
+        → length (ascii m) ≤ count → length (padded (ascii m) count) ≡ count }
+    ensures codewords { (m : List Item) (count : ℕ)
+        → IsMessage m → AreCodewords (padded (ascii m) count) }
 {}
 
-/// The ASCII form by the front of the message is the one joining of units in which no unit that is one digit stands before a unit
+/// The ASCII form from the left of the message is the one joining of units in which no unit that is one digit stands before a unit
 /// that begins with a digit.
 pub fn ascii_is_greedy()
-    ensures { (m : List Item) (words : List ℕ) → IsMessage m → IsAscii m words ↔ (words ≡ ascii m) }
+    ensures { (m : List Item) (words : List ℕ)
+        → IsMessage m → IsAscii m words ↔ (words ≡ ascii m) }
 {}
 
 /// The normal form of a message under each profile, with pads up to any number of codewords that holds it and that a symbol can have, has that many
 /// codewords, and they spell the message in each extent.
 pub fn normal_form_spells()
-    ensures message { (extent : Extent) (profile : Profile) (m : List Item) (count : ℕ) → IsMessage m → length (normal_form profile m) ≤ count → count ≤ most_data → Spells extent (padded (normal_form profile m) count) m }
-    ensures count { (profile : Profile) (m : List Item) (count : ℕ) → length (normal_form profile m) ≤ count → length (padded (normal_form profile m) count) ≡ count }
-    ensures codewords { (profile : Profile) (m : List Item) (count : ℕ) → IsMessage m → AreCodewords (padded (normal_form profile m) count) }
+    ensures message { (extent : Extent) (profile : Profile) (m : List Item) (count : ℕ)
+        → IsMessage m → length (normal_form profile m) ≤ count → count ≤ most_data
+        → Spells extent (padded (normal_form profile m) count) m }
+    ensures count { (profile : Profile) (m : List Item) (count : ℕ)
+        → length (normal_form profile m) ≤ count
+        → length (padded (normal_form profile m) count) ≡ count }
+    ensures codewords { (profile : Profile) (m : List Item) (count : ℕ)
+        → IsMessage m → AreCodewords (padded (normal_form profile m) count) }
 {}
 
 /// The shorter form of a message is never longer than its ASCII form, nor, where it is bytes alone, than one segment of these bytes.
 pub fn shorter_is_shortest()
     ensures ascii { (m : List Item) → length (shorter m) ≤ length (ascii m) }
-    ensures segment { (bytes : List ℕ) → length (shorter (byte_items bytes)) ≤ length (one_segment bytes) }
+    ensures segment { (bytes : List ℕ)
+        → length (shorter (byte_items bytes)) ≤ length (one_segment bytes) }
 {}
 
 /// A message has at most two items for each codeword of its normal form.
 pub fn normal_form_holds_two_items()
-    ensures { (profile : Profile) (m : List Item) → length m ≤ 2 * length (normal_form profile m) }
+    ensures { (profile : Profile) (m : List Item)
+        → length m ≤ 2 * length (normal_form profile m) }
 {}
 
-/// What can follow the last whole spelling of a run is exactly what has no whole spelling at its front.
+/// What can follow the last whole spelling of a run is exactly what has no whole spelling as a prefix.
 pub fn rest_has_no_spelling()
-    ensures { (set : CodeSet) (values : List ℕ) → AreRunValues values → IsRest set values ↔ BeginsNoSpelling set values }
+    ensures { (set : CodeSet) (values : List ℕ)
+        → AreRunValues values → IsRest set values ↔ BeginsNoSpelling set values }
 {}
 
 /// Each row of the tables has as many codewords or values as meanings, and none of these is in two rows.
@@ -99,7 +119,8 @@ pub fn tables_are_sound()
 {}
 
 /// The most data codewords that are read and written are those of the largest size. What is read in the usual extent has two items for each, and a
-/// message has room for the most that are read in the wide extent. `MOST_DATA` is the constant of `dm_layout`, whose law `laws::sizes::constants_are_the_limits` says the same of it.
+/// message has room for the most that are read in the wide extent. `MOST_DATA` is the constant of `dm_layout`, whose law
+/// `laws::sizes::constants_are_the_limits` says the same of it.
 pub fn limits_are_those_of_the_table()
     ensures data { MOST_DATA ≡ most_data }
     ensures items { MOST_ITEMS ≡ most_spelled Extent.Usual most_data }

@@ -2,9 +2,17 @@
 //! encodations ASCII, C40, Text, X12 and Base 256, and in a wider [`Extent`] also in EDIFACT and with macros, why other lists are refused, and the
 //! codewords in which a message is written.
 //!
-//! [`message_of()`] reads a list in the usual extent, [`message_of_as()`] in either one, [`normal_words()`] writes a [`Message`] of [`Item`]s under a [`Profile`], in ASCII
-//! ([`ascii_words()`]) or in whatever is shorter, ASCII or one segment of Base 256 ([`shorter_words()`]), and [`padded()`] fills a
-//! symbol up. What the contracts say is defined in `specs/`; [`laws`] has what holds of the definitions. No call takes memory.
+//! Reading: [`message_of()`] gives the [`Message`] of [`Item`]s that a list spells in the usual extent, or the [`WordFault`] with which the list is
+//! refused, [`message_of_as()`] the same in either extent; [`message_to()`] and [`message_to_as()`] write the message into a target.
+//!
+//! Writing: [`normal_words()`] gives the codewords of a message under a [`Profile`], or [`TooLong`], and [`normal_words_to()`] writes them into a
+//! target. Under one profile they are ASCII ([`ascii_words()`]), under the other whatever is shorter, ASCII or one segment of Base 256
+//! ([`shorter_words()`]). [`padded()`] gives codewords with pads up to the data codewords of a size, and [`add_pads()`] adds the pads in a target.
+//!
+//! Limits: [`MOST_DATA`] codewords, [`MOST_ITEMS`] items in the usual extent, and room for [`MESSAGE_ROOM`].
+//!
+//! A *target* is memory that the caller hands in. What the contracts say is defined in `specs/`; [`laws`] has what holds of the definitions. No call
+//! allocates memory.
 #![tactic(auto)]
 
 mod ascii;
@@ -14,13 +22,13 @@ mod codeword;
 mod edifact;
 mod extent;
 mod fault;
-mod front;
 mod item;
 pub mod laws;
 mod limits;
 mod macros;
 mod message;
 mod normal_form;
+mod numbers;
 mod pad;
 mod profile;
 mod reading;

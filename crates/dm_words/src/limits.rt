@@ -5,8 +5,11 @@ use dm_layout::MOST_DATA;
 /// The most items that are read in the usual extent, and that can be written: two for each data codeword.
 pub const MOST_ITEMS: usize = 2 * MOST_DATA;
 
-/// The items for which a message has room, so the most that are read in any extent: a macro spells nine for its one codeword.
-pub const MESSAGE_ROOM: usize = MOST_ITEMS + 7;
+/// How many more items than two for each codeword the message of a macro can have: its header and its trailer are nine items, for one codeword.
+const MACRO_EXTRA: usize = 7;
+
+/// The items for which a message has room, so the most that are read in any extent.
+pub const MESSAGE_ROOM: usize = MOST_ITEMS + MACRO_EXTRA;
 
 /// The most values of a run: three for each two codewords.
 pub const MOST_VALUES: usize = 3 * MOST_DATA / 2;

@@ -3,7 +3,7 @@
 ghost use Rattle.std.specs.Prelude.{◌≡◌, ◌+◌, ◌≤◌, ◌++◌, length};
 ghost use Rattle.dm_words.specs.Macros.{macro_header, macro_trailer};
 ghost use Rattle.dm_words.specs.Codewords.{codeword_of};
-ghost use Rattle.dm_words.specs.inner.Scan.Fronts.{macro_digit, digit_by};
+ghost use Rattle.dm_words.specs.inner.Scan.Prefixes.{macro_digit, digit_by};
 
 use crate::codeword::{Codeword, meaning};
 use crate::extent::Extent;
@@ -21,7 +21,7 @@ const GS: u8 = 29;
 const EOT: u8 = 4;
 
 /// Gives the digit of the macro with which the words begin, where one is read in this extent: 5 or 6, as a character.
-pub fn macro_digit(extent: Extent, words: &[u8]) -> Option<u8>
+pub(crate) fn macro_digit(extent: Extent, words: &[u8]) -> Option<u8>
     ensures { result ≡ macro_digit extent words.now }
 {
     match (extent, words.first()) {
@@ -30,7 +30,7 @@ pub fn macro_digit(extent: Extent, words: &[u8]) -> Option<u8>
     }
 }
 
-/// Gives the digit of a macro; `None` of any other codeword.
+/// Gives the digit of a macro, `None` for any other codeword.
 fn digit_of(codeword: u8) -> Option<u8>
     ensures { result ≡ digit_by (codeword_of codeword) }
 {
@@ -41,7 +41,7 @@ fn digit_of(codeword: u8) -> Option<u8>
 }
 
 /// Adds the header of the macro of this digit to the message.
-pub fn add_header(digit: u8, message: &mut Message)
+pub(crate) fn add_header(digit: u8, message: &mut Message)
     requires { length message.old + 7 ≤ MESSAGE_ROOM }
     ensures { message.new ≡ message.old ++ macro_header digit }
 {
@@ -55,7 +55,7 @@ pub fn add_header(digit: u8, message: &mut Message)
 }
 
 /// Adds the trailer of a macro to the message.
-pub fn add_trailer(message: &mut Message)
+pub(crate) fn add_trailer(message: &mut Message)
     requires { length message.old + 2 ≤ MESSAGE_ROOM }
     ensures { message.new ≡ message.old ++ macro_trailer }
 {

@@ -1,13 +1,13 @@
 //! The normal form of a message under a profile: its data codewords, without pads.
 
-ghost use Rattle.std.specs.Prelude.{◌≡◌, ◌<◌, ◌≤◌, ◌↔◌, length, map, false, not, ◌&&◌, if◌then◌else◌, nat_lt, IfOk, OnOk, OnErr, IsErr};
+ghost use Rattle.std.specs.Prelude.{◌≡◌, ◌<◌, ◌≤◌, ◌↔◌, length, map, false, not, ◌&&◌, if◌then◌else◌, nat_lt, IfOk, OnOk, OnErr, IsErr, IsTrue};
 ghost use Rattle.dm_words.specs.Ascii.{ascii};
-ghost use Rattle.dm_words.specs.NormalForm.{shorter, normal_form, one_segment};
-ghost use Rattle.dm_words.specs.Answers.{IsNormalFormAnswer};
+ghost use Rattle.dm_words.specs.NormalForm.{shorter, normal_form, one_segment, has_fnc1};
+ghost use Rattle.dm_words.specs.Results.{IsNormalFormResult};
 ghost use Rattle.dm_words.specs.Outcomes.{outcome};
 ghost use Rattle.dm_words.specs.Messages.{byte_of};
 
-use crate::ascii::{AsciiForm, ascii_form, write_ascii};
+use crate::ascii::{AsciiForm, ascii_form, surely_fits, write_ascii};
 use crate::base256::{segment_length, write_segment};
 use crate::fault::TooLong;
 use crate::item::Item;
@@ -17,27 +17,27 @@ use crate::profile::Profile;
 use arrayvec::ArrayVec;
 use dm_layout::MOST_DATA;
 
-/// Gives the ASCII codewords of a message, without pads: from the left, two digits in one codeword wherever two come first. The answer is `TooLong`
+/// Gives the ASCII codewords of a message, without pads: from the left, two digits in one codeword wherever two come first. `TooLong`
 /// exactly where they are more than `MOST_DATA`. ISO/IEC 16022, ASCII encodation.
 pub fn ascii_words(message: &Message) -> Result<ArrayVec<u8, MOST_DATA>, TooLong>
-    ensures { IsNormalFormAnswer Profile.Ascii message.now result }
+    ensures { IsNormalFormResult Profile.Ascii message.now result }
 {
     normal_words(Profile::Ascii, message)
 }
 
 /// Gives the shorter codewords of a message, without pads: one segment of Base 256 from the first codeword on, if the message has no FNC1 and this
-/// takes fewer codewords than ASCII; else those of [`ascii_words()`]. The length of the segment is always written out. The answer is `TooLong`
+/// takes fewer codewords than ASCII; else those of [`ascii_words()`]. The length of the segment is always written out. `TooLong`
 /// exactly where they are more than `MOST_DATA`. ISO/IEC 16022, Base 256 encodation.
 pub fn shorter_words(message: &Message) -> Result<ArrayVec<u8, MOST_DATA>, TooLong>
-    ensures { IsNormalFormAnswer Profile.Shorter message.now result }
+    ensures { IsNormalFormResult Profile.Shorter message.now result }
 {
     normal_words(Profile::Shorter, message)
 }
 
-/// Gives the codewords of a message under a profile: those of [`ascii_words()`] or of [`shorter_words()`]. The answer is `TooLong` exactly where
+/// Gives the codewords of a message under a profile: those of [`ascii_words()`] or of [`shorter_words()`]. `TooLong` exactly where
 /// they are more than `MOST_DATA`.
 pub fn normal_words(profile: Profile, message: &Message) -> Result<ArrayVec<u8, MOST_DATA>, TooLong>
-    ensures { IsNormalFormAnswer profile message.now result }
+    ensures { IsNormalFormResult profile message.now result }
 {
     let mut words = ArrayVec::new();
     match normal_words_to(profile, message, &mut words) {
@@ -46,19 +46,39 @@ pub fn normal_words(profile: Profile, message: &Message) -> Result<ArrayVec<u8, 
     }
 }
 
-/// Does the same as [`normal_words()`] in memory of the caller's: if it answers `Ok`, `words` holds these codewords, whatever it held before. After
-/// `TooLong` it holds what it held before. Under [`Profile::Shorter`] this does the same work as under [`Profile::Ascii`], except that it may write a segment
-/// instead of ASCII.
+/// Does the same as [`normal_words()`] in a target: after `Ok`, `words` holds these codewords, whatever it held before. After `TooLong` it holds what
+/// it held before. Under [`Profile::Shorter`] this does the same work as under [`Profile::Ascii`], except that it may write a segment
+/// too, or instead of ASCII.
 pub fn normal_words_to(
     profile: Profile,
     message: &Message,
     words: &mut ArrayVec<u8, MOST_DATA>,
 ) -> Result<(), TooLong>
-    ensures answer { IsNormalFormAnswer profile message.now (outcome result words.new) }
+    ensures form { IsNormalFormResult profile message.now (outcome result words.new) }
     ensures same { OnErr result (words.new.items ≡ words.old.items) }
 {
     let items = message.items();
-    let form = form_of(profile, items);
+    if !surely_fits(items) {
+        return write_counted(profile, items, words);
+    }
+    let ascii = write_ascii(items, words);
+    if form_of(profile, items, ascii).is_segment {
+        write_segment(items, words);
+    }
+    Ok(())
+}
+
+/// Does the same as [`normal_words_to()`] with these items, whose codewords it counts before it writes any.
+fn write_counted(
+    profile: Profile,
+    items: &[Item],
+    words: &mut ArrayVec<u8, MOST_DATA>,
+) -> Result<(), TooLong>
+    requires { length items.now ≤ MESSAGE_ROOM }
+    ensures form { IsNormalFormResult profile items.now (outcome result words.new) }
+    ensures same { OnErr result (words.new.items ≡ words.old.items) }
+{
+    let form = form_of(profile, items, ascii_form(items));
     if form.length > MOST_DATA {
         return Err(TooLong);
     }
@@ -79,23 +99,28 @@ struct Form {
     length: usize,
 }
 
-/// Tells what is known of the normal form of these items under a profile.
-fn form_of(profile: Profile, items: &[Item]) -> Form
-    requires { length items.now ≤ MESSAGE_ROOM }
-    ensures form { normal_form profile items.now ≡ (if result.is_segment then one_segment (map byte_of items.now) else ascii items.now) }
+/// Gives what is known of the normal form of these items under a profile, from what is known of their ASCII form.
+fn form_of(profile: Profile, items: &[Item], known: AsciiForm) -> Form
+    requires few { length items.now ≤ MESSAGE_ROOM }
+    requires length { known.length ≡ length (ascii items.now) }
+    requires has_fnc1 { known.has_fnc1 ≡ has_fnc1 items.now }
+    ensures form { normal_form profile items.now
+        ≡ (if result.is_segment then one_segment (map byte_of items.now) else ascii items.now) }
     ensures length { result.length ≡ length (normal_form profile items.now) }
+    ensures no_longer { result.length ≤ known.length }
 {
-    let ascii = ascii_form(items);
     let segment = segment_length(items.len());
-    let is_segment = takes_segment(profile, ascii, segment);
-    let length = if is_segment { segment } else { ascii.length };
+    let is_segment = takes_segment(profile, known, segment);
+    let length = if is_segment { segment } else { known.length };
     Form { is_segment, length }
 }
 
-/// Says whether a profile takes the segment, which has `segment` codewords, instead of ASCII.
+/// Whether a profile takes the segment, which has `segment` codewords, instead of ASCII.
 fn takes_segment(profile: Profile, ascii: AsciiForm, segment: usize) -> bool
+    ensures fewer { IsTrue result → segment < ascii.length }
     ensures ascii { profile ≡ Profile.Ascii → result ≡ false }
-    ensures shorter { profile ≡ Profile.Shorter → result ≡ (not ascii.has_fnc1 && nat_lt segment ascii.length) }
+    ensures shorter { profile ≡ Profile.Shorter
+        → result ≡ (not ascii.has_fnc1 && nat_lt segment ascii.length) }
 {
     // The profile comes last, so that both profiles take the same steps up to the choice.
     segment < ascii.length

@@ -3,7 +3,7 @@
 ghost use Rattle.std.specs.Prelude.{◌≡◌, ◌≤◌, length};
 ghost use Rattle.dm_words.specs.Pads.{padded, pad_at};
 
-use crate::codeword::FIRST_PAD;
+use crate::codeword::{FIRST_PAD, RANDOM_FACTOR};
 use arrayvec::ArrayVec;
 use dm_layout::{MOST_DATA, Size};
 
@@ -12,7 +12,7 @@ fn pad_word(place: u16) -> u8
     requires { place ≤ MOST_DATA }
     ensures { result ≡ pad_at place }
 {
-    let number = 129 + (149 * place as u32) % 253 + 1;
+    let number = FIRST_PAD as u32 + (RANDOM_FACTOR * place as u32) % 253 + 1;
     if number <= 254 {
         number as u8
     } else {
@@ -27,7 +27,7 @@ pub fn padded(words: &[u8], size: Size) -> ArrayVec<u8, MOST_DATA>
     ensures words { result.items ≡ padded words.now size.data_count }
     ensures count { length result.items ≡ size.data_count }
 {
-    // That they fit is known from the size's methods.
+    // For the proof alone: what `data_count` ensures says that the codewords fit.
     let _most = size.data_count();
     let mut all = ArrayVec::new();
     let _room = all.try_extend_from_slice(words);

@@ -1,6 +1,6 @@
 //! The rules by which the normal form of a message is chosen.
 
-/// How the normal form of a message is chosen: its data codewords without pads.
+/// Which codewords are the normal form of a message, that is, its data codewords without pads.
 #[derive(Clone, Copy, Debug, PartialEq, Eq)]
 pub enum Profile {
     /// ASCII encodation alone (ISO/IEC 16022, ASCII encodation).

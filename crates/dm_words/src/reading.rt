@@ -1,17 +1,18 @@
 //! Reading: the message that data codewords spell, or the fault with which they are refused.
 
-ghost use Rattle.std.specs.Prelude.{◌≡◌, ◌+◌, ◌≤◌, ◌<◌, ◌*◌, ◌↔◌, List, [], length, drop, Ok, Err, IfOk, OnOk, Option};
+ghost use Rattle.std.specs.Prelude.{◌≡◌, ◌+◌, ◌≤◌, ◌<◌, ◌*◌, ◌/◌, ◌%◌, ◌↔◌, false, List, [], ◌∷◌, ◌++◌, length, drop, Ok, Err, IfOk, OnOk, Option};
 ghost use Rattle.dm_words.specs.declared.item.Item.{Item};
 ghost use Rattle.dm_words.specs.declared.fault.WordFault.{WordFault};
 ghost use Rattle.dm_words.specs.Messages.{IsMessage, most_spelled};
+ghost use Rattle.dm_words.specs.Codewords.{codeword_of};
 ghost use Rattle.dm_words.specs.Spells.{Spells};
 ghost use Rattle.dm_words.specs.Refused.{Refused};
 ghost use Rattle.dm_words.specs.Outcomes.{outcome};
-ghost use Rattle.dm_words.specs.Answers.{IsMessageAnswer};
+ghost use Rattle.dm_words.specs.Results.{IsMessageResult};
 ghost use Rattle.dm_words.specs.Macros.{macro_header};
-ghost use Rattle.dm_words.specs.inner.Scan.Fronts.{part_front, part_by, raised_unit, read_on, and_trailer};
+ghost use Rattle.dm_words.specs.inner.Scan.Prefixes.{first_part, part_by, raised_unit, is_one_word, begins_with_one_word, read_on, and_trailer};
 ghost use Rattle.dm_words.specs.inner.Scan.Walk.{Step};
-ghost use Rattle.dm_words.specs.inner.Scan.Answers.{IsPartTakenOrEnd, IsPartTaken};
+ghost use Rattle.dm_words.specs.inner.Scan.Results.{HasRoomAt, IsPartTakenOrEnd, IsPartTaken, IsOneWordTaken};
 
 use crate::base256::segment_part;
 use crate::c40::run::run_part;
@@ -19,10 +20,11 @@ use crate::codeword::{Codeword, meaning};
 use crate::edifact::edifact_part;
 use crate::extent::Extent;
 use crate::fault::WordFault;
-use crate::front::number_at;
 use crate::item::Item;
+use crate::limits::MESSAGE_ROOM;
 use crate::macros::{add_header, add_trailer, macro_digit};
 use crate::message::Message;
+use crate::numbers::number_at;
 use dm_layout::MOST_DATA;
 
 /// Takes the part at an index: adds its items to the message, and gives the number of its codewords; `None` at the end.
@@ -34,8 +36,9 @@ fn next_part(
 ) -> Result<Option<usize>, WordFault>
     requires in_range { at ≤ length words.now }
     requires short { length words.now ≤ MOST_DATA }
-    requires room { length message.old ≤ 2 * at + 5 }
-    ensures { IsPartTakenOrEnd result message.old message.new (part_front extent (at + 1) (drop at words.now)) }
+    requires room { HasRoomAt at message.old }
+    ensures { IsPartTakenOrEnd result message.old message.new
+        (first_part extent (at + 1) (drop at words.now)) }
 {
     match number_at(words, at) {
         Some(first) => part_of(extent, meaning(first), first, words, at, message),
@@ -43,7 +46,8 @@ fn next_part(
     }
 }
 
-/// The same where a codeword stands at the index, by what it means.
+/// Takes the part that begins with the codeword `first` at an index, by what that means: adds its items to the message, and gives the number of its
+/// codewords; `None` at the end.
 fn part_of(
     extent: Extent,
     meaning: Option<Codeword>,
@@ -54,8 +58,9 @@ fn part_of(
 ) -> Result<Option<usize>, WordFault>
     requires in_range { at < length words.now }
     requires short { length words.now ≤ MOST_DATA }
-    requires room { length message.old ≤ 2 * at + 5 }
-    ensures { IsPartTakenOrEnd result message.old message.new (part_by extent (at + 1) first (drop (at + 1) words.now) meaning) }
+    requires room { HasRoomAt at message.old }
+    ensures { IsPartTakenOrEnd result message.old message.new
+        (part_by extent (at + 1) first (drop (at + 1) words.now) meaning) }
 {
     let place = at as u16 + 1;
     match meaning {
@@ -65,17 +70,16 @@ fn part_of(
             Ok(Some(1))
         }
         Some(Codeword::Digits(number)) => {
-            message.add(Item::Byte(48 + number / 10));
-            message.add(Item::Byte(48 + number % 10));
+            add_digits(number, message);
             Ok(Some(1))
         }
         Some(Codeword::Fnc1) => {
             message.add(Item::Fnc1);
             Ok(Some(1))
         }
-        Some(Codeword::UpperShift) => taken(raised_part(words, at, message)),
-        Some(Codeword::Latch(set)) => taken(run_part(extent, set, words, at, message)),
-        Some(Codeword::Base256) => taken(segment_part(words, at, message)),
+        Some(Codeword::UpperShift) => part_or_end(raised_part(words, at, message)),
+        Some(Codeword::Latch(set)) => part_or_end(run_part(extent, set, words, at, message)),
+        Some(Codeword::Base256) => part_or_end(segment_part(words, at, message)),
         Some(Codeword::Edifact) => match extent {
             Extent::Usual => Err(WordFault::LeftOut(first, place)),
             Extent::Wide => Ok(Some(edifact_part(words, at, message))),
@@ -85,9 +89,10 @@ fn part_of(
     }
 }
 
-/// A part that can't be the end, as one that can.
-fn taken(part: Result<usize, WordFault>) -> Result<Option<usize>, WordFault>
-    ensures { (old new : List Item) (step : Step (List Item) (Option WordFault)) → IsPartTaken part old new step → IsPartTakenOrEnd result old new step }
+/// Gives the result of a part that isn't the end as that of one that might be.
+fn part_or_end(part: Result<usize, WordFault>) -> Result<Option<usize>, WordFault>
+    ensures { (old new : List Item) (step : Step (List Item) (Option WordFault))
+        → IsPartTaken part old new step → IsPartTakenOrEnd result old new step }
 {
     match part {
         Ok(count) => Ok(Some(count)),
@@ -99,8 +104,9 @@ fn taken(part: Result<usize, WordFault>) -> Result<Option<usize>, WordFault>
 fn raised_part(words: &[u8], at: usize, message: &mut Message) -> Result<usize, WordFault>
     requires in_range { at < length words.now }
     requires short { length words.now ≤ MOST_DATA }
-    requires room { length message.old ≤ 2 * at + 5 }
-    ensures { IsPartTaken result message.old message.new (raised_unit (at + 1) (drop (at + 1) words.now)) }
+    requires room { HasRoomAt at message.old }
+    ensures { IsPartTaken result message.old message.new
+        (raised_unit (at + 1) (drop (at + 1) words.now)) }
 {
     let place = at as u16 + 1;
     let Some(second) = number_at(words, at + 1) else {
@@ -115,6 +121,62 @@ fn raised_part(words: &[u8], at: usize, message: &mut Message) -> Result<usize, 
     }
 }
 
+/// Takes a part that is one codeword, a character or a pair of digits, and says whether this codeword is one: adds its items to the message.
+fn one_word_part(word: u8, message: &mut Message) -> bool
+    requires { length message.old + 2 ≤ MESSAGE_ROOM }
+    ensures one { result ≡ is_one_word (codeword_of word) }
+    ensures taken { IsOneWordTaken result message.old message.new word }
+{
+    match meaning(word) {
+        Some(Codeword::Character(byte)) => {
+            message.add(Item::Byte(byte));
+            true
+        }
+        Some(Codeword::Digits(number)) => {
+            add_digits(number, message);
+            true
+        }
+        _ => false,
+    }
+}
+
+/// Takes the parts of one codeword that stand at an index, all that there are one after the other: adds their items to the message, and gives the
+/// index behind them.
+// Most codewords are such parts, and this loop has nothing else in it.
+fn one_word_parts(words: &[u8], start: usize, message: &mut Message) -> usize
+    requires in_range { start ≤ length words.now }
+    requires short { length words.now ≤ MOST_DATA }
+    requires room { HasRoomAt start message.old }
+    ensures from { start ≤ result }
+    ensures within { result ≤ length words.now }
+    ensures two_for_each_codeword { length message.new + 2 * start
+        ≤ length message.old + 2 * result }
+    ensures all { begins_with_one_word (drop result words.now) ≡ false }
+    ensures read { (extent : Extent)
+        → read_on extent message.new (result + 1) (drop result words.now)
+        ≡ read_on extent message.old (start + 1) (drop start words.now) }
+{
+    let mut at = start;
+    while let Some(word) = number_at(words, at) {
+        let is_taken = one_word_part(word, message);
+        if !is_taken {
+            return at;
+        }
+        at += 1;
+    }
+    at
+}
+
+/// Adds the two digits of a number to the message.
+fn add_digits(number: u8, message: &mut Message)
+    requires { length message.old + 2 ≤ MESSAGE_ROOM }
+    ensures { message.new ≡ message.old ++ Item.Byte (48 + number / 10)
+        ∷ Item.Byte (48 + number % 10) ∷ [] }
+{
+    message.add(Item::Byte(b'0' + number / 10));
+    message.add(Item::Byte(b'0' + number % 10));
+}
+
 /// Adds the items of all parts from an index on to the message, up to the end.
 fn add_parts(
     extent: Extent,
@@ -124,13 +186,15 @@ fn add_parts(
 ) -> Result<(), WordFault>
     requires in_range { start ≤ length words.now }
     requires short { length words.now ≤ MOST_DATA }
-    requires room { length message.old ≤ 2 * start + 5 }
-    ensures read { outcome result message.new ≡ read_on extent message.old (start + 1) (drop start words.now) }
-    ensures two_for_each_codeword { OnOk result (length message.new + 2 * start ≤ length message.old + 2 * length words.now) }
+    requires room { HasRoomAt start message.old }
+    ensures read { outcome result message.new
+        ≡ read_on extent message.old (start + 1) (drop start words.now) }
+    ensures two_for_each_codeword { OnOk result
+        (length message.new + 2 * start ≤ length message.old + 2 * length words.now) }
 {
-    let mut at = start;
+    let mut at = one_word_parts(words, start, message);
     while let Some(count) = next_part(extent, words, at, message)? {
-        at += count;
+        at = one_word_parts(words, at + count, message);
     }
     Ok(())
 }
@@ -140,16 +204,16 @@ fn add_parts(
 /// ignored. The first faulty part from the left decides; `WordFault` says when each fault comes. ISO/IEC 16022, encodation schemes.
 pub fn message_of(words: &[u8]) -> Result<Message, WordFault>
     requires { length words.now ≤ MOST_DATA }
-    ensures { IsMessageAnswer Extent.Usual words.now result }
+    ensures { IsMessageResult Extent.Usual words.now result }
 {
     message_of_as(Extent::Usual, words)
 }
 
-/// Does the same as [`message_of()`] in memory of the caller's: if it answers `Ok`, `message` holds the message, whatever it held before. After
-/// a fault it holds some message.
+/// Does the same as [`message_of()`] in a target: after `Ok`, `message` holds the message, whatever it held before. After a fault it holds some
+/// message.
 pub fn message_to(words: &[u8], message: &mut Message) -> Result<(), WordFault>
     requires { length words.now ≤ MOST_DATA }
-    ensures { IsMessageAnswer Extent.Usual words.now (outcome result message.new) }
+    ensures { IsMessageResult Extent.Usual words.now (outcome result message.new) }
 {
     message_to_as(Extent::Usual, words, message)
 }
@@ -160,7 +224,7 @@ pub fn message_to(words: &[u8], message: &mut Message) -> Result<(), WordFault>
 /// dropped. ISO/IEC 16022, encodation schemes, 05 and 06 macro characters.
 pub fn message_of_as(extent: Extent, words: &[u8]) -> Result<Message, WordFault>
     requires { length words.now ≤ MOST_DATA }
-    ensures { IsMessageAnswer extent words.now result }
+    ensures { IsMessageResult extent words.now result }
 {
     let mut message = Message::new();
     match message_to_as(extent, words, &mut message) {
@@ -169,11 +233,11 @@ pub fn message_of_as(extent: Extent, words: &[u8]) -> Result<Message, WordFault>
     }
 }
 
-/// Does the same as [`message_of_as()`] in memory of the caller's: if it answers `Ok`, `message` holds the message, whatever it held before.
-/// After a fault it holds some message.
+/// Does the same as [`message_of_as()`] in a target: after `Ok`, `message` holds the message, whatever it held before. After a fault it holds some
+/// message.
 pub fn message_to_as(extent: Extent, words: &[u8], message: &mut Message) -> Result<(), WordFault>
     requires { length words.now ≤ MOST_DATA }
-    ensures { IsMessageAnswer extent words.now (outcome result message.new) }
+    ensures { IsMessageResult extent words.now (outcome result message.new) }
 {
     message.clear();
     match macro_digit(extent, words) {
@@ -192,7 +256,8 @@ fn framed_parts(
     requires some { 1 ≤ length words.now }
     requires short { length words.now ≤ MOST_DATA }
     requires empty { message.old ≡ [] }
-    ensures read { outcome result message.new ≡ and_trailer (read_on extent (macro_header digit) 2 (drop 1 words.now)) }
+    ensures read { outcome result message.new
+        ≡ and_trailer (read_on extent (macro_header digit) 2 (drop 1 words.now)) }
     ensures most { OnOk result (length message.new ≤ 2 * length words.now + 7) }
 {
     add_header(digit, message);

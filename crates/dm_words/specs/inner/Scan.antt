@@ -1,5 +1,5 @@
--- How the private functions go through a list from the left, and what they find at its front. The contracts of private functions cite
+-- How the private functions go through a list from the left, and which of its prefixes they take. The contracts of private functions cite
 -- these modules; no public contract and no law does.
 pub mod Walk
-pub mod Fronts
-pub mod Answers
+pub mod Prefixes
+pub mod Results

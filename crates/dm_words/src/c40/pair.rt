@@ -2,12 +2,13 @@
 
 ghost use Rattle.std.specs.Prelude.{◌≡◌, ◌+◌, ◌≤◌, ◌*◌, ◌++◌, ◌∷◌, [], length, drop, All};
 ghost use Rattle.dm_words.specs.inner.Scan.Walk.{flat};
-ghost use Rattle.dm_words.specs.inner.Scan.Fronts.{pair_front, pair_by, pairs_in};
-ghost use Rattle.dm_words.specs.inner.Scan.Answers.{GivesPair, IsSmall};
+ghost use Rattle.dm_words.specs.inner.Scan.Prefixes.{first_pair, pair_by, pairs_in};
+ghost use Rattle.dm_words.specs.Values.{IsRunValue};
+ghost use Rattle.dm_words.specs.inner.Scan.Results.{GivesPair};
 
 use crate::codeword::UNLATCH;
-use crate::front::number_at;
 use crate::limits::MOST_VALUES;
+use crate::numbers::number_at;
 use arrayvec::ArrayVec;
 use dm_layout::MOST_DATA;
 
@@ -26,10 +27,10 @@ pub enum Pair {
     Stops(PairsEnd),
 }
 
-/// The pair at an index.
+/// Gives the pair at an index.
 fn pair_at(words: &[u8], at: usize) -> Pair
     requires { at ≤ length words.now }
-    ensures { GivesPair result (pair_front at (drop at words.now)) }
+    ensures { GivesPair result (first_pair at (drop at words.now)) }
 {
     let Some(high) = number_at(words, at) else {
         return Pair::Stops(PairsEnd::SymbolEnd);
@@ -44,7 +45,7 @@ fn pair_at(words: &[u8], at: usize) -> Pair
     pair_of(number)
 }
 
-/// The pair of a number.
+/// Gives the pair of a number.
 fn pair_of(number: u16) -> Pair
     ensures { GivesPair result (pair_by number) }
 {
@@ -73,13 +74,13 @@ pub struct Pairs {
     pub end: PairsEnd,
 }
 
-/// Gives the pairs at the front of the words.
-pub fn pairs_of(words: &[u8]) -> Pairs
+/// Gives the pairs that the words begin with.
+pub(crate) fn pairs_of(words: &[u8]) -> Pairs
     requires { length words.now ≤ MOST_DATA }
     ensures values { result.values.items ≡ flat (pairs_in words.now).taken }
-    ensures count { result.word_count ≡ (pairs_in words.now).place }
+    ensures word_count { result.word_count ≡ (pairs_in words.now).place }
     ensures end { result.end ≡ (pairs_in words.now).why }
-    ensures small { All IsSmall result.values.items }
+    ensures small { All IsRunValue result.values.items }
     ensures within { result.word_count ≤ length words.now }
     ensures three_of_two { 2 * length result.values.items ≡ 3 * result.word_count }
 {

@@ -2,8 +2,8 @@
 
 ghost use Rattle.std.specs.Prelude.{◌≡◌, ◌+◌, ◌*◌, ◌/◌, ◌^◌, ◌≤◌, ◌<◌, length, drop};
 ghost use Rattle.dm_words.specs.RunFaults.{pair_place};
-ghost use Rattle.dm_words.specs.inner.Scan.Fronts.{end_length, run_fault, run_front};
-ghost use Rattle.dm_words.specs.inner.Scan.Answers.{IsPartTaken};
+ghost use Rattle.dm_words.specs.inner.Scan.Prefixes.{end_length, run_fault, run_behind};
+ghost use Rattle.dm_words.specs.inner.Scan.Results.{HasRoomAt, IsPartTaken};
 
 use crate::c40::pair::{PairsEnd, pairs_of};
 use crate::c40::set::CodeSet;
@@ -22,7 +22,7 @@ fn pair_place(place: u16, index: u16) -> u16
     place + 1 + 2 * (index / 3)
 }
 
-/// Tells what is wrong with the run whose latch stands at a place, if anything is: the first wrong value; if there is none, a bad pair; if there is
+/// Gives what is wrong with the run whose latch stands at a place, if anything is: the first wrong value; if there is none, a bad pair; if there is
 /// none either, in the usual extent, an Upper Shift that waits. The pairs have `pair_words` codewords.
 fn fault_of(
     extent: Extent,
@@ -33,10 +33,10 @@ fn fault_of(
 ) -> Option<WordFault>
     requires place { place ≤ MOST_DATA }
     requires pair_words { pair_words ≤ MOST_DATA }
-    requires values { spelled.count ≤ MOST_VALUES }
-    ensures { result ≡ run_fault extent place pair_words end spelled.count spelled.rest }
+    requires values { spelled.value_count ≤ MOST_VALUES }
+    ensures { result ≡ run_fault extent place pair_words end spelled.value_count spelled.rest }
 {
-    let count = spelled.count as u16;
+    let count = spelled.value_count as u16;
     match (spelled.rest, end) {
         (Rest::Meaningless(behind), _) => {
             Some(WordFault::Value(pair_place(place, count + behind as u16)))
@@ -52,7 +52,7 @@ fn fault_of(
 }
 
 /// Takes the run whose latch stands at an index: adds its items to the message, and gives the number of its codewords.
-pub fn run_part(
+pub(crate) fn run_part(
     extent: Extent,
     set: CodeSet,
     words: &[u8],
@@ -61,8 +61,9 @@ pub fn run_part(
 ) -> Result<usize, WordFault>
     requires in_range { at < length words.now }
     requires short { length words.now ≤ MOST_DATA }
-    requires room { length message.old ≤ 2 * at + 5 }
-    ensures { IsPartTaken result message.old message.new (run_front extent set (at + 1) (drop (at + 1) words.now)) }
+    requires room { HasRoomAt at message.old }
+    ensures { IsPartTaken result message.old message.new
+        (run_behind extent set (at + 1) (drop (at + 1) words.now)) }
 {
     let pairs = pairs_of(&words[at + 1..]);
     let spelled = read_values(set, pairs.values.as_slice(), message);

@@ -35,7 +35,7 @@ pub enum Shifted {
 }
 
 /// Gives the meaning of a value in the basic set.
-pub fn basic_meaning(set: CodeSet, value: u8) -> Basic
+pub(crate) fn basic_meaning(set: CodeSet, value: u8) -> Basic
     requires { value < 40 }
     ensures { basic_of set value ≡ Some result }
 {
@@ -54,7 +54,7 @@ pub fn basic_meaning(set: CodeSet, value: u8) -> Basic
 }
 
 /// Gives the meaning of a value after a shift, or `None` where it has none. X12 has no shift.
-pub fn shifted_meaning(set: CodeSet, shift: Shift, value: u8) -> Option<Shifted>
+pub(crate) fn shifted_meaning(set: CodeSet, shift: Shift, value: u8) -> Option<Shifted>
     ensures { result ≡ shifted_of set shift value }
 {
     match (set, shift) {
@@ -66,7 +66,7 @@ pub fn shifted_meaning(set: CodeSet, shift: Shift, value: u8) -> Option<Shifted>
     }
 }
 
-/// The meaning of a value after Shift 1 in C40 and Text.
+/// Gives the meaning of a value after Shift 1 in C40 and Text.
 fn first_meaning(value: u8) -> Option<Shifted>
     ensures { result ≡ shifted_of CodeSet.C40 Shift.One value }
 {
@@ -77,7 +77,7 @@ fn first_meaning(value: u8) -> Option<Shifted>
     }
 }
 
-/// The meaning of a value after Shift 2 in C40 and Text.
+/// Gives the meaning of a value after Shift 2 in C40 and Text.
 fn second_meaning(value: u8) -> Option<Shifted>
     ensures { result ≡ shifted_of CodeSet.C40 Shift.Two value }
 {
@@ -91,7 +91,7 @@ fn second_meaning(value: u8) -> Option<Shifted>
     }
 }
 
-/// The meaning of a value after Shift 3 in C40.
+/// Gives the meaning of a value after Shift 3 in C40.
 fn third_meaning(value: u8) -> Option<Shifted>
     ensures { result ≡ shifted_of CodeSet.C40 Shift.Three value }
 {
@@ -102,7 +102,7 @@ fn third_meaning(value: u8) -> Option<Shifted>
     }
 }
 
-/// The meaning of a value after Shift 3 in Text.
+/// Gives the meaning of a value after Shift 3 in Text.
 fn third_meaning_in_text(value: u8) -> Option<Shifted>
     ensures { result ≡ shifted_of CodeSet.Text Shift.Three value }
 {

@@ -1,14 +1,15 @@
 //! The values of a run, and the items that they spell.
 
 ghost use Rattle.std.specs.Prelude.{◌≡◌, ◌+◌, ◌≤◌, ◌++◌, length, drop, All};
-ghost use Rattle.dm_words.specs.inner.Scan.Fronts.{spelling_front, raised_front, items_in};
-ghost use Rattle.dm_words.specs.inner.Scan.Answers.{GivesItem, IsSmall};
+ghost use Rattle.dm_words.specs.inner.Scan.Prefixes.{first_spelling, first_raised, items_in};
+ghost use Rattle.dm_words.specs.Values.{IsRunValue};
+ghost use Rattle.dm_words.specs.inner.Scan.Results.{GivesItem};
 
 use crate::c40::set::{Basic, CodeSet, Shifted, basic_meaning, shifted_meaning};
-use crate::front::number_at;
 use crate::item::Item;
 use crate::limits::MESSAGE_ROOM;
 use crate::message::Message;
+use crate::numbers::number_at;
 
 /// What follows the last whole spelling.
 #[derive(Clone, Copy)]
@@ -24,7 +25,7 @@ pub enum Rest {
     Meaningless(u8),
 }
 
-/// The item at the front and the number of its values, or what stands there instead.
+/// The item that the values begin with and how many of them spell it, or what stands there instead.
 #[derive(Clone, Copy)]
 pub enum Spelling {
     Takes(usize, Item),
@@ -34,8 +35,8 @@ pub enum Spelling {
 /// Gives the spelling at an index.
 fn spelling_at(set: CodeSet, values: &[u8], at: usize) -> Spelling
     requires in_range { at ≤ length values.now }
-    requires small { All IsSmall values.now }
-    ensures { GivesItem result (spelling_front set at (drop at values.now)) }
+    requires small { All IsRunValue values.now }
+    ensures { GivesItem result (first_spelling set at (drop at values.now)) }
 {
     let Some(first) = number_at(values, at) else {
         return Spelling::Stops(Rest::Complete);
@@ -58,8 +59,8 @@ fn spelling_at(set: CodeSet, values: &[u8], at: usize) -> Spelling
 /// Gives the spelling whose Upper Shift ends before an index.
 fn raised_at(set: CodeSet, values: &[u8], at: usize) -> Spelling
     requires in_range { at ≤ length values.now }
-    requires small { All IsSmall values.now }
-    ensures { GivesItem result (raised_front set (drop at values.now)) }
+    requires small { All IsRunValue values.now }
+    ensures { GivesItem result (first_raised set (drop at values.now)) }
 {
     let Some(third) = number_at(values, at) else {
         return Spelling::Stops(Rest::Waiting);
@@ -81,18 +82,18 @@ fn raised_at(set: CodeSet, values: &[u8], at: usize) -> Spelling
 /// How many values are in whole spellings, and what follows them.
 #[derive(Clone, Copy)]
 pub struct Spelled {
-    pub count: usize,
+    pub value_count: usize,
     pub rest: Rest,
 }
 
 /// Adds the items that the values spell to the message, up to the first rest.
-pub fn read_values(set: CodeSet, values: &[u8], message: &mut Message) -> Spelled
-    requires small { All IsSmall values.now }
+pub(crate) fn read_values(set: CodeSet, values: &[u8], message: &mut Message) -> Spelled
+    requires small { All IsRunValue values.now }
     requires room { length message.old + length values.now ≤ MESSAGE_ROOM }
     ensures items { message.new ≡ message.old ++ (items_in set values.now).taken }
-    ensures count { result.count ≡ (items_in set values.now).place }
+    ensures value_count { result.value_count ≡ (items_in set values.now).place }
     ensures rest { result.rest ≡ (items_in set values.now).why }
-    ensures within { result.count ≤ length values.now }
+    ensures within { result.value_count ≤ length values.now }
 {
     let mut at = 0;
     loop {
@@ -101,7 +102,10 @@ pub fn read_values(set: CodeSet, values: &[u8], message: &mut Message) -> Spelle
                 message.add(item);
                 at += count;
             }
-            Spelling::Stops(rest) => return Spelled { count: at, rest },
+            Spelling::Stops(rest) => return Spelled {
+                value_count: at,
+                rest,
+            },
         }
     }
 }

@@ -1,21 +1,22 @@
 use Rattle.std.proofs.Common.{arith}
-use Rattle.dm_words.proofs.UnitLoops.{has_unit, unit_turn, unit_room}
+use Rattle.dm_words.proofs.UnitLoops.{has_unit, unit_turn, unit_room, fnc1_turn}
 use Rattle.dm_words.proofs.ascii.write_ascii.Goals as goal
 
 pub write_unit-at-requires : goal.write_unit-at-requires
 write_unit-at-requires c =
-    let h = has_unit c.unit_at.result c.args.items.now c.loop-at.at c.loop-at-test.true c.unit_at.ensures in
-    omega (arith, c.requires, unit_room c.unit_at.result c.args.items.now c.loop-at.at c.loop-at.words.items h c.loop-at.invariant.so_far)
+    let h = has_unit c.unit_at-unit.result c.args.items.now c.loop-at.at c.loop-at-test.true c.unit_at-unit.ensures in
+    omega (arith, c.requires, unit_room c.unit_at-unit.result c.args.items.now c.loop-at.at c.loop-at.words.items h c.loop-at.invariant.so_far)
 
 pub loop-at-preserved : goal.loop-at-preserved
 loop-at-preserved c =
-    let h = has_unit c.unit_at.result c.args.items.now c.loop-at.at c.loop-at-test.true c.unit_at.ensures in
+    let h = has_unit c.unit_at-unit.result c.args.items.now c.loop-at.at c.loop-at-test.true c.unit_at-unit.ensures in
     record {
-      in_range = rw c.write_unit-at.ensures.count h.within;
-      so_far = rw c.write_unit-at.ensures.count (unit_turn c.unit_at.result c.args.items.now c.loop-at.at c.loop-at.words.items c.write_unit-at.new.words.items h c.loop-at.invariant.so_far c.write_unit-at.ensures.words);
+      in_range = rw c.write_unit-at.ensures.item_count h.within;
+      so_far = rw c.write_unit-at.ensures.item_count (unit_turn c.unit_at-unit.result c.args.items.now c.loop-at.at c.loop-at.words.items c.write_unit-at.new.words.items h c.loop-at.invariant.so_far c.write_unit-at.ensures.words);
+      has_fnc1 = rw c.write_unit-at.ensures.item_count (fnc1_turn c.unit_at-unit.result c.args.items.now c.loop-at.at c.loop-at.has_fnc1 c.is_fnc1-has_fnc1.result h c.is_fnc1-has_fnc1.ensures c.loop-at.invariant.has_fnc1);
     }
 
 pub loop-at-smaller : goal.loop-at-smaller
 loop-at-smaller c =
-    let h = has_unit c.unit_at.result c.args.items.now c.loop-at.at c.loop-at-test.true c.unit_at.ensures in
-    omega (arith, h.some, h.within, c.write_unit-at.ensures.count)
+    let h = has_unit c.unit_at-unit.result c.args.items.now c.loop-at.at c.loop-at-test.true c.unit_at-unit.ensures in
+    omega (arith, h.some, h.within, c.write_unit-at.ensures.item_count)

@@ -1,6 +1,6 @@
 use Rattle.std.proofs.Common.{◌≡◌, ◌+◌, ◌++◌, length, drop, take}
 use Rattle.dm_words.specs.Base256.{byte_items}
-use Rattle.dm_words.specs.inner.Scan.Fronts.{plain}
+use Rattle.dm_words.specs.inner.Scan.Prefixes.{plain}
 use Rattle.dm_words.proofs.base256.push_bytes.Given as goal
 
 abbrev pub invariant-loop-i : goal.invariant-loop-i

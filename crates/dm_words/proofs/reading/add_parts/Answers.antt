@@ -1,33 +1,56 @@
-use Rattle.std.proofs.Common.{◌≡◌, ◌+◌, ◌*◌, ◌<◌, ◌≤◌, length, drop, sym, arith, Some, None}
+use Rattle.std.proofs.Common.{◌∙◌, ◌+◌, drop, sym, arith, Some, None}
 use Rattle.std.proofs.lemmas.Result.{err_from_is_err_and}
-use Rattle.dm_words.specs.inner.Scan.Fronts.{read_on}
+use Rattle.dm_words.specs.inner.Scan.Prefixes.{read_on}
 use Rattle.dm_words.proofs.PartLoops.{goes_on, stops_on}
 use Rattle.dm_words.proofs.reading.add_parts.Goals as goal
 
--- After a turn of the loop that takes a part, this is known.
-abbrev TurnLeaves : goal.In-Some → Type 0
-TurnLeaves c =
-    let next = c.loop-count.at + c.in-Some.count in
-    (next ≤ length c.args.words.now) × (length c.next_part.new.message + 2 * c.args.start ≤ length c.args.message.now + 2 * next) × (0 < c.in-Some.count)
-    × (read_on c.args.extent c.next_part.new.message (next + 1) (drop next c.args.words.now) ≡ read_on c.args.extent c.args.message.now (c.args.start + 1) (drop c.args.start c.args.words.now))
-
--- A turn of the loop that takes a part keeps to the words and to what is read in all.
-turn_leaves : (c : goal.In-Some) → TurnLeaves c
-turn_leaves c =
+-- A turn of the loop takes a part, which keeps to the words and to what is read in all, and then parts of one codeword.
+pub overflow_add-at : goal.overflow_add-at
+overflow_add-at c =
     let v = c.loop-count.invariant in
-    let took = rw c.in-Some.is at c.in_ok-count.ensures in
-    goes_on c.args.extent c.args.words.now c.args.start c.loop-count.at c.in-Some.count c.args.message.now c.loop-count.message c.next_part.new.message
+    let r = goes_on c.args.extent c.args.words.now c.args.start c.loop-count.at c.in-Some.count c.args.message.now c.loop-count.message c.next_part.new.message
     (read_on c.args.extent c.args.message.now (c.args.start + 1) (drop c.args.start c.args.words.now))
-    (λ i. omega (arith, c.type_inv.words i)) v.in_range v.from v.room took v.so_far
+    (λ i. omega (arith, c.type_inv.words i)) v.in_range v.from v.room (rw c.in-Some.is at c.in_ok-count.ensures) v.so_far in
+    omega (arith, r.0, c.requires.short)
+
+pub one_word_parts-at-requires-in-Some-clause-in_range : goal.one_word_parts-at-requires-in-Some-clause-in_range
+one_word_parts-at-requires-in-Some-clause-in_range c =
+    let v = c.loop-count.invariant in
+    let r = goes_on c.args.extent c.args.words.now c.args.start c.loop-count.at c.in-Some.count c.args.message.now c.loop-count.message c.next_part.new.message
+    (read_on c.args.extent c.args.message.now (c.args.start + 1) (drop c.args.start c.args.words.now))
+    (λ i. omega (arith, c.type_inv.words i)) v.in_range v.from v.room (rw c.in-Some.is at c.in_ok-count.ensures) v.so_far in
+    r.0
+
+pub one_word_parts-at-requires-in-Some-clause-room : goal.one_word_parts-at-requires-in-Some-clause-room
+one_word_parts-at-requires-in-Some-clause-room c =
+    let v = c.loop-count.invariant in
+    let r = goes_on c.args.extent c.args.words.now c.args.start c.loop-count.at c.in-Some.count c.args.message.now c.loop-count.message c.next_part.new.message
+    (read_on c.args.extent c.args.message.now (c.args.start + 1) (drop c.args.start c.args.words.now))
+    (λ i. omega (arith, c.type_inv.words i)) v.in_range v.from v.room (rw c.in-Some.is at c.in_ok-count.ensures) v.so_far in
+    omega (arith, r.1, c.requires.room)
 
 pub loop-count-preserved : goal.loop-count-preserved
-loop-count-preserved c = let r = turn_leaves c in record { from = omega (arith, c.loop-count.invariant.from); in_range = r.0; room = r.1; so_far = r.3 }
+loop-count-preserved c =
+    let v = c.loop-count.invariant in
+    let r = goes_on c.args.extent c.args.words.now c.args.start c.loop-count.at c.in-Some.count c.args.message.now c.loop-count.message c.next_part.new.message
+    (read_on c.args.extent c.args.message.now (c.args.start + 1) (drop c.args.start c.args.words.now))
+    (λ i. omega (arith, c.type_inv.words i)) v.in_range v.from v.room (rw c.in-Some.is at c.in_ok-count.ensures) v.so_far in
+    let e = c.one_word_parts-at-in-Some.ensures in
+    record {
+      from = omega (arith, v.from, e.from);
+      in_range = e.within;
+      room = omega (arith, r.1, e.two_for_each_codeword);
+      so_far = e.read c.args.extent ∙ r.3;
+    }
 
 pub loop-count-smaller : goal.loop-count-smaller
-loop-count-smaller c = let r = turn_leaves c in omega (arith, r.0, r.2)
-
-pub overflow_add-at : goal.overflow_add-at
-overflow_add-at c = omega (arith, (turn_leaves c).0, c.requires.short)
+loop-count-smaller c =
+    let v = c.loop-count.invariant in
+    let r = goes_on c.args.extent c.args.words.now c.args.start c.loop-count.at c.in-Some.count c.args.message.now c.loop-count.message c.next_part.new.message
+    (read_on c.args.extent c.args.message.now (c.args.start + 1) (drop c.args.start c.args.words.now))
+    (λ i. omega (arith, c.type_inv.words i)) v.in_range v.from v.room (rw c.in-Some.is at c.in_ok-count.ensures) v.so_far in
+    let e = c.one_word_parts-at-in-Some.ensures in
+    omega (arith, r.0, r.2, e.from, e.within)
 
 pub returns-clause-read : goal.returns-clause-read
 returns-clause-read c =

@@ -1,5 +1,5 @@
 use Rattle.std.proofs.Common.{◌≡◌, ◌+◌, ◌-◌, ◌*◌, ◌≤◌, length, drop}
-use Rattle.dm_words.specs.inner.Scan.Fronts.{read_on}
+use Rattle.dm_words.specs.inner.Scan.Prefixes.{read_on}
 use Rattle.dm_words.proofs.reading.add_parts.Given as goal
 
 abbrev pub invariant-loop-count : goal.invariant-loop-count

@@ -1,7 +1,7 @@
 -- Going through a list from the left, piece by piece.
 use Rattle.std.specs.Prelude.{ℕ, zero, suc, ◌+◌, List, [], ◌∷◌, ◌++◌, length, drop}
 
--- A step finds at the front of a list a piece of some number of words, or nothing that can be taken.
+-- A step finds first of a list a piece of some number of words, or nothing that can be taken.
 pub data Step (A S : Type 0) : Type 0 where
   Takes : (count : ℕ) (what : A) → Step A S
   Stops : (why : S) → Step A S
@@ -17,12 +17,12 @@ module _ {A S : Type 0} where
   abbrev pub and_before : A → Walked A S → Walked A S
   and_before piece walked = record { taken = piece ∷ walked.taken; place = walked.place; why = walked.why }
 
-  -- The walk goes on, or stops, by what stands at the front.
+  -- The walk goes on, or stops, by what the step found.
   abbrev pub by_step : Step A S → (ℕ → A → Walked A S) → (S → Walked A S) → Walked A S
   by_step (Takes count what) takes stops = takes count what
   by_step (Stops why) takes stops = stops why
 
-  -- A walk takes pieces from the front as long as there are any, and at most `fuel` of them; `never` is the reason where the fuel ends.
+  -- A walk takes pieces from the left as long as there are any, and at most `fuel` of them; `never` is the reason where the fuel ends.
   unfoldable pub walk : (ℕ → List ℕ → Step A S) → S → ℕ → ℕ → List ℕ → Walked A S
   walk step never zero place words = record { taken = []; place = place; why = never }
   walk step never (suc fuel) place words =

@@ -1,5 +1,5 @@
 use Rattle.std.proofs.Common.{◌∷◌, [], length, ap, arith, length-append}
-use Rattle.dm_words.specs.inner.Scan.Fronts.{pairs_in}
+use Rattle.dm_words.specs.inner.Scan.Prefixes.{pairs_in}
 use Rattle.dm_words.proofs.RunLoops.{pairs_turn, pairs_stop, small_more}
 use Rattle.dm_words.proofs.c40.pair.pairs_of.Goals as goal
 
@@ -18,8 +18,8 @@ loop-first-preserved c =
 pub returns-in-Stops-clause-values : goal.returns-in-Stops-clause-values
 returns-in-Stops-clause-values c = (pairs_stop c.args.words.now c.loop-first.at c.loop-first.values.items c.in-Stops.end (pairs_in c.args.words.now) c.in-Stops.ensures c.loop-first.invariant.so_far).values
 
-pub returns-in-Stops-clause-count : goal.returns-in-Stops-clause-count
-returns-in-Stops-clause-count c = (pairs_stop c.args.words.now c.loop-first.at c.loop-first.values.items c.in-Stops.end (pairs_in c.args.words.now) c.in-Stops.ensures c.loop-first.invariant.so_far).place_is
+pub returns-in-Stops-clause-word_count : goal.returns-in-Stops-clause-word_count
+returns-in-Stops-clause-word_count c = (pairs_stop c.args.words.now c.loop-first.at c.loop-first.values.items c.in-Stops.end (pairs_in c.args.words.now) c.in-Stops.ensures c.loop-first.invariant.so_far).place_is
 
 pub returns-in-Stops-clause-end : goal.returns-in-Stops-clause-end
 returns-in-Stops-clause-end c = (pairs_stop c.args.words.now c.loop-first.at c.loop-first.values.items c.in-Stops.end (pairs_in c.args.words.now) c.in-Stops.ensures c.loop-first.invariant.so_far).why_is

@@ -1,6 +1,6 @@
 use Rattle.std.proofs.Common.{◌≡◌, ◌-◌, ◌*◌, ◌≤◌, length, All}
-use Rattle.dm_words.specs.inner.Scan.Answers.{IsSmall}
-use Rattle.dm_words.specs.inner.Scan.Fronts.{pairs_in}
+use Rattle.dm_words.specs.Values.{IsRunValue}
+use Rattle.dm_words.specs.inner.Scan.Prefixes.{pairs_in}
 use Rattle.dm_words.proofs.RunLoops.{PairsGoOn}
 use Rattle.dm_words.proofs.c40.pair.pairs_of.Given as goal
 
@@ -8,7 +8,7 @@ abbrev pub invariant-loop-first : goal.invariant-loop-first
 invariant-loop-first l = record {
   in_range : l.at ≤ length l.words;
   room : 2 * length l.values.items ≡ 3 * l.at;
-  small : All IsSmall l.values.items;
+  small : All IsRunValue l.values.items;
   so_far : PairsGoOn l.words (pairs_in l.words) l.values.items l.at;
 }
 

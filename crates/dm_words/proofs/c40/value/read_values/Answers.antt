@@ -1,5 +1,5 @@
 use Rattle.std.proofs.Common.{◌∷◌, [], length, ap, arith, length-append}
-use Rattle.dm_words.specs.inner.Scan.Fronts.{items_in}
+use Rattle.dm_words.specs.inner.Scan.Prefixes.{items_in}
 use Rattle.dm_words.proofs.RunLoops.{items_turn, items_stop}
 use Rattle.dm_words.proofs.c40.value.read_values.Goals as goal
 
@@ -22,8 +22,8 @@ loop-count-smaller c =
 pub returns-in-Stops-clause-items : goal.returns-in-Stops-clause-items
 returns-in-Stops-clause-items c = (items_stop c.args.set c.args.values.now c.loop-count.at c.args.message.now c.loop-count.message c.in-Stops.rest (items_in c.args.set c.args.values.now) c.in-Stops.ensures c.loop-count.invariant.so_far).values
 
-pub returns-in-Stops-clause-count : goal.returns-in-Stops-clause-count
-returns-in-Stops-clause-count c = (items_stop c.args.set c.args.values.now c.loop-count.at c.args.message.now c.loop-count.message c.in-Stops.rest (items_in c.args.set c.args.values.now) c.in-Stops.ensures c.loop-count.invariant.so_far).place_is
+pub returns-in-Stops-clause-value_count : goal.returns-in-Stops-clause-value_count
+returns-in-Stops-clause-value_count c = (items_stop c.args.set c.args.values.now c.loop-count.at c.args.message.now c.loop-count.message c.in-Stops.rest (items_in c.args.set c.args.values.now) c.in-Stops.ensures c.loop-count.invariant.so_far).place_is
 
 pub returns-in-Stops-clause-rest : goal.returns-in-Stops-clause-rest
 returns-in-Stops-clause-rest c = (items_stop c.args.set c.args.values.now c.loop-count.at c.args.message.now c.loop-count.message c.in-Stops.rest (items_in c.args.set c.args.values.now) c.in-Stops.ensures c.loop-count.invariant.so_far).why_is

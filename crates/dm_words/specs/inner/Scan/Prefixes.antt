@@ -1,5 +1,5 @@
--- What is found at the front of a list: a part of the words, a pair, an item among the values of a run.
-use Rattle.std.specs.Prelude.{ℕ, suc, ◌+◌, ◌-◌, ◌*◌, ◌/◌, ◌%◌, List, [], ◌∷◌, ◌++◌, length, take, drop, map, Option, Some, None, Result, Ok, Err, nat_lt, ◌==◌, if◌then◌else◌}
+-- What is a prefix of a list: a part of the words, a pair, an item among the values of a run.
+use Rattle.std.specs.Prelude.{ℕ, suc, ◌+◌, ◌-◌, ◌*◌, ◌/◌, ◌%◌, List, [], ◌∷◌, ◌++◌, length, take, drop, map, Option, Some, None, Result, Ok, Err, Bool, true, false, nat_lt, ◌==◌, if◌then◌else◌}
 use Rattle.dm_words.specs.declared.extent.Extent.{Extent}
 use Rattle.dm_words.specs.declared.extent.Extent.TheVariants.{Usual, Wide}
 use Rattle.dm_words.specs.declared.item.Item.{Item}
@@ -17,10 +17,10 @@ use Rattle.dm_words.specs.declared.c40.pair.PairsEnd.{PairsEnd}
 use Rattle.dm_words.specs.declared.c40.pair.PairsEnd.TheVariants as stop
 use Rattle.dm_words.specs.declared.c40.value.Rest.{Rest}
 use Rattle.dm_words.specs.declared.c40.value.Rest.TheVariants as rest
-use Rattle.dm_words.specs.Codewords.{codeword_of}
+use Rattle.dm_words.specs.Codewords.{codeword_of, unlatch_word}
 use Rattle.dm_words.specs.CodeSets.{basic_of, shifted_of}
 use Rattle.dm_words.specs.RunFaults.{pair_place}
-use Rattle.dm_words.specs.Base256.{random_at, byte_items, long_count}
+use Rattle.dm_words.specs.Base256.{random_at, byte_items, most_short, long_count}
 use Rattle.dm_words.specs.Edifact.{unlatch_value, edifact_byte}
 use Rattle.dm_words.specs.Macros.{macro_header, macro_trailer}
 use Rattle.dm_words.specs.inner.Scan.Walk.{Step, Takes, Stops, Walked, walk, walk_all, flat}
@@ -42,28 +42,28 @@ raised_by set [] (Some (basic.Shift shift)) = Stops rest.Waiting
 raised_by set (next ∷ more) (Some (basic.Shift shift)) = raised_shifted (shifted_of set shift next)
 
 -- Behind an Upper Shift, this item is taken.
-abbrev pub raised_front : CodeSet → List ℕ → Step Item Rest
-raised_front set [] = Stops rest.Waiting
-raised_front set (value ∷ more) = raised_by set more (basic_of set value)
+abbrev pub first_raised : CodeSet → List ℕ → Step Item Rest
+first_raised set [] = Stops rest.Waiting
+first_raised set (value ∷ more) = raised_by set more (basic_of set value)
 
 -- Behind a shift, the meaning of the next value decides which item is taken.
 abbrev pub shifted_by : CodeSet → List ℕ → Option Shifted → Step Item Rest
 shifted_by set more (Some (shifted.Character byte)) = Takes 2 (Byte byte)
 shifted_by set more (Some shifted.Fnc1) = Takes 2 Fnc1
-shifted_by set more (Some shifted.UpperShift) = raised_front set more
+shifted_by set more (Some shifted.UpperShift) = first_raised set more
 shifted_by set more None = Stops (rest.Meaningless 1)
 
--- At the front, the meaning of the first value decides which item is taken.
+-- The meaning of the first value decides which item is taken.
 abbrev pub spelling_by : CodeSet → List ℕ → Option Basic → Step Item Rest
 spelling_by set more None = Stops rest.Complete
 spelling_by set more (Some (basic.Character byte)) = Takes 1 (Byte byte)
 spelling_by set [] (Some (basic.Shift shift)) = Stops rest.Complete
 spelling_by set (next ∷ more) (Some (basic.Shift shift)) = shifted_by set more (shifted_of set shift next)
 
--- At the front of the values stands an item, or the rest that is left.
-abbrev pub spelling_front : CodeSet → ℕ → List ℕ → Step Item Rest
-spelling_front set place [] = Stops rest.Complete
-spelling_front set place (value ∷ more) = spelling_by set more (basic_of set value)
+-- The values begin with the spelling of an item, or the rest that is left.
+abbrev pub first_spelling : CodeSet → ℕ → List ℕ → Step Item Rest
+first_spelling set place [] = Stops rest.Complete
+first_spelling set place (value ∷ more) = spelling_by set more (basic_of set value)
 
 -- ---- the pairs of a run
 
@@ -75,11 +75,11 @@ values_of number = ((number - 1) / 1600) ∷ ((number - 1) / 40 % 40) ∷ ((numb
 abbrev pub pair_by : ℕ → Step (List ℕ) PairsEnd
 pair_by number = if number == 0 then Stops stop.BadPair else if nat_lt 64000 number then Stops stop.BadPair else Takes 2 (values_of number)
 
--- At the front of the words stands a pair, or the pairs end there.
-abbrev pub pair_front : ℕ → List ℕ → Step (List ℕ) PairsEnd
-pair_front place [] = Stops stop.SymbolEnd
-pair_front place (high ∷ []) = if high == 254 then Stops stop.Unlatch else Stops stop.SymbolEnd
-pair_front place (high ∷ low ∷ more) = if high == 254 then Stops stop.Unlatch else pair_by (256 * high + low)
+-- The words begin with a pair, or the pairs end there.
+abbrev pub first_pair : ℕ → List ℕ → Step (List ℕ) PairsEnd
+first_pair place [] = Stops stop.SymbolEnd
+first_pair place (high ∷ []) = if high == unlatch_word then Stops stop.Unlatch else Stops stop.SymbolEnd
+first_pair place (high ∷ low ∷ more) = if high == unlatch_word then Stops stop.Unlatch else pair_by (256 * high + low)
 
 -- ---- the run
 
@@ -116,23 +116,23 @@ run_by extent place words end items = run_unless (run_fault extent place words e
 
 -- These pairs stand in the words from an index on.
 abbrev pub pairs_from : ℕ → List ℕ → Walked (List ℕ) PairsEnd
-pairs_from at words = walk_all pair_front stop.SymbolEnd at words
+pairs_from at words = walk_all first_pair stop.SymbolEnd at words
 
 -- These items stand in the values from an index on.
 abbrev pub items_from : CodeSet → ℕ → List ℕ → Walked Item Rest
-items_from set at values = walk_all (spelling_front set) rest.Complete at values
+items_from set at values = walk_all (first_spelling set) rest.Complete at values
 
--- These pairs stand at the front of the words.
+-- These pairs stand first in the words.
 abbrev pub pairs_in : List ℕ → Walked (List ℕ) PairsEnd
 pairs_in words = pairs_from 0 words
 
--- These items stand at the front of the values.
+-- These items stand first in the values.
 abbrev pub items_in : CodeSet → List ℕ → Walked Item Rest
 items_in set values = items_from set 0 values
 
 -- This run stands behind a latch at a place.
-unfoldable pub run_front : Extent → CodeSet → ℕ → List ℕ → Step (List Item) (Option WordFault)
-run_front extent set place words = let pairs = pairs_in words in run_by extent place pairs.place pairs.why (items_in set (flat pairs.taken))
+unfoldable pub run_behind : Extent → CodeSet → ℕ → List ℕ → Step (List Item) (Option WordFault)
+run_behind extent set place words = let pairs = pairs_in words in run_by extent place pairs.place pairs.why (items_in set (flat pairs.taken))
 
 -- ---- segments of Base 256
 
@@ -152,14 +152,14 @@ segment_by place field count values = if nat_lt (length values) count then Stops
 -- Behind a first length number of 250 or more, the second one decides which segment is taken.
 abbrev pub long_segment : ℕ → ℕ → List ℕ → Step (List Item) (Option WordFault)
 long_segment place first [] = Stops (Some (fault.Length place))
-long_segment place first (second ∷ values) = if nat_lt 249 second then Stops (Some (fault.Length place)) else segment_by place 2 (long_count first second) values
+long_segment place first (second ∷ values) = if nat_lt most_short second then Stops (Some (fault.Length place)) else segment_by place 2 (long_count first second) values
 
 -- The values of all words behind a latch at a place decide which segment is taken.
-unfoldable pub segment_front : ℕ → List ℕ → Step (List Item) (Option WordFault)
-segment_front place [] = Stops (Some (fault.Length place))
-segment_front place (first ∷ values) =
+unfoldable pub segment_behind : ℕ → List ℕ → Step (List Item) (Option WordFault)
+segment_behind place [] = Stops (Some (fault.Length place))
+segment_behind place (first ∷ values) =
     if first == 0 then Takes (2 + length values) (byte_items values) else
-    if nat_lt 249 first then long_segment place first values else
+    if nat_lt most_short first then long_segment place first values else
     segment_by place 1 first values
 
 -- ---- runs of EDIFACT
@@ -179,7 +179,7 @@ group_by (first ∷ second ∷ third ∷ fourth ∷ []) rest =
     (3 + rest.0, first ∷ second ∷ third ∷ fourth ∷ rest.1)
 group_by _ rest = rest
 
--- This run stands at the front of the codewords behind a latch.
+-- This run is a prefix of the codewords behind a latch.
 unfoldable pub edifact_run : List ℕ → ℕ × List ℕ
 edifact_run (high ∷ middle ∷ low ∷ more) = group_by (group_values high middle low) (edifact_run more)
 edifact_run _ = (0, [])
@@ -205,13 +205,13 @@ abbrev pub raised_unit : ℕ → List ℕ → Step (List Item) (Option WordFault
 raised_unit place [] = Stops (Some (fault.Unfinished place))
 raised_unit place (next ∷ more) = raised_unit_by place (codeword_of next)
 
--- At the front of the words, the meaning of the first codeword decides which part is taken.
+-- The meaning of the first codeword decides which part is taken.
 abbrev pub part_by : Extent → ℕ → ℕ → List ℕ → Option Codeword → Step (List Item) (Option WordFault)
 part_by extent place word more (Some (codeword.Character byte)) = Takes 1 (Byte byte ∷ [])
 part_by extent place word more (Some codeword.Pad) = Stops None
 part_by extent place word more (Some (codeword.Digits number)) = Takes 1 (Byte (48 + number / 10) ∷ Byte (48 + number % 10) ∷ [])
-part_by extent place word more (Some (codeword.Latch set)) = run_front extent set place more
-part_by extent place word more (Some codeword.Base256) = segment_front place (plain (place + 1) more)
+part_by extent place word more (Some (codeword.Latch set)) = run_behind extent set place more
+part_by extent place word more (Some codeword.Base256) = segment_behind place (plain (place + 1) more)
 part_by extent place word more (Some codeword.Fnc1) = Takes 1 (Fnc1 ∷ [])
 part_by extent place word more (Some codeword.UpperShift) = raised_unit place more
 part_by extent place word more (Some codeword.Edifact) = edifact_by extent place word more
@@ -219,10 +219,21 @@ part_by extent place word more (Some (codeword.Macro digit)) = Stops (Some (faul
 part_by extent place word more (Some codeword.LeftOut) = Stops (Some (fault.LeftOut word place))
 part_by extent place word more None = Stops (Some (fault.Reserved place))
 
--- At the front of the words stands a part, the end, or a fault.
-abbrev pub part_front : Extent → ℕ → List ℕ → Step (List Item) (Option WordFault)
-part_front extent place [] = Stops None
-part_front extent place (word ∷ more) = part_by extent place word more (codeword_of word)
+-- A codeword with this meaning is by itself a character or a pair of digits.
+abbrev pub is_one_word : Option Codeword → Bool
+is_one_word (Some (codeword.Character byte)) = true
+is_one_word (Some (codeword.Digits number)) = true
+is_one_word _ = false
+
+-- The words begin with a codeword that is by itself a character or a pair of digits.
+abbrev pub begins_with_one_word : List ℕ → Bool
+begins_with_one_word [] = false
+begins_with_one_word (word ∷ more) = is_one_word (codeword_of word)
+
+-- The words begin with a part, the end, or a fault.
+abbrev pub first_part : Extent → ℕ → List ℕ → Step (List Item) (Option WordFault)
+first_part extent place [] = Stops None
+first_part extent place (word ∷ more) = part_by extent place word more (codeword_of word)
 
 -- The message is given if the walk came to the end, and else the fault.
 abbrev pub read_to : List Item → Option WordFault → Result (List Item) WordFault
@@ -231,7 +242,7 @@ read_to items (Some why) = Err why
 
 -- This is read from a place on, behind items that were read before.
 unfoldable pub read_on : Extent → List Item → ℕ → List ℕ → Result (List Item) WordFault
-read_on extent items place words = let found = walk (part_front extent) None (suc (length words)) place words in read_to (items ++ flat found.taken) found.why
+read_on extent items place words = let found = walk (first_part extent) None (suc (length words)) place words in read_to (items ++ flat found.taken) found.why
 
 -- A codeword with this meaning is a macro of this digit, or none.
 abbrev pub digit_by : Option Codeword → Option ℕ
