@@ -15,12 +15,12 @@ use Rattle.dm_layout.specs.Words.{WordsView, IsWords}
 use Rattle.dm_words.specs.NormalForm.{normal_form}
 use Rattle.dm_words.specs.Pads.{padded}
 use Rattle.dm_words.specs.Spells.{Spells}
-use Rattle.dm_words.specs.Laws.{HasOneAnswer}
+use Rattle.dm_words.specs.Laws.{HasOneResult}
 use Rattle.dm_words.specs.Messages.{IsMessage}
 use Rattle.dm_symbol.specs.Blocks.{symbol, AreWordsOf, AreHeld, block_at}
 use Rattle.dm_code.proofs.Exported.{codewords_one, near_one, codeword_bytes, near_or_none as near_or_none_of, checks_are_there as checks_are_there_of}
 use Rattle.dm_layout.proofs.Exported.{every_grid_holds as every_grid_holds_of, laid_somewhere as laid_somewhere_of, blocks_make_words as blocks_make_words_of, word_of_block, length_of_block, one_list, one_laid, once_at_row, count_at_row}
-use Rattle.dm_words.proofs.Exported.{spelled_is_message as spelled_is_message_of, wide_reads_the_same, one_answer as one_answer_of, normal_form_codewords as normal_form_codewords_of, normal_form_count as normal_form_count_of, normal_form_spells as normal_form_spells_of}
+use Rattle.dm_words.proofs.Exported.{spelled_is_message as spelled_is_message_of, wide_reads_the_same, one_result as one_result_of, normal_form_codewords as normal_form_codewords_of, normal_form_count as normal_form_count_of, normal_form_spells as normal_form_spells_of}
 
 -- Two codewords of one length and of k check codewords that differ at no more than k places are equal.
 pub codewords_apart : (k : ℕ) (c d : List ℕ) → IsCodeword k c → IsCodeword k d → length c ≡ length d → length c ≤ 255 → distance c d ≤ k → c ≡ d
@@ -39,8 +39,8 @@ pub near_or_none : (k : ℕ) (block : List ℕ) → k < length block → length 
 near_or_none = near_or_none_of
 
 -- Data codewords are completed to a codeword.
-pub checks_are_there : (k : ℕ) (front : List ℕ) → All (λ a. a < 256) front → k < 255 → length front + k ≤ 255
-    → (c : List ℕ) × (length c ≡ k) × IsCodeword k (front ++ c)
+pub checks_are_there : (k : ℕ) (prefix : List ℕ) → All (λ a. a < 256) prefix → k < 255 → length prefix + k ≤ 255
+    → (c : List ℕ) × (length c ≡ k) × IsCodeword k (prefix ++ c)
 checks_are_there = checks_are_there_of
 
 -- Place i of block b is place i * B + b of the symbol.
@@ -91,8 +91,8 @@ pub shape_count : (size : SizeRow) → IsRow size → length (shapes size.mappin
 shape_count size row = count_at_row size row
 
 -- Codewords spell one message, or are refused with one fault.
-pub one_answer : (extent : Extent) (words : List ℕ) → All (λ w. w < 256) words → HasOneAnswer extent words
-one_answer extent words h = one_answer_of extent words h
+pub one_result : (extent : Extent) (words : List ℕ) → All (λ w. w < 256) words → HasOneResult extent words
+one_result extent words h = one_result_of extent words h
 
 -- The normal form of a message, with pads, spells the message.
 pub normal_form_spells : (extent : Extent) (p : Profile) (m : List Item) (count : ℕ) → IsMessage m → length (normal_form p m) ≤ count → count ≤ most_data

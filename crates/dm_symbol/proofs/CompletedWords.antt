@@ -40,28 +40,28 @@ record IsCompletion (size : SizeRow) (words : List ℕ) (b : ℕ) (list : List �
   pub codeword : IsCodeword (block_check size) list
 
 -- A block has this many data codewords.
-front_length : (size : SizeRow) (words : List ℕ) → AreWordsOf size words → (b : ℕ) → b < size.blocks
+prefix_length : (size : SizeRow) (words : List ℕ) → AreWordsOf size words → (b : ℕ) → b < size.blocks
     → length (take (block_data size) (block_at size words b)) ≡ block_data size
-front_length size words h b hb =
+prefix_length size words h b hb =
     length-take-le (block_data size) (block_at size words b) (omega (arith, block_lengths size words h b hb, (size_facts size h.row).length))
 
 -- Each block has check codewords that complete it.
 completion : (size : SizeRow) (words : List ℕ) → AreWordsOf size words → (b : ℕ) → b < size.blocks → (list : List ℕ) × IsCompletion size words b list
 completion size words h b hb =
     let f = size_facts size h.row in
-    let front = take (block_data size) (block_at size words b) in
-    let long : length front ≡ block_data size = front_length size words h b hb in
-    let made = checks_are_there (block_check size) front (All-take (λ w. w < 256) (block_data size) (block_at size words b) (block_bytes size words h b hb))
+    let prefix = take (block_data size) (block_at size words b) in
+    let long : length prefix ≡ block_data size = prefix_length size words h b hb in
+    let made = checks_are_there (block_check size) prefix (All-take (λ w. w < 256) (block_data size) (block_at size words b) (block_bytes size words h b hb))
     (omega (arith, f.few_checks)) (omega (arith, long, f.length, f.short)) in (
-      front ++ made.0,
-      record { checks = made.0; whole = refl; long = omega (arith, length-append front made.0, long, made.1, f.length); codeword = made.2 },
+      prefix ++ made.0,
+      record { checks = made.0; whole = refl; long = omega (arith, length-append prefix made.0, long, made.1, f.length); codeword = made.2 },
     )
 
 -- A symbol has codewords with these data codewords, of which each block is a codeword.
 pub record HasChecks (size : SizeRow) (data_words : List ℕ) : Type 0 where
   pub list : List ℕ
   pub of_size : AreWordsOf size list
-  pub front : data_part size list ≡ data_words
+  pub prefix : data_part size list ≡ data_words
   pub checked : BlocksAreCodewords size list
 
 -- Data codewords with zeros behind them are codewords of a symbol.
@@ -86,14 +86,14 @@ checks_for size data_words row long bytes =
     let made = blocks_make_words size blocks.0 row
     (λ b hb. ((blocks.1 b hb).long, codewords_are_bytes (block_check size) (blocks.0 b) (blocks.1 b hb).codeword)) in
     let stay : data_part size made.list ≡ data_part size u = data_stays size u made.list hu made.of_size (λ b i hb hi.
-    let front = take (block_data size) (block_at size u b) in
+    let prefix = take (block_data size) (block_at size u b) in
     ap (λ xs. get_or xs i 0) (made.are b hb ∙ (blocks.1 b hb).whole)
-    ∙ get_or_append_left front (blocks.1 b hb).checks 0 i (omega (arith, hi, front_length size u hu b hb))
+    ∙ get_or_append_left prefix (blocks.1 b hb).checks 0 i (omega (arith, hi, prefix_length size u hu b hb))
     ∙ get_or-take (block_data size) (block_at size u b) i 0 hi) in
     record {
       list = made.list;
       of_size = made.of_size;
-      front = stay ∙ ap (λ n. take n u) (sym long) ∙ take-append_seam data_words (replicate size.check_count 0);
+      prefix = stay ∙ ap (λ n. take n u) (sym long) ∙ take-append_seam data_words (replicate size.check_count 0);
       checked = λ b hb. subst (IsCodeword (block_check size)) (sym (made.are b hb)) (blocks.1 b hb).codeword;
     }
 
@@ -108,4 +108,4 @@ normal_grid_is_there p m h fits = of_size (row_for_words (length (normal_form p 
         let are = normal_form_words_are p m size.data_count h here.1 in
         let w = checks_for size (padded (normal_form p m) size.data_count) here.0 are.0 are.1 in
         let laid = laid_somewhere (symbol size w.list) w.of_size in
-        (laid.0, laid_is_normal p m laid.0 (symbol size w.list) size e refl w.front w.checked laid.1)
+        (laid.0, laid_is_normal p m laid.0 (symbol size w.list) size e refl w.prefix w.checked laid.1)

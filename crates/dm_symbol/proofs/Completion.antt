@@ -37,11 +37,11 @@ completion_keeps_data size u v checks b hu hv hb put others =
     elim (cases_eq a b) [
       | inl e ↦
           let f = size_facts size hu.row in
-          let front = take (block_data size) (block_at size u b) in
-          let long : length front ≡ block_data size = length-take-le (block_data size) (block_at size u b) (omega (arith, block_lengths size u hu b hb, f.length)) in
+          let prefix = take (block_data size) (block_at size u b) in
+          let long : length prefix ≡ block_data size = length-take-le (block_data size) (block_at size u b) (omega (arith, block_lengths size u hu b hb, f.length)) in
           ap (λ x. get_or (block_at size v x) i 0) e
           ∙ ap (λ xs. get_or xs i 0) put
-          ∙ get_or_append_left front checks 0 i (omega (arith, hi, long))
+          ∙ get_or_append_left prefix checks 0 i (omega (arith, hi, long))
           ∙ get_or-take (block_data size) (block_at size u b) i 0 hi
           ∙ sym (ap (λ x. get_or (block_at size u x) i 0) e)
       | inr other ↦ ap (λ xs. get_or xs i 0) (others a ha other)

@@ -17,9 +17,9 @@ use Rattle.dm_symbol.specs.Blocks.{symbol, AreWordsOf, BlocksAreCodewords, data_
 use Rattle.dm_symbol.specs.NormalGrid.{IsNormalGrid}
 use Rattle.dm_symbol.proofs.SymbolBlocks.{checks_are_one}
 use Rattle.dm_symbol.proofs.SizeFacts.{size_facts, holds_that_many}
-use Rattle.dm_symbol.proofs.Below.{one_answer, normal_form_spells, held_words_are_one, laid_grid_is_one}
+use Rattle.dm_symbol.proofs.Below.{one_result, normal_form_spells, held_words_are_one, laid_grid_is_one}
 
--- Two equal answers that are there say the same.
+-- Two equal results that are there say the same.
 some_is : {A : Type 0} (a b : A) → Some a ≡ Some b → a ≡ b
 some_is a b e = cc
 
@@ -30,7 +30,7 @@ data_is_bytes size words h = All-take (λ w. w < 256) size.data_count words h.by
 -- Bytes spell at most one message.
 pub one_spelled : (extent : Extent) (words : List ℕ) (m n : List Item) → All (λ w. w < 256) words → Spells extent words m → Spells extent words n → m ≡ n
 one_spelled extent words m n bytes hm hn =
-    elim (one_answer extent words bytes) [
+    elim (one_result extent words bytes) [
       | inl s ↦ s.only m hm ∙ sym (s.only n hn)
       | inr r ↦ absurd (r.not_spelled m hm)
     ]
@@ -47,9 +47,9 @@ normal_grid_is_one p m g h ng nh =
     let size : g.size ≡ h.size = some_is g.size h.size (sym ng.smallest ∙ nh.smallest) in
     let of_size : AreWordsOf g.size nh.words = subst (λ s. AreWordsOf s nh.words) (sym size) nh.laid.holds.codewords in
     let codewords : BlocksAreCodewords g.size nh.words = subst (λ s. BlocksAreCodewords s nh.words) (sym size) nh.checked in
-    let front : data_part g.size nh.words ≡ padded (normal_form p m) g.size.data_count =
+    let prefix : data_part g.size nh.words ≡ padded (normal_form p m) g.size.data_count =
     subst (λ s. data_part s nh.words ≡ padded (normal_form p m) s.data_count) (sym size) nh.data_words in
-    let same : ng.words ≡ nh.words = checks_are_one g.size ng.words nh.words ng.laid.holds.codewords of_size ng.checked codewords (ng.data_words ∙ sym front) in
+    let same : ng.words ≡ nh.words = checks_are_one g.size ng.words nh.words ng.laid.holds.codewords of_size ng.checked codewords (ng.data_words ∙ sym prefix) in
     let symbols : symbol g.size ng.words ≡ symbol h.size nh.words = ap (λ s. symbol s ng.words) size ∙ ap (λ w. symbol h.size w) same in
     laid_grid_is_one g h (symbol h.size nh.words) (subst (λ w. IsLaid w g) symbols ng.laid) nh.laid
 

@@ -16,11 +16,11 @@ use Rattle.dm_symbol.specs.declared.reading.Reading.{Reading}
 use Rattle.dm_symbol.specs.declared.reading.ReadFault.{ReadFault}
 use Rattle.dm_symbol.specs.declared.reading.ReadFault.TheVariants as fault
 use Rattle.dm_symbol.specs.Blocks.{AreHeld, BlocksAreNear, block_at, data_part, distances}
-use Rattle.dm_symbol.specs.Reading.{IsCorrected, Reads, IsFirstBeyond, ReadAnswer, reading_of, IsReadAs}
+use Rattle.dm_symbol.specs.Reading.{IsCorrected, Reads, IsFirstBeyond, ReadResult, reading_of, IsReadAs}
 use Rattle.dm_symbol.proofs.SymbolBlocks.{same_blocks}
 use Rattle.dm_symbol.proofs.NormalGrids.{data_is_bytes, one_spelled}
 use Rattle.dm_symbol.proofs.SizeFacts.{size_facts}
-use Rattle.dm_symbol.proofs.Below.{near_is_one, block_lengths, held_words_are_one, one_answer, spelled_is_message, spelled_wide}
+use Rattle.dm_symbol.proofs.Below.{near_is_one, block_lengths, held_words_are_one, one_result, spelled_is_message, spelled_wide}
 
 -- A grid holds only one list of words, and only one list of codewords is near them.
 pub corrected_is_one : (grid : GridView) (u c v d : List ℕ) → IsCorrected grid u c → IsCorrected grid v d → (u ≡ v) × (c ≡ d)
@@ -49,7 +49,7 @@ read_is_message extent grid limit m h = spelled_is_message extent (data_part gri
 -- Bytes are refused with at most one fault, and not where they spell a message.
 one_refused : (extent : Extent) (words : List ℕ) (a b : WordFault) → All (λ w. w < 256) words → Refused extent words a → Refused extent words b → a ≡ b
 one_refused extent words a b bytes ha hb =
-    elim (one_answer extent words bytes) [
+    elim (one_result extent words bytes) [
       | inl s ↦ absurd (s.not_refused a ha)
       | inr r ↦ r.only a ha ∙ sym (r.only b hb)
     ]
@@ -57,7 +57,7 @@ one_refused extent words a b bytes ha hb =
 -- Bytes that spell a message aren't refused.
 spelled_not_refused : (extent : Extent) (words : List ℕ) (m : List Item) (why : WordFault) → All (λ w. w < 256) words → Spells extent words m → Refused extent words why → ⊥
 spelled_not_refused extent words m why bytes hm hw =
-    elim (one_answer extent words bytes) [
+    elim (one_result extent words bytes) [
       | inl s ↦ s.not_refused why hw
       | inr r ↦ r.not_spelled m hm
     ]
@@ -84,30 +84,30 @@ not_both extent grid u c v d m why hu hv spelled refused =
     let same = (corrected_is_one grid u c v d hu hv).1 in
     spelled_not_refused extent (data_part grid.size d) m why (data_is_bytes grid.size d hv.of_size) (subst (λ w. Spells extent (data_part grid.size w) m) same spelled) refused
 
--- A grid has at most one answer for a limit.
-pub one_given : (extent : Extent) (grid : GridView) (limit : ℕ) (a b : Result Reading ReadFault) → ReadAnswer extent grid limit a → ReadAnswer extent grid limit b → a ≡ b
-one_given extent grid limit a b (ReadAnswer.border h e) (ReadAnswer.border k f) = e ∙ sym f
-one_given extent grid limit a b (ReadAnswer.border h e) (ReadAnswer.block v y k hv first f) = absurd (omega (arith, h, k))
-one_given extent grid limit a b (ReadAnswer.border h e) (ReadAnswer.words v d why k hv refused f) = absurd (omega (arith, h, k))
-one_given extent grid limit a b (ReadAnswer.border h e) (ReadAnswer.message v d n k hv spelled f) = absurd (omega (arith, h, k))
-one_given extent grid limit a b (ReadAnswer.block u x h hu first e) (ReadAnswer.border k f) = absurd (omega (arith, h, k))
-one_given extent grid limit a b (ReadAnswer.block u x h hu first e) (ReadAnswer.block v y k hv other f) =
+-- A grid has at most one result for a limit.
+pub one_given : (extent : Extent) (grid : GridView) (limit : ℕ) (a b : Result Reading ReadFault) → ReadResult extent grid limit a → ReadResult extent grid limit b → a ≡ b
+one_given extent grid limit a b (ReadResult.border h e) (ReadResult.border k f) = e ∙ sym f
+one_given extent grid limit a b (ReadResult.border h e) (ReadResult.block v y k hv first f) = absurd (omega (arith, h, k))
+one_given extent grid limit a b (ReadResult.border h e) (ReadResult.words v d why k hv refused f) = absurd (omega (arith, h, k))
+one_given extent grid limit a b (ReadResult.border h e) (ReadResult.message v d n k hv spelled f) = absurd (omega (arith, h, k))
+one_given extent grid limit a b (ReadResult.block u x h hu first e) (ReadResult.border k f) = absurd (omega (arith, h, k))
+one_given extent grid limit a b (ReadResult.block u x h hu first e) (ReadResult.block v y k hv other f) =
     let same : v ≡ u = held_words_are_one grid v u hv hu in
     let is_first : IsFirstBeyond grid.size u y = subst (λ w. IsFirstBeyond grid.size w y) same other in
     e ∙ ap (λ block. Err (fault.Block block)) (first_is_one grid.size u x y first is_first) ∙ sym f
-one_given extent grid limit a b (ReadAnswer.block u x h hu first e) (ReadAnswer.words v d why k hv refused f) = absurd (none_beyond grid u v d x hu first hv)
-one_given extent grid limit a b (ReadAnswer.block u x h hu first e) (ReadAnswer.message v d n k hv spelled f) = absurd (none_beyond grid u v d x hu first hv)
-one_given extent grid limit a b (ReadAnswer.words u c why h hu refused e) (ReadAnswer.border k f) = absurd (omega (arith, h, k))
-one_given extent grid limit a b (ReadAnswer.words u c why h hu refused e) (ReadAnswer.block v y k hv first f) = absurd (none_beyond grid v u c y hv first hu)
-one_given extent grid limit a b (ReadAnswer.words u c why h hu refused e) (ReadAnswer.words v d other k hv too f) =
+one_given extent grid limit a b (ReadResult.block u x h hu first e) (ReadResult.words v d why k hv refused f) = absurd (none_beyond grid u v d x hu first hv)
+one_given extent grid limit a b (ReadResult.block u x h hu first e) (ReadResult.message v d n k hv spelled f) = absurd (none_beyond grid u v d x hu first hv)
+one_given extent grid limit a b (ReadResult.words u c why h hu refused e) (ReadResult.border k f) = absurd (omega (arith, h, k))
+one_given extent grid limit a b (ReadResult.words u c why h hu refused e) (ReadResult.block v y k hv first f) = absurd (none_beyond grid v u c y hv first hu)
+one_given extent grid limit a b (ReadResult.words u c why h hu refused e) (ReadResult.words v d other k hv too f) =
     let same = (corrected_is_one grid u c v d hu hv).1 in
     let refused_too : Refused extent (data_part grid.size d) why = subst (λ w. Refused extent (data_part grid.size w) why) same refused in
     e ∙ ap (λ x. Err (fault.Words x)) (one_refused extent (data_part grid.size d) why other (data_is_bytes grid.size d hv.of_size) refused_too too) ∙ sym f
-one_given extent grid limit a b (ReadAnswer.words u c why h hu refused e) (ReadAnswer.message v d n k hv spelled f) = absurd (not_both extent grid v d u c n why hv hu spelled refused)
-one_given extent grid limit a b (ReadAnswer.message u c m h hu spelled e) (ReadAnswer.border k f) = absurd (omega (arith, h, k))
-one_given extent grid limit a b (ReadAnswer.message u c m h hu spelled e) (ReadAnswer.block v y k hv first f) = absurd (none_beyond grid v u c y hv first hu)
-one_given extent grid limit a b (ReadAnswer.message u c m h hu spelled e) (ReadAnswer.words v d why k hv refused f) = absurd (not_both extent grid u c v d m why hu hv spelled refused)
-one_given extent grid limit a b (ReadAnswer.message u c m h hu spelled e) (ReadAnswer.message v d n k hv other f) =
+one_given extent grid limit a b (ReadResult.words u c why h hu refused e) (ReadResult.message v d n k hv spelled f) = absurd (not_both extent grid v d u c n why hv hu spelled refused)
+one_given extent grid limit a b (ReadResult.message u c m h hu spelled e) (ReadResult.border k f) = absurd (omega (arith, h, k))
+one_given extent grid limit a b (ReadResult.message u c m h hu spelled e) (ReadResult.block v y k hv first f) = absurd (none_beyond grid v u c y hv first hu)
+one_given extent grid limit a b (ReadResult.message u c m h hu spelled e) (ReadResult.words v d why k hv refused f) = absurd (not_both extent grid u c v d m why hu hv spelled refused)
+one_given extent grid limit a b (ReadResult.message u c m h hu spelled e) (ReadResult.message v d n k hv other f) =
     let same = corrected_is_one grid u c v d hu hv in
     let message : m ≡ n = one_message extent extent grid limit limit m n (record { border = h; words = u; codewords = c; corrected = hu; spelled = spelled }) (record { border = k; words = v; codewords = d; corrected = hv; spelled = other }) in
     e ∙ ap (λ x. Ok (reading_of x (distances grid.size u c) (border_fault_count grid))) message
@@ -115,21 +115,21 @@ one_given extent grid limit a b (ReadAnswer.message u c m h hu spelled e) (ReadA
     ∙ ap (λ x. Ok (reading_of n (distances grid.size v x) (border_fault_count grid))) same.1
     ∙ sym f
 
--- The answer to a grid that is read as a message.
-pub answer_of_read : (extent : Extent) (grid : GridView) (limit : ℕ) (m : List Item) → (r : Reads extent grid limit m)
-    → ReadAnswer extent grid limit (Ok (reading_of m (distances grid.size r.words r.codewords) (border_fault_count grid)))
-answer_of_read extent grid limit m r = ReadAnswer.message r.words r.codewords m r.border r.corrected r.spelled refl
+-- The result to a grid that is read as a message.
+pub result_of_read : (extent : Extent) (grid : GridView) (limit : ℕ) (m : List Item) → (r : Reads extent grid limit m)
+    → ReadResult extent grid limit (Ok (reading_of m (distances grid.size r.words r.codewords) (border_fault_count grid)))
+result_of_read extent grid limit m r = ReadResult.message r.words r.codewords m r.border r.corrected r.spelled refl
 
--- The answer is a reading of a message exactly where the grid is read as it.
-pub read_by_answer : (extent : Extent) (grid : GridView) (limit : ℕ) (answer : Result Reading ReadFault) (m : List Item) → ReadAnswer extent grid limit answer → Reads extent grid limit m → IsReadAs answer m
-read_by_answer extent grid limit answer m h r = subst (λ a. IsReadAs a m) (one_given extent grid limit _ _ (answer_of_read extent grid limit m r) h) refl
+-- The result is a reading of a message exactly where the grid is read as it.
+pub read_by_result : (extent : Extent) (grid : GridView) (limit : ℕ) (result : Result Reading ReadFault) (m : List Item) → ReadResult extent grid limit result → Reads extent grid limit m → IsReadAs result m
+read_by_result extent grid limit result m h r = subst (λ a. IsReadAs a m) (one_given extent grid limit _ _ (result_of_read extent grid limit m r) h) refl
 
--- Where the answer is a reading of a message, the grid is read as it.
-pub reads_by_answer : (extent : Extent) (grid : GridView) (limit : ℕ) (answer : Result Reading ReadFault) (m : List Item) → ReadAnswer extent grid limit answer → IsReadAs answer m → Reads extent grid limit m
-reads_by_answer extent grid limit answer m (ReadAnswer.border h e) is = absurd (subst (λ a. IsReadAs a m) e is)
-reads_by_answer extent grid limit answer m (ReadAnswer.block u x h hu first e) is = absurd (subst (λ a. IsReadAs a m) e is)
-reads_by_answer extent grid limit answer m (ReadAnswer.words u c why h hu refused e) is = absurd (subst (λ a. IsReadAs a m) e is)
-reads_by_answer extent grid limit answer m (ReadAnswer.message u c n h hu spelled e) is =
+-- Where the result is a reading of a message, the grid is read as it.
+pub reads_by_result : (extent : Extent) (grid : GridView) (limit : ℕ) (result : Result Reading ReadFault) (m : List Item) → ReadResult extent grid limit result → IsReadAs result m → Reads extent grid limit m
+reads_by_result extent grid limit result m (ReadResult.border h e) is = absurd (subst (λ a. IsReadAs a m) e is)
+reads_by_result extent grid limit result m (ReadResult.block u x h hu first e) is = absurd (subst (λ a. IsReadAs a m) e is)
+reads_by_result extent grid limit result m (ReadResult.words u c why h hu refused e) is = absurd (subst (λ a. IsReadAs a m) e is)
+reads_by_result extent grid limit result m (ReadResult.message u c n h hu spelled e) is =
     let same : n ≡ m = subst (λ a. IsReadAs a m) e is in
     record { border = h; words = u; codewords = c; corrected = hu; spelled = subst (λ x. Spells extent (data_part grid.size c) x) same spelled }
 
@@ -147,15 +147,15 @@ reads_wide extent grid limit m r = record {
 ok_no_fault : (reading : Reading) (why : ReadFault) → ◌≡◌ {A = Result Reading ReadFault} (Ok reading) (Err why) → ⊥
 ok_no_fault reading why e = cc
 
--- What is read in the extent `Usual` is read in `Wide` with the same answer.
-pub wide_reads_the_usual : (grid : GridView) (limit : ℕ) (reading : Reading) → ReadAnswer Usual grid limit (Ok reading) → ReadAnswer Wide grid limit (Ok reading)
+-- What is read in the extent `Usual` is read in `Wide` with the same result.
+pub wide_reads_the_usual : (grid : GridView) (limit : ℕ) (reading : Reading) → ReadResult Usual grid limit (Ok reading) → ReadResult Wide grid limit (Ok reading)
 wide_reads_the_usual grid limit reading a = moved (Ok reading) refl a
   where
-    no_reading : (answer : Result Reading ReadFault) (why : ReadFault) → answer ≡ Ok reading → answer ≡ Err why → ReadAnswer Wide grid limit answer
-    no_reading answer why is e = absurd (ok_no_fault reading why (sym is ∙ e))
+    no_reading : (result : Result Reading ReadFault) (why : ReadFault) → result ≡ Ok reading → result ≡ Err why → ReadResult Wide grid limit result
+    no_reading result why is e = absurd (ok_no_fault reading why (sym is ∙ e))
 
-    moved : (answer : Result Reading ReadFault) → answer ≡ Ok reading → ReadAnswer Usual grid limit answer → ReadAnswer Wide grid limit answer
-    moved answer is (ReadAnswer.border h e) = no_reading answer _ is e
-    moved answer is (ReadAnswer.block u x h hu first e) = no_reading answer _ is e
-    moved answer is (ReadAnswer.words u c why h hu refused e) = no_reading answer _ is e
-    moved answer is (ReadAnswer.message u c m h hu spelled e) = ReadAnswer.message u c m h hu (spelled_wide Usual (data_part grid.size c) m spelled) e
+    moved : (result : Result Reading ReadFault) → result ≡ Ok reading → ReadResult Usual grid limit result → ReadResult Wide grid limit result
+    moved result is (ReadResult.border h e) = no_reading result _ is e
+    moved result is (ReadResult.block u x h hu first e) = no_reading result _ is e
+    moved result is (ReadResult.words u c why h hu refused e) = no_reading result _ is e
+    moved result is (ReadResult.message u c m h hu spelled e) = ReadResult.message u c m h hu (spelled_wide Usual (data_part grid.size c) m spelled) e

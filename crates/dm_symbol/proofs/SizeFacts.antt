@@ -1,8 +1,8 @@
 -- How the numbers in a row of the table of sizes depend on one another.
-use Rattle.std.proofs.Common.{◌≡◌, ℕ, ◌+◌, ◌*◌, ◌/◌, ◌<◌, ◌≤◌, Bool, true, false, cond, ◌&&◌, List, [], ◌∷◌, Some, refl, ap, subst, nat_eq, nat_le}
+use Rattle.std.proofs.Common.{◌≡◌, ℕ, ◌+◌, ◌*◌, ◌/◌, ◌<◌, ◌≤◌, Bool, true, false, cond, ◌&&◌, List, [], ◌∷◌, Some, refl, ◌∙◌, ap, subst, nat_eq, nat_le, nat_lt, arith}
 use Rattle.std.specs.Prelude.{find}
 use Rattle.std.specs.List.{AllByRecursion, list_all}
-use Rattle.std.proofs.lemmas.Bool.{and_parts, eqb-true, leb-true}
+use Rattle.std.proofs.lemmas.Bool.{and_parts, eqb-true, eq-eqb, ltb-true, leb-true, ne_eqb}
 use Rattle.std.proofs.lemmas.List.Sums.{AllPass-from_list_all}
 use Rattle.std.proofs.lemmas.List.Elements.{recursion_from_All}
 use Rattle.dm_layout.specs.Sizes.{SizeRow, IsRow, size_table, row_for_words, row_with_side, most_data, codeword_count, block_data, block_check, block_length}
@@ -69,10 +69,39 @@ size_facts s h =
 pub blocks_of_size : (s t : SizeRow) → s ≡ t → s.blocks ≡ t.blocks
 blocks_of_size s t e = ap (λ r. r.blocks) e
 
--- Each row of the table is found by its side: this is computed.
-rows_are_rows : AllByRecursion IsRow size_table
+-- The sides of these rows rise, each above the one before.
+abbrev sides_rise : List SizeRow → Bool
+sides_rise [] = true
+sides_rise (r ∷ rows) = list_all (λ s. nat_lt r.side s.side) rows && sides_rise rows
+
+-- Those of the table do: this is computed.
+table_rises : sides_rise size_table ≡ true
 unfolding size_table
-rows_are_rows = (refl, (refl, (refl, (refl, (refl, (refl, (refl, (refl, (refl, (refl, (refl, (refl, (refl, (refl, (refl, (refl, (refl, (refl, (refl, (refl, (refl, tt)))))))))))))))))))))
+table_rises = refl
+
+-- Where sides rise, each row is found by its side.
+found_by_side : (rows : List SizeRow) → sides_rise rows ≡ true → AllByRecursion (λ row. find (λ r. nat_eq r.side row.side) rows ≡ Some row) rows
+found_by_side [] h = tt
+found_by_side (r ∷ rows) h =
+    let parts = and_parts (list_all (λ s. nat_lt r.side s.side) rows) (sides_rise rows) h in
+    (head r rows, behind rows parts.0 (found_by_side rows parts.1))
+  where
+    head : (r : SizeRow) (rows : List SizeRow) → find (λ s. nat_eq s.side r.side) (r ∷ rows) ≡ Some r
+    head r rows = ap (λ b. cond b (Some r) (find (λ s. nat_eq s.side r.side) rows)) (eq-eqb r.side r.side refl)
+
+    differ : (a b : ℕ) → a < b → a ≡ b → ⊥
+    differ a b l e = omega arith
+
+    behind : (later : List SizeRow) → list_all (λ s. nat_lt r.side s.side) later ≡ true → AllByRecursion (λ row. find (λ s. nat_eq s.side row.side) rows ≡ Some row) later
+        → AllByRecursion (λ row. find (λ s. nat_eq s.side row.side) (r ∷ rows) ≡ Some row) later
+    behind [] h found = tt
+    behind (s ∷ later) h found =
+        let parts = and_parts (nat_lt r.side s.side) (list_all (λ t. nat_lt r.side t.side) later) h in
+        (ap (λ b. cond b (Some r) (find (λ t. nat_eq t.side s.side) rows)) (ne_eqb r.side s.side (λ e. differ r.side s.side (ltb-true _ _ parts.0) e)) ∙ found.0, behind later parts.1 found.1)
+
+-- Each row of the table is found by its side.
+rows_are_rows : AllByRecursion IsRow size_table
+rows_are_rows = found_by_side size_table table_rises
 
 -- The size for a side stands in the table and has that side.
 pub has_that_side : (side : ℕ) (s : SizeRow) → row_with_side side ≡ Some s → IsRow s × (s.side ≡ side)

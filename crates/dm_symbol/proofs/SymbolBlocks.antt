@@ -5,7 +5,7 @@ use Rattle.std.proofs.lemmas.Nat.{div-add-mod', mod_below, mul-add-lt, div_below
 use Rattle.dm_code.specs.Codeword.{distance}
 use Rattle.dm_layout.specs.Sizes.{SizeRow, codeword_count, block_data, block_check, block_length}
 use Rattle.dm_symbol.specs.Blocks.{AreWordsOf, BlocksAreCodewords, block_at, data_part}
-use Rattle.dm_symbol.proofs.Distances.{differing_front}
+use Rattle.dm_symbol.proofs.Distances.{differing_prefix}
 use Rattle.dm_symbol.proofs.SizeFacts.{size_facts}
 use Rattle.dm_symbol.proofs.Below.{block_places, block_lengths, codewords_apart}
 
@@ -57,7 +57,7 @@ checks_are_one size u v hu hv cu cv same =
     let lu = block_lengths size u hu b hb in
     let lv = block_lengths size v hv b hb in
     let agree : (i : ℕ) → i < block_data size → get_or (block_at size u b) i 0 ≡ get_or (block_at size v b) i 0 =
-    λ i hi. data_of_block size u hu b i hb hi ∙ ap (λ front. get_or front (i * size.blocks + b) 0) same ∙ sym (data_of_block size v hv b i hb hi) in
+    λ i hi. data_of_block size u hu b i hb hi ∙ ap (λ prefix. get_or prefix (i * size.blocks + b) 0) same ∙ sym (data_of_block size v hv b i hb hi) in
     let near : distance (block_at size u b) (block_at size v b) ≤ block_check size =
-    omega (arith, differing_front (block_at size u b) (block_at size v b) (block_data size) (length (block_at size u b)) agree, lu, f.length) in
+    omega (arith, differing_prefix (block_at size u b) (block_at size v b) (block_data size) (length (block_at size u b)) agree, lu, f.length) in
     codewords_apart (block_check size) (block_at size u b) (block_at size v b) (cu b hb) (cv b hb) (lu ∙ sym lv) (omega (arith, lu, f.short)) near)

@@ -19,14 +19,14 @@ use Rattle.dm_symbol.proofs.NormalReadings.{normal_grid_fits}
 -- The grid in which the completed codewords are laid is the normal grid.
 pub laid_is_normal : (p : Profile) (m : List Item) (grid : GridView) (w : WordsView) (size : SizeRow) → row_for_words (length (normal_form p m)) ≡ Some size → w.size ≡ size
     → data_part size w.list ≡ padded (normal_form p m) size.data_count → BlocksAreCodewords size w.list → IsLaid w grid → IsNormalGrid p m grid
-laid_is_normal p m grid w size smallest of_size front checked laid =
+laid_is_normal p m grid w size smallest of_size prefix checked laid =
     let same : size ≡ grid.size = sym of_size ∙ laid.holds.same_size in
     let whole : w ≡ symbol grid.size w.list = ap (λ s. symbol s w.list) laid.holds.same_size in
     record {
       smallest = smallest ∙ ap Some same;
       words = w.list;
       laid = subst (λ x. IsLaid x grid) whole laid;
-      data_words = subst (λ s. data_part s w.list ≡ padded (normal_form p m) s.data_count) same front;
+      data_words = subst (λ s. data_part s w.list ≡ padded (normal_form p m) s.data_count) same prefix;
       checked = subst (λ s. BlocksAreCodewords s w.list) same checked;
     }
 
@@ -41,7 +41,7 @@ none_for_more count None e long is = absurd (false≢true is)
 pub too_long_fits_none : (p : Profile) (m : List Item) → most_data < length (normal_form p m) → FitsSomeSize p m → ⊥
 too_long_fits_none p m long fits = none_for_more (length (normal_form p m)) (row_for_words (length (normal_form p m))) refl long fits
 
--- The normal grid is a right answer of writing.
+-- The normal grid is a right result of writing.
 pub is_written : (p : Profile) (m : List Item) (grid : GridView) → IsNormalGrid p m grid → IsWritten p m (Ok grid)
 is_written p m grid n = record {
   normal = n;
@@ -50,8 +50,8 @@ is_written p m grid n = record {
   none = tt;
 }
 
--- That there is none is the right answer for a message that fits no size.
-pub none_is_written : (p : Profile) (m : List Item) (answer : Result GridView TooLong) → IsErr answer → (FitsSomeSize p m → ⊥) → IsWritten p m answer
+-- That there is none is the right result for a message that fits no size.
+pub none_is_written : (p : Profile) (m : List Item) (result : Result GridView TooLong) → IsErr result → (FitsSomeSize p m → ⊥) → IsWritten p m result
 none_is_written p m (Ok grid) is none = absurd (false≢true is)
 none_is_written p m (Err e) is none = record {
   normal = tt;

@@ -4,6 +4,7 @@ pub mod Reading
 pub mod Normal
 pub mod Inspection
 pub mod Laws
+-- Modules of the layers below, which crates above this one find under its name too: `Rattle.dm_symbol.specs.Grid` is dm_layout/specs/Grid.antt.
 pub use Rattle.dm_layout.specs.Sizes
 pub use Rattle.dm_layout.specs.Grid
 pub use Rattle.dm_layout.specs.Words

@@ -27,9 +27,9 @@ pub record IsNormalGrid (profile : Profile) (message : List Item) (grid : GridVi
   -- The check codewords make each block a codeword of its Reed-Solomon code.
   pub checked : BlocksAreCodewords grid.size words
 
--- Where a message fits some size, writing it answers its only normal grid; otherwise it answers that there is none.
-pub record IsWritten (profile : Profile) (message : List Item) (answer : Result GridView TooLong) : Type 0 where
-  pub normal : IfOk answer (λ grid. IsNormalGrid profile message grid)
-  pub one : IfOk answer (λ grid. (other : GridView) → IsNormalGrid profile message other → other ≡ grid)
-  pub fits : IsOk answer ↔ FitsSomeSize profile message
-  pub none : OnErr answer ((grid : GridView) → IsNormalGrid profile message grid → ⊥)
+-- Where a message fits some size, writing it gives its only normal grid; otherwise it gives that there is none.
+pub record IsWritten (profile : Profile) (message : List Item) (result : Result GridView TooLong) : Type 0 where
+  pub normal : IfOk result (λ grid. IsNormalGrid profile message grid)
+  pub one : IfOk result (λ grid. (other : GridView) → IsNormalGrid profile message other → other ≡ grid)
+  pub fits : IsOk result ↔ FitsSomeSize profile message
+  pub none : OnErr result ((grid : GridView) → IsNormalGrid profile message grid → ⊥)

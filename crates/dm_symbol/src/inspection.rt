@@ -4,9 +4,9 @@ ghost use Rattle.std.specs.Prelude.{◌≡◌, ◌<◌, ℕ, None, get_or, lengt
 ghost use Rattle.dm_layout.specs.Grid.{GridView};
 ghost use Rattle.dm_layout.specs.Sizes.{block_check};
 ghost use Rattle.dm_symbol.specs.Blocks.{AreWordsOf, block_at};
-ghost use Rattle.dm_symbol.specs.Inspection.{IsInspection, IsMended};
+ghost use Rattle.dm_symbol.specs.Inspection.{IsInspection, IsBlockCorrected};
 
-use crate::correction::mend_block;
+use crate::correction::correct_block;
 use arrayvec::ArrayVec;
 use dm_layout::{Grid, MOST_BLOCKS, Words, border_faults, lift};
 
@@ -15,7 +15,7 @@ use dm_layout::{Grid, MOST_BLOCKS, Words, border_faults, lift};
 pub struct Inspection {
     /// The codewords that the grid holds.
     pub held: Words,
-    /// The same, with the codeword near each block in its place. A block that no codeword is near is left as it is.
+    /// The same, with each block corrected to the codeword near it. A block that no codeword is near is left as it is.
     pub mended: Words,
     /// For each block, in order, in how many codewords these two differ; None where no codeword is near the block.
     pub corrected: ArrayVec<Option<u8>, MOST_BLOCKS>,
@@ -30,7 +30,7 @@ pub fn inspect(grid: &Grid) -> Inspection
 {
     let held = lift(grid);
     let mut mended = Words::new(held.size(), held.list());
-    let corrected = mend(&mut mended);
+    let corrected = correct_each(&mut mended);
     Inspection {
         held,
         mended,
@@ -39,17 +39,20 @@ pub fn inspect(grid: &Grid) -> Inspection
     }
 }
 
-/// Puts the codeword near each block in its place, and gives the number of codewords that this changes in each, or None where no
-/// codeword is near.
-fn mend(words: &mut Words) -> ArrayVec<Option<u8>, MOST_BLOCKS>
+/// Corrects each block to the codeword near it, and gives in how many codewords each was wrong, or None where no codeword is near, and the
+/// block stays as it is.
+fn correct_each(words: &mut Words) -> ArrayVec<Option<u8>, MOST_BLOCKS>
     ensures size { words.new.size ≡ words.old.size }
     ensures words { AreWordsOf words.old.size words.new.list }
     ensures count { length result.items ≡ words.old.size.blocks }
-    ensures mended { (b : ℕ) → b < words.old.size.blocks → IsMended (block_check words.old.size) (block_at words.old.size words.old.list b) (block_at words.old.size words.new.list b) (get_or result.items b None) }
+    ensures corrected { (b : ℕ) → b < words.old.size.blocks
+        → IsBlockCorrected (block_check words.old.size)
+        (block_at words.old.size words.old.list b) (block_at words.old.size words.new.list b)
+        (get_or result.items b None) }
 {
     let mut counts = ArrayVec::new();
     for b in 0..words.size().blocks() {
-        counts.push(mend_block(words, usize::from(b)));
+        counts.push(correct_block(words, usize::from(b)));
     }
     counts
 }

@@ -1,28 +1,28 @@
 //! Laws of the definitions in `specs/`. Each function has an empty body: its contract is the law.
 
-ghost use Rattle.dm_symbol.specs.Laws.{NormalGridsTellMessages, OneMessageIsRead, WideReadsTheUsual, WideNormalisesTheUsual, OneAnswerIsGiven, OneNormalAnswerIsGiven, AnAnswerIsGiven, ANormalAnswerIsGiven, ANormalGridIsThere, NormalGridIsRead, TurnedCellsAreRead, NormalTwiceIsOnce, TheLastProfileDecides, EqualNormalGridsMeanEqualMessages, AMacroIsItsText};
+ghost use Rattle.dm_symbol.specs.Laws.{NormalGridsTellMessages, OneMessageIsRead, WideReadsTheUsual, WideNormalisesTheUsual, ReadResultIsOne, NormalResultIsOne, ReadResultIsThere, NormalResultIsThere, ANormalGridIsThere, NormalGridIsRead, TurnedCellsAreRead, NormalTwiceIsOnce, TheLastProfileDecides, EqualNormalGridsMeanEqualMessages, AMacroIsItsText};
 
 /// Two normal grids under one profile are equal exactly where their messages are.
 pub fn normal_grids_tell_messages()
     ensures { NormalGridsTellMessages }
 {}
 
-/// A grid is read as at most one message, whatever the extents and the limits. For each extent and limit it has at most one answer of reading
+/// A grid is read as at most one message, whatever the extents and the limits. For each extent and limit it has at most one result of reading
 /// and, under each profile, at most one of normalising.
 pub fn one_message_is_read()
     ensures message { OneMessageIsRead }
-    ensures answer { OneAnswerIsGiven }
-    ensures normal { OneNormalAnswerIsGiven }
+    ensures read { ReadResultIsOne }
+    ensures normal { NormalResultIsOne }
 {}
 
-/// For each extent and limit, each grid has an answer of reading and, under each profile, one of normalising. By [`one_message_is_read`] it has
+/// For each extent and limit, each grid has a result of reading and, under each profile, one of normalising. By [`one_message_is_read`] it has
 /// exactly one of each.
-pub fn each_grid_has_an_answer()
-    ensures answer { AnAnswerIsGiven }
-    ensures normal { ANormalAnswerIsGiven }
+pub fn each_grid_has_a_result()
+    ensures read { ReadResultIsThere }
+    ensures normal { NormalResultIsThere }
 {}
 
-/// What is read or normalised in the usual extent has the same answer in the wide one.
+/// What is read or normalised in the usual extent has the same result in the wide one.
 pub fn wide_reads_the_usual()
     ensures read { WideReadsTheUsual }
     ensures normal { WideNormalisesTheUsual }

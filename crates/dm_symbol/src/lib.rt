@@ -1,10 +1,29 @@
-//! Whole symbols of Data Matrix ECC 200 (ISO/IEC 16022): the normal grid of a message ([`write_as()`]), the message of a grid
-//! ([`read_as()`]), and the normal grid of what a grid says ([`normal_read_as()`]), each normal grid under a [`Profile`], and what is read in an
-//! [`Extent`]. [`read()`], [`normal_as()`] and [`normal()`] read in [`Extent::Usual`]; [`write()`] and [`normal()`] write under
-//! [`Profile::Ascii`]. [`inspect()`] gives the codewords of a grid, before and after correction.
+//! Whole symbols of Data Matrix ECC 200 (ISO/IEC 16022): [`read()`] gives what a grid says, a [`Reading`], or a [`ReadFault`]; [`write()`] the
+//! normal grid of a [`Message`], or [`TooLong`]; [`normal()`] the normal grid of what a grid says, or a [`NormalFault`]; and [`inspect()`] the
+//! codewords of a grid before and after correction, an [`Inspection`].
+//!
+//! What is read depends on an [`Extent`], and which normal grid a message has on a [`Profile`]. A name with `_as` takes the one of these that
+//! the name without it has as [`Extent::Usual`] or [`Profile::Ascii`], and a name with `_to` leaves in a target, memory that
+//! the caller hands in, what the name without it returns by value, so that one [`Reading::new()`] and one [`light_grid()`] serve any number of symbols:
+//!
+//! | | by value | in a target |
+//! |---|---|---|
+//! | read, usual extent | [`read()`] | [`read_to()`] |
+//! | read, any extent | [`read_as()`] | [`read_as_to()`] |
+//! | write, ASCII profile | [`write()`] | |
+//! | write, any profile | [`write_as()`] | [`write_to()`] |
+//! | normalise, usual extent and ASCII profile | [`normal()`] | |
+//! | normalise, usual extent, any profile | [`normal_as()`] | [`normal_to()`] |
+//! | normalise, any extent, any profile | [`normal_read_as()`] | [`normal_read_as_to()`] |
+//!
+//! There are no calls that write into a target under the ASCII profile alone, so `write_to` and `normal_to` take the profile. [`usual_limit()`] is the number of wrong border modules that is
+//! usually accepted.
+//!
+//! The types of the layers below are given on: [`Grid`] with [`GridFault`], [`Size`] with its [`table()`] of [`SIZE_COUNT`], [`Words`], and the limits
+//! [`LARGEST_SIDE`] and [`MOST_BLOCKS`]; [`Message`] of [`Item`]s, [`WordFault`], and the limits [`MOST_ITEMS`] and [`MESSAGE_ROOM`].
 //!
 //! What the contracts say is defined in `specs/`: `Blocks`, `NormalGrid`, `Reading`, `Normal` and `Inspection`; `Laws` has the laws of
-//! these definitions, which the functions of [`laws`] prove. No call takes memory.
+//! these definitions, which the functions of [`laws`] prove. No call allocates memory.
 #![tactic(auto)]
 
 mod correction;
@@ -12,17 +31,15 @@ mod inspection;
 pub mod laws;
 mod limit;
 mod normalising;
-mod place;
 mod reading;
 mod writing;
 
-pub use dm_layout::{Grid, GridFault, LARGEST_SIDE, MOST_BLOCKS, Size, Words, table};
+pub use dm_layout::{Grid, GridFault, LARGEST_SIDE, MOST_BLOCKS, SIZE_COUNT, Size, Words, table};
 pub use dm_words::{Extent, Item, MESSAGE_ROOM, MOST_ITEMS, Message, Profile, TooLong, WordFault};
 pub use inspection::{Inspection, inspect};
 pub use limit::usual_limit;
 pub use normalising::{
     NormalFault, normal, normal_as, normal_read_as, normal_read_as_to, normal_to,
 };
-pub use place::light_grid;
 pub use reading::{ReadFault, Reading, read, read_as, read_as_to, read_to};
-pub use writing::{write, write_as, write_to};
+pub use writing::{light_grid, write, write_as, write_to};

@@ -1,13 +1,9 @@
 //! Normalising: the normal grid of what a grid says.
 
-ghost use Rattle.std.specs.Prelude.{◌≡◌, OnErr, OnOk};
-ghost use Rattle.dm_words.specs.Outcomes.{outcome};
-ghost use Rattle.dm_symbol.specs.Reading.{ReadAnswer};
-ghost use Rattle.dm_symbol.specs.Normal.{IsNormalised};
+ghost use Rattle.dm_symbol.specs.Normal.{IsNormalised, IsNormalisedTo};
 
-use crate::place::light_grid;
 use crate::reading::{ReadFault, Reading, read_as_to};
-use crate::writing::write_to;
+use crate::writing::{light_grid, write_to};
 use dm_layout::Grid;
 use dm_words::{Extent, Profile, TooLong};
 
@@ -20,7 +16,7 @@ pub enum NormalFault {
     TooLong,
 }
 
-/// Gives the normal grid under [`Profile::Ascii`] of the message that the grid says in the usual extent: what [`normal_as`] answers for that
+/// Gives the normal grid under [`Profile::Ascii`] of the message that the grid says in the usual extent: what [`normal_as`] gives for that
 /// profile.
 pub fn normal(grid: &Grid, border_limit: u16) -> Result<Grid, NormalFault>
     ensures { IsNormalised Extent.Usual Profile.Ascii grid.now border_limit result }
@@ -28,7 +24,7 @@ pub fn normal(grid: &Grid, border_limit: u16) -> Result<Grid, NormalFault>
     normal_as(Profile::Ascii, grid, border_limit)
 }
 
-/// Gives the normal grid, under a profile, of the message that the grid says in the usual extent: what [`normal_read_as`] answers for
+/// Gives the normal grid, under a profile, of the message that the grid says in the usual extent: what [`normal_read_as`] gives for
 /// [`Extent::Usual`].
 pub fn normal_as(profile: Profile, grid: &Grid, border_limit: u16) -> Result<Grid, NormalFault>
     ensures { IsNormalised Extent.Usual profile grid.now border_limit result }
@@ -36,7 +32,7 @@ pub fn normal_as(profile: Profile, grid: &Grid, border_limit: u16) -> Result<Gri
     normal_read_as(Extent::Usual, profile, grid, border_limit)
 }
 
-/// Does the same as [`normal_as`] in memory of the caller's: what [`normal_read_as_to`] does for [`Extent::Usual`].
+/// Does the same as [`normal_as`] in a target: what [`normal_read_as_to`] does for [`Extent::Usual`].
 pub fn normal_to(
     profile: Profile,
     grid: &Grid,
@@ -44,17 +40,15 @@ pub fn normal_to(
     reading: &mut Reading,
     normal: &mut Grid,
 ) -> Result<(), NormalFault>
-    ensures normal { IsNormalised Extent.Usual profile grid.now border_limit (outcome result normal.new) }
-    ensures reading { OnOk result (ReadAnswer Extent.Usual grid.now border_limit (Ok reading.new)) }
-    ensures reading_of_long { result ≡ Err NormalFault.TooLong → ReadAnswer Extent.Usual grid.now border_limit (Ok reading.new) }
-    ensures same { OnErr result (normal.new ≡ normal.old) }
+    ensures { IsNormalisedTo Extent.Usual profile grid.now border_limit result
+        reading.new normal.old normal.new }
 {
     normal_read_as_to(Extent::Usual, profile, grid, border_limit, reading, normal)
 }
 
 /// Gives the normal grid, under a profile, of the message that the grid says in an extent, whatever its size, encodation and damage. Two grids
 /// that are read, in whatever extents, have equal normal grids under one profile exactly where they say the same, and a normal grid is its own.
-/// The answer is `Read` where [`read_as`](crate::read_as()) refuses the grid in this extent, with its fault, and `TooLong` where
+/// The fault is `Read` where [`read_as`](crate::read_as()) refuses the grid in this extent, with its fault, and `TooLong` where
 /// [`write_as`](crate::write_as()) refuses the message under this profile.
 pub fn normal_read_as(
     extent: Extent,
@@ -79,7 +73,7 @@ pub fn normal_read_as(
     }
 }
 
-/// Does the same as [`normal_read_as`] in memory of the caller's: if it answers `Ok`, `normal` holds the normal grid and `reading` what the grid says,
+/// Does the same as [`normal_read_as`] in a target: after `Ok`, `normal` holds the normal grid and `reading` what the grid says,
 /// whatever they held before. After a fault `normal` is as it was; `reading` holds what the grid says after `TooLong` too, and some
 /// reading after `Read`.
 pub fn normal_read_as_to(
@@ -90,10 +84,8 @@ pub fn normal_read_as_to(
     reading: &mut Reading,
     normal: &mut Grid,
 ) -> Result<(), NormalFault>
-    ensures normal { IsNormalised extent profile grid.now border_limit (outcome result normal.new) }
-    ensures reading { OnOk result (ReadAnswer extent grid.now border_limit (Ok reading.new)) }
-    ensures reading_of_long { result ≡ Err NormalFault.TooLong → ReadAnswer extent grid.now border_limit (Ok reading.new) }
-    ensures same { OnErr result (normal.new ≡ normal.old) }
+    ensures { IsNormalisedTo extent profile grid.now border_limit result
+        reading.new normal.old normal.new }
 {
     match read_as_to(extent, grid, border_limit, reading) {
         Ok(()) => {}

@@ -3,12 +3,11 @@
 ghost use Rattle.std.specs.Prelude.{◌≡◌, ◌<◌, ◌↔◌, ℕ, List, [], OnOk, IfErr};
 ghost use Rattle.dm_words.specs.declared.item.Item.{Item};
 ghost use Rattle.dm_layout.specs.Border.{border_fault_count};
-ghost use Rattle.dm_layout.specs.Holds.{Holds};
 ghost use Rattle.dm_symbol.specs.Blocks.{AreWordsOf, BlocksAreNear, distances};
 ghost use Rattle.dm_words.specs.Outcomes.{outcome};
 ghost use Rattle.dm_symbol.specs.Reading.{IsRead, IsFirstBeyond, reading_of};
 
-use crate::correction::mend_block;
+use crate::correction::correct_block;
 use arrayvec::ArrayVec;
 use dm_layout::{Grid, MOST_BLOCKS, Words, border_faults, lift};
 use dm_words::{Extent, Message, WordFault, message_to_as};
@@ -48,17 +47,18 @@ impl Reading {
     }
 }
 
-/// Reads a grid in the usual extent: what [`read_as`] answers for [`Extent::Usual`].
+/// Reads a grid in the usual extent: what [`read_as`] gives for [`Extent::Usual`].
 pub fn read(grid: &Grid, border_limit: u16) -> Result<Reading, ReadFault>
-    ensures answer { IsRead Extent.Usual grid.now border_limit result }
+    ensures read { IsRead Extent.Usual grid.now border_limit result }
 {
     read_as(Extent::Usual, grid, border_limit)
 }
 
-/// Does the same as [`read`] in memory of the caller's: what [`read_as_to`] does for [`Extent::Usual`].
+/// Does the same as [`read`] in a target: what [`read_as_to`] does for [`Extent::Usual`].
 pub fn read_to(grid: &Grid, border_limit: u16, reading: &mut Reading) -> Result<(), ReadFault>
-    ensures answer { IsRead Extent.Usual grid.now border_limit (outcome result reading.new) }
-    ensures same { (count : ℕ) → result ≡ Err (ReadFault.Border count) → reading.new ≡ reading.old }
+    ensures read { IsRead Extent.Usual grid.now border_limit (outcome result reading.new) }
+    ensures same { (count : ℕ) → result ≡ Err (ReadFault.Border count)
+        → reading.new ≡ reading.old }
 {
     read_as_to(Extent::Usual, grid, border_limit, reading)
 }
@@ -67,9 +67,9 @@ pub fn read_to(grid: &Grid, border_limit: u16, reading: &mut Reading) -> Result<
 /// colour, corrects the blocks in order, each in up to half as many codewords as it has check codewords, and reads the data codewords, as far
 /// as the extent goes. The first of these steps that fails gives the fault. The fixed square isn't looked at, nor is what follows the first
 /// pad. The grid is taken to be upright. A grid with more damage may be near the codewords of another message, and is then read as that
-/// message. What is read at [`Extent::Usual`] is read at [`Extent::Wide`] with the same answer.
+/// message. What is read at [`Extent::Usual`] is read at [`Extent::Wide`] as the same.
 pub fn read_as(extent: Extent, grid: &Grid, border_limit: u16) -> Result<Reading, ReadFault>
-    ensures answer { IsRead extent grid.now border_limit result }
+    ensures read { IsRead extent grid.now border_limit result }
 {
     let mut reading = Reading::new();
     match read_as_to(extent, grid, border_limit, &mut reading) {
@@ -78,24 +78,25 @@ pub fn read_as(extent: Extent, grid: &Grid, border_limit: u16) -> Result<Reading
     }
 }
 
-/// Does the same as [`read_as`] in memory of the caller's: if it answers `Ok`, `reading` holds what the grid says, whatever it held before. After
+/// Does the same as [`read_as`] in a target: after `Ok`, `reading` holds what the grid says, whatever it held before. After
 /// `Border` it is as it was, and after another fault it holds some reading. One `Reading` serves any number of grids, and isn't cleared for the
-/// largest symbol; the codewords are, 1,152 bytes a call.
+/// largest symbol; the codewords are, [`MOST_CODEWORDS`](dm_layout::MOST_CODEWORDS) bytes a call.
 pub fn read_as_to(
     extent: Extent,
     grid: &Grid,
     border_limit: u16,
     reading: &mut Reading,
 ) -> Result<(), ReadFault>
-    ensures answer { IsRead extent grid.now border_limit (outcome result reading.new) }
-    ensures same { (count : ℕ) → result ≡ Err (ReadFault.Border count) → reading.new ≡ reading.old }
+    ensures read { IsRead extent grid.now border_limit (outcome result reading.new) }
+    ensures same { (count : ℕ) → result ≡ Err (ReadFault.Border count)
+        → reading.new ≡ reading.old }
 {
     let border_faults = border_faults(grid);
     if border_faults > border_limit {
         return Err(ReadFault::Border(border_faults));
     }
     reading.border_faults = border_faults;
-    let mut words = lifted(grid);
+    let mut words = lift(grid);
     match correct_blocks(&mut words, &mut reading.corrected) {
         Ok(()) => {}
         Err(b) => return Err(ReadFault::Block(b)),
@@ -106,29 +107,19 @@ pub fn read_as_to(
     }
 }
 
-/// Gives the codewords that the grid holds.
-// The rows from which they are taken stand in a frame of their own, which is gone when blocks are corrected.
-#[inline(never)]
-fn lifted(grid: &Grid) -> Words
-    ensures { Holds grid.now result }
-{
-    lift(grid)
-}
-
-/// Puts the codeword near each block in its place, and leaves in `counts` the number of codewords that this changes in each; or gives
-/// the first block that no codeword is near.
-// The codewords of a block stand in a frame of their own, which is gone when the message is read.
-#[inline(never)]
+/// Corrects each block to the codeword near it, and leaves in `counts` in how many codewords each was wrong; or gives the first block that no
+/// codeword is near.
 fn correct_blocks(words: &mut Words, counts: &mut ArrayVec<u8, MOST_BLOCKS>) -> Result<(), u8>
     ensures size { words.new.size ≡ words.old.size }
     ensures words { AreWordsOf words.old.size words.new.list }
     ensures near { OnOk result (BlocksAreNear words.old.size words.old.list words.new.list) }
-    ensures counts { OnOk result (counts.new.items ≡ distances words.old.size words.old.list words.new.list) }
+    ensures counts { OnOk result (counts.new.items
+        ≡ distances words.old.size words.old.list words.new.list) }
     ensures beyond { IfErr result (λ b. IsFirstBeyond words.old.size words.old.list b) }
 {
     counts.clear();
     for b in 0..words.size().blocks() as u8 {
-        match mend_block(words, usize::from(b)) {
+        match correct_block(words, usize::from(b)) {
             Some(changed) => counts.push(changed),
             None => return Err(b),
         }

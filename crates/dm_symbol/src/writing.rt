@@ -1,20 +1,19 @@
 //! Writing: the normal grid of a message.
 
-ghost use Rattle.std.specs.Prelude.{◌≡◌, ◌≢◌, ◌<◌, ℕ, length, OnErr};
+ghost use Rattle.std.specs.Prelude.{◌≡◌, ◌≢◌, ◌<◌, ℕ, Some, length, replicate, OnErr};
 ghost use Rattle.dm_code.specs.Codeword.{IsCodeword};
-ghost use Rattle.dm_layout.specs.Sizes.{block_check};
-ghost use Rattle.dm_layout.specs.Holds.{IsLaid};
+ghost use Rattle.dm_layout.specs.Sizes.{block_check, row_with_side};
+ghost use Rattle.dm_layout.specs.Grid.{square_of_rows};
 ghost use Rattle.dm_symbol.specs.Blocks.{AreWordsOf, BlocksAreCodewords, block_at, data_part};
 ghost use Rattle.dm_words.specs.Outcomes.{outcome};
 ghost use Rattle.dm_symbol.specs.NormalGrid.{IsWritten};
 
-use crate::place::light_grid;
 use arrayvec::ArrayVec;
 use dm_code::encode;
 use dm_layout::{Grid, Size, Words, block, lay_to, put_block};
 use dm_words::{Message, Profile, TooLong, add_pads, normal_words_to};
 
-/// Gives the normal grid of a message under [`Profile::Ascii`]: what [`write_as`] answers for that profile.
+/// Gives the normal grid of a message under [`Profile::Ascii`]: what [`write_as`] gives for that profile.
 pub fn write(message: &Message) -> Result<Grid, TooLong>
     ensures { IsWritten Profile.Ascii message.now result }
 {
@@ -22,8 +21,8 @@ pub fn write(message: &Message) -> Result<Grid, TooLong>
 }
 
 /// Gives the normal grid of a message under a profile: the codewords that the profile chooses, pads and check codewords, laid in the smallest
-/// symbol that holds them (ISO/IEC 16022, symbol construction). The answer is `TooLong` exactly where there is none, since the largest size has
-/// fewer data codewords.
+/// symbol that holds them (ISO/IEC 16022, symbol construction). The fault is `TooLong` exactly where no symbol holds them: where
+/// they are, without pads, more than the data codewords of the largest size.
 pub fn write_as(profile: Profile, message: &Message) -> Result<Grid, TooLong>
     ensures { IsWritten profile message.now result }
 {
@@ -34,10 +33,10 @@ pub fn write_as(profile: Profile, message: &Message) -> Result<Grid, TooLong>
     }
 }
 
-/// Does the same as [`write_as`], profile and all, in memory of the caller's: if it answers `Ok`, `grid` holds the normal grid, whatever it held
+/// Does the same as [`write_as`], profile and all, in a target: after `Ok`, `grid` holds the normal grid, whatever it held
 /// before. After `TooLong` it is as it was.
 pub fn write_to(profile: Profile, message: &Message, grid: &mut Grid) -> Result<(), TooLong>
-    ensures answer { IsWritten profile message.now (outcome result grid.new) }
+    ensures written { IsWritten profile message.now (outcome result grid.new) }
     ensures same { OnErr result (grid.new ≡ grid.old) }
 {
     let mut list = ArrayVec::new();
@@ -49,23 +48,23 @@ pub fn write_to(profile: Profile, message: &Message, grid: &mut Grid) -> Result<
         return Err(TooLong);
     };
     add_pads(&mut list, size);
-    lay_in(&completed(&list, size), grid);
+    lay_to(&with_checks(&list, size), grid);
     Ok(())
 }
 
-/// Lays these codewords in the grid.
-// The rows that are laid have a stack frame of their own, so that no caller's frame has to hold them.
-#[inline(never)]
-fn lay_in(words: &Words, grid: &mut Grid)
-    ensures { IsLaid words.now grid.new }
+/// Gives a grid of the smallest size with all cells light, into which [`write_to`] and [`normal_to`](crate::normal_to()) can write.
+pub fn light_grid() -> Grid
+    ensures size { row_with_side 10 ≡ Some result.size }
+    ensures cells { result.rows ≡ square_of_rows 10 (replicate 10 0) }
 {
-    lay_to(words, grid);
+    match Grid::of_rows(10, &[0; 10]) {
+        Ok(grid) => grid,
+        Err(_) => unreachable!(),
+    }
 }
 
 /// Gives the codewords of a symbol of this size with these data codewords: the check codewords make each block a codeword of its Reed-Solomon code.
-// The codewords of a block have a stack frame of their own, which is gone when the grid is made.
-#[inline(never)]
-fn completed(list: &[u8], size: Size) -> Words
+fn with_checks(list: &[u8], size: Size) -> Words
     requires { length list.now ≡ size.data_count }
     ensures size { result.size ≡ size }
     ensures data_words { data_part size result.list ≡ list.now }
@@ -87,7 +86,8 @@ fn completed(list: &[u8], size: Size) -> Words
 fn complete_only_block(words: &mut Words)
     requires { words.old.size.blocks ≡ 1 }
     ensures size { words.new.size ≡ words.old.size }
-    ensures data_words { data_part words.old.size words.new.list ≡ data_part words.old.size words.old.list }
+    ensures data_words { data_part words.old.size words.new.list
+        ≡ data_part words.old.size words.old.list }
     ensures checked { BlocksAreCodewords words.old.size words.new.list }
 {
     let size = words.size();
@@ -100,9 +100,12 @@ fn complete_block(words: &mut Words, b: usize)
     requires { b < words.old.size.blocks }
     ensures size { words.new.size ≡ words.old.size }
     ensures words { AreWordsOf words.old.size words.new.list }
-    ensures data_words { data_part words.old.size words.new.list ≡ data_part words.old.size words.old.list }
-    ensures checked { IsCodeword (block_check words.old.size) (block_at words.old.size words.new.list b) }
-    ensures others { (a : ℕ) → a < words.old.size.blocks → a ≢ b → block_at words.old.size words.new.list a ≡ block_at words.old.size words.old.list a }
+    ensures data_words { data_part words.old.size words.new.list
+        ≡ data_part words.old.size words.old.list }
+    ensures checked { IsCodeword (block_check words.old.size)
+        (block_at words.old.size words.new.list b) }
+    ensures others { (a : ℕ) → a < words.old.size.blocks → a ≢ b
+        → block_at words.old.size words.new.list a ≡ block_at words.old.size words.old.list a }
 {
     let size = words.size();
     let mut list = block(words, b);

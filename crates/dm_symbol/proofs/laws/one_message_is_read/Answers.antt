@@ -1,6 +1,6 @@
 use Rattle.dm_symbol.proofs.Readings.{one_message, one_given}
-use Rattle.dm_symbol.proofs.NormalReadings.{one_normal_answer}
+use Rattle.dm_symbol.proofs.NormalReadings.{one_normal_result}
 use Rattle.dm_symbol.proofs.laws.one_message_is_read.Goals as goal
 
 pub returns : goal.returns
-returns c = record { message = one_message; answer = one_given; normal = one_normal_answer }
+returns c = record { message = one_message; read = one_given; normal = one_normal_result }

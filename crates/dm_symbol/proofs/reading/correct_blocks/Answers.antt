@@ -5,7 +5,7 @@ use Rattle.std.proofs.lemmas.List.FromFn.{fill_by_all}
 use Rattle.dm_code.specs.Codeword.{IsNear, distance}
 use Rattle.dm_layout.specs.Sizes.{block_check}
 use Rattle.dm_symbol.specs.Blocks.{AreWordsOf, block_at}
-use Rattle.dm_symbol.specs.Inspection.{IsMended}
+use Rattle.dm_symbol.specs.Inspection.{IsBlockCorrected}
 use Rattle.dm_symbol.specs.Reading.{HasNear}
 use Rattle.dm_symbol.proofs.SizeFacts.{blocks_of_size}
 use Rattle.dm_symbol.proofs.reading.correct_blocks.Goals as goal
@@ -26,14 +26,14 @@ loop-b-preserved c =
     let s = w.size in
     let b = c.loop-b.b in
     let before = c.loop-b.words.list in
-    let after = c.mend_block.new.words.list in
+    let after = c.correct_block.new.words.list in
     let within : b < s.blocks = omega (arith, c.loop-b-test.true, c.blocks-b-end.ensures.value, blocks_of_size c.size.result s c.size.ensures.value) in
     let others : (a : ℕ) → a < s.blocks → a ≢ b → block_at s after a ≡ block_at s before a =
     subst (λ t. (a : ℕ) → a < t.blocks → a ≢ b → block_at t after a ≡ block_at t before a) i.size
     (subst (λ x. (a : ℕ) → a < c.loop-b.words.size.blocks → a ≢ x → block_at c.loop-b.words.size after a ≡ block_at c.loop-b.words.size before a) c.from.ensures c.in-Some.ensures.others) in
-    let now : IsMended (block_check s) (block_at s before b) (block_at s after b) (Some c.in-Some.changed) =
-    subst (λ t. IsMended (block_check t) (block_at t before b) (block_at t after b) (Some c.in-Some.changed)) i.size
-    (subst (λ x. IsMended (block_check c.loop-b.words.size) (block_at c.loop-b.words.size before x) (block_at c.loop-b.words.size after x) (Some c.in-Some.changed)) c.from.ensures c.in-Some.ensures.mended) in
+    let now : IsBlockCorrected (block_check s) (block_at s before b) (block_at s after b) (Some c.in-Some.changed) =
+    subst (λ t. IsBlockCorrected (block_check t) (block_at t before b) (block_at t after b) (Some c.in-Some.changed)) i.size
+    (subst (λ x. IsBlockCorrected (block_check c.loop-b.words.size) (block_at c.loop-b.words.size before x) (block_at c.loop-b.words.size after x) (Some c.in-Some.changed)) c.from.ensures c.in-Some.ensures.corrected) in
     let stay : (a : ℕ) → a < b → block_at s after a ≡ block_at s before a = λ a l. others a (omega (arith, within)) (omega arith) in
     let fresh : block_at s before b ≡ block_at s w.list b = i.later b (omega arith) within in
     let counted = counted_more (block_at s w.list) (block_at s before) (block_at s after) c.loop-b.counts.items b c.in-Some.changed i.count i.counts stay fresh now.1 in
@@ -56,7 +56,7 @@ returns-in-None-clause-beyond c =
     let none : HasNear (block_check w.size) (block_at w.size w.list b) → ⊥ =
     subst (λ x. HasNear (block_check w.size) x → ⊥) (c.loop-b.invariant.later b (omega arith) within)
     (subst (λ x. HasNear (block_check w.size) (block_at w.size c.loop-b.words.list x) → ⊥) c.from.ensures
-    (subst (λ s. HasNear (block_check s) (block_at s c.loop-b.words.list c.from.result) → ⊥) c.loop-b.invariant.size c.in-None.ensures.mended.0)) in
+    (subst (λ s. HasNear (block_check s) (block_at s c.loop-b.words.list c.from.result) → ⊥) c.loop-b.invariant.size c.in-None.ensures.corrected.0)) in
     record {
       in_symbol = within;
       beyond = none;

@@ -4,7 +4,7 @@ use Rattle.std.proofs.lemmas.Bool.{false≢true}
 use Rattle.dm_layout.specs.declared.grid.GridFault.{GridFault}
 use Rattle.dm_layout.specs.declared.grid.GridFault.TheVariants.{NotSquare, NoSuchSize}
 use Rattle.dm_layout.specs.Sizes.{row_with_side, size_table}
-use Rattle.dm_symbol.proofs.place.light_grid.Goals as goal
+use Rattle.dm_symbol.proofs.writing.light_grid.Goals as goal
 
 -- There is no third fault.
 no_other : {A : Type 0} (e : GridFault) → (◌≡◌ {A = Result A GridFault} (Err e) (Err NotSquare) → ⊥) → (◌≡◌ {A = Result A GridFault} (Err e) (Err NoSuchSize) → ⊥) → ⊥

@@ -1,7 +1,7 @@
 use Rattle.std.proofs.Common.{◌≡◌, ◌∙◌, subst, arith}
 use Rattle.dm_symbol.specs.Blocks.{data_part}
 use Rattle.dm_symbol.proofs.Completion.{next_completed}
-use Rattle.dm_symbol.proofs.writing.completed.Goals as goal
+use Rattle.dm_symbol.proofs.writing.with_checks.Goals as goal
 
 pub loop-b-preserved : goal.loop-b-preserved
 loop-b-preserved c =

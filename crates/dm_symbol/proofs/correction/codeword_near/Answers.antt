@@ -7,7 +7,7 @@ use Rattle.dm_symbol.specs.Reading.{HasNear}
 use Rattle.dm_symbol.proofs.SizeFacts.{size_facts, blocks_of_size}
 use Rattle.dm_symbol.proofs.SymbolBlocks.{only_block}
 use Rattle.dm_symbol.proofs.Below.{block_lengths}
-use Rattle.dm_symbol.proofs.correction.corrected_block.Goals as goal
+use Rattle.dm_symbol.proofs.correction.codeword_near.Goals as goal
 
 -- What is near a word, or that nothing is near it, is also true of an equal word.
 near_or_none : {A E : Type 0} (r : Result A E) (word : A → List ℕ) (k l : ℕ) (w v : List ℕ) → k ≡ l → w ≡ v
