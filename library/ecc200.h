@@ -1,7 +1,8 @@
-/* ecc200.h: Data Matrix ECC 200 (ISO/IEC 16022), the 21 square symbols of sides 10 to 104.
+/* ecc200.h: Data Matrix ECC 200 (ISO/IEC 16022), the square symbols of sides 10 to ECC200_MOST_SIDE.
  *
  *     ecc200_read           what a symbol says, and how much of it was wrong
  *     ecc200_write          the normal symbol of a message
+ *     ecc200_write_bytes    the same for a message of bytes alone
  *     ecc200_normal         the normal symbol of what a symbol says
  *     ecc200_inspect        the codewords that a symbol holds, and what they are corrected to
  *     ecc200_places         what each module of a symbol is: the bit of a codeword, border, or fixed square

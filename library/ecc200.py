@@ -1,4 +1,5 @@
-"""Data Matrix ECC 200 (ISO/IEC 16022), the 21 square symbols: read, write, normalise and inspect, by the shared library ecc200.
+"""Data Matrix ECC 200 (ISO/IEC 16022), the square symbols: read, write, normalise and inspect, by the shared library ecc200; found in
+pictures by the library ecc200_sample, where that is installed.
 
     >>> rows = write(b"123456")
     >>> read(rows).data
@@ -14,8 +15,11 @@ GS, use the items: 0 to 255, and FNC1. Text is a message only with the name of i
 
 What can't be read or written raises Refused. All functions may be called from any number of threads, and let others run meanwhile.
 
+A picture, for `decode` and `find`, is Pillow's, or anything with a buffer or the array interface (numpy, OpenCV): luminances, a byte each with 0
+black, or booleans, true being light, or colours, for which Pillow is needed.
+
 The shared library is looked for at the path in the environment variable ECC200_LIBRARY; if that isn't set, beside this file, then where
-the system keeps its libraries.
+the system keeps its libraries. The sampler's, ECC200_SAMPLE_LIBRARY, is looked for in the same way when it is first needed.
 """
 import array
 import ctypes
@@ -26,8 +30,9 @@ import os
 import struct
 from typing import Any, Callable, Dict, Iterable, List, NamedTuple, Optional, Protocol, Sequence, Tuple, Type, Union
 
-__all__ = ["ABI", "Code", "Extent", "FNC1", "Grid", "Inspection", "Kind", "MOST_ITEMS", "Message", "Place", "Profile", "Reading", "Refused",
-           "Rows", "Size", "inspect", "normal", "places", "read", "read_many", "sizes", "usual_limit", "version", "write"]
+__all__ = ["ABI", "Code", "Extent", "FNC1", "Found", "Grid", "Inspection", "Kind", "MOST_ITEMS", "Message", "Place", "Profile", "Reading",
+           "Refused", "Rows", "SamplerMissing", "Size", "decode", "find", "has_sampler", "inspect", "luminance", "normal", "places", "read",
+           "read_many", "sizes", "usual_limit", "version", "write"]
 
 # interface.toml: constants
 ABI = 2
@@ -206,23 +211,28 @@ def _lacking(path: str) -> List[str]:
     return [] if flags is None else sorted(_INSTRUCTIONS - set(flags.split()))
 
 
-def _opened() -> ctypes.CDLL:
-    beside = os.path.join(os.path.dirname(os.path.abspath(__file__)), "libecc200.so")
-    named, own, faults = os.environ.get("ECC200_LIBRARY"), f"libecc200.so.{ABI}", []
-    for path in [named] if named else [beside, own, "libecc200.so", os.path.join("/usr/local/lib", own)]:
+def _opened(name: str, needed: int, missing: Type[ImportError]) -> ctypes.CDLL:
+    """The shared library of this name, with the version of its interface that is needed."""
+    file, variable, faults = f"lib{name}.so", f"{name.upper()}_LIBRARY", []
+    beside, own = os.path.join(os.path.dirname(os.path.abspath(__file__)), file), f"{file}.{needed}"
+    named = os.environ.get(variable)
+    for path in [named] if named else [beside, own, file, os.path.join("/usr/local/lib", own)]:
         try:
-            return ctypes.CDLL(path)
+            library = ctypes.CDLL(path)
         except OSError as why:
             faults.append(str(why))
-    raise ImportError("libecc200.so can't be loaded; set ECC200_LIBRARY to its path (" + "; ".join(faults) + ")")
+            continue
+        abi = getattr(library, f"{name}_abi")()
+        if abi != needed:
+            raise missing(f"{path} has version {abi} of the interface, but this module needs version {needed}")
+        return library
+    raise missing(f"{file} can't be loaded; set {variable} to its path (" + "; ".join(faults) + ")")
 
 
 def _load(processor: str = "/proc/cpuinfo") -> ctypes.CDLL:
     if _lacking(processor):
         raise ImportError(f"libecc200.so needs the processor's instructions of x86-64-v2; this one lacks {', '.join(_lacking(processor))}")
-    library = _opened()
-    if library.ecc200_abi() != ABI:
-        raise ImportError(f"{library._name} has version {library.ecc200_abi()} of the interface, but this module needs version {ABI}")
+    library = _opened("ecc200", ABI, ImportError)
     modules, count, out, words = ctypes.c_char_p, ctypes.c_size_t, ctypes.c_void_p, ctypes.c_char_p
     for name, result, given in (
         ("version", words, []), ("code_words", words, [_u16]), ("abi", _u16, []), ("usual_limit", _u16, [_u16]), ("sizes", None, [out]),
@@ -445,3 +455,140 @@ def sizes() -> List[Size]:
     out = _SizesOut()
     _library.ecc200_sizes(ctypes.byref(out))
     return [Size._make(row) for row in struct.iter_unpack("=8H", bytes(out))]
+
+
+# ---- Symbols in pictures, which the library ecc200_sample finds: the structs are those of ecc200_sample.h.
+
+_SAMPLE_ABI = 1
+_MOST_FOUND = 64  # symbols of one picture, unless a caller says otherwise
+_COLOURS = {1: "L", 2: "LA", 3: "RGB", 4: "RGBA"}  # by the bytes of a pixel, as Pillow calls them
+
+
+class SamplerMissing(ImportError):
+    """The library ecc200_sample isn't installed, or is of another version."""
+
+
+class Found(NamedTuple):
+    """A symbol in a picture."""
+    answer: Union[Reading, Refused]           # what it says, or why it isn't read
+    rows: Rows                                # its modules, upright
+    corners: Tuple[Tuple[float, float], ...]  # top left, top right, bottom right, bottom left of the symbol, in pixels from the picture's upper left
+    inverted: bool                            # whether it is light on dark
+    mirrored: bool
+
+
+class _Options(ctypes.Structure):
+    _fields_ = [("milliseconds", ctypes.c_uint32), ("least_side", _u16), ("margin", _u16), ("keep_unread", _u16)]
+
+
+class _Sample(ctypes.Structure):
+    _fields_ = [("corners", ctypes.c_double * 8), ("side", _u16), ("inverted", _u8), ("mirrored", _u8), ("modules", _u8 * _MOST_MODULES),
+                ("reading", _ReadingOut)]
+
+
+@functools.lru_cache(maxsize=None)
+def _sampler() -> ctypes.CDLL:
+    library = _opened("ecc200_sample", _SAMPLE_ABI, SamplerMissing)
+    size, pointer = ctypes.c_size_t, ctypes.c_void_p
+    library.ecc200_sample_picture.argtypes = [ctypes.c_char_p, size, size, size, pointer, pointer, size, pointer]
+    library.ecc200_sample_picture.restype = _u16
+    return library
+
+
+def has_sampler() -> bool:
+    """Whether the library ecc200_sample is installed, so that symbols can be found in pictures."""
+    try:
+        _sampler()
+        return True
+    except SamplerMissing:
+        return False
+
+
+def _of_pillow(picture: Any) -> Any:
+    """A Pillow picture in shades of grey, on white paper where it is transparent."""
+    if "A" in picture.getbands() or "transparency" in picture.info:
+        from PIL import Image
+        paper = Image.new("RGBA", picture.size, "white")
+        paper.alpha_composite(picture.convert("RGBA"))
+        picture = paper
+    if picture.mode.startswith("I") or picture.mode == "F":  # 16 bits or more, which Pillow would cut off at 255
+        low, high = picture.getextrema()
+        picture = picture.point(lambda value: value * (255 / max(high, 255)) + 0)
+    return picture.convert("L")
+
+
+def _elements(picture: Any) -> memoryview:
+    """What an array has: its buffer; or, where it has none, what its array interface names, which needs numpy unless that is whole bytes."""
+    try:
+        return memoryview(picture)
+    except TypeError:
+        named = getattr(picture, "__array_interface__", None)
+    if named is None:
+        raise TypeError(f"a picture is Pillow's, or an array, unlike {type(picture).__name__}")
+    if isinstance(named.get("data"), bytes) and not named.get("strides") and named["typestr"] in ("|u1", "|b1"):
+        return memoryview(named["data"]).cast("B" if named["typestr"] == "|u1" else "?", named["shape"])
+    import numpy
+    array: Any = numpy.asarray(picture)
+    return memoryview(array)
+
+
+def luminance(picture: Any) -> Tuple[bytes, int, int]:
+    """The luminances of a picture row by row, its width and its height."""
+    if not hasattr(picture, "getbbox"):
+        view = _elements(picture)
+        shape = view.shape or ()
+        if len(shape) == 2 and view.format in ("B", "?"):
+            pixels = view.tobytes()
+            return pixels.replace(b"\1", b"\xff") if view.format == "?" else pixels, shape[1], shape[0]
+        if len(shape) != 3 or view.format != "B" or shape[2] not in _COLOURS:
+            raise TypeError(f"a picture is an array of rows of bytes, or of rows of colours, unlike one of {shape} of {view.format}")
+        from PIL import Image
+        picture = Image.frombytes(_COLOURS[shape[2]], (shape[1], shape[0]), view.tobytes())
+    grey = _of_pillow(picture)
+    return grey.tobytes(), grey.width, grey.height
+
+
+def _found(sample: Any) -> Found:
+    modules, side = bytes(sample.modules), sample.side
+    answer: Union[Reading, Refused]
+    try:
+        answer = _said(memoryview(bytes(sample.reading)))
+    except Refused as why:
+        answer = why
+    corners = tuple(zip(sample.corners[::2], sample.corners[1::2]))
+    rows = [modules[at:at + side] for at in range(0, side * side, side)]
+    return Found(answer, rows, corners, bool(sample.inverted), bool(sample.mirrored))
+
+
+def find(picture: Any, most: int = _MOST_FOUND, milliseconds: int = 1000, margin: int = 0, unread: bool = False) -> List[Found]:
+    """At most `most` symbols of a picture; the search takes about `milliseconds`, and ends at once where `most` are found. `margin`: how many
+    corrections each block must leave unused. With `unread`, where none is read, the most likely grid that isn't, with its refusal.
+
+    Where the library ecc200_sample isn't installed SamplerMissing is raised."""
+    library = _sampler()
+    pixels, width, height = luminance(picture)
+    options, count = _Options(milliseconds, 0, margin, int(unread)), ctypes.c_size_t()
+    samples = (_Sample * most)()
+    code = library.ecc200_sample_picture(pixels, width, height, width, ctypes.byref(options), samples, most, ctypes.byref(count))
+    if code:
+        raise ValueError(f"a picture of {width} by {height} pixels can't be searched ({code})")
+    return [_found(sample) for sample in samples[:count.value]]
+
+
+def decode(picture: Any, most: int = _MOST_FOUND, milliseconds: int = 1000, border_limit: Optional[int] = None,
+           extent: Extent = Extent.WIDE) -> List[Reading]:
+    """What the symbols of a grid or of a picture say: a list, empty if nothing is read. Rows, bytes and text are grids; what has the array
+    interface (numpy, OpenCV, Pillow) is a picture, in which at most `most` symbols are looked for during `milliseconds`, wherever they stand.
+
+    Symbols found in a picture are read at the wide extent and the usual limit. A Pillow picture in which nothing is found, or where the
+    library ecc200_sample isn't installed, is read as one symbol with one pixel a module; for other arrays SamplerMissing is raised then."""
+    is_pillow = hasattr(picture, "getbbox")
+    if hasattr(picture, "__array_interface__") and (has_sampler() or not is_pillow):
+        answers = [symbol.answer for symbol in find(picture, most, milliseconds)]
+        readings = [answer for answer in answers if not isinstance(answer, Refused)]
+        if readings or not is_pillow:
+            return readings
+    try:
+        return [read(picture, border_limit, extent)]
+    except Refused:
+        return []

@@ -1,4 +1,4 @@
-//! Data Matrix ECC 200 (ISO/IEC 16022), the 21 square symbols, by the C library ecc200: a safe interface over `ecc200.h`, whose conventions
+//! Data Matrix ECC 200 (ISO/IEC 16022), the square symbols, by the C library ecc200: a safe interface over `ecc200.h`, whose conventions
 //! hold here too. Put this file beside yours, write `mod ecc200;`, and link the library: `rustc -l ecc200`, with `-L` for its folder.
 //!
 //! What `ecc200.h` asks of callers holds here for any arguments: slices point to all of their elements, and a `&mut` overlaps nothing.

@@ -6,6 +6,8 @@ from model import (BIT, FIELD, FNC1, NO_MODULE, PLACES, SIZE_OF, SIZES, UPPER_SH
                    normal_symbol, padded, randomised, triple)
 
 USUAL, WIDE = 0, 1
+LARGEST = SIZES[-1]
+MOST_DATA, MOST_CODEWORDS, MOST_MODULES = LARGEST.data, LARGEST.data + LARGEST.check, LARGEST.side ** 2
 WORDS = {
     0: "no fault", 3: "the modules make no square of this side", 4: "no size has this side",
     5: "too many border modules have the wrong colour", 6: "a block is damaged beyond correction", 7: "a reserved codeword",
@@ -132,15 +134,15 @@ def faults(extents):
     yield "write 65535 999", no(16, 65535)
     yield "write 0 65,257,999", no(15, 257, 1)
     yield "write 1 65535", no(15, 65535, 0)
-    yield f"write 0 {numbers([55] * 1632 + [300])}", no(15, 300, 1632)
+    yield f"write 0 {numbers([55] * 2 * MOST_DATA + [300])}", no(15, 300, 2 * MOST_DATA)
     yield f"write 0 {numbers([55] * 65534 + [300])}", no(15, 300, 65534)
     yield f"write 0 {numbers([55] * 65536 + [300])}", no(15, 300, 65535)
-    for count in (1633, 1640, 70_000):
+    for count in (2 * MOST_DATA + 1, 2 * MOST_DATA + 8, 70_000):
         yield f"write 0 {numbers([55] * count)}", no(14)
-    for call in ("inspect 11 " + "00" * 121, "inspect 0 -", "inspect 105 " + "00" * 11025):
+    for call in ("inspect 11 " + "00" * 121, "inspect 0 -", f"inspect {LARGEST.side + 1} " + "00" * (LARGEST.side + 1) ** 2):
         yield call, no(4, int(call.split()[1]))
     yield "inspect 10 " + "00" * 99, no(3)
-    for side in (0, 1, 9, 11, 28, 103, 105, 106, 144, 65535):
+    for side in (0, 1, 9, 11, 28, LARGEST.side - 1, LARGEST.side + 1, LARGEST.side + 2, LARGEST.side + 40, 65535):
         yield f"places {side}", no(4, side)
 
 
@@ -160,9 +162,10 @@ def wide(extents):
         yield normal([], 2, extent=extent, side=11), no(17, extent)
         yield normal(grid_of(10, 142), 0, extent=extent), no(17, extent)
     yield normal([], 2, extent=WIDE, side=11), no(16, 2)
-    longest = [236] + ascii_words([55] * 1630)
-    yield read(grid_of(104, *longest), extent=WIDE), reading(104, [*b"[)>\x1e05\x1d", *[55] * 1630, 30, 4], [0] * 6)
-    yield normal(grid_of(104, *longest), 0, extent=WIDE), no(14)
+    digits = [55] * (2 * MOST_DATA - 2)
+    longest = grid_of(LARGEST.side, 236, *ascii_words(digits))
+    yield read(longest, extent=WIDE), reading(LARGEST.side, [*b"[)>\x1e05\x1d", *digits, 30, 4], [0] * LARGEST.blocks)
+    yield normal(longest, 0, extent=WIDE), no(14)
 
 
 # ---- What symbols say
@@ -170,8 +173,9 @@ def wide(extents):
 MESSAGES = [
     (b"", 0), (b"123456", 0), (b"A", 0), ([FNC1, *b"0112345678901231"], 0), ([*b"AB", FNC1, *b"CD"], 0), ([*b"AB", FNC1], 0), ([FNC1], 0),
     ([FNC1, FNC1, *b"10AB", FNC1, *b"\x1d21"], 0), (b"\x1d\x1e\x00\x7f\x80\xff", 0), (b"\x80" * 3, 1), (b"\x80" * 2, 1), ([FNC1] + [128] * 4, 1),
-    (b"\xff" * 250, 1), (b"\xff" * 249, 1), (b"\xff" * 813, 1), (b"\xff" * 814, 1), (b"\xff" * 813, 0), (b"7" * 1632, 0), (b"7" * 1631, 1),
-    (b"A" * 816, 0), (b"A" * 817, 0), (bytes(range(256)), 0), (bytes(range(256)), 1), (b"Mitsubadoor", 0), (b"Mitsubadoor", 1),
+    (b"\xff" * 250, 1), (b"\xff" * 249, 1), (b"\xff" * (MOST_DATA - 3), 1), (b"\xff" * (MOST_DATA - 2), 1), (b"\xff" * (MOST_DATA - 3), 0),
+    (b"7" * (2 * MOST_DATA), 0), (b"7" * (2 * MOST_DATA - 1), 1), (b"A" * MOST_DATA, 0), (b"A" * (MOST_DATA + 1), 0),
+    (bytes(range(256)), 0), (bytes(range(256)), 1), (b"Mitsubadoor", 0), (b"Mitsubadoor", 1),
 ]
 
 
@@ -198,7 +202,7 @@ def messages(extents, has_bytes):
         yield read(c40, extent=extent), reading(14, [65, 66, 67, 30, FNC1, 32, 48], [0])
     if has_bytes:
         yield "write_bytes 2 41", no(16, 2)
-        yield f"write_bytes 0 {hexadecimal(b'A' * 817)}", no(14)
+        yield f"write_bytes 0 {hexadecimal(b'A' * (MOST_DATA + 1))}", no(14)
         yield f"write_bytes 1 {hexadecimal(b'7' * 70_000)}", no(14)
 
 
@@ -285,8 +289,8 @@ def limits():
 # ---- The constants and the layout
 
 CONSTANTS = {
-    "MOST_SIDE": 104, "MOST_MODULES": 10816, "MOST_ITEMS": 1632, "MOST_CODEWORDS": 1152, "MOST_BLOCKS": 6, "SIZE_COUNT": 21, "FNC1": 256,
-    "ANY_LIMIT": 65535, "BEYOND": 255, "STACK": 32768,
+    "MOST_SIDE": LARGEST.side, "MOST_MODULES": MOST_MODULES, "MOST_ITEMS": 2 * MOST_DATA, "MOST_CODEWORDS": MOST_CODEWORDS,
+    "MOST_BLOCKS": max(size.blocks for size in SIZES), "SIZE_COUNT": len(SIZES), "FNC1": 256, "ANY_LIMIT": 65535, "BEYOND": 255, "STACK": 32768,
 }
 EXTENTS = {"USUAL": USUAL, "WIDE": WIDE}
 PROFILES = {"ASCII": 0, "SHORTER": 1}
@@ -307,21 +311,23 @@ class Interface:
         self.extents = [USUAL, WIDE] if second else [USUAL]
         self.extent_names = EXTENTS if second else {}
         self.codes = {**CODES, "EXTENT": 17} if second else CODES
-        self.constants = {**CONSTANTS, "MOST_ITEMS": 1639} if second else CONSTANTS
+        self.constants = {**CONSTANTS, "MOST_ITEMS": 2 * MOST_DATA + 7} if second else CONSTANTS
         self.has_bytes = second
-        items = 2 * self.constants["MOST_ITEMS"]
+        items, blocks, corrected = 2 * self.constants["MOST_ITEMS"], CONSTANTS["MOST_BLOCKS"], 14 + 2 * MOST_CODEWORDS
+        places, sizes = 4 * MOST_MODULES, 16 * len(SIZES)
         self.layout = {
             "fault": (6, {"code": (0, 2), "value": (2, 2), "place": (4, 2)}),
-            "reading": (items + 20, {"fault": (0, 6), "side": (6, 2), "border_faults": (8, 2), "block_count": (10, 2), "item_count": (12, 2),
-                                     "items": (14, items), "corrected": (14 + items, 6)}),
-            "symbol": (10824, {"fault": (0, 6), "side": (6, 2), "modules": (8, 10816)}),
-            "inspection": (2324, {"fault": (0, 6), "side": (6, 2), "border_faults": (8, 2), "block_count": (10, 2), "codeword_count": (12, 2),
-                                  "held": (14, 1152), "mended": (1166, 1152), "corrected": (2318, 6)}),
+            "reading": (items + 14 + blocks, {"fault": (0, 6), "side": (6, 2), "border_faults": (8, 2), "block_count": (10, 2), "item_count": (12, 2),
+                                     "items": (14, items), "corrected": (14 + items, blocks)}),
+            "symbol": (8 + MOST_MODULES, {"fault": (0, 6), "side": (6, 2), "modules": (8, MOST_MODULES)}),
+            "inspection": (corrected + blocks, {"fault": (0, 6), "side": (6, 2), "border_faults": (8, 2), "block_count": (10, 2),
+                                                "codeword_count": (12, 2), "held": (14, MOST_CODEWORDS),
+                                                "mended": (14 + MOST_CODEWORDS, MOST_CODEWORDS), "corrected": (corrected, blocks)}),
             "place": (4, {"codeword": (0, 2), "bit": (2, 1), "kind": (3, 1)}),
-            "place_table": (43272, {"fault": (0, 6), "side": (6, 2), "places": (8, 43264)}),
+            "place_table": (8 + places, {"fault": (0, 6), "side": (6, 2), "places": (8, places)}),
             "size": (16, {name: (2 * i, 2) for i, name in enumerate(["side", "regions", "region_side", "mapping", "data_codewords",
                                                                       "check_codewords", "blocks", "limit"])}),
-            "size_table": (336, {"sizes": (0, 336)}),
+            "size_table": (sizes, {"sizes": (0, sizes)}),
         }
 
     def shown_constants(self):

@@ -10,7 +10,7 @@
 
 enum { AREA = 1 << 17 };
 
-static const uint16_t sides[] = {10, 12, 14, 16, 18, 20, 22, 24, 26, 32, 36, 40, 44, 48, 52, 64, 72, 80, 88, 96, 104, 0, 1, 11, 28, 105, 120, 65535};
+static const uint16_t others[] = {0, 1, 11, 28, ECC200_MOST_SIDE + 1, ECC200_MOST_SIDE + 16, 65535}; /* sides of no size */
 static uint16_t extent;
 static long reads, both;
 static uint8_t *area;
@@ -129,9 +129,15 @@ static int check_normal(uint16_t profile) {
     return 0;
 }
 
+/* the side of a size, or one that no size has */
+static uint16_t any_side(void) {
+    size_t at = (size_t)rand() % (ECC200_SIZE_COUNT + sizeof others / sizeof *others);
+    return at < ECC200_SIZE_COUNT ? sizes.sizes[at].side : others[at - ECC200_SIZE_COUNT];
+}
+
 static int round_of(void) {
     static ecc200_reading second;
-    uint16_t side = sides[(size_t)rand() % (sizeof sides / sizeof *sides)], profile = (uint16_t)(rand() % 2);
+    uint16_t side = any_side(), profile = (uint16_t)(rand() % 2);
     size_t count;
     int way = rand() % 4;
     uint8_t *modules = way == 0 ? noise(side, &count) : way == 1 ? written(&side, &count) : spelled(&side, &count);

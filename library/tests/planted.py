@@ -49,9 +49,17 @@ def first_failure(tests):
     return next((f"{name}: {why}" for name, why in tests if why), None)
 
 
+def add_sources(top):
+    """What tools/callers compares with the interface: the sources of these crates, where they aren't there."""
+    for crate in ("dm_layout", "dm_words", "ecc200"):
+        source = os.path.join("crates", crate, "src")
+        if not os.path.exists(os.path.join(top, source)):
+            shutil.copytree(os.path.join(TOP, source), os.path.join(top, source))
+
+
 def over_interface(top, callers):
     """A spoilt interface is written into all callers: the tests of each of those that are changed by it have to fail."""
-    shutil.copytree(os.path.join(TOP, SOURCES, "src"), os.path.join(top, SOURCES, "src"))
+    add_sources(top)
     run([sys.executable, os.path.join(TOP, "tools", "callers"), "--top", top])
     changed = [file for file in LANGUAGES if not filecmp.cmp(callers.source(file), os.path.join(LIBRARY, file), shallow=False)]
     return [first_failure(tests(callers)) for file in changed for tests in LANGUAGES[file]]
@@ -59,11 +67,12 @@ def over_interface(top, callers):
 
 def over_crate(top, callers):
     """A spoilt crate is proved and built: the tests in C have to fail over it, and so has the comparison of its structs."""
+    add_sources(top)
     said = run([sys.executable, os.path.join(TOP, "tools", "callers"), "--check", "--top", top])[1]
     callers.built, callers.archive = os.path.join(top, "built"), os.path.join(top, "built", "libecc200.a")
     os.mkdir(callers.built)
     kit = f"{crates.kit()}/toolchain"
-    words = [*crates.words("build", "ecc200"), "--toolchain", kit, "--incremental", "out/incremental", "-o", callers.archive]
+    words = [*crates.command("build", "ecc200"), "--toolchain", kit, "--incremental", "out/incremental", "-o", callers.archive]
     about = os.path.join(callers.built, "about.o")
     compiled = ["cc", "-std=c11", f"-I{callers.library}", "-c", callers.source("about.c"), "-o", about]
     for step, folder in ((words, os.path.join(top, SOURCES)), (compiled, top), ([f"{kit}/bin/llvm-ar", "r", callers.archive, about], top)):

@@ -1,5 +1,5 @@
 """Tests the Python module: the requests of cases.py, and what only Python has: defaults, wrong types, numbers of any size, grids of many
-kinds, and which library is loaded. The argument is the folder with ecc200.py; ECC200_LIBRARY is the library, OTHER_LIBRARY one with
+kinds, pictures, and which library is loaded. The argument is the folder with ecc200.py; ECC200_LIBRARY is the library, OTHER_LIBRARY one with
 another interface, VERSION the version of the library. The last line is 'N passed, M failed'."""
 import ctypes
 import importlib.util
@@ -10,7 +10,7 @@ import sys
 sys.dont_write_bytecode = True
 sys.path.insert(0, os.path.dirname(os.path.abspath(__file__)))
 from answers import Answers
-from cases import FNC1, TEXTS, Interface, REFUSED, WIDENED, WORDS, grid_of, hurt, with_bad_border
+from cases import FNC1, LARGEST, MOST_DATA, TEXTS, Interface, REFUSED, WIDENED, WORDS, grid_of, hurt, with_bad_border
 from model import PLACES, SIZES, normal_symbol
 
 FOLDER = os.path.abspath(sys.argv[1])
@@ -64,8 +64,8 @@ def requests():
 
 def names():
     """What is public, and the numbers."""
-    public = {"ABI", "Code", "Extent", "FNC1", "Inspection", "Kind", "MOST_ITEMS", "Place", "Profile", "Reading", "Refused", "Size", "inspect",
-              "normal", "places", "read", "sizes", "usual_limit", "write"}
+    public = {"ABI", "Code", "Extent", "FNC1", "Found", "Inspection", "Kind", "MOST_ITEMS", "Place", "Profile", "Reading", "Refused",
+              "SamplerMissing", "Size", "decode", "find", "inspect", "normal", "places", "read", "sizes", "usual_limit", "write"}
     yield "public names", public - set(ecc200.__all__), set()
     yield "names that are there", [name for name in ecc200.__all__ if not hasattr(ecc200, name)], []
     yield "numbers", (ecc200.ABI, ecc200.FNC1, ecc200.MOST_ITEMS), (INTERFACE.abi, FNC1, INTERFACE.constants["MOST_ITEMS"])
@@ -184,7 +184,7 @@ NO_GRIDS = [
     ("an empty row", [b""], refused("SHAPE")),
     ("one module", [b"\1"], refused("SIDE", 1)),
     ("side 11", [bytes(11)] * 11, refused("SIDE", 11)),
-    ("side 105", [bytes(105)] * 105, refused("SIDE", 105)),
+    ("the next side", [bytes(LARGEST.side + 1)] * (LARGEST.side + 1), refused("SIDE", LARGEST.side + 1)),
     ("side 144", [bytes(144)] * 144, refused("SIDE", 144)),
     ("None", None, "TypeError"),
     ("a number", 7, "TypeError"),
@@ -264,11 +264,11 @@ NUMBERS = [
     ("limit of a text", lambda: ecc200.usual_limit("ten"), "TypeError"),
     ("a limit that is a text", lambda: ecc200.read(WORKED, "2"), "TypeError"),
     ("profile of a text", lambda: ecc200.write(b"A", profile="ascii"), "TypeError"),
-    ("too long", lambda: ecc200.write(b"A" * 817),
+    ("too long", lambda: ecc200.write(b"A" * (MOST_DATA + 1)),
     ("TOO_LONG", 0, 0)),
-    ("too long, shorter", lambda: ecc200.write(b"\xff" * 814, profile=1),
+    ("too long, shorter", lambda: ecc200.write(b"\xff" * (MOST_DATA - 2), profile=1),
     ("TOO_LONG", 0, 0)),
-    ("longest", lambda: len(ecc200.write(b"7" * 1632)), 104),
+    ("longest", lambda: len(ecc200.write(b"7" * 2 * MOST_DATA)), LARGEST.side),
 ]
 
 
@@ -311,6 +311,46 @@ def results():
         yield f"refused {data}", said_by(lambda: ecc200.read(rows(grid_of(12, *data)))), refused(ecc200.Code(code).name, value, place)
 
 
+class Array:
+    """What has the array interface and no buffer."""
+
+    def __init__(self, data, shape, typestr="|u1"):
+        self.__array_interface__ = {"version": 3, "shape": shape, "typestr": typestr, "data": data}
+
+
+def pictures():
+    """Which arrays are pictures, and what is said of others; and that nothing is found where the sampler isn't installed, as is said."""
+    shades = bytes(range(0, 240, 40))
+    for name, given, wanted in [
+        ("a view of bytes", memoryview(shades).cast("B", (2, 3)), (shades, 3, 2)),
+        ("a view of booleans", memoryview(bytes([0, 1, 1, 1, 0, 0])).cast("?", (2, 3)), (b"\0\xff\xff\xff\0\0", 3, 2)),
+        ("steps", memoryview(shades).cast("B", (2, 3))[::2], (shades[:3], 3, 1)),
+        ("an array interface", Array(shades, (2, 3)), (shades, 3, 2)),
+        ("an array interface of booleans", Array(b"\0\1", (1, 2), "|b1"), (b"\0\xff", 2, 1)),
+        ("shorts", memoryview(shades * 2).cast("B").cast("H", (2, 3)), "TypeError"),
+        ("one dimension", memoryview(shades), "TypeError"),
+        ("five colours", memoryview(bytes(30)).cast("B", (2, 3, 5)), "TypeError"),
+        ("colours of shorts", memoryview(bytes(36)).cast("B").cast("H", (2, 3, 3)), "TypeError"),
+        ("four dimensions", memoryview(shades).cast("B", (1, 1, 2, 3)), "TypeError"),
+        ("rows", [shades], "TypeError"),
+        ("a text", "0101", "TypeError"),
+        ("None", None, "TypeError"),
+    ]:
+        yield f"luminances of {name}", said_by(lambda: ecc200.luminance(given)), wanted
+    os.environ["ECC200_SAMPLE_LIBRARY"] = "/nonexistent/libecc200_sample.so"
+    yield "no sampler", ecc200.has_sampler(), False
+    yield "SamplerMissing is an ImportError", issubclass(ecc200.SamplerMissing, ImportError), True
+    blank = Array(bytes(100), (10, 10))
+    for call in (ecc200.find, ecc200.decode):
+        yield f"{call.__name__} without the sampler", said_by(lambda: call(blank)), "SamplerMissing"
+    try:
+        ecc200.find(blank)
+    except ImportError as why:
+        yield "the sampler's path and variable", [word in str(why) for word in ("/nonexistent/", "ECC200_SAMPLE_LIBRARY")], [True, True]
+    yield "a grid without the sampler", [reading.data for reading in ecc200.decode(WORKED)], [b"123456"]
+    yield "no grid without the sampler", ecc200.decode(LIGHT), []
+
+
 def loading():
     """Which library is loaded: the one that is named, else the one beside the module, and none of another interface."""
     own, other = os.environ["ECC200_LIBRARY"], os.environ["OTHER_LIBRARY"]
@@ -339,7 +379,7 @@ def loading():
 
 def main():
     passed = failed = 0
-    for part in (names, layout, requests, exceptions, texts, defaults, limits, grids, numbers, results, loading):
+    for part in (names, layout, requests, exceptions, texts, defaults, limits, grids, numbers, results, pictures, loading):
         try:
             for name, got, wanted in part():
                 if got == wanted:

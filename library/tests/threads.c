@@ -28,7 +28,8 @@ typedef struct {
 
 static example examples[CASES], largest;
 static uint16_t items[ECC200_MOST_ITEMS];
-static uint8_t many[813];
+static uint8_t many[ECC200_MOST_ITEMS];
+static size_t most_data; /* codewords of the largest size */
 
 static void answer(const example *e, ecc200_reading *reading, ecc200_symbol *normal, ecc200_inspection *inspection) {
     size_t count = (size_t)e->side * e->side;
@@ -81,17 +82,17 @@ static int threads_agree(size_t kib) {
 }
 
 static void *do_nothing(void *at) { return at; }
-static void *do_read(void *at) { return ecc200_read(largest.modules, 104 * 104, 104, ECC200_ANY_LIMIT, ECC200_WIDE, &largest.reading), at; }
-static void *do_inspect(void *at) { return ecc200_inspect(largest.modules, 104 * 104, 104, &largest.inspection), at; }
+static void *do_read(void *at) { return ecc200_read(largest.modules, ECC200_MOST_MODULES, ECC200_MOST_SIDE, ECC200_ANY_LIMIT, ECC200_WIDE, &largest.reading), at; }
+static void *do_inspect(void *at) { return ecc200_inspect(largest.modules, ECC200_MOST_MODULES, ECC200_MOST_SIDE, &largest.inspection), at; }
 static void normal_of_largest(uint16_t profile) {
-    ecc200_normal(largest.modules, 104 * 104, 104, ECC200_ANY_LIMIT, ECC200_WIDE, profile, &largest.normal);
+    ecc200_normal(largest.modules, ECC200_MOST_MODULES, ECC200_MOST_SIDE, ECC200_ANY_LIMIT, ECC200_WIDE, profile, &largest.normal);
 }
 static void *do_normal(void *at) { return normal_of_largest(ECC200_ASCII), at; }
 static void *do_normal_shorter(void *at) { return normal_of_largest(ECC200_SHORTER), at; }
-static void *do_write(void *at) { return ecc200_write(items, 2 * 816, ECC200_ASCII, &largest.normal), at; }
-static void *do_write_shorter(void *at) { return ecc200_write(items, 813, ECC200_SHORTER, &largest.normal), at; }
-static void *do_write_bytes(void *at) { return ecc200_write_bytes(many, sizeof many, ECC200_SHORTER, &largest.normal), at; }
-static void *do_places(void *at) { static ecc200_place_table table; return ecc200_places(104, &table), at; }
+static void *do_write(void *at) { return ecc200_write(items, 2 * most_data, ECC200_ASCII, &largest.normal), at; }
+static void *do_write_shorter(void *at) { return ecc200_write(items, most_data - 3, ECC200_SHORTER, &largest.normal), at; }
+static void *do_write_bytes(void *at) { return ecc200_write_bytes(many, most_data - 3, ECC200_SHORTER, &largest.normal), at; }
+static void *do_places(void *at) { static ecc200_place_table table; return ecc200_places(ECC200_MOST_SIDE, &table), at; }
 static void *do_sizes(void *at) { static ecc200_size_table table; return ecc200_sizes(&table), at; }
 
 /* how many bytes of a stack that was filled with a pattern a call overwrites */
@@ -118,13 +119,16 @@ int main(int argc, char **argv) {
         make(&examples[i], (size_t)(rand() % 300), rand() % 40);
     if (!threads_agree(kib))
         return puts("the threads' answers differ"), 1;
-    for (size_t i = 0; i < 813; i++)
+    ecc200_size_table sizes;
+    ecc200_sizes(&sizes);
+    most_data = sizes.sizes[ECC200_SIZE_COUNT - 1].data_codewords;
+    for (size_t i = 0; i < most_data; i++)
         items[i] = 255;
-    if (ecc200_write(items, 813, ECC200_SHORTER, &largest.normal) || largest.normal.side != 104)
-        return puts("no symbol of side 104"), 1;
+    if (ecc200_write(items, most_data - 3, ECC200_SHORTER, &largest.normal) || largest.normal.side != ECC200_MOST_SIDE)
+        return puts("no symbol of the largest side"), 1;
     memcpy(largest.modules, largest.normal.modules, sizeof largest.modules);
     for (int turns = 60; turns > 0; turns--)
-        largest.modules[rand() % (104 * 104)] ^= 1;
+        largest.modules[rand() % ECC200_MOST_MODULES] ^= 1;
     static const struct { const char *name; void *(*call)(void *); } calls[] = {
         {"ecc200_read", do_read}, {"ecc200_inspect", do_inspect}, {"ecc200_normal", do_normal}, {"ecc200_normal, shorter", do_normal_shorter},
         {"ecc200_write", do_write}, {"ecc200_write, shorter", do_write_shorter},

@@ -2,6 +2,7 @@
 use Rattle.std.proofs.Common.{◌≡◌, ℕ, zero, suc, ◌+◌, ◌-◌, ◌*◌, ◌/◌, ◌%◌, ◌^◌, ◌<◌, ◌≤◌, Bool, true, false, cond, nat_eq, List, length, get_or, refl, sym, ◌∙◌, ap, arith, mul_comm, Fits, map, take, drop, subst, bit_or, inl, inr}
 use Rattle.std.specs.Int.{w128}
 use Rattle.std.proofs.Math.Facts.{Fits-bits}
+use Rattle.std.proofs.Math.Pow.{pow_mono}
 use Rattle.std.proofs.Math.Nat.{pow-suc, div-div-eq-div-mul}
 use Rattle.std.proofs.lemmas.Nat.{pow_below}
 use mir.Val.{bool_byte as from_bool}
@@ -15,7 +16,7 @@ use Rattle.std.proofs.lemmas.Nat.{pow-add}
 use Rattle.std.proofs.lemmas.Nat.Bits.{bit_at_cat_low, bit_at_cat_high}
 use Rattle.std.proofs.lemmas.Simd.{bit_mask_l, mask_l-lt, length-chunk, get_or-chunk}
 use Rattle.dm_symbol.specs.Grid.{is_dark_in, square_of, square_of_rows}
-use Rattle.dm_layout.proofs.Exported.{same_squares, front_square}
+use Rattle.dm_layout.proofs.Exported.{same_squares, square_of_prefix}
 use Rattle.ecc200.specs.Modules.{is_dark}
 
 -- The next power of 2 is twice the last one.
@@ -74,7 +75,7 @@ pub square_packed : (side : ℕ) (modules rows : List ℕ) → length modules �
     → ((r c : ℕ) → r < side → c < side → is_dark_in (get_or rows r 0) c ≡ is_dark (get_or modules (r * side + c) 0))
     → square_of_rows side (take side rows) ≡ square_of side (map is_dark modules)
 square_packed side modules rows count cells =
-    sym (front_square side rows)
+    sym (square_of_prefix side rows)
     ∙ same_squares side (λ r. is_dark_in (get_or rows r 0)) (λ r c. get_or (map is_dark modules) (r * side + c) false) (λ r c lr lc.
     let room : (r + 1) * side ≤ side * side = mul-le-mul_right side (omega (arith, lr)) in
     cells r c lr lc ∙ sym (get_or-map is_dark modules (r * side + c) 0 false (omega (arith, count, room, lc))))
@@ -89,9 +90,9 @@ together_small row next column small few =
     omega (arith, all, most, small)
 
 -- Modules that are packed together stand above those before them.
-pub together_is : (row next column : ℕ) → column < 112 → row < 2 ^ column → next < 2 ^ 16 → bit_or row (next * 2 ^ column % 2 ^ 128) ≡ next * 2 ^ column + row
+pub together_is : (row next column : ℕ) → column ≤ 112 → row < 2 ^ column → next < 2 ^ 16 → bit_or row (next * 2 ^ column % 2 ^ 128) ≡ next * 2 ^ column + row
 together_is row next column low small few =
-    let room : next * 2 ^ column < 2 ^ 128 = omega (arith, together_small row next column small few, pow_below (column + 16) 128 (omega arith)) in
+    let room : next * 2 ^ column < 2 ^ 128 = omega (arith, together_small row next column small few, pow_mono {i = column + 16} {j = 128} (omega arith)) in
     ap (bit_or row) (mod-eq_of_lt room) ∙ or_shifted_r next column row small
 
 -- Where the modules before a column are packed, and those from it on beside them, the modules before a later column are.

@@ -7,7 +7,7 @@ use Rattle.dm_symbol.specs.Words.{WordsView, IsWords}
 use Rattle.ecc200.specs.Arrays.{most_modules}
 use Rattle.dm_layout.proofs.Exported.{found_row, row_facts, side_fits}
 
--- A side above the largest is that of no size, whatever the table answers.
+-- A side above the largest is that of no size, whatever the table gives.
 none_above_in : (side : ℕ) (o : Option SizeRow) → row_with_side side ≡ o → largest_side < side → IsNone o
 none_above_in side None e above = search rules
 none_above_in side (Some s) e above =

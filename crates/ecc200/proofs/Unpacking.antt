@@ -1,55 +1,17 @@
 -- Cells of a row that are unpacked together into modules.
-use Rattle.std.proofs.Common.{◌≡◌, ◌∙◌, ℕ, zero, suc, ◌+◌, ◌-◌, ◌*◌, ◌/◌, ◌%◌, ◌^◌, ◌<◌, ◌≤◌, min, Bool, false, not, cond, eqb, nat_eq, bit_and, List, [], ◌++◌, length, map, take, drop, get_or, append-nil, refl, sym, ap, arith, inl, inr}
-use Rattle.std.specs.Simd.Lanes.{top, put_chunk}
-use Rattle.std.proofs.Math.Nat.{div-div-eq-div-mul}
-use Rattle.std.proofs.lemmas.Bool.{cases_lt, ne_eqb}
+use Rattle.std.proofs.Common.{◌≡◌, ◌∙◌, ℕ, ◌+◌, ◌-◌, ◌/◌, ◌^◌, ◌<◌, ◌≤◌, Bool, false, bit_and, List, [], ◌++◌, length, map, take, drop, get_or, append-nil, sym, ap, arith, inl, inr}
+use Rattle.std.specs.Simd.Lanes.{put_chunk}
+use Rattle.std.proofs.lemmas.Bool.{cases_lt}
 use Rattle.std.proofs.lemmas.List.{drop_all, get_or-map, get_or-take, length-drop, length-map, length-take-le, take_all}
 use Rattle.std.proofs.lemmas.List.FromFn.{fill_by_all, get_or-map-range_with_len, length-map-range_with_len}
-use Rattle.std.proofs.lemmas.Nat.{pow-add, pow_pos}
-use Rattle.std.proofs.lemmas.Nat.Bits.{and_pow, bit_at_and, bit_at-lt, bit_at_ones}
 use Rattle.std.proofs.lemmas.Simd.{get_or-put_chunk_below, get_or-put_chunk_at, put_chunk_is}
 use borrow.Rule.Slice.PartMut.{put_mid}
 use Rattle.dm_symbol.specs.Grid.{is_dark_in}
+use Rattle.dm_layout.proofs.Exported.{cut_cell}
 use Rattle.ecc200.specs.Modules.{module_of}
 use Rattle.ecc200.specs.inner.UnpackedCells.{unpacked_cells}
 
--- A lane has this module for the bit of this weight.
-abbrev pub lane : ℕ → ℕ → ℕ
-lane byte weight = cond (top 7 (cond (not (eqb (bit_and byte weight) 0)) 255 0)) 1 0
-
--- A lane is 1 where the bit times its weight isn't 0, and else 0.
-lane_bit : (b w : ℕ) → b < 2 → 0 < w → cond (top 7 (cond (not (eqb (b * w) 0)) 255 0)) 1 0 ≡ module_of (nat_eq b 1)
-lane_bit zero w l some = let none : 0 * w ≡ 0 = omega arith in rw none refl
-lane_bit (suc zero) w l some = let one : eqb (1 * w) 0 ≡ false = ne_eqb (1 * w) 0 (λ e. omega arith) in rw one refl
-lane_bit (suc (suc b)) w l some = absurd (omega arith)
-
--- The module that a lane has for a bit is that of the bit's cell.
-lane_is : (byte k : ℕ) → lane byte (2 ^ k) ≡ module_of (is_dark_in byte k)
-lane_is byte k =
-    ap (λ (n : ℕ). cond (top 7 (cond (not (eqb n 0)) 255 0)) 1 0) (and_pow byte k) ∙ lane_bit (byte / 2 ^ k % 2) (2 ^ k) (bit_at-lt byte k) (pow_pos k)
-
--- A bit of the mask is kept as it is.
-kept_bit : (n mask k : ℕ) → mask / 2 ^ k % 2 ≡ 1 → is_dark_in (bit_and n mask) k ≡ is_dark_in n k
-kept_bit n mask k e =
-    let same : min (n / 2 ^ k % 2) 1 ≡ n / 2 ^ k % 2 = omega (arith, bit_at-lt n k) in
-    ap (λ (b : ℕ). nat_eq b 1) (bit_at_and n mask k ∙ ap (λ (b : ℕ). min (n / 2 ^ k % 2) b) e ∙ same)
-
--- A lane of the low byte is the module of its cell.
-pub low_is : (cells k : ℕ) → 255 / 2 ^ k % 2 ≡ 1 → lane (bit_and cells 255) (2 ^ k) ≡ module_of (is_dark_in cells k)
-low_is cells k e = lane_is (bit_and cells 255) k ∙ ap module_of (kept_bit cells 255 k e)
-
--- A lane of the high byte is the module of its cell.
-pub high_is : (cells k : ℕ) → 256 * 2 ^ k ≡ 2 ^ (8 + k) → lane (cells / 256) (2 ^ k) ≡ module_of (is_dark_in cells (8 + k))
-high_is cells k e =
-    lane_is (cells / 256) k ∙ ap (λ (n : ℕ). module_of (nat_eq (n % 2) 1)) (div-div-eq-div-mul cells 256 (2 ^ k) ∙ ap (λ (w : ℕ). cells / w) e)
-
--- The cells that are cut out of a row are those of the row from that column on.
-cut_cell : (cells column k : ℕ) → k < 16 → is_dark_in (bit_and (cells / 2 ^ column) 65535) k ≡ is_dark_in cells (column + k)
-cut_cell cells column k l =
-    kept_bit (cells / 2 ^ column) 65535 k (bit_at_ones 16 k l)
-    ∙ ap (λ (n : ℕ). nat_eq (n % 2) 1) (div-div-eq-div-mul cells (2 ^ column) (2 ^ k) ∙ ap (λ (w : ℕ). cells / w) (sym (pow-add 2 column k)))
-
--- Numbers that are stored at the front of the rest of a list are stored in the list where that rest begins.
+-- Numbers that are stored over the first of the rest of a list are stored in the list where that rest begins.
 pub stored_in_rest : (a k : ℕ) (xs ys : List ℕ) → a + k ≡ length xs → length ys ≤ k → put_mid a k xs (put_chunk 0 (take k (drop a xs)) ys) ≡ put_chunk a xs ys
 stored_in_rest a k xs ys whole room =
     let rest : take k (drop a xs) ≡ drop a xs = take_all k (drop a xs) (omega (arith, length-drop a xs, whole)) in

@@ -44,7 +44,7 @@ inspection_shown side inspection =
     }
 
 -- Inspecting these modules gives the reason why they make no grid, or the inspection of their grid.
-pub data IsInspectAnswer (side : ℕ) (modules : List ℕ) (out : InspectionOut) : Type 0 where
-  no_grid : (why : Fault) → IsModulesFault side modules why → out ≡ no_inspection why → IsInspectAnswer side modules out
+pub data IsInspectResult (side : ℕ) (modules : List ℕ) (out : InspectionOut) : Type 0 where
+  no_grid : (why : Fault) → IsModulesFault side modules why → out ≡ no_inspection why → IsInspectResult side modules out
   inspected : (grid : GridView) (inspection : Inspection) → IsGridOf side modules grid → IsInspection grid inspection
-      → out ≡ inspection_shown side inspection → IsInspectAnswer side modules out
+      → out ≡ inspection_shown side inspection → IsInspectResult side modules out

@@ -49,6 +49,6 @@ abbrev pub no_places : Fault → PlacesOut
 no_places why = record { fault = why; side = 0; places = replicate most_modules nothing }
 
 -- For this side is given that no size has it, or the modules of the size that has it.
-pub data IsPlacesAnswer (side : ℕ) (out : PlacesOut) : Type 0 where
-  no_size : IsNone (row_with_side side) → out ≡ no_places (no_such_side side) → IsPlacesAnswer side out
-  modules : (size : SizeRow) → row_with_side side ≡ Some size → out.fault ≡ no_fault → out.side ≡ side → AreModulesOf size out.places → IsPlacesAnswer side out
+pub data IsPlacesResult (side : ℕ) (out : PlacesOut) : Type 0 where
+  no_size : IsNone (row_with_side side) → out ≡ no_places (no_such_side side) → IsPlacesResult side out
+  modules : (size : SizeRow) → row_with_side side ≡ Some size → out.fault ≡ no_fault → out.side ≡ side → AreModulesOf size out.places → IsPlacesResult side out

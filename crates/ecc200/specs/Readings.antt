@@ -7,7 +7,7 @@ use Rattle.dm_symbol.specs.declared.ReadFault.{ReadFault}
 use Rattle.dm_symbol.specs.Sizes.{most_blocks, most_data}
 use Rattle.dm_symbol.specs.Grid.{GridView}
 use Rattle.dm_symbol.specs.Messages.{most_spelled}
-use Rattle.dm_symbol.specs.Reading.{ReadAnswer}
+use Rattle.dm_symbol.specs.Reading.{ReadResult}
 use Rattle.ecc200.specs.declared.fault.Fault.{Fault}
 use Rattle.ecc200.specs.declared.reading.ReadingOut.{ReadingOut}
 use Rattle.ecc200.specs.Arrays.{filled}
@@ -38,18 +38,18 @@ reading_shown side reading =
       corrected = filled most_blocks reading.corrected.items;
     }
 
--- An answer is given as its reading, or as its fault.
-abbrev pub answer_shown : ℕ → Result Reading ReadFault → ReadingOut
-answer_shown side (Ok reading) = reading_shown side reading
-answer_shown side (Err why) = no_reading (read_fault why)
+-- A result is given as its reading, or as its fault.
+abbrev pub result_shown : ℕ → Result Reading ReadFault → ReadingOut
+result_shown side (Ok reading) = reading_shown side reading
+result_shown side (Err why) = no_reading (read_fault why)
 
--- Reading these modules in an extent gives the reason why they make no grid, or the answer of reading for their grid.
-pub data ExtentAnswer (extent : Extent) (side : ℕ) (modules : List ℕ) (limit : ℕ) (out : ReadingOut) : Type 0 where
-  no_grid : (why : Fault) → IsModulesFault side modules why → out ≡ no_reading why → ExtentAnswer extent side modules limit out
-  answered : (grid : GridView) (answer : Result Reading ReadFault) → IsGridOf side modules grid → ReadAnswer extent grid limit answer
-      → out ≡ answer_shown side answer → ExtentAnswer extent side modules limit out
+-- Reading these modules in an extent gives the reason why they make no grid, or the result of reading for their grid.
+pub data ExtentResult (extent : Extent) (side : ℕ) (modules : List ℕ) (limit : ℕ) (out : ReadingOut) : Type 0 where
+  no_grid : (why : Fault) → IsModulesFault side modules why → out ≡ no_reading why → ExtentResult extent side modules limit out
+  of_grid : (grid : GridView) (result : Result Reading ReadFault) → IsGridOf side modules grid → ReadResult extent grid limit result
+      → out ≡ result_shown side result → ExtentResult extent side modules limit out
 
--- Reading these modules gives that there is no such extent, or the answer in that extent.
-pub data IsReadAnswer (side : ℕ) (modules : List ℕ) (limit extent : ℕ) (out : ReadingOut) : Type 0 where
-  no_extent : extent_of extent ≡ None → out ≡ no_reading (no_such_extent extent) → IsReadAnswer side modules limit extent out
-  in_extent : (chosen : Extent) → extent_of extent ≡ Some chosen → ExtentAnswer chosen side modules limit out → IsReadAnswer side modules limit extent out
+-- Reading these modules gives that there is no such extent, or the result in that extent.
+pub data IsReadResult (side : ℕ) (modules : List ℕ) (limit extent : ℕ) (out : ReadingOut) : Type 0 where
+  no_extent : extent_of extent ≡ None → out ≡ no_reading (no_such_extent extent) → IsReadResult side modules limit extent out
+  in_extent : (chosen : Extent) → extent_of extent ≡ Some chosen → ExtentResult chosen side modules limit out → IsReadResult side modules limit extent out

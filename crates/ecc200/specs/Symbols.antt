@@ -8,7 +8,7 @@ use Rattle.dm_symbol.specs.declared.NormalFault.{NormalFault}
 use Rattle.dm_symbol.specs.Grid.{GridView}
 use Rattle.dm_symbol.specs.Messages.{IsMessage}
 use Rattle.dm_symbol.specs.NormalGrid.{IsNormalGrid, FitsSomeSize}
-use Rattle.dm_symbol.specs.Normal.{NormalAnswer}
+use Rattle.dm_symbol.specs.Normal.{NormalResult}
 use Rattle.ecc200.specs.declared.fault.Fault.{Fault}
 use Rattle.ecc200.specs.declared.symbol.SymbolOut.{SymbolOut}
 use Rattle.ecc200.specs.Arrays.{most_modules, filled}
@@ -25,44 +25,44 @@ no_symbol why = record { fault = why; side = 0; modules = replicate most_modules
 abbrev pub symbol_shown : GridView → SymbolOut
 symbol_shown grid = record { fault = no_fault; side = grid.size.side; modules = filled most_modules (modules_of grid) }
 
--- An answer is given as the symbol of its grid, or as its fault.
-abbrev pub answer_shown : Result GridView Fault → SymbolOut
-answer_shown (Ok grid) = symbol_shown grid
-answer_shown (Err why) = no_symbol why
+-- A result is given as the symbol of its grid, or as its fault.
+abbrev pub result_shown : Result GridView Fault → SymbolOut
+result_shown (Ok grid) = symbol_shown grid
+result_shown (Err why) = no_symbol why
 
 -- The number 0 stands for the profile `Ascii`, 1 for `Shorter`, and no other number for any.
 abbrev pub profile_of : ℕ → Option Profile
 profile_of number = if nat_eq number 0 then Some Ascii else (if nat_eq number 1 then Some Shorter else None)
 
--- The answer to the numbers of a message under a profile is the first number that stands for no item, with its place, or with 65535 if the place is
+-- The result for the numbers of a message under a profile is the first number that stands for no item, with its place, or with 65535 if the place is
 -- more; or that the message fits no size; or its normal grid.
-pub data WrittenAnswer (profile : Profile) (numbers : List ℕ) (answer : Result GridView Fault) : Type 0 where
-  no_message : (place : ℕ) → IsFirstForeign numbers place → answer ≡ Err (foreign (get_or numbers place 0) (min place 65535)) → WrittenAnswer profile numbers answer
-  no_grid : (message : List Item) → IsMessage message → numbers_of message ≡ numbers → (FitsSomeSize profile message → ⊥) → answer ≡ Err too_long → WrittenAnswer profile numbers answer
-  normal : (message : List Item) (grid : GridView) → IsMessage message → numbers_of message ≡ numbers → IsNormalGrid profile message grid → answer ≡ Ok grid → WrittenAnswer profile numbers answer
+pub data WrittenResult (profile : Profile) (numbers : List ℕ) (result : Result GridView Fault) : Type 0 where
+  no_message : (place : ℕ) → IsFirstForeign numbers place → result ≡ Err (foreign (get_or numbers place 0) (min place 65535)) → WrittenResult profile numbers result
+  no_grid : (message : List Item) → IsMessage message → numbers_of message ≡ numbers → (FitsSomeSize profile message → ⊥) → result ≡ Err too_long → WrittenResult profile numbers result
+  normal : (message : List Item) (grid : GridView) → IsMessage message → numbers_of message ≡ numbers → IsNormalGrid profile message grid → result ≡ Ok grid → WrittenResult profile numbers result
 
--- The answer to modules in an extent and under a profile is why they make no grid; or why their grid has no normal grid; or its normal grid.
-pub data NormalisedAnswer (extent : Extent) (profile : Profile) (side : ℕ) (modules : List ℕ) (limit : ℕ) (answer : Result GridView Fault) : Type 0 where
-  no_grid : (why : Fault) → IsModulesFault side modules why → answer ≡ Err why → NormalisedAnswer extent profile side modules limit answer
-  refused : (grid : GridView) (why : NormalFault) → IsGridOf side modules grid → NormalAnswer extent profile grid limit (Err why)
-      → answer ≡ Err (normal_fault why) → NormalisedAnswer extent profile side modules limit answer
-  normal : (grid normal_grid : GridView) → IsGridOf side modules grid → NormalAnswer extent profile grid limit (Ok normal_grid)
-      → answer ≡ Ok normal_grid → NormalisedAnswer extent profile side modules limit answer
+-- The result for modules in an extent and under a profile is why they make no grid; or why their grid has no normal grid; or its normal grid.
+pub data NormalisedResult (extent : Extent) (profile : Profile) (side : ℕ) (modules : List ℕ) (limit : ℕ) (result : Result GridView Fault) : Type 0 where
+  no_grid : (why : Fault) → IsModulesFault side modules why → result ≡ Err why → NormalisedResult extent profile side modules limit result
+  refused : (grid : GridView) (why : NormalFault) → IsGridOf side modules grid → NormalResult extent profile grid limit (Err why)
+      → result ≡ Err (normal_fault why) → NormalisedResult extent profile side modules limit result
+  normal : (grid normal_grid : GridView) → IsGridOf side modules grid → NormalResult extent profile grid limit (Ok normal_grid)
+      → result ≡ Ok normal_grid → NormalisedResult extent profile side modules limit result
 
--- Writing these numbers gives that there is no such profile, or the answer under that profile.
-pub data IsWriteAnswer (numbers : List ℕ) (profile : ℕ) (out : SymbolOut) : Type 0 where
-  no_profile : profile_of profile ≡ None → out ≡ no_symbol (no_such_profile profile) → IsWriteAnswer numbers profile out
-  answered : (chosen : Profile) (answer : Result GridView Fault) → profile_of profile ≡ Some chosen → WrittenAnswer chosen numbers answer
-      → out ≡ answer_shown answer → IsWriteAnswer numbers profile out
+-- Writing these numbers gives that there is no such profile, or the result under that profile.
+pub data IsWriteResult (numbers : List ℕ) (profile : ℕ) (out : SymbolOut) : Type 0 where
+  no_profile : profile_of profile ≡ None → out ≡ no_symbol (no_such_profile profile) → IsWriteResult numbers profile out
+  under_profile : (chosen : Profile) (result : Result GridView Fault) → profile_of profile ≡ Some chosen → WrittenResult chosen numbers result
+      → out ≡ result_shown result → IsWriteResult numbers profile out
 
--- Normalising the grid of these modules in an extent gives that there is no such profile, or the answer under that profile.
-pub data ProfileAnswer (extent : Extent) (side : ℕ) (modules : List ℕ) (limit profile : ℕ) (out : SymbolOut) : Type 0 where
-  no_profile : profile_of profile ≡ None → out ≡ no_symbol (no_such_profile profile) → ProfileAnswer extent side modules limit profile out
-  answered : (chosen : Profile) (answer : Result GridView Fault) → profile_of profile ≡ Some chosen → NormalisedAnswer extent chosen side modules limit answer
-      → out ≡ answer_shown answer → ProfileAnswer extent side modules limit profile out
+-- Normalising the grid of these modules in an extent gives that there is no such profile, or the result under that profile.
+pub data ProfileResult (extent : Extent) (side : ℕ) (modules : List ℕ) (limit profile : ℕ) (out : SymbolOut) : Type 0 where
+  no_profile : profile_of profile ≡ None → out ≡ no_symbol (no_such_profile profile) → ProfileResult extent side modules limit profile out
+  under_profile : (chosen : Profile) (result : Result GridView Fault) → profile_of profile ≡ Some chosen → NormalisedResult extent chosen side modules limit result
+      → out ≡ result_shown result → ProfileResult extent side modules limit profile out
 
--- Normalising the grid of these modules gives that there is no such extent, or the answer in that extent.
-pub data IsNormalAnswer (side : ℕ) (modules : List ℕ) (limit extent profile : ℕ) (out : SymbolOut) : Type 0 where
-  no_extent : extent_of extent ≡ None → out ≡ no_symbol (no_such_extent extent) → IsNormalAnswer side modules limit extent profile out
-  in_extent : (chosen : Extent) → extent_of extent ≡ Some chosen → ProfileAnswer chosen side modules limit profile out
-      → IsNormalAnswer side modules limit extent profile out
+-- Normalising the grid of these modules gives that there is no such extent, or the result in that extent.
+pub data IsNormalResult (side : ℕ) (modules : List ℕ) (limit extent profile : ℕ) (out : SymbolOut) : Type 0 where
+  no_extent : extent_of extent ≡ None → out ≡ no_symbol (no_such_extent extent) → IsNormalResult side modules limit extent profile out
+  in_extent : (chosen : Extent) → extent_of extent ≡ Some chosen → ProfileResult chosen side modules limit profile out
+      → IsNormalResult side modules limit extent profile out

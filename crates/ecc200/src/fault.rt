@@ -5,7 +5,7 @@ ghost use Rattle.ecc200.specs.Faults.{fault, foreign, no_fault, no_such_extent, 
 
 use dm_symbol::{NormalFault, ReadFault, WordFault};
 
-/// Why there is no answer: a code of the header, and what the header says beside it. All three are 0 if there is an answer.
+/// Why there is no result: a code of the header, and what the header says beside it. All three are 0 if there is a result.
 #[repr(C)]
 #[derive(Clone, Copy)]
 pub struct Fault {

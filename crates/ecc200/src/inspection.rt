@@ -1,13 +1,13 @@
 //! Inspecting.
 
 ghost use Rattle.std.specs.Prelude.{◌≡◌, ◌≤◌, ◌++◌, drop, length, map, Option, ℕ};
-ghost use Rattle.ecc200.specs.Inspections.{IsInspectAnswer, count_shown, inspection_shown, no_inspection};
+ghost use Rattle.ecc200.specs.Inspections.{IsInspectResult, count_shown, inspection_shown, no_inspection};
 
 use crate::arrays::put_bytes;
 use crate::fault::Fault;
-use crate::modules::grid_of;
+use crate::modules::make_grid;
 use dm_layout::MOST_CODEWORDS;
-use dm_symbol::{Inspection, MOST_BLOCKS, inspect};
+use dm_symbol::{Inspection, MOST_BLOCKS, inspect, light_grid};
 
 /// This is shown instead of the number of corrected codewords where a block has more errors than can be corrected.
 const BEYOND: u8 = 255;
@@ -29,11 +29,12 @@ pub struct InspectionOut {
 /// Inspects the grid of these modules.
 #[unsafe(no_mangle)]
 pub extern "C" fn ecc200_inspect(modules: &[u8], side: u16, out: &mut InspectionOut) -> u16
-    ensures answer { IsInspectAnswer side modules.now out.new }
+    ensures out { IsInspectResult side modules.now out.new }
     ensures code { result ≡ out.new.fault.code }
 {
-    match grid_of(modules, side) {
-        Ok(grid) => show_inspection(out, side, &inspect(&grid)),
+    let mut grid = light_grid();
+    match make_grid(modules, side, &mut grid) {
+        Ok(()) => show_inspection(out, side, &inspect(&grid)),
         Err(why) => show_fault(out, why),
     }
     out.fault.code

@@ -18,7 +18,7 @@ pub(crate) fn first_foreign(numbers: &[u16]) -> Option<usize>
 }
 
 /// Gives the message of these numbers.
-pub(crate) fn message_of(numbers: &[u16]) -> Message
+pub(crate) fn message_of_numbers(numbers: &[u16]) -> Message
     requires items { All (λ number. number ≤ 256) numbers.now }
     requires room { length numbers.now ≤ MOST_ITEMS }
     ensures numbers { numbers_of result ≡ numbers.now }

@@ -2,7 +2,7 @@
 
 ghost use Rattle.std.specs.Prelude.{◌≡◌, ◌+◌, ◌*◌, ◌≤◌, ◌<◌, ℕ, get_or, length, replicate};
 ghost use Rattle.dm_layout.specs.Placement.{places_in_order};
-ghost use Rattle.ecc200.specs.Places.{IsPlacesAnswer, nothing, place_at};
+ghost use Rattle.ecc200.specs.Places.{IsPlacesResult, nothing, place_at};
 ghost use Rattle.ecc200.specs.inner.PlaceSteps.{structure_place, with_bits};
 
 use crate::fault::Fault;
@@ -49,7 +49,7 @@ pub struct PlacesOut {
 /// Writes what each module of a symbol of this side is.
 #[unsafe(no_mangle)]
 pub extern "C" fn ecc200_places(side: u16, out: &mut PlacesOut) -> u16
-    ensures answer { IsPlacesAnswer side out.new }
+    ensures out { IsPlacesResult side out.new }
     ensures code { result ≡ out.new.fault.code }
 {
     clear(&mut out.places);
@@ -84,8 +84,10 @@ fn clear(places: &mut [PlaceOut])
 /// Writes the modules of the borders, and all others as if they were modules of the fixed square.
 fn put_structure(places: &mut [PlaceOut], size: Size)
     requires { size.side * size.side ≤ length places.old }
-    ensures put { (row column : ℕ) → row < size.side → column < size.side → place_at size places.new row column ≡ structure_place size row column }
-    ensures behind { (i : ℕ) → size.side * size.side ≤ i → get_or places.new i nothing ≡ get_or places.old i nothing }
+    ensures put { (row column : ℕ) → row < size.side → column < size.side
+        → place_at size places.new row column ≡ structure_place size row column }
+    ensures behind { (i : ℕ) → size.side * size.side ≤ i
+        → get_or places.new i nothing ≡ get_or places.old i nothing }
 {
     for row in 0..size.side() {
         put_structure_row(places, size, row);
@@ -96,9 +98,12 @@ fn put_structure(places: &mut [PlaceOut], size: Size)
 fn put_structure_row(places: &mut [PlaceOut], size: Size, row: u16)
     requires row { row < size.side }
     requires room { size.side * size.side ≤ length places.old }
-    ensures put { (column : ℕ) → column < size.side → place_at size places.new row column ≡ structure_place size row column }
-    ensures before { (i : ℕ) → i < row * size.side → get_or places.new i nothing ≡ get_or places.old i nothing }
-    ensures behind { (i : ℕ) → (row + 1) * size.side ≤ i → get_or places.new i nothing ≡ get_or places.old i nothing }
+    ensures put { (column : ℕ) → column < size.side
+        → place_at size places.new row column ≡ structure_place size row column }
+    ensures before { (i : ℕ) → i < row * size.side
+        → get_or places.new i nothing ≡ get_or places.old i nothing }
+    ensures behind { (i : ℕ) → (row + 1) * size.side ≤ i
+        → get_or places.new i nothing ≡ get_or places.old i nothing }
 {
     let start = usize::from(row) * usize::from(size.side());
     for column in 0..size.side() {

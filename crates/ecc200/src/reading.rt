@@ -2,14 +2,14 @@
 
 ghost use Rattle.std.specs.Prelude.{◌≡◌};
 ghost use Rattle.dm_symbol.specs.Reading.{usual_limit};
-ghost use Rattle.ecc200.specs.Readings.{ExtentAnswer, IsReadAnswer, no_reading, reading_shown};
+ghost use Rattle.ecc200.specs.Readings.{ExtentResult, IsReadResult, no_reading, reading_shown};
 
 use crate::arrays::put_bytes;
 use crate::extent::extent_of;
 use crate::fault::{Fault, read_fault};
 use crate::message::put_message;
-use crate::modules::grid_of;
-use dm_symbol::{Extent, MESSAGE_ROOM, MOST_BLOCKS, Reading, read_as_to, usual_limit};
+use crate::modules::make_grid;
+use dm_symbol::{Extent, MESSAGE_ROOM, MOST_BLOCKS, Reading, light_grid, read_as_to, usual_limit};
 
 /// What a grid says, and how much of it was wrong. If there is a fault, all else is 0.
 #[repr(C)]
@@ -33,7 +33,7 @@ pub extern "C" fn ecc200_read(
     extent: u16,
     out: &mut ReadingOut,
 ) -> u16
-    ensures answer { IsReadAnswer side modules.now border_limit extent out.new }
+    ensures out { IsReadResult side modules.now border_limit extent out.new }
     ensures code { result ≡ out.new.fault.code }
 {
     match extent_of(extent) {
@@ -45,10 +45,11 @@ pub extern "C" fn ecc200_read(
 
 /// Shows what the grid of these modules says in an extent, or why it says nothing.
 fn read_modules(extent: Extent, modules: &[u8], side: u16, border_limit: u16, out: &mut ReadingOut)
-    ensures { ExtentAnswer extent side modules.now border_limit out.new }
+    ensures { ExtentResult extent side modules.now border_limit out.new }
 {
-    match grid_of(modules, side) {
-        Ok(grid) => {
+    let mut grid = light_grid();
+    match make_grid(modules, side, &mut grid) {
+        Ok(()) => {
             let mut reading = Reading::new();
             match read_as_to(extent, &grid, border_limit, &mut reading) {
                 Ok(()) => show_reading(out, side, &reading),

@@ -4,7 +4,7 @@ ghost use Rattle.std.specs.Prelude.{◌≡◌, length, map};
 ghost use Rattle.dm_symbol.specs.Sizes.{size_table};
 ghost use Rattle.ecc200.specs.Sizes.{size_shown};
 
-use dm_symbol::{Size, table};
+use dm_symbol::{SIZE_COUNT, Size, table};
 
 /// A row of the table of sizes.
 #[repr(C)]
@@ -19,9 +19,6 @@ pub struct SizeOut {
     pub blocks: u16,
     pub limit: u16,
 }
-
-/// How many sizes there are.
-const SIZE_COUNT: usize = 21;
 
 /// The table of sizes, by rising side.
 #[repr(C)]

@@ -11,11 +11,11 @@
 of the library each. `ecc200.gs1` has GS1 element strings, `ecc200.pictures` finds symbols in pictures, and `ecc200.drawing` draws them.
 """
 from . import core, drawing, gs1, pictures
-from .codec import Symbol, decode, encode
-from .core import (ABI, Code, Extent, FNC1, Grid, Inspection, Kind, MOST_ITEMS, Message, Place, Profile, Reading, Refused, Rows, Size, inspect,
-                   normal,
-                   places, read, read_many, sizes, usual_limit, version, write)
+from .codec import Symbol, encode
+from .core import (ABI, Code, Extent, FNC1, Found, Grid, Inspection, Kind, MOST_ITEMS, Message, Place, Profile, Reading, Refused, Rows,
+                   SamplerMissing, Size, decode, find, has_sampler, inspect, luminance, normal, places, read, read_many, sizes, usual_limit,
+                   version, write)
 
-__all__ = [*core.__all__, "Symbol", "decode", "drawing", "encode", "gs1", "pictures"]
+__all__ = [*core.__all__, "Symbol", "drawing", "encode", "gs1", "pictures"]
 __version__ = version()
 _library = core._library

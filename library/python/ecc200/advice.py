@@ -11,12 +11,11 @@ __all__ = ["Righted", "in_words", "reduced", "righted", "why_not_written"]
 _BEGINS = {
     233: "a part of a message that several symbols hold (structured append), which isn't read here; print each part as a message of its own",
     234: "an instruction to the reader that scanned it (reader programming), and no message",
-    236: "a macro 05, which the usual extent leaves out: leave out --basic",
-    237: "a macro 06, which the usual extent leaves out: leave out --basic",
-    240: "EDIFACT, which the usual extent leaves out: leave out --basic, or let the encoder use another encodation",
+    236: "a macro 05, which isn't read with --basic: leave out --basic",
+    237: "a macro 06, which isn't read with --basic: leave out --basic",
+    240: "EDIFACT, which isn't read with --basic: leave out --basic, or let the encoder use another encodation",
     241: "an ECI, which says how the bytes behind it are to be understood, and isn't read here; let the encoder write without one",
 }
-_SIDES = "10, 12, 14, 16, 18, 20, 22, 24, 26, 32, 36, 40, 44, 48, 52, 64, 72, 80, 88, 96 and 104"
 _DAMAGE = "a codeword that no encoder writes there, so the symbol comes from a faulty encoder or was damaged into the codewords of another message"
 
 
@@ -32,8 +31,10 @@ def in_words(why: Refused, rows: Rows) -> str:
     if code == Code.SHAPE:
         return f"it has {side} rows of {len(rows[0])} modules, and isn't square: rectangles aren't read, and a square must be cut out exactly"
     if code == Code.SIDE:
-        larger = "; sides 120, 132 and 144 aren't read here" if side > 104 else ""
-        return f"no symbol has the side {side}; there are {_SIDES}{larger}. Is it cut out exactly, with one character or pixel for each module?"
+        *others, largest = [size.side for size in core.sizes()]
+        larger = "; the standard's larger sides, up to 144, aren't read here" if side > largest else ""
+        sides = f"{', '.join(map(str, others))} and {largest}{larger}"
+        return f"no symbol has the side {side}; there are {sides}. Is it cut out exactly, with one character or pixel for each module?"
     if code == Code.BORDER:
         return _border(why, rows)
     if code == Code.BLOCK:
@@ -48,7 +49,9 @@ def in_words(why: Refused, rows: Rows) -> str:
 def why_not_written(why: Refused) -> str:
     """Why a message isn't written, and what to do."""
     if why.code == Code.TOO_LONG:
-        return "the message is longer than any symbol holds: 1632 digits, 816 other characters of ASCII, or with --shorter 813 bytes of any kind"
+        most = core.sizes()[-1].data_codewords
+        return (f"the message is longer than any symbol holds: {2 * most} digits, {most} other characters of ASCII, or with --shorter {most - 3} bytes "
+                "of any kind")
     return str(why)
 
 

@@ -1,11 +1,11 @@
-"""Messages into symbols, and grids or pictures into what they say."""
+"""Messages into symbols that are drawn."""
 import functools
-from typing import Any, Dict, List, Optional
+from typing import Any, Dict, Optional
 
-from . import core, drawing, gs1 as element_strings, pictures
-from .core import Extent, Message, Profile, Reading, Refused, Rows
+from . import core, drawing, gs1 as element_strings
+from .core import Message, Profile, Rows
 
-__all__ = ["Symbol", "decode", "encode"]
+__all__ = ["Symbol", "encode"]
 
 
 class Symbol:
@@ -64,25 +64,3 @@ def encode(message: Message, gs1: bool = False, profile: Profile = Profile.ASCII
     if gs1 and isinstance(message, str):
         message = element_strings.message(element_strings.parse(message, unknown))
     return Symbol(core.write(message, gs1, profile, charset), module, quiet)
-
-
-def _of_picture(picture: Any, most: int, milliseconds: int) -> List[Reading]:
-    found = pictures.find(picture, most, milliseconds)
-    return [symbol.answer for symbol in found if not isinstance(symbol.answer, Refused)]
-
-
-def decode(picture: Any, most: int = 64, milliseconds: int = 1000, border_limit: Optional[int] = None, extent: Extent = Extent.WIDE) -> List[Reading]:
-    """What the symbols of a grid or of a picture say: a list, empty if nothing is read. Rows, bytes and text are grids; an array or a Pillow
-    picture is a picture, in which at most `most` symbols are looked for during `milliseconds`, wherever they stand.
-
-    Symbols found in a picture are read at the wide extent and the usual limit. A Pillow picture in which nothing is found, or where the
-    library ecc200_sample isn't installed, is read as one symbol with one pixel a module."""
-    is_picture = hasattr(picture, "__array_interface__")
-    if is_picture and (pictures.is_there() or not hasattr(picture, "getbbox")):
-        found = _of_picture(picture, most, milliseconds)
-        if found or not hasattr(picture, "getbbox"):
-            return found
-    try:
-        return [core.read(picture, border_limit, extent)]
-    except Refused:
-        return []

@@ -127,8 +127,9 @@ def _add_reading(commands: _Commands) -> None:
 
 def parser() -> argparse.ArgumentParser:
     """The command line."""
-    whole = argparse.ArgumentParser(prog="ecc200", epilog=_STATUSES,
-                                    description="Reads, writes and compares Data Matrix ECC 200 symbols, the squares of sides 10 to 104.")
+    first, *_, last = core.sizes()
+    squares = f"the squares of sides {first.side} to {last.side}"
+    whole = argparse.ArgumentParser(prog="ecc200", epilog=_STATUSES, description=f"Reads, writes and compares Data Matrix ECC 200 symbols, {squares}.")
     whole.add_argument("--version", action="version", version=f"ecc200 {core.version()}")
     commands = _Commands(whole)
     _add_reading(commands)

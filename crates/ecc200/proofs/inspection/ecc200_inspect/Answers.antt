@@ -3,8 +3,8 @@ use Rattle.ecc200.specs.Inspections.{inspected, no_grid}
 use Rattle.ecc200.proofs.inspection.ecc200_inspect.Goals.{in-Ok, in-Err}
 use Rattle.ecc200.proofs.inspection.ecc200_inspect.Goals as goal
 
-pub returns-clause-answer : goal.returns-clause-answer
-returns-clause-answer c = elim c.match-grid_of.branch [
-  | in-Ok w ↦ inspected w.in-Ok.grid w.inspect.result w.in-Ok.ensures.grid w.inspect.ensures (w.out-is ∙ w.show_inspection.ensures)
+pub returns-clause-out : goal.returns-clause-out
+returns-clause-out c = elim c.match-make_grid.branch [
+  | in-Ok w ↦ inspected c.make_grid.new.grid w.inspect.result w.in-Ok.ensures.grid w.inspect.ensures (w.out-is ∙ w.show_inspection.ensures)
   | in-Err w ↦ no_grid w.in-Err.why w.in-Err.ensures.fault (w.out-is ∙ w.show_fault.ensures)
 ]

@@ -4,7 +4,7 @@ use Rattle.ecc200.proofs.inspection.put_counts.Given as goal
 
 abbrev pub invariant-loop-b : goal.invariant-loop-b
 invariant-loop-b l = record {
-  front : take l.b l.all ≡ map count_shown (take l.b l.counts);
+  prefix : take l.b l.all ≡ map count_shown (take l.b l.counts);
   behind : drop l.b l.all ≡ drop l.b l.initial.all;
   room : length l.all ≡ length l.initial.all;
 }

@@ -4,7 +4,7 @@ use Rattle.ecc200.proofs.message.put_message.Given as goal
 
 abbrev pub invariant-loop-i : goal.invariant-loop-i
 invariant-loop-i l = record {
-  front : take l.i l.all ≡ numbers_of (take l.i l.items);
+  prefix : take l.i l.all ≡ numbers_of (take l.i l.items);
   behind : drop l.i l.all ≡ drop l.i l.initial.all;
   room : length l.all ≡ length l.initial.all;
 }

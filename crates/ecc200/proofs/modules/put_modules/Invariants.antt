@@ -5,7 +5,7 @@ use Rattle.ecc200.proofs.modules.put_modules.Given as goal
 
 abbrev pub invariant-loop-row : goal.invariant-loop-row
 invariant-loop-row l = record {
-  front : take (l.row * l.grid.size.side) l.all ≡ flat_map (map module_of) (take l.row l.grid.rows);
+  prefix : take (l.row * l.grid.size.side) l.all ≡ flat_map (map module_of) (take l.row l.grid.rows);
   behind : drop (l.row * l.grid.size.side) l.all ≡ drop (l.row * l.grid.size.side) l.initial.all;
   room : length l.all ≡ length l.initial.all;
   side : l.row-end ≡ l.grid.size.side;

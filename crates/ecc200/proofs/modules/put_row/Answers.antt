@@ -13,7 +13,7 @@ returns c =
     let all = c.args.all.now in
     let side = g.size.side in
     let cells = get_or g.rows row [] in
-    let line = c.unpacked-line.result in
+    let line = c.unpack-line.result in
     let start = c.from.result * c.from-side.result in
     let width : c.side-width.result ≡ side = c.side-width.ensures.value ∙ ap (λ s. s.side) c.size.ensures.value in
     let same : c.from-side.result ≡ side = c.from-side.ensures ∙ width in
@@ -22,8 +22,8 @@ returns c =
     let wide : length cells ≡ side = All-get_or (λ l. length l ≡ side) g.rows row [] (omega (arith, c.requires.row, c.size.ensures.grid.height)) c.size.ensures.grid.width in
     let long : length (map module_of cells) ≡ side = length-map cells module_of ∙ wide in
     let modules = c.copy_from_slice.ensures.after ∙ ap (λ n. take n line) same
-    ∙ line_is_row cells line c.row.result side wide (omega (arith, c.unpacked-line.ensures.room, c.side-width.ensures.most, width))
-    (λ k l. c.unpacked-line.ensures.modules k (omega (arith, l, width))) c.row.ensures.cells in
+    ∙ line_is_row cells line c.row.result side wide (omega (arith, c.unpack-line.ensures.room, c.side-width.ensures.most, width))
+    (λ k l. c.unpack-line.ensures.modules k (omega (arith, l, width))) c.row.ensures.cells in
     put_mid-paste start (start + c.from-side.result - start) all c.copy_from_slice.new.self (map module_of cells) side modules (omega (arith, same)) (sym long)
     ∙ ap (λ (m : List ℕ). take start all ++ m ++ drop (start + side) all) (take_all side (map module_of cells) (omega (arith, long)))
     ∙ ap (λ (n : ℕ). take n all ++ map module_of cells ++ drop (n + side) all) start_is

@@ -16,8 +16,8 @@ put_structure-requires c = let long : length c.args.out.now.places ≡ most_modu
 pub put_bits-requires : goal.put_bits-requires
 put_bits-requires c = let long : length c.args.out.now.places ≡ most_modules = search rules in omega (arith, modules_fit c.args.side c.in-Some.size (sym c.in-Some.ensures), c.clear.auto.places, c.put_structure.auto.places, long)
 
-pub returns-clause-answer : goal.returns-clause-answer
-returns-clause-answer c =
+pub returns-clause-out : goal.returns-clause-out
+returns-clause-out c =
     let long : length c.args.out.now.places ≡ most_modules = search rules in
     let blank : c.clear.new.places ≡ replicate most_modules nothing = c.clear.ensures ∙ ap (λ n. replicate n nothing) long in
     elim c.match-of_side.branch [
