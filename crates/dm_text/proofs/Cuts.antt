@@ -1,15 +1,15 @@
 -- A text that is cut between records, or between message lines, is answered part by part.
-use Rattle.std.proofs.Common.{◌≡◌, ◌≢◌, ◌<◌, ◌+◌, ◌∙◌, ◌⊎◌, inl, inr, ℕ, zero, suc, max, List, [], ◌∷◌, ◌++◌, refl, sym, ap, ap₂, subst, append_assoc, append-nil, map, flat_map, arith}
+use Rattle.std.proofs.Common.{◌≡◌, ◌≢◌, ◌+◌, ◌∙◌, ◌⊎◌, inl, inr, ℕ, List, [], ◌∷◌, ◌++◌, refl, sym, ap, ap₂, subst, append_assoc, append-nil, map, flat_map, arith}
 use Rattle.std.specs.List.{AllByRecursion, concat}
 use Rattle.std.proofs.lemmas.List.Sums.{sum_by-append}
 use Rattle.dm_text.specs.declared.task.Task.{Task}
 use Rattle.dm_text.specs.declared.task.Task.TheVariants.{Read, Check, Normal, Write, Table}
 use Rattle.dm_text.specs.declared.task.Tally.{Tally}
-use Rattle.dm_text.specs.Texts.{lf, HasNoLf, IsSplit, ended, last_line}
+use Rattle.dm_text.specs.Texts.{lf, HasNoLf, IsSplit, ended_lines, last_line}
 use Rattle.dm_text.specs.Records.{no_line}
 use Rattle.dm_text.specs.Answers.{Answer}
-use Rattle.dm_text.specs.Runs.{AreAllAnswers, AreAnswersTo, AreAnswersToRecords, AreMatched, IsAnswerToLine, IsAnswerToRecord, IsOut, tally_of, written}
-use Rattle.dm_text.specs.Cuts.{AreCutBetween, AreOuts, EndsBetween, PartOut, added, sum_of}
+use Rattle.dm_text.specs.Runs.{AreAllAnswers, AreAnswersTo, AreAnswersToRecords, IsAnswerToLine, IsAnswerToRecord, IsOut, tally_of, answers_text}
+use Rattle.dm_text.specs.Cuts.{AreCutBetween, AreOuts, EndsBetween, PartOut, tally_sum, sum_of}
 use Rattle.dm_text.proofs.Texts.{split_unique}
 use Rattle.dm_text.proofs.EachSplit.{text_is_split}
 use Rattle.dm_text.proofs.RecordCuts.{split_lines}
@@ -20,19 +20,19 @@ use Rattle.dm_text.proofs.Outcomes.{written_append}
 -- ---- the lines of a text that ends between
 
 -- Some bytes, an LF and then whole lines are split into lines, of which these are the last.
-ended_then : (front : List ℕ) (more : List (List ℕ)) → AllByRecursion HasNoLf more → (lines : List (List ℕ)) × IsSplit (front ++ lf ∷ ended more) (lines ++ more) []
-ended_then front more free =
-    let t = text_is_split front in
-    let last : IsSplit (t.rest ++ lf ∷ ended more) (t.rest ∷ more) [] = record {
-      whole = sym (append_assoc t.rest (lf ∷ []) (ended more)) ∙ sym (append-nil (ended (t.rest ∷ more)));
+ended_then : (prefix : List ℕ) (more : List (List ℕ)) → AllByRecursion HasNoLf more → (lines : List (List ℕ)) × IsSplit (prefix ++ lf ∷ ended_lines more) (lines ++ more) []
+ended_then prefix more free =
+    let t = text_is_split prefix in
+    let last : IsSplit (t.rest ++ lf ∷ ended_lines more) (t.rest ∷ more) [] = record {
+      whole = sym (append_assoc t.rest (lf ∷ []) (ended_lines more)) ∙ sym (append-nil (ended_lines (t.rest ∷ more)));
       lines_no_lf = (t.split.rest_no_lf, free);
       rest_no_lf = tt;
     } in
-    let all = split_lines t.lines (t.rest ∷ more) (t.rest ++ lf ∷ ended more) [] t.split.lines_no_lf last in
-    let text_is : ended t.lines ++ (t.rest ++ lf ∷ ended more) ≡ front ++ lf ∷ ended more =
-    sym (append_assoc (ended t.lines) t.rest (lf ∷ ended more)) ∙ ap (λ l. l ++ lf ∷ ended more) (sym t.split.whole) in (
+    let all = split_lines t.lines (t.rest ∷ more) (t.rest ++ lf ∷ ended_lines more) [] t.split.lines_no_lf last in
+    let text_is : ended_lines t.lines ++ (t.rest ++ lf ∷ ended_lines more) ≡ prefix ++ lf ∷ ended_lines more =
+    sym (append_assoc (ended_lines t.lines) t.rest (lf ∷ ended_lines more)) ∙ ap (λ l. l ++ lf ∷ ended_lines more) (sym t.split.whole) in (
       t.lines ++ t.rest ∷ [],
-      subst (λ l. IsSplit (front ++ lf ∷ ended more) l []) (sym (append_assoc t.lines (t.rest ∷ []) more))
+      subst (λ l. IsSplit (prefix ++ lf ∷ ended_lines more) l []) (sym (append_assoc t.lines (t.rest ∷ []) more))
           (subst (λ l. IsSplit l (t.lines ++ t.rest ∷ more) []) text_is all),
     )
 
@@ -41,7 +41,7 @@ no_lines : IsSplit [] [] []
 no_lines = record { whole = refl; lines_no_lf = tt; rest_no_lf = tt }
 
 -- The lines of a text that is empty or ends with an empty line end with an empty one, if there are any.
-blank_lines : (text : List ℕ) → (text ≡ []) ⊎ ((text ≡ lf ∷ []) ⊎ ((front : List ℕ) × (text ≡ front ++ lf ∷ lf ∷ [])))
+blank_lines : (text : List ℕ) → (text ≡ []) ⊎ ((text ≡ lf ∷ []) ⊎ ((prefix : List ℕ) × (text ≡ prefix ++ lf ∷ lf ∷ [])))
     → (lines : List (List ℕ)) × IsSplit text lines [] × EndsBlank lines
 blank_lines text (inl none) = ([], subst (λ l. IsSplit l [] []) (sym none) no_lines, inl refl)
 blank_lines text (inr (inl one)) =
@@ -51,7 +51,7 @@ blank_lines text (inr (inr some)) =
     (t.0 ++ [] ∷ [], subst (λ l. IsSplit l (t.0 ++ [] ∷ []) []) (sym some.1) t.1, inr (t.0, refl))
 
 -- A text that is empty or ends with LF is split into lines without a rest.
-whole_lines : (text : List ℕ) → (text ≡ []) ⊎ ((front : List ℕ) × (text ≡ front ++ lf ∷ [])) → (lines : List (List ℕ)) × IsSplit text lines []
+whole_lines : (text : List ℕ) → (text ≡ []) ⊎ ((prefix : List ℕ) × (text ≡ prefix ++ lf ∷ [])) → (lines : List (List ℕ)) × IsSplit text lines []
 whole_lines text (inl none) = ([], subst (λ l. IsSplit l [] []) (sym none) no_lines)
 whole_lines text (inr some) =
     let t = ended_then some.0 [] tt in
@@ -76,7 +76,7 @@ answers_joined : (task : Task) (first second : List ℕ) (lines : List (List ℕ
 answers_joined task first second lines x y split joined p q =
     let same = split_unique p.lines lines first p.rest [] p.split split in
     let here = subst (λ r. AreAnswersTo task (lines ++ last_line r) x) same.1 (subst (λ l. AreAnswersTo task (l ++ last_line p.rest) x) same.0 p.answered) in
-    let first_is : ended lines ++ second ≡ first ++ second = ap (λ l. l ++ second) (sym (append-nil (ended lines)) ∙ sym split.whole) in
+    let first_is : ended_lines lines ++ second ≡ first ++ second = ap (λ l. l ++ second) (sym (append-nil (ended_lines lines)) ∙ sym split.whole) in
     record {
       lines = lines ++ q.lines;
       rest = q.rest;
@@ -86,26 +86,26 @@ answers_joined task first second lines x y split joined p q =
     }
 
 -- The tally of answers and further ones is the sum of their tallies.
-tally_append : (x y : List Answer) → tally_of (x ++ y) ≡ added (tally_of x) (tally_of y)
+tally_append : (x y : List Answer) → tally_of (x ++ y) ≡ tally_sum (tally_of x) (tally_of y)
 tally_append x y = ap₂ (λ m n. record { answered = m; refused = n }) (sum_by-append _ x y) (sum_by-append _ x y)
 
 -- What is written for a text, and its tally, where the task isn't the table.
 abbrev OutOf : Task → List ℕ → List ℕ → Tally → Type 0
-OutOf task text out tally = (answers : List Answer) × AreAllAnswers task text answers × (out ≡ written answers) × (tally ≡ tally_of answers)
+OutOf task text out tally = (answers : List Answer) × AreAllAnswers task text answers × (out ≡ answers_text answers) × (tally ≡ tally_of answers)
 
 -- What is written for two parts of a text is together what is written for the whole, and the tallies add up.
 outs_joined : (task : Task) (first second a b : List ℕ) (s t : Tally) (lines : List (List ℕ)) → IsSplit first lines [] → AreJoined task lines
-    → OutOf task first a s → OutOf task second b t → OutOf task (first ++ second) (a ++ b) (added s t)
+    → OutOf task first a s → OutOf task second b t → OutOf task (first ++ second) (a ++ b) (tally_sum s t)
 outs_joined task first second a b s t lines split joined p q = (
   p.0 ++ q.0,
   answers_joined task first second lines p.0 q.0 split joined p.1 q.1,
   ap₂ (λ l m. l ++ m) p.2 q.2 ∙ sym (written_append p.0 q.0),
-  ap₂ added p.3 q.3 ∙ sym (tally_append p.0 q.0),
+  ap₂ tally_sum p.3 q.3 ∙ sym (tally_append p.0 q.0),
 )
 
 -- A text that is cut in two between records, or between message lines, is answered as its two parts are.
 pub two_parts : (task : Task) (first second a b : List ℕ) (s t : Tally) → task ≢ Table → EndsBetween task first → IsOut task first a s → IsOut task second b t
-    → IsOut task (first ++ second) (a ++ b) (added s t)
+    → IsOut task (first ++ second) (a ++ b) (tally_sum s t)
 two_parts (Read border) first second a b s t reads ends p q =
     let l = blank_lines first ends in
     outs_joined (Read border) first second a b s t l.0 l.1 (λ more x y. records_joined (Read border) l.0 more x y l.2) p q
@@ -135,7 +135,7 @@ no_out : (task : Task) → task ≢ Table → IsOut task [] [] (tally_of [])
 no_out task reads = out_by task [] [] reads (record { lines = []; rest = []; split = no_lines; answered = no_answers task })
 
 -- Adding the tally of no answers changes no tally.
-added_none : (t : Tally) → added t (tally_of []) ≡ t
+added_none : (t : Tally) → tally_sum t (tally_of []) ≡ t
 added_none t = ap₂ (λ m n. record { answered = m; refused = n }) (omega arith) (omega arith)
 
 -- A text that is cut between records, or between message lines, is answered as its parts are, however many.
@@ -145,8 +145,8 @@ all_parts task [] [] reads cut are = no_out task reads
 all_parts task [] (given ∷ outs) reads cut are = absurd are
 all_parts task (part ∷ parts) [] reads cut are = absurd are
 all_parts task (part ∷ []) (given ∷ []) reads cut are =
-    subst (λ l. IsOut task l (given.out ++ []) (added given.tally (tally_of []))) (sym (append-nil part))
-    (subst (λ l. IsOut task part l (added given.tally (tally_of []))) (sym (append-nil given.out))
+    subst (λ l. IsOut task l (given.out ++ []) (tally_sum given.tally (tally_of []))) (sym (append-nil part))
+    (subst (λ l. IsOut task part l (tally_sum given.tally (tally_of []))) (sym (append-nil given.out))
     (subst (IsOut task part given.out) (sym (added_none given.tally)) are.0))
 all_parts task (part ∷ []) (given ∷ other ∷ outs) reads cut are = absurd are.1
 all_parts task (part ∷ next ∷ parts) (given ∷ outs) reads cut are =

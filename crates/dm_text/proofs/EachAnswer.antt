@@ -12,16 +12,16 @@ use Rattle.dm_symbol.specs.NormalForm.{normal_form}
 use Rattle.dm_symbol.specs.Sizes.{SizeRow, row_for_words, row_with_side}
 use Rattle.dm_symbol.specs.Grid.{GridView, IsGrid}
 use Rattle.dm_symbol.specs.declared.Extent.TheVariants.{Usual}
-use Rattle.dm_symbol.proofs.Exported.{has_that_side, normal_grid_is_there, answer_is_given, fits_or_not, normal_answer_is_given}
+use Rattle.dm_symbol.proofs.Exported.{has_that_side, normal_grid_is_there, read_result_is_there, fits_or_not, normal_result_is_there}
 use Rattle.dm_text.specs.declared.record.RecordFault.TheVariants as fault
 use Rattle.dm_text.specs.declared.task.Task.{Task}
 use Rattle.dm_text.specs.declared.task.Task.TheVariants.{Read, Check, Normal, Write, Table}
-use Rattle.dm_text.specs.Records.{has_foreign, is_large, is_square, record_of, rows_of, sized}
-use Rattle.dm_text.specs.RecordFeeds.{RecordAnswer}
-use Rattle.dm_text.specs.LineFeeds.{LineAnswer}
+use Rattle.dm_text.specs.Records.{has_foreign, is_large, is_square, record_of, rows_of, grid_of_size}
+use Rattle.dm_text.specs.RecordFeeds.{RecordMeaning}
+use Rattle.dm_text.specs.LineFeeds.{LineMeaning}
 use Rattle.dm_text.specs.MessageLines.{IsLine}
 use Rattle.dm_text.specs.Refusals.{line_refusal, record_refusal, too_long_refusal}
-use Rattle.dm_text.specs.Answers.{Answer, IsMessageAnswer, IsRecordAnswer, blank_refusal_answer, checking_answer, grid_answer, limit_for, normal_grid, normalising_answer, reading_answer, refusal_answer, too_long}
+use Rattle.dm_text.specs.Answers.{Answer, IsMessageAnswer, IsRecordAnswer, refusal_in_place_of_grid, checking_answer, grid_answer, border_limit_for, normal_grid, normalising_answer, reading_answer, refusal_answer, too_long}
 use Rattle.dm_text.specs.Runs.{IsAnswerToLine, IsAnswerToRecord}
 use Rattle.dm_text.proofs.AnsweredSoFar.{AnswersRecords}
 use Rattle.dm_text.proofs.EachLine.{joined_message, line_is_there}
@@ -38,7 +38,7 @@ rows_wide n side (line ∷ lines) e h =
 
 -- Where the lines are square and there is a size of that side, their rows make a well-formed grid.
 sized_grid : (lines : List (List ℕ)) (grid : GridView) (size : Option SizeRow) → row_with_side (length lines) ≡ size → is_square lines ≡ true
-    → sized size lines ≡ Ok grid → IsGrid grid
+    → grid_of_size size lines ≡ Ok grid → IsGrid grid
 sized_grid lines grid None found square e = cc
 sized_grid lines grid (Some size) found square e =
     let here = has_that_side (length lines) size found in
@@ -52,7 +52,7 @@ sized_grid lines grid (Some size) found square e =
 
 -- Whatever the tests of the lines say, a grid that they make is well formed.
 by_tests : (lines : List (List ℕ)) (grid : GridView) (foreign large square : Bool) → is_square lines ≡ square
-    → (if foreign then Err fault.Character else if large then Err fault.Large else if square then sized (row_with_side (length lines)) lines else Err fault.NotSquare) ≡ Ok grid
+    → (if foreign then Err fault.Character else if large then Err fault.Large else if square then grid_of_size (row_with_side (length lines)) lines else Err fault.NotSquare) ≡ Ok grid
     → IsGrid grid
 by_tests lines grid true large square s e = cc
 by_tests lines grid false true square s e = cc
@@ -66,19 +66,19 @@ record_grid lines grid e = by_tests lines grid (has_foreign lines) (is_large lin
 -- ---- answers
 
 -- A grid, and a fault of a record, has its answer.
-record_answer : (task : Task) → AnswersRecords task → (r : RecordAnswer) → ((grid : GridView) → r ≡ Ok grid → IsGrid grid) → (answer : Answer) × IsRecordAnswer task r answer
+record_answer : (task : Task) → AnswersRecords task → (r : RecordMeaning) → ((grid : GridView) → r ≡ Ok grid → IsGrid grid) → (answer : Answer) × IsRecordAnswer task r answer
 record_answer (Read border) of_grids (Ok grid) is =
-    let x = answer_is_given Usual grid (limit_for border grid.size.side) (is grid refl) in
+    let x = read_result_is_there Usual grid (border_limit_for border grid.size.side) (is grid refl) in
     (reading_answer x.0, (x.0, x.1, refl))
 record_answer (Read border) of_grids (Err why) is = (refusal_answer (record_refusal why), refl)
 record_answer (Check border) of_grids (Ok grid) is =
-    let x = answer_is_given Usual grid (limit_for border grid.size.side) (is grid refl) in
+    let x = read_result_is_there Usual grid (border_limit_for border grid.size.side) (is grid refl) in
     (checking_answer grid.size.side x.0, (x.0, x.1, refl))
 record_answer (Check border) of_grids (Err why) is = (refusal_answer (record_refusal why), refl)
 record_answer (Normal border profile) of_grids (Ok grid) is =
-    let x = normal_answer_is_given Usual profile grid (limit_for border grid.size.side) (is grid refl) in
+    let x = normal_result_is_there Usual profile grid (border_limit_for border grid.size.side) (is grid refl) in
     (normalising_answer x.0, (x.0, x.1, refl))
-record_answer (Normal border profile) of_grids (Err why) is = (blank_refusal_answer (record_refusal why), refl)
+record_answer (Normal border profile) of_grids (Err why) is = (refusal_in_place_of_grid (record_refusal why), refl)
 record_answer (Write profile) of_grids r is = absurd of_grids
 record_answer Table of_grids r is = absurd of_grids
 
@@ -91,15 +91,15 @@ message_answer : (profile : Profile) (message : List Item) → IsMessage message
 message_answer profile message h =
     elim (fits_or_not (row_for_words (length (normal_form profile message)))) [
       | inl fits ↦ let grid = normal_grid_is_there profile message h fits in (grid_answer grid.0, normal_grid grid.0 grid.1 refl)
-      | inr none ↦ (blank_refusal_answer too_long_refusal, too_long none refl)
+      | inr none ↦ (refusal_in_place_of_grid too_long_refusal, too_long none refl)
     ]
 
 -- A message line has its answer, whatever it means.
-line_answer : (profile : Profile) (line : List ℕ) (message : LineAnswer) → IsLine line message → (answer : Answer) × IsAnswerToLine profile line answer
+line_answer : (profile : Profile) (line : List ℕ) (message : LineMeaning) → IsLine line message → (answer : Answer) × IsAnswerToLine profile line answer
 line_answer profile line (Ok message) h =
     let x = message_answer profile message (joined_message message line h.0) in
     (x.0, (Ok message, h, x.1))
-line_answer profile line (Err why) h = (blank_refusal_answer (line_refusal why), (Err why, h, refl))
+line_answer profile line (Err why) h = (refusal_in_place_of_grid (line_refusal why), (Err why, h, refl))
 
 -- Each message line has its answer.
 pub line_is_answered : (profile : Profile) (line : List ℕ) → (answer : Answer) × IsAnswerToLine profile line answer

@@ -9,9 +9,9 @@ use Rattle.dm_symbol.specs.Messages.{IsItem, IsMessage, most_items}
 use Rattle.dm_text.specs.declared.message_line.LineFault.TheVariants.{BadEscape, TooLong}
 use Rattle.dm_text.specs.Spellings.{IsHexDigit, figure, upper, lower, IsSpelling, plain, backslash, fnc1, byte, IsJoining}
 use Rattle.dm_text.specs.MessageLines.{IsLine, column_after}
-use Rattle.dm_text.specs.LineFeeds.{LineAnswer}
+use Rattle.dm_text.specs.LineFeeds.{LineMeaning}
 use Rattle.dm_text.specs.inner.OpenLines.{BeginsNoSpelling}
-use Rattle.dm_text.proofs.Joinings.{front_longest, spelling_some}
+use Rattle.dm_text.proofs.Joinings.{prefix_longest, spelling_some}
 use Rattle.dm_text.proofs.OpenLineSteps.{none_begun}
 use Rattle.dm_text.proofs.SpellingBytes.{backslash_none, digit_none, first_digit_none, foreign_none, hexadecimal_none, second_digit_none, stray_none}
 
@@ -46,9 +46,9 @@ digit_or_none d =
       ]
     ]
 
--- ---- a spelling at the front
+-- ---- a spelling at the start
 
--- A spelling stands at the front of these bytes.
+-- A spelling stands at the start of these bytes.
 record BeginsSpelling (bytes : List ℕ) : Type 0 where
   pub piece : List ℕ
   pub more : List ℕ
@@ -56,7 +56,7 @@ record BeginsSpelling (bytes : List ℕ) : Type 0 where
   pub whole : bytes ≡ piece ++ more
   pub spelling : IsSpelling piece item
 
--- A spelling, or none, stands at the front of bytes that begin with a backslash, x and a digit.
+-- A spelling, or none, stands at the start of bytes that begin with a backslash, x and a digit.
 after_digit : (s u : ℕ) → IsHexDigit s u → (more : List ℕ) → BeginsSpelling (92 ∷ 120 ∷ s ∷ more) ⊎ BeginsNoSpelling (92 ∷ 120 ∷ s ∷ more)
 after_digit s u h [] = inr (digit_none s)
 after_digit s u h (t ∷ more) =
@@ -71,7 +71,7 @@ after_digit s u h (t ∷ more) =
       | inr none ↦ inr (second_digit_none s t more none)
     ]
 
--- A spelling, or none, stands at the front of bytes that begin with a backslash and x.
+-- A spelling, or none, stands at the start of bytes that begin with a backslash and x.
 after_x : (more : List ℕ) → BeginsSpelling (92 ∷ 120 ∷ more) ⊎ BeginsNoSpelling (92 ∷ 120 ∷ more)
 after_x [] = inr hexadecimal_none
 after_x (s ∷ more) =
@@ -80,7 +80,7 @@ after_x (s ∷ more) =
       | inr none ↦ inr (first_digit_none s more none)
     ]
 
--- A spelling, or none, stands at the front of bytes that begin with a backslash.
+-- A spelling, or none, stands at the start of bytes that begin with a backslash.
 after_backslash : (more : List ℕ) → BeginsSpelling (92 ∷ more) ⊎ BeginsNoSpelling (92 ∷ more)
 after_backslash [] = inr backslash_none
 after_backslash (b ∷ more) =
@@ -95,7 +95,7 @@ after_backslash (b ∷ more) =
       ]
     ]
 
--- A spelling stands at the front of any bytes, or none does.
+-- A spelling stands at the start of any bytes, or none does.
 spelling_or_none : (bytes : List ℕ) → BeginsSpelling bytes ⊎ BeginsNoSpelling bytes
 spelling_or_none [] = inr none_begun
 spelling_or_none (b ∷ more) =
@@ -112,73 +112,73 @@ spelling_or_none (b ∷ more) =
 
 -- ---- a whole line
 
--- The line has a front that is joined spellings, and none stands after it.
-record HasFront (line : List ℕ) : Type 0 where
-  pub front : List ℕ
+-- The line has a prefix that is joined spellings, and none stands after it.
+record HasPrefix (line : List ℕ) : Type 0 where
+  pub prefix : List ℕ
   pub rest : List ℕ
   pub items : List Item
-  pub whole : line ≡ front ++ rest
-  pub joining : IsJoining front items
+  pub whole : line ≡ prefix ++ rest
+  pub joining : IsJoining prefix items
   pub none : BeginsNoSpelling rest
 
--- A line with no spelling at its front has the empty front.
-front_none : (line : List ℕ) → BeginsNoSpelling line → HasFront line
-front_none line none = record { front = []; rest = line; items = []; whole = refl; joining = refl; none = none }
+-- A line with no spelling at its start has the empty prefix.
+prefix_none : (line : List ℕ) → BeginsNoSpelling line → HasPrefix line
+prefix_none line none = record { prefix = []; rest = line; items = []; whole = refl; joining = refl; none = none }
 
--- No spelling stands at the front of an empty line.
+-- No spelling stands at the start of an empty line.
 no_bytes : (line : List ℕ) → length line ≤ 0 → BeginsNoSpelling line
 no_bytes [] h = none_begun
 no_bytes (b ∷ line) h = absurd (omega (arith, h))
 
--- A line of at most n bytes has a front of joined spellings, and none stands after it.
-front_of : (n : ℕ) (line : List ℕ) → length line ≤ n → HasFront line
-front_of zero line h = front_none line (no_bytes line h)
-front_of (suc n) line h =
+-- A line of at most n bytes has a prefix of joined spellings, and none stands after it.
+prefix_of : (n : ℕ) (line : List ℕ) → length line ≤ n → HasPrefix line
+prefix_of zero line h = prefix_none line (no_bytes line h)
+prefix_of (suc n) line h =
     elim (spelling_or_none line) [
-      | inr none ↦ front_none line none
+      | inr none ↦ prefix_none line none
       | inl s ↦
-          let later = front_of n s.more (omega (arith, h, ap length s.whole, length-append s.piece s.more, spelling_some s.piece s.item s.spelling)) in
+          let later = prefix_of n s.more (omega (arith, h, ap length s.whole, length-append s.piece s.more, spelling_some s.piece s.item s.spelling)) in
           record {
-            front = s.piece ++ later.front;
+            prefix = s.piece ++ later.prefix;
             rest = later.rest;
             items = s.item ∷ later.items;
-            whole = s.whole ∙ ap (λ l. s.piece ++ l) later.whole ∙ sym (append_assoc s.piece later.front later.rest);
-            joining = (s.piece, later.front, s.spelling, refl, later.joining);
+            whole = s.whole ∙ ap (λ l. s.piece ++ l) later.whole ∙ sym (append_assoc s.piece later.prefix later.rest);
+            joining = (s.piece, later.prefix, s.spelling, refl, later.joining);
             none = later.none;
           }
     ]
 
--- A line means what its front of joined spellings and the bytes after it say.
-by_rest : (line front rest : List ℕ) (items : List Item) → line ≡ front ++ rest → IsJoining front items → BeginsNoSpelling rest
-    → (answer : LineAnswer) × IsLine line answer
-by_rest line front [] items whole joining none =
-    let all : IsJoining line items = subst (λ l. IsJoining l items) (sym (whole ∙ append-nil front)) joining in
+-- A line means what its prefix of joined spellings and the bytes after it say.
+by_rest : (line prefix rest : List ℕ) (items : List Item) → line ≡ prefix ++ rest → IsJoining prefix items → BeginsNoSpelling rest
+    → (answer : LineMeaning) × IsLine line answer
+by_rest line prefix [] items whole joining none =
+    let all : IsJoining line items = subst (λ l. IsJoining l items) (sym (whole ∙ append-nil prefix)) joining in
     elim (cases_lt most_items (length items)) [
       | inl many ↦ (Err TooLong, (items, all, many))
       | inr few ↦ (Ok items, (all, few))
     ]
-by_rest line front (b ∷ rest) items whole joining none = (
-  Err (BadEscape (column_after front)),
+by_rest line prefix (b ∷ rest) items whole joining none = (
+  Err (BadEscape (column_after prefix)),
   record {
-    front = front;
+    prefix = prefix;
     rest = b ∷ rest;
     longest = record {
       whole = whole;
       joined = (items, joining);
-      longest = λ other after e j. front_longest items j.0 front (b ∷ rest) other after joining none (sym whole ∙ e) j.1;
+      longest = λ other after e j. prefix_longest items j.0 prefix (b ∷ rest) other after joining none (sym whole ∙ e) j.1;
     };
     broken = λ j.
-        let less = front_longest items j.0 front (b ∷ rest) line [] joining none (sym whole ∙ sym (append-nil line)) j.1 in
-        omega (arith, less, ap length whole, length-append front (b ∷ rest));
+        let less = prefix_longest items j.0 prefix (b ∷ rest) line [] joining none (sym whole ∙ sym (append-nil line)) j.1 in
+        omega (arith, less, ap length whole, length-append prefix (b ∷ rest));
     column_is = refl;
   },
 )
 
 -- Each line means something.
-pub line_is_there : (line : List ℕ) → (answer : LineAnswer) × IsLine line answer
+pub line_is_there : (line : List ℕ) → (answer : LineMeaning) × IsLine line answer
 line_is_there line =
-    let f = front_of (length line) line (omega arith) in
-    by_rest line f.front f.rest f.items f.whole f.joining f.none
+    let f = prefix_of (length line) line (omega arith) in
+    by_rest line f.prefix f.rest f.items f.whole f.joining f.none
 
 -- ---- its items
 

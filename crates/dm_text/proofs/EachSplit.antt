@@ -3,7 +3,7 @@ use Rattle.std.proofs.Common.{◌≡◌, ◌≢◌, ◌⊎◌, ◌∙◌, ℕ, L
 use Rattle.std.specs.List.{AllByRecursion}
 use Rattle.std.proofs.lemmas.Bool.{cases_eq}
 use Rattle.dm_text.specs.Texts.{lf, HasNoLf, IsSplit}
-use Rattle.dm_text.specs.Records.{AreRecords, empty_line, longest_run, no_line}
+use Rattle.dm_text.specs.Records.{AreRecords, empty_line, longest_stretch, no_line}
 use Rattle.dm_text.specs.RecordFeeds.{IsLastBlank}
 
 -- ---- lines
@@ -46,11 +46,11 @@ text_is_split (b ∷ text) =
 -- Lines with a full line before them have their records, if the lines alone have.
 line_before : (line : List ℕ) (lines : List (List ℕ)) (records : List (List (List ℕ))) → line ≢ [] → HasNoLf line → AreRecords lines records
     → (more : List (List (List ℕ))) × AreRecords (line ∷ lines) more
-line_before line _ _ some free no_line = ((line ∷ []) ∷ [], longest_run (line ∷ []) [] [] (λ e. cc) ((some, free), tt) tt no_line)
+line_before line _ _ some free no_line = ((line ∷ []) ∷ [], longest_stretch (line ∷ []) [] [] (λ e. cc) ((some, free), tt) tt no_line)
 line_before line _ _ some free (empty_line lines records h) =
-    ((line ∷ []) ∷ records, longest_run (line ∷ []) ([] ∷ lines) records (λ e. cc) ((some, free), tt) tt (empty_line lines records h))
-line_before line _ _ some free (longest_run these lines records n full blank h) =
-    ((line ∷ these) ∷ records, longest_run (line ∷ these) lines records (λ e. cc) ((some, free), full) blank h)
+    ((line ∷ []) ∷ records, longest_stretch (line ∷ []) ([] ∷ lines) records (λ e. cc) ((some, free), tt) tt (empty_line lines records h))
+line_before line _ _ some free (longest_stretch these lines records n full blank h) =
+    ((line ∷ these) ∷ records, longest_stretch (line ∷ these) lines records (λ e. cc) ((some, free), full) blank h)
 
 -- Lines without LF have their records.
 pub records_are_there : (lines : List (List ℕ)) → AllByRecursion HasNoLf lines → (records : List (List (List ℕ))) × AreRecords lines records
@@ -88,7 +88,7 @@ blank_or_full line lines (x ∷ before) after h = record {
   is = record { whole = ap (λ l. line ∷ l) h.whole; full = h.full; blank = inr (later h.blank) };
 }
   where
-    later : ((x ∷ before) ≡ []) ⊎ ((front : List (List ℕ)) × (x ∷ before ≡ front ++ [] ∷ [])) → (front : List (List ℕ)) × (line ∷ x ∷ before ≡ front ++ [] ∷ [])
+    later : ((x ∷ before) ≡ []) ⊎ ((prefix : List (List ℕ)) × (x ∷ before ≡ prefix ++ [] ∷ [])) → (prefix : List (List ℕ)) × (line ∷ x ∷ before ≡ prefix ++ [] ∷ [])
     later (inl e) = cc
     later (inr some) = (line ∷ some.0, ap (λ l. line ∷ l) some.1)
 

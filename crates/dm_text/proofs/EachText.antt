@@ -6,9 +6,9 @@ use Rattle.dm_text.specs.declared.task.Task.TheVariants.{Read, Check, Normal, Wr
 use Rattle.dm_text.specs.declared.task.Tally.{Tally}
 use Rattle.dm_text.specs.Texts.{HasNoLf, last_line}
 use Rattle.dm_text.specs.Answers.{Answer, table_text}
-use Rattle.dm_text.specs.Runs.{AreAllAnswers, AreAnswersTo, AreClosedAnswers, AreClosedLines, AreMatched, IsAnswerToLine, IsAnswerToRecord, IsOutSoFar, IsOut, tally_of, written}
+use Rattle.dm_text.specs.Runs.{AreAllAnswers, AreAnswersTo, AreClosedAnswers, AreClosedLines, AreMatched, IsAnswerToLine, IsAnswerToRecord, IsOutSoFar, IsOut, tally_of, answers_text}
 use Rattle.dm_text.proofs.AnsweredSoFar.{AnswersRecords, answers_of_grids, closed_of_grids, done_by, out_by}
-use Rattle.dm_text.proofs.RecordTexts.{all_front}
+use Rattle.dm_text.proofs.RecordTexts.{all_prefix}
 use Rattle.dm_text.proofs.EachSplit.{last_blank_is_there, records_are_there, text_is_split}
 use Rattle.dm_text.proofs.EachAnswer.{line_is_answered, record_is_answered}
 
@@ -41,23 +41,23 @@ with_last [] [] free rest_free = tt
 with_last [] (b ∷ rest) free rest_free = (rest_free, tt)
 with_last (line ∷ lines) rest free rest_free = (free.0, with_last lines rest free.1 rest_free)
 
--- Some lines have a front in which every record or message line is closed.
+-- Some lines have a prefix in which every record or message line is closed.
 record HasClosed (task : Task) (lines : List (List ℕ)) : Type 0 where
   pub closed : List (List ℕ)
   pub are : AreClosedLines task lines closed
   pub free : AllByRecursion HasNoLf closed
 
--- Where a task answers records, some lines have a front in which every record is closed.
+-- Where a task answers records, some lines have a prefix in which every record is closed.
 closed_records : (task : Task) → AnswersRecords task → (lines : List (List ℕ)) → AllByRecursion HasNoLf lines → HasClosed task lines
 closed_records task of_grids lines free =
     let last = last_blank_is_there lines in
     record {
       closed = last.before;
       are = closed_of_grids task lines last.before of_grids (last.after, last.is);
-      free = all_front HasNoLf last.before last.after (subst (AllByRecursion HasNoLf) last.is.whole free);
+      free = all_prefix HasNoLf last.before last.after (subst (AllByRecursion HasNoLf) last.is.whole free);
     }
 
--- Unless the task is the table, some lines have a front in which every record or message line is closed.
+-- Unless the task is the table, some lines have a prefix in which every record or message line is closed.
 closed_there : (task : Task) → task ≢ Table → (lines : List (List ℕ)) → AllByRecursion HasNoLf lines → HasClosed task lines
 closed_there (Read border) reads lines free = closed_records (Read border) tt lines free
 closed_there (Check border) reads lines free = closed_records (Check border) tt lines free
@@ -93,7 +93,7 @@ pub out_is_there : (task : Task) (text : List ℕ) → (task ≡ Table → text 
 out_is_there task text empty =
     elim (table_or_reads task) [
       | inl e ↦ (table_text, tally_of [], subst (λ t. IsOut t text table_text (tally_of [])) (sym e) (empty e, refl, refl))
-      | inr reads ↦ let a = all_answers task reads text in (written a.0, tally_of a.0, out_by task text a.0 reads a.1)
+      | inr reads ↦ let a = all_answers task reads text in (answers_text a.0, tally_of a.0, out_by task text a.0 reads a.1)
     ]
 
 -- Something is written for each text that may go on.
@@ -101,5 +101,5 @@ pub done_is_there : (task : Task) (text : List ℕ) → (task ≡ Table → text
 done_is_there task text empty =
     elim (table_or_reads task) [
       | inl e ↦ (table_text, subst (λ t. IsOutSoFar t text table_text) (sym e) (empty e, refl))
-      | inr reads ↦ let a = closed_answers task reads text in (written a.0, done_by task text a.0 reads a.1)
+      | inr reads ↦ let a = closed_answers task reads text in (answers_text a.0, done_by task text a.0 reads a.1)
     ]

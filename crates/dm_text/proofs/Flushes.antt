@@ -9,10 +9,15 @@ use Rattle.dm_text.specs.declared.task.RunFault.TheVariants as fault
 use Rattle.dm_text.specs.declared.answering.Answering.{Answering}
 use Rattle.dm_text.specs.Answers.{Answer, table_text}
 use Rattle.dm_text.specs.Devices.{IsFlushedOnce}
-use Rattle.dm_text.specs.Runs.{HasEnded, IsFlushedAtEnd, IsOut, tally_of, written}
+use Rattle.dm_text.specs.Runs.{HasEnded, IsFlushedAtEnd, IsOut, tally_of, answers_text}
 use Rattle.dm_text.specs.inner.AnsweredSoFar.{EndsAnswered, IsAnsweredSoFar}
 use Rattle.dm_text.proofs.KnownBytes.{appends_then}
 use Rattle.dm_text.proofs.Outcomes.{all_answered, written_append}
+
+-- What holds holds of an error.
+pub on_error : {T E : Type 0} (result : Result T E) (P : Type 0) → P → OnErr result P
+on_error (Ok x) P p = tt
+on_error (Err e) P p = p
 
 -- Where there was no flush in the first step and one in the second, there was one in all.
 pub flushed_later : (First Then All : List ℕ → Type 0) (a b c : Option (List ℕ)) (s : List ℕ) → ((x y : List ℕ) → First x → Then y → All (x ++ y)) → First [] → Appends a b s
@@ -57,9 +62,9 @@ table_flushed task most Gave Flushed Ended old new (Err why) table gave (inr all
 
 -- Where writing fails at the end of a text, no flush was reached, or the one after all was taken failed.
 pub text_flushed : (task : Task) (most : ℕ) (Gave : List ℕ → Type 0) (Ended : Type 0) (state : Answering) (text : List ℕ) (answers : List Answer) (s t : Tally)
-    (First Then All : List ℕ → Type 0) (a b c : Option (List ℕ)) → ((x y : List ℕ) → First x → Then y → All (x ++ y)) → First [] → Appends a b (written answers)
+    (First Then All : List ℕ → Type 0) (a b c : Option (List ℕ)) → ((x y : List ℕ) → First x → Then y → All (x ++ y)) → First [] → Appends a b (answers_text answers)
     → Gave text → Ended → length text ≤ most → IsAnsweredSoFar task state text answers → s ≡ tally_of answers
-    → Then [] ⊎ (IsFlushedOnce Then b c × ((last : List Answer) × EndsAnswered state last × Appends b c (written last)
+    → Then [] ⊎ (IsFlushedOnce Then b c × ((last : List Answer) × EndsAnswered state last × Appends b c (answers_text last)
     × ((before : List Answer) → s ≡ tally_of before → t ≡ tally_of (before ++ last))))
     → IsFlushedAtEnd task most Gave Ended All a c
 text_flushed task most Gave Ended state text answers s t First Then All a b c joined none grew gave ended within stands counted (inl never) = inl (joined [] [] none never)
@@ -68,6 +73,6 @@ text_flushed task most Gave Ended state text answers s t First Then All a b c jo
     inr (
       t,
       all_answered task most Gave (Appends a c) Ended state text answers last t gave ended within stands all.1.1 (all.1.3 answers counted)
-          (subst (Appends a c) (sym (written_append answers last)) (appends_then a b c (written answers) (written last) grew all.1.2)),
-      flushed_later First Then All a b c (written answers) joined none grew all.0,
+          (subst (Appends a c) (sym (written_append answers last)) (appends_then a b c (answers_text answers) (answers_text last) grew all.1.2)),
+      flushed_later First Then All a b c (answers_text answers) joined none grew all.0,
     )

@@ -4,7 +4,7 @@ use Rattle.std.specs.List.{AllByRecursion}
 use Rattle.dm_text.specs.declared.task.Task.{Task}
 use Rattle.dm_text.specs.declared.answering.Answering.{Answering}
 use Rattle.dm_text.specs.declared.answering.Answering.TheVariants.{Records, Lines}
-use Rattle.dm_text.specs.Texts.{HasNoLf, IsSplit, ended}
+use Rattle.dm_text.specs.Texts.{HasNoLf, IsSplit, ended_lines}
 use Rattle.dm_text.specs.Records.{record_of}
 use Rattle.dm_text.specs.RecordFacts.{RecordFacts, facts_of_record}
 use Rattle.dm_text.specs.RecordFeeds.{AreRecordsOfText}
@@ -15,7 +15,7 @@ use Rattle.dm_text.proofs.EachAnswer.{line_is_answered, record_is_answered}
 use Rattle.dm_text.proofs.EachSplit.{last_blank_is_there, records_are_there, text_is_split}
 use Rattle.dm_text.proofs.EachText.{matched_there}
 use Rattle.dm_text.proofs.RecordCuts.{split_lines}
-use Rattle.dm_text.proofs.RecordTexts.{all_back, all_front, full_of, records_after}
+use Rattle.dm_text.proofs.RecordTexts.{all_back, all_prefix, full_of, records_after}
 use Rattle.dm_text.proofs.AnsweredSoFar.{answers_records, matched_append, matched_lines, so_far_closed}
 
 -- The text has records, and facts of what stands open after them.
@@ -30,7 +30,7 @@ has_records text =
     let t = text_is_split text in
     let b = last_blank_is_there t.lines in
     let free = subst (AllByRecursion HasNoLf) b.is.whole t.split.lines_no_lf in
-    let r = records_are_there b.before (all_front HasNoLf b.before b.after free) in
+    let r = records_are_there b.before (all_prefix HasNoLf b.before b.after free) in
     record {
       records = r.0;
       new = facts_of_record b.after t.rest;
@@ -43,7 +43,7 @@ has_records text =
         last_blank = b.is;
         records = r.0;
         are_records = r.1;
-        answered = refl;
+        meanings_are = refl;
         left = record {
           lines = b.after;
           rest = t.rest;
@@ -66,7 +66,7 @@ pub goes_on : (task : Task) (state : Answering) (text piece : List ℕ) (answers
     → (more : List Answer) × AreClosedAnswers task (text ++ piece) (answers ++ more)
 goes_on task (Records asked facts) text piece answers s =
     let t = s.2 in
-    let later = has_records ((ended t.after ++ t.rest) ++ piece) in
+    let later = has_records ((ended_lines t.after ++ t.rest) ++ piece) in
     let matched = matched_there (IsAnswerToRecord task) (record_is_answered task (answers_records asked task s.0)) later.records in
     let all = records_after text piece s.1 (map record_of later.records) facts later.new t later.are in (
       matched.0,
@@ -82,7 +82,7 @@ goes_on task (Lines profile facts) text piece answers s =
     let later = text_is_split (t.rest ++ piece) in
     let matched = matched_there (IsAnswerToLine profile) (line_is_answered profile) later.lines in
     let lines = t.lines ++ later.lines in
-    let text_is : ended t.lines ++ (t.rest ++ piece) ≡ text ++ piece = sym (append_assoc (ended t.lines) t.rest piece) ∙ ap (λ l. l ++ piece) (sym t.split.whole) in (
+    let text_is : ended_lines t.lines ++ (t.rest ++ piece) ≡ text ++ piece = sym (append_assoc (ended_lines t.lines) t.rest piece) ∙ ap (λ l. l ++ piece) (sym t.split.whole) in (
       matched.0,
       record {
         lines = lines;
@@ -91,6 +91,6 @@ goes_on task (Lines profile facts) text piece answers s =
         closed = lines;
         are_closed = subst (λ w. AreClosedLines w lines lines) (sym s.0) refl;
         answered = subst (λ w. AreAnswersTo w lines (answers ++ matched.0)) (sym s.0)
-            (matched_append (IsAnswerToLine profile) t.lines later.lines answers matched.0 (matched_lines profile t.lines s.1 answers t.answered s.3) matched.1);
+            (matched_append (IsAnswerToLine profile) t.lines later.lines answers matched.0 (matched_lines profile t.lines s.1 answers t.each s.3) matched.1);
       },
     )

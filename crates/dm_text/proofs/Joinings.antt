@@ -17,7 +17,7 @@ hex_unique d u v (lower a b e) (figure c f) = omega arith
 hex_unique d u v (lower a b e) (upper c d' f) = omega arith
 hex_unique d u v (lower a b e) (lower c d' f) = omega arith
 
--- Equal bytes stay equal when equal fronts take the place of theirs.
+-- Equal bytes stay equal when equal prefixes take the place of theirs.
 shown : (p q p' q' x y : List ℕ) → p ≡ p' → q ≡ q' → p ++ x ≡ q ++ y → p' ++ x ≡ q' ++ y
 shown p q p' q' x y e f h = ap (λ l. l ++ x) (sym e) ∙ h ∙ ap (λ l. l ++ y) f
 
@@ -29,11 +29,11 @@ heads a b x y e = cc
 pub tails : (a b : ℕ) (x y : List ℕ) → a ∷ x ≡ b ∷ y → x ≡ y
 tails a b x y e = cc
 
--- Two spellings at the front of the same bytes, their items, and what comes after them are the same.
+-- Two spellings at the start of the same bytes, their items, and what comes after them are the same.
 abbrev Same : List ℕ → List ℕ → List ℕ → List ℕ → Item → Item → Type 0
 Same p q x y a b = (p ≡ q) × (a ≡ b) × (x ≡ y)
 
--- At the front of any bytes stands at most one spelling.
+-- At the start of any bytes stands at most one spelling.
 pub one_spelling : (p q x y : List ℕ) (a b : Item) → IsSpelling p a → IsSpelling q b → p ++ x ≡ q ++ y → Same p q x y a b
 one_spelling p q x y a b (plain c _ _ n e f) (plain d _ _ m g h) eq =
     let s : c ∷ x ≡ d ∷ y = shown p q (c ∷ []) (d ∷ []) x y e g eq in
@@ -98,18 +98,18 @@ joining_append [] ys a b p q = subst (λ l. IsJoining (l ++ b) ys) (sym p) q
 joining_append (x ∷ xs) ys a b p q =
     (p.0, p.1 ++ b, p.2, ap (λ l. l ++ b) p.3 ∙ append_assoc p.0 p.1 b, joining_append xs ys p.1 b p.4 q)
 
--- A front that is a joining, before bytes that begin no spelling, is the longest one.
-pub front_longest : (items others : List Item) (front rest other after : List ℕ) → IsJoining front items → BeginsNoSpelling rest
-    → front ++ rest ≡ other ++ after → IsJoining other others → length other ≤ length front
-front_longest items [] front rest other after p none eq q = omega (arith, ap length q)
-front_longest [] (j ∷ js) front rest other after p none eq q =
+-- A prefix that is a joining, before bytes that begin no spelling, is the longest one.
+pub prefix_longest : (items others : List Item) (prefix rest other after : List ℕ) → IsJoining prefix items → BeginsNoSpelling rest
+    → prefix ++ rest ≡ other ++ after → IsJoining other others → length other ≤ length prefix
+prefix_longest items [] prefix rest other after p none eq q = omega (arith, ap length q)
+prefix_longest [] (j ∷ js) prefix rest other after p none eq q =
     absurd (none q.0 (q.1 ++ after) j (ap (λ l. l ++ rest) (sym p) ∙ eq ∙ ap (λ l. l ++ after) q.3 ∙ append_assoc q.0 q.1 after) q.2)
-front_longest (i ∷ is) (j ∷ js) front rest other after p none eq q =
+prefix_longest (i ∷ is) (j ∷ js) prefix rest other after p none eq q =
     let both : p.0 ++ (p.1 ++ rest) ≡ q.0 ++ (q.1 ++ after) = sym (append_assoc p.0 p.1 rest) ∙ ap (λ l. l ++ rest) (sym p.3) ∙ eq
     ∙ ap (λ l. l ++ after) q.3 ∙ append_assoc q.0 q.1 after in
     let same = one_spelling p.0 q.0 (p.1 ++ rest) (q.1 ++ after) i j p.2 q.2 both in
-    let less : length q.1 ≤ length p.1 = front_longest is js p.1 rest q.1 after p.4 none same.2 q.4 in
-    let long : length front ≡ length p.0 + length p.1 = ap length p.3 ∙ length-append p.0 p.1 in
+    let less : length q.1 ≤ length p.1 = prefix_longest is js p.1 rest q.1 after p.4 none same.2 q.4 in
+    let long : length prefix ≡ length p.0 + length p.1 = ap length p.3 ∙ length-append p.0 p.1 in
     let short : length other ≡ length q.0 + length q.1 = ap length q.3 ∙ length-append q.0 q.1 in
     let even : length p.0 ≡ length q.0 = ap length same.0 in
     omega arith

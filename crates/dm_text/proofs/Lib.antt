@@ -7,11 +7,11 @@ pub mod Texts
 pub mod LineCuts
 pub mod RecordSteps
 pub mod KeptRows
-pub mod CellRuns
+pub mod RowParts
 pub mod PrintedCells
 pub mod OpenRecordTexts
 pub mod RecordStates
-pub mod RecordAnswers
+pub mod RecordMeanings
 pub mod RecordGrids
 pub mod RecordCuts
 pub mod RecordTexts

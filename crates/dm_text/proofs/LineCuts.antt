@@ -4,9 +4,9 @@ use Rattle.std.specs.List.{concat}
 use Rattle.std.proofs.lemmas.List.{drop_at}
 use Rattle.dm_symbol.specs.declared.Item.{Item}
 use Rattle.dm_text.specs.Texts.{lf, HasNoLf, IsSplit}
-use Rattle.dm_text.specs.MessageLines.{IsLongestFront, most_bytes}
+use Rattle.dm_text.specs.MessageLines.{IsLongestPrefix, most_bytes}
 use Rattle.dm_text.specs.LineFacts.{LineFacts, Faulty, Good, AreLineFacts, kept}
-use Rattle.dm_text.specs.LineFeeds.{LineAnswer, AreLinesFed, no_piece, leaves_open, closes, AreAnswered, AreOfText}
+use Rattle.dm_text.specs.LineFeeds.{LineMeaning, AreLinesFed, no_piece, leaves_open, closes, AreMeanings, AreOfText}
 use Rattle.dm_text.proofs.Texts.{no_lf_append, split_more, split_unique}
 use Rattle.dm_text.specs.Spellings.{IsJoining, IsJoined, IsSpelling}
 use Rattle.dm_text.proofs.Joinings.{joining_append, joining_one, joining_unique}
@@ -20,19 +20,19 @@ rest_of piece before after taken e n =
     ap (drop taken) cut ∙ drop_at (before ++ lf ∷ []) after taken long
 
 -- Pieces that are fed while a line stands open close and leave open what that line does with their bytes after it.
-pub fed_after : (u : List ℕ) (old new : LineFacts) (pieces : List (List ℕ)) (answers : List LineAnswer) → AreLinesFed old pieces answers new
-    → AreLineFacts u old → HasNoLf u → AreOfText (u ++ concat pieces) answers new
-fed_after u old new pieces answers (no_piece facts) known h = record {
+pub fed_after : (u : List ℕ) (old new : LineFacts) (pieces : List (List ℕ)) (meanings : List LineMeaning) → AreLinesFed old pieces meanings new
+    → AreLineFacts u old → HasNoLf u → AreOfText (u ++ concat pieces) meanings new
+fed_after u old new pieces meanings (no_piece facts) known h = record {
   lines = [];
   rest = u;
   split = record { whole = append-nil u; lines_no_lf = tt; rest_no_lf = h };
-  answered = tt;
+  each = tt;
   left = known;
 }
-fed_after u old new pieces answers (leaves_open _ mid _ piece taken more _ now later) known h =
-    subst (λ l. AreOfText l answers new) (append_assoc u piece (concat more))
-    (fed_after (u ++ piece) mid new more answers later (now.grown u known) (no_lf_append u piece h now.no_lf))
-fed_after u old new pieces answers (closes _ mid _ piece taken answer more others now later) known h =
+fed_after u old new pieces meanings (leaves_open _ mid _ piece taken more _ now later) known h =
+    subst (λ l. AreOfText l meanings new) (append_assoc u piece (concat more))
+    (fed_after (u ++ piece) mid new more meanings later (now.grown u known) (no_lf_append u piece h now.no_lf))
+fed_after u old new pieces meanings (closes _ mid _ piece taken meaning more others now later) known h =
     let rest = fed_after [] mid new (drop taken piece ∷ more) others later now.empty tt in
     let left : concat (drop taken piece ∷ more) ≡ now.after ++ concat more = ap (λ l. l ++ concat more) (rest_of piece now.before now.after taken now.piece_is now.taken_is) in
     let text : (u ++ now.before) ++ lf ∷ (concat (drop taken piece ∷ more)) ≡ u ++ (piece ++ concat more) =
@@ -43,80 +43,80 @@ fed_after u old new pieces answers (closes _ mid _ piece taken answer more other
       rest = rest.rest;
       split = subst (λ l. IsSplit l ((u ++ now.before) ∷ rest.lines) rest.rest) text
           (split_more (u ++ now.before) (concat (drop taken piece ∷ more)) rest.lines rest.rest (no_lf_append u now.before h now.no_lf) rest.split);
-      answered = (now.answered u known, rest.answered);
+      each = (now.means u known, rest.each);
       left = rest.left;
     }
 
 -- Pieces close, and leave open, what their joined text does.
-pub fed_is_text : (pieces : List (List ℕ)) (answers : List LineAnswer) (old new : LineFacts) → AreLineFacts [] old → AreLinesFed old pieces answers new
-    → AreOfText (concat pieces) answers new
-fed_is_text pieces answers old new known fed = fed_after [] old new pieces answers fed known tt
+pub fed_is_text : (pieces : List (List ℕ)) (meanings : List LineMeaning) (old new : LineFacts) → AreLineFacts [] old → AreLinesFed old pieces meanings new
+    → AreOfText (concat pieces) meanings new
+fed_is_text pieces meanings old new known fed = fed_after [] old new pieces meanings fed known tt
 
--- Two longest fronts of a line that are joined spellings have one length.
-front_length : (line f g r s : List ℕ) → IsLongestFront line f r → IsLongestFront line g s → length f ≡ length g
-front_length line f g r s p q =
+-- Two longest prefixes of a line that are joined spellings have one length.
+prefix_length : (line f g r s : List ℕ) → IsLongestPrefix line f r → IsLongestPrefix line g s → length f ≡ length g
+prefix_length line f g r s p q =
     let one = q.longest f r p.whole p.joined in
     let two = p.longest g s q.whole q.joined in omega arith
 
--- Two fronts of the same bytes that have one length are the same, and so is what comes after them.
-same_front : (f g r s : List ℕ) → length f ≡ length g → f ++ r ≡ g ++ s → (f ≡ g) × (r ≡ s)
-same_front [] [] r s n e = (refl, e)
-same_front [] (y ∷ g) r s n e = absurd (omega arith)
-same_front (x ∷ f) [] r s n e = absurd (omega arith)
-same_front (x ∷ f) (y ∷ g) r s n e =
+-- Two prefixes of the same bytes that have one length are the same, and so is what comes after them.
+same_prefix : (f g r s : List ℕ) → length f ≡ length g → f ++ r ≡ g ++ s → (f ≡ g) × (r ≡ s)
+same_prefix [] [] r s n e = (refl, e)
+same_prefix [] (y ∷ g) r s n e = absurd (omega arith)
+same_prefix (x ∷ f) [] r s n e = absurd (omega arith)
+same_prefix (x ∷ f) (y ∷ g) r s n e =
     let tail : f ++ r ≡ g ++ s = cc in
     let head : x ≡ y = cc in
     let less : length f ≡ length g = omega arith in
-    let t = same_front f g r s less tail in (ap (λ k. k ∷ f) head ∙ ap (λ l. y ∷ l) t.0, t.1)
+    let t = same_prefix f g r s less tail in (ap (λ k. k ∷ f) head ∙ ap (λ l. y ∷ l) t.0, t.1)
 
 -- A good line becomes joined spellings by bytes that complete its pending ones.
-joined_on : (line front pending more : List ℕ) (items : List Item) (item : Item) → line ≡ front ++ pending → IsJoining front items → IsSpelling (pending ++ more) item
+joined_on : (line prefix pending more : List ℕ) (items : List Item) (item : Item) → line ≡ prefix ++ pending → IsJoining prefix items → IsSpelling (pending ++ more) item
     → IsJoined (line ++ more)
-joined_on line front pending more items item e j s = (
+joined_on line prefix pending more items item e j s = (
   items ++ item ∷ [],
-  subst (λ l. IsJoining l (items ++ item ∷ [])) (sym (ap (λ l. l ++ more) e ∙ append_assoc front pending more))
-      (joining_append items (item ∷ []) front (pending ++ more) j (joining_one (pending ++ more) item s)),
+  subst (λ l. IsJoining l (items ++ item ∷ [])) (sym (ap (λ l. l ++ more) e ∙ append_assoc prefix pending more))
+      (joining_append items (item ∷ []) prefix (pending ++ more) j (joining_one (pending ++ more) item s)),
 )
 
 -- A line has only one set of facts.
 pub facts_unique : (line : List ℕ) (a b : LineFacts) → AreLineFacts line a → AreLineFacts line b → a ≡ b
 facts_unique line (Faulty m) (Faulty n) p q =
-    ap Faulty (p.column_is ∙ ap (λ k. min (k + 1) most_bytes) (front_length line p.front q.front p.rest q.rest p.longest q.longest) ∙ sym q.column_is)
+    ap Faulty (p.column_is ∙ ap (λ k. min (k + 1) most_bytes) (prefix_length line p.prefix q.prefix p.rest q.rest p.longest q.longest) ∙ sym q.column_is)
 facts_unique line (Faulty m) (Good n items pending) p q =
     let can = q.can_become in
-    absurd (p.broken can.0 (joined_on line q.front pending can.0 q.items can.1 q.longest.whole q.joining can.2))
+    absurd (p.broken can.0 (joined_on line q.prefix pending can.0 q.items can.1 q.longest.whole q.joining can.2))
 facts_unique line (Good n items pending) (Faulty m) p q =
     let can = p.can_become in
-    absurd (q.broken can.0 (joined_on line p.front pending can.0 p.items can.1 p.longest.whole p.joining can.2))
+    absurd (q.broken can.0 (joined_on line p.prefix pending can.0 p.items can.1 p.longest.whole p.joining can.2))
 facts_unique line (Good n items pending) (Good n' items' pending') p q =
-    let same = same_front p.front q.front pending pending' (front_length line p.front q.front pending pending' p.longest q.longest) (sym p.longest.whole ∙ q.longest.whole) in
-    let list = joining_unique p.items q.items q.front (subst (λ l. IsJoining l p.items) same.0 p.joining) q.joining in
+    let same = same_prefix p.prefix q.prefix pending pending' (prefix_length line p.prefix q.prefix pending pending' p.longest q.longest) (sym p.longest.whole ∙ q.longest.whole) in
+    let list = joining_unique p.items q.items q.prefix (subst (λ l. IsJoining l p.items) same.0 p.joining) q.joining in
     let count : n ≡ n' = p.count_is ∙ ap (λ l. min (length l) most_bytes) same.0 ∙ sym q.count_is in
     let known : items ≡ items' = p.known_is ∙ ap kept list ∙ sym q.known_is in
     let waiting : pending ≡ pending' = same.1 in cc
 
--- Lines have only one list of answers.
-answers_unique : (lines : List (List ℕ)) (a b : List LineAnswer) → AreAnswered lines a → AreAnswered lines b → a ≡ b
-answers_unique [] [] [] p q = refl
-answers_unique [] [] (y ∷ b) p q = absurd q
-answers_unique [] (x ∷ a) b p q = absurd p
-answers_unique (l ∷ lines) [] b p q = absurd p
-answers_unique (l ∷ lines) (x ∷ a) [] p q = absurd q
-answers_unique (l ∷ lines) (x ∷ a) (y ∷ b) p q =
+-- Lines have only one list of meanings.
+meanings_unique : (lines : List (List ℕ)) (a b : List LineMeaning) → AreMeanings lines a → AreMeanings lines b → a ≡ b
+meanings_unique [] [] [] p q = refl
+meanings_unique [] [] (y ∷ b) p q = absurd q
+meanings_unique [] (x ∷ a) b p q = absurd p
+meanings_unique (l ∷ lines) [] b p q = absurd p
+meanings_unique (l ∷ lines) (x ∷ a) [] p q = absurd q
+meanings_unique (l ∷ lines) (x ∷ a) (y ∷ b) p q =
     let head : x ≡ y = line_unique l x y p.0 q.0 in
-    let tail : a ≡ b = answers_unique lines a b p.1 q.1 in cc
+    let tail : a ≡ b = meanings_unique lines a b p.1 q.1 in cc
 
--- A text has only one list of answers, and leaves open only one thing.
-pub of_text_unique : (text : List ℕ) (a b : List LineAnswer) (f g : LineFacts) → AreOfText text a f → AreOfText text b g → (a ≡ b) × (f ≡ g)
+-- A text has only one list of meanings, and leaves open only one thing.
+pub of_text_unique : (text : List ℕ) (a b : List LineMeaning) (f g : LineFacts) → AreOfText text a f → AreOfText text b g → (a ≡ b) × (f ≡ g)
 of_text_unique text a b f g p q =
     let same = split_unique p.lines q.lines text p.rest q.rest p.split q.split in (
-      answers_unique q.lines a b (subst (λ l. AreAnswered l a) same.0 p.answered) q.answered,
+      meanings_unique q.lines a b (subst (λ l. AreMeanings l a) same.0 p.each) q.each,
       facts_unique q.rest f g (subst (λ l. AreLineFacts l f) same.1 p.left) q.left,
     )
 
--- How a text is cut into pieces changes neither the answers nor what is left open.
-pub cuts_change_nothing : (pieces others : List (List ℕ)) (answers theirs : List LineAnswer) (old new end : LineFacts) → AreLineFacts [] old
-    → concat pieces ≡ concat others → AreLinesFed old pieces answers new → AreLinesFed old others theirs end → (answers ≡ theirs) × (new ≡ end)
-cuts_change_nothing pieces others answers theirs old new end known same p q =
-    of_text_unique (concat others) answers theirs new end
-    (subst (λ l. AreOfText l answers new) same (fed_is_text pieces answers old new known p)) (fed_is_text others theirs old end known q)
+-- How a text is cut into pieces changes neither the meanings nor what is left open.
+pub cuts_change_nothing : (pieces others : List (List ℕ)) (meanings theirs : List LineMeaning) (old new end : LineFacts) → AreLineFacts [] old
+    → concat pieces ≡ concat others → AreLinesFed old pieces meanings new → AreLinesFed old others theirs end → (meanings ≡ theirs) × (new ≡ end)
+cuts_change_nothing pieces others meanings theirs old new end known same p q =
+    of_text_unique (concat others) meanings theirs new end
+    (subst (λ l. AreOfText l meanings new) same (fed_is_text pieces meanings old new known p)) (fed_is_text others theirs old end known q)

@@ -5,7 +5,7 @@ use Rattle.std.proofs.lemmas.Bool.{cases_lt, eqb-true, eqb-false, leb-true, lt-l
 use Rattle.dm_symbol.specs.declared.Item.{Item}
 use Rattle.dm_symbol.specs.declared.Item.TheVariants.{Byte, Fnc1}
 use Rattle.dm_symbol.specs.Messages.{IsItem, IsMessage, most_items}
-use Rattle.dm_text.specs.Spellings.{IsHexDigit, figure, upper, IsSpelling, plain, backslash, fnc1, byte, IsJoining, spelled, text_of, upper_digit}
+use Rattle.dm_text.specs.Spellings.{IsHexDigit, figure, upper, IsSpelling, plain, backslash, fnc1, byte, IsJoining, spelling_of, text_of, upper_digit}
 use Rattle.dm_text.specs.MessageLines.{IsLine}
 
 -- The digit that is written for a value has this value.
@@ -29,7 +29,7 @@ bytes b small false false g p q r = byte (upper_digit (b / 16)) (upper_digit (b 
     (let e : b ≡ 16 * (b / 16) + b % 16 = omega arith in ap Byte e)
 
 -- How an item is written is a spelling of it.
-pub spelled_spells : (item : Item) → IsItem item → IsSpelling (spelled item) item
+pub spelled_spells : (item : Item) → IsItem item → IsSpelling (spelling_of item) item
 spelled_spells Fnc1 small = fnc1 refl refl
 spelled_spells (Byte b) small = bytes b small (b == 92) (nat_le 32 b) (nat_le b 126) refl refl refl
 
@@ -37,7 +37,7 @@ spelled_spells (Byte b) small = bytes b small (b == 92) (nat_le 32 b) (nat_le b 
 pub text_joins : (items : List Item) → IsMessage items → IsJoining (text_of items) items
 text_joins [] all = refl
 text_joins (item ∷ items) all =
-    (spelled item, text_of items, spelled_spells item (all 0 item (omega arith)), refl, text_joins items (λ k d within. all (suc k) d (omega arith)))
+    (spelling_of item, text_of items, spelled_spells item (all 0 item (omega arith)), refl, text_joins items (λ k d within. all (suc k) d (omega arith)))
 
 -- The text of a message is a line that means the message.
 pub text_is_line : (items : List Item) → IsMessage items → length items ≤ most_items → IsLine (text_of items) (Ok items)

@@ -7,7 +7,7 @@ use Rattle.dm_text.specs.declared.task.Tally.{Tally}
 use Rattle.dm_text.specs.Texts.{last_line}
 use Rattle.dm_text.specs.Records.{record_of}
 use Rattle.dm_text.specs.Answers.{Answer, IsWriteAnswer}
-use Rattle.dm_text.specs.Runs.{AreAllAnswers, AreAnswersTo, AreAnswersToRecords, AreClosedAnswers, AreClosedLines, AreMatched, IsAnswerToLine, IsAnswerToRecord, IsOutSoFar, IsOut, tally_of, written}
+use Rattle.dm_text.specs.Runs.{AreAllAnswers, AreAnswersTo, AreAnswersToRecords, AreClosedAnswers, AreClosedLines, AreMatched, IsAnswerToLine, IsAnswerToRecord, IsOutSoFar, IsOut, tally_of, answers_text}
 use Rattle.dm_text.proofs.Texts.{split_unique}
 use Rattle.dm_text.proofs.RecordCuts.{last_blank_unique, records_unique}
 use Rattle.dm_text.proofs.OpenLineSteps.{line_unique}
@@ -43,7 +43,7 @@ answers_are_one (Normal border profile) lines a b p q = record_answers_are_one (
 answers_are_one (Write profile) lines a b p q = matched_unique (IsAnswerToLine profile) (line_answer_is_one profile) lines a b p q
 answers_are_one Table lines a b p q = record_answers_are_one Table lines a b p q
 
--- Some lines have only one front in which all is closed.
+-- Some lines have only one prefix in which all is closed.
 closed_is_one : (task : Task) (lines c d : List (List ℕ)) → AreClosedLines task lines c → AreClosedLines task lines d → c ≡ d
 closed_is_one (Read border) lines c d p q = (last_blank_unique c p.0 d q.0 (sym p.1.whole ∙ q.1.whole) p.1.full q.1.full p.1.blank q.1.blank).0
 closed_is_one (Check border) lines c d p q = (last_blank_unique c p.0 d q.0 (sym p.1.whole ∙ q.1.whole) p.1.full q.1.full p.1.blank q.1.blank).0
@@ -67,16 +67,16 @@ closed_answers_are_one task text a b p q =
 
 -- Only one thing is written for a text as a whole, with one tally.
 pub one_out : (task : Task) (text a b : List ℕ) (s t : Tally) → IsOut task text a s → IsOut task text b t → (a ≡ b) × (s ≡ t)
-one_out (Read border) text a b s t p q = let same = all_answers_are_one (Read border) text p.0 q.0 p.1 q.1 in (p.2 ∙ ap written same ∙ sym q.2, p.3 ∙ ap tally_of same ∙ sym q.3)
-one_out (Check border) text a b s t p q = let same = all_answers_are_one (Check border) text p.0 q.0 p.1 q.1 in (p.2 ∙ ap written same ∙ sym q.2, p.3 ∙ ap tally_of same ∙ sym q.3)
-one_out (Normal border profile) text a b s t p q = let same = all_answers_are_one (Normal border profile) text p.0 q.0 p.1 q.1 in (p.2 ∙ ap written same ∙ sym q.2, p.3 ∙ ap tally_of same ∙ sym q.3)
-one_out (Write profile) text a b s t p q = let same = all_answers_are_one (Write profile) text p.0 q.0 p.1 q.1 in (p.2 ∙ ap written same ∙ sym q.2, p.3 ∙ ap tally_of same ∙ sym q.3)
+one_out (Read border) text a b s t p q = let same = all_answers_are_one (Read border) text p.0 q.0 p.1 q.1 in (p.2 ∙ ap answers_text same ∙ sym q.2, p.3 ∙ ap tally_of same ∙ sym q.3)
+one_out (Check border) text a b s t p q = let same = all_answers_are_one (Check border) text p.0 q.0 p.1 q.1 in (p.2 ∙ ap answers_text same ∙ sym q.2, p.3 ∙ ap tally_of same ∙ sym q.3)
+one_out (Normal border profile) text a b s t p q = let same = all_answers_are_one (Normal border profile) text p.0 q.0 p.1 q.1 in (p.2 ∙ ap answers_text same ∙ sym q.2, p.3 ∙ ap tally_of same ∙ sym q.3)
+one_out (Write profile) text a b s t p q = let same = all_answers_are_one (Write profile) text p.0 q.0 p.1 q.1 in (p.2 ∙ ap answers_text same ∙ sym q.2, p.3 ∙ ap tally_of same ∙ sym q.3)
 one_out Table text a b s t p q = (p.1 ∙ sym q.1, p.2 ∙ sym q.2)
 
 -- Only one thing is written for a text that may go on.
 pub one_done : (task : Task) (text a b : List ℕ) → IsOutSoFar task text a → IsOutSoFar task text b → a ≡ b
-one_done (Read border) text a b p q = p.2 ∙ ap written (closed_answers_are_one (Read border) text p.0 q.0 p.1 q.1) ∙ sym q.2
-one_done (Check border) text a b p q = p.2 ∙ ap written (closed_answers_are_one (Check border) text p.0 q.0 p.1 q.1) ∙ sym q.2
-one_done (Normal border profile) text a b p q = p.2 ∙ ap written (closed_answers_are_one (Normal border profile) text p.0 q.0 p.1 q.1) ∙ sym q.2
-one_done (Write profile) text a b p q = p.2 ∙ ap written (closed_answers_are_one (Write profile) text p.0 q.0 p.1 q.1) ∙ sym q.2
+one_done (Read border) text a b p q = p.2 ∙ ap answers_text (closed_answers_are_one (Read border) text p.0 q.0 p.1 q.1) ∙ sym q.2
+one_done (Check border) text a b p q = p.2 ∙ ap answers_text (closed_answers_are_one (Check border) text p.0 q.0 p.1 q.1) ∙ sym q.2
+one_done (Normal border profile) text a b p q = p.2 ∙ ap answers_text (closed_answers_are_one (Normal border profile) text p.0 q.0 p.1 q.1) ∙ sym q.2
+one_done (Write profile) text a b p q = p.2 ∙ ap answers_text (closed_answers_are_one (Write profile) text p.0 q.0 p.1 q.1) ∙ sym q.2
 one_done Table text a b p q = p.1 ∙ sym q.1

@@ -14,13 +14,13 @@ use Rattle.std.specs.List.{AllByRecursion}
 use Rattle.std.proofs.lemmas.List.{length-map, length-take-le, nil_from_length}
 use Rattle.dm_text.specs.Texts.{HasNoLf}
 use Rattle.dm_text.specs.inner.OpenLines.{BeginsNoSpelling, IsPlain}
-use Rattle.dm_text.proofs.Joinings.{front_longest, joining_append, joining_one, joining_unique, spelling_some}
+use Rattle.dm_text.proofs.Joinings.{prefix_longest, joining_append, joining_one, joining_unique, spelling_some}
 
--- When a line becomes longer by one byte, so does what comes after its front.
-grown : (line front rest : List ℕ) (b : ℕ) → line ≡ front ++ rest → line ++ b ∷ [] ≡ front ++ (rest ++ b ∷ [])
-grown line front rest b e = ap (λ l. l ++ b ∷ []) e ∙ append_assoc front rest (b ∷ [])
+-- When a line becomes longer by one byte, so does what comes after its prefix.
+grown : (line prefix rest : List ℕ) (b : ℕ) → line ≡ prefix ++ rest → line ++ b ∷ [] ≡ prefix ++ (rest ++ b ∷ [])
+grown line prefix rest b e = ap (λ l. l ++ b ∷ []) e ∙ append_assoc prefix rest (b ∷ [])
 
--- No spelling stands at the front of the empty line.
+-- No spelling stands at the start of the empty line.
 pub none_begun : BeginsNoSpelling []
 none_begun piece more item e h =
     let some = spelling_some piece item h in
@@ -33,9 +33,9 @@ nothing_can = (32 ∷ [], Byte 32, plain 32 (omega arith) (omega arith) (λ e. o
 -- The empty line is a good one, with no items and nothing pending.
 pub good_none : IsGoodLine [] 0 (Some []) []
 good_none = record {
-  front = [];
+  prefix = [];
   items = [];
-  longest = record { whole = refl; joined = ([], refl); longest = λ other after e j. front_longest [] j.0 [] [] other after refl none_begun e j.1 };
+  longest = record { whole = refl; joined = ([], refl); longest = λ other after e j. prefix_longest [] j.0 [] [] other after refl none_begun e j.1 };
   joining = refl;
   can_become = nothing_can;
   count_is = refl;
@@ -46,14 +46,14 @@ good_none = record {
 pub good_begun : (line pending : List ℕ) (b n : ℕ) (known : Option (List Item)) → IsGoodLine line n known pending
     → CanBecomeSpelling (pending ++ b ∷ []) → BeginsNoSpelling (pending ++ b ∷ []) → IsGoodLine (line ++ b ∷ []) n known (pending ++ b ∷ [])
 good_begun line pending b n known good can none =
-    let whole = grown line good.front pending b good.longest.whole in
+    let whole = grown line good.prefix pending b good.longest.whole in
     record {
-      front = good.front;
+      prefix = good.prefix;
       items = good.items;
       longest = record {
         whole = whole;
         joined = good.longest.joined;
-        longest = λ other after e j. front_longest good.items j.0 good.front (pending ++ b ∷ []) other after good.joining none (sym whole ∙ e) j.1;
+        longest = λ other after e j. prefix_longest good.items j.0 good.prefix (pending ++ b ∷ []) other after good.joining none (sym whole ∙ e) j.1;
       };
       joining = good.joining;
       can_become = can;
@@ -62,21 +62,21 @@ good_begun line pending b n known good can none =
     }
 
 -- A count that stops at its most is right after the bytes of a spelling if it was right before them.
-counted : (n front pending line : ℕ) → n ≡ min front most_bytes → line ≡ front + (pending + 1) → min (n + (pending + 1)) most_bytes ≡ min line most_bytes
-counted n front pending line e f = omega arith
+counted : (n prefix pending line : ℕ) → n ≡ min prefix most_bytes → line ≡ prefix + (pending + 1) → min (n + (pending + 1)) most_bytes ≡ min line most_bytes
+counted n prefix pending line e f = omega arith
 
 -- A good line stays good with a byte that makes the pending bytes a spelling.
 pub good_whole : (line pending : List ℕ) (b n : ℕ) (known more : Option (List Item)) (item : Item) → IsGoodLine line n known pending
     → IsSpelling (pending ++ b ∷ []) item → ((all : List Item) → known ≡ kept all → more ≡ kept (all ++ item ∷ []))
     → IsGoodLine (line ++ b ∷ []) (min (n + (length pending + 1)) most_bytes) more []
 good_whole line pending b n known more item good spelling pushed =
-    let whole = grown line good.front pending b good.longest.whole in
+    let whole = grown line good.prefix pending b good.longest.whole in
     let joining : IsJoining (line ++ b ∷ []) (good.items ++ item ∷ []) = subst (λ l. IsJoining l (good.items ++ item ∷ [])) (sym whole)
-    (joining_append good.items (item ∷ []) good.front (pending ++ b ∷ []) good.joining (joining_one (pending ++ b ∷ []) item spelling)) in
-    let long : length (line ++ b ∷ []) ≡ length good.front + (length pending + 1) =
-    ap length whole ∙ length-append good.front (pending ++ b ∷ []) ∙ ap (λ k. length good.front + k) (length-append pending (b ∷ [])) in
+    (joining_append good.items (item ∷ []) good.prefix (pending ++ b ∷ []) good.joining (joining_one (pending ++ b ∷ []) item spelling)) in
+    let long : length (line ++ b ∷ []) ≡ length good.prefix + (length pending + 1) =
+    ap length whole ∙ length-append good.prefix (pending ++ b ∷ []) ∙ ap (λ k. length good.prefix + k) (length-append pending (b ∷ [])) in
     record {
-      front = line ++ b ∷ [];
+      prefix = line ++ b ∷ [];
       items = good.items ++ item ∷ [];
       longest = record {
         whole = sym (append-nil (line ++ b ∷ []));
@@ -85,7 +85,7 @@ good_whole line pending b n known more item good spelling pushed =
       };
       joining = joining;
       can_become = nothing_can;
-      count_is = counted n (length good.front) (length pending) (length (line ++ b ∷ [])) good.count_is long;
+      count_is = counted n (length good.prefix) (length pending) (length (line ++ b ∷ [])) good.count_is long;
       known_is = pushed good.items good.known_is;
     }
 
@@ -130,55 +130,55 @@ kept_few items all e = by_test (nat_le (length all) most_items) refl e
     by_test false few h = cc
 
 -- A good line with nothing pending stays good with the first bytes of a piece that stand for themselves.
-pub good_front : (line bytes pending : List ℕ) (front n : ℕ) (known : Option (List Item)) (old new : List Item) → IsGoodLine line front known pending
+pub good_prefix : (line bytes pending : List ℕ) (prefix n : ℕ) (known : Option (List Item)) (old new : List Item) → IsGoodLine line prefix known pending
     → length pending ≡ 0 → known ≡ Some old → AllByRecursion IsPlain (take n bytes) → n ≤ length bytes → new ≡ old ++ map Byte (take n bytes)
-    → (length old ≤ most_items → length new ≤ most_items) → IsGoodLine (line ++ take n bytes) (min (front + n) most_bytes) (Some new) pending
-good_front line bytes pending front n known old new good zero_p is plains le added few =
+    → (length old ≤ most_items → length new ≤ most_items) → IsGoodLine (line ++ take n bytes) (min (prefix + n) most_bytes) (Some new) pending
+good_prefix line bytes pending prefix n known old new good zero_p is plains le added few =
     let none : pending ≡ [] = nil_from_length pending zero_p in
-    let good0 : IsGoodLine line front (Some old) [] = subst (λ (k : Option (List Item)). IsGoodLine line front k []) is (subst (λ (p : List ℕ). IsGoodLine line front known p) none good) in
+    let good0 : IsGoodLine line prefix (Some old) [] = subst (λ (k : Option (List Item)). IsGoodLine line prefix k []) is (subst (λ (p : List ℕ). IsGoodLine line prefix known p) none good) in
     let less : length new ≤ most_items = few (kept_few old good0.items good0.known_is) in
     let parts : length new ≡ length old + length (take n bytes) = ap length added ∙ length-append old (map Byte (take n bytes)) ∙ ap (λ (k : ℕ). length old + k) (length-map (take n bytes) Byte) in
-    subst (λ (p : List ℕ). IsGoodLine (line ++ take n bytes) (min (front + n) most_bytes) (Some new) p) (sym none)
-    (subst (λ (m : List Item). IsGoodLine (line ++ take n bytes) (min (front + n) most_bytes) (Some m) []) (sym added)
-    (subst (λ (k : ℕ). IsGoodLine (line ++ take n bytes) (min (front + k) most_bytes) (Some (old ++ map Byte (take n bytes))) []) (length-take-le n bytes le)
-    (good_plain line (take n bytes) front old good0 plains (omega arith))))
+    subst (λ (p : List ℕ). IsGoodLine (line ++ take n bytes) (min (prefix + n) most_bytes) (Some new) p) (sym none)
+    (subst (λ (m : List Item). IsGoodLine (line ++ take n bytes) (min (prefix + n) most_bytes) (Some m) []) (sym added)
+    (subst (λ (k : ℕ). IsGoodLine (line ++ take n bytes) (min (prefix + k) most_bytes) (Some (old ++ map Byte (take n bytes))) []) (length-take-le n bytes le)
+    (good_plain line (take n bytes) prefix old good0 plains (omega arith))))
 
 -- Bytes that stand for themselves are no LF.
 pub plain_no_lf : (bytes : List ℕ) → AllByRecursion IsPlain bytes → HasNoLf bytes
 plain_no_lf [] h = tt
 plain_no_lf (b ∷ bytes) h = (λ e. let low = h.0.0 in omega arith, plain_no_lf bytes h.1)
 
--- The column after a front is one more than the count of its bytes, up to the most.
-column_is : (n front : ℕ) → n ≡ min front most_bytes → min (n + 1) most_bytes ≡ min (front + 1) most_bytes
-column_is n front e = omega arith
+-- The column after a prefix is one more than the count of its bytes, up to the most.
+column_is : (n prefix : ℕ) → n ≡ min prefix most_bytes → min (n + 1) most_bytes ≡ min (prefix + 1) most_bytes
+column_is n prefix e = omega arith
 
 -- A good line becomes faulty with a byte after which the pending bytes can't become a spelling.
 pub good_fault : (line pending : List ℕ) (b n : ℕ) (known : Option (List Item)) → IsGoodLine line n known pending
     → ((more : List ℕ) → BeginsNoSpelling ((pending ++ b ∷ []) ++ more)) → IsFaultyLine (line ++ b ∷ []) (min (n + 1) most_bytes)
 good_fault line pending b n known good none =
-    let whole = grown line good.front pending b good.longest.whole in
+    let whole = grown line good.prefix pending b good.longest.whole in
     let now : BeginsNoSpelling (pending ++ b ∷ []) = subst BeginsNoSpelling (append-nil (pending ++ b ∷ [])) (none []) in
     record {
-      front = good.front;
+      prefix = good.prefix;
       rest = pending ++ b ∷ [];
       longest = record {
         whole = whole;
         joined = good.longest.joined;
-        longest = λ other after e j. front_longest good.items j.0 good.front (pending ++ b ∷ []) other after good.joining now (sym whole ∙ e) j.1;
+        longest = λ other after e j. prefix_longest good.items j.0 good.prefix (pending ++ b ∷ []) other after good.joining now (sym whole ∙ e) j.1;
       };
       broken = λ more j.
-          let all : good.front ++ ((pending ++ b ∷ []) ++ more) ≡ ((line ++ b ∷ []) ++ more) ++ [] =
-          sym (append_assoc good.front (pending ++ b ∷ []) more) ∙ ap (λ l. l ++ more) (sym whole) ∙ sym (append-nil ((line ++ b ∷ []) ++ more)) in
-          let less : length ((line ++ b ∷ []) ++ more) ≤ length good.front = front_longest good.items j.0 good.front ((pending ++ b ∷ []) ++ more) ((line ++ b ∷ []) ++ more) []
+          let all : good.prefix ++ ((pending ++ b ∷ []) ++ more) ≡ ((line ++ b ∷ []) ++ more) ++ [] =
+          sym (append_assoc good.prefix (pending ++ b ∷ []) more) ∙ ap (λ l. l ++ more) (sym whole) ∙ sym (append-nil ((line ++ b ∷ []) ++ more)) in
+          let less : length ((line ++ b ∷ []) ++ more) ≤ length good.prefix = prefix_longest good.items j.0 good.prefix ((pending ++ b ∷ []) ++ more) ((line ++ b ∷ []) ++ more) []
           good.joining (none more) all j.1 in
           let long : length ((line ++ b ∷ []) ++ more) ≡ length (line ++ b ∷ []) + length more = length-append (line ++ b ∷ []) more in
-          let before : length (line ++ b ∷ []) ≡ length good.front + (length pending + 1) =
-          ap length whole ∙ length-append good.front (pending ++ b ∷ []) ∙ ap (λ k. length good.front + k) (length-append pending (b ∷ [])) in
+          let before : length (line ++ b ∷ []) ≡ length good.prefix + (length pending + 1) =
+          ap length whole ∙ length-append good.prefix (pending ++ b ∷ []) ∙ ap (λ k. length good.prefix + k) (length-append pending (b ∷ [])) in
           absurd (omega arith);
-      column_is = column_is n (length good.front) good.count_is;
+      column_is = column_is n (length good.prefix) good.count_is;
     }
 
--- A front of a line and further bytes that is no longer than the line is a front of the line.
+-- A prefix of a line and further bytes that is no longer than the line is a prefix of the line.
 cut : (other line t after : List ℕ) → line ++ t ≡ other ++ after → length other ≤ length line → (s : List ℕ) × (line ≡ other ++ s)
 cut [] line t after e le = (line, refl)
 cut (x ∷ o) [] t after e le = absurd (omega arith)
@@ -191,10 +191,10 @@ cut (x ∷ o) (y ∷ l) t after e le =
 -- A faulty line stays faulty with one more byte.
 pub faulty_more : (line : List ℕ) (b column : ℕ) → IsFaultyLine line column → IsFaultyLine (line ++ b ∷ []) column
 faulty_more line b column faulty = record {
-  front = faulty.front;
+  prefix = faulty.prefix;
   rest = faulty.rest ++ b ∷ [];
   longest = record {
-    whole = grown line faulty.front faulty.rest b faulty.longest.whole;
+    whole = grown line faulty.prefix faulty.rest b faulty.longest.whole;
     joined = faulty.longest.joined;
     longest = λ other after e j.
         let parts : length line + 1 ≡ length other + length after = sym (length-append line (b ∷ [])) ∙ ap length e ∙ length-append other after in
@@ -213,7 +213,7 @@ faulty_more line b column faulty = record {
 -- A faulty line that ends has a bad escape.
 pub faulty_end : (line : List ℕ) (column : ℕ) → IsFaultyLine line column → IsBadEscape line column
 faulty_end line column faulty = record {
-  front = faulty.front;
+  prefix = faulty.prefix;
   rest = faulty.rest;
   longest = faulty.longest;
   broken = λ j. faulty.broken [] (subst IsJoined (sym (append-nil line)) j);
@@ -224,21 +224,21 @@ faulty_end line column faulty = record {
 pub pending_end : (line pending : List ℕ) (n : ℕ) (known : Option (List Item)) → IsGoodLine line n known pending → 0 < length pending
     → IsBadEscape line (min (n + 1) most_bytes)
 pending_end line pending n known good some = record {
-  front = good.front;
+  prefix = good.prefix;
   rest = pending;
   longest = good.longest;
   broken = λ j.
       let less = good.longest.longest line [] (sym (append-nil line)) j in
-      let parts : length line ≡ length good.front + length pending = ap length good.longest.whole ∙ length-append good.front pending in
+      let parts : length line ≡ length good.prefix + length pending = ap length good.longest.whole ∙ length-append good.prefix pending in
       absurd (omega arith);
-  column_is = column_is n (length good.front) good.count_is;
+  column_is = column_is n (length good.prefix) good.count_is;
 }
 
 -- A line has only one column of a bad escape.
 fault_column : (line : List ℕ) (a b : ℕ) → IsBadEscape line a → IsBadEscape line b → a ≡ b
 fault_column line a b p q =
-    let one = q.longest.longest p.front p.rest p.longest.whole p.longest.joined in
-    let two = p.longest.longest q.front q.rest q.longest.whole q.longest.joined in
+    let one = q.longest.longest p.prefix p.rest p.longest.whole p.longest.joined in
+    let two = p.longest.longest q.prefix q.rest q.longest.whole q.longest.joined in
     p.column_is ∙ ap (λ n. min (n + 1) most_bytes) (omega arith) ∙ sym q.column_is
 
 -- A line means only one thing.
@@ -264,7 +264,7 @@ faulty_some line column faulty e = faulty.broken [] ([], ap (λ l. l ++ []) e)
 -- A good line that is empty has a count of 0 and nothing pending.
 pub good_empty_counts : (line pending : List ℕ) (n : ℕ) (known : Option (List Item)) → IsGoodLine line n known pending → line ≡ [] → (n ≡ 0) × (length pending ≡ 0)
 good_empty_counts line pending n known good e =
-    let parts : length line ≡ length good.front + length pending = ap length good.longest.whole ∙ length-append good.front pending in
+    let parts : length line ≡ length good.prefix + length pending = ap length good.longest.whole ∙ length-append good.prefix pending in
     let none : length line ≡ 0 = ap length e in
     let c = good.count_is in (omega arith, omega arith)
 

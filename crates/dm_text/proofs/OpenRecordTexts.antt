@@ -1,7 +1,7 @@
 -- Texts in which a record stands open, as they grow.
 use Rattle.std.proofs.Common.{◌≡◌, ◌≢◌, ◌∙◌, ℕ, true, false, List, [], ◌∷◌, ◌++◌, refl, sym, ap, subst, append_assoc, append-nil}
 use Rattle.std.proofs.lemmas.Grind.{flat_map-append}
-use Rattle.dm_text.specs.Texts.{lf, HasNoLf, ended}
+use Rattle.dm_text.specs.Texts.{lf, HasNoLf, ended_lines}
 use Rattle.dm_text.specs.Records.{AreLfs, AreFullLines, IsOpenRecord}
 use Rattle.dm_text.specs.RecordFacts.{RecordFacts, AreRecordFacts, contents_of, facts_of_record}
 use Rattle.dm_text.proofs.Texts.{no_lf_append}
@@ -32,7 +32,7 @@ grown_character text f g lines rest b known n e h =
       open_record = record {
         blank = old.blank;
         are_lfs = old.are_lfs;
-        whole = more_of text old.blank (ended known.lines) known.rest b old.whole;
+        whole = more_of text old.blank (ended_lines known.lines) known.rest b old.whole;
         full = old.full;
         rest_no_lf = no_lf_append known.rest (b ∷ []) old.rest_no_lf (n, tt);
       };
@@ -52,8 +52,8 @@ grown_characters text f g lines rest (b ∷ more) known n e h =
     (h ∙ ap (facts_of_record lines) (sym (append_assoc rest (b ∷ []) more))))
 
 -- Lines and one more, each followed by LF, are the lines followed by LF and then that line followed by LF.
-pub ended_more : (lines : List (List ℕ)) (line : List ℕ) → ended (lines ++ line ∷ []) ≡ ended lines ++ (line ++ lf ∷ [])
-ended_more lines line = flat_map-append (λ l. l ++ lf ∷ []) lines (line ∷ []) ∙ ap (λ l. ended lines ++ l) (append-nil (line ++ lf ∷ []))
+pub ended_more : (lines : List (List ℕ)) (line : List ℕ) → ended_lines (lines ++ line ∷ []) ≡ ended_lines lines ++ (line ++ lf ∷ [])
+ended_more lines line = flat_map-append (λ l. l ++ lf ∷ []) lines (line ∷ []) ∙ ap (λ l. ended_lines lines ++ l) (append-nil (line ++ lf ∷ []))
 
 -- Full lines and one more full line are full lines.
 pub full_more : (lines : List (List ℕ)) (line : List ℕ) → AreFullLines lines → line ≢ [] → HasNoLf line → AreFullLines (lines ++ line ∷ [])
@@ -75,7 +75,7 @@ by_rest text f g lines x r theirs (y ∷ s) old known e h = record {
   open_record = record {
     blank = old.blank;
     are_lfs = old.are_lfs;
-    whole = more_of text old.blank (ended theirs) (y ∷ s) lf old.whole ∙ ap (λ l. old.blank ++ l) (sym (ended_more theirs (y ∷ s)) ∙ sym (append-nil (ended (theirs ++ (y ∷ s) ∷ []))));
+    whole = more_of text old.blank (ended_lines theirs) (y ∷ s) lf old.whole ∙ ap (λ l. old.blank ++ l) (sym (ended_more theirs (y ∷ s)) ∙ sym (append-nil (ended_lines (theirs ++ (y ∷ s) ∷ []))));
     full = full_more theirs (y ∷ s) old.full (λ k. cc) old.rest_no_lf;
     rest_no_lf = tt;
   };
@@ -90,7 +90,7 @@ grown_end text f g lines x r known e h = by_rest text f g lines x r known.lines 
 
 -- Full lines, each followed by LF, after a text whose open record has no rest are further lines of that record.
 pub grown_lines : (text : List ℕ) (f : RecordFacts) (lines more : List (List ℕ)) → AreRecordFacts text f → f ≡ facts_of_record lines [] → AreFullLines more
-    → AreRecordFacts (text ++ ended more) (facts_of_record (lines ++ more) [])
+    → AreRecordFacts (text ++ ended_lines more) (facts_of_record (lines ++ more) [])
 grown_lines text f lines [] known e full =
     subst (λ (l : List ℕ). AreRecordFacts l (facts_of_record (lines ++ []) [])) (sym (append-nil text))
     (subst (λ (k : RecordFacts). AreRecordFacts text k) (e ∙ ap (λ l. facts_of_record l []) (sym (append-nil lines))) known)
@@ -99,10 +99,10 @@ grown_lines text f lines ((x ∷ r) ∷ more) known e full =
     let begun = grown_characters text f (facts_of_record lines (x ∷ r)) lines [] (x ∷ r) known full.0.1 e refl in
     let one = grown_end (text ++ x ∷ r) (facts_of_record lines (x ∷ r)) (facts_of_record (lines ++ (x ∷ r) ∷ []) []) lines x r begun refl refl in
     let others = grown_lines ((text ++ x ∷ r) ++ lf ∷ []) (facts_of_record (lines ++ (x ∷ r) ∷ []) []) (lines ++ (x ∷ r) ∷ []) more one refl full.1 in
-    let bytes : ((text ++ x ∷ r) ++ lf ∷ []) ++ ended more ≡ text ++ (((x ∷ r) ++ lf ∷ []) ++ ended more) =
-    ap (λ l. l ++ ended more) (append_assoc text (x ∷ r) (lf ∷ [])) ∙ append_assoc text ((x ∷ r) ++ lf ∷ []) (ended more) in
+    let bytes : ((text ++ x ∷ r) ++ lf ∷ []) ++ ended_lines more ≡ text ++ (((x ∷ r) ++ lf ∷ []) ++ ended_lines more) =
+    ap (λ l. l ++ ended_lines more) (append_assoc text (x ∷ r) (lf ∷ [])) ∙ append_assoc text ((x ∷ r) ++ lf ∷ []) (ended_lines more) in
     subst (λ (l : List ℕ). AreRecordFacts l (facts_of_record (lines ++ (x ∷ r) ∷ more) [])) bytes
-    (subst (λ (l : List (List ℕ)). AreRecordFacts (((text ++ x ∷ r) ++ lf ∷ []) ++ ended more) (facts_of_record l [])) (append_assoc lines ((x ∷ r) ∷ []) more) others)
+    (subst (λ (l : List (List ℕ)). AreRecordFacts (((text ++ x ∷ r) ++ lf ∷ []) ++ ended_lines more) (facts_of_record l [])) (append_assoc lines ((x ∷ r) ∷ []) more) others)
 
 -- Bytes that are all LF stay so with one LF more.
 lfs_more : (blank : List ℕ) → AreLfs blank → AreLfs (blank ++ lf ∷ [])
@@ -114,7 +114,7 @@ pub grown_blank : (text : List ℕ) (f : RecordFacts) → AreRecordFacts text f 
 grown_blank text f known none =
     let old = known.open_record in
     let both = nothing_lines known.lines known.rest (ap (λ k. no_lines k.contents) (sym known.facts_are) ∙ none) in
-    let is : text ≡ old.blank = old.whole ∙ ap (λ l. old.blank ++ (ended l ++ known.rest)) both.0 ∙ ap (λ l. old.blank ++ ([] ++ l)) both.1 ∙ append-nil old.blank in
+    let is : text ≡ old.blank = old.whole ∙ ap (λ l. old.blank ++ (ended_lines l ++ known.rest)) both.0 ∙ ap (λ l. old.blank ++ ([] ++ l)) both.1 ∙ append-nil old.blank in
     record {
       lines = [];
       rest = [];

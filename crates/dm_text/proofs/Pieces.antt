@@ -5,14 +5,14 @@ use Rattle.std.proofs.Math.Seq.{drop-cons, take-add}
 use Rattle.dm_text.proofs.KnownBytes.{rest_is}
 
 -- A piece is what was taken of it, then the next bytes, then all that is left.
-pub cut_here : (piece front rest : List ℕ) (taken : ℕ) → piece ≡ front ++ rest → piece ≡ (front ++ take taken rest) ++ drop taken rest
-cut_here piece front rest taken whole =
-    whole ∙ ap (λ l. front ++ l) (sym (take-append-drop taken rest)) ∙ sym (append_assoc front (take taken rest) (drop taken rest))
+pub cut_here : (piece prefix rest : List ℕ) (taken : ℕ) → piece ≡ prefix ++ rest → piece ≡ (prefix ++ take taken rest) ++ drop taken rest
+cut_here piece prefix rest taken whole =
+    whole ∙ ap (λ l. prefix ++ l) (sym (take-append-drop taken rest)) ∙ sym (append_assoc prefix (take taken rest) (drop taken rest))
 
 -- A piece is what was taken of it, then the next bytes, then the slice of the rest.
-pub cut_again : (piece front rest : List ℕ) (taken : ℕ) → piece ≡ front ++ rest → piece ≡ (front ++ take taken rest) ++ take (length rest - taken) (drop taken rest)
-cut_again piece front rest taken whole =
-    cut_here piece front rest taken whole ∙ ap (λ l. (front ++ take taken rest) ++ l) (sym (rest_is rest taken))
+pub cut_again : (piece prefix rest : List ℕ) (taken : ℕ) → piece ≡ prefix ++ rest → piece ≡ (prefix ++ take taken rest) ++ take (length rest - taken) (drop taken rest)
+cut_again piece prefix rest taken whole =
+    cut_here piece prefix rest taken whole ∙ ap (λ l. (prefix ++ take taken rest) ++ l) (sym (rest_is rest taken))
 
 -- The slice of the rest is as long as what is left.
 pub rest_length : (rest : List ℕ) (taken : ℕ) → length (take (length rest - taken) (drop taken rest)) ≡ length rest - taken

@@ -13,15 +13,15 @@ use Rattle.dm_text.specs.declared.rows.Rows.{Rows}
 use Rattle.dm_text.specs.declared.record.RecordFault.{RecordFault}
 use Rattle.dm_text.specs.declared.record.RecordFault.TheVariants as fault
 use Rattle.dm_text.specs.Texts.{last_line}
-use Rattle.dm_text.specs.Records.{is_square, record_of, rows_of, sized}
+use Rattle.dm_text.specs.Records.{is_square, record_of, rows_of, grid_of_size}
 use Rattle.dm_text.specs.RecordFacts.{differ}
 use Rattle.dm_text.specs.inner.OpenRecords.{HoldsLines, cells_in, line_count, number_of}
 use Rattle.dm_text.proofs.KeptRows.{cells_are, counted}
-use Rattle.dm_text.proofs.RecordAnswers.{and_parts, square_by_facts, square_tells}
+use Rattle.dm_text.proofs.RecordMeanings.{and_parts, square_by_facts, square_tells}
 
 -- Lines that are held make a grid if they are square, and else have this fault.
 abbrev by_square : Bool → List (List ℕ) → Result GridView RecordFault
-by_square t lines = if t then sized (row_with_side (length lines)) lines else Err fault.NotSquare
+by_square t lines = if t then grid_of_size (row_with_side (length lines)) lines else Err fault.NotSquare
 
 -- Lines that are held come to a grid or a fault by whether they are square.
 comes_to : (t : Rows) (lines : List (List ℕ)) (rest : List ℕ) (s : Bool) → HoldsLines t lines rest → is_square (lines ++ last_line rest) ≡ s
@@ -64,7 +64,7 @@ square_rows lines all =
     (length-map lines (map (λ b. b == 49))) (λ r l. row_at (length lines) lines r all l))
 
 -- Rows that are those of the lines make the grid of their size.
-same_grid : (size : Option SizeRow) (lines : List (List ℕ)) (g : GridView) → size ≡ Some g.size → g.rows ≡ rows_of lines → Ok g ≡ sized size lines
+same_grid : (size : Option SizeRow) (lines : List (List ℕ)) (g : GridView) → size ≡ Some g.size → g.rows ≡ rows_of lines → Ok g ≡ grid_of_size size lines
 same_grid size lines g e f = rw e (ap (λ rows. Ok (let k : GridView = record { size = g.size; rows = rows } in k)) f)
 
 -- The length of the first of square lines is the number of the lines.
@@ -89,7 +89,7 @@ none_by rows_fault.NotSquare n rows e f g = absurd (f refl e)
 none_by rows_fault.NoSuchSize n rows e f g = g refl
 
 -- Lines of a side that no size has come to that fault.
-no_size : (size : Option SizeRow) (lines : List (List ℕ)) → IsNone size → Err (fault.NoSuchSize (length lines)) ≡ sized size lines
+no_size : (size : Option SizeRow) (lines : List (List ℕ)) → IsNone size → Err (fault.NoSuchSize (length lines)) ≡ grid_of_size size lines
 no_size None lines h = refl
 no_size (Some size) lines h = cc
 

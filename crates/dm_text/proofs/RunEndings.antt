@@ -7,8 +7,8 @@ use Rattle.dm_text.specs.declared.task.Tally.{Tally}
 use Rattle.dm_text.specs.declared.task.RunFault.{RunFault}
 use Rattle.dm_text.specs.declared.task.RunFault.TheVariants as fault
 use Rattle.dm_text.specs.Answers.{table_text}
-use Rattle.dm_text.specs.Devices.{AppendsFront, HasRisen, IsFlushedOnce}
-use Rattle.dm_text.specs.Runs.{IsRun, IsAnswered, HasWrittenFront, HasWrittenOutSoFar, IsFlushedAtEnd, IsTooMuch, most_asked, tally_of}
+use Rattle.dm_text.specs.Devices.{AppendsPrefix, HasRisen, IsFlushedOnce}
+use Rattle.dm_text.specs.Runs.{IsRun, IsAnswered, HasWrittenPrefix, HasWrittenOutSoFar, IsFlushedAtEnd, IsTooMuch, most_asked, tally_of}
 use Rattle.dm_text.proofs.Flushes.{table_flushed}
 use Rattle.dm_text.proofs.Outcomes.{table_answered, table_broken}
 
@@ -82,10 +82,10 @@ ends_by_too_much written read wrote none asked = record {
   asked = asked;
 }
 
--- Where a write or a flush failed, a beginning of what is due is written, and a flush was tried at the end alone.
+-- Where a write or a flush failed, a prefix of what is due is written, and a flush was tried at the end alone.
 pub ends_by_write : {task : Task} {most : ℕ} {Gave : List ℕ → Type 0} {Ended : Type 0} {Asked : ℕ → Type 0} {r s : ℕ} {old new : Option (List ℕ)}
     {Flushed : List ℕ → Type 0} {pending : Bool} {w v : ℕ}
-    → HasWrittenFront task most Gave Ended (AppendsFront old new) → HasRisen w v → s ≡ r → IsFlushedAtEnd task most Gave Ended Flushed old new → IsAsked most Gave Asked
+    → HasWrittenPrefix task most Gave Ended (AppendsPrefix old new) → HasRisen w v → s ≡ r → IsFlushedAtEnd task most Gave Ended Flushed old new → IsAsked most Gave Asked
     → IsRun task most (Err fault.Write) Gave Ended Asked r s old new Flushed pending w v
 ends_by_write began risen read late asked = record {
   answered = tt;
@@ -108,12 +108,12 @@ ends_by_write began risen read late asked = record {
 pub ends_table : {task : Task} {most : ℕ} {Gave : List ℕ → Type 0} {Ended : Type 0} {Asked : ℕ → Type 0} {r : ℕ} {old new : Option (List ℕ)}
     {Flushed : List ℕ → Type 0} {pending : Bool} {w v : ℕ} (result : Result Tally RunFault) → task ≡ Table → Gave []
     → IfOk result (λ tally. tally ≡ tally_of []) → OnOk result (Appends old new table_text) → OnOk result (pending ≡ false) → OnOk result (v ≡ w)
-    → OnErr result (AppendsFront old new table_text) → OnErr result (HasRisen w v) → ((why : RunFault) → IsErrOf result why → why ≡ fault.Write)
+    → OnErr result (AppendsPrefix old new table_text) → OnErr result (HasRisen w v) → ((why : RunFault) → IsErrOf result why → why ≡ fault.Write)
     → OnOk result (IsFlushedOnce Flushed old new) → OnErr result (Flushed [] ⊎ (IsFlushedOnce Flushed old new × Appends old new table_text)) → IsAsked most Gave Asked
     → IsRun task most result Gave Ended Asked r r old new Flushed pending w v
-ends_table {task} {most} {Gave} {Ended} {Asked} {r} {old} {new} {Flushed} {pending} {w} {v} (Ok tally) table gave none took flushed wrote front risen fails held late asked =
+ends_table {task} {most} {Gave} {Ended} {Asked} {r} {old} {new} {Flushed} {pending} {w} {v} (Ok tally) table gave none took flushed wrote prefix risen fails held late asked =
     ends_well tally (table_answered task most Gave (Appends old new) Ended (Ok tally) table gave none took) flushed held refl wrote asked
-ends_table {task} {most} {Gave} {Ended} {Asked} {r} {old} {new} {Flushed} {pending} {w} {v} (Err why) table gave none took flushed wrote front risen fails held late asked =
+ends_table {task} {most} {Gave} {Ended} {Asked} {r} {old} {new} {Flushed} {pending} {w} {v} (Err why) table gave none took flushed wrote prefix risen fails held late asked =
     subst (λ e. IsRun task most (Err e) Gave Ended Asked r r old new Flushed pending w v) (sym (fails why refl))
-    (ends_by_write (table_broken task most Gave (AppendsFront old new) Ended (Err fault.Write) table gave front refl) risen refl
+    (ends_by_write (table_broken task most Gave (AppendsPrefix old new) Ended (Err fault.Write) table gave prefix refl) risen refl
     (table_flushed task most Gave Flushed Ended old new (Err fault.Write) table gave late refl) asked)

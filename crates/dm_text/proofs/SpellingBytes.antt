@@ -14,14 +14,14 @@ data Begins (bytes : List ℕ) : Type 0 where
   with_fnc1 : (rest : List ℕ) → bytes ≡ 92 ∷ 70 ∷ rest → Begins bytes
   with_byte : (s t u v : ℕ) (rest : List ℕ) → IsHexDigit s u → IsHexDigit t v → bytes ≡ 92 ∷ 120 ∷ s ∷ t ∷ rest → Begins bytes
 
--- Bytes at whose front a spelling stands begin with one of the four kinds.
+-- Bytes at whose start a spelling stands begin with one of the four kinds.
 begins : (bytes piece more : List ℕ) (item : Item) → bytes ≡ piece ++ more → IsSpelling piece item → Begins bytes
 begins bytes piece more item e (plain c l h n p i) = with_plain c more l h n (e ∙ ap (λ q. q ++ more) p)
 begins bytes piece more item e (backslash p i) = with_backslash more (e ∙ ap (λ q. q ++ more) p)
 begins bytes piece more item e (fnc1 p i) = with_fnc1 more (e ∙ ap (λ q. q ++ more) p)
 begins bytes piece more item e (byte s t u v hs ht p i) = with_byte s t u v more hs ht (e ∙ ap (λ q. q ++ more) p)
 
--- Bytes that begin with none of the four kinds have no spelling at their front.
+-- Bytes that begin with none of the four kinds have no spelling at their start.
 none_if : (bytes : List ℕ) → (Begins bytes → ⊥) → BeginsNoSpelling bytes
 none_if bytes never piece more item e h = never (begins bytes piece more item e h)
 
@@ -32,7 +32,7 @@ backslash_alone (with_backslash rest e) = let s : 1 ≡ suc (suc (length rest)) 
 backslash_alone (with_fnc1 rest e) = let s : 1 ≡ suc (suc (length rest)) = ap length e in omega arith
 backslash_alone (with_byte s t u v rest a b e) = let s : 1 ≡ suc (suc (suc (suc (length rest)))) = ap length e in omega arith
 
--- No spelling stands at the front of a backslash by itself.
+-- No spelling stands at the start of a backslash by itself.
 pub backslash_none : BeginsNoSpelling (92 ∷ [])
 backslash_none = none_if (92 ∷ []) backslash_alone
 
@@ -47,7 +47,7 @@ hexadecimal_alone (with_backslash rest e) = let s = heads 120 92 [] rest (tails 
 hexadecimal_alone (with_fnc1 rest e) = let s = heads 120 70 [] rest (tails 92 92 (120 ∷ []) (70 ∷ rest) e) in omega arith
 hexadecimal_alone (with_byte s t u v rest a b e) = let s : 2 ≡ suc (suc (suc (suc (length rest)))) = ap length e in omega arith
 
--- No spelling stands at the front of a backslash and x by themselves.
+-- No spelling stands at the start of a backslash and x by themselves.
 pub hexadecimal_none : BeginsNoSpelling (92 ∷ 120 ∷ [])
 hexadecimal_none = none_if (92 ∷ 120 ∷ []) hexadecimal_alone
 
@@ -66,7 +66,7 @@ digit_alone d (with_backslash rest e) = let s = heads 120 92 (d ∷ []) rest (ta
 digit_alone d (with_fnc1 rest e) = let s = heads 120 70 (d ∷ []) rest (tails 92 92 (120 ∷ d ∷ []) (70 ∷ rest) e) in omega arith
 digit_alone d (with_byte s t u v rest a b e) = let s : 3 ≡ suc (suc (suc (suc (length rest)))) = ap length e in omega arith
 
--- No spelling stands at the front of a backslash, x and a digit by themselves.
+-- No spelling stands at the start of a backslash, x and a digit by themselves.
 pub digit_none : (d : ℕ) → BeginsNoSpelling (92 ∷ 120 ∷ d ∷ [])
 digit_none d = none_if (92 ∷ 120 ∷ d ∷ []) (digit_alone d)
 
@@ -81,7 +81,7 @@ foreign_first b more out n (with_backslash rest e) = n (heads b 92 more (92 ∷ 
 foreign_first b more out n (with_fnc1 rest e) = n (heads b 92 more (70 ∷ rest) e)
 foreign_first b more out n (with_byte s t u v rest _ _ e) = n (heads b 92 more (120 ∷ s ∷ t ∷ rest) e)
 
--- No spelling stands at the front of bytes that begin with one outside 32 to 126.
+-- No spelling stands at the start of bytes that begin with one outside 32 to 126.
 pub foreign_none : (b : ℕ) (more : List ℕ) → (32 ≤ b → b ≤ 126 → ⊥) → b ≢ 92 → BeginsNoSpelling (b ∷ more)
 foreign_none b more out n = none_if (b ∷ more) (foreign_first b more out n)
 
@@ -92,7 +92,7 @@ stray_second b more n m o (with_backslash rest e) = n (heads b 92 more rest (tai
 stray_second b more n m o (with_fnc1 rest e) = m (heads b 70 more rest (tails 92 92 (b ∷ more) (70 ∷ rest) e))
 stray_second b more n m o (with_byte s t u v rest _ _ e) = o (heads b 120 more (s ∷ t ∷ rest) (tails 92 92 (b ∷ more) (120 ∷ s ∷ t ∷ rest) e))
 
--- No spelling stands at the front of a backslash and a byte other than the backslash, F and x.
+-- No spelling stands at the start of a backslash and a byte other than the backslash, F and x.
 pub stray_none : (b : ℕ) (more : List ℕ) → b ≢ 92 → b ≢ 70 → b ≢ 120 → BeginsNoSpelling (92 ∷ b ∷ more)
 stray_none b more n m o = none_if (92 ∷ b ∷ more) (stray_second b more n m o)
 
@@ -105,7 +105,7 @@ no_first_digit b more never (with_byte s t u v rest hs ht e) =
     let same : b ≡ s = heads b s more (t ∷ rest) (tails 120 120 (b ∷ more) (s ∷ t ∷ rest) (tails 92 92 (120 ∷ b ∷ more) (120 ∷ s ∷ t ∷ rest) e)) in
     never u (rw same hs)
 
--- No spelling stands at the front of a backslash, x and a byte that is no digit.
+-- No spelling stands at the start of a backslash, x and a byte that is no digit.
 pub first_digit_none : (b : ℕ) (more : List ℕ) → ((u : ℕ) → IsHexDigit b u → ⊥) → BeginsNoSpelling (92 ∷ 120 ∷ b ∷ more)
 first_digit_none b more never = none_if (92 ∷ 120 ∷ b ∷ more) (no_first_digit b more never)
 
@@ -119,6 +119,6 @@ no_second_digit d b more never (with_byte s t u v rest hs ht e) =
     let same : b ≡ t = heads b t more rest (tails d s (b ∷ more) (t ∷ rest) digits) in
     never v (rw same ht)
 
--- No spelling stands at the front of a backslash, x, a byte and a byte that is no digit.
+-- No spelling stands at the start of a backslash, x, a byte and a byte that is no digit.
 pub second_digit_none : (d b : ℕ) (more : List ℕ) → ((u : ℕ) → IsHexDigit b u → ⊥) → BeginsNoSpelling (92 ∷ 120 ∷ d ∷ b ∷ more)
 second_digit_none d b more never = none_if (92 ∷ 120 ∷ d ∷ b ∷ more) (no_second_digit d b more never)

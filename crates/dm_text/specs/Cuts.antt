@@ -9,8 +9,8 @@ use Rattle.dm_text.specs.Runs.{AreMatched, IsOut, tally_of}
 -- A text of records ends between them if it is empty or ends with an empty line, and a text of message lines ends
 -- between them if it is empty or ends with LF.
 abbrev pub EndsBetween : Task → List ℕ → Type 0
-EndsBetween (Write profile) text = (text ≡ []) ⊎ ((front : List ℕ) × (text ≡ front ++ lf ∷ []))
-EndsBetween task text = (text ≡ []) ⊎ ((text ≡ lf ∷ []) ⊎ ((front : List ℕ) × (text ≡ front ++ lf ∷ lf ∷ [])))
+EndsBetween (Write profile) text = (text ≡ []) ⊎ ((prefix : List ℕ) × (text ≡ prefix ++ lf ∷ []))
+EndsBetween task text = (text ≡ []) ⊎ ((text ≡ lf ∷ []) ⊎ ((prefix : List ℕ) × (text ≡ prefix ++ lf ∷ lf ∷ [])))
 
 -- Each part of a text but the last ends between records, or between message lines.
 abbrev pub AreCutBetween : Task → List (List ℕ) → Type 0
@@ -28,10 +28,10 @@ abbrev pub AreOuts : Task → List (List ℕ) → List PartOut → Type 0
 AreOuts task parts outs = AreMatched (λ part given. IsOut task part given.out given.tally) parts outs
 
 -- The sum of two tallies adds up their answers and their refusals.
-abbrev pub added : Tally → Tally → Tally
-added s t = record { answered = s.answered + t.answered; refused = s.refused + t.refused }
+abbrev pub tally_sum : Tally → Tally → Tally
+tally_sum s t = record { answered = s.answered + t.answered; refused = s.refused + t.refused }
 
 -- The sum of a list of tallies adds up all their answers and all their refusals.
 abbrev pub sum_of : List Tally → Tally
 sum_of [] = tally_of []
-sum_of (tally ∷ tallies) = added tally (sum_of tallies)
+sum_of (tally ∷ tallies) = tally_sum tally (sum_of tallies)

@@ -22,9 +22,9 @@ abbrev pub Marks : {T E : Type 0} → Bool → Bool → Result T E → ℕ → T
 Marks old new (Ok x) n = new ≡ cond (nat_lt 0 n) true old
 Marks old new (Err e) n = new ≡ old
 
--- The known bytes of a device grow by a beginning of these bytes.
-abbrev pub AppendsFront : Option (List ℕ) → Option (List ℕ) → List ℕ → Type 0
-AppendsFront old new bytes = (front : List ℕ) × (rest : List ℕ) × (bytes ≡ front ++ rest) × Appends old new front
+-- The known bytes of a device grow by a prefix of these bytes.
+abbrev pub AppendsPrefix : Option (List ℕ) → Option (List ℕ) → List ℕ → Type 0
+AppendsPrefix old new bytes = (prefix : List ℕ) × (rest : List ℕ) × (bytes ≡ prefix ++ rest) × Appends old new prefix
 
 -- A sink whose bytes are known was flushed once, and since that flush it has taken no further byte.
 abbrev pub IsFlushedOnce : (List ℕ → Type 0) → Option (List ℕ) → Option (List ℕ) → Type 0

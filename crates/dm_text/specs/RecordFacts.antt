@@ -1,4 +1,4 @@
--- What a grid feed has to know of an open record, so that it can answer the record when it ends.
+-- What a grid feed has to know of an open record, so that it can give the record's meaning when it ends.
 use Rattle.std.specs.Prelude.{◌≡◌, ◌==◌, ◌&&◌, ℕ, Bool, true, false, not, if◌then◌else◌, List, [], ◌∷◌, ◌++◌, length, Option, Some, None}
 use Rattle.std.specs.List.{list_any}
 use Rattle.dm_text.specs.Texts.{last_line}

@@ -5,7 +5,7 @@ use Rattle.dm_symbol.specs.Sizes.{SizeRow, largest_side, row_with_side}
 use Rattle.dm_symbol.specs.Grid.{GridView}
 use Rattle.dm_text.specs.declared.record.RecordFault.{RecordFault}
 use Rattle.dm_text.specs.declared.record.RecordFault.TheVariants.{Character, Large, NotSquare, NoSuchSize}
-use Rattle.dm_text.specs.Texts.{lf, HasNoLf, ended}
+use Rattle.dm_text.specs.Texts.{lf, HasNoLf, ended_lines}
 
 -- ---- where records stand
 
@@ -22,7 +22,7 @@ AreFullLines lines = AllByRecursion (λ line. (line ≢ []) × HasNoLf line) lin
 pub record IsOpenRecord (text : List ℕ) (lines : List (List ℕ)) (rest : List ℕ) : Type 0 where
   pub blank : List ℕ
   pub are_lfs : AreLfs blank
-  pub whole : text ≡ blank ++ (ended lines ++ rest)
+  pub whole : text ≡ blank ++ (ended_lines lines ++ rest)
   pub full : AreFullLines lines
   pub rest_no_lf : HasNoLf rest
 
@@ -30,7 +30,7 @@ pub record IsOpenRecord (text : List ℕ) (lines : List (List ℕ)) (rest : List
 pub record IsClosedRecord (text : List ℕ) (lines : List (List ℕ)) : Type 0 where
   pub blank : List ℕ
   pub are_lfs : AreLfs blank
-  pub whole : text ≡ blank ++ (ended lines ++ lf ∷ [])
+  pub whole : text ≡ blank ++ (ended_lines lines ++ lf ∷ [])
   pub full : AreFullLines lines
   pub some : lines ≢ []
 
@@ -40,14 +40,14 @@ BeginsBlank [] = Unit {0}
 BeginsBlank ([] ∷ lines) = Unit {0}
 BeginsBlank ((b ∷ line) ∷ lines) = ⊥
 
--- The records in some lines are the longest runs of lines that aren't empty.
+-- The records in some lines are the longest stretches of lines that aren't empty.
 pub data AreRecords : List (List ℕ) → List (List (List ℕ)) → Type 0 where
   -- Where no line is left there is no record.
   no_line : AreRecords [] []
   -- An empty line belongs to no record.
   empty_line : (lines : List (List ℕ)) (records : List (List (List ℕ))) → AreRecords lines records → AreRecords ([] ∷ lines) records
-  -- A run of full lines that no further line makes longer is a record.
-  longest_run : (these lines : List (List ℕ)) (records : List (List (List ℕ))) → these ≢ [] → AreFullLines these → BeginsBlank lines
+  -- A stretch of full lines that no further line makes longer is a record.
+  longest_stretch : (these lines : List (List ℕ)) (records : List (List (List ℕ))) → these ≢ [] → AreFullLines these → BeginsBlank lines
       → AreRecords lines records → AreRecords (these ++ lines) (these ∷ records)
 
 -- ---- what a record comes to
@@ -73,14 +73,14 @@ abbrev pub rows_of : List (List ℕ) → List (List Bool)
 rows_of lines = map (map (λ b. b == 49)) lines
 
 -- Square lines make the grid of this size, if there is one with their side; otherwise their fault is that there is none.
-abbrev pub sized : Option SizeRow → List (List ℕ) → Result GridView RecordFault
-sized (Some size) lines = Ok (record { size = size; rows = rows_of lines })
-sized None lines = Err (NoSuchSize (length lines))
+abbrev pub grid_of_size : Option SizeRow → List (List ℕ) → Result GridView RecordFault
+grid_of_size (Some size) lines = Ok (record { size = size; rows = rows_of lines })
+grid_of_size None lines = Err (NoSuchSize (length lines))
 
 -- The lines of a record make a grid, or have a fault; of several faults the first counts.
 abbrev pub record_of : List (List ℕ) → Result GridView RecordFault
 record_of lines =
     if has_foreign lines then Err Character
     else if is_large lines then Err Large
-    else if is_square lines then sized (row_with_side (length lines)) lines
+    else if is_square lines then grid_of_size (row_with_side (length lines)) lines
     else Err NotSquare

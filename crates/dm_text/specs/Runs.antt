@@ -7,12 +7,12 @@ use Rattle.dm_text.specs.declared.task.Task.TheVariants.{Write, Table}
 use Rattle.dm_text.specs.declared.task.Tally.{Tally}
 use Rattle.dm_text.specs.declared.task.RunFault.{RunFault}
 use Rattle.dm_text.specs.declared.task.RunFault.TheVariants as fault
-use Rattle.dm_text.specs.Devices.{AppendsFront, HasRisen, IsFlushedOnce}
+use Rattle.dm_text.specs.Devices.{AppendsPrefix, HasRisen, IsFlushedOnce}
 use Rattle.dm_text.specs.Texts.{IsSplit, last_line}
 use Rattle.dm_text.specs.Records.{AreRecords, record_of}
 use Rattle.dm_text.specs.RecordFeeds.{IsLastBlank}
 use Rattle.dm_text.specs.MessageLines.{IsLine}
-use Rattle.dm_text.specs.LineFeeds.{LineAnswer}
+use Rattle.dm_text.specs.LineFeeds.{LineMeaning}
 use Rattle.dm_text.specs.Answers.{Answer, IsRecordAnswer, IsWriteAnswer, table_text}
 
 -- ---- what is written for a text
@@ -29,7 +29,7 @@ IsAnswerToRecord task lines answer = IsRecordAnswer task (record_of lines) answe
 
 -- A message line is answered, under a profile, by what it means.
 abbrev pub IsAnswerToLine : Profile → List ℕ → Answer → Type 0
-IsAnswerToLine profile line answer = (message : LineAnswer) × IsLine line message × IsWriteAnswer profile message answer
+IsAnswerToLine profile line answer = (message : LineMeaning) × IsLine line message × IsWriteAnswer profile message answer
 
 -- The records in some lines are answered, each in order.
 abbrev pub AreAnswersToRecords : Task → List (List ℕ) → List Answer → Type 0
@@ -48,7 +48,7 @@ pub record AreAllAnswers (task : Task) (text : List ℕ) (answers : List Answer)
   pub split : IsSplit text lines rest
   pub answered : AreAnswersTo task (lines ++ last_line rest) answers
 
--- Of the lines of a text that LF ends, the closed ones are the front in which every record or message line is closed:
+-- Of the lines of a text that LF ends, the closed ones are the prefix in which every record or message line is closed:
 -- for message lines all of them, for records those up to the last empty line.
 abbrev pub AreClosedLines : Task → List (List ℕ) → List (List ℕ) → Type 0
 AreClosedLines (Write profile) lines closed = closed ≡ lines
@@ -65,10 +65,10 @@ pub record AreClosedAnswers (task : Task) (text : List ℕ) (answers : List Answ
   pub answered : AreAnswersTo task closed answers
 
 -- For a list of answers their texts are written, one after another.
-abbrev pub written : List Answer → List ℕ
-written answers = flat_map (λ a. a.text) answers
+abbrev pub answers_text : List Answer → List ℕ
+answers_text answers = flat_map (λ a. a.text) answers
 
--- The tally of some answers counts those that are no refusals, and those that are.
+-- The tally of some answers counts as answered those that are no refusals, and as refused those that are.
 abbrev pub tally_of : List Answer → Tally
 tally_of answers = record { answered = count_by (λ a. not a.refused) answers; refused = count_by (λ a. a.refused) answers }
 
@@ -76,18 +76,18 @@ tally_of answers = record { answered = count_by (λ a. not a.refused) answers; r
 -- tally. For the table the text counts as empty: the table is written, and nothing is counted.
 abbrev pub IsOut : Task → List ℕ → List ℕ → Tally → Type 0
 IsOut Table text out tally = (text ≡ []) × (out ≡ table_text) × (tally ≡ tally_of [])
-IsOut task text out tally = (answers : List Answer) × AreAllAnswers task text answers × (out ≡ written answers) × (tally ≡ tally_of answers)
+IsOut task text out tally = (answers : List Answer) × AreAllAnswers task text answers × (out ≡ answers_text answers) × (tally ≡ tally_of answers)
 
 -- For a text that may go on the answers to the records or lines that are closed within it are written, one after
 -- another. For the table, whose text counts as empty, the table is written.
 abbrev pub IsOutSoFar : Task → List ℕ → List ℕ → Type 0
 IsOutSoFar Table text done = (text ≡ []) × (done ≡ table_text)
-IsOutSoFar task text done = (answers : List Answer) × AreClosedAnswers task text answers × (done ≡ written answers)
+IsOutSoFar task text done = (answers : List Answer) × AreClosedAnswers task text answers × (done ≡ answers_text answers)
 
 -- ---- how it ends
 
 -- Between two moments a source gave exactly these bytes (`Gave`) and saw its end (`Ended`), and a sink took exactly these bytes (`Took`) or a
--- beginning of them (`TookFront`), and was flushed when it had taken as many bytes as these numbers say (`Flushed`).
+-- prefix of them (`TookPrefix`), and was flushed when it had taken as many bytes as these numbers say (`Flushed`).
 
 -- The source has come to its end; for the table, which reads nothing, this always holds.
 abbrev pub HasEnded : Task → Type 0 → Type 0
@@ -128,22 +128,22 @@ pub record IsTooMuch (task : Task) (most : ℕ) (Gave Took : List ℕ → Type 0
   pub is_done : IsOutSoFar task text done
   pub took : Took done
 
--- The sink took a beginning of what is written for what is closed within a text.
+-- The sink took a prefix of what is written for what is closed within a text.
 abbrev pub HasBegunOutSoFar : Task → List ℕ → (List ℕ → Type 0) → Type 0
-HasBegunOutSoFar task text TookFront = (done : List ℕ) × IsOutSoFar task text done × TookFront done
+HasBegunOutSoFar task text TookPrefix = (done : List ℕ) × IsOutSoFar task text done × TookPrefix done
 
--- The sink took a beginning of what is written for a text as a whole.
+-- The sink took a prefix of what is written for a text as a whole.
 abbrev pub HasBegunOut : Task → List ℕ → (List ℕ → Type 0) → Type 0
-HasBegunOut task text TookFront = (out : List ℕ) × (tally : Tally) × IsOut task text out tally × TookFront out
+HasBegunOut task text TookPrefix = (out : List ℕ) × (tally : Tally) × IsOut task text out tally × TookPrefix out
 
--- A beginning has been written if the source gave a text of at most `most` bytes, and the sink took a beginning of
+-- A prefix has been written if the source gave a text of at most `most` bytes, and the sink took a prefix of
 -- what is written for what is closed within it or, if the source had ended, of what is written for the text as a
 -- whole. Which of the sink's calls failed isn't told.
-pub record HasWrittenFront (task : Task) (most : ℕ) (Gave : List ℕ → Type 0) (Ended : Type 0) (TookFront : List ℕ → Type 0) : Type 0 where
+pub record HasWrittenPrefix (task : Task) (most : ℕ) (Gave : List ℕ → Type 0) (Ended : Type 0) (TookPrefix : List ℕ → Type 0) : Type 0 where
   pub text : List ℕ
   pub gave : Gave text
   pub within : length text ≤ most
-  pub began : HasBegunOutSoFar task text TookFront ⊎ (HasEnded task Ended × HasBegunOut task text TookFront)
+  pub began : HasBegunOutSoFar task text TookPrefix ⊎ (HasEnded task Ended × HasBegunOut task text TookPrefix)
 
 -- The most bytes that may have been asked for, counted from the first: `most`, and once
 -- all of these have come, one more.
@@ -179,9 +179,9 @@ pub record IsRun (task : Task) (most : ℕ) (outcome : Result Tally RunFault)
   pub too_much : IsErrOf outcome fault.TooMuchInput → IsTooMuch task most Gave (Appends old new)
   pub too_much_well : IsErrOf outcome fault.TooMuchInput → (reads_failed_now ≡ reads_failed) × (writes_failed_now ≡ writes_failed)
   pub too_much_unflushed : IsErrOf outcome fault.TooMuchInput → Flushed []
-  -- A write or a flush failed: a beginning of what is due is written, the sink alone failed, and only a flush after all
+  -- A write or a flush failed: a prefix of what is due is written, the sink alone failed, and only a flush after all
   -- was answered was tried.
-  pub write : IsErrOf outcome fault.Write → HasWrittenFront task most Gave Ended (AppendsFront old new)
+  pub write : IsErrOf outcome fault.Write → HasWrittenPrefix task most Gave Ended (AppendsPrefix old new)
   pub write_failed : IsErrOf outcome fault.Write → HasRisen writes_failed writes_failed_now × (reads_failed_now ≡ reads_failed)
   pub write_flushed : IsErrOf outcome fault.Write → IsFlushedAtEnd task most Gave Ended Flushed old new
   -- In each case no byte was asked for beyond those that may be.

@@ -37,13 +37,13 @@ upper_digit value = if nat_lt value 10 then 48 + value else 55 + value
 
 -- A byte of 32 to 126 is written as itself, but the backslash twice; any other byte is written with two upper-case
 -- digits, and FNC1 as `\F`.
-abbrev pub spelled : Item → List ℕ
-spelled (Byte b) =
+abbrev pub spelling_of : Item → List ℕ
+spelling_of (Byte b) =
     if b == 92 then 92 ∷ 92 ∷ []
     else if nat_le 32 b && nat_le b 126 then b ∷ []
     else 92 ∷ 120 ∷ upper_digit (b / 16) ∷ upper_digit (b % 16) ∷ []
-spelled Fnc1 = 92 ∷ 70 ∷ []
+spelling_of Fnc1 = 92 ∷ 70 ∷ []
 
 -- The text of a message is its items, as they are written, joined.
 abbrev pub text_of : List Item → List ℕ
-text_of items = flat_map spelled items
+text_of items = flat_map spelling_of items

@@ -1,4 +1,4 @@
--- Texts, split at line feeds.
+-- Texts, split at LF.
 use Rattle.std.specs.Prelude.{◌≡◌, ◌≢◌, ℕ, List, [], ◌∷◌, ◌++◌, flat_map}
 use Rattle.std.specs.List.{AllByRecursion}
 
@@ -11,12 +11,12 @@ abbrev pub HasNoLf : List ℕ → Type 0
 HasNoLf bytes = AllByRecursion (λ b. b ≢ lf) bytes
 
 -- Lines are written each followed by LF.
-abbrev pub ended : List (List ℕ) → List ℕ
-ended lines = flat_map (λ line. line ++ lf ∷ []) lines
+abbrev pub ended_lines : List (List ℕ) → List ℕ
+ended_lines lines = flat_map (λ line. line ++ lf ∷ []) lines
 
 -- A text is split at LF into lines without LF, each followed by LF, and a rest without LF.
 pub record IsSplit (text : List ℕ) (lines : List (List ℕ)) (rest : List ℕ) : Type 0 where
-  pub whole : text ≡ ended lines ++ rest
+  pub whole : text ≡ ended_lines lines ++ rest
   pub lines_no_lf : AllByRecursion HasNoLf lines
   pub rest_no_lf : HasNoLf rest
 

@@ -1,21 +1,25 @@
 //! What is written for a record or a line.
 
-ghost use Rattle.std.specs.Prelude.{◌≡◌, ◌<◌, ◌≤◌, ◌+◌, ◌∷◌, ◌++◌, [], length};
-ghost use Rattle.dm_text.specs.Answers.{IsCheckAnswer, IsNormalAnswer, IsReadAnswer, IsRecordAnswer, IsWriteAnswer, blank_refusal_answer, check_text, grid_answer, limit_for, line_answer, refusal_answer};
+ghost use Rattle.std.specs.Prelude.{◌≡◌, ◌↔◌, ◌<◌, ◌≤◌, ◌+◌, ◌∷◌, ◌++◌, [], IsTrue, length};
+ghost use Rattle.dm_text.specs.Answers.{Answer as AnAnswer, IsCheckAnswer, IsNormalAnswer, IsReadAnswer, IsRecordAnswer, IsWriteAnswer, refusal_in_place_of_grid, check_text, grid_answer, border_limit_for, line_answer, refusal_answer};
 ghost use Rattle.dm_text.specs.inner.AnsweredSoFar.{as_task};
+ghost use Rattle.dm_text.specs.inner.Gathering.{Gathers};
 ghost use Rattle.dm_symbol.specs.Outcomes.{outcome};
-ghost use Rattle.dm_text.specs.inner.OpenLines.{pointed_to};
+ghost use Rattle.dm_text.specs.inner.OpenLines.{meaning_by_value};
 ghost use Rattle.dm_text.specs.Spellings.{text_of};
 ghost use Rattle.dm_text.specs.Refusals.{line_refusal, normal_refusal, read_refusal, record_refusal, too_long_refusal};
 
 use crate::message_line::{LineFault, push_items};
-use crate::printed::{AnswerText, MOST_ANSWER, push_decimal, push_grid, push_spaced};
+use crate::printed::{
+    GatheredText, MOST_ANSWER, MOST_GATHERED, push_decimal, push_grid, push_spaced,
+};
 use crate::record::RecordFault;
 use crate::refusal::{
     push_line_refusal, push_normal_refusal, push_read_refusal, push_record_refusal,
     push_too_long_refusal,
 };
 use crate::task::RecordTask;
+use crate::text::LF;
 use arrayvec::ArrayVec;
 use dm_symbol::{
     Grid, MOST_BLOCKS, Message, NormalFault, Profile, ReadFault, Reading, TooLong, light_grid,
@@ -26,133 +30,151 @@ use std::marker::Model;
 /// More bytes than the longest line of counts has.
 const MOST_COUNTS: usize = 160;
 
-/// What is written for a record or a line, with its LFs, and whether it is a refusal.
+/// Answers that are gathered, to be written together: what is written for records or lines, each with its LFs.
 #[derive(Drop)]
-pub(crate) struct Answer {
-    text: AnswerText,
+pub(crate) struct Answers {
+    text: GatheredText,
+    /// Whether the last answer is a refusal.
     refused: bool,
 }
 
-impl Model for Answer {
-    ghost use Rattle.dm_text.specs.Answers.{Answer as AnAnswer};
+impl Model for Answers {
+    ghost use Rattle.dm_text.specs.inner.Gathering.{GatheredAnswers};
 
-    ghost Value = { AnAnswer };
+    ghost Value = { GatheredAnswers };
 
     ghost view = { λ a. record { text = a.text.items; refused = a.refused } };
 }
 
-impl Answer {
-    /// An answer in which nothing is written.
-    pub(crate) fn none() -> Answer {
-        Answer {
-            text: AnswerText::new(),
+impl Answers {
+    /// Begins with no answer.
+    pub(crate) fn new() -> Answers
+        ensures { result.text ≡ [] }
+    {
+        Answers {
+            text: GatheredText::new(),
             refused: false,
         }
     }
 
-    /// Becomes the text of a message, as a line.
-    fn be_message(&mut self, message: &Message)
-        ensures { self.new ≡ line_answer (text_of message.now) }
-    {
-        self.begin(false);
-        push_items(&mut self.text, message.items());
-        self.text.push_all(b"\n");
-    }
-
-    /// Becomes a line that says how damaged a grid of this side is.
-    fn be_counts(&mut self, side: u16, reading: &Reading)
-        ensures { self.new ≡ line_answer (check_text side reading.now) }
-    {
-        self.begin(false);
-        push_counts(&mut self.text, side, reading);
-        self.text.push_all(b"\n");
-    }
-
-    /// Becomes the refusal of a record.
-    fn refuse_record(&mut self, fault: RecordFault)
-        ensures { self.new ≡ refusal_answer (record_refusal fault) }
-    {
-        self.begin(true);
-        push_record_refusal(&mut self.text, fault);
-        self.text.push_all(b"\n");
-    }
-
-    /// Becomes the refusal of a grid that is not read.
-    fn refuse_reading(&mut self, fault: ReadFault)
-        ensures { self.new ≡ refusal_answer (read_refusal fault) }
-    {
-        self.begin(true);
-        push_read_refusal(&mut self.text, fault);
-        self.text.push_all(b"\n");
-    }
-
-    /// Becomes the refusal of a record, and an empty line.
-    fn refuse_record_for_grid(&mut self, fault: RecordFault)
-        ensures { self.new ≡ blank_refusal_answer (record_refusal fault) }
-    {
-        self.begin(true);
-        push_record_refusal(&mut self.text, fault);
-        self.text.push_all(b"\n\n");
-    }
-
-    /// Becomes the refusal of a grid that has no normal grid, and an empty line.
-    fn refuse_normal(&mut self, fault: NormalFault)
-        ensures { self.new ≡ blank_refusal_answer (normal_refusal fault) }
-    {
-        self.begin(true);
-        push_normal_refusal(&mut self.text, fault);
-        self.text.push_all(b"\n\n");
-    }
-
-    /// Becomes the refusal of a line, and an empty line.
-    fn refuse_line(&mut self, fault: LineFault)
-        ensures { self.new ≡ blank_refusal_answer (line_refusal fault) }
-    {
-        self.begin(true);
-        push_line_refusal(&mut self.text, fault);
-        self.text.push_all(b"\n\n");
-    }
-
-    /// Becomes the refusal of a message that fits no size, and an empty line.
-    fn refuse_too_long(&mut self)
-        ensures { self.new ≡ blank_refusal_answer too_long_refusal }
-    {
-        self.begin(true);
-        push_too_long_refusal(&mut self.text);
-        self.text.push_all(b"\n\n");
-    }
-
-    /// Becomes a grid, and an empty line.
-    fn be_grid(&mut self, grid: &Grid)
-        ensures { self.new ≡ grid_answer grid.now }
-    {
-        self.begin(false);
-        push_grid(&mut self.text, grid);
-        self.text.push_all(b"\n");
-    }
-
-    /// Begins an answer, in which nothing is written yet.
-    fn begin(&mut self, refused: bool)
-        ensures text { self.new.text ≡ [] }
-        ensures refused { self.new.refused ≡ refused }
+    /// Forgets all answers.
+    pub(crate) fn clear(&mut self)
+        ensures { self.new.text ≡ [] }
     {
         self.text.clear();
-        self.refused = refused;
     }
 
-    /// What is written.
+    /// Gives what is written for the answers, one after another.
     pub(crate) fn text(&self) -> &[u8]
-        ensures value { result.now ≡ self.now.text }
-        ensures most { length result.now ≤ MOST_ANSWER }
+        ensures { result.now ≡ self.now.text }
     {
         self.text.as_slice()
     }
 
-    /// Whether it is a refusal.
-    pub(crate) fn is_refusal(&self) -> bool
+    /// Whether the last answer is a refusal.
+    pub(crate) fn last_is_refusal(&self) -> bool
         ensures { result ≡ self.now.refused }
     {
         self.refused
+    }
+
+    /// Whether there is room for a further answer, whatever it is.
+    pub(crate) fn has_room(&self) -> bool
+        ensures { IsTrue result ↔ (length self.now.text + MOST_ANSWER ≤ MOST_GATHERED) }
+    {
+        self.text.len() <= MOST_GATHERED - MOST_ANSWER
+    }
+
+    // Each of these gathers one more answer; there is room for it.
+
+    /// Gathers the text of a message, as a line.
+    fn add_message(&mut self, message: &Message)
+        requires { length self.old.text + MOST_ANSWER ≤ MOST_GATHERED }
+        ensures { Gathers self.old (line_answer (text_of message.now)) self.new }
+    {
+        self.refused = false;
+        push_items(&mut self.text, message.items());
+        self.text.push(LF);
+    }
+
+    /// Gathers a line that says how damaged a grid of this side is.
+    fn add_counts(&mut self, side: u16, reading: &Reading)
+        requires { length self.old.text + MOST_ANSWER ≤ MOST_GATHERED }
+        ensures { Gathers self.old (line_answer (check_text side reading.now)) self.new }
+    {
+        self.refused = false;
+        push_counts(&mut self.text, side, reading);
+        self.text.push(LF);
+    }
+
+    /// Gathers a grid, and an empty line.
+    fn add_grid(&mut self, grid: &Grid)
+        requires { length self.old.text + MOST_ANSWER ≤ MOST_GATHERED }
+        ensures { Gathers self.old (grid_answer grid.now) self.new }
+    {
+        self.refused = false;
+        push_grid(&mut self.text, grid);
+        self.text.push(LF);
+    }
+
+    /// Gathers the refusal of a record.
+    fn refuse_record(&mut self, fault: RecordFault)
+        requires { length self.old.text + MOST_ANSWER ≤ MOST_GATHERED }
+        ensures { Gathers self.old (refusal_answer (record_refusal fault)) self.new }
+    {
+        self.refused = true;
+        push_record_refusal(&mut self.text, fault);
+        self.text.push(LF);
+    }
+
+    /// Gathers the refusal of a grid that is not read.
+    fn refuse_reading(&mut self, fault: ReadFault)
+        requires { length self.old.text + MOST_ANSWER ≤ MOST_GATHERED }
+        ensures { Gathers self.old (refusal_answer (read_refusal fault)) self.new }
+    {
+        self.refused = true;
+        push_read_refusal(&mut self.text, fault);
+        self.text.push(LF);
+    }
+
+    /// Gathers the refusal of a record, and an empty line.
+    fn refuse_record_in_place_of_grid(&mut self, fault: RecordFault)
+        requires { length self.old.text + MOST_ANSWER ≤ MOST_GATHERED }
+        ensures { Gathers self.old (refusal_in_place_of_grid (record_refusal fault)) self.new }
+    {
+        self.refused = true;
+        push_record_refusal(&mut self.text, fault);
+        self.text.push_all(b"\n\n");
+    }
+
+    /// Gathers the refusal of a grid that has no normal grid, and an empty line.
+    fn refuse_normal(&mut self, fault: NormalFault)
+        requires { length self.old.text + MOST_ANSWER ≤ MOST_GATHERED }
+        ensures { Gathers self.old (refusal_in_place_of_grid (normal_refusal fault)) self.new }
+    {
+        self.refused = true;
+        push_normal_refusal(&mut self.text, fault);
+        self.text.push_all(b"\n\n");
+    }
+
+    /// Gathers the refusal of a line, and an empty line.
+    fn refuse_line(&mut self, fault: LineFault)
+        requires { length self.old.text + MOST_ANSWER ≤ MOST_GATHERED }
+        ensures { Gathers self.old (refusal_in_place_of_grid (line_refusal fault)) self.new }
+    {
+        self.refused = true;
+        push_line_refusal(&mut self.text, fault);
+        self.text.push_all(b"\n\n");
+    }
+
+    /// Gathers the refusal of a message that fits no size, and an empty line.
+    fn refuse_too_long(&mut self)
+        requires { length self.old.text + MOST_ANSWER ≤ MOST_GATHERED }
+        ensures { Gathers self.old (refusal_in_place_of_grid too_long_refusal) self.new }
+    {
+        self.refused = true;
+        push_too_long_refusal(&mut self.text);
+        self.text.push_all(b"\n\n");
     }
 }
 
@@ -168,7 +190,7 @@ pub(crate) struct Targets {
 }
 
 impl Targets {
-    /// Targets in which nothing that was asked for stands yet.
+    /// Gives targets with a light grid and an empty reading.
     pub(crate) fn new() -> Targets {
         Targets {
             grid: light_grid(),
@@ -178,23 +200,26 @@ impl Targets {
     }
 }
 
-// An answer has room for the largest grid, and so have the targets. So there is one of each for all records and lines,
-// which is handed to each of these functions; what stood in them before doesn't matter.
+// The targets have room for the largest grid. So there is one of each for all records and lines, which is handed to each of
+// these functions; what stood in them before doesn't matter. The answer is gathered behind the others.
 
 /// Answers a record where grids are read, checked or normalised. Its grid, if it is one, stands in `targets.grid`.
 pub(crate) fn answer_record(
     task: RecordTask,
     found: Result<(), RecordFault>,
     targets: &mut Targets,
-    answer: &mut Answer,
+    answers: &mut Answers,
 )
-    ensures { IsRecordAnswer (as_task task) (outcome found targets.old.grid) answer.new }
+    requires { length answers.old.text + MOST_ANSWER ≤ MOST_GATHERED }
+    ensures { (answer : AnAnswer)
+        × IsRecordAnswer (as_task task) (outcome found targets.old.grid) answer
+        × Gathers answers.old answer answers.new }
 {
     match task {
-        RecordTask::Read(border) => answer_read(border, found, targets, answer),
-        RecordTask::Check(border) => answer_check(border, found, targets, answer),
+        RecordTask::Read(border) => answer_read(border, found, targets, answers),
+        RecordTask::Check(border) => answer_check(border, found, targets, answers),
         RecordTask::Normal(border, profile) => answer_normal(
-            border, profile, found, targets, answer,
+            border, profile, found, targets, answers,
         ),
     }
 }
@@ -204,16 +229,19 @@ pub(crate) fn answer_line(
     profile: Profile,
     line: Result<&Message, LineFault>,
     grid: &mut Grid,
-    answer: &mut Answer,
+    answers: &mut Answers,
 )
-    ensures { IsWriteAnswer profile (pointed_to line.entry) answer.new }
+    requires { length answers.old.text + MOST_ANSWER ≤ MOST_GATHERED }
+    ensures { (answer : AnAnswer)
+        × IsWriteAnswer profile (meaning_by_value line.entry) answer
+        × Gathers answers.old answer answers.new }
 {
     match line {
         Ok(message) => match write_to(profile, message, grid) {
-            Ok(()) => answer.be_grid(grid),
-            Err(TooLong) => answer.refuse_too_long(),
+            Ok(()) => answers.add_grid(grid),
+            Err(TooLong) => answers.refuse_too_long(),
         },
-        Err(fault) => answer.refuse_line(fault),
+        Err(fault) => answers.refuse_line(fault),
     }
 }
 
@@ -222,19 +250,22 @@ fn answer_read(
     border: Option<u16>,
     found: Result<(), RecordFault>,
     targets: &mut Targets,
-    answer: &mut Answer,
+    answers: &mut Answers,
 )
-    ensures { IsReadAnswer border (outcome found targets.old.grid) answer.new }
+    requires { length answers.old.text + MOST_ANSWER ≤ MOST_GATHERED }
+    ensures { (answer : AnAnswer)
+        × IsReadAnswer border (outcome found targets.old.grid) answer
+        × Gathers answers.old answer answers.new }
 {
     match found {
         Ok(()) => {
-            let limit = limit_for(border, &targets.grid);
+            let limit = border_limit_for(border, &targets.grid);
             match read_to(&targets.grid, limit, &mut targets.reading) {
-                Ok(()) => answer.be_message(&targets.reading.message),
-                Err(fault) => answer.refuse_reading(fault),
+                Ok(()) => answers.add_message(&targets.reading.message),
+                Err(fault) => answers.refuse_reading(fault),
             }
         }
-        Err(fault) => answer.refuse_record(fault),
+        Err(fault) => answers.refuse_record(fault),
     }
 }
 
@@ -243,19 +274,22 @@ fn answer_check(
     border: Option<u16>,
     found: Result<(), RecordFault>,
     targets: &mut Targets,
-    answer: &mut Answer,
+    answers: &mut Answers,
 )
-    ensures { IsCheckAnswer border (outcome found targets.old.grid) answer.new }
+    requires { length answers.old.text + MOST_ANSWER ≤ MOST_GATHERED }
+    ensures { (answer : AnAnswer)
+        × IsCheckAnswer border (outcome found targets.old.grid) answer
+        × Gathers answers.old answer answers.new }
 {
     match found {
         Ok(()) => {
-            let limit = limit_for(border, &targets.grid);
+            let limit = border_limit_for(border, &targets.grid);
             match read_to(&targets.grid, limit, &mut targets.reading) {
-                Ok(()) => answer.be_counts(targets.grid.size().side(), &targets.reading),
-                Err(fault) => answer.refuse_reading(fault),
+                Ok(()) => answers.add_counts(targets.grid.size().side(), &targets.reading),
+                Err(fault) => answers.refuse_reading(fault),
             }
         }
-        Err(fault) => answer.refuse_record(fault),
+        Err(fault) => answers.refuse_record(fault),
     }
 }
 
@@ -265,13 +299,16 @@ fn answer_normal(
     profile: Profile,
     found: Result<(), RecordFault>,
     targets: &mut Targets,
-    answer: &mut Answer,
+    answers: &mut Answers,
 )
-    ensures { IsNormalAnswer border profile (outcome found targets.old.grid) answer.new }
+    requires { length answers.old.text + MOST_ANSWER ≤ MOST_GATHERED }
+    ensures { (answer : AnAnswer)
+        × IsNormalAnswer border profile (outcome found targets.old.grid) answer
+        × Gathers answers.old answer answers.new }
 {
     match found {
         Ok(()) => {
-            let limit = limit_for(border, &targets.grid);
+            let limit = border_limit_for(border, &targets.grid);
             match normal_to(
                 profile,
                 &targets.grid,
@@ -279,17 +316,17 @@ fn answer_normal(
                 &mut targets.reading,
                 &mut targets.normal,
             ) {
-                Ok(()) => answer.be_grid(&targets.normal),
-                Err(fault) => answer.refuse_normal(fault),
+                Ok(()) => answers.add_grid(&targets.normal),
+                Err(fault) => answers.refuse_normal(fault),
             }
         }
-        Err(fault) => answer.refuse_record_for_grid(fault),
+        Err(fault) => answers.refuse_record_in_place_of_grid(fault),
     }
 }
 
-/// The border limit for a grid: the number given, else the usual one of its side.
-fn limit_for(border: Option<u16>, grid: &Grid) -> u16
-    ensures { result ≡ limit_for border grid.now.size.side }
+/// Gives the border limit for a grid: the number given, else the usual one of its side.
+fn border_limit_for(border: Option<u16>, grid: &Grid) -> u16
+    ensures { result ≡ border_limit_for border grid.now.size.side }
 {
     match border {
         Some(limit) => limit,
@@ -298,8 +335,8 @@ fn limit_for(border: Option<u16>, grid: &Grid) -> u16
 }
 
 /// Appends how damaged a grid of this side is; there is room for the longest such line.
-fn push_counts(text: &mut AnswerText, side: u16, reading: &Reading)
-    requires { length text.old.items + MOST_COUNTS ≤ MOST_ANSWER }
+fn push_counts(text: &mut GatheredText, side: u16, reading: &Reading)
+    requires { length text.old.items + MOST_COUNTS ≤ MOST_GATHERED }
     ensures text { text.new.items ≡ text.old.items ++ check_text side reading.now }
     ensures room { length text.new.items ≤ length text.old.items + MOST_COUNTS }
 {
@@ -311,7 +348,7 @@ fn push_counts(text: &mut AnswerText, side: u16, reading: &Reading)
     push_spaced(text, &widen(&reading.corrected));
 }
 
-/// The same numbers, each in 16 bits.
+/// Gives the same numbers, each in 16 bits.
 fn widen(counts: &ArrayVec<u8, MOST_BLOCKS>) -> ArrayVec<u16, MOST_BLOCKS>
     ensures { result.items ≡ counts.now.items }
 {

@@ -9,15 +9,15 @@ use std::io;
 #[derive(Clone, Copy, Debug, PartialEq, Eq)]
 pub struct Failed;
 
-/// The answer of a device: each error is a failure, and is counted.
+/// Gives what a call of a device came to, and counts each error as a failure.
 ///
 /// The count stays at `u64::MAX` once it has reached it.
-pub(crate) fn count_failure<T>(failures: &mut u64, answer: io::Result<T>) -> Result<T, Failed>
-    ensures ok { IfOk answer (λ x. result ≡ Ok x) }
-    ensures err { OnErr answer (IsErr result) }
+pub(crate) fn count_failure<T>(failures: &mut u64, outcome: io::Result<T>) -> Result<T, Failed>
+    ensures ok { IfOk outcome (λ x. result ≡ Ok x) }
+    ensures err { OnErr outcome (IsErr result) }
     ensures count { Counts failures.old failures.new result }
 {
-    match answer {
+    match outcome {
         Ok(value) => Ok(value),
         Err(_) => Err(failure(failures)),
     }

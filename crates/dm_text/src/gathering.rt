@@ -2,77 +2,42 @@
 
 ghost use Rattle.std.specs.Prelude.{◌≡◌, ◌≤◌, ◌+◌, [], OnOk, OnErr, length};
 ghost use Rattle.std.specs.Io.KnownBytes.{Appends};
-ghost use Rattle.dm_text.specs.Devices.{AppendsFront, Counts};
+ghost use Rattle.dm_text.specs.Devices.{AppendsPrefix, Counts};
 ghost use Rattle.dm_text.specs.inner.Gathering.{IsPassedOn};
 
+use crate::answer::Answers;
 use crate::device::Failed;
-use crate::printed::MOST_ANSWER;
+use crate::printed::{MOST_ANSWER, MOST_GATHERED};
 use crate::sink::{Sink, put};
-use crate::text::Text;
 
-/// The most bytes of answers that wait to be written: those of three of the largest grids.
-const MOST_GATHERED: usize = 3 * MOST_ANSWER;
-
-/// Answers that are to be written together.
-pub(crate) type Gathered = Text<MOST_GATHERED>;
-
-/// Gathers the bytes of an answer. Where there is no room for them, all that is gathered is written first.
-pub(crate) fn gather<O: Sink>(
-    sink: &mut O,
-    gathered: &mut Gathered,
-    bytes: &[u8],
-) -> Result<(), Failed>
-    requires { length bytes.now ≤ MOST_ANSWER }
+/// Makes room for a further answer: where there is none, all that is gathered is written.
+pub(crate) fn make_room<O: Sink>(sink: &mut O, answers: &mut Answers) -> Result<(), Failed>
     ensures ok { OnOk result
-        (IsPassedOn (O.contents sink.old) gathered.old.items bytes.now (O.contents sink.new)
-        gathered.new.items) }
+        (IsPassedOn (O.contents sink.old) answers.old.text [] (O.contents sink.new)
+        answers.new.text) }
+    ensures room { OnOk result (length answers.new.text + MOST_ANSWER ≤ MOST_GATHERED) }
     ensures err { OnErr result
-        (AppendsFront (O.contents sink.old) (O.contents sink.new) gathered.old.items) }
+        (AppendsPrefix (O.contents sink.old) (O.contents sink.new) answers.old.text) }
     ensures unflushed { O.flushed sink.old sink.new [] }
     ensures count { Counts (O.failed sink.old) (O.failed sink.new) result }
 {
-    match make_room(sink, gathered, bytes.len()) {
-        Ok(()) => {
-            gathered.push_all(bytes);
-            Ok(())
-        }
-        Err(Failed) => Err(Failed),
-    }
-}
-
-/// Makes room for so many more bytes: where there is none, all that is gathered is written.
-fn make_room<O: Sink>(sink: &mut O, gathered: &mut Gathered, count: usize) -> Result<(), Failed>
-    requires { count ≤ MOST_ANSWER }
-    ensures ok { OnOk result
-        (IsPassedOn (O.contents sink.old) gathered.old.items [] (O.contents sink.new)
-        gathered.new.items) }
-    ensures room { OnOk result (length gathered.new.items + count ≤ MOST_GATHERED) }
-    ensures err { OnErr result
-        (AppendsFront (O.contents sink.old) (O.contents sink.new) gathered.old.items) }
-    ensures unflushed { O.flushed sink.old sink.new [] }
-    ensures count { Counts (O.failed sink.old) (O.failed sink.new) result }
-{
-    if gathered.len() + count <= MOST_GATHERED {
+    if answers.has_room() {
         return Ok(());
     }
-    put_gathered(sink, gathered)
+    put_answers(sink, answers)
 }
 
 /// Writes all that is gathered.
-pub(crate) fn put_gathered<O: Sink>(sink: &mut O, gathered: &mut Gathered) -> Result<(), Failed>
+pub(crate) fn put_answers<O: Sink>(sink: &mut O, answers: &mut Answers) -> Result<(), Failed>
     ensures ok { OnOk result
-        (Appends (O.contents sink.old) (O.contents sink.new) gathered.old.items) }
-    ensures empty { OnOk result (gathered.new.items ≡ []) }
+        (Appends (O.contents sink.old) (O.contents sink.new) answers.old.text) }
+    ensures empty { OnOk result (answers.new.text ≡ []) }
     ensures err { OnErr result
-        (AppendsFront (O.contents sink.old) (O.contents sink.new) gathered.old.items) }
+        (AppendsPrefix (O.contents sink.old) (O.contents sink.new) answers.old.text) }
     ensures unflushed { O.flushed sink.old sink.new [] }
     ensures count { Counts (O.failed sink.old) (O.failed sink.new) result }
 {
-    match put(sink, gathered.as_slice()) {
-        Ok(()) => {
-            gathered.clear();
-            Ok(())
-        }
-        Err(Failed) => Err(Failed),
-    }
+    put(sink, answers.text())?;
+    answers.clear();
+    Ok(())
 }

@@ -3,16 +3,19 @@
 ghost use Rattle.std.specs.Prelude.{◌≡◌, [], ℕ, List, IfNone, IfSome, length};
 ghost use Rattle.dm_text.specs.Records.{AreLfs};
 ghost use Rattle.dm_text.specs.RecordFacts.{AreRecordFacts};
-ghost use Rattle.dm_text.specs.RecordFeeds.{ClosesRecord, IsLastRecord, LeavesRecordOpen};
+ghost use Rattle.dm_text.specs.RecordFeeds.{ClosesRecord, LastRecordMeans, LeavesRecordOpen};
 ghost use Rattle.dm_symbol.specs.Outcomes.{outcome};
 
 use crate::record::{OpenRecord, RecordFault};
 use dm_symbol::{Grid, light_grid};
 use std::marker::Model;
 
-/// Cuts a text that comes in pieces into records, the longest runs of lines that are not empty. It holds the record
+/// Cuts a text that comes in pieces into records, the longest stretches of lines that are not empty. It holds the record
 /// that stands open, but no more of it than a grid can have: once a byte other than 0, 1 and LF has come, or the
 /// record is too large, it holds only that.
+///
+/// In contracts it is the `RecordFacts` (`specs/RecordFacts.antt`) of the text since the last record. The clauses `some_text` say
+/// that there is such a text, so that what a clause says of each of them isn't empty.
 #[derive(Drop)]
 pub struct GridFeed {
     record: OpenRecord,
@@ -41,7 +44,7 @@ pub struct Fed {
 }
 
 impl GridFeed {
-    /// A feed in which no record stands open.
+    /// Begins a feed in which no record stands open.
     pub fn new() -> Self
         ensures { AreRecordFacts [] result }
     {
@@ -57,7 +60,7 @@ impl GridFeed {
         ensures open { IfNone result.closed
             (LeavesRecordOpen self.old piece.now result.taken self.new) }
         ensures closed { IfSome result.closed
-            (λ answer. ClosesRecord self.old piece.now result.taken answer self.new) }
+            (λ meaning. ClosesRecord self.old piece.now result.taken meaning self.new) }
         ensures some_text { (text : List ℕ) × AreRecordFacts text self.old }
     {
         let mut grid = light_grid();
@@ -78,7 +81,8 @@ impl GridFeed {
         ensures none { IfNone result
             ((text : List ℕ) → AreRecordFacts text self.old → AreLfs text) }
         ensures last { IfSome result
-            (λ answer. (text : List ℕ) → AreRecordFacts text self.old → IsLastRecord text answer) }
+            (λ meaning. (text : List ℕ) → AreRecordFacts text self.old
+            → LastRecordMeans text meaning) }
         ensures empty { AreRecordFacts [] self.new }
         ensures some_text { (text : List ℕ) × AreRecordFacts text self.old }
     {
@@ -116,7 +120,7 @@ impl GridFeed {
             ((text : List ℕ) → AreRecordFacts text self.old → AreLfs text) }
         ensures last { IfSome result
             (λ found. (text : List ℕ) → AreRecordFacts text self.old
-            → IsLastRecord text (outcome found grid.new)) }
+            → LastRecordMeans text (outcome found grid.new)) }
         ensures empty { AreRecordFacts [] self.new }
         ensures some_text { (text : List ℕ) × AreRecordFacts text self.old }
     {
@@ -127,7 +131,7 @@ impl GridFeed {
     }
 }
 
-/// The grid of a record, or the record's fault.
+/// Gives the grid of a record, or the record's fault.
 fn with_grid(found: Result<(), RecordFault>, grid: Grid) -> Result<Grid, RecordFault>
     ensures { result ≡ outcome found grid }
 {

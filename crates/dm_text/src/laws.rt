@@ -8,16 +8,16 @@ ghost use Rattle.dm_text.specs.Spellings.{text_of};
 ghost use Rattle.dm_text.specs.MessageLines.{IsLine};
 ghost use Rattle.dm_text.specs.LineFacts.{LineFacts, AreLineFacts};
 ghost use Rattle.dm_text.specs.RecordFacts.{RecordFacts, AreRecordFacts};
-ghost use Rattle.dm_text.specs.RecordFeeds.{AreRecordsFed, AreRecordsOfText, RecordAnswer};
+ghost use Rattle.dm_text.specs.RecordFeeds.{AreRecordsFed, AreRecordsOfText, RecordMeaning};
 ghost use Rattle.dm_text.specs.declared.task.Task.{Task};
 ghost use Rattle.dm_text.specs.declared.task.Task.TheVariants.{Table};
 ghost use Rattle.dm_text.specs.declared.task.Tally.{Tally};
 ghost use Rattle.dm_text.specs.Runs.{IsOutSoFar, IsOut};
-ghost use Rattle.dm_text.specs.LineFeeds.{AreLinesFed, AreOfText, LineAnswer};
+ghost use Rattle.dm_text.specs.LineFeeds.{AreLinesFed, AreOfText, LineMeaning};
 
 pub mod cuts;
 
-/// The text of a message is read as the message.
+/// The text of a message of at most `MOST_ITEMS` items is read as the message.
 pub fn text_is_read_back()
     ensures { (message : List Item) → IsMessage message → length message ≤ most_items
         → IsLine (text_of message) (Ok message) }
@@ -27,26 +27,26 @@ pub fn text_is_read_back()
 /// that are fed to a feed in which no line stands open close, and leave open, what
 /// their joined text does, and this is the same for all ways to cut that text.
 pub fn line_cuts_change_nothing()
-    ensures text { (pieces : List (List ℕ)) (answers : List LineAnswer) (old new : LineFacts)
-        → AreLineFacts [] old → AreLinesFed old pieces answers new
-        → AreOfText (concat pieces) answers new }
-    ensures same { (pieces others : List (List ℕ)) (answers theirs : List LineAnswer)
+    ensures text { (pieces : List (List ℕ)) (meanings : List LineMeaning) (old new : LineFacts)
+        → AreLineFacts [] old → AreLinesFed old pieces meanings new
+        → AreOfText (concat pieces) meanings new }
+    ensures same { (pieces others : List (List ℕ)) (meanings theirs : List LineMeaning)
         (old new end : LineFacts) → AreLineFacts [] old → concat pieces ≡ concat others
-        → AreLinesFed old pieces answers new → AreLinesFed old others theirs end
-        → (answers ≡ theirs) × (new ≡ end) }
+        → AreLinesFed old pieces meanings new → AreLinesFed old others theirs end
+        → (meanings ≡ theirs) × (new ≡ end) }
 {}
 
 /// How a text is cut into pieces changes nothing for its records: pieces that
 /// are fed to a feed in which no record stands open close, and leave open, what
 /// their joined text does, and this is the same for all ways to cut that text.
 pub fn record_cuts_change_nothing()
-    ensures text { (pieces : List (List ℕ)) (answers : List RecordAnswer) (old new : RecordFacts)
-        → AreRecordFacts [] old → AreRecordsFed old pieces answers new
-        → AreRecordsOfText (concat pieces) answers new }
-    ensures same { (pieces others : List (List ℕ)) (answers theirs : List RecordAnswer)
+    ensures text { (pieces : List (List ℕ)) (meanings : List RecordMeaning) (old new : RecordFacts)
+        → AreRecordFacts [] old → AreRecordsFed old pieces meanings new
+        → AreRecordsOfText (concat pieces) meanings new }
+    ensures same { (pieces others : List (List ℕ)) (meanings theirs : List RecordMeaning)
         (old new end : RecordFacts) → AreRecordFacts [] old → concat pieces ≡ concat others
-        → AreRecordsFed old pieces answers new → AreRecordsFed old others theirs end
-        → (answers ≡ theirs) × (new ≡ end) }
+        → AreRecordsFed old pieces meanings new → AreRecordsFed old others theirs end
+        → (meanings ≡ theirs) × (new ≡ end) }
 {}
 
 /// Only one thing is written for a text as a whole, with one tally, and only one thing for a text that may go on.
@@ -68,6 +68,6 @@ pub fn each_text_is_written()
 
 /// Each line means exactly one thing: a message, or a fault.
 pub fn each_line_means_one_thing()
-    ensures some { (line : List ℕ) → (answer : LineAnswer) × IsLine line answer }
-    ensures one { (line : List ℕ) (a b : LineAnswer) → IsLine line a → IsLine line b → a ≡ b }
+    ensures some { (line : List ℕ) → (meaning : LineMeaning) × IsLine line meaning }
+    ensures one { (line : List ℕ) (a b : LineMeaning) → IsLine line a → IsLine line b → a ≡ b }
 {}

@@ -2,12 +2,11 @@
 //!
 //! A text of grids comes as records of lines of 0 and 1, a text of messages as lines. [`run`] answers each record or line; the
 //! feeds [`GridFeed`] and [`LineFeed`] cut texts that come in pieces. What the contracts say is defined in `specs/`: `Runs` and
-//! `Answers` for what is written, `Records` and `MessageLines` for what is read. No call takes memory.
+//! `Answers` for what is written, `Records` and `MessageLines` for what is read. No call allocates memory.
 #![tactic(auto)]
 
 mod answer;
 mod answering;
-mod cell_run;
 mod device;
 mod gathering;
 mod grid_feed;
@@ -18,6 +17,7 @@ mod open_line;
 mod printed;
 mod record;
 mod refusal;
+mod row_part;
 mod rows;
 mod running;
 mod sink;
@@ -29,10 +29,10 @@ mod task;
 mod text;
 
 pub use device::Failed;
-pub use dm_symbol::Profile;
+pub use dm_symbol::{Grid, Item, MESSAGE_ROOM, MOST_ITEMS, Message, Profile};
 pub use grid_feed::{Fed, GridFeed};
 pub use line_feed::{LineFed, LineFeed};
-pub use message_line::{LineFault, message_from, message_text};
+pub use message_line::{LineFault, MOST_TEXT, message_from, message_text};
 pub use record::RecordFault;
 pub use running::run;
 pub use sink::{Sink, ToWrite};

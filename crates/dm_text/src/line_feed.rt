@@ -4,7 +4,7 @@ ghost use Rattle.std.specs.Prelude.{◌≡◌, ◌∷◌, [], ℕ, List, IfNone,
 ghost use Rattle.dm_text.specs.MessageLines.{IsLine};
 ghost use Rattle.dm_text.specs.LineFacts.{AreLineFacts};
 ghost use Rattle.dm_text.specs.LineFeeds.{ClosesLine, LeavesLineOpen};
-ghost use Rattle.dm_text.specs.inner.OpenLines.{EndsLine, pointed_to};
+ghost use Rattle.dm_text.specs.inner.OpenLines.{EndsLine, meaning_by_value};
 
 use crate::message_line::LineFault;
 use crate::open_line::OpenLine;
@@ -14,6 +14,9 @@ use std::marker::Model;
 /// Cuts a text that comes in pieces into message lines. It holds what is known of
 /// the line that stands open: its items while they are at most `MOST_ITEMS`, the
 /// bytes of a spelling that is begun, and a count; or the column of its fault.
+///
+/// In contracts it is the `LineFacts` (`specs/LineFacts.antt`) of the open line. The clauses `some_line` say that there is such a
+/// line, so that what a clause says of each of them isn't empty.
 #[derive(Drop)]
 pub struct LineFeed {
     line: OpenLine,
@@ -42,7 +45,7 @@ pub struct LineFed {
 }
 
 impl LineFeed {
-    /// A feed in which no line stands open.
+    /// Begins a feed in which no line stands open.
     pub fn new() -> Self
         ensures { AreLineFacts [] result }
     {
@@ -97,7 +100,8 @@ impl LineFeed {
         std::mem::replace(&mut self.line, OpenLine::new()).close()
     }
 
-    // Called in this order, these close a line without copying its message.
+    // `take_line`, then `meaning`, then `begin_line` close a line without copying its message. Where the text ends,
+    // `is_empty` says whether there is a last line.
 
     /// Takes the bytes up to and including the first LF, holds the line that it ends, and says how many they are. None
     /// where there is no LF; all of the piece is taken then.
@@ -120,9 +124,10 @@ impl LineFeed {
         self.line.is_empty()
     }
 
-    /// What the line that is held means: its message, or its fault.
+    /// Gives what the line that is held means: its message, or its fault.
     pub(crate) fn meaning(&self) -> Result<&Message, LineFault>
-        ensures { (line : List ℕ) → AreLineFacts line self.now → IsLine line (pointed_to result) }
+        ensures { (line : List ℕ) → AreLineFacts line self.now
+            → IsLine line (meaning_by_value result) }
     {
         self.line.meaning()
     }

@@ -2,7 +2,7 @@
 
 ghost use Rattle.std.specs.Prelude.{◌≡◌, ◌↔◌, ◌≤◌, ◌<◌, ◌*◌, ◌+◌, ◌++◌, List, Result, length};
 ghost use Rattle.dm_symbol.specs.declared.Item.{Item as AnItem};
-ghost use Rattle.dm_text.specs.Spellings.{spelled, text_of, upper_digit};
+ghost use Rattle.dm_text.specs.Spellings.{spelling_of, text_of, upper_digit};
 ghost use Rattle.dm_text.specs.MessageLines.{IsLine};
 
 use crate::open_line::OpenLine;
@@ -23,24 +23,25 @@ pub enum LineFault {
     TooLong,
 }
 
-/// The message that a line, given without its LF, spells.
+/// Gives the message that a line, given without its LF, spells.
 ///
 /// Bytes 32 to 126 other than the backslash stand for themselves, `\\` is the backslash, `\F` is FNC1, and `\xHH` is
 /// the byte of two hexadecimal digits, of either case. The error is `BadEscape` where a line has anything else, and
 /// otherwise `TooLong` where it has more than [`MOST_ITEMS`](dm_symbol::MOST_ITEMS) items.
 pub fn message_from(line: &[u8]) -> Result<Message, LineFault>
-    ensures { (answer : Result (List AnItem) LineFault)
-        → (result ≡ answer) ↔ IsLine line.now answer }
+    ensures { (meaning : Result (List AnItem) LineFault)
+        → (result ≡ meaning) ↔ IsLine line.now meaning }
 {
     let mut open = OpenLine::new();
     open.take(line);
     open.close()
 }
 
-/// The text of a message: a line that spells it, without an LF.
+/// Gives the text of a message: a line that spells it, without an LF.
 ///
 /// Bytes 32 to 126 are written as themselves, the backslash as `\\`, other bytes as `\xHH` with
-/// upper-case digits, and FNC1 as `\F`.
+/// upper-case digits, and FNC1 as `\F`. [`message_from`] reads the text as the message if this has at most
+/// [`MOST_ITEMS`](dm_symbol::MOST_ITEMS) items, and refuses a longer one, which a macro may spell, with `TooLong`.
 pub fn message_text(message: &Message) -> ArrayVec<u8, MOST_TEXT>
     ensures { result.items ≡ text_of message.now }
 {
@@ -66,7 +67,7 @@ pub(crate) fn push_items<const N: usize>(text: &mut Text<N>, items: &[Item])
 #[inline]
 fn spell<const N: usize>(text: &mut Text<N>, item: Item)
     requires { length text.old.items + 4 ≤ N }
-    ensures text { text.new.items ≡ text.old.items ++ spelled item }
+    ensures text { text.new.items ≡ text.old.items ++ spelling_of item }
     ensures room { length text.new.items ≤ length text.old.items + 4 }
 {
     match item {
@@ -80,7 +81,7 @@ fn spell<const N: usize>(text: &mut Text<N>, item: Item)
     }
 }
 
-/// The hexadecimal digit of a value, in upper case.
+/// Gives the hexadecimal digit of a value, in upper case.
 fn upper_digit(value: u8) -> u8
     requires { value < 16 }
     ensures { result ≡ upper_digit value }

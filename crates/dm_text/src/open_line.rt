@@ -5,7 +5,7 @@ ghost use Rattle.std.specs.List.{AllByRecursion};
 ghost use Rattle.dm_text.specs.MessageLines.{IsLine};
 ghost use Rattle.dm_text.specs.Texts.{HasNoLf};
 ghost use Rattle.dm_text.specs.LineFacts.{AreLineFacts, kept};
-ghost use Rattle.dm_text.specs.inner.OpenLines.{IsPlain, pointed_to, IsFirstLf};
+ghost use Rattle.dm_text.specs.inner.OpenLines.{IsPlain, meaning_by_value, IsFirstLf};
 ghost use Rattle.dm_symbol.specs.declared.Item.{Item as AnItem};
 
 use crate::message_line::LineFault;
@@ -14,11 +14,11 @@ use crate::text::LF;
 use dm_symbol::{Item, MOST_ITEMS, Message};
 use std::marker::Model;
 
-/// A line without a fault so far: how many bytes at its front are joined spellings, the items of these unless they
+/// A line without a fault so far: how many bytes at its start are joined spellings, the items of these unless they
 /// are too many, and the bytes after them.
 #[derive(Drop)]
 struct GoodLine {
-    front_length: u64,
+    prefix_length: u64,
     items: Option<Message>,
     pending: Pending,
 }
@@ -47,7 +47,7 @@ impl Model for OpenLine {
 }
 
 impl OpenLine {
-    /// The empty line.
+    /// Begins with the empty line.
     pub(crate) fn new() -> Self
         ensures { AreLineFacts [] result }
     {
@@ -62,7 +62,7 @@ impl OpenLine {
     {
         match &self.state {
             State::Faulty(_) => false,
-            State::Good(good) => good.front_length == 0 && good.pending.count() == 0,
+            State::Good(good) => good.prefix_length == 0 && good.pending.count() == 0,
         }
     }
 
@@ -106,7 +106,7 @@ impl OpenLine {
         None
     }
 
-    /// Takes the bytes at the front that stand for themselves, if no other spelling is begun, and says how many.
+    /// Takes the bytes at the start that stand for themselves, if no other spelling is begun, and says how many.
     fn take_plain(&mut self, bytes: &[u8]) -> usize
         ensures within { result ≤ length bytes.now }
         ensures no_lf { HasNoLf (take result bytes.now) }
@@ -128,22 +128,25 @@ impl OpenLine {
             State::Faulty(_) => {}
             State::Good(good) => match good.pending.next(byte) {
                 Next::Whole(item) => {
-                    good.front_length = good.front_length.saturating_add(good.pending.count() + 1);
+                    good.prefix_length = good
+                        .prefix_length
+                        .saturating_add(good.pending.count() + 1);
                     good.pending = Pending::Nothing;
                     push_item(&mut good.items, item);
                 }
                 Next::Begun(pending) => good.pending = pending,
                 Next::Fault => {
-                    let column = good.front_length.saturating_add(1);
+                    let column = good.prefix_length.saturating_add(1);
                     self.state = State::Faulty(column);
                 }
             },
         }
     }
 
-    /// What the line means if it ends here: its message, or its fault.
+    /// Gives what the line means if it ends here: its message, or its fault.
     pub(crate) fn meaning(&self) -> Result<&Message, LineFault>
-        ensures { (line : List ℕ) → AreLineFacts line self.now → IsLine line (pointed_to result) }
+        ensures { (line : List ℕ) → AreLineFacts line self.now
+            → IsLine line (meaning_by_value result) }
     {
         match &self.state {
             State::Faulty(column) => Err(LineFault::BadEscape(*column)),
@@ -151,7 +154,7 @@ impl OpenLine {
         }
     }
 
-    /// The same, with the message by value.
+    /// Gives what the line means if it ends here, with the message by value.
     pub(crate) fn close(self) -> Result<Message, LineFault>
         ensures { (line : List ℕ) → AreLineFacts line self → IsLine line result }
     {
@@ -176,25 +179,25 @@ impl GoodLine {
     ghost use Rattle.dm_text.specs.LineFacts.{IsGoodLine};
     ghost use Rattle.dm_text.specs.inner.OpenLines.{pending_bytes};
 
-    /// The empty line.
+    /// Begins with the empty line.
     fn new() -> Self
-        ensures { IsGoodLine [] result.front_length result.items (pending_bytes result.pending) }
+        ensures { IsGoodLine [] result.prefix_length result.items (pending_bytes result.pending) }
     {
         GoodLine {
-            front_length: 0,
+            prefix_length: 0,
             items: Some(Message::new()),
             pending: Pending::Nothing,
         }
     }
 
-    /// Takes the bytes at the front that stand for themselves, if no other spelling is begun, and says how many.
+    /// Takes the bytes at the start that stand for themselves, if no other spelling is begun, and says how many.
     fn take_plain(&mut self, bytes: &[u8]) -> usize
         ensures within { result ≤ length bytes.now }
         ensures no_lf { HasNoLf (take result bytes.now) }
         ensures grown { (line : List ℕ)
-            → IsGoodLine line self.old.front_length self.old.items
+            → IsGoodLine line self.old.prefix_length self.old.items
             (pending_bytes self.old.pending)
-            → IsGoodLine (line ++ take result bytes.now) self.new.front_length self.new.items
+            → IsGoodLine (line ++ take result bytes.now) self.new.prefix_length self.new.items
             (pending_bytes self.new.pending) }
     {
         if self.pending.count() > 0 {
@@ -204,18 +207,18 @@ impl GoodLine {
             return 0;
         };
         let count = push_plain(message, bytes);
-        self.front_length = self.front_length.saturating_add(count as u64);
+        self.prefix_length = self.prefix_length.saturating_add(count as u64);
         count
     }
 
-    /// What the line means if it ends here: its message, or its fault.
+    /// Gives what the line means if it ends here: its message, or its fault.
     fn meaning(&self) -> Result<&Message, LineFault>
         ensures { (line : List ℕ)
-            → IsGoodLine line self.now.front_length self.now.items
-            (pending_bytes self.now.pending) → IsLine line (pointed_to result) }
+            → IsGoodLine line self.now.prefix_length self.now.items
+            (pending_bytes self.now.pending) → IsLine line (meaning_by_value result) }
     {
         if self.pending.count() > 0 {
-            return Err(LineFault::BadEscape(self.front_length.saturating_add(1)));
+            return Err(LineFault::BadEscape(self.prefix_length.saturating_add(1)));
         }
         match &self.items {
             Some(message) => Ok(message),
@@ -223,24 +226,24 @@ impl GoodLine {
         }
     }
 
-    /// The same, with the message by value.
+    /// Gives what the line means if it ends here, with the message by value.
     fn close(self) -> Result<Message, LineFault>
         ensures { (line : List ℕ)
-            → IsGoodLine line self.front_length self.items (pending_bytes self.pending)
+            → IsGoodLine line self.prefix_length self.items (pending_bytes self.pending)
             → IsLine line result }
     {
         if self.pending.count() > 0 {
-            return Err(LineFault::BadEscape(self.front_length.saturating_add(1)));
+            return Err(LineFault::BadEscape(self.prefix_length.saturating_add(1)));
         }
         self.items.ok_or(LineFault::TooLong)
     }
 
     /// Becomes the empty line.
     fn clear(&mut self)
-        ensures { IsGoodLine [] self.new.front_length self.new.items
+        ensures { IsGoodLine [] self.new.prefix_length self.new.items
             (pending_bytes self.new.pending) }
     {
-        self.front_length = 0;
+        self.prefix_length = 0;
         self.pending = Pending::Nothing;
         match &mut self.items {
             Some(message) => message.clear(),
@@ -263,7 +266,7 @@ fn push_item(items: &mut Option<Message>, item: Item)
     }
 }
 
-/// Adds the bytes at the front that stand for themselves, as many as there is room for, and says how many.
+/// Adds the bytes at the start that stand for themselves, as many as there is room for, and says how many.
 fn push_plain(message: &mut Message, bytes: &[u8]) -> usize
     ensures within { result ≤ length bytes.now }
     ensures plain { AllByRecursion IsPlain (take result bytes.now) }
@@ -283,5 +286,9 @@ fn push_plain(message: &mut Message, bytes: &[u8]) -> usize
 fn is_plain(byte: u8) -> bool
     ensures { IsTrue result ↔ IsPlain byte }
 {
-    (b' '..=b'~').contains(&byte) && byte != b'\\'
+    match byte {
+        b'\\' => false,
+        b' '..=b'~' => true,
+        _ => false,
+    }
 }

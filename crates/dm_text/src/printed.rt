@@ -1,11 +1,12 @@
-//! Words, numbers and grids as text.
+//! Numbers and grids as text, and the room for answers.
 
 ghost use Rattle.std.specs.Prelude.{◌≡◌, ◌≤◌, ◌<◌, ◌++◌, ◌∷◌, [], ◌+◌, ◌*◌, get_or, length, map};
 ghost use Rattle.std.specs.Fmt.{decimal};
-ghost use Rattle.dm_text.specs.Answers.{character_of, grid_text, spaced};
+ghost use Rattle.dm_text.specs.Answers.{character_of, grid_text, spaced_text};
+ghost use Rattle.dm_text.specs.Texts.{lf};
 ghost use Rattle.dm_text.specs.inner.OpenRecords.{cells_in};
 
-use crate::text::Text;
+use crate::text::{LF, Text};
 use dm_symbol::{Grid, LARGEST_SIDE};
 use std::simd::prelude::*;
 
@@ -18,18 +19,28 @@ const BYTE_OF_CELL: [u8; 16] = [0, 0, 0, 0, 0, 0, 0, 0, 1, 1, 1, 1, 1, 1, 1, 1];
 /// The weight of each cell in its byte.
 const WEIGHTS: [u8; 16] = [1, 2, 4, 8, 16, 32, 64, 128, 1, 2, 4, 8, 16, 32, 64, 128];
 
-/// The most bytes of an answer: those of a grid of the largest side, each row with its LF, and of an empty line; and as many as are
-/// written together, since the last ones of a row are written as a whole and then cut.
-pub(crate) const MOST_ANSWER: usize = LARGEST_SIDE * (LARGEST_SIDE + 1) + 1 + TOGETHER as usize;
+/// The most characters that are written behind a row, with its last cells, and cut off again.
+const MOST_CUT: usize = TOGETHER as usize - 1;
 
-/// The text of an answer.
-pub(crate) type AnswerText = Text<MOST_ANSWER>;
+/// The room that an answer needs: that of a grid of the largest side, each row with its LF, of an empty line, and of what is
+/// written behind the last row.
+pub(crate) const MOST_ANSWER: usize = LARGEST_SIDE * (LARGEST_SIDE + 1) + 1 + MOST_CUT;
+
+/// The room for answers that are written together: once there is none for a further answer, at least three of the largest grids
+/// are written.
+pub(crate) const MOST_GATHERED: usize = 4 * MOST_ANSWER;
+
+/// The texts of answers that are written together, one after another.
+pub(crate) type GatheredText = Text<MOST_GATHERED>;
+
+/// The most digits that a number has, which is a u64.
+pub(crate) const MOST_DIGITS: usize = 20;
 
 /// Appends a number in decimal digits.
 pub(crate) fn push_decimal<const N: usize>(text: &mut Text<N>, number: u64)
-    requires { length text.old.items + 20 ≤ N }
+    requires { length text.old.items + MOST_DIGITS ≤ N }
     ensures text { text.new.items ≡ text.old.items ++ decimal number }
-    ensures length { length text.new.items ≤ length text.old.items + 20 }
+    ensures length { length text.new.items ≤ length text.old.items + MOST_DIGITS }
 {
     if number >= 10 {
         push_decimal(text, number / 10);
@@ -37,11 +48,11 @@ pub(crate) fn push_decimal<const N: usize>(text: &mut Text<N>, number: u64)
     text.push(b'0' + (number % 10) as u8);
 }
 
-/// Appends numbers in decimal digits, with single spaces between.
+/// Appends numbers in decimal digits, with single spaces between. Eight of them, of at most five digits, need 47 bytes; the room is for more.
 pub(crate) fn push_spaced<const N: usize>(text: &mut Text<N>, numbers: &[u16])
     requires room { length text.old.items + 64 ≤ N }
     requires few { length numbers.now ≤ 8 }
-    ensures text { text.new.items ≡ text.old.items ++ spaced numbers.now }
+    ensures text { text.new.items ≡ text.old.items ++ spaced_text numbers.now }
     ensures length { length text.new.items ≤ length text.old.items + 6 * length numbers.now }
 {
     for (i, number) in numbers.iter().enumerate() {
@@ -52,11 +63,11 @@ pub(crate) fn push_spaced<const N: usize>(text: &mut Text<N>, numbers: &[u16])
     }
 }
 
-/// Appends the rows of a grid, each followed by LF, to an empty text.
-pub(crate) fn push_grid(text: &mut AnswerText, grid: &Grid)
-    requires { text.old.items ≡ [] }
-    ensures text { text.new.items ≡ grid_text grid.now.rows }
-    ensures room { length text.new.items < MOST_ANSWER }
+/// Appends the rows of a grid, each followed by LF; there is room for an answer.
+pub(crate) fn push_grid(text: &mut GatheredText, grid: &Grid)
+    requires { length text.old.items + MOST_ANSWER ≤ MOST_GATHERED }
+    ensures text { text.new.items ≡ text.old.items ++ grid_text grid.now.rows }
+    ensures room { length text.new.items < length text.old.items + MOST_ANSWER }
 {
     for row in 0..grid.size().side() {
         push_row(text, grid, row);
@@ -64,21 +75,21 @@ pub(crate) fn push_grid(text: &mut AnswerText, grid: &Grid)
 }
 
 /// Appends a row of a grid and LF.
-fn push_row(text: &mut AnswerText, grid: &Grid, row: u16)
+fn push_row(text: &mut GatheredText, grid: &Grid, row: u16)
     requires row { row < grid.now.size.side }
     requires width { length (get_or grid.now.rows row []) ≡ grid.now.size.side }
-    requires room { length text.old.items + grid.now.size.side + TOGETHER < MOST_ANSWER }
+    requires room { length text.old.items + grid.now.size.side + TOGETHER ≤ MOST_GATHERED }
     ensures { text.new.items ≡ text.old.items ++ map character_of (get_or grid.now.rows row []) ++
-        10 ∷ [] }
+        lf ∷ [] }
 {
     push_cells(text, grid.row(row), grid.size().side());
-    text.push(b'\n');
+    text.push(LF);
 }
 
 /// Appends the characters of a row's first cells, of which the first is the lowest bit.
-fn push_cells(text: &mut AnswerText, cells: u128, width: u16)
+fn push_cells(text: &mut GatheredText, cells: u128, width: u16)
     requires width { width ≤ LARGEST_SIDE }
-    requires room { length text.old.items + width + TOGETHER ≤ MOST_ANSWER }
+    requires room { length text.old.items + width + MOST_CUT ≤ MOST_GATHERED }
     ensures { text.new.items ≡ text.old.items ++ map character_of (cells_in width cells) }
 {
     let start = text.len();
@@ -92,7 +103,7 @@ fn push_cells(text: &mut AnswerText, cells: u128, width: u16)
     text.truncate(start + usize::from(width));
 }
 
-/// The characters of sixteen cells, of which the first is the lowest bit.
+/// Gives the characters of sixteen cells, of which the first is the lowest bit.
 fn characters(cells: u16) -> [u8; 16]
     ensures { result ≡ map character_of (cells_in 16 cells) }
 {

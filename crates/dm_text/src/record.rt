@@ -4,11 +4,11 @@ ghost use Rattle.std.specs.Prelude.{◌≡◌, ◌≢◌, ◌∷◌, ◌++◌, [
 ghost use Rattle.std.specs.Bool.{OnTrue, OnFalse};
 ghost use Rattle.dm_text.specs.Records.{IsClosedRecord, is_foreign, record_of};
 ghost use Rattle.dm_text.specs.RecordFacts.{AreRecordFacts, facts_of_record};
-ghost use Rattle.dm_text.specs.Texts.{last_line};
+ghost use Rattle.dm_text.specs.Texts.{last_line, lf};
 ghost use Rattle.dm_text.specs.inner.OpenRecords.{AreCells, EndsAt};
 ghost use Rattle.dm_symbol.specs.Outcomes.{outcome};
 
-use crate::cell_run::CellRun;
+use crate::row_part::RowPart;
 use crate::rows::Rows;
 use crate::text::LF;
 use dm_symbol::Grid;
@@ -55,7 +55,7 @@ impl Model for OpenRecord {
 }
 
 impl OpenRecord {
-    /// No record.
+    /// Begins with no record.
     pub(crate) fn new() -> Self
         ensures { AreRecordFacts [] result }
     {
@@ -113,8 +113,8 @@ impl OpenRecord {
         None
     }
 
-    /// Takes the whole lines at the front of some bytes, each together with its LF, and says how many bytes they are.
-    /// Where a line stands open, or the record can't be a grid any more, it takes none.
+    /// Takes whole lines at the start of some bytes, each together with its LF, and says how many bytes they are. How many
+    /// lines it takes matters for speed alone: none where a line stands open, or where the record can't be a grid any more.
     fn take_lines(&mut self, bytes: &[u8]) -> usize
         ensures within { result ≤ length bytes.now }
         ensures grown { (text : List ℕ) → AreRecordFacts text self.old
@@ -130,9 +130,9 @@ impl OpenRecord {
         0
     }
 
-    /// Takes the cells at the front of some bytes together, and says how many they are. Where a foreign character
-    /// already stands in the record it takes none, so that text that is no grid isn't searched for cells at each of
-    /// its bytes.
+    /// Takes cells at the start of some bytes together, and says how many they are, which matters for speed alone. Where a
+    /// foreign character already stands in the record it takes none, so that text that is no grid isn't searched for cells
+    /// at each of its bytes.
     fn take_cells(&mut self, bytes: &[u8]) -> usize
         ensures within { result ≤ length bytes.now }
         ensures grown { (text : List ℕ) → AreRecordFacts text self.old
@@ -141,7 +141,7 @@ impl OpenRecord {
         if let Contents::Foreign = self.contents {
             return 0;
         }
-        let Some(cells) = CellRun::of_text(bytes) else {
+        let Some(cells) = RowPart::of_text(bytes) else {
             return 0;
         };
         self.push_cells(cells);
@@ -149,7 +149,7 @@ impl OpenRecord {
     }
 
     /// Takes cells, into a new line where the last line has ended.
-    fn push_cells(&mut self, cells: CellRun)
+    fn push_cells(&mut self, cells: RowPart)
         requires { (characters : List ℕ) × AreCells characters cells }
         ensures { (text characters : List ℕ) → AreRecordFacts text self.old
             → AreCells characters cells → AreRecordFacts (text ++ characters) self.new }
@@ -165,7 +165,7 @@ impl OpenRecord {
 
     /// Takes a byte that isn't LF.
     fn push_character(&mut self, byte: u8)
-        requires { byte ≢ 10 }
+        requires { byte ≢ lf }
         ensures { (text : List ℕ) → AreRecordFacts text self.old
             → AreRecordFacts (text ++ byte ∷ []) self.new }
     {
@@ -174,14 +174,14 @@ impl OpenRecord {
             self.contents = Contents::Foreign;
             return;
         }
-        self.push_cells(CellRun::of_character(byte));
+        self.push_cells(RowPart::of_character(byte));
     }
 
     /// Takes an LF after a line, or before all lines.
     fn end_line(&mut self)
         requires { self.old.ended ≡ false }
         ensures { (text : List ℕ) → AreRecordFacts text self.old
-            → AreRecordFacts (text ++ 10 ∷ []) self.new }
+            → AreRecordFacts (text ++ lf ∷ []) self.new }
     {
         match &mut self.contents {
             Contents::Cells(cells) => {
@@ -208,7 +208,7 @@ impl OpenRecord {
 
     /// Ends the record, so that none is open: leaves its grid in `grid`, or gives why it is none.
     pub(crate) fn close_to(&mut self, grid: &mut Grid) -> Result<(), RecordFault>
-        ensures answer { (lines : List (List ℕ)) (rest : List ℕ)
+        ensures meaning { (lines : List (List ℕ)) (rest : List ℕ)
             → self.old ≡ facts_of_record lines rest
             → outcome result grid.new ≡ record_of (lines ++ last_line rest) }
         ensures empty { AreRecordFacts [] self.new }

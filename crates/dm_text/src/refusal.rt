@@ -5,7 +5,7 @@ ghost use Rattle.std.specs.Fmt.{decimal};
 ghost use Rattle.dm_text.specs.Refusals.{line_refusal, normal_refusal, read_refusal, record_refusal, too_long_refusal, word_refusal};
 
 use crate::message_line::LineFault;
-use crate::printed::{AnswerText, MOST_ANSWER, push_decimal};
+use crate::printed::{GatheredText, MOST_DIGITS, MOST_GATHERED, push_decimal};
 use crate::record::RecordFault;
 use dm_symbol::{NormalFault, ReadFault, WordFault};
 
@@ -15,8 +15,8 @@ const MOST_REFUSAL: usize = 80;
 // Each of these appends a refusal without an LF; there is room for the longest.
 
 /// Appends the refusal of a record.
-pub(crate) fn push_record_refusal(text: &mut AnswerText, fault: RecordFault)
-    requires { length text.old.items + MOST_REFUSAL ≤ MOST_ANSWER }
+pub(crate) fn push_record_refusal(text: &mut GatheredText, fault: RecordFault)
+    requires { length text.old.items + MOST_REFUSAL ≤ MOST_GATHERED }
     ensures text { text.new.items ≡ text.old.items ++ record_refusal fault }
     ensures room { length text.new.items ≤ length text.old.items + MOST_REFUSAL }
 {
@@ -29,8 +29,8 @@ pub(crate) fn push_record_refusal(text: &mut AnswerText, fault: RecordFault)
 }
 
 /// Appends the refusal of a grid that is not read.
-pub(crate) fn push_read_refusal(text: &mut AnswerText, fault: ReadFault)
-    requires { length text.old.items + MOST_REFUSAL ≤ MOST_ANSWER }
+pub(crate) fn push_read_refusal(text: &mut GatheredText, fault: ReadFault)
+    requires { length text.old.items + MOST_REFUSAL ≤ MOST_GATHERED }
     ensures text { text.new.items ≡ text.old.items ++ read_refusal fault }
     ensures room { length text.new.items ≤ length text.old.items + MOST_REFUSAL }
 {
@@ -42,8 +42,8 @@ pub(crate) fn push_read_refusal(text: &mut AnswerText, fault: ReadFault)
 }
 
 /// Appends the refusal of data codewords that spell no message.
-fn push_word_refusal(text: &mut AnswerText, fault: WordFault)
-    requires { length text.old.items + MOST_REFUSAL ≤ MOST_ANSWER }
+fn push_word_refusal(text: &mut GatheredText, fault: WordFault)
+    requires { length text.old.items + MOST_REFUSAL ≤ MOST_GATHERED }
     ensures text { text.new.items ≡ text.old.items ++ word_refusal fault }
     ensures room { length text.new.items ≤ length text.old.items + MOST_REFUSAL }
 {
@@ -70,8 +70,8 @@ fn push_word_refusal(text: &mut AnswerText, fault: WordFault)
 }
 
 /// Appends the refusal of a grid that has no normal grid.
-pub(crate) fn push_normal_refusal(text: &mut AnswerText, fault: NormalFault)
-    requires { length text.old.items + MOST_REFUSAL ≤ MOST_ANSWER }
+pub(crate) fn push_normal_refusal(text: &mut GatheredText, fault: NormalFault)
+    requires { length text.old.items + MOST_REFUSAL ≤ MOST_GATHERED }
     ensures text { text.new.items ≡ text.old.items ++ normal_refusal fault }
     ensures room { length text.new.items ≤ length text.old.items + MOST_REFUSAL }
 {
@@ -82,8 +82,8 @@ pub(crate) fn push_normal_refusal(text: &mut AnswerText, fault: NormalFault)
 }
 
 /// Appends the refusal of a message that fits no size.
-pub(crate) fn push_too_long_refusal(text: &mut AnswerText)
-    requires { length text.old.items + MOST_REFUSAL ≤ MOST_ANSWER }
+pub(crate) fn push_too_long_refusal(text: &mut GatheredText)
+    requires { length text.old.items + MOST_REFUSAL ≤ MOST_GATHERED }
     ensures text { text.new.items ≡ text.old.items ++ too_long_refusal }
     ensures room { length text.new.items ≤ length text.old.items + MOST_REFUSAL }
 {
@@ -91,8 +91,8 @@ pub(crate) fn push_too_long_refusal(text: &mut AnswerText)
 }
 
 /// Appends the refusal of a line that is no message.
-pub(crate) fn push_line_refusal(text: &mut AnswerText, fault: LineFault)
-    requires { length text.old.items + MOST_REFUSAL ≤ MOST_ANSWER }
+pub(crate) fn push_line_refusal(text: &mut GatheredText, fault: LineFault)
+    requires { length text.old.items + MOST_REFUSAL ≤ MOST_GATHERED }
     ensures text { text.new.items ≡ text.old.items ++ line_refusal fault }
     ensures room { length text.new.items ≤ length text.old.items + MOST_REFUSAL }
 {
@@ -102,12 +102,15 @@ pub(crate) fn push_line_refusal(text: &mut AnswerText, fault: LineFault)
     }
 }
 
+/// More bytes than the words before a number in a refusal have.
+const MOST_WORDS: usize = 20;
+
 /// Appends words, and a number in decimal digits.
-fn push_numbered(text: &mut AnswerText, words: &[u8], number: u64)
-    requires few { length words.now ≤ 20 }
-    requires room { length text.old.items + 40 ≤ MOST_ANSWER }
+fn push_numbered(text: &mut GatheredText, words: &[u8], number: u64)
+    requires few { length words.now ≤ MOST_WORDS }
+    requires room { length text.old.items + (MOST_WORDS + MOST_DIGITS) ≤ MOST_GATHERED }
     ensures text { text.new.items ≡ text.old.items ++ (words.now ++ decimal number) }
-    ensures room { length text.new.items ≤ length text.old.items + 40 }
+    ensures room { length text.new.items ≤ length text.old.items + (MOST_WORDS + MOST_DIGITS) }
 {
     text.push_all(words);
     push_decimal(text, number);

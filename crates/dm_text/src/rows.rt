@@ -7,8 +7,8 @@ ghost use Rattle.dm_text.specs.inner.OpenRecords.{AreCells, Continues, EndsLines
 ghost use Rattle.dm_text.specs.Texts.{last_line};
 ghost use Rattle.dm_symbol.specs.Outcomes.{outcome};
 
-use crate::cell_run::CellRun;
 use crate::record::RecordFault;
+use crate::row_part::RowPart;
 use crate::text::LF;
 use arrayvec::ArrayVec;
 use dm_symbol::{Grid, LARGEST_SIDE};
@@ -29,7 +29,7 @@ pub(crate) struct Rows {
 }
 
 impl Rows {
-    /// No line.
+    /// Begins with no line.
     pub(crate) fn new() -> Self
         ensures { HoldsLines result [] [] }
     {
@@ -50,7 +50,7 @@ impl Rows {
 
     /// Takes more cells, into a new line where the last line has ended; false
     /// where the lines are then too many or too long.
-    pub(crate) fn push(&mut self, cells: CellRun, ended: bool) -> bool
+    pub(crate) fn push(&mut self, cells: RowPart, ended: bool) -> bool
         requires cells { (characters : List ℕ) × AreCells characters cells }
         requires lines { (lines : List (List ℕ)) × (rest : List ℕ)
             × HoldsLines self.old lines rest × (ended ≡ is_ended lines rest) }
@@ -66,7 +66,7 @@ impl Rows {
     }
 
     /// Takes cells into a new line; false where the lines are then too many or too long, and nothing changes.
-    fn begin_line(&mut self, cells: CellRun) -> bool
+    fn begin_line(&mut self, cells: RowPart) -> bool
         requires cells { (characters : List ℕ) × AreCells characters cells }
         requires lines { (lines : List (List ℕ)) × HoldsLines self.old lines [] }
         ensures lines { (lines : List (List ℕ)) (characters : List ℕ)
@@ -89,7 +89,7 @@ impl Rows {
     }
 
     /// Takes more cells into the last line; false where it is then too long.
-    fn lengthen_line(&mut self, cells: CellRun) -> bool
+    fn lengthen_line(&mut self, cells: RowPart) -> bool
         requires cells { (characters : List ℕ) × AreCells characters cells }
         requires lines { (lines : List (List ℕ)) × (x : ℕ) × (rest : List ℕ)
             × HoldsLines self.old lines (x ∷ rest) }
@@ -110,7 +110,7 @@ impl Rows {
         true
     }
 
-    /// Takes the whole lines at the front of some bytes, each with its LF, as
+    /// Takes the whole lines at the start of some bytes, each with its LF, as
     /// far as there is room for them, and says how many bytes they are.
     pub(crate) fn take_lines(&mut self, bytes: &[u8]) -> usize
         requires { (lines : List (List ℕ)) × HoldsLines self.old lines [] }
@@ -119,7 +119,7 @@ impl Rows {
             → EndsLines self.new lines (take result bytes.now) }
     {
         let mut at = 0;
-        while let Some(cells) = CellRun::of_text(&bytes[at..]) {
+        while let Some(cells) = RowPart::of_text(&bytes[at..]) {
             let end = at + usize::from(cells.count);
             if end == bytes.len() || bytes[end] != LF || !self.push_line(cells) {
                 break;
@@ -130,7 +130,7 @@ impl Rows {
     }
 
     /// Takes a whole line; false where the lines are then too many or too long, and nothing changes.
-    fn push_line(&mut self, line: CellRun) -> bool
+    fn push_line(&mut self, line: RowPart) -> bool
         requires cells { (characters : List ℕ) × AreCells characters line }
         requires lines { (lines : List (List ℕ)) × HoldsLines self.old lines [] }
         ensures held { OnTrue result

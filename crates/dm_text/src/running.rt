@@ -3,15 +3,14 @@
 ghost use Rattle.std.specs.Prelude.{◌≡◌, ◌≤◌, ◌<◌, ◌+◌, ◌-◌, ◌^◌, ◌∷◌, ◌++◌, ◌⊎◌, [], ℕ, false, List, MatchResult, IfOk, OnOk, OnErr, IsErrOf, length, max, take};
 ghost use Rattle.std.specs.Io.KnownBytes.{Appends};
 ghost use Rattle.dm_text.specs.Answers.{Answer as AnAnswer, table_text};
-ghost use Rattle.dm_text.specs.Devices.{AppendsFront, Counts, HasRisen, IsFlushedOnce};
-ghost use Rattle.dm_text.specs.inner.Gathering.{IsPassedOn};
-ghost use Rattle.dm_text.specs.Runs.{IsRun, tally_of, written};
+ghost use Rattle.dm_text.specs.Devices.{AppendsPrefix, Counts, HasRisen, IsFlushedOnce};
+ghost use Rattle.dm_text.specs.Runs.{IsRun, tally_of, answers_text};
 ghost use Rattle.dm_text.specs.inner.AnsweredSoFar.{Advances, AreCounted, HasBegunAnswers, HasBegunLast, HasTakenText, IsLastAnswered};
 
-use crate::answer::{Answer, Targets};
+use crate::answer::{Answers, Targets};
 use crate::answering::Answering;
 use crate::device::Failed;
-use crate::gathering::{Gathered, gather, put_gathered};
+use crate::gathering::{make_room, put_answers};
 use crate::sink::{Sink, put};
 use crate::source::Source;
 use crate::table::table_text;
@@ -32,7 +31,7 @@ const NO_ANSWER: Tally = Tally {
 ///
 /// It asks for at most `most` bytes, and, only once all of them have come, for one byte more.
 /// `Read` and `TooMuchInput` come after the answers to all that was closed by then have been
-/// written; where the sink fails, `Write` comes after a beginning of what was to be written.
+/// written; where the sink fails, `Write` comes after a prefix of what was to be written.
 /// A device that failed isn't tried again. It flushes once, when the end of the input has
 /// come and all is written; where that is Ok, the sink's mark of pending bytes is clear.
 ///
@@ -58,12 +57,11 @@ pub fn run<I: Source, O: Sink>(
     let mut left = most;
     let mut buffer = [0u8; PIECE];
     let mut targets = Targets::new();
-    let mut answer = Answer::none();
-    let mut gathered = Gathered::new();
+    let mut answers = Answers::new();
     'pieces: loop {
         let count = match next_piece(source, &mut buffer, left) {
             Ok(0) => {
-                return match end(&mut answering, sink, &mut tally, &mut targets, &mut answer) {
+                return match end(&mut answering, sink, &mut tally, &mut targets, &mut answers) {
                     Ok(()) => Ok(tally),
                     Err(Failed) => Err(RunFault::Write),
                 };
@@ -82,8 +80,7 @@ pub fn run<I: Source, O: Sink>(
             &mut tally,
             piece,
             &mut targets,
-            &mut answer,
-            &mut gathered,
+            &mut answers,
         ) {
             return Err(RunFault::Write);
         }
@@ -97,7 +94,7 @@ fn print_table<O: Sink>(sink: &mut O) -> Result<Tally, RunFault>
     ensures flushed { OnOk result (O.is_pending sink.new ≡ false) }
     ensures well { OnOk result (O.failed sink.new ≡ O.failed sink.old) }
     ensures err { OnErr result
-        (AppendsFront (O.contents sink.old) (O.contents sink.new) table_text) }
+        (AppendsPrefix (O.contents sink.old) (O.contents sink.new) table_text) }
     ensures failed { OnErr result (HasRisen (O.failed sink.old) (O.failed sink.new)) }
     ensures write { (fault : RunFault) → IsErrOf result fault → fault ≡ RunFault.Write }
     ensures held { OnOk result
@@ -109,18 +106,18 @@ fn print_table<O: Sink>(sink: &mut O) -> Result<Tally, RunFault>
         × Appends (O.contents sink.old) (O.contents sink.new) table_text)) }
 {
     let text = table_text();
-    match put_all(sink, text.as_slice()) {
+    match put_and_flush(sink, text.as_slice()) {
         Ok(()) => Ok(NO_ANSWER),
         Err(Failed) => Err(RunFault::Write),
     }
 }
 
 /// Writes all of the bytes, and flushes.
-fn put_all<O: Sink>(sink: &mut O, bytes: &[u8]) -> Result<(), Failed>
+fn put_and_flush<O: Sink>(sink: &mut O, bytes: &[u8]) -> Result<(), Failed>
     ensures ok { OnOk result (Appends (O.contents sink.old) (O.contents sink.new) bytes.now) }
     ensures flushed { OnOk result (O.is_pending sink.new ≡ false) }
     ensures err { OnErr result
-        (AppendsFront (O.contents sink.old) (O.contents sink.new) bytes.now) }
+        (AppendsPrefix (O.contents sink.old) (O.contents sink.new) bytes.now) }
     ensures held { OnOk result
         (IsFlushedOnce (O.flushed sink.old sink.new) (O.contents sink.old) (O.contents sink.new)) }
     ensures late { OnErr result
@@ -134,7 +131,7 @@ fn put_all<O: Sink>(sink: &mut O, bytes: &[u8]) -> Result<(), Failed>
     sink.flush()
 }
 
-/// Reads the next bytes of the source to the front of `buffer`, and says how many: no more than may still come, or one
+/// Reads the next bytes of the source to the start of `buffer`, and says how many: no more than may still come, or one
 /// if none may. The number 0 is the end of the input.
 fn next_piece<I: Source>(
     source: &mut I,
@@ -158,72 +155,40 @@ fn next_piece<I: Source>(
     source.read(&mut buffer[..most])
 }
 
-/// Takes a piece of the text, and writes the answers to what it closes. Each is made in `answer`, and they are put
-/// together in `gathered`, which is cleared first; it is written whenever it is full, and at the end.
+/// Takes a piece of the text, and writes the answers to what it closes. They are put together in `answers`, which is
+/// cleared first; it is written whenever it has no room for a further one, and at the end.
 fn answer_piece<O: Sink>(
     answering: &mut Answering,
     sink: &mut O,
     tally: &mut Tally,
     piece: &[u8],
     targets: &mut Targets,
-    answer: &mut Answer,
-    gathered: &mut Gathered,
+    answers: &mut Answers,
 ) -> Result<(), Failed>
     requires stands { HasTakenText answering.old }
     requires room { tally.old.answered + tally.old.refused + length piece.now < 2 ^ 64 }
     ensures ok { OnOk result
         ((more : List AnAnswer) × Advances answering.old piece.now more answering.new
-        × Appends (O.contents sink.old) (O.contents sink.new) (written more)
+        × Appends (O.contents sink.old) (O.contents sink.new) (answers_text more)
         × AreCounted tally.old tally.new more) }
     ensures sum { OnOk result
         (tally.new.answered + tally.new.refused ≤ tally.old.answered + tally.old.refused + length
         piece.now) }
     ensures err { OnErr result
         (HasBegunAnswers answering.old piece.now
-        (AppendsFront (O.contents sink.old) (O.contents sink.new))) }
+        (AppendsPrefix (O.contents sink.old) (O.contents sink.new))) }
     ensures unflushed { O.flushed sink.old sink.new [] }
     ensures count { Counts (O.failed sink.old) (O.failed sink.new) result }
 {
-    gathered.clear();
+    answers.clear();
     let mut rest = piece;
     loop {
-        match answering.feed(rest, targets, answer) {
-            None => return put_gathered(sink, gathered),
-            Some(taken) => {
-                if let Err(Failed) = gather_answer(sink, tally, answer, gathered) {
-                    return Err(Failed);
-                }
-                rest = &rest[taken..];
-            }
-        }
-    }
-}
-
-/// Gathers an answer, and counts it.
-fn gather_answer<O: Sink>(
-    sink: &mut O,
-    tally: &mut Tally,
-    answer: &Answer,
-    gathered: &mut Gathered,
-) -> Result<(), Failed>
-    requires room { tally.old.answered + tally.old.refused + 1 < 2 ^ 64 }
-    ensures ok { OnOk result
-        (IsPassedOn (O.contents sink.old) gathered.old.items answer.now.text (O.contents sink.new)
-        gathered.new.items) }
-    ensures tally { OnOk result (AreCounted tally.old tally.new (answer.now ∷ [])) }
-    ensures sum { OnOk result
-        (tally.new.answered + tally.new.refused ≡ tally.old.answered + tally.old.refused + 1) }
-    ensures err { OnErr result
-        (AppendsFront (O.contents sink.old) (O.contents sink.new) gathered.old.items) }
-    ensures unflushed { O.flushed sink.old sink.new [] }
-    ensures count { Counts (O.failed sink.old) (O.failed sink.new) result }
-{
-    match gather(sink, gathered, answer.text()) {
-        Ok(()) => {
-            count(tally, answer.is_refusal());
-            Ok(())
-        }
-        Err(Failed) => Err(Failed),
+        make_room(sink, answers)?;
+        let Some(taken) = answering.feed(rest, targets, answers) else {
+            return put_answers(sink, answers);
+        };
+        count_answer(tally, answers.last_is_refusal());
+        rest = &rest[taken..];
     }
 }
 
@@ -233,7 +198,7 @@ fn end<O: Sink>(
     sink: &mut O,
     tally: &mut Tally,
     targets: &mut Targets,
-    answer: &mut Answer,
+    answers: &mut Answers,
 ) -> Result<(), Failed>
     requires stands { HasTakenText answering.old }
     requires room { tally.old.answered + tally.old.refused + 1 < 2 ^ 64 }
@@ -242,7 +207,7 @@ fn end<O: Sink>(
         tally.old tally.new) }
     ensures flushed { OnOk result (O.is_pending sink.new ≡ false) }
     ensures err { OnErr result
-        (HasBegunLast answering.old (AppendsFront (O.contents sink.old) (O.contents sink.new))) }
+        (HasBegunLast answering.old (AppendsPrefix (O.contents sink.old) (O.contents sink.new))) }
     ensures held { OnOk result
         (IsFlushedOnce (O.flushed sink.old sink.new) (O.contents sink.old) (O.contents sink.new)) }
     ensures late { OnErr result
@@ -253,10 +218,8 @@ fn end<O: Sink>(
         tally.old tally.new)) }
     ensures count { Counts (O.failed sink.old) (O.failed sink.new) result }
 {
-    match put_last(answering, sink, tally, targets, answer) {
-        Ok(()) => sink.flush(),
-        Err(Failed) => Err(Failed),
-    }
+    put_last(answering, sink, tally, targets, answers)?;
+    sink.flush()
 }
 
 /// Writes the answer to what the end of the text closes.
@@ -265,7 +228,7 @@ fn put_last<O: Sink>(
     sink: &mut O,
     tally: &mut Tally,
     targets: &mut Targets,
-    answer: &mut Answer,
+    answers: &mut Answers,
 ) -> Result<(), Failed>
     requires stands { HasTakenText answering.old }
     requires room { tally.old.answered + tally.old.refused + 1 < 2 ^ 64 }
@@ -273,40 +236,21 @@ fn put_last<O: Sink>(
         (IsLastAnswered answering.old (Appends (O.contents sink.old) (O.contents sink.new))
         tally.old tally.new) }
     ensures err { OnErr result
-        (HasBegunLast answering.old (AppendsFront (O.contents sink.old) (O.contents sink.new))) }
+        (HasBegunLast answering.old (AppendsPrefix (O.contents sink.old) (O.contents sink.new))) }
     ensures unflushed { O.flushed sink.old sink.new [] }
     ensures count { Counts (O.failed sink.old) (O.failed sink.new) result }
 {
-    if answering.finish(targets, answer) {
-        put_answer(sink, tally, answer)
+    answers.clear();
+    if answering.answer_last(targets, answers) {
+        count_answer(tally, answers.last_is_refusal());
+        put_answers(sink, answers)
     } else {
         Ok(())
     }
 }
 
-/// Writes an answer, and counts it.
-fn put_answer<O: Sink>(sink: &mut O, tally: &mut Tally, answer: &Answer) -> Result<(), Failed>
-    requires room { tally.old.answered + tally.old.refused + 1 < 2 ^ 64 }
-    ensures ok { OnOk result (Appends (O.contents sink.old) (O.contents sink.new) answer.now.text) }
-    ensures tally { OnOk result (AreCounted tally.old tally.new (answer.now ∷ [])) }
-    ensures sum { OnOk result
-        (tally.new.answered + tally.new.refused ≡ tally.old.answered + tally.old.refused + 1) }
-    ensures err { OnErr result
-        (AppendsFront (O.contents sink.old) (O.contents sink.new) answer.now.text) }
-    ensures unflushed { O.flushed sink.old sink.new [] }
-    ensures count { Counts (O.failed sink.old) (O.failed sink.new) result }
-{
-    match put(sink, answer.text()) {
-        Ok(()) => {
-            count(tally, answer.is_refusal());
-            Ok(())
-        }
-        Err(Failed) => Err(Failed),
-    }
-}
-
 /// Counts an answer.
-fn count(tally: &mut Tally, refused: bool)
+fn count_answer(tally: &mut Tally, refused: bool)
     requires room { tally.old.answered + tally.old.refused + 1 < 2 ^ 64 }
     ensures tally { (answers : List AnAnswer) (answer : AnAnswer) → answer.refused ≡ refused
         → tally.old ≡ tally_of answers → tally.new ≡ tally_of (answers ++ answer ∷ []) }

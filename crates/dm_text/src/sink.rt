@@ -2,7 +2,7 @@
 
 ghost use Rattle.std.specs.Prelude.{◌≡◌, ◌≤◌, ◌<◌, ◌++◌, [], ℕ, Bool, true, false, List, Option, IfOk, OnOk, OnErr, length};
 ghost use Rattle.std.specs.Io.KnownBytes.{Appends, Keeps, WriteAppends};
-ghost use Rattle.dm_text.specs.Devices.{AppendsFront, Counts, IsFlushedOnce, Marks};
+ghost use Rattle.dm_text.specs.Devices.{AppendsPrefix, Counts, IsFlushedOnce, Marks};
 
 use crate::device::{Failed, count_failure, failure};
 use std::io::Write;
@@ -24,7 +24,7 @@ pub trait Sink {
     // many bytes had been taken in all by then, as far as the sink tells it.
     ghost flushed: { Self → Self → List ℕ → Type 0 };
 
-    /// Takes a front of `bytes`, and says how long it is: at least 1, unless `bytes` is empty.
+    /// Takes a prefix of `bytes`, and says how long it is: at least 1, unless `bytes` is empty.
     fn write(&mut self, bytes: &[u8]) -> Result<usize, Failed>
         ensures bound { IfOk result (λ n. n ≤ length bytes.now) }
         ensures some { IfOk result (λ n. 0 < length bytes.now → 0 < n) }
@@ -42,7 +42,7 @@ pub trait Sink {
             (contents self.new) }
         ensures count { Counts (failed self.old) (failed self.new) result };
 
-    /// How many writes and flushes have failed. The count stays at `u64::MAX` once it has reached it.
+    /// Gives how many writes and flushes have failed. The count stays at `u64::MAX` once it has reached it.
     fn failures(&self) -> u64
         ensures { result ≡ failed self.now };
 
@@ -54,7 +54,8 @@ pub trait Sink {
     ghost flushed_none: { (s : Self) → flushed s s [] };
 
     // The flushes from one state to a second, and from that to a third, are joined.
-    ghost flushed_joined: { (a b c : Self) → (x y : List ℕ) → flushed a b x → flushed b c y → flushed a c (x ++ y) };
+    ghost flushed_joined: { (a b c : Self) → (x y : List ℕ) → flushed a b x → flushed b c y
+        → flushed a c (x ++ y) };
 }
 
 /// A sink from any writer of std. Each error of the writer is a failure, `Interrupted` too, and so is a write of some
@@ -69,8 +70,7 @@ pub struct ToWrite<W: Write + Drop> {
 impl<W: Write + Drop> ToWrite<W> {
     ghost use Rattle.dm_text.specs.Readers.{writer_of};
 
-    /// A sink with no failure yet, which writes to `writer`. What the writer took before counts as
-    /// pending.
+    /// Gives a sink with no failure yet, which writes to `writer`. What the writer took before counts as pending.
     pub fn new(writer: W) -> Self
         ensures writer { writer_of result ≡ writer }
         ensures none { ⟦<ToWrite<W> as Sink>⟧.failed result ≡ 0 }
@@ -98,8 +98,8 @@ impl<W: Write + Drop> Sink for ToWrite<W> {
     ghost flushed_joined = { λ a b c x y first then. tt };
 
     fn write(&mut self, bytes: &[u8]) -> Result<usize, Failed> {
-        let answer = self.writer.write(bytes);
-        let taken = count_failure(&mut self.failures, answer)?;
+        let outcome = self.writer.write(bytes);
+        let taken = count_failure(&mut self.failures, outcome)?;
         if bytes.is_empty() {
             return Ok(taken);
         }
@@ -111,8 +111,8 @@ impl<W: Write + Drop> Sink for ToWrite<W> {
     }
 
     fn flush(&mut self) -> Result<(), Failed> {
-        let answer = self.writer.flush();
-        count_failure(&mut self.failures, answer)?;
+        let outcome = self.writer.flush();
+        count_failure(&mut self.failures, outcome)?;
         self.pending = false;
         Ok(())
     }
@@ -126,20 +126,18 @@ impl<W: Write + Drop> Sink for ToWrite<W> {
     }
 }
 
-/// Writes all of the bytes, or a beginning of them if the sink fails.
+/// Writes all of the bytes, or a prefix of them if the sink fails.
 pub(crate) fn put<O: Sink>(sink: &mut O, bytes: &[u8]) -> Result<(), Failed>
     ensures ok { OnOk result (Appends (O.contents sink.old) (O.contents sink.new) bytes.now) }
     ensures err { OnErr result
-        (AppendsFront (O.contents sink.old) (O.contents sink.new) bytes.now) }
+        (AppendsPrefix (O.contents sink.old) (O.contents sink.new) bytes.now) }
     ensures unflushed { O.flushed sink.old sink.new [] }
     ensures count { Counts (O.failed sink.old) (O.failed sink.new) result }
 {
     let mut at = 0;
     while at < bytes.len() {
-        match sink.write(&bytes[at..]) {
-            Ok(taken) => at += taken,
-            Err(failed) => return Err(failed),
-        }
+        let taken = sink.write(&bytes[at..])?;
+        at += taken;
     }
     Ok(())
 }

@@ -25,7 +25,7 @@ pub trait Source {
     // counted from the first, as far as the source tells it.
     ghost asked: { Self → Self → ℕ → Type 0 };
 
-    /// Reads bytes into the front of `into`, and says how many. The number 0 is the end of the
+    /// Reads bytes to the start of `into`, and says how many. The number 0 is the end of the
     /// input, unless `into` is empty.
     fn read(&mut self, into: &mut [u8]) -> Result<usize, Failed>
         ensures bound { IfOk result (λ n. n ≤ length into.new) }
@@ -35,7 +35,7 @@ pub trait Source {
         ensures asked { asked self.old self.new (length into.new) }
         ensures count { Counts (failed self.old) (failed self.new) result };
 
-    /// How many reads have failed. The count stays at `u64::MAX` once it has reached it.
+    /// Gives how many reads have failed. The count stays at `u64::MAX` once it has reached it.
     fn failures(&self) -> u64
         ensures { result ≡ failed self.now };
 
@@ -43,14 +43,15 @@ pub trait Source {
     ghost gave_none: { (s : Self) → gave s s [] };
 
     // What was given from one state to a second, and from that to a third, is joined.
-    ghost gave_joined: { (a b c : Self) → (x y : List ℕ) → gave a b x → gave b c y → gave a c (x ++ y) };
+    ghost gave_joined: { (a b c : Self) → (x y : List ℕ) → gave a b x → gave b c y
+        → gave a c (x ++ y) };
 
     // From a state to itself nothing was asked for.
     ghost asked_none: { (s : Self) → asked s s 0 };
 
     // What was asked for from a second state to a third counts on from what was given before.
-    ghost asked_joined: { (a b c : Self) → (x : List ℕ) (m n most : ℕ) → gave a b x → asked a b m → asked b c n
-        → m ≤ most → length x + n ≤ most → asked a c most };
+    ghost asked_joined: { (a b c : Self) → (x : List ℕ) (m n most : ℕ) → gave a b x
+        → asked a b m → asked b c n → m ≤ most → length x + n ≤ most → asked a c most };
 }
 
 /// A source from any reader of std. Each error of the reader is a failure, `Interrupted` too. It doesn't tell how much is
@@ -64,7 +65,7 @@ pub struct FromRead<R: Read + Drop> {
 impl<R: Read + Drop> FromRead<R> {
     ghost use Rattle.dm_text.specs.Readers.{reader_of};
 
-    /// A source with no failure yet, which reads from `reader`.
+    /// Gives a source with no failure yet, which reads from `reader`.
     pub fn new(reader: R) -> Self
         ensures reader { reader_of result ≡ reader }
         ensures none { ⟦<FromRead<R> as Source>⟧.failed result ≡ 0 }
@@ -91,11 +92,12 @@ impl<R: Read + Drop> Source for FromRead<R> {
 
     ghost gave_none = { λ s. consumed_none (R.remaining s.reader) };
 
-    ghost gave_joined = { λ a b c. consumed_joined (R.remaining a.reader) (R.remaining b.reader) (R.remaining c.reader) };
+    ghost gave_joined = { λ a b c.
+        consumed_joined (R.remaining a.reader) (R.remaining b.reader) (R.remaining c.reader) };
 
     fn read(&mut self, into: &mut [u8]) -> Result<usize, Failed> {
-        let answer = self.reader.read(into);
-        count_failure(&mut self.failures, answer)
+        let outcome = self.reader.read(into);
+        count_failure(&mut self.failures, outcome)
     }
 
     fn failures(&self) -> u64 {

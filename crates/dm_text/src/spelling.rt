@@ -26,7 +26,7 @@ pub(crate) enum Next {
 }
 
 impl Pending {
-    /// How many bytes are pending.
+    /// Gives how many bytes are pending.
     pub(crate) fn count(self) -> u64
         ensures { result ≡ length (pending_bytes self) }
     {
@@ -38,7 +38,7 @@ impl Pending {
         }
     }
 
-    /// What the pending bytes and one more come to.
+    /// Gives what the pending bytes and one more come to.
     pub(crate) fn next(self, byte: u8) -> Next
         ensures { IsNext (pending_bytes self ++ byte ∷ []) result }
     {
@@ -51,7 +51,7 @@ impl Pending {
     }
 }
 
-/// The value of a hexadecimal digit, of either case.
+/// Gives the value of a hexadecimal digit, of either case.
 fn hex_value(digit: u8) -> Option<u8>
     ensures some { IfSome result (λ value. IsHexDigit digit value) }
     ensures none { IfNone result ((value : ℕ) → IsHexDigit digit value → ⊥) }
@@ -64,7 +64,7 @@ fn hex_value(digit: u8) -> Option<u8>
     }
 }
 
-/// The first byte of a spelling.
+/// Gives what the first byte of a spelling comes to.
 fn first(byte: u8) -> Next
     ensures { IsNext (byte ∷ []) result }
 {
@@ -75,7 +75,7 @@ fn first(byte: u8) -> Next
     }
 }
 
-/// The byte after a backslash.
+/// Gives what the byte after a backslash comes to.
 fn after_backslash(byte: u8) -> Next
     ensures { IsNext (92 ∷ byte ∷ []) result }
 {
@@ -87,7 +87,7 @@ fn after_backslash(byte: u8) -> Next
     }
 }
 
-/// The byte after `\x`.
+/// Gives what the byte after `\x` comes to.
 fn first_digit(byte: u8) -> Next
     ensures { IsNext (92 ∷ 120 ∷ byte ∷ []) result }
 {
@@ -97,7 +97,7 @@ fn first_digit(byte: u8) -> Next
     }
 }
 
-/// The byte after `\x` and a digit.
+/// Gives what the byte after `\x` and a digit comes to.
 fn second_digit(first: u8, byte: u8) -> Next
     ensures { IsNext (92 ∷ 120 ∷ first ∷ byte ∷ []) result }
 {

@@ -3,6 +3,8 @@
 use dm_symbol::Profile;
 use thiserror::Error;
 
+// The program prints these lines as they stand, so they begin with its name.
+
 /// The line of a run of which a read failed.
 pub const READ_FAILED: &str = "dm_tool: read failed";
 
@@ -37,10 +39,12 @@ pub(crate) enum RecordTask {
     Normal(Option<u16>, Profile),
 }
 
-/// How many records or lines were answered, and how many refused.
+/// How many records or lines there were, by their answers: `answered` counts those whose answer is no refusal, and `refused` the others.
 #[derive(Clone, Copy, Debug, PartialEq, Eq)]
 pub struct Tally {
+    /// How many answers are no refusals.
     pub answered: u64,
+    /// How many answers are refusals.
     pub refused: u64,
 }
 

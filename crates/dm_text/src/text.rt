@@ -7,7 +7,7 @@ use std::marker::Model;
 /// The byte that ends a line.
 pub(crate) const LF: u8 = b'\n';
 
-/// A text of at most `N` bytes, at the front of a buffer for so many. What stands behind it means nothing, so that nothing is written
+/// A text of at most `N` bytes, at the start of a buffer for so many. What stands behind it means nothing, so that nothing is written
 /// where it becomes empty: a short text costs nothing for the room of the longest.
 #[derive(Drop)]
 pub(crate) struct Text<const N: usize> {
@@ -27,7 +27,7 @@ impl<const N: usize> Model for Text<N> {
 }
 
 impl<const N: usize> Text<N> {
-    /// No byte.
+    /// Begins with no byte.
     pub(crate) fn new() -> Self
         ensures { result.items ≡ [] }
     {
@@ -37,7 +37,7 @@ impl<const N: usize> Text<N> {
         }
     }
 
-    /// How many bytes there are.
+    /// Gives how many bytes there are.
     pub(crate) fn len(&self) -> usize
         ensures value { result ≡ length self.now.items }
         ensures fits { result ≤ N }
@@ -45,7 +45,7 @@ impl<const N: usize> Text<N> {
         self.count
     }
 
-    /// The bytes.
+    /// Gives the bytes.
     pub(crate) fn as_slice(&self) -> &[u8]
         ensures value { result.now ≡ self.now.items }
         ensures fits { length result.now ≤ N }
@@ -73,8 +73,9 @@ impl<const N: usize> Text<N> {
         requires { length self.old.items < N }
         ensures { self.new.items ≡ self.old.items ++ byte ∷ [] }
     {
-        self.buffer[self.count] = byte;
-        self.count += 1;
+        let count = self.count;
+        self.buffer[count] = byte;
+        self.count = count + 1;
     }
 
     /// Appends bytes.

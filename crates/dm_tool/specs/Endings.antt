@@ -1,7 +1,7 @@
 -- The program's endings after a run: its exit status, and its line on standard error.
 use Rattle.std.specs.Prelude.{◌≡◌, ◌<◌, ℕ, List, [], codes, Result, Ok, Err}
 use Rattle.dm_text.specs.declared.RunFault.{RunFault}
-use Rattle.dm_text.specs.declared.RunFault.TheVariants as run
+use Rattle.dm_text.specs.declared.RunFault.TheVariants as fault
 use Rattle.dm_text.specs.declared.Tally.{Tally}
 
 -- The program ends with this status, and with this line on standard error.
@@ -13,6 +13,6 @@ Ends s l status line = (status ≡ s) × (line ≡ l)
 abbrev pub IsEndingOf : Result Tally RunFault → ℕ → List ℕ → Type 0
 IsEndingOf (Ok tally) status line =
     (tally.refused ≡ 0 → Ends 0 [] status line) × (0 < tally.refused → Ends 1 [] status line)
-IsEndingOf (Err run.Read) status line = Ends 3 (codes "dm_tool: read failed") status line
-IsEndingOf (Err run.Write) status line = Ends 3 (codes "dm_tool: write failed") status line
-IsEndingOf (Err run.TooMuchInput) status line = Ends 3 (codes "dm_tool: too much input") status line
+IsEndingOf (Err fault.Read) status line = Ends 3 (codes "dm_tool: read failed") status line
+IsEndingOf (Err fault.Write) status line = Ends 3 (codes "dm_tool: write failed") status line
+IsEndingOf (Err fault.TooMuchInput) status line = Ends 3 (codes "dm_tool: too much input") status line

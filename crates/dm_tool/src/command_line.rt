@@ -6,7 +6,7 @@ ghost use Rattle.clap.specs.Takes.{takes};
 ghost use Rattle.clap.specs.Walk.{rule_of, rows_of};
 ghost use Rattle.clap.specs.Matches.{found_of};
 ghost use Rattle.clap.specs.Values.{kind_of};
-ghost use Rattle.clap.specs.Simple.{Shape, app_of, shape_of, subcommand_of, subcommand_rows_of, new_shape, with_subcommand};
+ghost use Rattle.clap.specs.Simple.{App, Shape, app_of, shape_of, subcommand_of, subcommand_rows_of, new_shape, with_subcommand};
 ghost use Rattle.clap.specs.declared.builder.command.Command.TheViews.{out-Command};
 ghost use Rattle.dm_tool.specs.CommandLine.{GivesLimit, GivesProfile, IsTaskOf, NamesTask, border_rule, dm_app, shorter_rule, texts_of, top_app, with_border as bordered, with_both as both, with_shorter as shortened};
 ghost use Rattle.dm_tool.specs.inner.CommandReads.{HasNoTask, IsReadable};
@@ -17,7 +17,7 @@ use clap::{Arg, ArgAction, ArgMatches, Command, Error};
 use dm_text::{Profile, Task};
 use std::alloc::{AllocError, Global};
 
-/// The option `--border N`.
+/// Gives the option `--border N`.
 fn border<'a>(alloc: Global) -> Arg<'a>
     ensures rule { rule_of result ≡ border_rule }
     ensures local { result.global ≡ false }
@@ -27,7 +27,7 @@ fn border<'a>(alloc: Global) -> Arg<'a>
         .value_parser(clap::value_parser!(u16))
 }
 
-/// The flag `--shorter`.
+/// Gives the flag `--shorter`.
 fn shorter<'a>(alloc: Global) -> Arg<'a>
     ensures rule { rule_of result ≡ shorter_rule }
     ensures local { result.global ≡ false }
@@ -37,7 +37,7 @@ fn shorter<'a>(alloc: Global) -> Arg<'a>
         .action(ArgAction::SetTrue)
 }
 
-/// A subcommand with the option alone.
+/// Gives a subcommand with the option alone.
 fn with_border<'a>(alloc: Global, name: &'a str) -> Result<Command<'a>, AllocError>
     ensures shape { IfOk result (λ c. shape_of c ≡ bordered name.entry.now) }
     ensures local { IfOk result (λ c. (out-Command c).has_globals ≡ false) }
@@ -45,7 +45,7 @@ fn with_border<'a>(alloc: Global, name: &'a str) -> Result<Command<'a>, AllocErr
     Command::new(alloc, name).arg(border(alloc))
 }
 
-/// A subcommand with the flag alone.
+/// Gives a subcommand with the flag alone.
 fn with_shorter<'a>(alloc: Global, name: &'a str) -> Result<Command<'a>, AllocError>
     ensures shape { IfOk result (λ c. shape_of c ≡ shortened name.entry.now) }
     ensures local { IfOk result (λ c. (out-Command c).has_globals ≡ false) }
@@ -53,17 +53,15 @@ fn with_shorter<'a>(alloc: Global, name: &'a str) -> Result<Command<'a>, AllocEr
     Command::new(alloc, name).arg(shorter(alloc))
 }
 
-/// A subcommand with both.
+/// Gives a subcommand with both.
 fn with_both<'a>(alloc: Global, name: &'a str) -> Result<Command<'a>, AllocError>
     ensures shape { IfOk result (λ c. shape_of c ≡ both name.entry.now) }
     ensures local { IfOk result (λ c. (out-Command c).has_globals ≡ false) }
 {
-    Command::new(alloc, name)
-        .arg(border(alloc))?
-        .arg(shorter(alloc))
+    with_border(alloc, name)?.arg(shorter(alloc))
 }
 
-/// A subcommand with neither.
+/// Gives a subcommand with neither.
 fn plain<'a>(alloc: Global, name: &'a str) -> Command<'a>
     ensures shape { shape_of result ≡ new_shape name.entry.now }
     ensures local { (out-Command result).has_globals ≡ false }
@@ -71,7 +69,7 @@ fn plain<'a>(alloc: Global, name: &'a str) -> Command<'a>
     Command::new(alloc, name)
 }
 
-/// The command without its subcommands.
+/// Gives the command without its subcommands.
 fn top<'a>(alloc: Global) -> Command<'a>
     ensures { app_of result ≡ top_app }
 {
@@ -80,40 +78,47 @@ fn top<'a>(alloc: Global) -> Command<'a>
         .disable_help_subcommand(true)
 }
 
-/// The command with one more subcommand, if there was memory for it.
+/// Gives a command with one more subcommand, if there was memory for both.
+// (Both come as results, since each `?` in a function that holds commands is dear to prove.)
 fn add_subcommand<'a>(
-    command: Command<'a>,
+    command: Result<Command<'a>, AllocError>,
     sub: Result<Command<'a>, AllocError>,
 ) -> Result<Command<'a>, AllocError>
     requires { IfOk sub (λ s. (out-Command s).has_globals ≡ false) }
-    ensures { (shape : Shape) → IfOk sub.entry (λ s. shape_of s ≡ shape)
-        → IfOk result (λ c. app_of c ≡ with_subcommand (app_of command.entry) shape) }
+    ensures { (app : App) (shape : Shape) → IfOk command.entry (λ c. app_of c ≡ app)
+        → IfOk sub.entry (λ s. shape_of s ≡ shape)
+        → IfOk result (λ c. app_of c ≡ with_subcommand app shape) }
 {
-    let sub = sub?;
-    command.subcommand(sub)
+    match command {
+        Ok(command) => match sub {
+            Ok(sub) => command.subcommand(sub),
+            Err(error) => Err(error),
+        },
+        Err(error) => Err(error),
+    }
 }
 
-/// The command with the three subcommands whose input are grids.
+/// Gives the command with the three subcommands whose input are grids.
 fn for_grids<'a>(alloc: Global) -> Result<Command<'a>, AllocError>
     ensures { IfOk result
         (λ c. app_of c ≡ with_subcommand
         (with_subcommand (with_subcommand top_app (bordered (codes "read")))
         (bordered (codes "check"))) (both (codes "normal"))) }
 {
-    let with_read = add_subcommand(top(alloc), with_border(alloc, "read"))?;
-    let with_check = add_subcommand(with_read, with_border(alloc, "check"))?;
+    let with_read = add_subcommand(Ok(top(alloc)), with_border(alloc, "read"));
+    let with_check = add_subcommand(with_read, with_border(alloc, "check"));
     add_subcommand(with_check, with_both(alloc, "normal"))
 }
 
-/// The command with its five subcommands.
+/// Gives the command with its five subcommands.
 fn command<'a>(alloc: Global) -> Result<Command<'a>, AllocError>
     ensures { IfOk result (λ c. app_of c ≡ dm_app) }
 {
-    let with_write = add_subcommand(for_grids(alloc)?, with_shorter(alloc, "write"))?;
+    let with_write = add_subcommand(for_grids(alloc), with_shorter(alloc, "write"));
     add_subcommand(with_write, Ok(plain(alloc, "table")))
 }
 
-/// The border limit among the matches of a subcommand.
+/// Gives the border limit among the matches of a subcommand.
 fn limit_in(matches: &ArgMatches<'_>) -> Option<u16>
     ensures { IsReadable (rows_of (found_of matches.now))
         → GivesLimit (rows_of (found_of matches.now)) result }
@@ -121,7 +126,7 @@ fn limit_in(matches: &ArgMatches<'_>) -> Option<u16>
     matches.get_one::<u16>("border")
 }
 
-/// The profile among the matches of a subcommand.
+/// Gives the profile among the matches of a subcommand.
 fn profile_in(matches: &ArgMatches<'_>) -> Profile
     ensures { IsReadable (rows_of (found_of matches.now))
         → GivesProfile (rows_of (found_of matches.now)) result }
@@ -133,7 +138,7 @@ fn profile_in(matches: &ArgMatches<'_>) -> Profile
     }
 }
 
-/// The task of a subcommand, by its name and its matches.
+/// Gives the task of a subcommand, by its name and its matches.
 fn task_in(name: &str, matches: &ArgMatches<'_>) -> Option<Task>
     ensures some { IfSome result (λ t. IsReadable (rows_of (found_of matches.now))
         → IsTaskOf name.now (rows_of (found_of matches.now)) t) }
@@ -149,7 +154,7 @@ fn task_in(name: &str, matches: &ArgMatches<'_>) -> Option<Task>
     }
 }
 
-/// The fault of a command line in which clap finds this error.
+/// Gives the fault of a command line in which clap finds this error.
 fn fault_in(error: Error) -> CallFault
     ensures { (result ≡ CallFault.Memory) ↔ (kind_of error ≡ ErrorKind.OutOfMemory) }
 {
@@ -160,18 +165,18 @@ fn fault_in(error: Error) -> CallFault
     }
 }
 
-/// The task that the matches of the command name.
+/// Gives the task that the matches of the command name.
 fn task_among(matches: &ArgMatches<'_>) -> Option<Task>
     ensures some { IfSome result (λ t. (found : _) → subcommand_rows_of matches.now ≡ Some found
         → IsReadable found.1 → IsTaskOf found.0 found.1 t) }
     ensures none { IfNone result
         ((found : _) → subcommand_rows_of matches.now ≡ Some found → HasNoTask found.0) }
 {
-    let (name, inner) = matches.subcommand()?;
-    task_in(name, inner)
+    let (name, below) = matches.subcommand()?;
+    task_in(name, below)
 }
 
-/// The task of a command line, whose first word is the program's name.
+/// Gives the task of a command line, whose first word is the program's name.
 ///
 /// The error is `CallFault::Usage` where clap finds a fault in the words or they ask for help, and
 /// `CallFault::Memory` where there was no memory to parse them.

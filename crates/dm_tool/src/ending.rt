@@ -14,8 +14,7 @@ pub(crate) const USAGE: &str =
 /// The line where memory was refused.
 pub(crate) const NO_MEMORY: &str = "dm_tool: no memory";
 
-/// The exit status after a run, and the line for standard error without its LF, empty where there
-/// is none.
+/// Gives the exit status after a run, and the line for standard error without its LF, empty where there is none.
 ///
 /// The status is 0 where nothing was refused, 1 where something was, and 3 where the run failed.
 pub fn ending(outcome: &Result<Tally, RunFault>) -> (u8, &'static str)
@@ -30,7 +29,7 @@ pub fn ending(outcome: &Result<Tally, RunFault>) -> (u8, &'static str)
     }
 }
 
-/// The exit status where no task was run, and the line for standard error.
+/// Gives the exit status where no task was run, and the line for standard error.
 ///
 /// The status is 2 for a command line that the program doesn't know, and 3 where there was no memory.
 pub(crate) fn call_ending(fault: CallFault) -> (u8, &'static str)

@@ -14,8 +14,8 @@ mod tests;
 
 pub use command_line::task_of;
 pub use dm_text::{
-    Failed, Fed, FromRead, GridFeed, LineFault, LineFed, LineFeed, RecordFault, RunFault, Sink,
-    Source, Tally, Task, ToWrite, message_from, message_text, run, run_streams,
+    Failed, Fed, FromRead, GridFeed, LineFault, LineFed, LineFeed, Profile, RecordFault, RunFault,
+    Sink, Source, Tally, Task, ToWrite, message_from, message_text, run, run_streams,
 };
 use ending::call_ending;
 pub use ending::ending;
@@ -24,19 +24,18 @@ use std::io::Write;
 use std::process::ExitCode;
 use std::{env, io};
 
-/// The task of the program's own command line. A word that isn't UTF-8 names no task.
-fn task_of_call(rt: &HostRuntime) -> Result<Task, CallFault> {
-    let given = match env::args(rt) {
-        Ok(given) => given,
-        Err(error) if error.kind() == io::ErrorKind::OutOfMemory => return Err(CallFault::Memory),
-        Err(_) => return Err(CallFault::Usage),
-    };
-    let mut texts = Vec::new(rt.alloc());
-    for text in given {
-        if texts.push(text).is_err() {
-            return Err(CallFault::Memory);
-        }
+/// Gives the words of the program's own command line. One that isn't UTF-8 makes it a line that names no task.
+fn words_of_call(rt: &HostRuntime) -> Result<Vec<String>, CallFault> {
+    match env::args(rt) {
+        Ok(given) => given.collect(rt.alloc()).or(Err(CallFault::Memory)),
+        Err(error) if error.kind() == io::ErrorKind::OutOfMemory => Err(CallFault::Memory),
+        Err(_) => Err(CallFault::Usage),
     }
+}
+
+/// Gives the task of the program's own command line.
+fn task_of_call(rt: &HostRuntime) -> Result<Task, CallFault> {
+    let texts = words_of_call(rt)?;
     let mut words = Vec::new(rt.alloc());
     for text in texts.as_slice() {
         if words.push(text.as_str()).is_err() {

@@ -7,10 +7,10 @@ use Rattle.dm_text.specs.declared.task.RecordTask.TheVariants as record_task
 use Rattle.dm_text.specs.declared.task.Tally.{Tally}
 use Rattle.dm_text.specs.declared.answering.Answering.{Answering}
 use Rattle.dm_text.specs.declared.answering.Answering.TheVariants.{Records, Lines}
-use Rattle.dm_text.specs.RecordFeeds.{RecordAnswer, AreRecordsOfText}
-use Rattle.dm_text.specs.LineFeeds.{LineAnswer, AreOfText}
+use Rattle.dm_text.specs.RecordFeeds.{RecordMeaning, AreRecordsOfText}
+use Rattle.dm_text.specs.LineFeeds.{LineMeaning, AreOfText}
 use Rattle.dm_text.specs.Answers.{Answer, IsRecordAnswer, IsWriteAnswer}
-use Rattle.dm_text.specs.Runs.{AreAllAnswers, AreClosedAnswers, AreMatched, tally_of, written}
+use Rattle.dm_text.specs.Runs.{AreAllAnswers, AreClosedAnswers, AreMatched, tally_of, answers_text}
 
 -- A task that asks about records is a task.
 abbrev pub as_task : RecordTask → Task
@@ -21,9 +21,9 @@ as_task (record_task.Normal border profile) = Normal border profile
 -- After a text, these are the answers to what is closed within it, and the state holds what stands open.
 abbrev pub IsAnsweredSoFar : Task → Answering → List ℕ → List Answer → Type 0
 IsAnsweredSoFar task (Records asked facts) text answers =
-    (as_task asked ≡ task) × (records : List RecordAnswer) × AreRecordsOfText text records facts × AreMatched (IsRecordAnswer task) records answers
+    (as_task asked ≡ task) × (records : List RecordMeaning) × AreRecordsOfText text records facts × AreMatched (IsRecordAnswer task) records answers
 IsAnsweredSoFar task (Lines profile facts) text answers =
-    (task ≡ Write profile) × (lines : List LineAnswer) × AreOfText text lines facts × AreMatched (IsWriteAnswer profile) lines answers
+    (task ≡ Write profile) × (lines : List LineMeaning) × AreOfText text lines facts × AreMatched (IsWriteAnswer profile) lines answers
 
 -- The state is that after some text.
 abbrev pub HasTakenText : Answering → Type 0
@@ -37,11 +37,11 @@ Advances old piece more new = (task : Task) (text : List ℕ) (answers : List An
 abbrev pub EndsAnswered : Answering → List Answer → Type 0
 EndsAnswered old last = (task : Task) (text : List ℕ) (answers : List Answer) → IsAnsweredSoFar task old text answers → AreAllAnswers task text (answers ++ last)
 
--- Whatever text has come, the sink took a beginning of what is written
+-- Whatever text has come, the sink took a prefix of what is written
 -- for the records or lines that a further piece closes.
 abbrev pub HasBegunAnswers : Answering → List ℕ → (List ℕ → Type 0) → Type 0
-HasBegunAnswers old piece TookFront = (task : Task) (text : List ℕ) (answers : List Answer) → IsAnsweredSoFar task old text answers
-    → (more : List Answer) × AreClosedAnswers task (text ++ piece) (answers ++ more) × TookFront (written more)
+HasBegunAnswers old piece TookPrefix = (task : Task) (text : List ℕ) (answers : List Answer) → IsAnsweredSoFar task old text answers
+    → (more : List Answer) × AreClosedAnswers task (text ++ piece) (answers ++ more) × TookPrefix (answers_text more)
 
 -- The tally counts further answers.
 abbrev pub AreCounted : Tally → Tally → List Answer → Type 0
@@ -49,8 +49,8 @@ AreCounted before after more = (answers : List Answer) → before ≡ tally_of a
 
 -- The sink took what is written for the record or line that the end of the text closes, if it closes one, and the tally counts it.
 abbrev pub IsLastAnswered : Answering → (List ℕ → Type 0) → Tally → Tally → Type 0
-IsLastAnswered old Took before after = (last : List Answer) × EndsAnswered old last × Took (written last) × AreCounted before after last
+IsLastAnswered old Took before after = (last : List Answer) × EndsAnswered old last × Took (answers_text last) × AreCounted before after last
 
--- The sink took a beginning of what is written for the record or line that the end of the text closes, if it closes one.
+-- The sink took a prefix of what is written for the record or line that the end of the text closes, if it closes one.
 abbrev pub HasBegunLast : Answering → (List ℕ → Type 0) → Type 0
-HasBegunLast old TookFront = (last : List Answer) × EndsAnswered old last × TookFront (written last)
+HasBegunLast old TookPrefix = (last : List Answer) × EndsAnswered old last × TookPrefix (answers_text last)

@@ -5,7 +5,7 @@ use Rattle.dm_symbol.specs.declared.Item.{Item}
 use Rattle.dm_text.specs.Spellings.{IsSpelling}
 use Rattle.dm_text.specs.Texts.{HasNoLf, lf}
 use Rattle.dm_text.specs.LineFacts.{AreLineFacts, CanBecomeSpelling, LineFacts, Faulty, Good}
-use Rattle.dm_text.specs.LineFeeds.{LineAnswer}
+use Rattle.dm_text.specs.LineFeeds.{LineMeaning}
 use Rattle.dm_text.specs.declared.message_line.LineFault.{LineFault}
 use Rattle.dm_text.specs.declared.spelling.Pending.{Pending}
 use Rattle.dm_text.specs.declared.spelling.Pending.TheVariants as begun
@@ -18,7 +18,7 @@ use Rattle.dm_text.specs.declared.open_line.State.TheVariants as state
 abbrev pub IsPlain : ℕ → Type 0
 IsPlain b = (32 ≤ b) × (b ≤ 126) × (b ≢ 92)
 
--- No spelling stands at the front of these bytes.
+-- No spelling stands at the start of these bytes.
 abbrev pub BeginsNoSpelling : List ℕ → Type 0
 BeginsNoSpelling bytes = (piece more : List ℕ) (item : Item) → bytes ≡ piece ++ more → IsSpelling piece item → ⊥
 
@@ -38,12 +38,12 @@ IsNext bytes next.Fault = (more : List ℕ) → BeginsNoSpelling (bytes ++ more)
 -- A state stands for these facts.
 abbrev pub facts_of : State → LineFacts
 facts_of (state.Faulty column) = Faulty column
-facts_of (state.Good good) = Good good.front_length good.items (pending_bytes good.pending)
+facts_of (state.Good good) = Good good.prefix_length good.items (pending_bytes good.pending)
 
 -- A line whose message is pointed to means that message.
-abbrev pub pointed_to : Result (Bor (List Item)) LineFault → LineAnswer
-pointed_to (Ok message) = Ok message.now
-pointed_to (Err fault) = Err fault
+abbrev pub meaning_by_value : Result (Bor (List Item)) LineFault → LineMeaning
+meaning_by_value (Ok message) = Ok message.now
+meaning_by_value (Err fault) = Err fault
 
 -- The first LF of a text stands after `before`.
 pub record IsFirstLf (text before after : List ℕ) : Type 0 where

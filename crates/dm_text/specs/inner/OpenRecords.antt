@@ -2,11 +2,11 @@
 use Rattle.std.specs.Prelude.{◌≡◌, ◌==◌, ◌&&◌, ◌+◌, ◌*◌, ◌<◌, ◌≤◌, ℕ, Bool, true, false, not, if◌then◌else◌, List, [], ◌∷◌, ◌++◌, length, map, take, Option, Some, None}
 use Rattle.std.specs.List.{list_any, range_with_len}
 use Rattle.dm_symbol.specs.Grid.{is_dark_in}
-use Rattle.dm_text.specs.declared.cell_run.CellRun.{CellRun}
+use Rattle.dm_text.specs.declared.row_part.RowPart.{RowPart}
 use Rattle.dm_text.specs.declared.rows.Rows.{Rows}
 use Rattle.dm_text.specs.declared.record.Contents.{Contents}
 use Rattle.dm_text.specs.declared.record.Contents.TheVariants as kept
-use Rattle.dm_text.specs.Texts.{ended, last_line}
+use Rattle.dm_text.specs.Texts.{ended_lines, last_line}
 use Rattle.dm_text.specs.Records.{AreFullLines, IsClosedRecord, has_foreign, is_foreign, is_large}
 use Rattle.dm_text.specs.RecordFacts.{AreRecordFacts, RecordContents, RecordFacts, Foreign, Large, Cells, contents_of, facts_of_record, differ, first_length, last_length, is_nothing}
 
@@ -57,17 +57,17 @@ pub record HoldsLines (t : Rows) (lines : List (List ℕ)) (rest : List ℕ) : T
   pub small : is_large (lines ++ last_line rest) ≡ false
 
 -- The cells are those of these characters: 1 to 128, each of them 0 or 1.
-pub record AreCells (characters : List ℕ) (run : CellRun) : Type 0 where
-  pub bits_are : run.bits ≡ number_of characters
-  pub count_is : run.count ≡ length characters
-  pub some : 0 < run.count
-  pub few : run.count ≤ 128
+pub record AreCells (characters : List ℕ) (part : RowPart) : Type 0 where
+  pub bits_are : part.bits ≡ number_of characters
+  pub count_is : part.count ≡ length characters
+  pub some : 0 < part.count
+  pub few : part.count ≤ 128
   pub cells : list_any is_foreign characters ≡ false
 
 -- The cells are those of the first characters of a text.
-pub record AreFirstCells (text : List ℕ) (run : CellRun) : Type 0 where
-  pub within : run.count ≤ length text
-  pub cells : AreCells (take run.count text) run
+pub record AreFirstCells (text : List ℕ) (part : RowPart) : Type 0 where
+  pub within : part.count ≤ length text
+  pub cells : AreCells (take part.count text) part
 
 -- The last byte of lines, each ended by LF, and a rest is LF.
 abbrev pub is_ended : List (List ℕ) → List ℕ → Bool
@@ -89,7 +89,7 @@ pub record IsRecordState (ended : Bool) (contents : Contents) : Type 0 where
 -- These bytes are whole lines, each with its LF, and the rows are those of the lines before and of them.
 pub record EndsLines (t : Rows) (lines : List (List ℕ)) (bytes : List ℕ) : Type 0 where
   pub more : List (List ℕ)
-  pub bytes_are : bytes ≡ ended more
+  pub bytes_are : bytes ≡ ended_lines more
   pub full : AreFullLines more
   pub held : HoldsLines t (lines ++ more) []
 

@@ -6,14 +6,14 @@ ghost use Rattle.dm_text.specs.declared.task.Task.{Task};
 ghost use Rattle.dm_text.specs.declared.task.Task.TheVariants.{Table};
 ghost use Rattle.dm_text.specs.declared.task.Tally.{Tally};
 ghost use Rattle.dm_text.specs.Runs.{AreMatched, IsOut};
-ghost use Rattle.dm_text.specs.Cuts.{AreCutBetween, AreOuts, EndsBetween, PartOut, added, sum_of};
+ghost use Rattle.dm_text.specs.Cuts.{AreCutBetween, AreOuts, EndsBetween, PartOut, tally_sum, sum_of};
 
 /// Where a text ends between records, or between message lines, what is written for it, followed by what is written
 /// for a further text, is what is written for both together, and their counts add up.
 pub fn two_parts_are_the_whole()
     ensures { (task : Task) (first second a b : List ℕ) (s t : Tally) → task ≢ Table
         → EndsBetween task first → IsOut task first a s → IsOut task second b t
-        → IsOut task (first ++ second) (a ++ b) (added s t) }
+        → IsOut task (first ++ second) (a ++ b) (tally_sum s t) }
 {}
 
 /// The same holds of any number of parts, where each but the last ends between records, or between message lines.

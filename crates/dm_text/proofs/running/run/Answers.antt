@@ -1,10 +1,10 @@
 use Rattle.std.proofs.Common.{◌≡◌, ◌≤◌, ◌+◌, ◌-◌, ◌∙◌, [], ◌∷◌, ◌++◌, List, ℕ, zero, suc, append-nil, arith, inl, length, length-append, length-take-le, max, refl, subst, sym, take}
 use Rattle.std.specs.Io.KnownBytes.{Appends}
-use Rattle.dm_text.specs.Devices.{AppendsFront, HasRisen}
-use Rattle.dm_text.specs.Runs.{most_asked, written}
+use Rattle.dm_text.specs.Devices.{AppendsPrefix, HasRisen}
+use Rattle.dm_text.specs.Runs.{most_asked, answers_text}
 use Rattle.dm_text.proofs.Asks.{asked_by, next_is_within}
 use Rattle.dm_text.proofs.Flushes.{flushed_later, text_flushed}
-use Rattle.dm_text.proofs.KnownBytes.{appends_none, appends_then, front_then}
+use Rattle.dm_text.proofs.KnownBytes.{appends_none, appends_then, prefix_then}
 use Rattle.dm_text.proofs.Outcomes.{all_answered, broken_after, broken_before, done_so_far, too_much, written_append}
 use Rattle.dm_text.proofs.RunEndings.{ends_by_read, ends_by_too_much, ends_by_write, ends_table, ends_well}
 use Rattle.dm_text.proofs.AnsweredSoFar.{done_by, not_table}
@@ -72,10 +72,10 @@ returns-in-Ok-end g c =
           c.pieces.answering s.0 s.1 e.0 c.end.new.tally
           (no_more (g.I.Source.gave c.args.source.now c.next_piece.new.source) s.0 c.next_piece.new.buffer c.in-Ok-eq0.field-0 zero_bytes gave)
           (c.in-Ok-eq0.ensures.end zero_bytes) (few s.0 c.pieces.left c.args.most s.3) s.4 e.1 (e.3 s.1 s.6)
-          (subst (Appends was now) (sym (written_append s.1 e.0)) (appends_then was between now (written s.1) (written e.0) s.5 e.2)))
+          (subst (Appends was now) (sym (written_append s.1 e.0)) (appends_then was between now (answers_text s.1) (answers_text e.0) s.5 e.2)))
           c.in-Ok-end.ensures.flushed
           (flushed_later (g.O.Sink.flushed c.args.sink.now c.pieces.sink) (g.O.Sink.flushed c.pieces.sink c.end.new.sink) (g.O.Sink.flushed c.args.sink.now c.end.new.sink)
-          was between now (written s.1) (g.met.O.Sink.flushed_joined c.args.sink.now c.pieces.sink c.end.new.sink) c.pieces.invariant.unflushed s.5 c.in-Ok-end.ensures.held)
+          was between now (answers_text s.1) (g.met.O.Sink.flushed_joined c.args.sink.now c.pieces.sink c.end.new.sink) c.pieces.invariant.unflushed s.5 c.in-Ok-end.ensures.held)
           (c.in-Ok-eq0.ensures.count ∙ c.pieces.invariant.read_well) (c.in-Ok-end.ensures.count ∙ c.pieces.invariant.wrote_well)
           (asked_by g.I.Source.gave g.I.Source.asked g.met.I.Source.gave_joined g.met.I.Source.asked_joined c.args.source.now c.pieces.source c.next_piece.new.source s.0 _ c.pieces.left
           c.args.most s.2 c.in-Ok-eq0.ensures.bytes c.pieces.invariant.asked c.next_piece.ensures.asked s.3);
@@ -97,8 +97,8 @@ returns-in-Err-end g c =
     let now = g.O.Sink.contents c.end.new.sink in
     record {
       ends = ends_by_write
-          (broken_after c.args.task c.args.most Gave (AppendsFront was now) Ended c.pieces.answering s.0 s.1 e.0 gave ended within_most s.4 e.1
-          (front_then was between now (written s.1) (written e.0) (written (s.1 ++ e.0)) s.5 e.2 (written_append s.1 e.0)))
+          (broken_after c.args.task c.args.most Gave (AppendsPrefix was now) Ended c.pieces.answering s.0 s.1 e.0 gave ended within_most s.4 e.1
+          (prefix_then was between now (answers_text s.1) (answers_text e.0) (answers_text (s.1 ++ e.0)) s.5 e.2 (written_append s.1 e.0)))
           (subst (λ n. HasRisen n (g.O.Sink.failed c.end.new.sink)) c.pieces.invariant.wrote_well c.in-Err-end.ensures.count)
           (c.in-Ok-eq0.ensures.count ∙ c.pieces.invariant.read_well)
           (text_flushed c.args.task c.args.most Gave Ended c.pieces.answering s.0 s.1 c.pieces.tally c.end.new.tally
@@ -151,11 +151,11 @@ returns-in-Err-answer_piece g c =
     record {
       ends = ends_by_write
           (broken_before c.args.task c.args.most (g.I.Source.gave c.args.source.now c.next_piece.new.source)
-          (AppendsFront (g.O.Sink.contents c.args.sink.now) (g.O.Sink.contents c.answer_piece.new.sink)) (g.I.Source.ended c.next_piece.new.source)
+          (AppendsPrefix (g.O.Sink.contents c.args.sink.now) (g.O.Sink.contents c.answer_piece.new.sink)) (g.I.Source.ended c.next_piece.new.source)
           (s.0 ++ take count buffer) (s.1 ++ e.0) gave (few (s.0 ++ take count buffer) (c.pieces.left - count) c.args.most long)
           (done_by c.args.task (s.0 ++ take count buffer) (s.1 ++ e.0) (not_table c.args.task c.pieces.answering s.0 s.1 s.4) e.1)
-          (front_then (g.O.Sink.contents c.args.sink.now) (g.O.Sink.contents c.pieces.sink) (g.O.Sink.contents c.answer_piece.new.sink) (written s.1) (written e.0)
-          (written (s.1 ++ e.0)) s.5 e.2 (written_append s.1 e.0)))
+          (prefix_then (g.O.Sink.contents c.args.sink.now) (g.O.Sink.contents c.pieces.sink) (g.O.Sink.contents c.answer_piece.new.sink) (answers_text s.1) (answers_text e.0)
+          (answers_text (s.1 ++ e.0)) s.5 e.2 (written_append s.1 e.0)))
           (subst (λ n. HasRisen n (g.O.Sink.failed c.answer_piece.new.sink)) c.pieces.invariant.wrote_well c.in-Err-answer_piece.ensures.count)
           (c.in-Ok.ensures.count ∙ c.pieces.invariant.read_well)
           (inl (g.met.O.Sink.flushed_joined c.args.sink.now c.pieces.sink c.answer_piece.new.sink [] [] c.pieces.invariant.unflushed c.answer_piece.ensures.unflushed))
@@ -185,7 +185,7 @@ pieces-preserved g c =
         longer s.0 buffer count c.pieces.left c.args.most s.3 c.in-Ok.ensures.few c.if-left-eq0.false fits,
         e.1 c.args.task s.0 s.1 s.4,
         subst (Appends (g.O.Sink.contents c.args.sink.now) (g.O.Sink.contents c.answer_piece.new.sink)) (sym (written_append s.1 e.0))
-            (appends_then (g.O.Sink.contents c.args.sink.now) (g.O.Sink.contents c.pieces.sink) (g.O.Sink.contents c.answer_piece.new.sink) (written s.1) (written e.0) s.5 e.2),
+            (appends_then (g.O.Sink.contents c.args.sink.now) (g.O.Sink.contents c.pieces.sink) (g.O.Sink.contents c.answer_piece.new.sink) (answers_text s.1) (answers_text e.0) s.5 e.2),
         e.3 s.1 s.6,
       );
     }

@@ -1,7 +1,7 @@
 use Rattle.std.proofs.Common.{◌≡◌, ◌+◌, ◌≤◌, [], List, ℕ, length}
 use Rattle.std.specs.Io.KnownBytes.{Appends}
 use Rattle.dm_text.specs.Answers.{Answer}
-use Rattle.dm_text.specs.Runs.{tally_of, written}
+use Rattle.dm_text.specs.Runs.{tally_of, answers_text}
 use Rattle.dm_text.specs.inner.AnsweredSoFar.{IsAnsweredSoFar}
 use Rattle.dm_text.proofs.running.run.Given as goal
 
@@ -13,7 +13,7 @@ invariant-pieces g l = record {
   asked : g.I.Source.asked l.initial.source l.source l.most;
   room : l.tally.answered + l.tally.refused + l.left ≤ l.most;
   so_far : (text : List ℕ) × (answers : List Answer) × g.I.Source.gave l.initial.source l.source text × (length text + l.left ≡ l.most)
-      × IsAnsweredSoFar l.fn.task l.answering text answers × Appends (g.O.Sink.contents l.initial.sink) (g.O.Sink.contents l.sink) (written answers)
+      × IsAnsweredSoFar l.fn.task l.answering text answers × Appends (g.O.Sink.contents l.initial.sink) (g.O.Sink.contents l.sink) (answers_text answers)
       × (l.tally ≡ tally_of answers);
 }
 

@@ -1,5 +1,6 @@
 use Rattle.std.proofs.Common.{take, drop, sym, rules, []}
 use Rattle.std.proofs.lemmas.List.{take-append-drop}
+use Rattle.dm_text.proofs.Flushes.{on_error}
 use Rattle.dm_text.proofs.KnownBytes.{appends_kept, appends_next}
 use Rattle.dm_text.proofs.sink.put.Goals as goal
 
@@ -7,19 +8,19 @@ pub loop-at-preserved : goal.loop-at-preserved
 loop-at-preserved g c = record {
   within = search rules;
   bytes = appends_next (g.O.Sink.contents c.args.sink.now) (g.O.Sink.contents c.loop-at.sink) (g.O.Sink.contents c.write.new.self)
-      c.args.bytes.now c.loop-at.at c.in-Ok.taken c.loop-at.invariant.bytes c.in-Ok.ensures.bytes;
-  unflushed = g.met.O.Sink.flushed_joined c.args.sink.now c.loop-at.sink c.write.new.self [] [] c.loop-at.invariant.unflushed c.in-Ok.ensures.unflushed;
+      c.args.bytes.now c.loop-at.at c.in_ok-taken.taken c.loop-at.invariant.bytes c.in_ok-taken.ensures.bytes;
+  unflushed = g.met.O.Sink.flushed_joined c.args.sink.now c.loop-at.sink c.write.new.self [] [] c.loop-at.invariant.unflushed c.in_ok-taken.ensures.unflushed;
   count = search rules;
 }
 
-pub returns-in-Err-clause-err : goal.returns-in-Err-clause-err
-returns-in-Err-clause-err g c = (
+pub returns-in_err-taken-clause-err : goal.returns-in_err-taken-clause-err
+returns-in_err-taken-clause-err g c = on_error c.from_residual.result _ (
   take c.loop-at.at c.args.bytes.now,
   drop c.loop-at.at c.args.bytes.now,
   sym (take-append-drop c.loop-at.at c.args.bytes.now),
   appends_kept (g.O.Sink.contents c.args.sink.now) (g.O.Sink.contents c.loop-at.sink) (g.O.Sink.contents c.write.new.self)
-      (take c.loop-at.at c.args.bytes.now) c.loop-at.invariant.bytes c.in-Err.ensures.bytes,
+      (take c.loop-at.at c.args.bytes.now) c.loop-at.invariant.bytes c.in_err-taken.ensures.bytes,
 )
 
-pub returns-in-Err-clause-unflushed : goal.returns-in-Err-clause-unflushed
-returns-in-Err-clause-unflushed g c = g.met.O.Sink.flushed_joined c.args.sink.now c.loop-at.sink c.write.new.self [] [] c.loop-at.invariant.unflushed c.in-Err.ensures.unflushed
+pub returns-in_err-taken-clause-unflushed : goal.returns-in_err-taken-clause-unflushed
+returns-in_err-taken-clause-unflushed g c = g.met.O.Sink.flushed_joined c.args.sink.now c.loop-at.sink c.write.new.self [] [] c.loop-at.invariant.unflushed c.in_err-taken.ensures.unflushed

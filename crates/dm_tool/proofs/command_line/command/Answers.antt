@@ -1,11 +1,9 @@
-use Rattle.std.proofs.Common.{◌∙◌, ap, codes}
-use Rattle.std.proofs.lemmas.Result.{IfOk-weaker}
-use Rattle.clap.specs.Simple.{App, new_shape, with_subcommand}
+use Rattle.std.proofs.Common.{codes}
+use Rattle.clap.specs.Simple.{new_shape}
 use Rattle.dm_tool.specs.CommandLine.{with_shorter}
 use Rattle.dm_tool.proofs.command_line.command.Goals as goal
 
 pub returns : goal.returns
-returns c = IfOk-weaker c.add_subcommand-2.result _ _ (λ a h. h
-    ∙ ap (λ (a : App). with_subcommand a (new_shape (codes "table"))) (c.in_ok-with_write.ensures (with_shorter (codes "write")) c.with_shorter.ensures.shape
-    ∙ ap (λ (a : App). with_subcommand a (with_shorter (codes "write"))) c.in_ok-for_grids.ensures))
-    (c.add_subcommand-2.ensures (new_shape (codes "table")) c.plain.ensures.shape)
+returns c =
+    let write = c.add_subcommand-with_write.ensures _ (with_shorter (codes "write")) c.for_grids.ensures c.with_shorter.ensures.shape in
+    c.add_subcommand.ensures _ (new_shape (codes "table")) write c.plain.ensures.shape

@@ -10,7 +10,7 @@ use Rattle.dm_tool.proofs.command_line.task_among.Goals as goal
 
 pub returns-clause-some : goal.returns-clause-some
 returns-clause-some c =
-    let met : Text × List Row = (c.in_ok-name.name.now, rows_of (found_of c.in_ok-name.inner.now)) in
+    let met : Text × List Row = (c.in_ok-name.name.now, rows_of (found_of c.in_ok-name.below.now)) in
     let is : subcommand_rows_of c.args.matches.now ≡ Some met = search rules in
     IfSome_then c.task_in.result c.task_in.ensures.some (λ t h found named readable.
     let same : met ≡ found = unwrapped met found (sym is ∙ named) in

@@ -19,12 +19,12 @@ pub returns-clause-closed : goal.returns-clause-closed
 returns-clause-closed c = record {
   some = omega arith;
   within = omega (arith, c.in-Some.ensures.within);
-  answered = λ text facts.
+  means = λ text facts.
       let ends = c.in-Some.ensures.closes text (rw (← c.self.view_is) at facts) in
       record {
         lines = ends.lines;
         closed = ends.closed;
-        answer_is = c.close_to.ensures.answer ends.lines [] ends.facts_are ∙ ap record_of (append-nil ends.lines);
+        meaning_is = c.close_to.ensures.meaning ends.lines [] ends.facts_are ∙ ap record_of (append-nil ends.lines);
       };
   empty = c.close_to.ensures.empty;
 }

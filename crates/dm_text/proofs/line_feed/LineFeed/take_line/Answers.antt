@@ -1,5 +1,5 @@
 use Rattle.std.proofs.Common.{◌++◌, ◌+◌, refl, take, drop}
-use Rattle.dm_text.proofs.Texts.{length-front}
+use Rattle.dm_text.proofs.Texts.{length-prefix}
 use Rattle.dm_text.proofs.line_feed.LineFeed.take_line.Goals as goal
 
 pub invariant_of-self : goal.invariant_of-self
@@ -21,6 +21,6 @@ returns-clause-ends c = record {
   after = drop (c.in-Some.end + 1) c.args.piece.now;
   piece_is = c.in-Some.ensures.first.whole;
   no_lf = c.in-Some.ensures.first.no_lf;
-  taken_is = length-front c.in-Some.end c.args.piece.now c.in-Some.ensures.within;
+  taken_is = length-prefix c.in-Some.end c.args.piece.now c.in-Some.ensures.within;
   grown = λ line facts. c.in-Some.ensures.before line (rw (← c.self.view_is) at facts);
 }

@@ -1,6 +1,6 @@
 use Rattle.std.proofs.Common.{◌<◌, ℕ, subst}
 use Rattle.dm_text.specs.declared.record.Contents.TheVariants as kept
-use Rattle.dm_text.proofs.CellRuns.{cells_no_lf}
+use Rattle.dm_text.proofs.RowParts.{cells_no_lf}
 use Rattle.dm_text.proofs.RecordStates.{grown_by, large_by, marks_stay, with_characters}
 use Rattle.dm_text.proofs.record.OpenRecord.push_cells.Goals as goal
 

@@ -1,4 +1,4 @@
-use Rattle.dm_text.proofs.CellRuns.{cells_some}
+use Rattle.dm_text.proofs.RowParts.{cells_some}
 use Rattle.dm_text.proofs.rows.Rows.push_line.Goals as goal
 
 pub returns-clause-held : goal.returns-clause-held

@@ -1,7 +1,7 @@
 use Rattle.std.proofs.Common.{◌∙◌, ◌+◌, ◌-◌, ◌<◌, ◌++◌, List, ℕ, ap, sym, subst, get_or, length, take, drop, arith}
 use Rattle.dm_text.specs.inner.OpenRecords.{EndsLines}
 use Rattle.dm_text.proofs.Pieces.{go_on_by_line, rest_length}
-use Rattle.dm_text.proofs.CellRuns.{cells_no_lf, cells_some}
+use Rattle.dm_text.proofs.RowParts.{cells_no_lf, cells_some}
 use Rattle.dm_text.proofs.KeptRows.{ends_more}
 use Rattle.dm_text.proofs.rows.Rows.take_lines.Goals as goal
 

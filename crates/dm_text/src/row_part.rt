@@ -1,4 +1,4 @@
-//! The cells at the front of some text, up to 128 at once.
+//! The cells at the start of some text, up to 128 at once.
 
 ghost use Rattle.std.specs.Prelude.{◌≡◌, ◌==◌, ◌≤◌, ◌+◌, ◌∷◌, ◌++◌, [], ℕ, false, map, not, List, IfSome};
 ghost use Rattle.std.specs.Simd.Lanes.{mask_l};
@@ -17,38 +17,39 @@ const BLOCKS_OF_A_LINE: usize = 4;
 
 /// Some cells of a row: characters 0 and 1 that follow one another.
 #[derive(Clone, Copy)]
-pub(crate) struct CellRun {
+pub(crate) struct RowPart {
     /// The cell of the character `c`, counted from 0, is the bit of weight 2^c, 1 for dark.
     pub(crate) bits: u128,
     /// How many cells there are: 1 to 128.
     pub(crate) count: u16,
 }
 
-impl CellRun {
-    /// The cell of one character.
-    pub(crate) fn of_character(character: u8) -> CellRun
+impl RowPart {
+    /// Gives the cell of one character.
+    pub(crate) fn of_character(character: u8) -> RowPart
         requires { is_foreign character ≡ false }
         ensures { AreCells (character ∷ []) result }
     {
-        CellRun {
+        RowPart {
             bits: u128::from(character == b'1'),
             count: 1,
         }
     }
 
-    /// The cells at the front of a text: those before the first other byte, but at most 128, and fewer near the end
-    /// of the text. None where the first byte is no cell, or where fewer than 32 bytes have come.
-    pub(crate) fn of_text(text: &[u8]) -> Option<CellRun>
+    /// Gives cells at the start of a text, as many as can be looked at together: at most 128, and none behind another byte. How
+    /// many they are, and when there is None, no clause says, since it matters for speed alone: None comes where the first byte is
+    /// no cell, or where fewer than 32 bytes have come.
+    pub(crate) fn of_text(text: &[u8]) -> Option<RowPart>
         ensures { IfSome result (λ cells. AreFirstCells text.now cells) }
     {
-        let Some(mut cells) = CellRun::of_block(text) else {
+        let Some(mut cells) = RowPart::of_block(text) else {
             return None;
         };
         for block in 1..BLOCKS_OF_A_LINE {
             if usize::from(cells.count) < block * BLOCK {
                 break;
             }
-            let Some(next) = CellRun::of_block(&text[block * BLOCK..]) else {
+            let Some(next) = RowPart::of_block(&text[block * BLOCK..]) else {
                 break;
             };
             cells = cells.join(next);
@@ -56,8 +57,8 @@ impl CellRun {
         Some(cells)
     }
 
-    /// The cells at the front of a text as far as its first 32 bytes.
-    fn of_block(text: &[u8]) -> Option<CellRun>
+    /// Gives the cells at the start of a text as far as its first 32 bytes.
+    fn of_block(text: &[u8]) -> Option<RowPart>
         ensures cells { IfSome result (λ cells. AreFirstCells text.now cells) }
         ensures few { IfSome result (λ cells. cells.count ≤ BLOCK) }
     {
@@ -69,27 +70,27 @@ impl CellRun {
         if count == 0 {
             return None;
         }
-        Some(CellRun {
+        Some(RowPart {
             bits: u128::from(dark_bits(block) & ((1 << count) - 1)),
             count: count as u16,
         })
     }
 
-    /// These cells, with others after them.
-    fn join(self, next: CellRun) -> CellRun
+    /// Gives these cells, with others after them.
+    fn join(self, next: RowPart) -> RowPart
         requires room { self.count + next.count ≤ 128 }
         requires some { (more : List ℕ) × AreCells more next }
         ensures { (characters more : List ℕ) → AreCells characters self → AreCells more next
             → AreCells (characters ++ more) result }
     {
-        CellRun {
+        RowPart {
             bits: self.bits | next.bits << self.count,
             count: self.count + next.count,
         }
     }
 }
 
-/// The dark cells of a block: 1 for the character 1.
+/// Gives the dark cells of a block: 1 for the character 1.
 #[inline]
 fn dark_bits(block: u8x32) -> u64
     ensures { result ≡ mask_l (map is_dark block) }
@@ -97,7 +98,7 @@ fn dark_bits(block: u8x32) -> u64
     block.simd_eq(u8x32::splat(b'1')).to_bitmask()
 }
 
-/// The other characters of a block: 0 for 0 and 1, which are the two that differ from 1 in the lowest bit at most.
+/// Gives the other characters of a block: 0 for 0 and 1, which are the two that differ from 1 in the lowest bit at most.
 #[inline]
 fn other_bits(block: u8x32) -> u64
     ensures { result ≡ mask_l (map (λ b. not (bit_or b 1 == 49)) block) }
@@ -107,7 +108,7 @@ fn other_bits(block: u8x32) -> u64
         .to_bitmask()
 }
 
-/// How many characters 0 and 1 stand at the front of a block.
+/// Gives how many characters 0 and 1 stand at the start of a block.
 #[inline]
 fn cell_count(block: u8x32) -> u32
     ensures { result ≡ prefix_len (λ b. bit_or b 1 == 49) block }

@@ -1,14 +1,8 @@
-use Rattle.std.proofs.Common.{inl, Result, Ok, Err}
-use Rattle.std.specs.Result.{OnErr}
+use Rattle.std.proofs.Common.{inl}
 use Rattle.std.specs.Io.KnownBytes.{Appends}
-use Rattle.dm_text.proofs.Flushes.{flushed_badly, flushed_well}
+use Rattle.dm_text.proofs.Flushes.{flushed_badly, flushed_well, on_error}
 use Rattle.dm_text.proofs.KnownBytes.{appends_kept}
-use Rattle.dm_text.proofs.running.put_all.Goals as goal
-
--- What holds holds of an error.
-on_err : {T E : Type 0} (r : Result T E) (P : Type 0) → P → OnErr r P
-on_err (Ok x) P p = tt
-on_err (Err e) P p = p
+use Rattle.dm_text.proofs.running.put_and_flush.Goals as goal
 
 pub returns-clause-held : goal.returns-clause-held
 returns-clause-held g c = flushed_well (g.O.Sink.flushed c.args.sink.now c.put.new.sink) (g.O.Sink.flushed c.put.new.sink c.flush.new.self)
@@ -25,4 +19,4 @@ returns-clause-late g c = flushed_badly (Appends (g.O.Sink.contents c.args.sink.
     (appends_kept (g.O.Sink.contents c.args.sink.now) (g.O.Sink.contents c.put.new.sink) (g.O.Sink.contents c.flush.new.self) c.args.bytes.now c.in_ok-put.ensures.ok c.flush.ensures.bytes)
 
 pub returns-in_err-put-clause-late : goal.returns-in_err-put-clause-late
-returns-in_err-put-clause-late g c = on_err c.from_residual.result _ (inl c.put.ensures.unflushed)
+returns-in_err-put-clause-late g c = on_error c.from_residual.result _ (inl c.put.ensures.unflushed)

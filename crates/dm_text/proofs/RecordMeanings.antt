@@ -1,4 +1,4 @@
--- What an open record is answered by.
+-- What an open record means: a grid or a fault.
 use Rattle.std.proofs.Common.{◌≡◌, ◌∙◌, ◌<◌, ℕ, Bool, true, false, not, List, [], ◌∷◌, ◌++◌, Option, Some, None, Result, Ok, Err, refl, sym, ap, subst, length, arith}
 use Rattle.std.specs.Prelude.{◌==◌, ◌||◌, ◌&&◌, if◌then◌else◌}
 use Rattle.std.specs.List.{list_all}
@@ -8,7 +8,7 @@ use Rattle.dm_symbol.specs.Grid.{GridView}
 use Rattle.dm_text.specs.declared.record.RecordFault.{RecordFault}
 use Rattle.dm_text.specs.declared.record.RecordFault.TheVariants as fault
 use Rattle.dm_text.specs.Texts.{last_line}
-use Rattle.dm_text.specs.Records.{has_foreign, is_large, is_square, record_of, rows_of, sized}
+use Rattle.dm_text.specs.Records.{has_foreign, is_large, is_square, record_of, rows_of, grid_of_size}
 use Rattle.dm_text.specs.RecordFacts.{RecordContents, Foreign, Large, Cells, contents_of, differ, first_length, last_length}
 use Rattle.dm_text.proofs.RecordSteps.{by_tests}
 
@@ -17,17 +17,17 @@ abbrev pub sized_rows : Option SizeRow → ℕ → List (List Bool) → Result G
 sized_rows (Some size) side rows = Ok (record { size = size; rows = rows })
 sized_rows None side rows = Err (fault.NoSuchSize side)
 
--- Cells are answered by whether the last line is as long as the first, and this as long as the lines are many.
-abbrev pub cells_answer : Bool → ℕ → Option (List (List Bool)) → Result GridView RecordFault
-cells_answer true c (Some rows) = sized_rows (row_with_side c) c rows
-cells_answer true c None = Err fault.NotSquare
-cells_answer false c rows = Err fault.NotSquare
+-- Cells mean a grid only if the last line is as long as the first, and its length is the number of lines.
+abbrev pub cells_meaning : Bool → ℕ → Option (List (List Bool)) → Result GridView RecordFault
+cells_meaning true c (Some rows) = sized_rows (row_with_side c) c rows
+cells_meaning true c None = Err fault.NotSquare
+cells_meaning false c rows = Err fault.NotSquare
 
--- Contents are answered by a grid or by a fault.
-abbrev pub answer_of : RecordContents → Result GridView RecordFault
-answer_of Foreign = Err fault.Character
-answer_of Large = Err fault.Large
-answer_of (Cells c f l rows) = cells_answer (l == f && f == c) c rows
+-- Contents mean a grid or a fault.
+abbrev pub meaning_of : RecordContents → Result GridView RecordFault
+meaning_of Foreign = Err fault.Character
+meaning_of Large = Err fault.Large
+meaning_of (Cells c f l rows) = cells_meaning (l == f && f == c) c rows
 
 -- Where two tests pass together, each of them passes.
 pub and_parts : (a b : Bool) → (a && b) ≡ true → (a ≡ true) × (b ≡ true)
@@ -115,28 +115,28 @@ square_by_facts lines rest d e f =
     let all = all_by (first_length (lines ++ last_line rest)) lines rest d e in subst (λ n. All n (lines ++ last_line rest) ≡ true) f all
 
 -- A grid by its size and its rows is the grid by its size and its lines.
-same_sized : (size : Option SizeRow) (lines : List (List ℕ)) → sized size lines ≡ sized_rows size (length lines) (rows_of lines)
+same_sized : (size : Option SizeRow) (lines : List (List ℕ)) → grid_of_size size lines ≡ sized_rows size (length lines) (rows_of lines)
 same_sized (Some size) lines = refl
 same_sized None lines = refl
 
 -- What the lines of a record come to follows from their tests.
-pub tested_answer : (lines : List (List ℕ)) (rest : List ℕ) (h g s d : Bool)
+pub tested_meaning : (lines : List (List ℕ)) (rest : List ℕ) (h g s d : Bool)
     → is_square (lines ++ last_line rest) ≡ s → differ (first_length (lines ++ last_line rest)) lines ≡ d
-    → (if h then Err fault.Character else if g then Err fault.Large else if is_square (lines ++ last_line rest) then sized (row_with_side (length (lines ++ last_line rest))) (lines ++ last_line rest) else Err fault.NotSquare)
-    ≡ answer_of (by_tests h g lines (lines ++ last_line rest))
-tested_answer lines rest true g s d es ed = refl
-tested_answer lines rest false true s d es ed = refl
-tested_answer lines rest false false true d es ed =
+    → (if h then Err fault.Character else if g then Err fault.Large else if is_square (lines ++ last_line rest) then grid_of_size (row_with_side (length (lines ++ last_line rest))) (lines ++ last_line rest) else Err fault.NotSquare)
+    ≡ meaning_of (by_tests h g lines (lines ++ last_line rest))
+tested_meaning lines rest true g s d es ed = refl
+tested_meaning lines rest false true s d es ed = refl
+tested_meaning lines rest false false true d es ed =
     let tells = square_tells lines rest es in
     let last : (last_length (lines ++ last_line rest) == first_length (lines ++ last_line rest)) ≡ true = eq-eqb _ _ (tells.1 ∙ sym tells.0) in
     let first : (first_length (lines ++ last_line rest) == length (lines ++ last_line rest)) ≡ true = eq-eqb _ _ tells.0 in
     rw (es, tells.2, last, first) (same_sized (row_with_side (length (lines ++ last_line rest))) (lines ++ last_line rest))
-tested_answer lines rest false false false true es ed = rw (es, ed) (sym (none (last_length (lines ++ last_line rest) == first_length (lines ++ last_line rest) && first_length (lines ++ last_line rest) == length (lines ++ last_line rest)) (length (lines ++ last_line rest))))
+tested_meaning lines rest false false false true es ed = rw (es, ed) (sym (none (last_length (lines ++ last_line rest) == first_length (lines ++ last_line rest) && first_length (lines ++ last_line rest) == length (lines ++ last_line rest)) (length (lines ++ last_line rest))))
   where
-    none : (t : Bool) (c : ℕ) → cells_answer t c None ≡ Err fault.NotSquare
+    none : (t : Bool) (c : ℕ) → cells_meaning t c None ≡ Err fault.NotSquare
     none true c = refl
     none false c = refl
-tested_answer lines rest false false false false es ed =
+tested_meaning lines rest false false false false es ed =
     let never = not_both (last_length (lines ++ last_line rest) == first_length (lines ++ last_line rest)) (first_length (lines ++ last_line rest) == length (lines ++ last_line rest))
     (λ e f. let s = square_by_facts lines rest ed (eqb-true _ _ e) (eqb-true _ _ f) in cc) in
     rw (es, ed, never) refl
@@ -146,7 +146,7 @@ tested_answer lines rest false false false false es ed =
     not_both true false n = refl
     not_both false b n = refl
 
--- A record is answered as its contents are.
-pub answer_is : (lines : List (List ℕ)) (rest : List ℕ) → record_of (lines ++ last_line rest) ≡ answer_of (contents_of lines rest)
-answer_is lines rest = tested_answer lines rest (has_foreign (lines ++ last_line rest)) (is_large (lines ++ last_line rest)) (is_square (lines ++ last_line rest))
+-- A record means what its contents mean.
+pub meaning_is : (lines : List (List ℕ)) (rest : List ℕ) → record_of (lines ++ last_line rest) ≡ meaning_of (contents_of lines rest)
+meaning_is lines rest = tested_meaning lines rest (has_foreign (lines ++ last_line rest)) (is_large (lines ++ last_line rest)) (is_square (lines ++ last_line rest))
     (differ (first_length (lines ++ last_line rest)) lines) refl refl

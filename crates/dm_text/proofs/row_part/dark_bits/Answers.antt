@@ -1,6 +1,6 @@
 use Rattle.std.proofs.Common.{arith, eqb, w8}
 use Rattle.std.proofs.lemmas.Simd.{bitmask_splat}
-use Rattle.dm_text.proofs.cell_run.dark_bits.Goals as goal
+use Rattle.dm_text.proofs.row_part.dark_bits.Goals as goal
 
 pub returns : goal.returns
 returns c = bitmask_splat w8 eqb c.args.block 32 49 c.fits-block.0 (omega arith)

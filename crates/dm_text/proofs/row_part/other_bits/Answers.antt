@@ -2,7 +2,7 @@ use Rattle.std.proofs.Common.{◌∙◌, not, map, replicate, ap, w8, eqb, bit_o
 use Rattle.std.specs.Simd.Lanes.{mask_l}
 use Rattle.std.proofs.lemmas.Simd.{bitmask_splat, length-zip2, zip2_splat, map-map}
 use lib.Lanes.{zip2}
-use Rattle.dm_text.proofs.cell_run.other_bits.Goals as goal
+use Rattle.dm_text.proofs.row_part.other_bits.Goals as goal
 
 pub returns : goal.returns
 returns c =

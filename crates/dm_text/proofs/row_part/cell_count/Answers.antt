@@ -3,7 +3,7 @@ use Rattle.std.specs.List.{prefix_len}
 use Rattle.std.specs.Simd.Lanes.{mask_l}
 use Rattle.std.proofs.lemmas.Simd.{first_set_mask_l}
 use lib.Count.{count_trailing_zeros}
-use Rattle.dm_text.proofs.cell_run.cell_count.Goals as goal
+use Rattle.dm_text.proofs.row_part.cell_count.Goals as goal
 
 abbrev other : ℕ → Bool
 other b = not (eqb (bit_or b 1) 49)

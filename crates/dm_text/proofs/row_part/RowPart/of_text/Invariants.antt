@@ -1,6 +1,6 @@
 use Rattle.std.proofs.Common.{◌*◌, ◌≤◌}
 use Rattle.dm_text.specs.inner.OpenRecords.{AreFirstCells}
-use Rattle.dm_text.proofs.cell_run.CellRun.of_text.Given as goal
+use Rattle.dm_text.proofs.row_part.RowPart.of_text.Given as goal
 
 abbrev pub invariant-loop-block : goal.invariant-loop-block
 invariant-loop-block l = record {

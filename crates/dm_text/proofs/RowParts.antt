@@ -13,7 +13,7 @@ use Rattle.std.proofs.lemmas.Nat.{and_mask, mod-mul-add, pow_pos}
 use Rattle.std.proofs.lemmas.Simd.{length-chunk, get_or-chunk, Each1-from_get_or}
 use Rattle.dm_text.specs.Texts.{HasNoLf}
 use Rattle.dm_text.specs.Records.{is_foreign}
-use Rattle.dm_text.specs.declared.cell_run.CellRun.{CellRun}
+use Rattle.dm_text.specs.declared.row_part.RowPart.{RowPart}
 use Rattle.dm_text.specs.inner.OpenRecords.{AreCells, AreFirstCells, digit_of, is_dark, number_of}
 use Rattle.std.proofs.Math.Seq.{take-add}
 use Rattle.dm_text.proofs.KnownBytes.{rest_is}
@@ -27,8 +27,8 @@ number_is_mask [] = refl
 number_is_mask (b ∷ line) = ap (λ (n : ℕ). digit_of b + 2 * n) (number_is_mask line)
 
 -- The lowest n bits of the number of a line are the number of its first n characters.
-pub front_number : (n : ℕ) (line : List ℕ) → n ≤ length line → number_of line % 2 ^ n ≡ number_of (take n line)
-front_number n line le =
+pub prefix_number : (n : ℕ) (line : List ℕ) → n ≤ length line → number_of line % 2 ^ n ≡ number_of (take n line)
+prefix_number n line le =
     let long : length (take n line) ≡ n = length-take-le n line le in
     let parts : number_of line ≡ number_of (drop n line) * 2 ^ n + number_of (take n line) =
     ap number_of (sym (take-append-drop n line)) ∙ number_more (take n line) (drop n line)
@@ -36,8 +36,8 @@ front_number n line le =
     ap (λ (k : ℕ). k % 2 ^ n) parts ∙ mod-mul-add (number_of (drop n line)) (2 ^ n) (number_of (take n line)) (subst (λ (k : ℕ). number_of (take n line) < 2 ^ k) long (number_small (take n line)))
 
 -- A mask of the lowest n bits leaves, of the number of a line, the number of its first n characters.
-pub masked_front : (n : ℕ) (line : List ℕ) → n ≤ length line → bit_and (number_of line) (2 ^ n - 1) ≡ number_of (take n line)
-masked_front n line le = and_mask (number_of line) n ∙ front_number n line le
+pub masked_prefix : (n : ℕ) (line : List ℕ) → n ≤ length line → bit_and (number_of line) (2 ^ n - 1) ≡ number_of (take n line)
+masked_prefix n line le = and_mask (number_of line) n ∙ prefix_number n line le
 
 -- A character is near if it differs from 1 in the lowest bit at most.
 abbrev pub is_near : ℕ → Bool
@@ -52,7 +52,7 @@ all_bytes : list_all cell_if_near (range_with_len 0 256) ≡ true
 all_bytes = refl
 
 -- A test that all numbers below a bound pass is passed by each of them.
-pub holds_at : (p : ℕ → Bool) (n : ℕ) → list_all p (range_with_len 0 n) ≡ true → (b : ℕ) → b < n → p b ≡ true
+holds_at : (p : ℕ → Bool) (n : ℕ) → list_all p (range_with_len 0 n) ≡ true → (b : ℕ) → b < n → p b ≡ true
 holds_at p n all b l = by_test (p b) refl
   where
     by_test : (t : Bool) → p b ≡ t → p b ≡ true
@@ -72,10 +72,10 @@ cell_by false foreign e n = cc
 near_cell : (b : ℕ) → b < 256 → is_near b ≡ true → is_foreign b ≡ false
 near_cell b l e = cell_by (is_near b) (is_foreign b) (holds_at cell_if_near 256 all_bytes b l) e
 
--- The near characters at the front of a list are cells.
-pub front_cells : (xs : List ℕ) → Each1 (Fits w8) xs → list_any is_foreign (take (prefix_len is_near xs) xs) ≡ false
-front_cells [] fits = refl
-front_cells (b ∷ xs) fits = by_test (is_near b) refl (front_cells xs fits.1)
+-- The near characters at the start of a list are cells.
+pub prefix_cells : (xs : List ℕ) → Each1 (Fits w8) xs → list_any is_foreign (take (prefix_len is_near xs) xs) ≡ false
+prefix_cells [] fits = refl
+prefix_cells (b ∷ xs) fits = by_test (is_near b) refl (prefix_cells xs fits.1)
   where
     by_test : (t : Bool) → is_near b ≡ t → list_any is_foreign (take (prefix_len is_near xs) xs) ≡ false
         → list_any is_foreign (take (prefix_len is_near (b ∷ xs)) (b ∷ xs)) ≡ false
@@ -91,11 +91,11 @@ cells_no_lf (b ∷ more) e =
     let both = or_cases (is_foreign b) (list_any is_foreign more) e in
     (λ lf. let foreign : true ≡ false = ap is_foreign (sym lf) ∙ both.0 in cc, cells_no_lf more both.1)
 
--- ---- the front of a text
+-- ---- the prefix of a text
 
--- The near characters at the front of a block are at most 32.
-pub front_short : (text : List ℕ) (n : ℕ) → 32 ≤ length text → n ≡ prefix_len is_near (chunk 0 32 text) → n ≤ 32
-front_short text n long e = omega (arith, e, prefix_len-le-length is_near (chunk 0 32 text), length-chunk 0 32 text long)
+-- The near characters at the start of a block are at most 32.
+pub prefix_short : (text : List ℕ) (n : ℕ) → 32 ≤ length text → n ≡ prefix_len is_near (chunk 0 32 text) → n ≤ 32
+prefix_short text n long e = omega (arith, e, prefix_len-le-length is_near (chunk 0 32 text), length-chunk 0 32 text long)
 
 -- A power of 2 with an exponent of at most 32 fits in 64 bits.
 pub mask_within : (n : ℕ) → n ≤ 32 → 1 * 2 ^ n % 2 ^ 64 ≡ 2 ^ n
@@ -105,35 +105,35 @@ mask_within n le = ap (λ (k : ℕ). k % 2 ^ 64) (one-mul (2 ^ n)) ∙ mod-eq_of
 pub mask_is : (n : ℕ) → n ≤ 32 → 1 ≤ 1 * 2 ^ n % 2 ^ 64
 mask_is n le = rw (mask_within n le) (pow_pos n)
 
--- The bits and the count that are taken are those of the cells at the front of the text.
-pub front_is : (text : List ℕ) (n bits front : ℕ) → 32 ≤ length text → n ≡ prefix_len is_near (chunk 0 32 text) → bits ≡ mask_l (map is_dark (chunk 0 32 text))
-    → front ≡ bit_and bits (1 * 2 ^ n % 2 ^ 64 - 1) → n ≢ 0 → ((i : ℕ) → Fits w8 (get_or text i 0))
-    → AreFirstCells text (let f : CellRun = record { bits = front; count = n } in f)
-front_is text n bits front long count is masked some bytes =
+-- The bits and the count that are taken are those of the cells at the start of the text.
+pub prefix_is : (text : List ℕ) (n bits prefix : ℕ) → 32 ≤ length text → n ≡ prefix_len is_near (chunk 0 32 text) → bits ≡ mask_l (map is_dark (chunk 0 32 text))
+    → prefix ≡ bit_and bits (1 * 2 ^ n % 2 ^ 64 - 1) → n ≢ 0 → ((i : ℕ) → Fits w8 (get_or text i 0))
+    → AreFirstCells text (let f : RowPart = record { bits = prefix; count = n } in f)
+prefix_is text n bits prefix long count is masked some bytes =
     let block = chunk 0 32 text in
     let whole : length block ≡ 32 = length-chunk 0 32 text long in
-    let short : n ≤ 32 = front_short text n long count in
+    let short : n ≤ 32 = prefix_short text n long count in
     let these : take n block ≡ take n text = take-take n 32 text short in
     record {
       within = omega arith;
       cells = record {
         bits_are = masked ∙ ap (λ (k : ℕ). bit_and bits (k - 1)) (mask_within n short) ∙ ap (λ (k : ℕ). bit_and k (2 ^ n - 1)) (is ∙ sym (number_is_mask block))
-            ∙ masked_front n block (omega (arith, whole, short)) ∙ ap number_of these;
+            ∙ masked_prefix n block (omega (arith, whole, short)) ∙ ap number_of these;
         count_is = sym (length-take-le n text (omega arith));
         some = omega (arith, some);
         few = omega (arith, short);
-        cells = ap (list_any is_foreign) (sym these) ∙ ap (λ (k : ℕ). list_any is_foreign (take k block)) count ∙ front_cells block (Each1-from_get_or (Fits w8) block 0 (λ i l. subst (Fits w8) (sym (get_or-chunk 0 32 text i 0 (omega (arith, l, whole)))) (bytes (0 + i))));
+        cells = ap (list_any is_foreign) (sym these) ∙ ap (λ (k : ℕ). list_any is_foreign (take k block)) count ∙ prefix_cells block (Each1-from_get_or (Fits w8) block 0 (λ i l. subst (Fits w8) (sym (get_or-chunk 0 32 text i 0 (omega (arith, l, whole)))) (bytes (0 + i))));
       };
     }
 
 -- Cells are those of at least one character.
-pub cells_some : (characters : List ℕ) (f : CellRun) → AreCells characters f → characters ≢ []
+pub cells_some : (characters : List ℕ) (f : RowPart) → AreCells characters f → characters ≢ []
 cells_some [] f cells none = absurd (omega (arith, cells.some, cells.count_is))
 cells_some (b ∷ characters) f cells none = cc
 
 -- Cells, and others after them, joined, are those of the characters of both.
-pub join_cells : (xs ys : List ℕ) (f g : CellRun) → AreCells xs f → AreCells ys g → f.count + g.count ≤ 128
-    → AreCells (xs ++ ys) (let h : CellRun = record { bits = bit_or f.bits (g.bits * 2 ^ f.count % 2 ^ 128); count = f.count + g.count } in h)
+pub join_cells : (xs ys : List ℕ) (f g : RowPart) → AreCells xs f → AreCells ys g → f.count + g.count ≤ 128
+    → AreCells (xs ++ ys) (let h : RowPart = record { bits = bit_or f.bits (g.bits * 2 ^ f.count % 2 ^ 128); count = f.count + g.count } in h)
 join_cells xs ys f g a b room =
     let count : f.count + g.count ≡ length (xs ++ ys) = omega (arith, a.count_is, b.count_is, length-append xs ys) in
     let long : length (xs ++ ys) ≤ 128 = omega (arith, room, count) in
@@ -149,10 +149,10 @@ join_cells xs ys f g a b room =
       cells = list_any-append is_foreign xs ys ∙ rw (a.cells, b.cells) refl;
     }
 
--- The cells at the front of a text, joined with those at the front of the rest, are cells at the front of the text.
-pub front_longer : (text : List ℕ) (at : ℕ) (f g h : CellRun) → AreFirstCells text f → f.count ≡ at → AreFirstCells (take (length text - at) (drop at text)) g
+-- The cells at the start of a text, joined with those at the start of the rest, are cells at the start of the text.
+pub prefix_longer : (text : List ℕ) (at : ℕ) (f g h : RowPart) → AreFirstCells text f → f.count ≡ at → AreFirstCells (take (length text - at) (drop at text)) g
     → ((xs ys : List ℕ) → AreCells xs f → AreCells ys g → AreCells (xs ++ ys) h) → AreFirstCells text h × (h.count ≡ f.count + g.count)
-front_longer text at f g h a e b both =
+prefix_longer text at f g h a e b both =
     let rest = take (length text - at) (drop at text) in
     let cells = both (take f.count text) (take g.count rest) a.cells b.cells in
     let whole : take f.count text ++ take g.count rest ≡ take (f.count + g.count) text =
