@@ -19,7 +19,7 @@ given_joined a b c x y p q =
     subst (λ n. c ≤ n) (add_assoc a (length x) (length y) ∙ ap (λ n. a + n) (sym (length-append x y)))
     (le_trans q (add-le-add p (le_refl (length y))))
 
--- The front of a list of fewer than four items has fewer than four itself.
+-- A prefix of a list of fewer than four items has fewer than four itself.
 shorter : (a b c : List ℕ) → c ≡ a ++ b → length c < 4 → length a < 4
 shorter a b c e few = lt_of_le_of_lt (subst (λ n. length a ≤ n) (sym (ap length e ∙ length-append a b)) (le-add_right (length a) (length b))) few
 

@@ -1,7 +1,7 @@
 //! Calls of blocks, grids and symbols with what they return, and nothing of what they promise.
 //!
 //! A test asserts what it finds. Over the calls themselves its proof would carry all that they promise, which takes much longer.
-//! Where a call asks for something, its double here answers with nothing or does nothing in its place.
+//! Where a call asks for something, its double here gives nothing or does nothing in its place.
 
 use arrayvec::ArrayVec;
 use dm_code::{encode, syndromes};
@@ -48,11 +48,11 @@ pub(crate) fn size_of(side: u16) -> Size {
 }
 
 /// The codewords of this size that begin with these; the rest are 0.
-pub(crate) fn words_of(size: Size, front: &[u8]) -> Words {
+pub(crate) fn words_of(size: Size, prefix: &[u8]) -> Words {
     let mut list = [0; MOST_CODEWORDS];
-    for i in 0..front.len() {
+    for i in 0..prefix.len() {
         if i < MOST_CODEWORDS {
-            list[i] = front[i];
+            list[i] = prefix[i];
         }
     }
     Words::new(

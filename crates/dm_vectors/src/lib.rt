@@ -9,6 +9,8 @@ mod block;
 #[cfg(test)]
 mod calls;
 #[cfg(test)]
+mod claims;
+#[cfg(test)]
 mod field;
 #[cfg(test)]
 mod layout;

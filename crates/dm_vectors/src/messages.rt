@@ -109,11 +109,11 @@ pub(crate) fn add_words(list: &mut Codewords, words: &[u8], count: usize) {
 }
 
 /// So many codewords of a segment of Base 256: these, with the latch and the length, and then this value at each place.
-pub(crate) fn segment(front: &[u8], value: u8, count: u16) -> Codewords {
+pub(crate) fn segment(prefix: &[u8], value: u8, count: u16) -> Codewords {
     let mut list = Codewords::new();
-    add_words(&mut list, front, 1);
+    add_words(&mut list, prefix, 1);
     for place in 1..count.saturating_add(1) {
-        if usize::from(place) > front.len() {
+        if usize::from(place) > prefix.len() {
             add_word(&mut list, randomised(value, place));
         }
     }

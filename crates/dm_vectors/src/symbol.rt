@@ -1,12 +1,13 @@
 //! Messages and their normal grids, grids and what they say: `dm_symbol`.
 
 use crate::calls::*;
+use crate::claims::holds;
 use crate::messages::{
     Codewords, MARKED, add_word, add_words, are_all, has_bytes, has_items, of_bytes, of_items,
     of_many, randomised, segment,
 };
 use arrayvec::ArrayVec;
-use dm_layout::{Grid, Size, Words, table};
+use dm_layout::{Grid, LARGEST_SIDE, MOST_DATA, Size, Words, table};
 use dm_symbol::{
     Item, Message, NormalFault, Profile, ReadFault, Reading, TooLong, WordFault, usual_limit,
 };
@@ -64,9 +65,9 @@ fn same(a: &Grid, b: &Grid) -> bool {
     true
 }
 
-/// Whether the answer is this grid.
-fn is_grid<E>(answer: &Result<Grid, E>, grid: &Grid) -> bool {
-    match answer {
+/// Whether the outcome is this grid.
+fn is_grid<E>(outcome: &Result<Grid, E>, grid: &Grid) -> bool {
+    match outcome {
         Ok(found) => same(found, grid),
         Err(_) => false,
     }
@@ -77,17 +78,17 @@ fn has_data(grid: &Grid, data_words: &[u8]) -> bool {
     lift(grid).data_part() == data_words
 }
 
-/// Whether the answer is a grid of this side with these data codewords.
-fn is_of<E>(answer: &Result<Grid, E>, side: u16, data_words: &[u8]) -> bool {
-    match answer {
+/// Whether the outcome is a grid of this side with these data codewords.
+fn is_of<E>(outcome: &Result<Grid, E>, side: u16, data_words: &[u8]) -> bool {
+    match outcome {
         Ok(grid) => side_of(grid) == side && has_data(grid, data_words),
         Err(_) => false,
     }
 }
 
-/// Whether the answer is a grid of this side whose data codewords are all this one.
-fn is_filled<E>(answer: &Result<Grid, E>, side: u16, word: u8) -> bool {
-    match answer {
+/// Whether the outcome is a grid of this side whose data codewords are all this one.
+fn is_filled<E>(outcome: &Result<Grid, E>, side: u16, word: u8) -> bool {
+    match outcome {
         Ok(grid) => side_of(grid) == side && are_all(lift(grid).data_part(), word),
         Err(_) => false,
     }
@@ -123,9 +124,9 @@ fn becomes_under(profile: Profile, grid: &Grid, limit: u16, expected: &Grid) -> 
     is_grid(&normal_as(profile, grid, limit), expected)
 }
 
-/// Whether the answer is this fault.
-fn is_fault(answer: &Result<Grid, NormalFault>, fault: NormalFault) -> bool {
-    match answer {
+/// Whether the outcome is this fault.
+fn is_fault(outcome: &Result<Grid, NormalFault>, fault: NormalFault) -> bool {
+    match outcome {
         Ok(_) => false,
         Err(found) => *found == fault,
     }
@@ -175,7 +176,7 @@ fn all_are_normal_grids() -> bool {
 
 #[test]
 fn writes_normal_grids(rt: HostRuntime) {
-    assert!(rt; all_are_normal_grids());
+    holds(&rt, all_are_normal_grids());
 }
 
 /// Messages, and their ASCII codewords at side 10.
@@ -207,7 +208,7 @@ fn all_are_written_in_ascii() -> bool {
 
 #[test]
 fn messages_are_written_as_symbols(rt: HostRuntime) {
-    assert!(rt; all_are_written_in_ascii());
+    holds(&rt, all_are_written_in_ascii());
 }
 
 /// Whether a message that just fills this size is written at it, and one that just doesn't fit at a larger one, if there is one.
@@ -215,7 +216,7 @@ fn is_just_filled(size: Size) -> bool {
     let (side, count) = (size.side(), usize::from(size.data_count()));
     let larger = match write(&of_many(b'A', count + 1)) {
         Ok(grid) => side_of(&grid) > side,
-        Err(TooLong) => side == 104,
+        Err(TooLong) => usize::from(side) == LARGEST_SIDE,
     };
     larger && is_filled(&write(&of_many(b'A', count)), side, 66)
 }
@@ -238,14 +239,17 @@ fn digits_fill() -> bool {
 
 #[test]
 fn writes_every_size(rt: HostRuntime) {
-    assert!(rt; all_are_just_filled());
-    assert!(rt; digits_fill());
-    assert!(rt; write(&of_many(b'A', 817)).is_err());
+    holds(&rt, all_are_just_filled());
+    holds(&rt, digits_fill());
+    holds(&rt, write(&of_many(b'A', MOST_DATA + 1)).is_err());
 }
 
 #[test]
 fn usual_limits_of_border_faults(rt: HostRuntime) {
-    assert!(rt; usual_limit(10) == 2 && usual_limit(52) == 13 && usual_limit(104) == 26);
+    holds(
+        &rt,
+        usual_limit(10) == 2 && usual_limit(52) == 13 && usual_limit(104) == 26,
+    );
 }
 
 /// The codewords of a run of C40 that spells `AIM`, at side 10.
@@ -253,15 +257,21 @@ static C40: [u8; 8] = [230, 91, 11, 40, 130, 30, 228, 188];
 
 #[test]
 fn symbols_with_runs_are_read(rt: HostRuntime) {
-    assert!(rt; says(&grid_of(10, &C40), 2, b"AIM", &[0], 0));
-    assert!(rt; says(&completed_grid(10, &[239, 91, 11]), 2, b"aim", &[0], 0));
+    holds(&rt, says(&grid_of(10, &C40), 2, b"AIM", &[0], 0));
+    holds(
+        &rt,
+        says(&completed_grid(10, &[239, 91, 11]), 2, b"aim", &[0], 0),
+    );
 }
 
 #[test]
 fn normalises_a_run(rt: HostRuntime) {
     let once = grid_of(10, &[66, 74, 78, 60, 104, 105, 21, 207]);
-    assert!(rt; becomes(&grid_of(10, &C40), 2, &once) && becomes(&once, 0, &once));
-    assert!(rt; says(&once, 2, b"AIM", &[0], 0));
+    holds(
+        &rt,
+        becomes(&grid_of(10, &C40), 2, &once) && becomes(&once, 0, &once),
+    );
+    holds(&rt, says(&once, 2, b"AIM", &[0], 0));
 }
 
 /// Data codewords at side 10, and those of the normal grid.
@@ -287,7 +297,7 @@ fn all_are_normalised() -> bool {
 
 #[test]
 fn normalises_bytes_above_127(rt: HostRuntime) {
-    assert!(rt; all_are_normalised());
+    holds(&rt, all_are_normalised());
 }
 
 /// A message in the smallest symbol, whatever size it came in.
@@ -295,7 +305,7 @@ fn normalises_bytes_above_127(rt: HostRuntime) {
 fn normalises_to_the_smallest_size(rt: HostRuntime) {
     let large = completed_grid(12, &[66, 129, 70, 220, 115]);
     let small = grid_of(10, &[66, 129, 70, 138, 234, 82, 82, 95]);
-    assert!(rt; becomes(&large, 3, &small));
+    holds(&rt, becomes(&large, 3, &small));
 }
 
 /// The cells of `123456` with ten border faults.
@@ -306,9 +316,12 @@ static FAULTY: &str =
 fn compares_the_border_with_the_limit(rt: HostRuntime) {
     let grid = drawn(FAULTY);
     let fault = ReadFault::Border(10);
-    assert!(rt; is_refused(&grid, 2, fault) && is_refused(&grid, 9, fault));
-    assert!(rt; says(&grid, 10, b"123456", &[0], 10));
-    assert!(rt; is_fault(&normal(&grid, 2), NormalFault::Read(fault)));
+    holds(
+        &rt,
+        is_refused(&grid, 2, fault) && is_refused(&grid, 9, fault),
+    );
+    holds(&rt, says(&grid, 10, b"123456", &[0], 10));
+    holds(&rt, is_fault(&normal(&grid, 2), NormalFault::Read(fault)));
 }
 
 /// The grid of side 12 with its fixed square turned over.
@@ -328,6 +341,9 @@ fn ignores_the_fixed_square(rt: HostRuntime) {
     let zeros = grid_of(12, &[]);
     let turned = with_square_turned(&zeros);
     let fault = ReadFault::Words(WordFault::Reserved(1));
-    assert!(rt; !same(&zeros, &turned));
-    assert!(rt; is_refused(&zeros, 3, fault) && is_refused(&turned, 3, fault));
+    holds(&rt, !same(&zeros, &turned));
+    holds(
+        &rt,
+        is_refused(&zeros, 3, fault) && is_refused(&turned, 3, fault),
+    );
 }

@@ -1,5 +1,6 @@
 //! Codewords and the messages that they spell, or the faults with which they are refused: `dm_words`.
 
+use crate::claims::holds;
 use crate::messages::{
     MARKED, add, add_bytes, add_many, are_all, has_bytes, has_items, of_items, of_many, randomised,
     segment,
@@ -8,6 +9,7 @@ use arrayvec::ArrayVec;
 use dm_layout::Size;
 use dm_words::*;
 
+mod ascii;
 mod hostile;
 mod places;
 mod shorter;
@@ -45,59 +47,79 @@ fn is_refused(words: &[u8], fault: WordFault) -> bool {
     }
 }
 
-/// Data codewords and the bytes that they spell.
-static SPELLED: [(&[u8], &[u8]); 46] = [
+/// Data codewords in ASCII, and the bytes that they spell.
+static ASCII: [(&[u8], &[u8]); 11] = [
     (&[], b""),
     (&[1, 128], b"\x00\x7F"),
     (&[130, 229], b"0099"),
     (&[235, 128], b"\xFF"),
     (&[129, 0, 255], b""),
     (&[142, 52, 129], b"123"),
+    (&[142, 164, 186], b"123456"),
+    (&[66, 129, 70], b"A"),
+    (&[129, 175, 70], b""),
+    (&[66, 74, 78], b"AIM"),
+    (&[235, 66, 129], b"\xC1"),
+];
+
+/// Runs of C40, whole ones and those that the end of the symbol or an unlatch ends, and the bytes that they spell.
+static C40: [(&[u8], &[u8]); 12] = [
     (&[230, 91, 11], b"AIM"),
-    (&[239, 91, 11], b"aim"),
     (&[230, 91, 11, 91, 11, 91, 11, 66], b"AIMAIMAIMA"),
     (&[230, 90, 241], b"AI"),
     (&[230, 91, 11, 254, 66], b"AIMA"),
-    (&[230, 10, 255], b"\xC1"),
     (&[230, 250, 0], b"ZZZ"),
-    (&[239, 12, 183], b"Aa"),
-    (&[230, 12, 183], b"aA"),
-    (&[230, 10, 254], b"\xB9"),
     (&[230, 254, 66], b"A"),
-    (&[238, 0, 43], b"\r*>"),
-    (&[238, 91, 11, 254, 66], b"AIMA"),
     (&[230], b""),
     (&[230, 254], b""),
     (&[230, 129], b""),
     (&[230, 91], b"Z"),
     (&[230, 91, 11, 91], b"AIMZ"),
     (&[230, 91, 11, 230], b"AIM"),
+];
+
+/// Runs of C40 with shifts, and the bytes that they spell.
+static C40_SHIFTS: [(&[u8], &[u8]); 7] = [
+    (&[230, 10, 255], b"\xC1"),
+    (&[230, 12, 183], b"aA"),
+    (&[230, 10, 254], b"\xB9"),
+    (&[230, 19, 110], b" 09"),
+    (&[230, 0, 1, 194, 60], b"\x00\x1F  "),
+    (&[230, 6, 66, 87, 184, 9, 138, 137, 195], b"!/:@[_"),
+    (&[230, 12, 131, 194, 60], b"`\x7F  "),
+];
+
+/// Runs of Text, and the bytes that they spell.
+static TEXT: [(&[u8], &[u8]); 8] = [
+    (&[239, 91, 11], b"aim"),
+    (&[239, 12, 183], b"Aa"),
+    (&[239, 19, 110], b" 09"),
+    (&[239, 93, 192], b"azz"),
+    (&[239, 0, 1, 194, 60], b"\x00\x1F  "),
+    (&[239, 6, 66, 87, 184, 9, 138, 137, 195], b"!/:@[_"),
+    (&[239, 10, 244], b"\xA0"),
+    (&[239, 12, 131, 6, 171, 16, 187, 194, 60], b"`AZ{\x7F  "),
+];
+
+/// Runs of X12, and the bytes that they spell.
+static X12: [(&[u8], &[u8]); 4] = [
+    (&[238, 0, 43], b"\r*>"),
+    (&[238, 91, 11, 254, 66], b"AIMA"),
+    (&[238, 19, 110], b" 09"),
+    (&[238, 93, 192], b"AZZ"),
+];
+
+/// Segments of Base 256, and the bytes that they spell.
+static BASE_256: [(&[u8], &[u8]); 4] = [
     (&[231, 45, 65], b"\x80"),
     (&[231, 44, 65], b"\x80"),
     (&[66, 231, 193], b"A"),
     (&[231, 44], b""),
-    (&[142, 164, 186], b"123456"),
-    (&[66, 129, 70], b"A"),
-    (&[129, 175, 70], b""),
-    (&[66, 74, 78], b"AIM"),
-    (&[235, 66, 129], b"\xC1"),
-    (&[230, 19, 110], b" 09"),
-    (&[239, 19, 110], b" 09"),
-    (&[238, 19, 110], b" 09"),
-    (&[239, 93, 192], b"azz"),
-    (&[238, 93, 192], b"AZZ"),
-    (&[230, 0, 1, 194, 60], b"\x00\x1F  "),
-    (&[239, 0, 1, 194, 60], b"\x00\x1F  "),
-    (&[230, 6, 66, 87, 184, 9, 138, 137, 195], b"!/:@[_"),
-    (&[239, 6, 66, 87, 184, 9, 138, 137, 195], b"!/:@[_"),
-    (&[239, 10, 244], b"\xA0"),
-    (&[230, 12, 131, 194, 60], b"`\x7F  "),
-    (&[239, 12, 131, 6, 171, 16, 187, 194, 60], b"`AZ{\x7F  "),
 ];
 
 /// Whether the codewords of each row spell its bytes.
-fn all_are_spelled() -> bool {
-    for (words, bytes) in &SPELLED {
+fn all_are_spelled(rows: &[(&[u8], &[u8])]) -> bool {
+    for (words, bytes) in rows {
         if !spells_bytes(words, bytes) {
             return false;
         }
@@ -107,7 +129,9 @@ fn all_are_spelled() -> bool {
 
 #[test]
 fn reads_messages(rt: HostRuntime) {
-    assert!(rt; all_are_spelled());
+    for rows in [ASCII.as_slice(), &C40, &C40_SHIFTS, &TEXT, &X12, &BASE_256] {
+        holds(&rt, all_are_spelled(rows));
+    }
 }
 
 /// Data codewords and the items that they spell.
@@ -132,37 +156,47 @@ fn all_are_spelled_with_fnc1() -> bool {
 
 #[test]
 fn reads_fnc1(rt: HostRuntime) {
-    assert!(rt; all_are_spelled_with_fnc1());
+    holds(&rt, all_are_spelled_with_fnc1());
 }
 
-/// Data codewords and the fault with which they are refused.
-static REFUSED: [(&[u8], WordFault); 46] = [
+/// Codewords that are reserved or left out, and the fault with which they are refused.
+static NO_CHARACTERS: [(&[u8], WordFault); 9] = [
     (&[66, 0], WordFault::Reserved(2)),
     (&[242], WordFault::Reserved(1)),
     (&[240, 66, 129], WordFault::LeftOut(240, 1)),
-    (&[235], WordFault::Unfinished(1)),
-    (&[66, 66, 235], WordFault::Unfinished(3)),
-    (&[235, 130, 129], WordFault::UpperShift(1)),
-    (&[230, 250, 1], WordFault::Triplet(2)),
-    (&[230, 0, 0], WordFault::Triplet(2)),
-    (&[230, 87, 199, 0, 0], WordFault::Triplet(4)),
-    (&[238, 0, 0], WordFault::Triplet(2)),
-    (&[230, 10, 161], WordFault::Value(2)),
-    (&[230, 10, 161, 0, 0], WordFault::Value(2)),
-    (&[230, 10, 242, 169, 60], WordFault::UpperShift(2)),
-    (&[230, 87, 199], WordFault::Unfinished(2)),
-    (&[230, 10, 241], WordFault::Unfinished(2)),
-    (&[239, 235], WordFault::Unfinished(2)),
-    (&[231, 47, 65], WordFault::Length(1)),
-    (&[66, 66, 231], WordFault::Length(3)),
-    (&[230, 91, 11, 231], WordFault::Length(4)),
-    (&[231], WordFault::Length(1)),
-    (&[231, 45], WordFault::Length(1)),
     (&[233], WordFault::LeftOut(233, 1)),
     (&[234], WordFault::LeftOut(234, 1)),
     (&[236], WordFault::LeftOut(236, 1)),
     (&[237], WordFault::LeftOut(237, 1)),
     (&[241], WordFault::LeftOut(241, 1)),
+    (&[66, 255], WordFault::Reserved(2)),
+];
+
+/// Codewords whose Upper Shift has no character, and the fault with which they are refused.
+static UPPER_SHIFTS: [(&[u8], WordFault); 9] = [
+    (&[235], WordFault::Unfinished(1)),
+    (&[66, 66, 235], WordFault::Unfinished(3)),
+    (&[235, 130, 129], WordFault::UpperShift(1)),
+    (&[230, 10, 242, 169, 60], WordFault::UpperShift(2)),
+    (&[230, 87, 199], WordFault::Unfinished(2)),
+    (&[230, 10, 241], WordFault::Unfinished(2)),
+    (&[239, 235], WordFault::Unfinished(2)),
+    (&[230, 10, 242, 187, 252], WordFault::UpperShift(2)),
+    (&[230, 19, 58, 187, 199], WordFault::UpperShift(4)),
+];
+
+/// Codewords with a pair whose number is no triplet, and the fault with which they are refused.
+static TRIPLETS: [(&[u8], WordFault); 4] = [
+    (&[230, 250, 1], WordFault::Triplet(2)),
+    (&[230, 0, 0], WordFault::Triplet(2)),
+    (&[230, 87, 199, 0, 0], WordFault::Triplet(4)),
+    (&[238, 0, 0], WordFault::Triplet(2)),
+];
+
+/// Codewords with a shift before a value without meaning, and the fault with which they are refused.
+static VALUES: [(&[u8], WordFault); 14] = [
+    (&[230, 10, 161], WordFault::Value(2)),
+    (&[230, 10, 161, 0, 0], WordFault::Value(2)),
     (&[230, 5, 4], WordFault::Value(2)),
     (&[239, 5, 4], WordFault::Value(2)),
     (&[230, 10, 204], WordFault::Value(2)),
@@ -174,20 +208,26 @@ static REFUSED: [(&[u8], WordFault); 46] = [
     (&[239, 11, 68], WordFault::Value(2)),
     (&[230, 17, 132], WordFault::Value(2)),
     (&[239, 17, 132], WordFault::Value(2)),
-    (&[230, 10, 242, 187, 252], WordFault::UpperShift(2)),
-    (&[230, 19, 58, 187, 199], WordFault::UpperShift(4)),
     (&[230, 10, 242, 175, 124], WordFault::Value(4)),
+];
+
+/// Codewords of a segment whose length is missing or too long, and the fault with which they are refused.
+static LENGTHS: [(&[u8], WordFault); 10] = [
+    (&[231, 47, 65], WordFault::Length(1)),
+    (&[66, 66, 231], WordFault::Length(3)),
+    (&[230, 91, 11, 231], WordFault::Length(4)),
+    (&[231], WordFault::Length(1)),
+    (&[231, 45], WordFault::Length(1)),
     (&[231, 37], WordFault::Length(1)),
     (&[231, 38], WordFault::Length(1)),
     (&[231, 38, 193], WordFault::Length(1)),
     (&[231, 38, 194, 92], WordFault::Length(1)),
     (&[231, 39, 193, 92], WordFault::Length(1)),
-    (&[66, 255], WordFault::Reserved(2)),
 ];
 
 /// Whether the codewords of each row are refused with its fault.
-fn all_are_refused() -> bool {
-    for (words, fault) in &REFUSED {
+fn all_are_refused(rows: &[(&[u8], WordFault)]) -> bool {
+    for (words, fault) in rows {
         if !is_refused(words, *fault) {
             return false;
         }
@@ -197,7 +237,15 @@ fn all_are_refused() -> bool {
 
 #[test]
 fn refuses_what_spells_no_message(rt: HostRuntime) {
-    assert!(rt; all_are_refused());
+    for rows in [
+        NO_CHARACTERS.as_slice(),
+        &UPPER_SHIFTS,
+        &TRIPLETS,
+        &VALUES,
+        &LENGTHS,
+    ] {
+        holds(&rt, all_are_refused(rows));
+    }
 }
 
 /// Whether each reserved codeword is refused.
@@ -212,7 +260,7 @@ fn reserved_are_refused() -> bool {
 
 #[test]
 fn refuses_reserved_codewords(rt: HostRuntime) {
-    assert!(rt; reserved_are_refused());
+    holds(&rt, reserved_are_refused());
 }
 
 /// The codewords with pads up to this size, where there is one that has room for them.
@@ -224,98 +272,17 @@ fn with_pads(words: &[u8], size: Option<Size>) -> Option<ArrayVec<u8, MOST_DATA>
 }
 
 /// Whether these are the codewords.
-fn are_words(answer: &Option<ArrayVec<u8, MOST_DATA>>, expected: &[u8]) -> bool {
-    match answer {
+fn are_words(outcome: &Option<ArrayVec<u8, MOST_DATA>>, expected: &[u8]) -> bool {
+    match outcome {
         Some(words) => words.as_slice() == expected,
         None => false,
     }
 }
 
-/// Whether the ASCII codewords of these items, with pads up to the size of this side, are these.
-fn writes(items: &[Item], side: u16, expected: &[u8]) -> bool {
-    match ascii_words(&of_items(items)) {
-        Ok(words) => are_words(&with_pads(&words, Size::of_side(side)), expected),
-        Err(_) => false,
-    }
-}
-
-/// Items, the side of a symbol, and its data codewords in ASCII.
-static WRITTEN: [(&[Item], u16, &[u8]); 9] = [
-    (&[], 10, &[129, 175, 70]),
-    (&[Item::Byte(b'A')], 10, &[66, 129, 70]),
-    (&[Item::Byte(193)], 10, &[235, 66, 129]),
-    (&[Item::Byte(128)], 10, &[235, 1, 129]),
-    (&[Item::Byte(255)], 10, &[235, 128, 129]),
-    (
-        &[Item::Byte(b'1'), Item::Byte(b'2'), Item::Byte(b'3')],
-        10,
-        &[142, 52, 129],
-    ),
-    (
-        &[Item::Fnc1, Item::Byte(b'0'), Item::Byte(b'1')],
-        10,
-        &[232, 131, 129],
-    ),
-    (
-        &[Item::Byte(b'0'), Item::Fnc1, Item::Byte(b'1')],
-        10,
-        &[49, 232, 50],
-    ),
-    (
-        &[Item::Byte(b'1'), Item::Byte(b'2')],
-        12,
-        &[142, 129, 70, 220, 115],
-    ),
-];
-
-/// Whether the items of each row are written as its codewords.
-fn all_are_written() -> bool {
-    for (items, side, words) in &WRITTEN {
-        if !writes(items, *side, words) {
-            return false;
-        }
-    }
-    true
-}
-
-#[test]
-fn messages_are_written_in_ascii(rt: HostRuntime) {
-    assert!(rt; all_are_written());
-}
-
-/// Whether the ASCII codewords of the message are so many times this one.
-fn is_written(message: &Message, word: u8, count: usize) -> bool {
-    match ascii_words(message) {
-        Ok(words) => words.len() == count && are_all(&words, word),
-        Err(_) => false,
-    }
-}
-
-#[test]
-fn fills_a_message(rt: HostRuntime) {
-    let mut full = of_many(b'7', MESSAGE_ROOM);
-    assert!(rt; full.push(Item::Fnc1) == Err(Item::Fnc1));
-    assert!(rt; full.items().len() == MESSAGE_ROOM);
-    let digits = of_many(b'7', MOST_ITEMS);
-    assert!(rt; is_written(&digits, 207, 816));
-    assert!(rt; spells(&[207; 816], digits.items()));
-}
-
-/// Whether so many letters take as many codewords.
-fn takes_one_each(count: usize) -> bool {
-    is_written(&of_many(b'A', count), 66, count)
-}
-
-#[test]
-fn letters_take_a_codeword_each(rt: HostRuntime) {
-    assert!(rt; takes_one_each(204) && takes_one_each(205) && takes_one_each(816));
-    assert!(rt; ascii_words(&of_many(b'A', 817)).is_err());
-}
-
 #[test]
 fn a_segment_may_fill_the_symbol(rt: HostRuntime) {
     let words = segment(&[231, randomised(202, 2)], 255, 204);
-    assert!(rt; spells_bytes(&words, &[255; 202]));
+    holds(&rt, spells_bytes(&words, &[255; 202]));
 }
 
 /// A segment of 250 bytes 0, whose length takes two codewords, the last of which is this one, with pads up to the size of side 64, and
@@ -335,12 +302,12 @@ fn is_read_before_pads(words: &[u8]) -> bool {
 /// A segment whose length takes two codewords, with pads behind it.
 #[test]
 fn a_length_of_two_codewords(rt: HostRuntime) {
-    assert!(rt; is_read_before_pads(&padded_segment(193)));
-    assert!(rt; is_refused(&padded_segment(187), WordFault::Length(1)));
+    holds(&rt, is_read_before_pads(&padded_segment(193)));
+    holds(&rt, is_refused(&padded_segment(187), WordFault::Length(1)));
 }
 
 /// A segment of 813 bytes, each of which is the low byte of its place; its length codewords are these.
-fn longest_segment(first: u8, second: u8) -> [u8; 816] {
+fn long_segment(first: u8, second: u8) -> [u8; 816] {
     let mut words = [231; 816];
     for place in 4..817u16 {
         words[place as usize - 1] = randomised((place % 256) as u8, place);
@@ -350,19 +317,22 @@ fn longest_segment(first: u8, second: u8) -> [u8; 816] {
     words
 }
 
-/// The largest symbol as one segment.
+/// The symbol of side 104 as one segment.
 #[test]
-fn the_longest_segment(rt: HostRuntime) {
+fn a_segment_of_side_104(rt: HostRuntime) {
     let mut bytes = [0; 813];
     for index in 0..813 {
         bytes[index] = ((index + 4) % 256) as u8;
     }
-    assert!(rt; spells_bytes(&longest_segment(40, 0), &bytes));
+    holds(&rt, spells_bytes(&long_segment(40, 0), &bytes));
 }
 
-/// Lengths that pass the end of the largest symbol.
+/// Lengths that pass the end of the symbol of side 104.
 #[test]
 fn refuses_segments_past_the_end(rt: HostRuntime) {
-    assert!(rt; is_refused(&longest_segment(40, 1), WordFault::Length(1)));
-    assert!(rt; is_refused(&longest_segment(41, 193), WordFault::Length(1)));
+    holds(&rt, is_refused(&long_segment(40, 1), WordFault::Length(1)));
+    holds(
+        &rt,
+        is_refused(&long_segment(41, 193), WordFault::Length(1)),
+    );
 }

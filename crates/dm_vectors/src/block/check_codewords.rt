@@ -1,7 +1,9 @@
 //! Tests of check codewords.
 
-use super::samples::{BLOCKS, part, pseudorandom, put};
+use super::samples::{data_and_checks, part, pseudorandom, put};
 use crate::calls::{checks_of, generator_of};
+use crate::claims::holds;
+use dm_layout::table;
 use gf301::times;
 
 /// Whether these are the check codewords of the data codewords, and not none.
@@ -30,13 +32,14 @@ fn all_have_checks() -> bool {
 
 #[test]
 fn check_codewords_of_blocks_of_side_10(rt: HostRuntime) {
-    assert!(rt; all_have_checks());
+    holds(&rt, all_have_checks());
 }
 
 /// Whether the check codewords are all 0, in each block, where the data codewords are.
 fn zeros_have_zeros(zeros: &[u8; 255]) -> bool {
-    for (count, k) in &BLOCKS {
-        if !has_checks(part(zeros, 0, *count), part(zeros, 0, *k)) {
+    for size in table() {
+        let (count, k) = data_and_checks(size);
+        if !has_checks(part(zeros, 0, count), part(zeros, 0, k)) {
             return false;
         }
     }
@@ -45,7 +48,7 @@ fn zeros_have_zeros(zeros: &[u8; 255]) -> bool {
 
 #[test]
 fn check_codewords_of_zeros_are_zeros(rt: HostRuntime) {
-    assert!(rt; zeros_have_zeros(&[0; 255]));
+    holds(&rt, zeros_have_zeros(&[0; 255]));
 }
 
 /// Takes the multiple of the divisor, whose first coefficient is 1, away that leaves 0 at the first place.
@@ -80,9 +83,10 @@ fn divided(front: &[u8], k: usize) -> [u8; 255] {
 
 /// Whether the check codewords of so many data codewords of the list are what long division leaves, in each block.
 fn are_what_is_left(list: &[u8; 255]) -> bool {
-    for (count, k) in &BLOCKS {
-        let front = part(list, 0, *count);
-        if !has_checks(front, part(&divided(front, *k), *count, *k)) {
+    for size in table() {
+        let (count, k) = data_and_checks(size);
+        let front = part(list, 0, count);
+        if !has_checks(front, part(&divided(front, k), count, k)) {
             return false;
         }
     }
@@ -91,7 +95,7 @@ fn are_what_is_left(list: &[u8; 255]) -> bool {
 
 #[test]
 fn check_codewords_are_what_long_division_leaves(rt: HostRuntime) {
-    assert!(rt; are_what_is_left(&[255; 255]));
-    assert!(rt; are_what_is_left(&pseudorandom(7, 19)));
-    assert!(rt; are_what_is_left(&pseudorandom(200, 3)));
+    holds(&rt, are_what_is_left(&[255; 255]));
+    holds(&rt, are_what_is_left(&pseudorandom(7, 19)));
+    holds(&rt, are_what_is_left(&pseudorandom(200, 3)));
 }

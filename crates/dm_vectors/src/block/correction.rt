@@ -1,52 +1,61 @@
 //! Tests of correction within the limit, at it and beyond it, with both solvers.
 
-use super::samples::{BLOCKS, WORD, codeword, part, put, turned_over, with_errors};
+use super::samples::{WORD, codeword, data_and_checks, part, put, turned_over, with_errors};
 use crate::calls::generator_of;
+use crate::claims::holds;
 use dm_code::{BeyondLimit, Elimination, Fixed, KeySolver, Quick, correct};
+use dm_layout::table;
 
-/// What `correct` answers with a solver, and None where there is no such block.
-fn answer<S: KeySolver>(solver: &S, word: &[u8], k: usize) -> Option<Result<Fixed, BeyondLimit>> {
+/// What `correct` gives with a solver, and None where there is no such block.
+fn outcome_of<S: KeySolver>(
+    solver: &S,
+    word: &[u8],
+    k: usize,
+) -> Option<Result<Fixed, BeyondLimit>> {
     if k < 1 || 68 < k || word.len() <= k || 255 < word.len() {
         return None;
     }
     Some(correct(solver, word, k))
 }
 
-/// Whether the answer is this word, with this count of changed places.
-fn is_fixed(answer: &Option<Result<Fixed, BeyondLimit>>, word: &[u8], changed: usize) -> bool {
-    match answer {
+/// Whether the outcome is this word, with this count of changed places.
+fn is_fixed(outcome: &Option<Result<Fixed, BeyondLimit>>, word: &[u8], changed: usize) -> bool {
+    match outcome {
         Some(Ok(fixed)) => fixed.word.as_slice() == word && usize::from(fixed.changed) == changed,
         _ => false,
     }
 }
 
-/// Whether the answer is that no codeword is near.
-fn is_beyond(answer: &Option<Result<Fixed, BeyondLimit>>) -> bool {
-    matches!(answer, Some(Err(BeyondLimit)))
+/// Whether the outcome is that no codeword is near.
+fn is_beyond(outcome: &Option<Result<Fixed, BeyondLimit>>) -> bool {
+    matches!(outcome, Some(Err(BeyondLimit)))
 }
 
 /// Whether a damaged word is corrected to a word with either solver, with a count of changed places.
 fn is_corrected(damaged: &[u8], word: &[u8], k: usize, changed: usize) -> bool {
-    is_fixed(&answer(&Elimination, damaged, k), word, changed)
-        && is_fixed(&answer(&Quick, damaged, k), word, changed)
+    is_fixed(&outcome_of(&Elimination, damaged, k), word, changed)
+        && is_fixed(&outcome_of(&Quick, damaged, k), word, changed)
 }
 
 /// Whether a damaged word is refused with either solver.
 fn is_refused(damaged: &[u8], k: usize) -> bool {
-    is_beyond(&answer(&Elimination, damaged, k)) && is_beyond(&answer(&Quick, damaged, k))
+    is_beyond(&outcome_of(&Elimination, damaged, k)) && is_beyond(&outcome_of(&Quick, damaged, k))
 }
 
-/// Whether both solvers answer alike for a word of a block.
+/// Whether both solvers agree for a word of a block.
 pub(super) fn are_corrected_alike(word: &[u8], k: usize) -> bool {
-    let answered = answer(&Quick, word, k);
-    answered.is_some() && answered == answer(&Elimination, word, k)
+    let outcome = outcome_of(&Quick, word, k);
+    outcome.is_some() && outcome == outcome_of(&Elimination, word, k)
 }
 
 #[test]
 fn two_errors_with_five_checks_are_corrected_and_three_refused(rt: HostRuntime) {
-    assert!(rt; is_corrected(&WORD, &WORD, 5, 0));
-    assert!(rt; is_corrected(&[0, 0, 186, 114, 25, 5, 88, 102], &WORD, 5, 2));
-    assert!(rt; is_refused(&[0, 0, 0, 114, 25, 5, 88, 102], 5));
+    holds(&rt, is_corrected(&WORD, &WORD, 5, 0));
+    holds(
+        &rt,
+        is_corrected(&[0, 0, 186, 114, 25, 5, 88, 102], &WORD, 5, 2),
+    );
+    holds(&rt, is_refused(&[0, 0, 0, 114, 25, 5, 88, 102], 5));
 }
 
 /// Whether the first `length` codewords of a word are corrected with as many wrong codewords as can be, at every `step`th place from the
@@ -67,8 +76,9 @@ fn is_corrected_to_its_limit(count: usize, k: usize) -> bool {
 
 #[test]
 fn blocks_are_corrected_to_their_limit(rt: HostRuntime) {
-    for (count, k) in &BLOCKS {
-        assert!(rt; is_corrected_to_its_limit(*count, *k));
+    for size in table() {
+        let (count, k) = data_and_checks(size);
+        holds(&rt, is_corrected_to_its_limit(count, k));
     }
 }
 
@@ -95,7 +105,7 @@ fn is_each_error_corrected(place: usize) -> bool {
 #[test]
 fn each_single_error_is_corrected(rt: HostRuntime) {
     for place in 0..8 {
-        assert!(rt; is_each_error_corrected(place));
+        holds(&rt, is_each_error_corrected(place));
     }
 }
 
@@ -113,7 +123,7 @@ fn is_each_pair_corrected(i: usize) -> bool {
 #[test]
 fn errors_at_each_two_places_are_corrected(rt: HostRuntime) {
     for i in 0..8 {
-        assert!(rt; is_each_pair_corrected(i));
+        holds(&rt, is_each_pair_corrected(i));
     }
 }
 
@@ -133,7 +143,7 @@ fn is_refused_before(i: usize, j: usize) -> bool {
 fn errors_at_each_three_places_with_five_checks_are_refused(rt: HostRuntime) {
     for i in 0..8 {
         for j in 0..i {
-            assert!(rt; is_refused_before(i, j));
+            holds(&rt, is_refused_before(i, j));
         }
     }
 }
@@ -155,7 +165,7 @@ fn are_all_four_refused(word: &[u8; 255]) -> bool {
 
 #[test]
 fn errors_at_each_four_places_with_seven_checks_are_refused(rt: HostRuntime) {
-    assert!(rt; are_all_four_refused(&codeword(5, 7)));
+    holds(&rt, are_all_four_refused(&codeword(5, 7)));
 }
 
 /// Whether a word that is one place more than the limit away from the word of zeros is corrected to another codeword, the
@@ -175,8 +185,9 @@ fn is_corrected_to_the_generator(count: usize, k: usize) -> bool {
 
 /// Whether that is so in each block with an even number of check codewords.
 fn all_are_corrected_to_the_generator() -> bool {
-    for (count, k) in &BLOCKS {
-        if k % 2 == 0 && !is_corrected_to_the_generator(*count, *k) {
+    for size in table() {
+        let (count, k) = data_and_checks(size);
+        if k % 2 == 0 && !is_corrected_to_the_generator(count, k) {
             return false;
         }
     }
@@ -186,13 +197,14 @@ fn all_are_corrected_to_the_generator() -> bool {
 /// The generator polynomial is nearer there than the word of zeros.
 #[test]
 fn a_word_nearer_to_another_codeword_is_corrected_to_that(rt: HostRuntime) {
-    assert!(rt; all_are_corrected_to_the_generator());
+    holds(&rt, all_are_corrected_to_the_generator());
 }
 
-/// Whether both solvers answer alike for so many codewords of the list, in each block.
+/// Whether both solvers agree for so many codewords of the list, in each block.
 fn all_are_corrected_alike(list: &[u8; 255]) -> bool {
-    for (count, k) in &BLOCKS {
-        if !are_corrected_alike(part(list, 0, count.saturating_add(*k)), *k) {
+    for size in table() {
+        let (count, k) = data_and_checks(size);
+        if !are_corrected_alike(part(list, 0, count.saturating_add(k)), k) {
             return false;
         }
     }
@@ -201,6 +213,6 @@ fn all_are_corrected_alike(list: &[u8; 255]) -> bool {
 
 /// The blocks of a symbol whose cells are all dark but for its borders: their codewords are all 255.
 #[test]
-fn blocks_of_dark_symbols_are_answered_alike(rt: HostRuntime) {
-    assert!(rt; all_are_corrected_alike(&[255; 255]));
+fn blocks_of_dark_symbols_are_corrected_alike(rt: HostRuntime) {
+    holds(&rt, all_are_corrected_alike(&[255; 255]));
 }

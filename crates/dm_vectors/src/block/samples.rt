@@ -1,34 +1,18 @@
 //! Blocks of which tests are made.
 
 use crate::calls::checks_of;
+use dm_layout::Size;
 
 /// A block of the symbol of side 10, with five check codewords.
 pub(super) const WORD: [u8; 8] = [142, 164, 186, 114, 25, 5, 88, 102];
 
-/// How many data and check codewords a block has, for each square symbol of side 10 to 104.
-pub(super) static BLOCKS: [(usize, usize); 21] = [
-    (3, 5),
-    (5, 7),
-    (8, 10),
-    (12, 12),
-    (18, 14),
-    (22, 18),
-    (30, 20),
-    (36, 24),
-    (44, 28),
-    (62, 36),
-    (86, 42),
-    (114, 48),
-    (144, 56),
-    (174, 68),
-    (102, 42),
-    (140, 56),
-    (92, 36),
-    (114, 48),
-    (144, 56),
-    (174, 68),
-    (136, 56),
-];
+/// How many data and check codewords a block of this size has.
+pub(super) fn data_and_checks(size: Size) -> (usize, usize) {
+    (
+        usize::from(size.block_data()),
+        usize::from(size.block_check()),
+    )
+}
 
 /// So many codewords of the list from the place `first` on, and none where it has fewer.
 pub(super) fn part(list: &[u8; 255], first: usize, count: usize) -> &[u8] {

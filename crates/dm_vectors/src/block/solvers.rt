@@ -1,13 +1,15 @@
 //! Tests of the solvers of the key equation.
 
 use super::correction::are_corrected_alike;
-use super::samples::{BLOCKS, WORD, codeword, part, with_errors};
+use super::samples::{WORD, codeword, data_and_checks, part, with_errors};
 use crate::calls::syndromes_of;
+use crate::claims::holds;
 use arrayvec::ArrayVec;
 use dm_code::{Elimination, Key, KeySolver, Quick};
+use dm_layout::table;
 use gf301::Meter;
 
-/// What a solver answers; the pair of empty lists, which is none, where it may not be called.
+/// What a solver finds; the pair of empty lists, which is none, where it may not be called.
 fn solved<S: KeySolver>(solver: &S, s: &[u8], t: usize) -> Option<Key> {
     if s.len() <= 68 && t <= s.len() / 2 {
         solver.solve(s, t)
@@ -16,7 +18,7 @@ fn solved<S: KeySolver>(solver: &S, s: &[u8], t: usize) -> Option<Key> {
     }
 }
 
-/// What `Quick` answers with its counts; the pair of empty lists, which is none, where it may not be called.
+/// What `Quick` finds with its counts; the pair of empty lists, which is none, where it may not be called.
 fn solved_with_counts(s: &[u8], t: usize) -> (Option<Key>, Meter) {
     if s.len() <= 68 && t <= s.len() / 2 {
         Quick.solve_counted(s, t)
@@ -25,7 +27,7 @@ fn solved_with_counts(s: &[u8], t: usize) -> (Option<Key>, Meter) {
     }
 }
 
-/// Two empty lists, which no solver answers, as a locator has the coefficient 1 of x^0.
+/// Two empty lists, which no solver finds, as a locator has the coefficient 1 of x^0.
 fn no_key() -> Key {
     Key {
         locator: ArrayVec::new(),
@@ -59,31 +61,31 @@ fn terms(p: &[u8]) -> usize {
     count
 }
 
-/// Whether a solver's answer is this pair.
-fn is_key(answer: &Option<Key>, locator: &[u8], evaluator: &[u8]) -> bool {
-    match answer {
+/// Whether a solver found this pair.
+fn is_key(found: &Option<Key>, locator: &[u8], evaluator: &[u8]) -> bool {
+    match found {
         Some(key) => are_same(&key.locator, locator) && are_same(&key.evaluator, evaluator),
         None => false,
     }
 }
 
-/// Whether two answers are equal as polynomials.
-fn is_like(answer: &Option<Key>, other: &Option<Key>) -> bool {
+/// Whether two solutions are equal as polynomials.
+fn is_like(found: &Option<Key>, other: &Option<Key>) -> bool {
     match other {
-        Some(key) => is_key(answer, &key.locator, &key.evaluator),
-        None => answer.is_none(),
+        Some(key) => is_key(found, &key.locator, &key.evaluator),
+        None => found.is_none(),
     }
 }
 
-/// Whether the counts of an answer for k syndromes and the limit t are within their bounds: from above for every answer, and from
-/// below: a product for each syndrome where there is an answer, a product where there is none, and an inversion where a locator
+/// Whether the counts of a solution for k syndromes and the limit t are within their bounds: from above always, and from
+/// below: a product for each syndrome where there is a pair, a product where there is none, and an inversion where a locator
 /// other than 1 was found.
-fn is_within(meter: Meter, answer: &Option<Key>, k: usize, t: usize) -> bool {
+fn is_within(meter: Meter, found: &Option<Key>, k: usize, t: usize) -> bool {
     let (products, inversions) = (meter.products as usize, meter.inversions as usize);
     if k > 68 || t > 34 || products > 4 * k * k || inversions > k {
         return false;
     }
-    match answer {
+    match found {
         Some(key) => {
             let terms = terms(&key.locator);
             products >= k
@@ -94,13 +96,13 @@ fn is_within(meter: Meter, answer: &Option<Key>, k: usize, t: usize) -> bool {
     }
 }
 
-/// Whether `Quick` answers the same with and without counts, list by list, and the counts are within their bounds.
+/// Whether `Quick` finds the same with and without counts, list by list, and the counts are within their bounds.
 fn is_counted(s: &[u8], t: usize) -> bool {
-    let (answer, meter) = solved_with_counts(s, t);
-    solved(&Quick, s, t) == answer && is_within(meter, &answer, s.len(), t)
+    let (found, meter) = solved_with_counts(s, t);
+    solved(&Quick, s, t) == found && is_within(meter, &found, s.len(), t)
 }
 
-/// Whether both solvers answer this pair, by counts within their bounds.
+/// Whether both solvers find this pair, by counts within their bounds.
 fn have_key(s: &[u8], t: usize, locator: &[u8], evaluator: &[u8]) -> bool {
     is_key(&solved(&Elimination, s, t), locator, evaluator)
         && is_key(&solved(&Quick, s, t), locator, evaluator)
@@ -112,7 +114,7 @@ fn have_no_key(s: &[u8], t: usize) -> bool {
     solved(&Elimination, s, t).is_none() && solved(&Quick, s, t).is_none() && is_counted(s, t)
 }
 
-/// Whether both solvers answer the same for the syndromes of a word, by counts within their bounds.
+/// Whether both solvers find the same for the syndromes of a word, by counts within their bounds.
 fn are_alike(word: &[u8], k: usize) -> bool {
     let s = syndromes_of(word, k);
     let t = s.len() / 2;
@@ -133,7 +135,7 @@ static PAIRS: [(&[u8], usize, &[u8], &[u8]); 5] = [
 #[test]
 fn both_solvers_find_the_least_pair(rt: HostRuntime) {
     for (s, t, locator, evaluator) in &PAIRS {
-        assert!(rt; have_key(s, *t, locator, evaluator));
+        holds(&rt, have_key(s, *t, locator, evaluator));
     }
 }
 
@@ -148,23 +150,23 @@ static NO_PAIRS: [(&[u8], usize); 4] = [
 #[test]
 fn lists_without_a_pair(rt: HostRuntime) {
     for (s, t) in &NO_PAIRS {
-        assert!(rt; have_no_key(s, *t));
+        holds(&rt, have_no_key(s, *t));
     }
 }
 
-/// Whether both solvers answer the same, and correct alike, for a word with five checks.
+/// Whether both solvers find the same, and correct alike, for a word with five checks.
 fn are_alike_with_five(word: &[u8; 8]) -> bool {
     are_alike(word, 5) && are_corrected_alike(word, 5)
 }
 
 #[test]
-fn both_solvers_answer_alike_at_side_10(rt: HostRuntime) {
-    assert!(rt; are_alike_with_five(&WORD));
-    assert!(rt; are_alike_with_five(&[0, 0, 186, 114, 25, 5, 88, 102]));
-    assert!(rt; are_alike_with_five(&[0, 0, 0, 114, 25, 5, 88, 102]));
+fn both_solvers_agree_at_side_10(rt: HostRuntime) {
+    holds(&rt, are_alike_with_five(&WORD));
+    holds(&rt, are_alike_with_five(&[0, 0, 186, 114, 25, 5, 88, 102]));
+    holds(&rt, are_alike_with_five(&[0, 0, 0, 114, 25, 5, 88, 102]));
 }
 
-/// Whether both solvers answer alike for a codeword with so many errors, at every `step`th place from the place `first` on.
+/// Whether both solvers agree for a codeword with so many errors, at every `step`th place from the place `first` on.
 fn are_alike_with(
     word: &[u8; 255],
     length: usize,
@@ -177,7 +179,7 @@ fn are_alike_with(
     are_alike(part(&damaged, 0, length), k)
 }
 
-/// Whether both solvers answer alike for a codeword with one error, with as many as can be corrected, and with one more, at every `step`th
+/// Whether both solvers agree for a codeword with one error, with as many as can be corrected, and with one more, at every `step`th
 /// place from the place `first` on.
 fn are_alike_from(word: &[u8; 255], length: usize, k: usize, first: usize, step: usize) -> bool {
     are_alike_with(word, length, k, first, step, 1)
@@ -185,7 +187,7 @@ fn are_alike_from(word: &[u8; 255], length: usize, k: usize, first: usize, step:
         && are_alike_with(word, length, k, first, step, k / 2 + 1)
 }
 
-/// Whether both solvers answer alike for a block with errors at the first places, at the last, and at every second one.
+/// Whether both solvers agree for a block with errors at the first places, at the last, and at every second one.
 fn are_alike_in_block(count: usize, k: usize) -> bool {
     let word = codeword(count, k);
     let length = count.saturating_add(k);
@@ -195,9 +197,10 @@ fn are_alike_in_block(count: usize, k: usize) -> bool {
 }
 
 #[test]
-fn both_solvers_answer_alike(rt: HostRuntime) {
-    for (count, k) in &BLOCKS {
-        assert!(rt; are_alike_in_block(*count, *k));
+fn both_solvers_agree(rt: HostRuntime) {
+    for size in table() {
+        let (count, k) = data_and_checks(size);
+        holds(&rt, are_alike_in_block(count, k));
     }
 }
 
@@ -216,13 +219,13 @@ static COUNTS: [(&[u8], usize, u32, u32); 7] = [
 
 /// Whether `Quick` counts so many products and inversions.
 fn counts(s: &[u8], t: usize, products: u32, inversions: u32) -> bool {
-    let (_answer, meter) = solved_with_counts(s, t);
+    let (_found, meter) = solved_with_counts(s, t);
     meter.products == products && meter.inversions == inversions
 }
 
 #[test]
 fn products_and_inversions_are_counted(rt: HostRuntime) {
     for (s, t, products, inversions) in &COUNTS {
-        assert!(rt; counts(s, *t, *products, *inversions));
+        holds(&rt, counts(s, *t, *products, *inversions));
     }
 }

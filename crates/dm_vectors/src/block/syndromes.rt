@@ -2,6 +2,7 @@
 
 use super::samples::{WORD, part, pseudorandom};
 use crate::calls::syndromes_of;
+use crate::claims::holds;
 use gf301::{Gf, value_at};
 
 /// Whether the word has these syndromes, and not none.
@@ -11,10 +12,13 @@ fn has_syndromes(word: &[u8], syndromes: &[u8]) -> bool {
 
 #[test]
 fn syndromes_of_a_codeword_and_of_words_that_are_none(rt: HostRuntime) {
-    assert!(rt; has_syndromes(&WORD, &[0; 5]));
-    assert!(rt; has_syndromes(&[142, 164, 186, 114, 25, 5, 88, 102 ^ 1], &[1; 5]));
+    holds(&rt, has_syndromes(&WORD, &[0; 5]));
+    holds(
+        &rt,
+        has_syndromes(&[142, 164, 186, 114, 25, 5, 88, 102 ^ 1], &[1; 5]),
+    );
     // the values of x^2 at 2, 4 and 8
-    assert!(rt; has_syndromes(&[1, 0, 0], &[4, 16, 64]));
+    holds(&rt, has_syndromes(&[1, 0, 0], &[4, 16, 64]));
 }
 
 /// Whether the syndromes of a word are its values at the roots.
@@ -56,5 +60,5 @@ fn all_are_values(list: &[u8; 255]) -> bool {
 
 #[test]
 fn syndromes_are_values_at_the_roots(rt: HostRuntime) {
-    assert!(rt; all_are_values(&pseudorandom(7, 19)));
+    holds(&rt, all_are_values(&pseudorandom(7, 19)));
 }

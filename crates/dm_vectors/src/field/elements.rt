@@ -1,5 +1,6 @@
 //! Tests of the field.
 
+use crate::claims::holds;
 use gf301::Gf;
 
 /// Exponents, and the powers of 2.
@@ -27,7 +28,7 @@ fn all_are_powers() -> bool {
 
 #[test]
 fn powers_of_two(rt: HostRuntime) {
-    assert!(rt; all_are_powers());
+    holds(&rt, all_are_powers());
 }
 
 /// Factors, and their products.
@@ -52,8 +53,8 @@ fn all_are_products() -> bool {
 
 #[test]
 fn sums_and_products(rt: HostRuntime) {
-    assert!(rt; all_are_products());
-    assert!(rt; Gf(66).add(Gf(62)) == Gf(124));
+    holds(&rt, all_are_products());
+    holds(&rt, Gf(66).add(Gf(62)) == Gf(124));
 }
 
 /// Whether an element has this inverse.
@@ -69,6 +70,9 @@ fn has_log(a: u8, log: u8) -> bool {
 #[test]
 fn inverses_and_logarithms(rt: HostRuntime) {
     let high = Gf::power_of_two(227).0;
-    assert!(rt; has_inverse(1, 1) && has_inverse(2, 150) && has_inverse(23, high));
-    assert!(rt; has_log(1, 0) && has_log(45, 8) && has_log(150, 254));
+    holds(
+        &rt,
+        has_inverse(1, 1) && has_inverse(2, 150) && has_inverse(23, high),
+    );
+    holds(&rt, has_log(1, 0) && has_log(45, 8) && has_log(150, 254));
 }

@@ -1,6 +1,7 @@
 //! Tests of the generator polynomials.
 
 use crate::calls::generator_of;
+use crate::claims::holds;
 use gf301::{Gf, taps};
 
 /// Whether the generator polynomial for k check codewords begins with these coefficients.
@@ -15,8 +16,11 @@ fn ends(k: usize, last: u8) -> bool {
 
 #[test]
 fn generators_of_five_and_seven(rt: HostRuntime) {
-    assert!(rt; begins(5, &[1, 62, 111, 15, 48, 228]) && generator_of(5).len() == 6);
-    assert!(rt; begins(7, &[1, 254]) && ends(7, 23));
+    holds(
+        &rt,
+        begins(5, &[1, 62, 111, 15, 48, 228]) && generator_of(5).len() == 6,
+    );
+    holds(&rt, begins(7, &[1, 254]) && ends(7, 23));
 }
 
 /// Whether the generator polynomial for each number of check codewords ends with the product of its roots.
@@ -32,10 +36,10 @@ fn all_end_with_products() -> bool {
 
 #[test]
 fn last_coefficients_of_generators(rt: HostRuntime) {
-    assert!(rt; all_end_with_products());
+    holds(&rt, all_end_with_products());
 }
 
 #[test]
 fn coefficients_after_the_first(rt: HostRuntime) {
-    assert!(rt; taps(5)[..6] == [62, 111, 15, 48, 228, 0]);
+    holds(&rt, taps(5)[..6] == [62, 111, 15, 48, 228, 0]);
 }

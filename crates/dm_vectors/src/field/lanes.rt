@@ -1,6 +1,7 @@
 //! Tests of the field in lanes.
 
-use gf301::{add_scaled, lanes_mul, power_row, powers, scaled};
+use crate::claims::holds;
+use gf301::{add_scaled, lanes_mul, power_row, powers, scale};
 use std::simd::prelude::*;
 
 /// Factors, and their products.
@@ -10,7 +11,7 @@ static PRODUCTS: [(u8, u8, u8); 4] = [(66, 62, 122), (251, 111, 20), (0, 7, 0), 
 fn products_of_sixteen_lanes(rt: HostRuntime) {
     for (a, b, product) in PRODUCTS {
         let products = lanes_mul(u8x16::splat(a), u8x16::splat(b));
-        assert!(rt; products.to_array() == [product; 16]);
+        holds(&rt, products.to_array() == [product; 16]);
     }
 }
 
@@ -26,18 +27,18 @@ static MIXED: [u8; 16] = [
 
 #[test]
 fn powers_of_sixteen_lanes(rt: HostRuntime) {
-    assert!(rt; powers(0) == FIRST);
-    assert!(rt; powers(255) == FIRST);
+    holds(&rt, powers(0) == FIRST);
+    holds(&rt, powers(255) == FIRST);
     let products = lanes_mul(u8x16::from_array(FIRST), u8x16::from_array(powers(100)));
-    assert!(rt; products.to_array() == MIXED);
+    holds(&rt, products.to_array() == MIXED);
 }
 
 #[test]
 fn multiples_of_sixteen_lanes_and_of_lists(rt: HostRuntime) {
-    assert!(rt; scaled(66, u8x16::splat(62)).to_array() == [122; 16]);
-    assert!(rt; scaled(251, u8x16::splat(111)).to_array() == [20; 16]);
-    assert!(rt; scaled(2, power_row(1, 0)).to_array() == powers(1));
+    holds(&rt, scale(66, u8x16::splat(62)).to_array() == [122; 16]);
+    holds(&rt, scale(251, u8x16::splat(111)).to_array() == [20; 16]);
+    holds(&rt, scale(2, power_row(1, 0)).to_array() == powers(1));
     let mut sum = [1; 32];
     add_scaled(&mut sum, 66, &[62; 40]);
-    assert!(rt; sum == [1 ^ 122; 32]);
+    holds(&rt, sum == [1 ^ 122; 32]);
 }

@@ -1,5 +1,6 @@
 //! Tests of the meter.
 
+use crate::claims::holds;
 use gf301::{Gf, Meter};
 
 /// Whether a meter that has counted so many makes these products and this inverse, and counts up to its end.
@@ -18,6 +19,6 @@ fn counts_to_its_end() -> bool {
 #[test]
 fn products_and_inversions_are_counted(rt: HostRuntime) {
     let fresh = Meter::default();
-    assert!(rt; counts_to_its_end());
-    assert!(rt; fresh.products == 0 && fresh.inversions == 0);
+    holds(&rt, counts_to_its_end());
+    holds(&rt, fresh.products == 0 && fresh.inversions == 0);
 }

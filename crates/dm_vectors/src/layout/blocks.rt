@@ -1,6 +1,7 @@
 //! Tests of blocks.
 
 use crate::calls::{block, put_block, size_of, words_of};
+use crate::claims::holds;
 use crate::messages::are_all;
 use dm_layout::{MOST_CODEWORDS, Words};
 
@@ -41,8 +42,8 @@ fn is_dealt(words: &Words, b: usize, blocks: usize, length: usize) -> bool {
 #[test]
 fn two_blocks_take_turns(rt: HostRuntime) {
     let words = counted(52);
-    assert!(rt; are_counted(&words, 288, 204, 2));
-    assert!(rt; is_dealt(&words, 1, 2, 144));
+    holds(&rt, are_counted(&words, 288, 204, 2));
+    holds(&rt, is_dealt(&words, 1, 2, 144));
 }
 
 /// Whether block `b` is so many times this codeword.
@@ -55,15 +56,18 @@ fn is_filled(words: &Words, b: usize, word: u8, length: usize) -> bool {
 fn a_block_is_put_beside_the_other(rt: HostRuntime) {
     let mut words = words_of(size_of(52), &[7; 288]);
     put_block(&mut words, 1, &[9; 144]);
-    assert!(rt; are_counted(&words, 288, 204, 2));
-    assert!(rt; is_filled(&words, 0, 7, 144) && is_filled(&words, 1, 9, 144));
+    holds(&rt, are_counted(&words, 288, 204, 2));
+    holds(
+        &rt,
+        is_filled(&words, 0, 7, 144) && is_filled(&words, 1, 9, 144),
+    );
 }
 
 #[test]
 fn six_blocks_take_turns(rt: HostRuntime) {
     let words = counted(104);
-    assert!(rt; are_counted(&words, 1152, 816, 6));
+    holds(&rt, are_counted(&words, 1152, 816, 6));
     for b in 0..6 {
-        assert!(rt; is_dealt(&words, b, 6, 192));
+        holds(&rt, is_dealt(&words, b, 6, 192));
     }
 }

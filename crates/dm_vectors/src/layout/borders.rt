@@ -1,6 +1,7 @@
 //! Tests of borders.
 
 use crate::calls::{is_dark_at, plain, side_of, size_of, words_of};
+use crate::claims::holds;
 use dm_layout::{Grid, border_faults, lay_to};
 
 /// Whether so many cells of the borders of a light and of a dark grid of this side are wrong.
@@ -10,7 +11,7 @@ fn has_faults(side: u16, light: u16, dark: u16) -> bool {
 
 #[test]
 fn faults_of_grids_of_one_colour(rt: HostRuntime) {
-    assert!(rt; has_faults(10, 27, 9) && has_faults(52, 300, 100));
+    holds(&rt, has_faults(10, 27, 9) && has_faults(52, 300, 100));
 }
 
 /// The rows of the fixed square in the symbol of side 12 whose codewords are zeros.
@@ -49,9 +50,9 @@ fn grid_of_zeros() -> Grid {
 #[test]
 fn borders_and_fixed_square_around_zeros(rt: HostRuntime) {
     let grid = grid_of_zeros();
-    assert!(rt; border_faults(&grid) == 0);
-    assert!(rt; side_of(&grid) == 12);
+    holds(&rt, border_faults(&grid) == 0);
+    holds(&rt, side_of(&grid) == 12);
     for (row, cells) in &SQUARE_ROWS {
-        assert!(rt; has_row(&grid, *row, cells));
+        holds(&rt, has_row(&grid, *row, cells));
     }
 }

@@ -1,6 +1,7 @@
 //! Codewords laid into grids and lifted out of them.
 
 use crate::calls::{grid_of, is_dark_at, lay, lift, side_of, size_of, words_of};
+use crate::claims::holds;
 use dm_layout::{Grid, MOST_CODEWORDS, Size, Words, lay_to, lift_to, table};
 
 /// Whether each cell of the row is as drawn, 1 for dark.
@@ -44,7 +45,7 @@ static WORKED: [&str; 10] = [
 #[test]
 fn the_symbol_of_123456_is_as_drawn(rt: HostRuntime) {
     let grid = grid_of(10, &[142, 164, 186, 114, 25, 5, 88, 102]);
-    assert!(rt; is_drawn(&grid, &WORKED));
+    holds(&rt, is_drawn(&grid, &WORKED));
 }
 
 /// The symbol of side 12 whose codewords are zeros, with its fixed square.
@@ -65,7 +66,7 @@ static ZEROS: [&str; 12] = [
 
 #[test]
 fn zeros_with_the_fixed_square(rt: HostRuntime) {
-    assert!(rt; is_drawn(&grid_of(12, &[]), &ZEROS));
+    holds(&rt, is_drawn(&grid_of(12, &[]), &ZEROS));
 }
 
 /// The codewords of this size, each of which is this many times its place.
@@ -90,7 +91,7 @@ fn all_are_lifted_again() -> bool {
 
 #[test]
 fn codewords_that_are_laid_are_lifted_again(rt: HostRuntime) {
-    assert!(rt; all_are_lifted_again());
+    holds(&rt, all_are_lifted_again());
 }
 
 /// Lays codewords into a grid, and lifts them out of it.
@@ -120,5 +121,5 @@ fn hold_all() -> bool {
 
 #[test]
 fn one_place_for_all_symbols(rt: HostRuntime) {
-    assert!(rt; hold_all());
+    holds(&rt, hold_all());
 }

@@ -1,6 +1,7 @@
 //! Placement: worked lists, and the number of places of each size.
 
 use crate::calls::size_of;
+use crate::claims::holds;
 use dm_layout::{Cells, Place, Size, table};
 
 /// Whether the list has this place at this index.
@@ -88,9 +89,9 @@ static ANCHORS_OF_14: [(u16, u16); 24] = [
 
 #[test]
 fn anchors_by_codeword_with_both_corners(rt: HostRuntime) {
-    assert!(rt; are_lowest_bits(size_of(10), &ANCHORS_OF_8));
-    assert!(rt; are_lowest_bits(size_of(14), &ANCHORS_OF_12));
-    assert!(rt; are_lowest_bits(size_of(16), &ANCHORS_OF_14));
+    holds(&rt, are_lowest_bits(size_of(10), &ANCHORS_OF_8));
+    holds(&rt, are_lowest_bits(size_of(14), &ANCHORS_OF_12));
+    holds(&rt, are_lowest_bits(size_of(16), &ANCHORS_OF_14));
 }
 
 /// The cells of the first codeword in the mapping square of side 8.
@@ -121,7 +122,7 @@ fn are_first(size: Size, expected: &[(u16, u16)]) -> bool {
 
 #[test]
 fn bits_of_the_first_codeword(rt: HostRuntime) {
-    assert!(rt; are_first(size_of(10), &FIRST_OF_8));
+    holds(&rt, are_first(size_of(10), &FIRST_OF_8));
 }
 
 /// How many places a size has.
@@ -145,5 +146,5 @@ fn have_eight_places() -> bool {
 
 #[test]
 fn eight_places_a_codeword(rt: HostRuntime) {
-    assert!(rt; have_eight_places());
+    holds(&rt, have_eight_places());
 }

@@ -1,10 +1,11 @@
 //! Tests of sizes.
 
 use crate::calls::size_of;
-use dm_layout::{Size, table};
+use crate::claims::holds;
+use dm_layout::{MOST_DATA, SIZE_COUNT, Size, table};
 
 /// Side, regions, region side, mapping side, data, check, blocks, limit, as the standard's table has them.
-static ROWS: [[u16; 8]; 21] = [
+static ROWS: [[u16; 8]; SIZE_COUNT] = [
     [10, 1, 8, 8, 3, 5, 1, 2],
     [12, 1, 10, 10, 5, 7, 1, 3],
     [14, 1, 12, 12, 8, 10, 1, 5],
@@ -43,7 +44,7 @@ fn is_row(size: Size, row: &[u16; 8]) -> bool {
 /// Whether each size of the table has its row, and is that with its side.
 fn all_have_rows() -> bool {
     let sizes = table();
-    for i in 0..21 {
+    for i in 0..SIZE_COUNT {
         if !is_row(sizes[i], &ROWS[i]) || Size::of_side(ROWS[i][0]) != Some(sizes[i]) {
             return false;
         }
@@ -53,7 +54,7 @@ fn all_have_rows() -> bool {
 
 #[test]
 fn every_row_is_that_of_the_standard(rt: HostRuntime) {
-    assert!(rt; all_have_rows());
+    holds(&rt, all_have_rows());
 }
 
 /// How many data codewords, and the side of the smallest size that holds them.
@@ -82,12 +83,13 @@ fn all_have_sides() -> bool {
 
 #[test]
 fn the_smallest_size_that_holds_the_words(rt: HostRuntime) {
-    assert!(rt; all_have_sides());
-    assert!(rt; Size::for_words(817).is_none() && Size::of_side(11).is_none());
+    holds(&rt, all_have_sides());
+    holds(&rt, Size::for_words(MOST_DATA as u16 + 1).is_none());
+    holds(&rt, Size::of_side(11).is_none());
 }
 
 #[test]
-fn the_largest_size_has_six_blocks(rt: HostRuntime) {
+fn the_blocks_of_side_104(rt: HostRuntime) {
     let size = size_of(104);
-    assert!(rt; size.block_data() == 136 && size.block_check() == 56);
+    holds(&rt, size.block_data() == 136 && size.block_check() == 56);
 }

@@ -104,17 +104,17 @@ fn all_rows_hold() -> bool {
 
 #[test]
 fn extents_tell_what_is_read(rt: HostRuntime) {
-    assert!(rt; all_rows_hold());
+    holds(&rt, all_rows_hold());
 }
 
-/// A macro before 815 pairs of digits, in the largest symbol.
+/// A macro before pairs of digits, as many as the largest symbol holds.
 fn fullest() -> Grid {
     let mut data_words: Codewords = ArrayVec::new();
     add_word(&mut data_words, 236);
-    for _ in 0..815 {
+    for _ in 1..MOST_DATA {
         add_word(&mut data_words, 207);
     }
-    completed_grid(104, &data_words)
+    completed_grid(LARGEST_SIDE as u16, &data_words)
 }
 
 /// The number of items that the grid says in the wide extent.
@@ -129,11 +129,12 @@ fn item_count(grid: &Grid) -> usize {
 #[test]
 fn the_longest_message_is_read(rt: HostRuntime) {
     let grid = fullest();
-    assert!(rt; item_count(&grid) == 1639 && MESSAGE_ROOM == 1639);
-    assert!(rt;
+    holds(&rt, item_count(&grid) == MESSAGE_ROOM);
+    holds(
+        &rt,
         is_fault(
             &normal_read_as(Extent::Wide, Profile::Ascii, &grid, 0),
-            NormalFault::TooLong
-        )
+            NormalFault::TooLong,
+        ),
     );
 }

@@ -47,7 +47,7 @@ fn is_each_change_corrected(place: usize) -> bool {
 #[test]
 fn corrects_each_one_codeword(rt: HostRuntime) {
     for place in 0..8 {
-        assert!(rt; is_each_change_corrected(place));
+        holds(&rt, is_each_change_corrected(place));
     }
 }
 
@@ -66,7 +66,7 @@ fn is_each_pair_corrected(i: usize) -> bool {
 #[test]
 fn corrects_each_two_codewords(rt: HostRuntime) {
     for i in 0..8 {
-        assert!(rt; is_each_pair_corrected(i));
+        holds(&rt, is_each_pair_corrected(i));
     }
 }
 
@@ -85,7 +85,7 @@ fn is_each_triple_refused(i: usize, j: usize) -> bool {
 fn refuses_each_three_codewords(rt: HostRuntime) {
     for i in 0..8 {
         for j in 0..i {
-            assert!(rt; is_each_triple_refused(i, j));
+            holds(&rt, is_each_triple_refused(i, j));
         }
     }
 }
@@ -118,7 +118,7 @@ fn are_all_four_refused() -> bool {
 
 #[test]
 fn refuses_each_four_codewords_of_side_12(rt: HostRuntime) {
-    assert!(rt; are_all_four_refused());
+    holds(&rt, are_all_four_refused());
 }
 
 /// Sides, whether all cells are dark, and how many cells of the border are then wrong.
@@ -147,7 +147,7 @@ fn plain_are_refused() -> bool {
 
 #[test]
 fn refuses_plain_grids(rt: HostRuntime) {
-    assert!(rt; plain_are_refused());
+    holds(&rt, plain_are_refused());
 }
 
 /// Whether a grid of each size with nothing but its border is refused for its codewords.
@@ -163,7 +163,7 @@ fn empty_are_refused() -> bool {
 
 #[test]
 fn refuses_empty_grids(rt: HostRuntime) {
-    assert!(rt; empty_are_refused());
+    holds(&rt, empty_are_refused());
 }
 
 /// The grid of side 10 with two cells turned over.
@@ -199,6 +199,6 @@ fn is_read_with_two_turned(right: &Grid, i: u16) -> bool {
 fn reads_with_two_cells_turned(rt: HostRuntime) {
     let right = grid_of(10, &DIGITS);
     for i in 0..100 {
-        assert!(rt; is_read_with_two_turned(&right, i));
+        holds(&rt, is_read_with_two_turned(&right, i));
     }
 }

@@ -31,7 +31,7 @@ fn padded(words: &[u8], count: usize, last: &[u8], length: u16) -> Codewords {
 #[test]
 fn writes_the_next_larger_size(rt: HostRuntime) {
     let expected = padded(&[207], 204, &[56], 280);
-    assert!(rt; is_of(&write(&of_many(b'7', 409)), 64, &expected));
+    holds(&rt, is_of(&write(&of_many(b'7', 409)), 64, &expected));
 }
 
 /// The grid of side 52 whose data codewords are one segment of 202 bytes 255.
@@ -39,15 +39,15 @@ pub(super) fn segment_grid() -> Grid {
     completed_grid(52, &segment(&[231, randomised(202, 2)], 255, 204))
 }
 
-/// The grid of the largest side whose data codewords are one segment of 813 bytes 255.
-pub(super) fn largest_segment_grid() -> Grid {
-    let front = [231, randomised(252, 2), randomised(63, 3)];
-    completed_grid(104, &segment(&front, 255, 816))
+/// The grid of side 104 whose data codewords are one segment of 813 bytes 255.
+pub(super) fn long_segment_grid() -> Grid {
+    let prefix = [231, randomised(252, 2), randomised(63, 3)];
+    completed_grid(104, &segment(&prefix, 255, 816))
 }
 
-/// Whether the answer is a grid that is its own normal grid.
-fn stays(answer: &Result<Grid, NormalFault>, limit: u16) -> bool {
-    match answer {
+/// Whether the outcome is a grid that is its own normal grid.
+fn stays(outcome: &Result<Grid, NormalFault>, limit: u16) -> bool {
+    match outcome {
         Ok(grid) => becomes(grid, limit, grid),
         Err(_) => false,
     }
@@ -63,16 +63,16 @@ fn becomes_larger(grid: &Grid) -> bool {
 #[test]
 fn normalises_to_a_larger_size(rt: HostRuntime) {
     let grid = segment_grid();
-    assert!(rt; says(&grid, 13, &[255; 202], &[0, 0], 0));
-    assert!(rt; becomes_larger(&grid));
+    holds(&rt, says(&grid, 13, &[255; 202], &[0, 0], 0));
+    holds(&rt, becomes_larger(&grid));
 }
 
-/// The largest symbol with all its data codewords in one segment of Base 256: read, but too long for ASCII.
+/// A large symbol with all its data codewords in one segment of Base 256: read, but too long for ASCII.
 #[test]
 fn reads_what_has_no_normal_grid(rt: HostRuntime) {
-    let grid = largest_segment_grid();
-    assert!(rt; says(&grid, 26, &[255; 813], &[0; 6], 0));
-    assert!(rt; is_fault(&normal(&grid, 26), NormalFault::TooLong));
+    let grid = long_segment_grid();
+    holds(&rt, says(&grid, 26, &[255; 813], &[0; 6], 0));
+    holds(&rt, is_fault(&normal(&grid, 26), NormalFault::TooLong));
 }
 
 /// The grid with its first `most` codewords wrong, and the one at the place `more`.
@@ -102,6 +102,6 @@ fn is_limit(digits: &[u8], most: usize, corrected: &[u8], last: u8) -> bool {
 
 #[test]
 fn corrects_all_blocks(rt: HostRuntime) {
-    assert!(rt; is_limit(&[b'7'; 408], 2 * 21, &[21; 2], 1));
-    assert!(rt; is_limit(&[b'7'; 1632], 6 * 28, &[28; 6], 5));
+    holds(&rt, is_limit(&[b'7'; 408], 2 * 21, &[21; 2], 1));
+    holds(&rt, is_limit(&[b'7'; 1632], 6 * 28, &[28; 6], 5));
 }

@@ -1,9 +1,9 @@
-//! Answers in places that held others.
+//! Results in places that held others.
 
 use super::*;
 use dm_symbol::{light_grid, normal_to, read_to, write_to};
 
-/// Places for answers, which hold whatever was answered last.
+/// Places for results, which hold whatever came last.
 #[derive(Drop)]
 struct Places {
     reading: Reading,
@@ -52,7 +52,7 @@ fn hold_normal_grid(places: &mut Places, profile: Profile, message: &Message) ->
         && places.reading.message == *message
 }
 
-/// Whether the places hold the answers for so many bytes 200 under both profiles.
+/// Whether the places hold the results for so many bytes 200 under both profiles.
 fn hold(places: &mut Places, count: usize) -> bool {
     let message = of_many(200, count);
     hold_grid(places, Profile::Ascii, &message)
@@ -61,7 +61,7 @@ fn hold(places: &mut Places, count: usize) -> bool {
         && hold_normal_grid(places, Profile::Shorter, &message)
 }
 
-/// Whether codewords are refused, with places that hold earlier answers.
+/// Whether codewords are refused, with places that hold earlier results.
 fn are_refused(places: &mut Places) -> bool {
     let fault = ReadFault::Words(WordFault::Reserved(1));
     places.grid = grid_of(12, &[]);
@@ -69,25 +69,28 @@ fn are_refused(places: &mut Places) -> bool {
         && normalise(Profile::Ascii, places) == Err(NormalFault::Read(fault))
 }
 
-/// Whether a message is too long for ASCII alone, with places that hold earlier answers.
+/// Whether a message is too long for ASCII alone, with places that hold earlier results.
 fn is_too_long_for_ascii(places: &mut Places) -> bool {
-    let long = of_many(200, 409);
+    let long = of_many(200, MOST_DATA / 2 + 1);
     !is_written_to(Profile::Ascii, &long, &mut places.grid)
         && is_written_to(Profile::Shorter, &long, &mut places.grid)
         && normalise(Profile::Ascii, places) == Err(NormalFault::TooLong)
 }
 
-/// One place after the other holds the answer to the last grid or message, whatever stood there before.
+/// One place after the other holds the result for the last grid or message, whatever stood there before.
 #[test]
-fn answers_in_places(rt: HostRuntime) {
+fn results_in_places(rt: HostRuntime) {
     let mut places = Places {
         reading: Reading::new(),
         grid: light_grid(),
         normal_grid: light_grid(),
     };
-    assert!(rt; side_of(&places.grid) == 10);
+    holds(&rt, side_of(&places.grid) == 10);
     for count in [90, 3, 0, 40] {
-        assert!(rt; hold(&mut places, count));
+        holds(&rt, hold(&mut places, count));
     }
-    assert!(rt; are_refused(&mut places) && is_too_long_for_ascii(&mut places));
+    holds(
+        &rt,
+        are_refused(&mut places) && is_too_long_for_ascii(&mut places),
+    );
 }

@@ -1,6 +1,6 @@
 //! Normal grids under the shorter profile, and from one profile to the other.
 
-use super::larger::{add_pads, largest_segment_grid, segment_grid};
+use super::larger::{add_pads, long_segment_grid, segment_grid};
 use super::*;
 
 /// Whether the grid is read as the message with nothing corrected.
@@ -43,23 +43,30 @@ fn is_written(profile: Profile, byte: u8, count: usize, side: u16, data_words: &
 /// Three bytes of value 128: a segment at side 12, ASCII at side 14. Two stay in ASCII.
 #[test]
 fn writes_segments(rt: HostRuntime) {
-    assert!(rt; is_written(Profile::Shorter, 128, 3, 12, &[231, 47, 65, 215, 108]));
-    assert!(rt;
+    holds(
+        &rt,
+        is_written(Profile::Shorter, 128, 3, 12, &[231, 47, 65, 215, 108]),
+    );
+    holds(
+        &rt,
         is_written(
             Profile::Ascii,
             128,
             3,
             14,
-            &[235, 1, 235, 1, 235, 1, 129, 56]
-        )
+            &[235, 1, 235, 1, 235, 1, 129, 56],
+        ),
     );
-    assert!(rt; is_written(Profile::Shorter, 128, 2, 12, &[235, 1, 235, 1, 129]));
+    holds(
+        &rt,
+        is_written(Profile::Shorter, 128, 2, 12, &[235, 1, 235, 1, 129]),
+    );
 }
 
-/// Whether the answer is a grid of this side whose first data codewords are these.
-fn begins<E>(answer: &Result<Grid, E>, side: u16, front: &[u8]) -> bool {
-    match answer {
-        Ok(grid) => side_of(grid) == side && lift(grid).data_part().starts_with(front),
+/// Whether the outcome is a grid of this side whose first data codewords are these.
+fn begins<E>(outcome: &Result<Grid, E>, side: u16, prefix: &[u8]) -> bool {
+    match outcome {
+        Ok(grid) => side_of(grid) == side && lift(grid).data_part().starts_with(prefix),
         Err(_) => false,
     }
 }
@@ -67,7 +74,10 @@ fn begins<E>(answer: &Result<Grid, E>, side: u16, front: &[u8]) -> bool {
 #[test]
 fn writes_fnc1_in_ascii(rt: HostRuntime) {
     let marked = write_as(Profile::Shorter, &of_items(&MARKED));
-    assert!(rt; begins(&marked, 16, &[232, 235, 1, 235, 1, 235, 1, 235, 1]));
+    holds(
+        &rt,
+        begins(&marked, 16, &[232, 235, 1, 235, 1, 235, 1, 235, 1]),
+    );
 }
 
 /// A length of two codewords.
@@ -75,33 +85,37 @@ fn writes_fnc1_in_ascii(rt: HostRuntime) {
 fn writes_a_long_segment(rt: HostRuntime) {
     let mut expected = segment(&[231, 38, 193], 255, 253);
     add_pads(&mut expected, 280);
-    assert!(rt; is_written(Profile::Shorter, 255, 250, 64, &expected));
+    holds(&rt, is_written(Profile::Shorter, 255, 250, 64, &expected));
 }
 
 /// A symbol that a segment fills.
 #[test]
-fn writes_the_longest_segment(rt: HostRuntime) {
+fn writes_a_segment_that_fills_side_104(rt: HostRuntime) {
     let full = of_many(255, 813);
-    assert!(rt; is_grid(&write_as(Profile::Shorter, &full), &largest_segment_grid()));
-    assert!(rt; write(&full).is_err());
+    holds(
+        &rt,
+        is_grid(&write_as(Profile::Shorter, &full), &long_segment_grid()),
+    );
+    holds(&rt, write(&full).is_err());
 }
 
 #[test]
-fn normalises_the_longest_segment(rt: HostRuntime) {
-    let largest = largest_segment_grid();
-    assert!(rt;
-        is_fault(
-            &normal_as(Profile::Ascii, &largest, 0),
-            NormalFault::TooLong
-        )
+fn normalises_a_segment_that_fills_side_104(rt: HostRuntime) {
+    let long = long_segment_grid();
+    holds(
+        &rt,
+        is_fault(&normal_as(Profile::Ascii, &long, 0), NormalFault::TooLong),
     );
-    assert!(rt; becomes_under(Profile::Shorter, &largest, 0, &largest));
+    holds(&rt, becomes_under(Profile::Shorter, &long, 0, &long));
 }
 
 #[test]
 fn what_fits_no_symbol_is_refused_under_either_profile(rt: HostRuntime) {
-    let more = of_many(255, 814);
-    assert!(rt; is_too_long(Profile::Ascii, &more) && is_too_long(Profile::Shorter, &more));
+    let more = of_many(255, MOST_DATA - 2);
+    holds(
+        &rt,
+        is_too_long(Profile::Ascii, &more) && is_too_long(Profile::Shorter, &more),
+    );
 }
 
 /// Whether the grid of side 52 that a segment fills comes back from its normal grid under ASCII.
@@ -118,7 +132,10 @@ fn comes_back(segment: &Grid) -> bool {
 #[test]
 fn goes_from_profile_to_profile(rt: HostRuntime) {
     let segment = segment_grid();
-    assert!(rt; becomes_under(Profile::Shorter, &segment, 13, &segment) && comes_back(&segment));
+    holds(
+        &rt,
+        becomes_under(Profile::Shorter, &segment, 13, &segment) && comes_back(&segment),
+    );
 }
 
 /// Bytes, and how many of them make a message.
@@ -136,24 +153,30 @@ fn all_go_both_ways() -> bool {
 
 #[test]
 fn goes_both_ways_between_the_profiles(rt: HostRuntime) {
-    assert!(rt; all_go_both_ways());
-    assert!(rt; goes_both_ways(&of_bytes(b"123456")));
+    holds(&rt, all_go_both_ways());
+    holds(&rt, goes_both_ways(&of_bytes(b"123456")));
 }
 
 /// Whether the grid of side 14 with these data codewords becomes a grid of this side under the shorter profile that begins with these.
-fn becomes_segment(data_words: &[u8], side: u16, front: &[u8]) -> bool {
+fn becomes_segment(data_words: &[u8], side: u16, prefix: &[u8]) -> bool {
     let grid = completed_grid(14, data_words);
-    begins(&normal_as(Profile::Shorter, &grid, 3), side, front)
+    begins(&normal_as(Profile::Shorter, &grid, 3), side, prefix)
 }
 
 /// Whatever else it came in, a message of bytes of 128 and more becomes one segment; a length number 0 is written out.
 #[test]
 fn a_segment_that_fills_the_symbol_has_its_length_written_out(rt: HostRuntime) {
     let to_the_end = segment(&[231, randomised(0, 2)], 200, 8);
-    assert!(rt; becomes_segment(&to_the_end, 14, &[231, randomised(6, 2)]));
+    holds(
+        &rt,
+        becomes_segment(&to_the_end, 14, &[231, randomised(6, 2)]),
+    );
 }
 
 #[test]
 fn normalises_runs_to_a_segment(rt: HostRuntime) {
-    assert!(rt; becomes_segment(&[230, 10, 255, 10, 255, 10, 255, 129], 12, &[231]));
+    holds(
+        &rt,
+        becomes_segment(&[230, 10, 255, 10, 255, 10, 255, 129], 12, &[231]),
+    );
 }

@@ -1,5 +1,6 @@
 //! Sources and sinks over readers and writers that fail in each way, and over readers that come to their end.
 
+use crate::claims::holds;
 use dm_text::{Failed, FromRead, Sink, Source, ToWrite};
 use std::cell::Cell;
 use std::io::{self, ErrorKind, Read, Write};
@@ -96,7 +97,7 @@ static KINDS: [ErrorKind; 8] = [
     ErrorKind::Other,
 ];
 
-/// A read: the length of its buffer, its answer, and what is then counted: failures and calls of the device.
+/// A read: the length of its buffer, its outcome, and what is then counted: failures and calls of the device.
 type AskedRead = (usize, Result<usize, Failed>, u64, u32);
 
 /// Reads of a device, one after another: how many are good before each one that fails, how many find the end, and the
@@ -122,26 +123,26 @@ static READS: [(u32, u32, &[AskedRead]); 3] = [
     ),
 ];
 
-/// Whether a read gives this answer and leaves the source with this count of failures.
+/// Whether a read has this outcome and leaves the source with this count of failures.
 fn reads(
     source: &mut FromRead<Device<'_>>,
     into: &mut [u8],
-    answer: Result<usize, Failed>,
+    outcome: Result<usize, Failed>,
     failures: u64,
 ) -> bool {
-    source.read(into) == answer && source.failures() == failures
+    source.read(into) == outcome && source.failures() == failures
 }
 
-/// Whether a read into this many zeros gives this answer, and writes over the first zero if it gives a byte.
+/// Whether a read into this many zeros has this outcome, and writes over the first zero if it gives a byte.
 fn reads_bytes(source: &mut FromRead<Device<'_>>, read: AskedRead) -> bool {
-    let (length, answer, failures, _) = read;
+    let (length, outcome, failures, _) = read;
     let mut place = [0u8; 4];
-    let first = if answer == Ok(1) { 65 } else { 0 };
-    reads(source, &mut place[..length.min(4)], answer, failures) && place == [first, 0, 0, 0]
+    let first = if outcome == Ok(1) { 65 } else { 0 };
+    reads(source, &mut place[..length.min(4)], outcome, failures) && place == [first, 0, 0, 0]
 }
 
-/// A source over this device answers these reads so.
-fn answers_reads(
+/// Whether the reads of a source over this device have these outcomes.
+fn have_read_outcomes(
     mut device: Device<'_>,
     ends: u32,
     calls: &Cell<u32>,
@@ -157,12 +158,12 @@ fn answers_reads(
 }
 
 #[test]
-fn reads_are_answered(rt: HostRuntime) {
+fn reads_of_devices(rt: HostRuntime) {
     for kind in KINDS {
         for (good, ends, asked) in READS {
             let (calls, flushes) = (Cell::new(0), Cell::new(0));
             let device = Device::new(kind, good, &calls, &flushes);
-            assert!(rt; answers_reads(device, ends, &calls, asked));
+            holds(&rt, have_read_outcomes(device, ends, &calls, asked));
         }
     }
 }
@@ -188,13 +189,13 @@ fn a_read_of_each_length_fails_in_each_way_or_finds_the_end(rt: HostRuntime) {
     let mut place = [0u8; 4096];
     for length in 0..4097usize {
         for kind in KINDS {
-            assert!(rt; fails_at(kind, &mut place[..length]));
+            holds(&rt, fails_at(kind, &mut place[..length]));
         }
-        assert!(rt; ends_at(&mut place[..length]));
+        holds(&rt, ends_at(&mut place[..length]));
     }
 }
 
-/// A write of these bytes, or a flush: its answer, with 0 for a flush, what is then counted, and whether bytes are then
+/// A write of these bytes, or a flush: its outcome, with 0 for a flush, what is then counted, and whether bytes are then
 /// pending. The counts are those of failures, writes and flushes.
 type AskedWrite = (
     Option<&'static [u8]>,
@@ -257,8 +258,8 @@ static WRITES: [(u32, usize, bool, &[AskedWrite]); 4] = [
     ),
 ];
 
-/// What a write of these bytes answers, or a flush.
-fn answer(sink: &mut ToWrite<Device<'_>>, bytes: Option<&[u8]>) -> Result<usize, Failed> {
+/// Writes these bytes, or flushes.
+fn write_or_flush(sink: &mut ToWrite<Device<'_>>, bytes: Option<&[u8]>) -> Result<usize, Failed> {
     match bytes {
         Some(bytes) => sink.write(bytes),
         None => match sink.flush() {
@@ -273,8 +274,8 @@ fn has_state(sink: &ToWrite<Device<'_>>, failures: u64, pending: bool) -> bool {
     sink.failures() == failures && sink.pending() == pending
 }
 
-/// A sink over this device answers these writes and flushes so.
-fn answers_writes(
+/// Whether the writes and flushes of a sink over this device have these outcomes.
+fn have_write_outcomes(
     device: Device<'_>,
     calls: &Cell<u32>,
     flushes: &Cell<u32>,
@@ -284,7 +285,7 @@ fn answers_writes(
     let mut is_good = has_state(&sink, 0, true);
     for (bytes, given, counts, pending) in asked {
         let (failures, writes, flushed) = *counts;
-        is_good = answer(&mut sink, *bytes) == *given
+        is_good = write_or_flush(&mut sink, *bytes) == *given
             && has_state(&sink, failures, *pending)
             && calls.get() == writes
             && flushes.get() == flushed
@@ -294,14 +295,14 @@ fn answers_writes(
 }
 
 #[test]
-fn writes_and_flushes_are_answered(rt: HostRuntime) {
+fn writes_and_flushes_of_devices(rt: HostRuntime) {
     for kind in KINDS {
         for (good, room, flush_fails, asked) in WRITES {
             let (calls, flushes) = (Cell::new(0), Cell::new(0));
             let mut device = Device::new(kind, good, &calls, &flushes);
             device.room = room;
             device.flush_fails = flush_fails;
-            assert!(rt; answers_writes(device, &calls, &flushes, asked));
+            holds(&rt, have_write_outcomes(device, &calls, &flushes, asked));
         }
     }
 }
@@ -321,6 +322,6 @@ fn takes_all(bytes: &[u8]) -> bool {
 fn a_write_of_each_length_is_taken_whole(rt: HostRuntime) {
     let bytes = [0u8; MOST_WRITTEN];
     for length in 0..MOST_WRITTEN + 1 {
-        assert!(rt; takes_all(&bytes[..length]));
+        holds(&rt, takes_all(&bytes[..length]));
     }
 }

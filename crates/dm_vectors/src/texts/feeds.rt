@@ -1,7 +1,8 @@
 //! Texts of messages, and lines and records in pieces.
 
+use crate::claims::holds;
 use arrayvec::ArrayVec;
-use dm_symbol::{Grid, Item, Message, write};
+use dm_symbol::{Grid, Item, LARGEST_SIDE, MOST_ITEMS, Message, write};
 use dm_text::{
     Fed, GridFeed, LineFault, LineFed, LineFeed, RecordFault, message_from, message_text,
 };
@@ -33,9 +34,9 @@ static MESSAGES: [(&[u8], &[Item], &[u8]); 3] = [
 #[test]
 fn messages_are_read_from_lines(rt: HostRuntime) {
     for (line, items, text) in &MESSAGES {
-        assert!(rt; spells(line, items, text));
+        holds(&rt, spells(line, items, text));
     }
-    assert!(rt; has_text(&Message::new(), b""));
+    holds(&rt, has_text(&Message::new(), b""));
 }
 
 /// The line has this fault.
@@ -59,11 +60,11 @@ static BAD_ESCAPES: [(&[u8], u64); 6] = [
 #[test]
 fn line_faults_have_their_columns(rt: HostRuntime) {
     for (line, column) in &BAD_ESCAPES {
-        assert!(rt; has_fault(line, LineFault::BadEscape(*column)));
+        holds(&rt, has_fault(line, LineFault::BadEscape(*column)));
     }
-    let digits = [b'7'; 1633];
-    assert!(rt; has_fault(&digits, LineFault::TooLong));
-    assert!(rt; message_from(&digits[..1632]).is_ok());
+    let digits = [b'7'; MOST_ITEMS + 1];
+    holds(&rt, has_fault(&digits, LineFault::TooLong));
+    holds(&rt, message_from(&digits[..MOST_ITEMS]).is_ok());
 }
 
 /// What a line came to: its fault, if it has one, and how many items it has.
@@ -107,8 +108,11 @@ fn lines_come_in_pieces(rt: HostRuntime) {
         let mut lines = ArrayVec::new();
         feed_lines(&mut feed, &text[..cut], &mut lines);
         feed_lines(&mut feed, &text[cut..], &mut lines);
-        assert!(rt; lines.as_slice() == [(Some(LineFault::BadEscape(1)), 0), (None, 0)].as_slice());
-        assert!(rt; ends_in_line(&mut feed, &[Item::Byte(65)]));
+        holds(
+            &rt,
+            lines.as_slice() == [(Some(LineFault::BadEscape(1)), 0), (None, 0)].as_slice(),
+        );
+        holds(&rt, ends_in_line(&mut feed, &[Item::Byte(65)]));
     }
 }
 
@@ -181,7 +185,7 @@ fn are_fed(cut: usize) -> bool {
 #[test]
 fn records_come_in_pieces(rt: HostRuntime) {
     for cut in 0..=TWO_GRIDS.len() {
-        assert!(rt; are_fed(cut));
+        holds(&rt, are_fed(cut));
     }
 }
 
@@ -196,8 +200,8 @@ fn records_come_in_bytes(rt: HostRuntime) {
             None => closed = u32::MAX,
         }
     }
-    assert!(rt; closed == 1);
-    assert!(rt; ends_in_second(&mut feed));
+    holds(&rt, closed == 1);
+    holds(&rt, ends_in_second(&mut feed));
 }
 
 /// The piece closes a record with this fault, after so many bytes.
@@ -223,9 +227,12 @@ fn stays_open(feed: &mut GridFeed, piece: &[u8]) -> bool {
 fn two_records_come_in_one_piece(rt: HostRuntime) {
     let mut feed = GridFeed::new();
     let piece = b"1\n\n10x\n\n";
-    assert!(rt; closes(&mut feed, piece, 3, RecordFault::NoSuchSize(1)));
-    assert!(rt; closes(&mut feed, &piece[3..], 5, RecordFault::Character));
-    assert!(rt; feed.finish().is_none());
+    holds(&rt, closes(&mut feed, piece, 3, RecordFault::NoSuchSize(1)));
+    holds(
+        &rt,
+        closes(&mut feed, &piece[3..], 5, RecordFault::Character),
+    );
+    holds(&rt, feed.finish().is_none());
 }
 
 /// The text, whose end closes the only record in it, has this fault.
@@ -236,7 +243,7 @@ fn ends_refused(text: &[u8], fault: RecordFault) -> bool {
 
 #[test]
 fn records_are_refused(rt: HostRuntime) {
-    let zeros = [b'0'; 105];
+    let zeros = [b'0'; LARGEST_SIDE + 1];
     let table = [
         (b"10x\n".as_slice(), RecordFault::Character),
         (zeros.as_slice(), RecordFault::Large),
@@ -249,7 +256,7 @@ fn records_are_refused(rt: HostRuntime) {
         (b"10\n1".as_slice(), RecordFault::NotSquare),
     ];
     for (text, fault) in table {
-        assert!(rt; ends_refused(text, fault));
+        holds(&rt, ends_refused(text, fault));
     }
 }
 
@@ -257,8 +264,8 @@ fn records_are_refused(rt: HostRuntime) {
 fn a_record_that_is_too_long_is_refused_and_left(rt: HostRuntime) {
     let mut feed = GridFeed::new();
     for _ in 0..1_000_000u32 {
-        assert!(rt; stays_open(&mut feed, b"2\n"));
+        holds(&rt, stays_open(&mut feed, b"2\n"));
     }
-    assert!(rt; closes(&mut feed, b"\n", 1, RecordFault::Character));
-    assert!(rt; closes_first(&mut feed, TWO_GRIDS) == Some(true));
+    holds(&rt, closes(&mut feed, b"\n", 1, RecordFault::Character));
+    holds(&rt, closes_first(&mut feed, TWO_GRIDS) == Some(true));
 }

@@ -8,7 +8,7 @@ ghost use Rattle.dm_vectors.specs.TestDevices.{given_joined, kept_joined, place_
 use arrayvec::ArrayVec;
 use dm_text::{Failed, Sink, Source};
 
-/// What a sink has taken. The longest answer, the largest grid, has 10,921 bytes.
+/// What a sink has taken. The longest answer that a test writes, a grid of side 104, has 10,921 bytes.
 pub(super) type Taken = ArrayVec<u8, 12288>;
 
 /// Counts one more failure.

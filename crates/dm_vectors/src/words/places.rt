@@ -73,9 +73,13 @@ fn writes_and_reads_in_places(rt: HostRuntime) {
         message: Message::new(),
         read: Message::new(),
     };
-    assert!(rt; hold_all(&mut places));
-    assert!(rt; read_to(&[240], &mut places.read) == Err(WordFault::LeftOut(240, 1)));
-    assert!(rt;
-        holds_letter(Profile::Ascii, &mut places) && holds_letter(Profile::Shorter, &mut places)
+    holds(&rt, hold_all(&mut places));
+    holds(
+        &rt,
+        read_to(&[240], &mut places.read) == Err(WordFault::LeftOut(240, 1)),
+    );
+    holds(
+        &rt,
+        holds_letter(Profile::Ascii, &mut places) && holds_letter(Profile::Shorter, &mut places),
     );
 }

@@ -45,9 +45,9 @@ fn is_shorter_for(byte: u8, count: usize, expected: &[u8]) -> bool {
 
 #[test]
 fn the_shorter_of_two_forms_is_written(rt: HostRuntime) {
-    assert!(rt; is_shorter_for(128, 3, &[231, 47, 65, 215, 108]));
-    assert!(rt; is_shorter_for(128, 2, &[235, 1, 235, 1]));
-    assert!(rt; is_shorter(&Message::new(), &[]));
+    holds(&rt, is_shorter_for(128, 3, &[231, 47, 65, 215, 108]));
+    holds(&rt, is_shorter_for(128, 2, &[235, 1, 235, 1]));
+    holds(&rt, is_shorter(&Message::new(), &[]));
 }
 
 /// The digits 1 to 6.
@@ -62,21 +62,24 @@ static DIGITS: [Item; 6] = [
 
 #[test]
 fn writes_digits_and_fnc1_in_ascii(rt: HostRuntime) {
-    assert!(rt; is_shorter(&of_items(&DIGITS), &[142, 164, 186]));
-    assert!(rt; is_shorter(&of_items(&MARKED), &[232, 235, 1, 235, 1, 235, 1, 235, 1]));
+    holds(&rt, is_shorter(&of_items(&DIGITS), &[142, 164, 186]));
+    holds(
+        &rt,
+        is_shorter(&of_items(&MARKED), &[232, 235, 1, 235, 1, 235, 1, 235, 1]),
+    );
 }
 
 /// ASCII codewords under `Ascii` whatever they are.
 #[test]
 fn keeps_ascii_under_its_own_profile(rt: HostRuntime) {
     let words = normal_of(Profile::Ascii, &of_many(128, 3));
-    assert!(rt; are_words(&words, &[235, 1, 235, 1, 235, 1]));
-    assert!(rt; normal_of(Profile::Ascii, &of_many(255, 813)).is_none());
+    holds(&rt, are_words(&words, &[235, 1, 235, 1, 235, 1]));
+    holds(&rt, normal_of(Profile::Ascii, &of_many(255, 813)).is_none());
 }
 
 /// Whether so many bytes 255 are written as a segment that begins with these codewords, and has so many.
-fn is_segment(count: usize, front: &[u8], length: u16) -> bool {
-    is_shorter_for(255, count, &segment(front, 255, length))
+fn is_segment(count: usize, prefix: &[u8], length: u16) -> bool {
+    is_shorter_for(255, count, &segment(prefix, 255, length))
 }
 
 /// Segments with a length of one codeword.
@@ -95,15 +98,15 @@ fn two_length_codewords() -> bool {
 /// The length is written out, in one codeword or two, also where the segment fills the symbol.
 #[test]
 fn the_length_of_a_segment_is_written_out(rt: HostRuntime) {
-    assert!(rt; one_length_codeword());
-    assert!(rt; two_length_codewords());
+    holds(&rt, one_length_codeword());
+    holds(&rt, two_length_codewords());
 }
 
 #[test]
 fn messages_that_fit_no_symbol_are_refused(rt: HostRuntime) {
-    let more = of_many(255, 814);
-    assert!(rt; ascii_words(&more).is_err());
-    assert!(rt; shorter_words(&more).is_err());
+    let more = of_many(255, MOST_DATA - 2);
+    holds(&rt, ascii_words(&more).is_err());
+    holds(&rt, shorter_words(&more).is_err());
 }
 
 /// Whether the message takes so many codewords, of which the first is a latch to Base 256 or not.
@@ -149,7 +152,7 @@ fn all_are_taken() -> bool {
 
 #[test]
 fn takes_ascii_at_a_tie_and_a_segment_behind_it(rt: HostRuntime) {
-    assert!(rt; all_are_taken());
+    holds(&rt, all_are_taken());
 }
 
 /// The message of 200 items, FNC1 at this place and else bytes 255.
@@ -164,6 +167,6 @@ fn with_fnc1_at(place: usize) -> Message {
 #[test]
 fn keeps_fnc1_in_ascii(rt: HostRuntime) {
     for place in [0, 100, 199] {
-        assert!(rt; takes(&with_fnc1_at(place), 399, false));
+        holds(&rt, takes(&with_fnc1_at(place), 399, false));
     }
 }

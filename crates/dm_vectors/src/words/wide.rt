@@ -97,9 +97,8 @@ static REFUSED_USUALLY: [(&[u8], WordFault); 17] = [
     (&[239, 87, 199], WordFault::Unfinished(2)),
 ];
 
-/// Runs of EDIFACT with their latch at each of the last four places of a symbol, and runs with each end behind a whole group and up to three codewords
-/// behind that end.
-static ENDED: [(&[u8], &[u8]); 42] = [
+/// Runs of EDIFACT with their latch at each of the last four places of a symbol.
+static EDIFACT_AT_THE_END: [(&[u8], &[u8]); 11] = [
     (&[66, 67, 68, 240], b"ABC"),
     (&[66, 67, 240, 124], b"AB{"),
     (&[66, 67, 240, 4], b"AB\x03"),
@@ -111,6 +110,10 @@ static ENDED: [(&[u8], &[u8]); 42] = [
     (&[240, 4, 31, 66], b"AA=B"),
     (&[240, 4, 39, 192], b"AB"),
     (&[240, 4, 32, 223], b"ABC"),
+];
+
+/// Runs of EDIFACT behind a whole group, whose next value is an unlatch, or is none where at most two codewords are left.
+static ENDED_FIRST: [(&[u8], &[u8]); 8] = [
     (&[240, 4, 32, 196, 124], b"ABCD{"),
     (&[240, 4, 32, 196, 124, 66], b"ABCD{A"),
     (&[240, 4, 32, 196, 124, 66, 129], b"ABCDA"),
@@ -119,6 +122,10 @@ static ENDED: [(&[u8], &[u8]); 42] = [
     (&[240, 4, 32, 196, 127, 66], b"ABCD~A"),
     (&[240, 4, 32, 196, 127, 66, 129], b"ABCDA"),
     (&[240, 4, 32, 196, 127, 66, 67, 129], b"ABCDAB"),
+];
+
+/// The same where the second value behind the group is the unlatch, with up to three codewords behind it.
+static ENDED_SECOND: [(&[u8], &[u8]); 7] = [
     (&[240, 4, 32, 196, 5, 240], b"ABCD\x04"),
     (&[240, 4, 32, 196, 5, 240, 66], b"ABCDAA"),
     (&[240, 4, 32, 196, 5, 240, 66, 129], b"ABCDAA"),
@@ -126,6 +133,10 @@ static ENDED: [(&[u8], &[u8]); 42] = [
     (&[240, 4, 32, 196, 5, 255, 66], b"ABCDAA"),
     (&[240, 4, 32, 196, 5, 255, 66, 129], b"ABCDAA"),
     (&[240, 4, 32, 196, 5, 255, 66, 67, 129], b"ABCDAAB"),
+];
+
+/// The same where it is the third value.
+static ENDED_THIRD: [(&[u8], &[u8]); 8] = [
     (&[240, 4, 32, 196, 4, 39, 192], b"ABCDAB"),
     (&[240, 4, 32, 196, 4, 39, 192, 66], b"ABCDABA"),
     (&[240, 4, 32, 196, 4, 39, 192, 66, 129], b"ABCDABA"),
@@ -134,6 +145,10 @@ static ENDED: [(&[u8], &[u8]); 42] = [
     (&[240, 4, 32, 196, 4, 39, 255, 66], b"ABCDABA"),
     (&[240, 4, 32, 196, 4, 39, 255, 66, 129], b"ABCDABA"),
     (&[240, 4, 32, 196, 4, 39, 255, 66, 67, 129], b"ABCDABAB"),
+];
+
+/// The same where it is the fourth value, or where the second group is whole.
+static ENDED_FOURTH: [(&[u8], &[u8]); 8] = [
     (&[240, 4, 32, 196, 4, 32, 223], b"ABCDABC"),
     (&[240, 4, 32, 196, 4, 32, 223, 66], b"ABCDABCA"),
     (&[240, 4, 32, 196, 4, 32, 223, 66, 129], b"ABCDABCA"),
@@ -144,8 +159,8 @@ static ENDED: [(&[u8], &[u8]); 42] = [
     (&[240, 4, 32, 196, 4, 32, 31, 66, 67, 129], b"ABCDAB@AB"),
 ];
 
-/// The other latches at the last places of a symbol, behind a letter or a macro.
-static LATCHED: [(&[u8], &[u8]); 30] = [
+/// The latch to C40 at the last places of a symbol, behind a letter.
+static LATCHED_C40: [(&[u8], &[u8]); 7] = [
     (&[66, 230], b"A"),
     (&[66, 230, 91], b"AZ"),
     (&[66, 230, 254], b"A"),
@@ -153,6 +168,10 @@ static LATCHED: [(&[u8], &[u8]); 30] = [
     (&[66, 230, 91, 11], b"AAIM"),
     (&[66, 230, 91, 11, 66], b"AAIMA"),
     (&[66, 230, 91, 11, 254], b"AAIM"),
+];
+
+/// The latch to X12 there.
+static LATCHED_X12: [(&[u8], &[u8]); 7] = [
     (&[66, 238], b"A"),
     (&[66, 238, 91], b"AZ"),
     (&[66, 238, 254], b"A"),
@@ -160,6 +179,10 @@ static LATCHED: [(&[u8], &[u8]); 30] = [
     (&[66, 238, 91, 11], b"AAIM"),
     (&[66, 238, 91, 11, 66], b"AAIMA"),
     (&[66, 238, 91, 11, 254], b"AAIM"),
+];
+
+/// The latch to Text there.
+static LATCHED_TEXT: [(&[u8], &[u8]); 7] = [
     (&[66, 239], b"A"),
     (&[66, 239, 91], b"AZ"),
     (&[66, 239, 254], b"A"),
@@ -167,6 +190,10 @@ static LATCHED: [(&[u8], &[u8]); 30] = [
     (&[66, 239, 91, 11], b"Aaim"),
     (&[66, 239, 91, 11, 66], b"AaimA"),
     (&[66, 239, 91, 11, 254], b"Aaim"),
+];
+
+/// The latch to Base 256 there, and each latch behind a macro.
+static LATCHED: [(&[u8], &[u8]); 9] = [
     (&[66, 231, 193], b"A"),
     (&[66, 231, 194, 88], b"A\x01"),
     (&[237, 231, 194, 65], b"[)>\x1E06\x1D\xEA\x1E\x04"),
@@ -198,13 +225,32 @@ static FILLED: [(&[u8], &[u8]); 14] = [
 
 #[test]
 fn reads_edifact_macros_and_waiting_shifts(rt: HostRuntime) {
-    assert!(rt; are_spelled(&SPELLED));
-    assert!(rt; are_refused(Extent::Usual, &REFUSED_USUALLY));
+    holds(&rt, are_spelled(&SPELLED));
+    holds(&rt, are_refused(Extent::Usual, &REFUSED_USUALLY));
+}
+
+#[test]
+fn reads_edifact_up_to_the_last_places(rt: HostRuntime) {
+    for rows in [
+        EDIFACT_AT_THE_END.as_slice(),
+        &ENDED_FIRST,
+        &ENDED_SECOND,
+        &ENDED_THIRD,
+        &ENDED_FOURTH,
+    ] {
+        holds(&rt, are_spelled(rows));
+    }
 }
 
 #[test]
 fn reads_runs_up_to_the_last_places(rt: HostRuntime) {
-    assert!(rt; are_spelled(&ENDED));
-    assert!(rt; are_spelled(&LATCHED));
-    assert!(rt; are_spelled(&FILLED));
+    for rows in [
+        LATCHED_C40.as_slice(),
+        &LATCHED_X12,
+        &LATCHED_TEXT,
+        &LATCHED,
+        &FILLED,
+    ] {
+        holds(&rt, are_spelled(rows));
+    }
 }

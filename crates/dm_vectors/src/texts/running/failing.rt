@@ -3,13 +3,13 @@
 use super::super::devices::Device;
 use super::super::feeds::TWO_GRIDS;
 use super::super::memory::{MemorySink, TextSource};
-use super::super::worked::{AIM, LINES};
+use super::super::worked::{AIM, LETTER};
 use super::{SIZES, joined, ran};
+use crate::claims::holds;
 use dm_symbol::Profile;
 use dm_text::{FromRead, RunFault, Sink, Source, Tally, Task, ToWrite};
 use std::cell::Cell;
 use std::io::{self, ErrorKind, Write};
-use std::process::Abort;
 
 /// What is written for the two grids.
 static OUT: &[u8] = b"123456\nA\n";
@@ -65,19 +65,37 @@ impl<'a> End<'a> {
     }
 }
 
-/// The run of the task over these devices ends so.
+/// Whether the run of the task over these devices ends so.
 fn run_ends(
-    rt: &impl Abort,
     task: Task,
     mut source: TextSource<'_>,
     mut sink: MemorySink,
     most: u32,
     end: &End<'_>,
-) {
+) -> bool {
     let outcome = ran(task, &mut source, &mut sink, most);
-    assert!(rt; outcome == end.outcome);
-    assert!(rt; end.leaves_source(&source, most));
-    assert!(rt; end.leaves_sink(&sink));
+    outcome == end.outcome && end.leaves_source(&source, most) && end.leaves_sink(&sink)
+}
+
+/// Whether a run that reads the two grids ends so.
+fn grids_end(source: TextSource<'_>, sink: MemorySink, end: &End<'_>) -> bool {
+    run_ends(Task::Read(None), source, sink, 1000, end)
+}
+
+/// Whether a run that writes grids of lines ends so.
+fn lines_end(source: TextSource<'_>, sink: MemorySink, most: u32, end: &End<'_>) -> bool {
+    run_ends(Task::Write(Profile::Ascii), source, sink, most, end)
+}
+
+/// Whether a run that writes the table ends so, without a read.
+fn table_ends(sink: MemorySink, end: &End<'_>) -> bool {
+    run_ends(
+        Task::Table,
+        TextSource::failing(TWO_GRIDS, 1, 0),
+        sink,
+        0,
+        end,
+    )
 }
 
 #[test]
@@ -92,7 +110,7 @@ fn a_read_fails(rt: HostRuntime) {
             let source = TextSource::failing(TWO_GRIDS, piece, good);
             let sink = MemorySink::failing(piece, usize::MAX);
             let end = read_failed(good.saturating_add(1), written);
-            run_ends(&rt, Task::Read(None), source, sink, 1000, &end);
+            holds(&rt, grids_end(source, sink, &end));
         }
     }
 }
@@ -118,7 +136,7 @@ fn a_write_fails(rt: HostRuntime) {
             let source = TextSource::failing(TWO_GRIDS, piece, usize::MAX);
             let sink = MemorySink::failing(piece, room);
             let end = write_failed(reads, &OUT[..room]);
-            run_ends(&rt, Task::Read(None), source, sink, 1000, &end);
+            holds(&rt, grids_end(source, sink, &end));
         }
     }
 }
@@ -129,8 +147,10 @@ fn the_flush_fails(rt: HostRuntime) {
         let source = TextSource::failing(TWO_GRIDS, piece, usize::MAX);
         let mut end = write_failed(reads_of(TWO_GRIDS, piece, usize::MAX), OUT);
         end.flushes = &[9];
-        let sink = MemorySink::failing_flush(piece);
-        run_ends(&rt, Task::Read(None), source, sink, 1000, &end);
+        holds(
+            &rt,
+            grids_end(source, MemorySink::failing_flush(piece), &end),
+        );
     }
 }
 
@@ -157,15 +177,18 @@ fn too_much(written: &[u8]) -> End<'_> {
     }
 }
 
-/// A run that reads grids from this text, of which so many bytes may come, ends so, for each size of pieces.
-fn is_limited(rt: &impl Abort, text: &[u8], most: u32, end: &End<'_>) {
+/// Whether a run that reads grids from this text, of which so many bytes may come, ends so, for each size of pieces.
+fn is_limited(text: &[u8], most: u32, end: &End<'_>) -> bool {
     for piece in PIECES {
         let source = TextSource::failing(text, piece, usize::MAX);
         let sink = MemorySink::failing(piece, usize::MAX);
         let mut end = *end;
         end.reads = reads_of(text, piece, most as usize);
-        run_ends(rt, Task::Read(None), source, sink, most, &end);
+        if !run_ends(Task::Read(None), source, sink, most, &end) {
+            return false;
+        }
     }
+    true
 }
 
 #[test]
@@ -180,7 +203,7 @@ fn input_is_limited(rt: HostRuntime) {
         (b"".as_slice(), 0, all_answered(0, b"", &[0])),
     ];
     for (text, most, end) in &table {
-        is_limited(&rt, text, *most, end);
+        holds(&rt, is_limited(text, *most, end));
     }
 }
 
@@ -191,63 +214,48 @@ static TWO_LINES: &[u8] = b"A\nAIM";
 fn pieces_change_nothing(rt: HostRuntime) {
     let mut end = all_answered(2, OUT, &[9]);
     end.reads = 2;
-    let source = TextSource::new(TWO_GRIDS);
-    run_ends(&rt, Task::Read(None), source, MemorySink::new(), 1000, &end);
+    holds(
+        &rt,
+        grids_end(TextSource::new(TWO_GRIDS), MemorySink::new(), &end),
+    );
     end.reads = 3;
     for first in 1..TWO_GRIDS.len() {
-        let source = TextSource::cut(TWO_GRIDS, first);
-        run_ends(&rt, Task::Read(None), source, MemorySink::new(), 1000, &end);
+        holds(
+            &rt,
+            grids_end(TextSource::cut(TWO_GRIDS, first), MemorySink::new(), &end),
+        );
     }
 }
 
 #[test]
 fn a_read_fails_between_lines(rt: HostRuntime) {
     for good in 0..=TWO_LINES.len() {
-        let written = if good < 2 { b"".as_slice() } else { LINES[1].1 };
+        let written = if good < 2 { b"".as_slice() } else { LETTER };
         let source = TextSource::failing(TWO_LINES, 1, good);
         let end = read_failed(good.saturating_add(1), written);
-        run_ends(
-            &rt,
-            Task::Write(Profile::Ascii),
-            source,
-            MemorySink::new(),
-            1000,
-            &end,
-        );
+        holds(&rt, lines_end(source, MemorySink::new(), 1000, &end));
     }
 }
 
 #[test]
 fn a_write_fails_within_a_grid(rt: HostRuntime) {
-    let written = joined(&rt, &[LINES[1].1, AIM]);
+    let written = joined(&[LETTER, AIM]);
     for room in 0..written.len() {
         let reads = if room < 111 { 1 } else { 2 };
         let end = write_failed(reads, &written.as_slice()[..room]);
         let sink = MemorySink::failing(7, room);
-        run_ends(
-            &rt,
-            Task::Write(Profile::Ascii),
-            TextSource::new(TWO_LINES),
-            sink,
-            1000,
-            &end,
-        );
+        holds(&rt, lines_end(TextSource::new(TWO_LINES), sink, 1000, &end));
     }
 }
 
 #[test]
 fn lines_are_limited(rt: HostRuntime) {
-    for (most, written) in [(4, LINES[1].1), (2, LINES[1].1), (1, b"")] {
+    for (most, written) in [(4, LETTER), (2, LETTER), (1, b"")] {
         let mut end = too_much(written);
         end.reads = 2;
-        let sink = MemorySink::new();
-        run_ends(
+        holds(
             &rt,
-            Task::Write(Profile::Ascii),
-            TextSource::new(TWO_LINES),
-            sink,
-            most,
-            &end,
+            lines_end(TextSource::new(TWO_LINES), MemorySink::new(), most, &end),
         );
     }
 }
@@ -256,17 +264,23 @@ fn lines_are_limited(rt: HostRuntime) {
 fn the_table_needs_no_source(rt: HostRuntime) {
     let flushes = [SIZES.len()];
     let end = all_answered(0, SIZES, &flushes);
-    let source = TextSource::failing(TWO_GRIDS, 1, 0);
-    run_ends(&rt, Task::Table, source, MemorySink::new(), 0, &end);
+    holds(&rt, table_ends(MemorySink::new(), &end));
+}
+
+#[test]
+fn a_write_of_the_table_fails(rt: HostRuntime) {
     for room in 0..SIZES.len() {
         let end = write_failed(0, &SIZES[..room]);
-        let sink = MemorySink::failing(7, room);
-        run_ends(&rt, Task::Table, TextSource::new(b""), sink, 0, &end);
+        holds(&rt, table_ends(MemorySink::failing(7, room), &end));
     }
+}
+
+#[test]
+fn the_flush_of_the_table_fails(rt: HostRuntime) {
+    let flushes = [SIZES.len()];
     let mut end = write_failed(0, SIZES);
     end.flushes = &flushes;
-    let sink = MemorySink::failing_flush(7);
-    run_ends(&rt, Task::Table, TextSource::new(b""), sink, 0, &end);
+    holds(&rt, table_ends(MemorySink::failing_flush(7), &end));
 }
 
 /// A writer over a sink.
@@ -302,10 +316,10 @@ fn a_reader_fails_at_once(rt: HostRuntime) {
     let device = Device::new(ErrorKind::Interrupted, 0, &calls, &flushes);
     let mut source = FromRead::new(device);
     let mut sink = MemorySink::new();
-    assert!(rt; fails(&mut source, &mut sink, RunFault::Read));
-    assert!(rt; source.failures() == 1);
-    assert!(rt; sink.taken().is_empty());
-    assert!(rt; sink.flushes().is_empty());
+    holds(&rt, fails(&mut source, &mut sink, RunFault::Read));
+    holds(&rt, source.failures() == 1);
+    holds(&rt, sink.taken().is_empty());
+    holds(&rt, sink.flushes().is_empty());
 }
 
 /// A run over a writer to this sink, whose flush fails, fails once.
@@ -319,8 +333,8 @@ fn flush_fails(sink: &mut MemorySink) -> bool {
 fn a_writer_fails(rt: HostRuntime) {
     for piece in PIECES {
         let mut kept = MemorySink::failing_flush(piece);
-        assert!(rt; flush_fails(&mut kept));
-        assert!(rt; kept.taken() == OUT);
-        assert!(rt; kept.flushes() == [9].as_slice());
+        holds(&rt, flush_fails(&mut kept));
+        holds(&rt, kept.taken() == OUT);
+        holds(&rt, kept.flushes() == [9].as_slice());
     }
 }

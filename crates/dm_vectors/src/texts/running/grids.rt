@@ -2,31 +2,33 @@
 
 use super::super::feeds::TWO_GRIDS;
 use super::super::memory::Taken;
-use super::super::worked::{AIM, GRIDS, LARGE, LINES, RAISED};
+use super::super::worked::{AIM, DIGITS, GRIDS, LARGE, LETTER, RAISED};
 use super::profiles::line_of;
-use super::{answers, has_side, joined, push, writes, written_for};
-use dm_symbol::Profile;
+use super::{answers, ended, has_side, joined, push, writes, written_for};
+use crate::claims::holds;
+use dm_symbol::{LARGEST_SIDE, Profile};
 use dm_text::Task;
-use std::process::Abort;
 
-/// Appends the record of rows of modules, from the top, without an empty line after it: the leftmost module is the highest of as
-/// many bits as there are rows; 1 is dark.
-fn push_record(rt: &impl Abort, text: &mut Taken, rows: &[u128]) {
+/// Appends a row of so many modules: the leftmost one is the highest bit; 1 is dark.
+fn push_row(text: &mut Taken, row: u128, count: usize) {
+    for column in (0..count).rev() {
+        let is_dark = column < 128 && (row >> column) % 2 == 1;
+        push(text, if is_dark { b"1" } else { b"0" });
+    }
+    push(text, b"\n");
+}
+
+/// Appends the record of rows of modules, from the top, without an empty line after it. There are as many modules in a row as rows.
+fn push_record(text: &mut Taken, rows: &[u128]) {
     for row in rows {
-        for column in (0..rows.len()).rev() {
-            if column < 128 {
-                let dark = (row >> column) % 2 == 1;
-                push(rt, text, if dark { b"1" } else { b"0" });
-            }
-        }
-        push(rt, text, b"\n");
+        push_row(text, *row, rows.len());
     }
 }
 
 /// The record of rows of modules.
-pub(super) fn record_of(rt: &impl Abort, rows: &[u128]) -> Taken {
+pub(super) fn record_of(rows: &[u128]) -> Taken {
     let mut text = Taken::new();
-    push_record(rt, &mut text, rows);
+    push_record(&mut text, rows);
     text
 }
 
@@ -77,159 +79,184 @@ static MORE_GRIDS: [(&[u128], &[u8]); 6] = [
     ),
 ];
 
+/// Whether the two records, with empty lines around them or without, are read, checked and normalised as these lines and grids.
+fn are_answered(text: &[u8], normal: &[u8]) -> bool {
+    let lines = b"123456\nA\n".as_slice();
+    let checked = b"ok 10 border 0 corrected 0\nok 10 border 0 corrected 0\n".as_slice();
+    writes((Task::Read(None), text, lines, 2, 0))
+        && writes((Task::Check(None), text, checked, 2, 0))
+        && writes((Task::Normal(None, Profile::Ascii), text, normal, 2, 0))
+}
+
 #[test]
 fn two_records_are_read(rt: HostRuntime) {
-    let read = Task::Read(None);
-    let lines = b"123456\nA\n".as_slice();
-    let text = joined(&rt, &[b"\n\n\n", TWO_GRIDS, b"\n\n"]);
-    let normal = joined(&rt, &[LINES[0].1, LINES[1].1]);
-    let table = [
-        (read, TWO_GRIDS, lines, 2),
-        (read, &TWO_GRIDS[..109], b"123456\n", 1),
-        (read, &TWO_GRIDS[110..221], b"A\n", 1),
-        (read, text.as_slice(), lines, 2),
-        (
-            Task::Check(None),
-            text.as_slice(),
-            b"ok 10 border 0 corrected 0\nok 10 border 0 corrected 0\n",
-            2,
-        ),
-        (
-            Task::Normal(None, Profile::Ascii),
-            text.as_slice(),
-            normal.as_slice(),
-            2,
-        ),
-    ];
-    for (task, text, written, answered) in table {
-        writes(&rt, task, text, written, answered, 0);
+    let text = joined(&[b"\n\n\n", TWO_GRIDS, b"\n\n"]);
+    let normal = joined(&[DIGITS, LETTER]);
+    holds(
+        &rt,
+        are_answered(TWO_GRIDS, &normal) && are_answered(&text, &normal),
+    );
+}
+
+#[test]
+fn a_record_is_read_without_its_last_line_feed(rt: HostRuntime) {
+    holds(
+        &rt,
+        answers(Task::Read(None), &TWO_GRIDS[..109], b"123456\n"),
+    );
+    holds(&rt, answers(Task::Read(None), &TWO_GRIDS[110..221], b"A\n"));
+}
+
+/// Whether each grid is read and checked as its row says.
+fn all_are_read_and_checked() -> bool {
+    for (rows, line, check) in &GRIDS {
+        let record = record_of(rows);
+        if !answers(Task::Read(None), &record, line)
+            || !answers(Task::Check(None), &record, check)
+        {
+            return false;
+        }
     }
+    true
 }
 
 #[test]
 fn grids_are_read_and_checked(rt: HostRuntime) {
-    for (rows, line, check) in &GRIDS {
-        let record = record_of(&rt, rows);
-        answers(&rt, Task::Read(None), record.as_slice(), line);
-        answers(&rt, Task::Check(None), record.as_slice(), check);
-    }
+    holds(&rt, all_are_read_and_checked());
 }
 
-#[test]
-fn grids_are_read_and_checked_in_order(rt: HostRuntime) {
+/// Whether all grids, one after another, are read and checked as their rows say.
+fn are_read_and_checked_in_order() -> bool {
     let mut text = Taken::new();
     let mut read = Taken::new();
     let mut checked = Taken::new();
     for (rows, line, check) in &GRIDS {
-        push_record(&rt, &mut text, rows);
-        push(&rt, &mut text, b"\n");
-        push(&rt, &mut read, line);
-        push(&rt, &mut checked, check);
+        push_record(&mut text, rows);
+        push(&mut text, b"\n");
+        push(&mut read, line);
+        push(&mut checked, check);
     }
-    for (task, written) in [(Task::Read(None), &read), (Task::Check(None), &checked)] {
-        writes(&rt, task, text.as_slice(), written.as_slice(), 5, 12);
-    }
+    writes((Task::Read(None), &text, &read, 5, 12))
+        && writes((Task::Check(None), &text, &checked, 5, 12))
 }
 
-/// The grid is read as this line, or refused with it. Where it is read, its normal grid is what is written for the line.
-fn is_read(rt: &impl Abort, rows: &[u128], line: &[u8]) {
-    let record = record_of(rt, rows);
-    let answer = joined(rt, &[line, b"\n"]);
-    answers(rt, Task::Read(None), record.as_slice(), answer.as_slice());
-    if !line.starts_with(b"\\no ") {
-        let normal = written_for(Task::Write(Profile::Ascii), line);
-        let task = Task::Normal(None, Profile::Ascii);
-        writes(rt, task, record.as_slice(), normal.as_slice(), 1, 0);
-    }
+#[test]
+fn grids_are_read_and_checked_in_order(rt: HostRuntime) {
+    holds(&rt, are_read_and_checked_in_order());
+}
+
+/// Whether the grid is read as this line, or refused with it. Where it is read, its normal grid is what is written for the line.
+fn is_read(rows: &[u128], line: &[u8]) -> bool {
+    let record = record_of(rows);
+    let normal = written_for(Task::Write(Profile::Ascii), line);
+    answers(Task::Read(None), &record, &ended(line))
+        && (line.starts_with(b"\\no ")
+            || answers(Task::Normal(None, Profile::Ascii), &record, &normal))
 }
 
 #[test]
 fn runs_of_other_encodations_are_read(rt: HostRuntime) {
     for (rows, line) in &MORE_GRIDS {
-        is_read(&rt, rows, line);
+        holds(&rt, is_read(rows, line));
+    }
+}
+
+/// The record of one of the worked grids.
+fn worked_record(place: usize) -> Taken {
+    match GRIDS.get(place) {
+        Some((rows, _, _)) => record_of(rows),
+        None => Taken::new(),
     }
 }
 
 #[test]
 fn as_many_wrong_border_modules_are_accepted_as_the_limit_says(rt: HostRuntime) {
-    let (rows, _, _) = GRIDS[3];
-    let record = record_of(&rt, rows);
+    let record = worked_record(3);
     let table = [
-        (Task::Read(Some(2)), b"\\no 5 border 10\n".as_slice(), 1),
-        (Task::Read(Some(10)), b"123456\n".as_slice(), 0),
-        (Task::Check(Some(2)), b"\\no 5 border 10\n".as_slice(), 1),
         (
+            Task::Read(Some(2)),
+            Task::Read(Some(10)),
+            b"\\no 5 border 10\n".as_slice(),
+            b"123456\n".as_slice(),
+        ),
+        (
+            Task::Check(Some(2)),
             Task::Check(Some(10)),
-            b"ok 10 border 10 corrected 0\n".as_slice(),
-            0,
+            b"\\no 5 border 10\n",
+            b"ok 10 border 10 corrected 0\n",
         ),
         (
             Task::Normal(Some(2), Profile::Ascii),
-            b"\\no 5 border 10\n\n".as_slice(),
-            1,
+            Task::Normal(Some(10), Profile::Ascii),
+            b"\\no 5 border 10\n\n",
+            DIGITS,
         ),
-        (Task::Normal(Some(10), Profile::Ascii), LINES[0].1, 0),
     ];
-    for (task, written, refused) in table {
-        let answered = 1u64.saturating_sub(refused);
-        writes(&rt, task, record.as_slice(), written, answered, refused);
+    for (low, high, refusal, answer) in table {
+        holds(
+            &rt,
+            answers(low, &record, refusal) && answers(high, &record, answer),
+        );
     }
 }
 
-/// Appends the record of one of the worked grids, and an empty line.
-fn push_worked(rt: &impl Abort, text: &mut Taken, place: usize) {
-    if let Some((rows, _, _)) = GRIDS.get(place) {
-        push_record(rt, text, rows);
-        push(rt, text, b"\n");
+/// Whether these of the worked grids, one after another, become these normal grids, or are refused so.
+fn are_normalised(table: &[(usize, &[u8])]) -> bool {
+    let mut text = Taken::new();
+    let mut normal = Taken::new();
+    for (place, answer) in table {
+        push(&mut text, &worked_record(*place));
+        push(&mut text, b"\n");
+        push(&mut normal, answer);
     }
+    writes((Task::Normal(None, Profile::Ascii), &text, &normal, 5, 2))
 }
 
 #[test]
 fn grids_are_normalised_in_order(rt: HostRuntime) {
-    let mut text = Taken::new();
-    let mut normal = Taken::new();
     let raised = written_for(Task::Write(Profile::Ascii), b"\\xC1");
     let table = [
-        (0, LINES[0].1),
+        (0, DIGITS),
         (1, b"\\no 6 block 0\n\n".as_slice()),
         (4, AIM),
         (2, b"\\no 7 reserved 1\n\n".as_slice()),
-        (5, raised.as_slice()),
+        (5, &raised),
         (6, RAISED),
         (7, RAISED),
     ];
-    for (place, answer) in table {
-        push_worked(&rt, &mut text, place);
-        push(&rt, &mut normal, answer);
-    }
-    let task = Task::Normal(None, Profile::Ascii);
-    writes(&rt, task, text.as_slice(), normal.as_slice(), 5, 2);
-    for grid in [AIM, RAISED] {
-        writes(&rt, task, grid, grid, 1, 0);
-    }
+    holds(&rt, are_normalised(&table));
 }
 
-/// A record that is no grid has this line, whatever is asked of it, and the records after it are read.
-fn refuses(rt: &impl Abort, record: &[u8], line: &[u8]) {
-    let text = joined(rt, &[record, b"\n"]);
-    let blank = joined(rt, &[line, b"\n"]);
-    let longer = joined(rt, &[record, b"\n\n", TWO_GRIDS]);
-    let lines = joined(rt, &[line, b"123456\nA\n"]);
-    for task in [Task::Read(None), Task::Check(None)] {
-        writes(rt, task, text.as_slice(), line, 0, 1);
-    }
-    let normal = Task::Normal(None, Profile::Ascii);
-    writes(rt, normal, text.as_slice(), blank.as_slice(), 0, 1);
-    let read = Task::Read(None);
-    writes(rt, read, longer.as_slice(), lines.as_slice(), 2, 1);
+#[test]
+fn normal_grids_stay(rt: HostRuntime) {
+    let task = Task::Normal(None, Profile::Ascii);
+    holds(
+        &rt,
+        answers(task, AIM, AIM) && answers(task, RAISED, RAISED),
+    );
+}
+
+/// Whether a record that is no grid has this line, whatever is asked of it.
+fn is_refused(record: &[u8], line: &[u8]) -> bool {
+    let text = ended(record);
+    answers(Task::Read(None), &text, line)
+        && answers(Task::Check(None), &text, line)
+        && answers(Task::Normal(None, Profile::Ascii), &text, &ended(line))
+}
+
+/// Whether a record that is no grid is refused with this line, and the records after it are read.
+fn is_refused_alone(record: &[u8], line: &[u8]) -> bool {
+    let text = joined(&[record, b"\n\n", TWO_GRIDS]);
+    let lines = joined(&[line, b"123456\nA\n"]);
+    is_refused(record, line) && writes((Task::Read(None), &text, &lines, 2, 1))
 }
 
 /// As many lines of these characters as there are characters.
-fn square(rt: &impl Abort, row: &[u8]) -> Taken {
+fn square(row: &[u8]) -> Taken {
     let mut text = Taken::new();
     for _ in row {
-        push(rt, &mut text, row);
-        push(rt, &mut text, b"\n");
+        push(&mut text, row);
+        push(&mut text, b"\n");
     }
     text
 }
@@ -244,32 +271,36 @@ static NO_GRIDS: [(&[u8], &[u8]); 3] = [
 #[test]
 fn records_are_refused_and_the_next_is_read(rt: HostRuntime) {
     for (record, line) in &NO_GRIDS {
-        refuses(&rt, record, line);
+        holds(&rt, is_refused_alone(record, line));
     }
-    let zeros = [b'0'; 105];
-    refuses(&rt, &zeros, b"\\no 2 large\n");
-    refuses(&rt, &zeros[..53], b"\\no 3 shape\n");
-    refuses(
-        &rt,
-        square(&rt, &zeros[..53]).as_slice(),
-        b"\\no 4 side 53\n",
-    );
+}
+
+#[test]
+fn large_records_are_refused_and_the_next_is_read(rt: HostRuntime) {
+    let zeros = [b'0'; LARGEST_SIDE + 1];
+    let side_53 = square(&zeros[..53]);
+    let table = [
+        (zeros.as_slice(), b"\\no 2 large\n".as_slice()),
+        (&zeros[..53], b"\\no 3 shape\n"),
+        (&side_53, b"\\no 4 side 53\n"),
+    ];
+    for (record, line) in table {
+        holds(&rt, is_refused_alone(record, line));
+    }
+}
+
+/// Whether the record is read as the text and becomes this normal grid, of side 80, which is read so too.
+fn becomes_larger(record: &[u8], text: &[u8], normal: &[u8]) -> bool {
+    has_side(normal, 80)
+        && answers(Task::Read(None), record, text)
+        && answers(Task::Normal(None, Profile::Ascii), record, normal)
+        && answers(Task::Read(None), normal, text)
 }
 
 /// A symbol whose data codewords are all one segment of Base 256: its message takes twice the codewords in ASCII.
 #[test]
 fn a_normal_grid_may_be_larger(rt: HostRuntime) {
-    let record = record_of(&rt, &LARGE);
-    let line = line_of(&rt, b"\\xFF", 202);
-    let text = joined(&rt, &[line.as_slice(), b"\n"]);
-    let normal = written_for(Task::Write(Profile::Ascii), text.as_slice());
-    assert!(rt; has_side(normal.as_slice(), 80));
-    let table = [
-        (Task::Read(None), &record, &text),
-        (Task::Normal(None, Profile::Ascii), &record, &normal),
-        (Task::Read(None), &normal, &text),
-    ];
-    for (task, grid, written) in table {
-        writes(&rt, task, grid.as_slice(), written.as_slice(), 1, 0);
-    }
+    let text = ended(&line_of(b"\\xFF", 202));
+    let normal = written_for(Task::Write(Profile::Ascii), &text);
+    holds(&rt, becomes_larger(&record_of(&LARGE), &text, &normal));
 }

@@ -1,46 +1,49 @@
 //! Runs that write grids of messages.
 
 use super::super::memory::Taken;
-use super::super::worked::LINES;
-use super::{answers, has_side, joined, push, writes, written_for};
-use dm_symbol::Profile;
+use super::super::worked::{LETTER, LINES};
+use super::{answers, ended, has_side, joined, push, writes, written_for};
+use crate::claims::holds;
+use dm_layout::MOST_DATA;
+use dm_symbol::{MOST_ITEMS, Profile};
 use dm_text::Task;
-use std::process::Abort;
 
 /// Whether the line has this answer, with its LF and without. An empty line without its LF is none.
-fn is_written(rt: &impl Abort, line: &[u8], answer: &[u8]) {
+fn is_written(line: &[u8], answer: &[u8]) -> bool {
     let write = Task::Write(Profile::Ascii);
-    let ended = joined(rt, &[line, b"\n"]);
-    answers(rt, write, ended.as_slice(), answer);
-    if !line.is_empty() {
-        answers(rt, write, line, answer);
-    }
+    answers(write, &ended(line), answer) && (line.is_empty() || answers(write, line, answer))
 }
 
 #[test]
 fn lines_are_written(rt: HostRuntime) {
+    for (line, answer) in &LINES {
+        holds(&rt, is_written(line, answer));
+    }
+}
+
+/// Whether all lines, one after another, have their answers.
+fn are_written_in_order() -> bool {
     let mut text = Taken::new();
     let mut written = Taken::new();
     for (line, answer) in &LINES {
-        is_written(&rt, line, answer);
-        push(&rt, &mut text, line);
-        push(&rt, &mut text, b"\n");
-        push(&rt, &mut written, answer);
+        push(&mut text, line);
+        push(&mut text, b"\n");
+        push(&mut written, answer);
     }
-    let write = Task::Write(Profile::Ascii);
-    writes(&rt, write, text.as_slice(), written.as_slice(), 6, 4);
+    writes((Task::Write(Profile::Ascii), &text, &written, 6, 4))
+}
+
+#[test]
+fn lines_are_written_in_order(rt: HostRuntime) {
+    holds(&rt, are_written_in_order());
 }
 
 #[test]
 fn a_refused_line_is_followed_by_the_next(rt: HostRuntime) {
-    let written = joined(&rt, &[b"\\no 15 escape 1\n\n", LINES[1].1]);
-    writes(
+    let written = joined(&[b"\\no 15 escape 1\n\n", LETTER]);
+    holds(
         &rt,
-        Task::Write(Profile::Ascii),
-        b"\\q\nA\n",
-        written.as_slice(),
-        1,
-        1,
+        writes((Task::Write(Profile::Ascii), b"\\q\nA\n", &written, 1, 1)),
     );
 }
 
@@ -49,22 +52,16 @@ fn messages_are_read_back(rt: HostRuntime) {
     let text = b"\\\\\n\\F\n\\x7e\n\\F01\n0\\F1\n123\n\\xff\n\n123456\nA";
     let grids = written_for(Task::Write(Profile::Ascii), text);
     let lines = b"\\\\\n\\F\n~\n\\F01\n0\\F1\n123\n\\xFF\n\n123456\nA\n";
-    writes(&rt, Task::Read(None), grids.as_slice(), lines, 10, 0);
+    holds(&rt, writes((Task::Read(None), &grids, lines, 10, 0)));
 }
 
-/// The line of digits is written as a grid of this side, which is read as the line, is checked so, and is normal.
-fn is_grid_of(rt: &impl Abort, digits: &[u8], side: usize, checked: &[u8]) {
+/// Whether the line of digits is written as a grid of this side, which is read as the line, is checked so, and is normal.
+fn is_grid_of(digits: &[u8], side: usize, checked: &[u8]) -> bool {
     let grid = written_for(Task::Write(Profile::Ascii), digits);
-    assert!(rt; has_side(grid.as_slice(), side));
-    let line = joined(rt, &[digits, b"\n"]);
-    let table = [
-        (Task::Read(None), line.as_slice()),
-        (Task::Check(None), checked),
-        (Task::Normal(None, Profile::Ascii), grid.as_slice()),
-    ];
-    for (task, written) in table {
-        writes(rt, task, grid.as_slice(), written, 1, 0);
-    }
+    has_side(&grid, side)
+        && answers(Task::Read(None), &grid, &ended(digits))
+        && answers(Task::Check(None), &grid, checked)
+        && answers(Task::Normal(None, Profile::Ascii), &grid, &grid)
 }
 
 /// How many digits there are, the side of their grid, and how it is checked.
@@ -74,15 +71,30 @@ static DIGITS: [(usize, usize, &[u8]); 3] = [
     (1632, 104, b"ok 104 border 0 corrected 0 0 0 0 0 0\n"),
 ];
 
+/// Whether each row of so many of these digits is written as its grid.
+fn all_are_grids(digits: &[u8]) -> bool {
+    for (count, side, checked) in &DIGITS {
+        if !is_grid_of(digits.get(..*count).unwrap_or(b""), *side, checked) {
+            return false;
+        }
+    }
+    true
+}
+
 #[test]
 fn the_largest_messages_are_written(rt: HostRuntime) {
-    let digits = [b'7'; 1633];
-    let letters = [b'A'; 817];
-    let write = Task::Write(Profile::Ascii);
-    for line in [digits.as_slice(), letters.as_slice()] {
-        writes(&rt, write, line, b"\\no 14 too-long\n\n", 0, 1);
-    }
-    for (count, side, checked) in &DIGITS {
-        is_grid_of(&rt, digits.get(..*count).unwrap_or(b""), *side, checked);
-    }
+    holds(&rt, all_are_grids(&[b'7'; 1632]));
+}
+
+/// Whether the line is too long for a grid.
+fn is_too_long(line: &[u8]) -> bool {
+    answers(Task::Write(Profile::Ascii), line, b"\\no 14 too-long\n\n")
+}
+
+#[test]
+fn longer_messages_are_refused(rt: HostRuntime) {
+    holds(
+        &rt,
+        is_too_long(&[b'7'; MOST_ITEMS + 1]) && is_too_long(&[b'A'; MOST_DATA + 1]),
+    );
 }

@@ -1,0 +1,87 @@
+//! Messages that are written in ASCII.
+
+use super::*;
+
+/// Whether the ASCII codewords of these items, with pads up to the size of this side, are these.
+fn writes(items: &[Item], side: u16, expected: &[u8]) -> bool {
+    match ascii_words(&of_items(items)) {
+        Ok(words) => are_words(&with_pads(&words, Size::of_side(side)), expected),
+        Err(_) => false,
+    }
+}
+
+/// Items, the side of a symbol, and its data codewords in ASCII.
+static WRITTEN: [(&[Item], u16, &[u8]); 9] = [
+    (&[], 10, &[129, 175, 70]),
+    (&[Item::Byte(b'A')], 10, &[66, 129, 70]),
+    (&[Item::Byte(193)], 10, &[235, 66, 129]),
+    (&[Item::Byte(128)], 10, &[235, 1, 129]),
+    (&[Item::Byte(255)], 10, &[235, 128, 129]),
+    (
+        &[Item::Byte(b'1'), Item::Byte(b'2'), Item::Byte(b'3')],
+        10,
+        &[142, 52, 129],
+    ),
+    (
+        &[Item::Fnc1, Item::Byte(b'0'), Item::Byte(b'1')],
+        10,
+        &[232, 131, 129],
+    ),
+    (
+        &[Item::Byte(b'0'), Item::Fnc1, Item::Byte(b'1')],
+        10,
+        &[49, 232, 50],
+    ),
+    (
+        &[Item::Byte(b'1'), Item::Byte(b'2')],
+        12,
+        &[142, 129, 70, 220, 115],
+    ),
+];
+
+/// Whether the items of each row are written as its codewords.
+fn all_are_written() -> bool {
+    for (items, side, words) in &WRITTEN {
+        if !writes(items, *side, words) {
+            return false;
+        }
+    }
+    true
+}
+
+#[test]
+fn messages_are_written_in_ascii(rt: HostRuntime) {
+    holds(&rt, all_are_written());
+}
+
+/// Whether the ASCII codewords of the message are so many times this one.
+fn is_written(message: &Message, word: u8, count: usize) -> bool {
+    match ascii_words(message) {
+        Ok(words) => words.len() == count && are_all(&words, word),
+        Err(_) => false,
+    }
+}
+
+#[test]
+fn fills_a_message(rt: HostRuntime) {
+    let mut full = of_many(b'7', MESSAGE_ROOM);
+    holds(&rt, full.push(Item::Fnc1) == Err(Item::Fnc1));
+    holds(&rt, full.items().len() == MESSAGE_ROOM);
+    let digits = of_many(b'7', MOST_ITEMS);
+    holds(&rt, is_written(&digits, 207, MOST_DATA));
+    holds(&rt, spells(&[207; MOST_DATA], digits.items()));
+}
+
+/// Whether so many letters take as many codewords.
+fn takes_one_each(count: usize) -> bool {
+    is_written(&of_many(b'A', count), 66, count)
+}
+
+#[test]
+fn letters_take_a_codeword_each(rt: HostRuntime) {
+    holds(
+        &rt,
+        takes_one_each(204) && takes_one_each(205) && takes_one_each(MOST_DATA),
+    );
+    holds(&rt, ascii_words(&of_many(b'A', MOST_DATA + 1)).is_err());
+}
