@@ -9,10 +9,10 @@ static const double LEAST_SINE = 0.7, LEAST_RATIO = 0.4, LEAST_SOLID = 0.7;
 static double solidity(const struct plane *dark, struct point from, struct point to, double inwards) {
     struct point way = difference(to, from);
     double whole = length(way);
-    struct point across = scaled(point_at(-way.y, way.x), inwards / whole);
+    struct point across = scale_by(point_at(-way.y, way.x), inwards / whole);
     int steps = (int)whole + 1, count = 0;
     for (int k = 0; k <= steps; k++) {
-        struct point at = sum(sum(from, scaled(way, (0.04 + 0.92 * k) / (steps + 1))), across);
+        struct point at = sum(sum(from, scale_by(way, (0.04 + 0.92 * k) / (steps + 1))), across);
         count += dark_at(dark, at);
     }
     return (double)count / (steps + 1);
@@ -66,7 +66,7 @@ static int without_repetitions(struct elbow *elbows, int count) {
     return kept;
 }
 
-int elbows_found(const struct plane *dark, const struct lines *lines, int64_t end, struct elbow *out, int room) {
+int find_elbows(const struct plane *dark, const struct lines *lines, int64_t end, struct elbow *out, int room) {
     int count = 0;
     for (int k = 0; k < lines->count && !clock_reached(end); k++)
         for (int j = 0; j < lines->count; j++) {

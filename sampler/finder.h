@@ -12,6 +12,6 @@ struct elbow {
 };
 
 /* Writes at most `room` elbows, the most likely first, and returns their number. Stops at the time `end`. */
-int elbows_found(const struct plane *dark, const struct lines *lines, int64_t end, struct elbow *out, int room);
+int find_elbows(const struct plane *dark, const struct lines *lines, int64_t end, struct elbow *out, int room);
 
 #endif

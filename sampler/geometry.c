@@ -2,7 +2,7 @@
 
 #include <math.h>
 
-struct point turned(struct point a, double angle) {
+struct point turn_by(struct point a, double angle) {
     double c = cos(angle), s = sin(angle);
     return point_at(c * a.x - s * a.y, s * a.x + c * a.y);
 }
@@ -15,11 +15,11 @@ bool intersection(struct point a, struct point u, struct point b, struct point v
     double across = cross(u, v);
     if (fabs(across) < 1e-9 * length(u) * length(v) || across == 0)
         return false;
-    *out = sum(a, scaled(u, cross(difference(b, a), v) / across));
+    *out = sum(a, scale_by(u, cross(difference(b, a), v) / across));
     return true;
 }
 
-struct homography composed(const struct homography *outer, const struct homography *inner) {
+struct homography compose(const struct homography *outer, const struct homography *inner) {
     struct homography out;
     for (int row = 0; row < 3; row++)
         for (int column = 0; column < 3; column++) {
@@ -42,7 +42,7 @@ static void swap_rows(double *a, double *b, int n, int one, int other) {
     b[other] = kept;
 }
 
-bool solved(double *a, double *b, int n) {
+bool solve(double *a, double *b, int n) {
     for (int pivot = 0; pivot < n; pivot++) {
         int best = pivot;
         for (int row = pivot + 1; row < n; row++)
@@ -71,7 +71,7 @@ bool through(const struct point from[4], const struct point to[4], struct homogr
         first[6] = -x * to[k].x, first[7] = -y * to[k].x, b[2 * k] = to[k].x;
         second[6] = -x * to[k].y, second[7] = -y * to[k].y, b[2 * k + 1] = to[k].y;
     }
-    if (!solved(a, b, 8))
+    if (!solve(a, b, 8))
         return false;
     *out = (struct homography){{{b[0], b[1], b[2]}, {b[3], b[4], b[5]}, {b[6], b[7], 1}}};
     return true;

@@ -26,7 +26,7 @@ static inline struct point difference(struct point a, struct point b) {
     return point_at(a.x - b.x, a.y - b.y);
 }
 
-static inline struct point scaled(struct point a, double by) {
+static inline struct point scale_by(struct point a, double by) {
     return point_at(a.x * by, a.y * by);
 }
 
@@ -38,24 +38,24 @@ static inline double cross(struct point a, struct point b) {
     return a.x * b.y - a.y * b.x;
 }
 
-struct point turned(struct point a, double angle);
+struct point turn_by(struct point a, double angle);
 double length(struct point a);
 
 /* Where the lines through a along u and through b along v meet. */
 bool intersection(struct point a, struct point u, struct point b, struct point v, struct point *out);
 
-static inline struct point mapped(const struct homography *h, double x, double y) {
+static inline struct point map_point(const struct homography *h, double x, double y) {
     const double(*m)[3] = h->m;
     double w = m[2][0] * x + m[2][1] * y + m[2][2];
     return point_at((m[0][0] * x + m[0][1] * y + m[0][2]) / w, (m[1][0] * x + m[1][1] * y + m[1][2]) / w);
 }
 
-struct homography composed(const struct homography *outer, const struct homography *inner);
+struct homography compose(const struct homography *outer, const struct homography *inner);
 
 /* The transformation that takes each of four points to its image, if there is one. */
 bool through(const struct point from[4], const struct point to[4], struct homography *out);
 
 /* Solves the n equations a x = b, row by row in a, which is overwritten; x comes out in b. */
-bool solved(double *a, double *b, int n);
+bool solve(double *a, double *b, int n);
 
 #endif

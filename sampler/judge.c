@@ -40,7 +40,7 @@ static void set_corners(ecc200_sample *sample, const struct homography *to_pictu
     static const int x[] = {0, 1, 1, 0}, y[] = {0, 0, 1, 1};
     for (int k = 0; k < 4; k++) {
         int corner = is_mirrored && k % 2 == 0 ? 2 - k : k;
-        struct point at = mapped(to_picture, x[corner] * side, y[corner] * side);
+        struct point at = map_point(to_picture, x[corner] * side, y[corner] * side);
         sample->corners[k] = (ecc200_sample_point){at.x, at.y};
     }
     sample->mirrored = is_mirrored;
@@ -91,7 +91,7 @@ static void try_rules(struct trials *trials, const struct brightnesses *brightne
     ecc200_sample *trial = judge->trial;
     int side = trials->layout->side;
     for (int k = 0; k < count && trials->best_cost != 0; k++) {
-        if (!told_apart(brightnesses, trials->layout, RULES[k], trial->modules))
+        if (!tell_apart(brightnesses, trials->layout, RULES[k], trial->modules))
             return;
         trial->side = (uint16_t)side;
         trial->inverted = judge->is_inverted;
@@ -113,7 +113,7 @@ static void try_rules(struct trials *trials, const struct brightnesses *brightne
 static void try_moved(struct trials *trials, const struct bent *bent, struct brightnesses *brightnesses) {
     static const double x[] = {0.2, -0.2, 0, 0}, y[] = {0, 0, 0.2, -0.2};
     for (int k = 0; k < 4 && trials->best_cost < 0 && !clock_reached(trials->judge->end); k++) {
-        sampled(trials->judge->picture, trials->layout, bent, x[k], y[k], brightnesses);
+        sample_modules(trials->judge->picture, trials->layout, bent, x[k], y[k], brightnesses);
         try_rules(trials, brightnesses, FEW_RULES);
     }
 }
@@ -125,7 +125,7 @@ static void bend(const struct judge *judge, const struct layout *layout, const s
         int x = k % bent->across * layout->region, y = k / bent->across * layout->region;
         struct part part = {x, x + layout->region, y, y + layout->region};
         bent->to_picture[k] = *to_picture;
-        refined(judge->smooth, layout, part, 0.3, 2, &bent->to_picture[k]);
+        refine(judge->smooth, layout, part, 0.3, 2, &bent->to_picture[k]);
     }
 }
 
@@ -133,7 +133,7 @@ static void bend(const struct judge *judge, const struct layout *layout, const s
 static bool was_tried(struct judge *judge, const struct homography *to_picture, int side) {
     struct tried now = {.side = side, .is_inverted = judge->is_inverted};
     for (int k = 0; k < 4; k++)
-        now.corners[k] = mapped(to_picture, (k == 1 || k == 2) * side, (k > 1) * side);
+        now.corners[k] = map_point(to_picture, (k == 1 || k == 2) * side, (k > 1) * side);
     double near = 0.25 * length(difference(now.corners[2], now.corners[0])) / side;
     for (int k = 0; k < judge->tried_count && k < MOST_TRIED; k++) {
         const struct tried *tried = &judge->tried[k];
@@ -147,7 +147,7 @@ static bool was_tried(struct judge *judge, const struct homography *to_picture, 
     return false;
 }
 
-bool judged(struct judge *judge, const struct placement *placement, ecc200_sample *out) {
+bool judge_placement(struct judge *judge, const struct placement *placement, ecc200_sample *out) {
     const struct layout *layout = layout_of(judge->layouts, placement->side);
     if (layout == NULL)
         judge->has_no_memory = true;
@@ -155,17 +155,17 @@ bool judged(struct judge *judge, const struct placement *placement, ecc200_sampl
         return false;
     struct homography to_picture = placement->to_picture;
     struct part whole = {0, layout->side, 0, layout->side};
-    double share = refined(judge->smooth, layout, whole, 0.01, 4, &to_picture);
+    double share = refine(judge->smooth, layout, whole, 0.01, 4, &to_picture);
     if (share < LEAST_SHARE || was_tried(judge, &to_picture, layout->side))
         return false;
     struct trials trials = {judge, layout, &to_picture, out, -1, share};
     struct brightnesses brightnesses;
     struct bent bent = {.across = 1, .to_picture = {to_picture}};
-    sampled(judge->picture, layout, &bent, 0, 0, &brightnesses);
+    sample_modules(judge->picture, layout, &bent, 0, 0, &brightnesses);
     try_rules(&trials, &brightnesses, RULE_COUNT);
     if (trials.best_cost < 0 && layout->region < layout->side && !clock_reached(judge->end)) {
         bend(judge, layout, &to_picture, &bent);
-        sampled(judge->picture, layout, &bent, 0, 0, &brightnesses);
+        sample_modules(judge->picture, layout, &bent, 0, 0, &brightnesses);
         try_rules(&trials, &brightnesses, RULE_COUNT);
     }
     if (trials.best_cost < 0)

@@ -29,6 +29,6 @@ struct judge {
 };
 
 /* Whether the placement, or one near it, is read; then `out` is the candidate with the fewest corrections. */
-bool judged(struct judge *judge, const struct placement *placement, ecc200_sample *out);
+bool judge_placement(struct judge *judge, const struct placement *placement, ecc200_sample *out);
 
 #endif

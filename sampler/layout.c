@@ -1,12 +1,12 @@
 #include "layout.h"
 
-#include <ecc200.h>
 #include <stdlib.h>
 
-static const int SIDES[SIZES] = {10, 12, 14, 16, 18, 20, 22, 24, 26, 32, 36, 40, 44, 48, 52, 64, 72, 80, 88, 96, 104};
-
-const int *sides(void) {
-    return SIDES;
+void list_sides(int sides[SIZES]) {
+    ecc200_size_table rows;
+    ecc200_sizes(&rows);
+    for (int k = 0; k < SIZES; k++)
+        sides[k] = rows.sizes[k].side;
 }
 
 int colour_at(const struct layout *layout, int x, int y) {
@@ -31,8 +31,10 @@ static void find_witnesses(struct layout *layout) {
         }
 }
 
-static struct layout *made(int side) {
-    static const uint8_t colours[] = {UNKNOWN, UNKNOWN, LIGHT, DARK, LIGHT, DARK}; /* by kind */
+static struct layout *make_layout(int side) {
+    static const uint8_t colours[] = {
+        [ECC200_NO_MODULE] = UNKNOWN, [ECC200_BIT] = UNKNOWN,       [ECC200_BORDER_LIGHT] = LIGHT,
+        [ECC200_BORDER_DARK] = DARK,  [ECC200_FIXED_LIGHT] = LIGHT, [ECC200_FIXED_DARK] = DARK};
     struct layout *layout = calloc(1, sizeof *layout);
     ecc200_place_table *table = malloc(sizeof *table);
     ecc200_size_table *rows = malloc(sizeof *rows);
@@ -55,9 +57,11 @@ static struct layout *made(int side) {
 }
 
 const struct layout *layout_of(struct layouts *layouts, int side) {
+    int sides[SIZES];
+    list_sides(sides);
     for (int k = 0; k < SIZES; k++)
-        if (SIDES[k] == side)
-            return layouts->made[k] != NULL ? layouts->made[k] : (layouts->made[k] = made(side));
+        if (sides[k] == side)
+            return layouts->made[k] != NULL ? layouts->made[k] : (layouts->made[k] = make_layout(side));
     return NULL;
 }
 

@@ -2,10 +2,11 @@
 #ifndef LAYOUT_H
 #define LAYOUT_H
 
+#include <ecc200.h>
 #include <stdbool.h>
 #include <stdint.h>
 
-enum { SIZES = 21, MOST_SIDE = 104, LIGHT = 0, DARK = 1, UNKNOWN = 2, MOST_WITNESSES = 3072 };
+enum { SIZES = ECC200_SIZE_COUNT, MOST_SIDE = ECC200_MOST_SIDE, LIGHT = 0, DARK = 1, UNKNOWN = 2, MOST_WITNESSES = 3072 };
 
 /* An edge between two modules of known and different colours, of which one may lie outside the symbol. */
 struct witness {
@@ -22,8 +23,8 @@ struct layout {
     int witness_count;
 };
 
-/* The sides, by rising size. */
-const int *sides(void);
+/* Writes the sides of all sizes, by rising size. */
+void list_sides(int sides[SIZES]);
 
 /* The layout of a side, made at the first call; NULL if there is no memory, or no such side. `made` holds those that were made. */
 struct layouts {

@@ -63,7 +63,7 @@ static struct point place(const struct tracing *tracing, int k) {
 }
 
 /* The line that fits best to the path from `first` to `last`, from the foot of one end to that of the other. */
-static struct line fitted(const struct tracing *tracing, int first, int last) {
+static struct line fit_line(const struct tracing *tracing, int first, int last) {
     double n = 0, x = 0, y = 0, xx = 0, xy = 0, yy = 0;
     int rim = (last - first) / 12;
     for (int k = first + rim; k <= last - rim; k++) {
@@ -72,11 +72,11 @@ static struct line fitted(const struct tracing *tracing, int first, int last) {
     }
     struct point middle = point_at(x / n, y / n), from = place(tracing, first), to = place(tracing, last);
     double angle = 0.5 * atan2(2 * (xy - x * y / n), xx - x * x / n - yy + y * y / n);
-    struct point along = turned(point_at(1, 0), angle);
+    struct point along = turn_by(point_at(1, 0), angle);
     if (dot(along, difference(to, from)) < 0)
-        along = scaled(along, -1);
-    return (struct line){sum(middle, scaled(along, dot(difference(from, middle), along))),
-                         sum(middle, scaled(along, dot(difference(to, middle), along)))};
+        along = scale_by(along, -1);
+    return (struct line){sum(middle, scale_by(along, dot(difference(from, middle), along))),
+                         sum(middle, scale_by(along, dot(difference(to, middle), along)))};
 }
 
 static double extent(const struct line *line) {
@@ -123,7 +123,7 @@ static void cut(const struct tracing *tracing) {
         if (last - first < tracing->least)
             continue;
         if (farthest(tracing, first, last, &where) <= BEND) {
-            struct line line = fitted(tracing, first, last);
+            struct line line = fit_line(tracing, first, last);
             if (extent(&line) >= tracing->least)
                 keep(tracing->lines, line);
         } else if (depth + 2 <= MOST_PENDING) {
@@ -137,7 +137,7 @@ static void cut(const struct tracing *tracing) {
 static bool continues(const struct line *line, const struct line *piece) {
     struct point along = difference(line->to, line->from), way = difference(piece->to, piece->from);
     double long_one = length(along), apart = 1.5 + 0.012 * long_one;
-    struct point unit = scaled(along, 1 / long_one);
+    struct point unit = scale_by(along, 1 / long_one);
     double first = dot(unit, difference(piece->from, line->from)), last = dot(unit, difference(piece->to, line->from));
     return dot(unit, way) > 0.99 * length(way) && fabs(cross(unit, difference(piece->from, line->from))) < apart &&
            fabs(cross(unit, difference(piece->to, line->from))) < apart && last > -0.5 * long_one && first < 1.5 * long_one;
@@ -167,7 +167,7 @@ static void join(struct lines *lines) {
     qsort(lines->items, (size_t)lines->count, sizeof *lines->items, by_length);
 }
 
-bool lines_found(const struct plane *dark, double least, int64_t end, struct lines *out) {
+bool find_lines(const struct plane *dark, double least, int64_t end, struct lines *out) {
     struct tracing tracing = {.dark = dark, .least = least, .end = end, .lines = out};
     tracing.seen = calloc((size_t)dark->width, (size_t)dark->height);
     bool enough = tracing.seen != NULL;

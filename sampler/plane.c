@@ -3,7 +3,7 @@
 #include <stdlib.h>
 #include <string.h>
 
-static bool plane_made(int width, int height, struct plane *out, uint8_t **pixels) {
+static bool plane_make(int width, int height, struct plane *out, uint8_t **pixels) {
     *pixels = malloc((size_t)width * (size_t)height);
     *out = (struct plane){width, height, (size_t)width, *pixels, *pixels};
     return *pixels != NULL;
@@ -14,9 +14,9 @@ void plane_free(struct plane *plane) {
     *plane = (struct plane){0};
 }
 
-bool plane_inverted(const struct plane *from, struct plane *out) {
+bool plane_invert(const struct plane *from, struct plane *out) {
     uint8_t *to;
-    if (!plane_made(from->width, from->height, out, &to))
+    if (!plane_make(from->width, from->height, out, &to))
         return false;
     for (int y = 0; y < from->height; y++) {
         const uint8_t *row = from->pixels + (size_t)y * from->stride;
@@ -26,11 +26,11 @@ bool plane_inverted(const struct plane *from, struct plane *out) {
     return true;
 }
 
-bool plane_smoothed(const struct plane *from, struct plane *out) {
+bool plane_smooth(const struct plane *from, struct plane *out) {
     int width = from->width, height = from->height;
     uint8_t *to;
     uint16_t *sums = malloc(sizeof *sums * (size_t)(width + 2));
-    if (!plane_made(width, height, out, &to) || sums == NULL) {
+    if (!plane_make(width, height, out, &to) || sums == NULL) {
         free(sums);
         plane_free(out);
         return false;
@@ -48,10 +48,10 @@ bool plane_smoothed(const struct plane *from, struct plane *out) {
     return true;
 }
 
-bool plane_halved(const struct plane *from, struct plane *out) {
+bool plane_halve(const struct plane *from, struct plane *out) {
     int width = from->width / 2, height = from->height / 2;
     uint8_t *to;
-    if (!plane_made(width, height, out, &to))
+    if (!plane_make(width, height, out, &to))
         return false;
     for (int y = 0; y < height; y++) {
         const uint8_t *row = from->pixels + 2 * (size_t)y * from->stride, *below = row + from->stride;
@@ -108,7 +108,7 @@ static void mark_dark(const struct plane *from, int across, int down, const stru
     }
 }
 
-bool plane_darkened(const struct plane *from, struct plane *out) {
+bool plane_darken(const struct plane *from, struct plane *out) {
     int across = (from->width + TILE - 1) / TILE, down = (from->height + TILE - 1) / TILE;
     size_t stride = (size_t)from->width + 2, tiles = (size_t)across * (size_t)down;
     uint8_t *marks = calloc(stride * ((size_t)from->height + 2), 1), *limits = malloc((size_t)across);

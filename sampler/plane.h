@@ -15,12 +15,12 @@ struct plane {
 };
 
 /* Each of these makes a new plane, and says whether there was memory for it. */
-bool plane_inverted(const struct plane *from, struct plane *out);
-bool plane_smoothed(const struct plane *from, struct plane *out); /* by weights 1 2 1 in both directions */
-bool plane_halved(const struct plane *from, struct plane *out);   /* each pixel is the mean of four */
+bool plane_invert(const struct plane *from, struct plane *out);
+bool plane_smooth(const struct plane *from, struct plane *out); /* by weights 1 2 1 in both directions */
+bool plane_halve(const struct plane *from, struct plane *out);   /* each pixel is the mean of four */
 
 /* 1 where a pixel is darker than its surroundings, else 0, with a frame of light pixels around it: index -1 and the width may be read. */
-bool plane_darkened(const struct plane *from, struct plane *out);
+bool plane_darken(const struct plane *from, struct plane *out);
 
 void plane_free(struct plane *plane);
 

@@ -11,7 +11,7 @@ struct regions {
     int height;
 };
 
-struct regions *regions_begun(const struct plane *plane) {
+struct regions *regions_begin(const struct plane *plane) {
     struct regions *regions = calloc(1, sizeof *regions);
     if (regions == NULL || plane->width < LEAST_PICTURE || plane->height < LEAST_PICTURE)
         return regions;
@@ -23,7 +23,7 @@ struct regions *regions_begun(const struct plane *plane) {
         regions->decode = dmtxDecodeCreate(regions->image, 1);
     }
     if (regions->decode == NULL) {
-        regions_ended(regions);
+        regions_end(regions);
         return NULL;
     }
     dmtxDecodeSetProp(regions->decode, DmtxPropSymbolSize, DmtxSymbolSquareAuto);
@@ -56,7 +56,7 @@ bool regions_next(struct regions *regions, int64_t end, struct point corners[4])
     return true;
 }
 
-void regions_ended(struct regions *regions) {
+void regions_end(struct regions *regions) {
     if (regions == NULL)
         return;
     if (regions->decode != NULL)

@@ -65,8 +65,8 @@ static bool judge_all(struct search *search, const struct sight *sight, struct p
         struct placement *placement = &placements[k];
         for (int column = 0; column < 3; column++)
             placement->to_picture.m[0][column] *= scale, placement->to_picture.m[1][column] *= scale;
-        struct point middle = mapped(&placement->to_picture, placement->side / 2.0, placement->side / 2.0);
-        if (!is_known(search, middle) && judged(&search->judge, placement, &search->found[search->count])) {
+        struct point middle = map_point(&placement->to_picture, placement->side / 2.0, placement->side / 2.0);
+        if (!is_known(search, middle) && judge_placement(&search->judge, placement, &search->found[search->count])) {
             search->count++;
             return true;
         }
@@ -82,7 +82,7 @@ static void search_elbows(struct search *search, const struct sight *sight, int 
     struct scene scene = {&sight->levels[level], dark, search->judge.end};
     double scale = 1 << level;
     for (int k = 0; k < count && !is_over(search); k++) {
-        struct point middle = scaled(sum(elbows[k].top, elbows[k].right), 0.5 * scale);
+        struct point middle = scale_by(sum(elbows[k].top, elbows[k].right), 0.5 * scale);
         if (!is_known(search, middle))
             judge_all(search, sight, placements, placements_of(&scene, &elbows[k], placements), scale);
     }
@@ -94,12 +94,12 @@ static void search_level(struct search *search, const struct sight *sight, int l
     struct elbow elbows[ELBOWS];
     if (level >= sight->level_count || is_over(search))
         return;
-    if (!plane_darkened(&sight->levels[level], &dark)) {
+    if (!plane_darken(&sight->levels[level], &dark)) {
         search->judge.has_no_memory = true;
         return;
     }
-    if (lines_found(&dark, LEAST_LINE, search->judge.end, &lines))
-        search_elbows(search, sight, level, &dark, elbows, elbows_found(&dark, &lines, search->judge.end, elbows, ELBOWS));
+    if (find_lines(&dark, LEAST_LINE, search->judge.end, &lines))
+        search_elbows(search, sight, level, &dark, elbows, find_elbows(&dark, &lines, search->judge.end, elbows, ELBOWS));
     else
         search->judge.has_no_memory = true;
     plane_free(&dark);
@@ -129,12 +129,12 @@ static void search_regions(struct search *search, const struct sight sights[2]) 
     if (is_over(search))
         return;
     struct plane dark[2] = {0};
-    struct regions *regions = regions_begun(&sights[0].levels[0]);
-    if (regions != NULL && plane_darkened(&sights[0].levels[0], &dark[0]) && plane_darkened(&sights[1].levels[0], &dark[1]))
+    struct regions *regions = regions_begin(&sights[0].levels[0]);
+    if (regions != NULL && plane_darken(&sights[0].levels[0], &dark[0]) && plane_darken(&sights[1].levels[0], &dark[1]))
         judge_regions(search, sights, dark, regions);
     else
         search->judge.has_no_memory = true;
-    regions_ended(regions);
+    regions_end(regions);
     plane_free(&dark[0]);
     plane_free(&dark[1]);
 }
@@ -143,16 +143,16 @@ static void search_regions(struct search *search, const struct sight sights[2]) 
 
 /* Makes the levels of a sight, whose picture is there. */
 static bool make_levels(struct sight *sight) {
-    if (!plane_smoothed(&sight->picture, &sight->levels[0]))
+    if (!plane_smooth(&sight->picture, &sight->levels[0]))
         return false;
     for (sight->level_count = 1; sight->level_count < LEVELS; sight->level_count++) {
         const struct plane *last = &sight->levels[sight->level_count - 1];
         struct plane half;
         if (last->width / 2 < LEAST_LEVEL || last->height / 2 < LEAST_LEVEL)
             break;
-        if (!plane_halved(last, &half))
+        if (!plane_halve(last, &half))
             return false;
-        bool is_made = plane_smoothed(&half, &sight->levels[sight->level_count]);
+        bool is_made = plane_smooth(&half, &sight->levels[sight->level_count]);
         plane_free(&half);
         if (!is_made)
             return false;
@@ -172,7 +172,7 @@ static void search_picture(struct search *search, const struct plane *picture) {
     search->judge.has_no_memory = !make_levels(&sights[0]);
     search_levels(search, &sights[0]);
     if (!is_over(search)) {
-        search->judge.has_no_memory = !plane_inverted(picture, &sights[1].picture) || !make_levels(&sights[1]);
+        search->judge.has_no_memory = !plane_invert(picture, &sights[1].picture) || !make_levels(&sights[1]);
         search_levels(search, &sights[1]);
         search_regions(search, sights);
     }

@@ -6,7 +6,7 @@
 enum { POINTS = 4 };
 static const double FIRST = -0.27, APART = 0.18; /* modules: where the points of a module are */
 
-void sampled(const struct plane *plane, const struct layout *layout, const struct bent *bent, double x, double y, struct brightnesses *out) {
+void sample_modules(const struct plane *plane, const struct layout *layout, const struct bent *bent, double x, double y, struct brightnesses *out) {
     int side = layout->side, region = side / bent->across;
     out->side = side;
     for (int row = 0; row < side; row++)
@@ -15,7 +15,7 @@ void sampled(const struct plane *plane, const struct layout *layout, const struc
             double total = 0;
             for (int k = 0; k < POINTS * POINTS; k++) {
                 double right = column + 0.5 + x + FIRST + APART * (k % POINTS), down = row + 0.5 + y + FIRST + APART * (k / POINTS);
-                total += brightness(plane, mapped(to_picture, right, down));
+                total += brightness(plane, map_point(to_picture, right, down));
             }
             out->of[row * side + column] = (float)(total / (POINTS * POINTS));
         }
@@ -58,7 +58,7 @@ static bool fit_level(const float *of, int side, const uint8_t *class, int wante
     }
     double stiff = 0.2, matrix[9] = {sums.n, sums.x, sums.y, sums.x, sums.xx + stiff, sums.xy, sums.y, sums.xy, sums.yy + stiff};
     double values[3] = {sums.v, sums.xv, sums.yv};
-    if (sums.n < 4 || !solved(matrix, values, 3))
+    if (sums.n < 4 || !solve(matrix, values, 3))
         return false;
     *out = (struct level){values[0], values[1], values[2]};
     return true;
@@ -111,7 +111,7 @@ static void divide(const float *of, int side, const struct levels *levels, doubl
         }
 }
 
-bool told_apart(const struct brightnesses *from, const struct layout *layout, struct rule rule, uint8_t *modules) {
+bool tell_apart(const struct brightnesses *from, const struct layout *layout, struct rule rule, uint8_t *modules) {
     float sharp[MOST_SIDE * MOST_SIDE];
     const float *of = from->of;
     struct levels levels;

@@ -18,7 +18,7 @@ struct bent {
 };
 
 /* The mean brightness of each module's middle. The grid is moved by (x, y) modules. */
-void sampled(const struct plane *plane, const struct layout *layout, const struct bent *bent, double x, double y, struct brightnesses *out);
+void sample_modules(const struct plane *plane, const struct layout *layout, const struct bent *bent, double x, double y, struct brightnesses *out);
 
 /* How dark modules are told from light ones. */
 struct rule {
@@ -28,6 +28,6 @@ struct rule {
 };
 
 /* Writes 1 for each dark module. False if the border shows no contrast. */
-bool told_apart(const struct brightnesses *from, const struct layout *layout, struct rule rule, uint8_t *modules);
+bool tell_apart(const struct brightnesses *from, const struct layout *layout, struct rule rule, uint8_t *modules);
 
 #endif

@@ -11,7 +11,7 @@ static const double LEAST_TRACK = 0.68, LEAST_SOLID = 0.6;
 static double depth_at(const struct plane *dark, struct point at, struct point inwards, double most) {
     double depth = 0, light = 0;
     for (double way = 0.5; way < most && light < 1.5; way += 0.5) {
-        bool is_dark = dark_at(dark, sum(at, scaled(inwards, way))) != 0;
+        bool is_dark = dark_at(dark, sum(at, scale_by(inwards, way))) != 0;
         light = is_dark ? 0 : light + 0.5;
         depth = is_dark ? way + 0.25 : depth;
     }
@@ -24,7 +24,7 @@ static double module_width(const struct plane *dark, struct point from, struct p
     double whole = length(difference(to, from)), most = whole / 6;
     int histogram[DEPTHS] = {0}, counted = 0;
     for (int k = 0; k < PLACES; k++) {
-        struct point at = sum(from, scaled(difference(to, from), 0.05 + 0.9 * k / PLACES));
+        struct point at = sum(from, scale_by(difference(to, from), 0.05 + 0.9 * k / PLACES));
         int depth = (int)(2 * depth_at(dark, at, inwards, most));
         if (depth > 1)
             histogram[depth < DEPTHS ? depth : DEPTHS - 1]++, counted++;
@@ -74,7 +74,7 @@ static void follow(const struct plane *grey, struct track *track, double step, d
     int extreme = 255;
     double place = 0;
     track->darks = 0;
-    struct point at = track->from, move = scaled(track->along, step);
+    struct point at = track->from, move = scale_by(track->along, step);
     for (double way = 0; way < longest && rhythm.bad < rhythm.good + 4; way += step, at = sum(at, move)) {
         int here = grey_at(grey, at);
         if (seeks_dark ? here < extreme : here > extreme) {
@@ -94,7 +94,7 @@ static double darkness_beside(const struct plane *dark, const struct track *trac
     int count = 0;
     enum { PLACES = 40 };
     for (int k = 0; k < PLACES; k++)
-        count += dark_at(dark, sum(sum(track->from, scaled(outwards, 1.1 * module)), scaled(track->along, whole * (k + 0.5) / PLACES)));
+        count += dark_at(dark, sum(sum(track->from, scale_by(outwards, 1.1 * module)), scale_by(track->along, whole * (k + 0.5) / PLACES)));
     return (double)count / PLACES;
 }
 
@@ -116,12 +116,12 @@ static void look_around(const struct scene *scene, const struct start *start, st
     double last = from.shift + from.shift_reach + 0.01;
     for (double s = from.shift - from.shift_reach; s <= last && !clock_reached(scene->end); s += from.shift_step)
         for (double a = from.angle - from.angle_reach; a <= from.angle + from.angle_reach; a += from.angle_step) {
-            struct track track = {.from = sum(start->end, scaled(start->inwards, s * start->module)), .along = turned(start->along, a)};
+            struct track track = {.from = sum(start->end, scale_by(start->inwards, s * start->module)), .along = turn_by(start->along, a)};
             follow(scene->grey, &track, fmax(start->module / 7, 0.5), 1.4 * start->whole, start->least);
             track.score -= 0.3 * fabs(s - 0.5);
             if (track.score <= best->score)
                 continue;
-            double beside = darkness_beside(scene->dark, &track, scaled(start->inwards, -1), start->module, start->whole);
+            double beside = darkness_beside(scene->dark, &track, scale_by(start->inwards, -1), start->module, start->whole);
             track.score *= 1 - beside;
             if (track.score > best->score)
                 *best = track, fan->shift = s, fan->angle = a;
@@ -130,7 +130,7 @@ static void look_around(const struct scene *scene, const struct start *start, st
 
 static struct start start_at(struct point end, struct point back, struct point other, double module, int least) {
     double whole = length(other);
-    return (struct start){end, scaled(back, 1 / length(back)), scaled(other, 1 / whole), whole, module, least};
+    return (struct start){end, scale_by(back, 1 / length(back)), scale_by(other, 1 / whole), whole, module, least};
 }
 
 /* The best track of the start, among those from so many modules around `shift`. */
@@ -180,9 +180,9 @@ static struct fit fit_of(const struct scene *scene, const struct homography *to_
     struct fit fit = {0};
     int top[3] = {0}, right[3] = {0};
     for (int k = 0; k < side; k++) {
-        top[k % 3] = grey_at(scene->grey, mapped(to_picture, k + 0.5, 0.5));
-        right[k % 3] = grey_at(scene->grey, mapped(to_picture, side - 0.5, k + 0.5));
-        fit.solid += dark_at(scene->dark, mapped(to_picture, 0.5, k + 0.5)) + dark_at(scene->dark, mapped(to_picture, k + 0.5, side - 0.5));
+        top[k % 3] = grey_at(scene->grey, map_point(to_picture, k + 0.5, 0.5));
+        right[k % 3] = grey_at(scene->grey, map_point(to_picture, side - 0.5, k + 0.5));
+        fit.solid += dark_at(scene->dark, map_point(to_picture, 0.5, k + 0.5)) + dark_at(scene->dark, map_point(to_picture, k + 0.5, side - 0.5));
         fit.solid_counted += 2;
         if (k < 2)
             continue;
@@ -213,12 +213,12 @@ struct frame {
 /* The frame of a side, with the fourth point moved by so many modules each way: the best of these. */
 static struct placement best_near(const struct scene *scene, const struct frame *frame, int side, double reach, double step) {
     struct placement best = {.side = side, .score = 0};
-    struct point along = scaled(difference(frame->pixels[3], frame->pixels[0]), 1.0 / side);
-    struct point down = scaled(difference(frame->pixels[2], frame->pixels[3]), 1.0 / side);
+    struct point along = scale_by(difference(frame->pixels[3], frame->pixels[0]), 1.0 / side);
+    struct point down = scale_by(difference(frame->pixels[2], frame->pixels[3]), 1.0 / side);
     for (double x = -reach; x <= reach; x += step)
         for (double y = -reach; y <= reach; y += step) {
             struct point pixels[4] = {frame->pixels[0], frame->pixels[1], frame->pixels[2]};
-            pixels[3] = sum(frame->pixels[3], sum(scaled(along, x), scaled(down, y)));
+            pixels[3] = sum(frame->pixels[3], sum(scale_by(along, x), scale_by(down, y)));
             struct homography to_picture;
             if (!through(frame->modules, pixels, &to_picture))
                 continue;
@@ -236,8 +236,8 @@ static int contrast_of(const struct plane *grey, struct point from, struct point
     enum { PLACES = 24 };
     int total = 0;
     for (int k = 0; k < PLACES; k++) {
-        struct point at = sum(from, scaled(difference(to, from), (k + 0.5) / PLACES));
-        total += grey_at(grey, sum(at, scaled(inwards, -0.5))) - grey_at(grey, sum(at, scaled(inwards, 0.5)));
+        struct point at = sum(from, scale_by(difference(to, from), (k + 0.5) / PLACES));
+        total += grey_at(grey, sum(at, scale_by(inwards, -0.5))) - grey_at(grey, sum(at, scale_by(inwards, 0.5)));
     }
     return total / PLACES;
 }
@@ -245,21 +245,22 @@ static int contrast_of(const struct plane *grey, struct point from, struct point
 int placements_of(const struct scene *scene, const struct elbow *elbow, struct placement out[MOST_PLACEMENTS]) {
     struct point along = difference(elbow->right, elbow->corner), up = difference(elbow->top, elbow->corner), meeting;
     double wide = length(along), high = length(up);
-    double across = fmin(module_width(scene->dark, elbow->corner, elbow->top, scaled(along, 1 / wide)), 0.1 * wide);
-    double upwards = fmin(module_width(scene->dark, elbow->corner, elbow->right, scaled(up, 1 / high)), 0.1 * high);
-    int contrast = contrast_of(scene->grey, elbow->corner, elbow->top, scaled(along, across / wide)) +
-                   contrast_of(scene->grey, elbow->corner, elbow->right, scaled(up, upwards / high));
+    double across = fmin(module_width(scene->dark, elbow->corner, elbow->top, scale_by(along, 1 / wide)), 0.1 * wide);
+    double upwards = fmin(module_width(scene->dark, elbow->corner, elbow->right, scale_by(up, 1 / high)), 0.1 * high);
+    int contrast = contrast_of(scene->grey, elbow->corner, elbow->top, scale_by(along, across / wide)) +
+                   contrast_of(scene->grey, elbow->corner, elbow->right, scale_by(up, upwards / high));
     int least = contrast / 2 / 7 > 4 ? contrast / 2 / 7 : 4, count = 0;
     double module = fmin(across, upwards);
-    struct start starts[2] = {start_at(elbow->top, scaled(up, -1), along, module, least),
-                              start_at(elbow->right, scaled(along, -1), up, module, least)};
+    struct start starts[2] = {start_at(elbow->top, scale_by(up, -1), along, module, least),
+                              start_at(elbow->right, scale_by(along, -1), up, module, least)};
     struct track tracks[2], *top = &tracks[0], *right = &tracks[1];
     find_tracks(scene, starts, tracks);
     if (top->score < 2 || right->score < 2 || !intersection(top->from, top->along, right->from, right->along, &meeting))
         return 0;
-    int fewer = top->darks < right->darks ? top->darks : right->darks, more = top->darks + right->darks - fewer;
+    int fewer = top->darks < right->darks ? top->darks : right->darks, more = top->darks + right->darks - fewer, sides[SIZES];
+    list_sides(sides);
     for (int k = 0; k < SIZES; k++) {
-        double side = sides()[k];
+        double side = sides[k];
         if (side < 0.75 * 2 * fewer || side > 1.35 * 2 * more)
             continue;
         struct frame frame = {{{0, 0.5}, {0, side}, {side - 0.5, side}, {side - 0.5, 0.5}}, {top->from, elbow->corner, right->from, meeting}};
@@ -271,9 +272,10 @@ int placements_of(const struct scene *scene, const struct elbow *elbow, struct p
 }
 
 int placements_between(const struct scene *scene, const struct point corners[4], struct placement out[MOST_PLACEMENTS]) {
-    int count = 0;
+    int count = 0, sides[SIZES];
+    list_sides(sides);
     for (int k = 0; k < SIZES; k++) {
-        double side = sides()[k];
+        double side = sides[k];
         struct frame frame = {{{0, 0}, {0, side}, {side, side}, {side, 0}}, {corners[0], corners[3], corners[2], corners[1]}};
         struct placement placement = best_near(scene, &frame, (int)side, 0.5, 0.5);
         if (placement.score > 0)

@@ -15,7 +15,7 @@ static void profile_of(const struct plane *plane, const struct homography *to_pi
         profile[k] = 0;
         for (int line = -1; line <= 1; line++) {
             double x = witness->x + (witness->is_upright ? way : BESIDE * line), y = witness->y + (witness->is_upright ? BESIDE * line : way);
-            profile[k] += brightness(plane, mapped(to_picture, x, y)) / 3;
+            profile[k] += brightness(plane, map_point(to_picture, x, y)) / 3;
         }
     }
 }
@@ -61,8 +61,8 @@ static struct homography changed(const struct homography *to_picture, const doub
     struct homography inner = {{{1 / side, 0, -0.5}, {0, 1 / side, -0.5}, {0, 0, 1}}};
     struct homography warp = {{{1 + change[1], change[2], change[0]}, {change[4], 1 + change[5], change[3]}, {-change[6], -change[7], 1}}};
     struct homography outer = {{{side, 0, 0.5 * side}, {0, side, 0.5 * side}, {0, 0, 1}}};
-    struct homography first = composed(&warp, &inner), second = composed(&outer, &first);
-    return composed(to_picture, &second);
+    struct homography first = compose(&warp, &inner), second = compose(&outer, &first);
+    return compose(to_picture, &second);
 }
 
 static bool lies_in(const struct witness *witness, struct part part) {
@@ -94,7 +94,7 @@ static int look_at(const struct plane *plane, const struct layout *layout, struc
     return count;
 }
 
-double refined(const struct plane *plane, const struct layout *layout, struct part part, double stiff, int rounds, struct homography *to_picture) {
+double refine(const struct plane *plane, const struct layout *layout, struct part part, double stiff, int rounds, struct homography *to_picture) {
     double share = 0;
     for (int round = 0; round < rounds; round++) {
         struct edge edges[MOST_LOOKED_AT];
@@ -113,7 +113,7 @@ double refined(const struct plane *plane, const struct layout *layout, struct pa
         share = count > 0 ? (double)near / count : 0;
         for (int k = 0; k < PARAMETERS; k++)
             equations.matrix[k * PARAMETERS + k] += stiff * (k < 6 ? 1 : 4);
-        if (near < PARAMETERS || !solved(equations.matrix, equations.values, PARAMETERS))
+        if (near < PARAMETERS || !solve(equations.matrix, equations.values, PARAMETERS))
             break;
         *to_picture = changed(to_picture, equations.values, layout->side);
     }

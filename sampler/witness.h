@@ -12,6 +12,6 @@ struct part {
 
 /* Moves the transformation so that the edges in the part come to lie where the picture shows them. `stiff` says how much it is held back:
  * 0.01 for a whole symbol, more for small parts. Returns the share of edges that the picture shows near where they should be. */
-double refined(const struct plane *plane, const struct layout *layout, struct part part, double stiff, int rounds, struct homography *to_picture);
+double refine(const struct plane *plane, const struct layout *layout, struct part part, double stiff, int rounds, struct homography *to_picture);
 
 #endif

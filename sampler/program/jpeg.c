@@ -74,7 +74,7 @@ static const char *read_all(struct reading *reading, struct bytes from) {
     jpeg->progress = &reading->progress;
     jpeg_mem_src(jpeg, from.items, from.count);
     jpeg_read_header(jpeg, TRUE);
-    const char *problem = picture_made(jpeg->image_width, jpeg->image_height, &reading->picture);
+    const char *problem = picture_make(jpeg->image_width, jpeg->image_height, &reading->picture);
     reading->row = malloc((size_t)jpeg->image_width * 4);
     if (problem == NULL && reading->row == NULL)
         problem = "no memory";

@@ -5,14 +5,19 @@
 #include <stdlib.h>
 #include <string.h>
 
+#include "../ecc200_sample.h"
+
 static const size_t MOST_BYTES = (size_t)1 << 31;
 
-const char *picture_made(size_t width, size_t height, struct picture *out) {
+const char *picture_make(size_t width, size_t height, struct picture *out) {
     *out = (struct picture){NULL, width, height};
     if (width == 0 || height == 0)
         return "a picture without pixels";
-    if (width > MOST_PICTURE_SIDE || height > MOST_PICTURE_SIDE)
-        return "a picture with more than 32767 pixels on a side";
+    if (width > ECC200_SAMPLE_MOST_SIDE || height > ECC200_SAMPLE_MOST_SIDE) {
+        static char message[64];
+        snprintf(message, sizeof message, "a picture with more than %d pixels on a side", ECC200_SAMPLE_MOST_SIDE);
+        return message;
+    }
     out->luminance = malloc(width * height);
     return out->luminance == NULL ? "no memory" : NULL;
 }
@@ -48,7 +53,7 @@ static const char *bytes_read(FILE *file, struct bytes *out) {
     return NULL;
 }
 
-static const char *decoded(struct bytes from, struct picture *out) {
+static const char *decode(struct bytes from, struct picture *out) {
     if (from.count == 0)
         return "an empty file";
     if (from.count >= 8 && memcmp(from.items, "\x89PNG\r\n\x1a\n", 8) == 0)
@@ -70,7 +75,7 @@ const char *picture_read(const char *path, struct picture *out) {
         fclose(file);
     if (problem != NULL)
         return problem;
-    problem = decoded(bytes, out);
+    problem = decode(bytes, out);
     free(bytes.items);
     return problem;
 }

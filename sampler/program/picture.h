@@ -5,8 +5,6 @@
 #include <stddef.h>
 #include <stdint.h>
 
-enum { MOST_PICTURE_SIDE = 32767 };
-
 /* The bytes of a file. */
 struct bytes {
     uint8_t *items;
@@ -25,7 +23,7 @@ const char *jpeg_read(struct bytes from, struct picture *out);
 const char *pnm_read(struct bytes from, struct picture *out);
 
 /* Room for a picture, if its size is one of those that are read; else, what is wrong with it. */
-const char *picture_made(size_t width, size_t height, struct picture *out);
+const char *picture_make(size_t width, size_t height, struct picture *out);
 void picture_free(struct picture *picture);
 
 #endif

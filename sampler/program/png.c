@@ -12,7 +12,7 @@ const char *png_read(struct bytes from, struct picture *out) {
         return message;
     }
     image.format = PNG_FORMAT_GRAY;
-    const char *problem = picture_made(image.width, image.height, out);
+    const char *problem = picture_make(image.width, image.height, out);
     if (problem == NULL && !png_image_finish_read(&image, &white, out->luminance, (png_int_32)image.width, NULL)) {
         snprintf(message, sizeof message, "PNG: %s", image.message);
         picture_free(out);

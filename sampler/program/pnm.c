@@ -108,7 +108,7 @@ const char *pnm_read(struct bytes from, struct picture *out) {
     reader.at++;
     if (from.count - reader.at < least_bytes(&header, (size_t)width, (size_t)height))
         return CUT_SHORT;
-    const char *problem = picture_made((size_t)width, (size_t)height, out);
+    const char *problem = picture_make((size_t)width, (size_t)height, out);
     if (problem != NULL)
         return problem;
     if (header.is_bits && !header.is_text)
