@@ -46,12 +46,12 @@ def folder(crate, *parts):
     return os.path.join(TOP, "crates", crate, *parts)
 
 
-def proved(crate):
+def rlib_of(crate):
     """Where the crate lies once it is proved."""
     return folder(crate, "out", "rlib", f"{crate}.rlib")
 
 
-def changed(crate):
+def last_change(crate):
     """When a file of the crate that a proof reads was changed last."""
     parts = [folder(crate, part) for part in ("src", "specs", "proofs")]
     files = [os.path.join(at, name) for part in parts for at, _, names in os.walk(part) for name in names]
@@ -62,20 +62,24 @@ def are_proved(crates):
     """Whether each crate, lowest first, was proved after the last change of it and of those before it."""
     last = 0
     for crate in crates:
-        last = max(last, changed(crate))
-        if not os.path.isdir(proved(crate)) or os.path.getmtime(proved(crate)) < last:
+        last = max(last, last_change(crate))
+        if not os.path.isdir(rlib_of(crate)) or os.path.getmtime(rlib_of(crate)) < last:
             return False
     return True
 
 
-def words(command, crate):
+def command(step, crate):
     """The words by which rattle checks or builds a crate, in its folder or in a copy of it."""
-    found = [f"{kit()}/bin/rattle", command, "--crate-name", crate]
-    found += ["src/main.rt" if os.path.exists(folder(crate, "src", "main.rt")) else "src/lib.rt"]
-    if "staticlib" in declared()[crate][0]:
-        found += ["--crate-type", "staticlib"]
-    for name in ["std", *uses(crate)]:
-        found += ["--extern", f"{name}={proved(name) if name in declared() else f'{kit()}/rlibs/{name}.rlib'}"]
-    for place in [f"{kit()}/rlibs", *[os.path.dirname(proved(name)) for name in below(crate)]]:
+    main = "src/main.rt" if os.path.exists(folder(crate, "src", "main.rt")) else "src/lib.rt"
+    return command_over(step, crate, main, uses(crate), ["--crate-type", "staticlib"] if "staticlib" in declared()[crate][0] else [])
+
+
+def command_over(step, name, main, stands_on, more=()):
+    """The words by which rattle checks or builds what stands on these crates, as they were proved last, or on the toolchain's."""
+    found = [f"{kit()}/bin/rattle", step, "--crate-name", name, main, *more]
+    for it in ["std", *stands_on]:
+        found += ["--extern", f"{it}={rlib_of(it) if it in declared() else f'{kit()}/rlibs/{it}.rlib'}"]
+    lower = [it for crate in stands_on if crate in declared() for it in (*below(crate), crate)]
+    for place in [f"{kit()}/rlibs", *[os.path.dirname(rlib_of(it)) for it in dict.fromkeys(lower)]]:
         found += ["-L", f"dependency={place}"]
     return [*found, "--antt-project", f"{kit()}/rattle/logic/antt-project.json", "--logic-built", f"{kit()}/logic_built"]

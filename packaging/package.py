@@ -1,6 +1,7 @@
 """What packaging/files.txt and packaging/version say, for the scripts of this folder."""
 import os
 import re
+import subprocess
 from typing import Dict, Iterator, List, NamedTuple
 
 TOP = os.path.dirname(os.path.dirname(os.path.abspath(__file__)))
@@ -24,6 +25,13 @@ def abi():
 def sample_abi():
     """The same of the sampler's library."""
     return re.search(r"^#define ECC200_SAMPLE_ABI (\d+)", text("sampler", "ecc200_sample.h"), re.M)[1]
+
+
+def last_change():
+    """When the tree was last worked on, in seconds, so that the same tree gives the same packages and archives: the time of its last commit, or
+    without a repository that of CHANGELOG.md."""
+    known = subprocess.run(["git", "-C", TOP, "log", "-1", "--format=%ct"], stdout=subprocess.PIPE, stderr=subprocess.DEVNULL, text=True)
+    return int(known.stdout.strip() or os.path.getmtime(os.path.join(TOP, "CHANGELOG.md")))
 
 
 def numbers():
