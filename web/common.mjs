@@ -1,6 +1,6 @@
 // What both the page and its worker know: numbers of the library's interface, and small helpers.
 
-export const ABI = 2, FNC1 = 256, BEYOND = 255, MOST_SIDE = 104, MOST_ITEMS = 1639, SIZE_COUNT = 21;
+export const ABI = 2, FNC1 = 256, BEYOND = 255, MOST_SIDE = 104, MOST_ITEMS = 1639, MOST_CODEWORDS = 1152, SIZE_COUNT = 21;
 export const USUAL = 0, WIDE = 1, ASCII = 0, SHORTER = 1;
 export const BORDER_FAULT = 5, BLOCK_FAULT = 6, TOO_LONG = 14;
 export const BIT = 1, BORDER_LIGHT = 2, BORDER_DARK = 3;

@@ -1,9 +1,12 @@
 // The proved library, ecc200.wasm, whose interface is that of library/ecc200.h: WebAssembly with 64-bit memory, so that addresses and
 // lengths are BigInts. For everything about Data Matrix symbols (sizes, places, codewords, correction, messages, borders, normal forms)
 // the page asks it.
-import { ABI, BIT, MOST_ITEMS, SIZE_COUNT, WIDE, sideOf } from "./common.mjs";
+import { ABI, BIT, MOST_CODEWORDS, MOST_ITEMS, MOST_SIDE, SIZE_COUNT, WIDE, sideOf } from "./common.mjs";
 
-const ROOM = { items: 12288, out: 20480 }; // in the page of memory that the caller adds, after the modules
+// In the memory that the caller adds: after the modules of a symbol come items, one more than a message has, and then what a call writes, of which
+// the largest has 8 bytes and 4 for each module.
+const MOST_MODULES = MOST_SIDE * MOST_SIDE, ITEMS = MOST_MODULES, OUT = ITEMS + 2 * (MOST_ITEMS + 1), PAGE = 65536;
+const PAGES = Math.ceil((OUT + 8 + 4 * MOST_MODULES) / PAGE);
 
 export class Library {
   static async load(bytes) {
@@ -13,10 +16,10 @@ export class Library {
   constructor(exports) {
     this.c = exports;
     if (exports.ecc200_abi() !== ABI) throw new Error("the library has another interface than this page");
-    const start = this.grow(1) * 65536;
+    const start = this.grow(PAGES) * PAGE;
     this.modulesAt = start;
-    this.itemsAt = start + ROOM.items;
-    this.outAt = start + ROOM.out;
+    this.itemsAt = start + ITEMS;
+    this.outAt = start + OUT;
     this.sizes = new Map(this.sizeTable().map((size) => [size.side, size]));
     this.maps = new Map();
   }
@@ -61,7 +64,8 @@ export class Library {
   inspect(modules) {
     if (this.c.ecc200_inspect(...this.given(modules), this.out)) return this.fault();
     const [border, blocks, codewords] = this.numbers(this.outAt + 8, 3), list = (at, count) => this.bytes(this.outAt + at, count).slice();
-    return { border, held: list(14, codewords), mended: list(1166, codewords), corrected: Array.from(list(2318, blocks)) };
+    const mended = 14 + MOST_CODEWORDS, corrected = mended + MOST_CODEWORDS;
+    return { border, held: list(14, codewords), mended: list(mended, codewords), corrected: Array.from(list(corrected, blocks)) };
   }
   // What each module of a symbol of this side is: its kind and, for a bit, its codeword and number; and the modules of each codeword.
   map(side) {

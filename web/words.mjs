@@ -1,5 +1,5 @@
 // Refusals and corrections in words.
-import { BLOCK_FAULT, BORDER_FAULT, TOO_LONG, plural } from "./common.mjs";
+import { BLOCK_FAULT, BORDER_FAULT, MOST_SIDE, TOO_LONG, plural } from "./common.mjs";
 
 const LEFT_OUT = {
   233: "structured append: this symbol has one part of a message that several symbols share",
@@ -30,7 +30,7 @@ export function refusal({ code, value, place }, size, limit) {
     case 11: return `A value in a pair of C40 or Text has no meaning: ${at} and the next.`;
     case 12: return `The length of the Base 256 segment at ${at} is missing, ill-formed or too large.`;
     case 13: return `The run or the symbol ends before the character to which the Upper Shift at ${at} applies.`;
-    case TOO_LONG: return "No size of symbol up to side 104 holds this message in this form.";
+    case TOO_LONG: return `No size of symbol up to side ${MOST_SIDE} holds this message in this form.`;
     default: return `Refused: ${code} ${value} ${place}.`;
   }
 }
