@@ -4,6 +4,7 @@ import concurrent.futures
 import contextlib
 import os
 import resource
+import shutil
 import signal
 import subprocess
 import sys
@@ -41,11 +42,13 @@ FAKE = """#!/bin/bash
 # Stands for dm_tool. In the job that is hit, or in all if that is number 0, it has a fault. GNU parallel numbers its jobs.
 number=${PARALLEL_SEQ:-1}
 if [ "$HIT" -ne 0 ] && [ "$HIT" -ne "$number" ]; then exec REAL; fi
-own=$(ps -o sid= -p $$) above='' process=$PPID parallel='' script=''
-while [ "$process" -gt 1 ] && [ "$(ps -o sid= -p "$process")" = "$own" ]; do
-  if [ "$(ps -o comm= -p "$process")" = parallel ]; then parallel=$process script=$(ps -o ppid= -p "$process"); fi
+look() { read -r comm < "/proc/$1/comm" && read -r stat < "/proc/$1/stat" && set -- ${stat##*) } && parent=$2 session=$4; }
+look $$
+own=$session above='' process=$parent parallel='' script=''
+while [ "$process" -gt 1 ] && look "$process" && [ "$session" = "$own" ]; do
+  if [ "$comm" = parallel ]; then parallel=$process script=$parent; fi
   [ -n "$parallel" ] || above="$above $process"
-  process=$(($(ps -o ppid= -p "$process")))
+  process=$parent
 done
 if [ "$AROUND" = yes ] && [ -z "$parallel" ]; then exit 3; fi
 FAULT
@@ -80,11 +83,11 @@ def verdict(done, answers, wanted, left, sure=True, lies=False):
     return f"there are left {left}" if left else None
 
 
-def hit(block, given, wanted, *, path=PATH, env=None, sure=True, lies=False, ssh=None, **options):
+def hit(block, given, wanted, *, path=PATH, env=None, sure=True, lies=False, ssh=None, is_first=False, **options):
     """A recipe that a fault hits, in a folder of its own: what is wrong, or None. What a killed process leaves behind may still write there."""
     with tempfile.TemporaryDirectory(ignore_cleanup_errors=True) as folder:
         put(folder, given)
-        settings = {**environment(folder, path, ssh), **(env or {})}
+        settings = {**environment(folder, path, ssh, is_first), **(env or {})}
         done = subprocess.run(["bash", "-c", block], cwd=folder, env=settings, stdin=subprocess.DEVNULL, stderr=subprocess.PIPE, timeout=300,
                               start_new_session=True, **options)
         answers = b""
@@ -164,9 +167,9 @@ def to_output(block):
     return block.rstrip("\n").replace("--output answers.txt ", "").replace("> answers.txt", "")
 
 
-def limited(kind, most):
-    """What sets a limit in the new process."""
-    return lambda: resource.setrlimit(kind, (most, most))
+def limited(name, kind, most):
+    """A run whose process gets a limit: of one recipe a first run, since what GNU parallel measures then is the same for each."""
+    return {"is_first": name == "a file of grids on all processors", "preexec_fn": lambda: resource.setrlimit(kind, (most, most))}
 
 
 def machines(folder):
@@ -195,11 +198,11 @@ def of_machine(recipes, given, wanted, folder):
             yield f"{name}: answers go {full}", lambda a=(command, *case[1:]): hit(*a, stdout=subprocess.DEVNULL)
         yield f"{name}: no folder for temporary files", lambda a=case: hit(*a, env={"TMPDIR": "/nowhere"})
         for most in (0, 4096, 50000):
-            yield f"{name}: files of at most {most} bytes", lambda a=case, m=most: hit(*a, preexec_fn=limited(resource.RLIMIT_FSIZE, m))
+            yield f"{name}: files of at most {most} bytes", lambda a=case, m=most, n=name: hit(*a, **limited(n, resource.RLIMIT_FSIZE, m))
         for most in range(4, 44, 8):
-            yield f"{name}: {most} MiB of memory", lambda a=case, m=most: hit(*a, sure=False, preexec_fn=limited(resource.RLIMIT_AS, m << 20))
+            yield f"{name}: {most} MiB of memory", lambda a=case, m=most, n=name: hit(*a, sure=False, **limited(n, resource.RLIMIT_AS, m << 20))
         for most in (12, 13, 16, 40):
-            yield f"{name}: {most} open files", lambda a=case, m=most: hit(*a, preexec_fn=limited(resource.RLIMIT_NOFILE, m))
+            yield f"{name}: {most} open files", lambda a=case, m=most, n=name: hit(*a, **limited(n, resource.RLIMIT_NOFILE, m))
 
 
 def missing_text(block):
@@ -218,7 +221,8 @@ def full_disk(recipes, given, wanted):
             with tempfile.TemporaryDirectory() as disk:
                 subprocess.run(["mount", "-t", "tmpfs", "-o", f"size={size}", "none", disk], check=True)
                 try:
-                    wrong = hit(in_parts(recipes[name], "600K"), {file: given[file]}, wanted[name], env={"TMPDIR": disk}, sure=size == "16k")
+                    wrong = hit(in_parts(recipes[name], "600K"), {file: given[file]}, wanted[name], env={"TMPDIR": disk}, sure=size == "16k",
+                                is_first=True)
                     yield f"{name}: a disk of {size} for temporary files", wrong or (os.listdir(disk) or None), None
                     place = recipes[name].replace("answers.txt", f"{disk}/answers")
                     yield f"{name}: a disk of {size} for the answers", hit(place, {file: given[file]}, wanted[name]), None
@@ -274,8 +278,8 @@ def signalled(block, given, wanted, number, to_all, delay):
     with tempfile.TemporaryDirectory() as folder:
         put(folder, given)
         words = ["sh", "-c", "exec " + block.split("\n")[1]]
-        run = subprocess.Popen(words, cwd=folder, env=environment(folder), stdin=subprocess.DEVNULL, stdout=subprocess.PIPE, stderr=subprocess.PIPE,
-                               start_new_session=True)
+        run = subprocess.Popen(words, cwd=folder, env=environment(folder, is_first=delay is not None), stdin=subprocess.DEVNULL,
+                               stdout=subprocess.PIPE, stderr=subprocess.PIPE, start_new_session=True)
         answers = os.read(run.stdout.fileno(), 100) if delay is None else time.sleep(delay) or b""
         (os.killpg if to_all else os.kill)(run.pid, number)
         more, said = run.communicate(timeout=60)
@@ -305,9 +309,34 @@ def of_signals(recipes):
                 yield f"{name}, into a file: SIGINT after {delay} s", signalled(kept, {file: given[file]}, wanted, signal.SIGINT, True, delay), None
 
 
+# Stands for mktemp, whose file or folder is there when all processes of the run get a signal, and is told afterwards.
+MAKES = """#!/bin/sh
+made=$(REAL "$@") || exit
+case "$*" in WHICH) kill -s INT 0; sleep 0.1 ;; esac
+echo "$made"
+"""
+
+
+def of_starts(recipes):
+    """A signal between what dm_parts makes and its knowing of that; and a file of answers whose rights can't be set."""
+    given = texts()
+    name = "a file of grids on all processors"
+    file, words = WORDS[name]
+    wanted = ran(words, given[file])
+    for what, which in (("its folder", "-d*"), ("the file of its answers", "answers.txt.*")):
+        with tempfile.TemporaryDirectory() as fake:
+            with open(os.path.join(fake, "mktemp"), "w") as made:
+                made.write(MAKES.replace("REAL", shutil.which("mktemp")).replace("WHICH", which))
+            os.chmod(made.name, 0o755)
+            yield f"{name}: SIGINT as {what} is made", hit(recipes[name], {file: given[file]}, wanted, path=fake + os.pathsep + PATH), None
+    with tempfile.TemporaryDirectory() as fake:
+        os.symlink(shutil.which("false"), os.path.join(fake, "chmod"))
+        yield f"{name}: chmod fails", hit(recipes[name], {file: given[file]}, wanted, path=fake + os.pathsep + PATH), None
+
+
 # On a host: the nearest sshd above is killed, so that the host seems to go away.
-GOES = """process=$PPID; while [ $process -gt 1 ]; do if [ "$(ps -o comm= -p $process)" = sshd ]; then kill -s KILL $process; break; fi
-process=$(($(ps -o ppid= -p $process))); done; sleep 1; exit 0"""
+GOES = """process=$$; while look $process && [ "$comm" != sshd ] && [ $process -gt 1 ]; do process=$parent; done
+[ "$comm" != sshd ] || kill -s KILL $process; sleep 1; exit 0"""
 
 
 def of_hosts(recipes):

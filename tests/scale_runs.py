@@ -15,6 +15,9 @@ PAGE = os.path.join(TOP, "docs", "SCALE.md")
 PATH = os.pathsep.join([os.path.dirname(PROGRAM), os.path.dirname(PARTS), os.environ["PATH"]])
 SSHD = shutil.which("sshd", path=os.environ["PATH"] + os.pathsep + "/usr/sbin")
 
+# What GNU parallel measures of the machine, for all runs but those that look at how it does so, or at what it leaves.
+MEASURED = tempfile.TemporaryDirectory(prefix="parallel-")
+
 STANDARD_INPUT = "# grids on standard input\ndm_parts read < grids.txt > answers.txt\n"
 MESSAGES = b"123456\nA\n\n\\q\n\\F01\nab\\x4\n" + b"7" * 100 + b"\n\\xff\\xFE\nA B,C\n" + b"7" * 1633 + b"\n,\n\n\n"
 
@@ -49,11 +52,13 @@ def blocks():
     return {block.split("\n", 1)[0].removeprefix("# "): block for block in [*found, STANDARD_INPUT]}
 
 
-def environment(folder, path=PATH, ssh=None):
-    """HOME is an empty folder, so that GNU parallel finds no profile; SHELL is empty, as it may be in an automatic job."""
+def environment(folder, path=PATH, ssh=None, is_first=False):
+    """HOME is an empty folder, so that GNU parallel finds no profile; SHELL is empty, as it may be in an automatic job. A first run finds nothing
+    measured."""
     scratch = os.path.join(folder, "scratch")
     os.makedirs(scratch, exist_ok=True)
-    return {**os.environ, "PATH": path, "HOME": scratch, "TMPDIR": scratch, "SHELL": "", **({"PARALLEL_SSH": ssh} if ssh else {})}
+    home = {"PARALLEL_HOME": "" if is_first else MEASURED.name}
+    return {**os.environ, "PATH": path, "HOME": scratch, "TMPDIR": scratch, "SHELL": "", **home, **({"PARALLEL_SSH": ssh} if ssh else {})}
 
 
 def put(folder, texts):
@@ -67,10 +72,10 @@ def left_in(folder):
     return sorted(os.listdir(os.path.join(folder, "scratch")))
 
 
-def recipe(block, folder, texts, ssh=None):
+def recipe(block, folder, texts, ssh=None, is_first=False):
     """The status of a recipe, and the answers that it leaves."""
     put(folder, texts)
-    env = environment(folder, ssh=ssh)
+    env = environment(folder, ssh=ssh, is_first=is_first)
     done = subprocess.run(["bash", "-c", block], cwd=folder, env=env, stdin=subprocess.DEVNULL, stderr=subprocess.PIPE, timeout=300)
     answers = os.path.join(folder, "answers.txt")
     with open(answers, "rb") as file:
@@ -84,16 +89,18 @@ def free_port():
 
 
 def hosts_of(folder, port, path):
-    """The settings of the hosts: a file for sshd, with the program on its path, and one for ssh. Nothing answers for `nowhere`."""
+    """The settings of the hosts: a file for sshd, with the program on its path, and one for ssh. Nothing answers for `nowhere`. The usual exchange of
+    keys takes ten times the processor time of this one, and a shell of level 1 that sshd starts would read what the user's own shells begin with."""
     for key in ("host", "login"):
         subprocess.run(["ssh-keygen", "-q", "-t", "ed25519", "-N", "", "-f", os.path.join(folder, key)], check=True)
     server, client = os.path.join(folder, "sshd_config"), os.path.join(folder, "ssh_config")
     with open(server, "w") as file:
         file.write(f"ListenAddress 127.0.0.1:{port}\nHostKey {folder}/host\nAuthorizedKeysFile {folder}/login.pub\nStrictModes no\n"
-                   f"PidFile none\nPasswordAuthentication no\nMaxStartups 100\nSetEnv PATH={path}\n")
+                   f"PidFile none\nPasswordAuthentication no\nMaxStartups 100\nSetEnv PATH={path} SHLVL=1\n")
     with open(client, "w") as file:
         file.write(f"Host nowhere\nPort {free_port()}\nHost one two\nPort {port}\nHost *\nHostName 127.0.0.1\nIdentityFile {folder}/login\n"
-                   f"IdentitiesOnly yes\nBatchMode yes\nStrictHostKeyChecking no\nUserKnownHostsFile {folder}/known\nLogLevel ERROR\n")
+                   f"IdentitiesOnly yes\nBatchMode yes\nStrictHostKeyChecking no\nUserKnownHostsFile {folder}/known\nLogLevel ERROR\n"
+                   f"KexAlgorithms curve25519-sha256\n")
     return server, client
 
 

@@ -6,13 +6,18 @@ codewords, says. The lists of codewords are laid in symbols with check codewords
 import ctypes
 import os
 import random
+import tomllib
 
 import model
 
 HERE = os.path.dirname(os.path.abspath(__file__))
 LIBRARY = os.path.join(os.path.dirname(os.path.dirname(HERE)), "library", "out", "libecc200.so")
 EXTENTS = {"usual": 0, "wide": 1}
-ANY_LIMIT, MOST_ITEMS, MOST_MODULES, MOST_CODEWORDS, MOST_BLOCKS, SIZE_COUNT, BIT = 65535, 1639, 104 * 104, 1152, 6, 21, 1
+ANY_LIMIT, BIT = 65535, 1
+with open(os.path.join(os.path.dirname(os.path.dirname(HERE)), "library", "interface.toml"), "rb") as interface:
+    NUMBERS = tomllib.load(interface)["constants"]
+MOST_ITEMS, MOST_MODULES, MOST_CODEWORDS, MOST_BLOCKS, SIZE_COUNT = (
+    NUMBERS[name]["value"] for name in ("MOST_ITEMS", "MOST_MODULES", "MOST_CODEWORDS", "MOST_BLOCKS", "SIZE_COUNT"))
 u8, u16 = ctypes.c_uint8, ctypes.c_uint16
 
 

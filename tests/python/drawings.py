@@ -1,9 +1,10 @@
 """Pictures: what is drawn is read again by others and by the sampler; symbols in arrays."""
+import importlib.util
 import io
 import os
 import zlib
 
-from common import SAMPLER, has, holds, left_out, raises, run, same, wanted_module
+from common import SAMPLER, TOP, has, holds, left_out, raises, run, same, wanted_module
 
 import ecc200
 from ecc200 import drawing, pictures
@@ -127,6 +128,38 @@ def sampled():
                                    zip(corners, [(32, 32), (160, 32), (160, 160), (32, 160)])), str(corners))
     yield same("nothing in a picture", pictures.find(pillow.Image.new("L", (200, 200), 255), milliseconds=50), [])
     yield raises("an array of floats", TypeError, "rows of bytes", lambda: pictures.find(array.astype(float)))
+    symbol = ecc200.encode(b"A" * 9, quiet=4)
+    yield same("a symbol, an array by its interface alone", [reading.data for reading in ecc200.decode(Magnified(symbol, 5), most=1)], [b"A" * 9])
+    yield from by_one_file(pillow.Image, numpy, array)
+
+
+class Magnified:
+    """A symbol's picture with several pixels for each module, an array by its interface alone."""
+
+    def __init__(self, symbol, times):
+        array = symbol.__array_interface__
+        side, data = array["shape"][0], array["data"]
+        rows = [bytes(shade for shade in data[at:at + side] for _ in range(times)) * times for at in range(0, side * side, side)]
+        self.__array_interface__ = {**array, "shape": (side * times, side * times), "data": b"".join(rows)}
+
+
+def by_one_file(image, numpy, array):
+    """The file ecc200.py by itself finds what the package finds; `array` is a picture of a symbol."""
+    spec = importlib.util.spec_from_file_location("one_file", os.path.join(TOP, "library", "ecc200.py"))
+    one = importlib.util.module_from_spec(spec)
+    spec.loader.exec_module(one)
+    yield holds("the sampler by the file alone", one.has_sampler())
+    rows, colours = ecc200.write(b"Mitsubadoor"), numpy.stack([array] * 3, axis=2)
+    for name, given, is_inverted in [("upright", array, False), ("inverted", 255 - array, True), ("colours", colours, False),
+                                     ("turned colours", numpy.rot90(colours), False), ("transparent", numpy.insert(colours, 3, 255, axis=2), False),
+                                     ("Pillow's", image.fromarray(array), False), ("a buffer", memoryview(array), False),
+                                     ("a buffer of colours", memoryview(colours), False)]:
+        got = [(symbol.answer.data, symbol.rows, symbol.inverted) for symbol in one.find(given, most=1)]
+        yield same(f"found by the file alone, {name}", got, [(b"Mitsubadoor", rows, is_inverted)])
+    for name, given in [("an array", array), ("Pillow's", image.fromarray(array)), ("rows", rows)]:
+        yield same(f"decoded by the file alone, {name}", [reading.data for reading in one.decode(given, most=1)], [b"Mitsubadoor"])
+    for name, given in [("shorts", array.astype(numpy.uint16)), ("floats", colours.astype(numpy.float32)), ("a line", array[0])]:
+        yield raises(f"no picture for the file alone, {name}", TypeError, "rows of bytes", lambda given=given: one.find(given))
 
 
 def tests(folder):

@@ -97,7 +97,7 @@ def strange_grids():
                        ("a short text", ["1" * 10] * 9), ("an oblong view", memoryview(bytes(200)).cast("B", (10, 20)))]:
         yield same(name, code(grid), (shape, 0))
     yield same("a side that no size has", code(bytes(121)), (side, 11))
-    yield same("a side too large for the library", code([bytes(70_000)] * 70_000)[0],
+    yield same("a side too large for the library", code([bytes(65_536)] * 65_536)[0],
                side) if os.sysconf("SC_PHYS_PAGES") > 1 << 22 else same("", 0, 0)
     yield raises("other characters", ValueError, "'10x0'", lambda: ecc200.read(["10x0"] * 4))
     yield raises("no grid", TypeError, "", lambda: ecc200.read(7))

@@ -117,7 +117,8 @@ def in_words():
         ("a ragged grid", "10\n1\n", ["from 1 to 2 characters"]),
         ("no square", "10\n10\n10\n", ["isn't square"]), ("no side", "1" * 11 + "\n" + ("1" * 11 + "\n") * 10,
                                                           ["no symbol has the side 11", "10, 12, 14"]),
-        ("a large side", ("1" * 132 + "\n") * 132, ["120, 132 and 144"]), ("a wrong border", text([bytes(10)] * 10), ["27 of the 36", "--border 27"]),
+        ("a large side", ("1" * 132 + "\n") * 132, [f"and {ecc200.sizes()[-1].side}; the standard's larger sides, up to 144"]),
+        ("a wrong border", text([bytes(10)] * 10), ["27 of the 36", "--border 27"]),
         ("damage", text(hurt(5)), ["block 1 of its 1", "2 wrong codewords", "scan it again"]),
     ]:
         yield says(name, ecc("read", given=given), 1, "", ["symbol 1: ", *parts])
@@ -127,7 +128,7 @@ def in_words():
     for code in (7, 9, 10, 11, 12, 13):
         yield holds(f"code {code} in words",
                     "codeword 4: a codeword that no encoder writes" in advice.in_words(ecc200.Refused(code, 0, 4), [bytes(10)] * 10))
-    yield says("too long", ecc("write", "7" * 1633), 1, "", ["longer than any symbol"])
+    yield says("too long", ecc("write", "7" * (2 * ecc200.sizes()[-1].data_codewords + 1)), 1, "", ["longer than any symbol"])
     yield says("damage within the limit", ecc("read", given=text(hurt(2))), output="123456\n")
     yield says("--border", ecc("read", "--border", "9", given=text([*ecc200.write(b"123456")[:-1], bytes(10)])), 1, "", ["10 of the 36"])
     yield says("--border is enough", ecc("read", "--border", "10", given=text([*ecc200.write(b"123456")[:-1], bytes(10)])), output="123456\n")
