@@ -10,8 +10,8 @@
 #include <string.h>
 #include <time.h>
 
-/* The most lines that are timed. */
-enum { MOST = 100000 };
+/* The most lines that are timed, and the most bytes of a line. */
+enum { MOST = 100000, MOST_BYTES = 2046 };
 
 /* Encodes one line, and prints its grid to `grids` unless that is NULL. Ends the program if the encoder refuses. */
 typedef void writer(char *line, int length, FILE *grids);
@@ -29,20 +29,26 @@ static void refused(const char *why)
     exit(1);
 }
 
-/* The lines of a file, up to MOST. */
+/* The lines of a file. Ends the program if there are more than MOST, or one has more than MOST_BYTES. */
 static struct lines lines_of(const char *path)
 {
     struct lines lines = { calloc(MOST, sizeof(char *)), calloc(MOST, sizeof(int)), 0 };
     FILE *file = fopen(path, "r");
-    char text[2048];
+    char text[MOST_BYTES + 2];
     if (!file || !lines.line || !lines.length)
         refused(path);
-    while (lines.count < MOST && fgets(text, sizeof text, file)) {
+    while (fgets(text, sizeof text, file)) {
         int length = (int)strcspn(text, "\n");
+        if (length > MOST_BYTES || lines.count == MOST)
+            refused("too many lines, or too long a line");
         text[length] = 0;
         lines.line[lines.count] = strdup(text);
+        if (!lines.line[lines.count])
+            refused(path);
         lines.length[lines.count++] = length;
     }
+    if (ferror(file))
+        refused(path);
     fclose(file);
     return lines;
 }
