@@ -13,6 +13,9 @@ message_to_as-requires c =
     let v = c.correct_blocks.new.words in
     omega (arith, ap length c.data_part.ensures.value, length-take v.size.data_count v.list, (size_facts v.size c.data_part.ensures.words.row).few_data)
 
+pub returns-then-border_faults-border_limit-clause-same : goal.returns-then-border_faults-border_limit-clause-same
+returns-then-border_faults-border_limit-clause-same c = λ _ _. refl
+
 pub returns-in-Err-clause-read : goal.returns-in-Err-clause-read
 returns-in-Err-clause-read c =
     let few : border_fault_count c.args.grid.now ≤ c.args.border_limit = omega (arith, c.if-border_faults-border_limit.false, c.border_faults-border_faults.ensures) in

@@ -10,6 +10,9 @@ pub returns-in-Err-clause-written : goal.returns-in-Err-clause-written
 returns-in-Err-clause-written c = none_is_written c.args.profile c.args.message.now _ refl
     (too_long_fits_none c.args.profile c.args.message.now ((c.in-Err.ensures.form.too_long).0 refl))
 
+pub returns-in-Err-clause-same : goal.returns-in-Err-clause-same
+returns-in-Err-clause-same c = refl
+
 pub returns-clause-written : goal.returns-clause-written
 returns-clause-written c =
     let p = c.args.profile in
