@@ -262,10 +262,7 @@ static WRITES: [(u32, usize, bool, &[AskedWrite]); 4] = [
 fn write_or_flush(sink: &mut ToWrite<Device<'_>>, bytes: Option<&[u8]>) -> Result<usize, Failed> {
     match bytes {
         Some(bytes) => sink.write(bytes),
-        None => match sink.flush() {
-            Ok(()) => Ok(0),
-            Err(failed) => Err(failed),
-        },
+        None => sink.flush().and(Ok(0)),
     }
 }
 

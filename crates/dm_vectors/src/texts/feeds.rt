@@ -1,8 +1,9 @@
 //! Texts of messages, and lines and records in pieces.
 
+use crate::calls::write;
 use crate::claims::holds;
 use arrayvec::ArrayVec;
-use dm_symbol::{Grid, Item, LARGEST_SIDE, MOST_ITEMS, Message, write};
+use dm_symbol::{Grid, Item, LARGEST_SIDE, MOST_ITEMS, Message};
 use dm_text::{
     Fed, GridFeed, LineFault, LineFed, LineFeed, RecordFault, message_from, message_text,
 };
@@ -12,10 +13,15 @@ fn has_text(message: &Message, text: &[u8]) -> bool {
     message_text(message).as_slice() == text
 }
 
+/// The message has these items.
+fn has_items(message: &Message, items: &[Item]) -> bool {
+    message.items() == items
+}
+
 /// The line spells a message of these items, which has this text.
 fn spells(line: &[u8], items: &[Item], text: &[u8]) -> bool {
     match message_from(line) {
-        Ok(message) => message.items() == items && has_text(&message, text),
+        Ok(message) => has_items(&message, items) && has_text(&message, text),
         Err(_) => false,
     }
 }
@@ -39,12 +45,9 @@ fn messages_are_read_from_lines(rt: HostRuntime) {
     holds(&rt, has_text(&Message::new(), b""));
 }
 
-/// The line has this fault.
-fn has_fault(line: &[u8], fault: LineFault) -> bool {
-    match message_from(line) {
-        Ok(_) => false,
-        Err(found) => found == fault,
-    }
+/// The line has this fault, or none.
+fn has_fault(line: &[u8], fault: Option<LineFault>) -> bool {
+    message_from(line).err() == fault
 }
 
 /// Lines, and the columns of their faults.
@@ -60,11 +63,11 @@ static BAD_ESCAPES: [(&[u8], u64); 6] = [
 #[test]
 fn line_faults_have_their_columns(rt: HostRuntime) {
     for (line, column) in &BAD_ESCAPES {
-        holds(&rt, has_fault(line, LineFault::BadEscape(*column)));
+        holds(&rt, has_fault(line, Some(LineFault::BadEscape(*column))));
     }
     let digits = [b'7'; MOST_ITEMS + 1];
-    holds(&rt, has_fault(&digits, LineFault::TooLong));
-    holds(&rt, message_from(&digits[..MOST_ITEMS]).is_ok());
+    holds(&rt, has_fault(&digits, Some(LineFault::TooLong)));
+    holds(&rt, has_fault(&digits[..MOST_ITEMS], None));
 }
 
 /// What a line came to: its fault, if it has one, and how many items it has.
@@ -94,25 +97,27 @@ fn feed_lines(feed: &mut LineFeed, piece: &[u8], lines: &mut ArrayVec<Came, 8>) 
 /// The end of the text closes a line of this message, and nothing more.
 fn ends_in_line(feed: &mut LineFeed, items: &[Item]) -> bool {
     let is_good = match feed.finish() {
-        Some(Ok(message)) => message.items() == items,
+        Some(Ok(message)) => has_items(&message, items),
         _ => false,
     };
     is_good && feed.finish().is_none()
+}
+
+/// Whether these pieces of a text close a line with a bad escape and an empty line, and leave `A`.
+fn lines_are_fed(before: &[u8], after: &[u8]) -> bool {
+    let mut feed = LineFeed::new();
+    let mut lines = ArrayVec::new();
+    feed_lines(&mut feed, before, &mut lines);
+    feed_lines(&mut feed, after, &mut lines);
+    lines.as_slice() == [(Some(LineFault::BadEscape(1)), 0), (None, 0)].as_slice()
+        && ends_in_line(&mut feed, &[Item::Byte(65)])
 }
 
 #[test]
 fn lines_come_in_pieces(rt: HostRuntime) {
     let text = b"\\q\n\nA";
     for cut in 0..=text.len() {
-        let mut feed = LineFeed::new();
-        let mut lines = ArrayVec::new();
-        feed_lines(&mut feed, &text[..cut], &mut lines);
-        feed_lines(&mut feed, &text[cut..], &mut lines);
-        holds(
-            &rt,
-            lines.as_slice() == [(Some(LineFault::BadEscape(1)), 0), (None, 0)].as_slice(),
-        );
-        holds(&rt, ends_in_line(&mut feed, &[Item::Byte(65)]));
+        holds(&rt, lines_are_fed(&text[..cut], &text[cut..]));
     }
 }
 
@@ -241,23 +246,22 @@ fn ends_refused(text: &[u8], fault: RecordFault) -> bool {
     stays_open(&mut feed, text) && is_refused(feed.finish(), fault)
 }
 
+/// Records that no empty line ends, and their faults.
+static NO_RECORDS: [(&[u8], RecordFault); 4] = [
+    (b"10x\n", RecordFault::Character),
+    (b"10\n1\n", RecordFault::NotSquare),
+    (b"1010\n0101\n1010\n0101\n", RecordFault::NoSuchSize(4)),
+    (b"10\n1", RecordFault::NotSquare),
+];
+
 #[test]
 fn records_are_refused(rt: HostRuntime) {
-    let zeros = [b'0'; LARGEST_SIDE + 1];
-    let table = [
-        (b"10x\n".as_slice(), RecordFault::Character),
-        (zeros.as_slice(), RecordFault::Large),
-        (&zeros[..53], RecordFault::NotSquare),
-        (b"10\n1\n".as_slice(), RecordFault::NotSquare),
-        (
-            b"1010\n0101\n1010\n0101\n".as_slice(),
-            RecordFault::NoSuchSize(4),
-        ),
-        (b"10\n1".as_slice(), RecordFault::NotSquare),
-    ];
-    for (text, fault) in table {
-        holds(&rt, ends_refused(text, fault));
+    for (text, fault) in &NO_RECORDS {
+        holds(&rt, ends_refused(text, *fault));
     }
+    let zeros = [b'0'; LARGEST_SIDE + 1];
+    holds(&rt, ends_refused(&zeros, RecordFault::Large));
+    holds(&rt, ends_refused(&zeros[..53], RecordFault::NotSquare));
 }
 
 #[test]

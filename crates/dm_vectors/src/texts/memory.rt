@@ -23,9 +23,9 @@ fn failure(failures: &mut u64) -> Failed
 #[derive(Drop)]
 pub(super) struct TextSource<'a> {
     rest: &'a [u8],
-    /// The most bytes of the next read.
+    /// The most bytes of the next read. Where it is 0, one may come.
     piece: usize,
-    /// The most bytes of each read after it.
+    /// The same for each read after it.
     later: usize,
     good_reads: usize,
     reads: usize,
@@ -39,22 +39,16 @@ pub(super) struct TextSource<'a> {
 impl<'a> TextSource<'a> {
     /// Gives all that it is asked for, and doesn't fail.
     pub(super) fn new(text: &'a [u8]) -> Self {
-        TextSource::failing(text, usize::MAX, usize::MAX)
+        TextSource::failing(text, usize::MAX, usize::MAX, usize::MAX)
     }
 
-    /// Gives at most `first` bytes of the text at the first read, but at least 1, and then all that it is asked for.
-    pub(super) fn cut(text: &'a [u8], first: usize) -> Self {
-        let mut source = TextSource::new(text);
-        source.piece = first.max(1);
-        source
-    }
-
-    /// Gives at most `piece` bytes of the text a read, but at least 1. The reads after the first `good_reads` fail.
-    pub(super) fn failing(text: &'a [u8], piece: usize, good_reads: usize) -> Self {
+    /// Gives at most `piece` bytes of the text at the first read, and at most `later` bytes at each later one, but at least 1. The
+    /// reads after the first `good_reads` fail.
+    pub(super) fn failing(text: &'a [u8], piece: usize, later: usize, good_reads: usize) -> Self {
         TextSource {
             rest: text,
-            piece: piece.max(1),
-            later: piece.max(1),
+            piece,
+            later,
             good_reads,
             reads: 0,
             given: 0,
@@ -98,10 +92,9 @@ impl<'a> Source for TextSource<'a> {
     fn read(&mut self, into: &mut [u8]) -> Result<usize, Failed> {
         self.reads = self.reads.saturating_add(1);
         self.reach = self.reach.max(self.given.saturating_add(into.len()));
-        if self.good_reads == 0 {
+        if self.reads > self.good_reads {
             return Err(failure(&mut self.failures));
         }
-        self.good_reads -= 1;
         let count = self.piece.max(1).min(into.len()).min(self.rest.len());
         into[..count].copy_from_slice(&self.rest[..count]);
         self.rest = &self.rest[count..];
@@ -130,27 +123,20 @@ pub(super) struct MemorySink {
 impl MemorySink {
     /// Takes all that it is given, and doesn't fail.
     pub(super) fn new() -> Self {
-        MemorySink::failing(usize::MAX, usize::MAX)
+        MemorySink::failing(usize::MAX, usize::MAX, false)
     }
 
-    /// Takes at most `piece` bytes a write, and fails where it has taken `room`.
-    pub(super) fn failing(piece: usize, room: usize) -> Self {
+    /// Takes at most `piece` bytes a write, fails where it has taken `room`, and at each flush if `flush_fails`.
+    pub(super) fn failing(piece: usize, room: usize, flush_fails: bool) -> Self {
         MemorySink {
             taken: Taken::new(),
             piece,
             room,
-            flush_fails: false,
+            flush_fails,
             flushes: ArrayVec::new(),
             failures: 0,
             pending: false,
         }
-    }
-
-    /// Takes at most `piece` bytes a write, and fails at each flush.
-    pub(super) fn failing_flush(piece: usize) -> Self {
-        let mut sink = MemorySink::failing(piece, usize::MAX);
-        sink.flush_fails = true;
-        sink
     }
 
     /// What it has taken.

@@ -1,8 +1,20 @@
 //! Worked grids and lines, with what is written for them.
 
-/// Rows of modules of side 10, what is written where the grid is read, and where it is checked. But for the first four, all
-/// codewords are right. The modules come from another program.
-pub(super) static GRIDS: [(&[u128], &[u8], &[u8]); 17] = [
+/// Rows of modules of side 10, what is written where the grid is read, and where it is checked.
+pub(super) type Worked = (&'static [u128], &'static [u8], &'static [u8]);
+
+/// The worked grids. Each function that names the table itself takes the prover longer than one that calls this.
+pub(super) fn grids() -> &'static [Worked] {
+    &GRIDS
+}
+
+/// The lines, and what is written for them.
+pub(super) fn lines() -> &'static [(&'static [u8], &'static [u8])] {
+    &LINES
+}
+
+/// The worked grids. But for the first four, all codewords are right. The modules come from another program.
+static GRIDS: [Worked; 17] = [
     // Two of the codewords of `123456` are 0.
     (
         &[
@@ -218,7 +230,7 @@ pub(super) const RAISED: &[u8] =
     b"1010101010\n1000011101\n1000100000\n1001101111\n1110110100\n1101101011\n1100110000\n1111011011\n1100000000\n1111111111\n\n";
 
 /// Lines, and what is written for them.
-pub(super) static LINES: [(&[u8], &[u8]); 10] = [
+static LINES: [(&[u8], &[u8]); 10] = [
     (b"123456", DIGITS),
     (b"A", LETTER),
     (b"", EMPTY),

@@ -17,6 +17,42 @@ static OUT: &[u8] = b"123456\nA\n";
 /// How many bytes a device moves in a call at the most.
 static PIECES: [usize; 3] = [1, 7, 4096];
 
+/// What the devices of a run do.
+#[derive(Clone, Copy)]
+struct Devices {
+    /// The most bytes of the first read.
+    first: usize,
+    /// The most bytes of each later one.
+    later: usize,
+    /// How many reads are good. Each one after them fails.
+    good_reads: usize,
+    /// The most bytes of a write.
+    most: usize,
+    /// How much the sink takes before its writes fail.
+    room: usize,
+    flush_fails: bool,
+}
+
+/// Devices that move all at once, and don't fail.
+static GOOD: Devices = Devices {
+    first: usize::MAX,
+    later: usize::MAX,
+    good_reads: usize::MAX,
+    most: usize::MAX,
+    room: usize::MAX,
+    flush_fails: false,
+};
+
+/// Devices that move at most so many bytes in a call, and don't fail.
+fn moving(piece: usize) -> Devices {
+    Devices {
+        first: piece,
+        later: piece,
+        most: piece,
+        ..GOOD
+    }
+}
+
 /// How a run ends.
 #[derive(Clone, Copy)]
 struct End<'a> {
@@ -29,20 +65,10 @@ struct End<'a> {
     flushes: &'a [usize],
 }
 
-/// How a run ends whose source fails at this read.
-fn read_failed(reads: usize, written: &[u8]) -> End<'_> {
+/// How a run ends that has this fault after so many reads.
+fn failed(fault: RunFault, reads: usize, written: &[u8]) -> End<'_> {
     End {
-        outcome: Err(RunFault::Read),
-        reads,
-        written,
-        flushes: &[],
-    }
-}
-
-/// How a run ends whose sink fails at a write after so many reads.
-fn write_failed(reads: usize, written: &[u8]) -> End<'_> {
-    End {
-        outcome: Err(RunFault::Write),
+        outcome: Err(fault),
         reads,
         written,
         flushes: &[],
@@ -54,63 +80,59 @@ impl<'a> End<'a> {
     fn leaves_source(&self, source: &TextSource<'_>, most: u32) -> bool {
         source.reads() == self.reads
             && source.reach() as u64 <= u64::from(most).saturating_add(1)
-            && source.failures() == u64::from(self.outcome == Err(RunFault::Read))
+            && source.failures() == u64::from(matches!(self.outcome, Err(RunFault::Read)))
     }
 
     /// The sink is so after the run. It wasn't called again after it failed.
     fn leaves_sink(&self, sink: &MemorySink) -> bool {
         sink.taken() == self.written
             && sink.flushes() == self.flushes
-            && sink.failures() == u64::from(self.outcome == Err(RunFault::Write))
+            && sink.failures() == u64::from(matches!(self.outcome, Err(RunFault::Write)))
     }
 }
 
-/// Whether the run of the task over these devices ends so.
-fn run_ends(
-    task: Task,
-    mut source: TextSource<'_>,
-    mut sink: MemorySink,
-    most: u32,
-    end: &End<'_>,
-) -> bool {
+/// Whether the run of the task over this text, of which at most so many bytes may come, ends so.
+fn run_ends(task: Task, text: &[u8], devices: &Devices, most: u32, end: &End<'_>) -> bool {
+    let mut source = TextSource::failing(text, devices.first, devices.later, devices.good_reads);
+    let mut sink = MemorySink::failing(devices.most, devices.room, devices.flush_fails);
     let outcome = ran(task, &mut source, &mut sink, most);
     outcome == end.outcome && end.leaves_source(&source, most) && end.leaves_sink(&sink)
 }
 
 /// Whether a run that reads the two grids ends so.
-fn grids_end(source: TextSource<'_>, sink: MemorySink, end: &End<'_>) -> bool {
-    run_ends(Task::Read(None), source, sink, 1000, end)
+fn grids_end(devices: &Devices, end: &End<'_>) -> bool {
+    run_ends(Task::Read(None), TWO_GRIDS, devices, 1000, end)
 }
 
-/// Whether a run that writes grids of lines ends so.
-fn lines_end(source: TextSource<'_>, sink: MemorySink, most: u32, end: &End<'_>) -> bool {
-    run_ends(Task::Write(Profile::Ascii), source, sink, most, end)
+/// Whether a run that writes grids of the two lines, of which at most so many bytes may come, ends so.
+fn lines_end(devices: &Devices, most: u32, end: &End<'_>) -> bool {
+    run_ends(Task::Write(Profile::Ascii), TWO_LINES, devices, most, end)
 }
 
-/// Whether a run that writes the table ends so, without a read.
-fn table_ends(sink: MemorySink, end: &End<'_>) -> bool {
-    run_ends(
-        Task::Table,
-        TextSource::failing(TWO_GRIDS, 1, 0),
-        sink,
-        0,
-        end,
-    )
+/// Whether a run that writes the table ends so. Its source fails at the first read.
+fn table_ends(devices: Devices, end: &End<'_>) -> bool {
+    let devices = Devices {
+        good_reads: 0,
+        ..devices
+    };
+    run_ends(Task::Table, TWO_GRIDS, &devices, 0, end)
 }
 
 #[test]
 fn a_read_fails(rt: HostRuntime) {
     for piece in PIECES {
-        for good in 0..=TWO_GRIDS.len().div_ceil(piece) {
+        for good in 0..reads_of(TWO_GRIDS, piece, usize::MAX) {
             let written = if good.saturating_mul(piece) < 111 {
                 b"".as_slice()
             } else {
                 b"123456\n"
             };
-            let source = TextSource::failing(TWO_GRIDS, piece, good);
-            let sink = MemorySink::failing(piece, usize::MAX);
-            let end = read_failed(good.saturating_add(1), written);
-            holds(&rt, grids_end(source, sink, &end));
+            let devices = Devices {
+                good_reads: good,
+                ..moving(piece)
+            };
+            let end = failed(RunFault::Read, good.saturating_add(1), written);
+            holds(&rt, grids_end(&devices, &end));
         }
     }
 }
@@ -133,10 +155,12 @@ fn a_write_fails(rt: HostRuntime) {
             } else {
                 reads_of(TWO_GRIDS, piece, usize::MAX)
             };
-            let source = TextSource::failing(TWO_GRIDS, piece, usize::MAX);
-            let sink = MemorySink::failing(piece, room);
-            let end = write_failed(reads, &OUT[..room]);
-            holds(&rt, grids_end(source, sink, &end));
+            let devices = Devices {
+                room,
+                ..moving(piece)
+            };
+            let end = failed(RunFault::Write, reads, &OUT[..room]);
+            holds(&rt, grids_end(&devices, &end));
         }
     }
 }
@@ -144,13 +168,15 @@ fn a_write_fails(rt: HostRuntime) {
 #[test]
 fn the_flush_fails(rt: HostRuntime) {
     for piece in PIECES {
-        let source = TextSource::failing(TWO_GRIDS, piece, usize::MAX);
-        let mut end = write_failed(reads_of(TWO_GRIDS, piece, usize::MAX), OUT);
-        end.flushes = &[9];
-        holds(
-            &rt,
-            grids_end(source, MemorySink::failing_flush(piece), &end),
-        );
+        let devices = Devices {
+            flush_fails: true,
+            ..moving(piece)
+        };
+        let end = End {
+            flushes: &[9],
+            ..failed(RunFault::Write, reads_of(TWO_GRIDS, piece, usize::MAX), OUT)
+        };
+        holds(&rt, grids_end(&devices, &end));
     }
 }
 
@@ -167,28 +193,13 @@ fn all_answered<'a>(answered: u64, written: &'a [u8], flushes: &'a [usize]) -> E
     }
 }
 
-/// How a run ends whose input is too long, without a read.
-fn too_much(written: &[u8]) -> End<'_> {
-    End {
-        outcome: Err(RunFault::TooMuchInput),
-        reads: 0,
-        written,
-        flushes: &[],
-    }
-}
-
-/// Whether a run that reads grids from this text, of which so many bytes may come, ends so, for each size of pieces.
-fn is_limited(text: &[u8], most: u32, end: &End<'_>) -> bool {
-    for piece in PIECES {
-        let source = TextSource::failing(text, piece, usize::MAX);
-        let sink = MemorySink::failing(piece, usize::MAX);
-        let mut end = *end;
-        end.reads = reads_of(text, piece, most as usize);
-        if !run_ends(Task::Read(None), source, sink, most, &end) {
-            return false;
-        }
-    }
-    true
+/// Whether a run that reads grids from this text in such pieces, of which so many bytes may come, ends so.
+fn is_limited(text: &[u8], piece: usize, most: u32, end: &End<'_>) -> bool {
+    let end = End {
+        reads: reads_of(text, piece, most as usize),
+        ..*end
+    };
+    run_ends(Task::Read(None), text, &moving(piece), most, &end)
 }
 
 #[test]
@@ -196,14 +207,24 @@ fn input_is_limited(rt: HostRuntime) {
     let table = [
         (TWO_GRIDS, 223, all_answered(2, OUT, &[9])),
         (TWO_GRIDS, 222, all_answered(2, OUT, &[9])),
-        (TWO_GRIDS, 221, too_much(b"123456\n")),
-        (TWO_GRIDS, 111, too_much(b"123456\n")),
-        (TWO_GRIDS, 110, too_much(b"")),
-        (TWO_GRIDS, 0, too_much(b"")),
+        (
+            TWO_GRIDS,
+            221,
+            failed(RunFault::TooMuchInput, 0, b"123456\n"),
+        ),
+        (
+            TWO_GRIDS,
+            111,
+            failed(RunFault::TooMuchInput, 0, b"123456\n"),
+        ),
+        (TWO_GRIDS, 110, failed(RunFault::TooMuchInput, 0, b"")),
+        (TWO_GRIDS, 0, failed(RunFault::TooMuchInput, 0, b"")),
         (b"".as_slice(), 0, all_answered(0, b"", &[0])),
     ];
-    for (text, most, end) in &table {
-        holds(&rt, is_limited(text, *most, end));
+    for piece in PIECES {
+        for (text, most, end) in &table {
+            holds(&rt, is_limited(text, piece, *most, end));
+        }
     }
 }
 
@@ -214,16 +235,10 @@ static TWO_LINES: &[u8] = b"A\nAIM";
 fn pieces_change_nothing(rt: HostRuntime) {
     let mut end = all_answered(2, OUT, &[9]);
     end.reads = 2;
-    holds(
-        &rt,
-        grids_end(TextSource::new(TWO_GRIDS), MemorySink::new(), &end),
-    );
+    holds(&rt, grids_end(&GOOD, &end));
     end.reads = 3;
     for first in 1..TWO_GRIDS.len() {
-        holds(
-            &rt,
-            grids_end(TextSource::cut(TWO_GRIDS, first), MemorySink::new(), &end),
-        );
+        holds(&rt, grids_end(&Devices { first, ..GOOD }, &end));
     }
 }
 
@@ -231,9 +246,14 @@ fn pieces_change_nothing(rt: HostRuntime) {
 fn a_read_fails_between_lines(rt: HostRuntime) {
     for good in 0..=TWO_LINES.len() {
         let written = if good < 2 { b"".as_slice() } else { LETTER };
-        let source = TextSource::failing(TWO_LINES, 1, good);
-        let end = read_failed(good.saturating_add(1), written);
-        holds(&rt, lines_end(source, MemorySink::new(), 1000, &end));
+        let devices = Devices {
+            first: 1,
+            later: 1,
+            good_reads: good,
+            ..GOOD
+        };
+        let end = failed(RunFault::Read, good.saturating_add(1), written);
+        holds(&rt, lines_end(&devices, 1000, &end));
     }
 }
 
@@ -242,21 +262,24 @@ fn a_write_fails_within_a_grid(rt: HostRuntime) {
     let written = joined(&[LETTER, AIM]);
     for room in 0..written.len() {
         let reads = if room < 111 { 1 } else { 2 };
-        let end = write_failed(reads, &written.as_slice()[..room]);
-        let sink = MemorySink::failing(7, room);
-        holds(&rt, lines_end(TextSource::new(TWO_LINES), sink, 1000, &end));
+        let end = failed(RunFault::Write, reads, &written.as_slice()[..room]);
+        let devices = Devices {
+            most: 7,
+            room,
+            ..GOOD
+        };
+        holds(&rt, lines_end(&devices, 1000, &end));
     }
 }
 
+/// How many bytes of the two lines may come, and what is then written.
+static LIMITS: [(u32, &[u8]); 3] = [(4, LETTER), (2, LETTER), (1, b"")];
+
 #[test]
 fn lines_are_limited(rt: HostRuntime) {
-    for (most, written) in [(4, LETTER), (2, LETTER), (1, b"")] {
-        let mut end = too_much(written);
-        end.reads = 2;
-        holds(
-            &rt,
-            lines_end(TextSource::new(TWO_LINES), MemorySink::new(), most, &end),
-        );
+    for (most, written) in &LIMITS {
+        let end = failed(RunFault::TooMuchInput, 2, written);
+        holds(&rt, lines_end(&GOOD, *most, &end));
     }
 }
 
@@ -264,23 +287,35 @@ fn lines_are_limited(rt: HostRuntime) {
 fn the_table_needs_no_source(rt: HostRuntime) {
     let flushes = [SIZES.len()];
     let end = all_answered(0, SIZES, &flushes);
-    holds(&rt, table_ends(MemorySink::new(), &end));
+    holds(&rt, table_ends(GOOD, &end));
 }
 
 #[test]
 fn a_write_of_the_table_fails(rt: HostRuntime) {
     for room in 0..SIZES.len() {
-        let end = write_failed(0, &SIZES[..room]);
-        holds(&rt, table_ends(MemorySink::failing(7, room), &end));
+        let end = failed(RunFault::Write, 0, &SIZES[..room]);
+        let devices = Devices {
+            most: 7,
+            room,
+            ..GOOD
+        };
+        holds(&rt, table_ends(devices, &end));
     }
 }
 
 #[test]
 fn the_flush_of_the_table_fails(rt: HostRuntime) {
     let flushes = [SIZES.len()];
-    let mut end = write_failed(0, SIZES);
-    end.flushes = &flushes;
-    holds(&rt, table_ends(MemorySink::failing_flush(7), &end));
+    let devices = Devices {
+        most: 7,
+        flush_fails: true,
+        ..GOOD
+    };
+    let end = End {
+        flushes: &flushes,
+        ..failed(RunFault::Write, 0, SIZES)
+    };
+    holds(&rt, table_ends(devices, &end));
 }
 
 /// A writer over a sink.
@@ -291,23 +326,16 @@ struct SinkWriter<'a> {
 
 impl<'a> Write for SinkWriter<'a> {
     fn write(&mut self, buf: &[u8]) -> io::Result<usize> {
-        match self.sink.write(buf) {
-            Ok(taken) => Ok(taken),
-            Err(_) => Err(io::Error::from(ErrorKind::Interrupted)),
-        }
+        self.sink
+            .write(buf)
+            .or(Err(io::Error::from(ErrorKind::Interrupted)))
     }
 
     fn flush(&mut self) -> io::Result<()> {
-        match self.sink.flush() {
-            Ok(()) => Ok(()),
-            Err(_) => Err(io::Error::from(ErrorKind::Interrupted)),
-        }
+        self.sink
+            .flush()
+            .or(Err(io::Error::from(ErrorKind::Interrupted)))
     }
-}
-
-/// A run that reads grids over these devices ends with this fault.
-fn fails<I: Source, O: Sink>(source: &mut I, sink: &mut O, fault: RunFault) -> bool {
-    ran(Task::Read(None), source, sink, 1000) == Err(fault)
 }
 
 #[test]
@@ -316,7 +344,8 @@ fn a_reader_fails_at_once(rt: HostRuntime) {
     let device = Device::new(ErrorKind::Interrupted, 0, &calls, &flushes);
     let mut source = FromRead::new(device);
     let mut sink = MemorySink::new();
-    holds(&rt, fails(&mut source, &mut sink, RunFault::Read));
+    let outcome = ran(Task::Read(None), &mut source, &mut sink, 1000);
+    holds(&rt, outcome == Err(RunFault::Read));
     holds(&rt, source.failures() == 1);
     holds(&rt, sink.taken().is_empty());
     holds(&rt, sink.flushes().is_empty());
@@ -326,13 +355,14 @@ fn a_reader_fails_at_once(rt: HostRuntime) {
 fn flush_fails(sink: &mut MemorySink) -> bool {
     let mut sink = ToWrite::new(SinkWriter { sink });
     let mut source = TextSource::new(TWO_GRIDS);
-    fails(&mut source, &mut sink, RunFault::Write) && sink.failures() == 1
+    let outcome = ran(Task::Read(None), &mut source, &mut sink, 1000);
+    outcome == Err(RunFault::Write) && sink.failures() == 1
 }
 
 #[test]
 fn a_writer_fails(rt: HostRuntime) {
     for piece in PIECES {
-        let mut kept = MemorySink::failing_flush(piece);
+        let mut kept = MemorySink::failing(piece, usize::MAX, true);
         holds(&rt, flush_fails(&mut kept));
         holds(&rt, kept.taken() == OUT);
         holds(&rt, kept.flushes() == [9].as_slice());

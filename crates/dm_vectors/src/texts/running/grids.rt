@@ -2,7 +2,7 @@
 
 use super::super::feeds::TWO_GRIDS;
 use super::super::memory::Taken;
-use super::super::worked::{AIM, DIGITS, GRIDS, LARGE, LETTER, RAISED};
+use super::super::worked::{AIM, DIGITS, LARGE, LETTER, RAISED, Worked, grids};
 use super::profiles::line_of;
 use super::{answers, ended, has_side, joined, push, writes, written_for};
 use crate::claims::holds;
@@ -107,22 +107,25 @@ fn a_record_is_read_without_its_last_line_feed(rt: HostRuntime) {
     holds(&rt, answers(Task::Read(None), &TWO_GRIDS[110..221], b"A\n"));
 }
 
-/// Whether each grid is read and checked as its row says.
-fn all_are_read_and_checked() -> bool {
-    for (rows, line, check) in &GRIDS {
-        let record = record_of(rows);
-        if !answers(Task::Read(None), &record, line)
-            || !answers(Task::Check(None), &record, check)
-        {
-            return false;
-        }
-    }
-    true
+/// Whether the grid is read and checked as its row says.
+fn is_read_and_checked(worked: &Worked) -> bool {
+    let record = record_of(worked.0);
+    answers(Task::Read(None), &record, worked.1) && answers(Task::Check(None), &record, worked.2)
 }
 
 #[test]
 fn grids_are_read_and_checked(rt: HostRuntime) {
-    holds(&rt, all_are_read_and_checked());
+    for worked in grids() {
+        holds(&rt, is_read_and_checked(worked));
+    }
+}
+
+/// Appends the record of a worked grid with an empty line after it, and what is written where it is read and where it is checked.
+fn push_worked(worked: &Worked, text: &mut Taken, read: &mut Taken, checked: &mut Taken) {
+    push_record(text, worked.0);
+    push(text, b"\n");
+    push(read, worked.1);
+    push(checked, worked.2);
 }
 
 /// Whether all grids, one after another, are read and checked as their rows say.
@@ -130,11 +133,8 @@ fn are_read_and_checked_in_order() -> bool {
     let mut text = Taken::new();
     let mut read = Taken::new();
     let mut checked = Taken::new();
-    for (rows, line, check) in &GRIDS {
-        push_record(&mut text, rows);
-        push(&mut text, b"\n");
-        push(&mut read, line);
-        push(&mut checked, check);
+    for worked in grids() {
+        push_worked(worked, &mut text, &mut read, &mut checked);
     }
     writes((Task::Read(None), &text, &read, 5, 12))
         && writes((Task::Check(None), &text, &checked, 5, 12))
@@ -163,39 +163,41 @@ fn runs_of_other_encodations_are_read(rt: HostRuntime) {
 
 /// The record of one of the worked grids.
 fn worked_record(place: usize) -> Taken {
-    match GRIDS.get(place) {
-        Some((rows, _, _)) => record_of(rows),
+    match grids().get(place) {
+        Some(worked) => record_of(worked.0),
         None => Taken::new(),
     }
 }
 
+/// A task with a low limit of wrong border modules and with a high one, and what each writes for a grid that has 10 of them.
+static LIMITS: [(Task, Task, &[u8], &[u8]); 3] = [
+    (
+        Task::Read(Some(2)),
+        Task::Read(Some(10)),
+        b"\\no 5 border 10\n",
+        b"123456\n",
+    ),
+    (
+        Task::Check(Some(2)),
+        Task::Check(Some(10)),
+        b"\\no 5 border 10\n",
+        b"ok 10 border 10 corrected 0\n",
+    ),
+    (
+        Task::Normal(Some(2), Profile::Ascii),
+        Task::Normal(Some(10), Profile::Ascii),
+        b"\\no 5 border 10\n\n",
+        DIGITS,
+    ),
+];
+
 #[test]
 fn as_many_wrong_border_modules_are_accepted_as_the_limit_says(rt: HostRuntime) {
     let record = worked_record(3);
-    let table = [
-        (
-            Task::Read(Some(2)),
-            Task::Read(Some(10)),
-            b"\\no 5 border 10\n".as_slice(),
-            b"123456\n".as_slice(),
-        ),
-        (
-            Task::Check(Some(2)),
-            Task::Check(Some(10)),
-            b"\\no 5 border 10\n",
-            b"ok 10 border 10 corrected 0\n",
-        ),
-        (
-            Task::Normal(Some(2), Profile::Ascii),
-            Task::Normal(Some(10), Profile::Ascii),
-            b"\\no 5 border 10\n\n",
-            DIGITS,
-        ),
-    ];
-    for (low, high, refusal, answer) in table {
+    for (low, high, refusal, answer) in &LIMITS {
         holds(
             &rt,
-            answers(low, &record, refusal) && answers(high, &record, answer),
+            answers(*low, &record, refusal) && answers(*high, &record, answer),
         );
     }
 }

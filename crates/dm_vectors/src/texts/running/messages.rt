@@ -1,7 +1,8 @@
 //! Runs that write grids of messages.
 
 use super::super::memory::Taken;
-use super::super::worked::{LETTER, LINES};
+use super::super::worked::{LETTER, lines};
+use super::profiles::is_too_long;
 use super::{answers, ended, has_side, joined, push, writes, written_for};
 use crate::claims::holds;
 use dm_layout::MOST_DATA;
@@ -16,7 +17,7 @@ fn is_written(line: &[u8], answer: &[u8]) -> bool {
 
 #[test]
 fn lines_are_written(rt: HostRuntime) {
-    for (line, answer) in &LINES {
+    for (line, answer) in lines() {
         holds(&rt, is_written(line, answer));
     }
 }
@@ -25,7 +26,7 @@ fn lines_are_written(rt: HostRuntime) {
 fn are_written_in_order() -> bool {
     let mut text = Taken::new();
     let mut written = Taken::new();
-    for (line, answer) in &LINES {
+    for (line, answer) in lines() {
         push(&mut text, line);
         push(&mut text, b"\n");
         push(&mut written, answer);
@@ -86,15 +87,11 @@ fn the_largest_messages_are_written(rt: HostRuntime) {
     holds(&rt, all_are_grids(&[b'7'; 1632]));
 }
 
-/// Whether the line is too long for a grid.
-fn is_too_long(line: &[u8]) -> bool {
-    answers(Task::Write(Profile::Ascii), line, b"\\no 14 too-long\n\n")
-}
-
 #[test]
 fn longer_messages_are_refused(rt: HostRuntime) {
+    let write = Task::Write(Profile::Ascii);
     holds(
         &rt,
-        is_too_long(&[b'7'; MOST_ITEMS + 1]) && is_too_long(&[b'A'; MOST_DATA + 1]),
+        is_too_long(write, &[b'7'; MOST_ITEMS + 1]) && is_too_long(write, &[b'A'; MOST_DATA + 1]),
     );
 }

@@ -53,9 +53,12 @@ fn the_shorter_form_has_its_side(rt: HostRuntime) {
     }
 }
 
+/// Lines of few bytes, and their grids under the shorter profile.
+static FEW_BYTES: [(&[u8], &[u8]); 3] = [(b"123456", DIGITS), (b"A", LETTER), (b"", EMPTY)];
+
 #[test]
 fn few_bytes_stay_in_ascii(rt: HostRuntime) {
-    for (line, grid) in [(b"123456".as_slice(), DIGITS), (b"A", LETTER), (b"", EMPTY)] {
+    for (line, grid) in &FEW_BYTES {
         holds(
             &rt,
             answers(Task::Write(Profile::Shorter), &ended(line), grid),
@@ -64,7 +67,7 @@ fn few_bytes_stay_in_ascii(rt: HostRuntime) {
 }
 
 /// Whether the text is too long for the task.
-fn is_too_long(task: Task, text: &[u8]) -> bool {
+pub(super) fn is_too_long(task: Task, text: &[u8]) -> bool {
     answers(task, text, b"\\no 14 too-long\n\n")
 }
 
