@@ -2,8 +2,8 @@
 
 use crate::claims::holds;
 use crate::messages::{
-    MARKED, add, add_bytes, add_many, are_all, has_bytes, has_items, of_items, of_many, randomised,
-    segment,
+    Codewords, MARKED, add, add_bytes, add_many, add_word, are_all, has_bytes, has_items, of_items,
+    of_many, randomised, segment,
 };
 use arrayvec::ArrayVec;
 use dm_layout::Size;
@@ -11,6 +11,7 @@ use dm_words::*;
 
 mod ascii;
 mod hostile;
+mod lines;
 mod places;
 mod shorter;
 mod wide;
@@ -48,90 +49,83 @@ fn is_refused(words: &[u8], fault: WordFault) -> bool {
 }
 
 /// Data codewords in ASCII, and the bytes that they spell.
-static ASCII: [(&[u8], &[u8]); 11] = [
-    (&[], b""),
-    (&[1, 128], b"\x00\x7F"),
-    (&[130, 229], b"0099"),
-    (&[235, 128], b"\xFF"),
-    (&[129, 0, 255], b""),
-    (&[142, 52, 129], b"123"),
-    (&[142, 164, 186], b"123456"),
-    (&[66, 129, 70], b"A"),
-    (&[129, 175, 70], b""),
-    (&[66, 74, 78], b"AIM"),
-    (&[235, 66, 129], b"\xC1"),
-];
+static ASCII: &[u8] = b"\
+=
+1 128 =\x00\x7F
+130 229 =0099
+235 128 =\xFF
+129 0 255 =
+142 52 129 =123
+142 164 186 =123456
+66 129 70 =A
+129 175 70 =
+66 74 78 =AIM
+235 66 129 =\xC1
+";
 
 /// Runs of C40, whole ones and those that the end of the symbol or an unlatch ends, and the bytes that they spell.
-static C40: [(&[u8], &[u8]); 12] = [
-    (&[230, 91, 11], b"AIM"),
-    (&[230, 91, 11, 91, 11, 91, 11, 66], b"AIMAIMAIMA"),
-    (&[230, 90, 241], b"AI"),
-    (&[230, 91, 11, 254, 66], b"AIMA"),
-    (&[230, 250, 0], b"ZZZ"),
-    (&[230, 254, 66], b"A"),
-    (&[230], b""),
-    (&[230, 254], b""),
-    (&[230, 129], b""),
-    (&[230, 91], b"Z"),
-    (&[230, 91, 11, 91], b"AIMZ"),
-    (&[230, 91, 11, 230], b"AIM"),
-];
+static C40: &[u8] = b"\
+230 91 11 =AIM
+230 91 11 91 11 91 11 66 =AIMAIMAIMA
+230 90 241 =AI
+230 91 11 254 66 =AIMA
+230 250 0 =ZZZ
+230 254 66 =A
+230 =
+230 254 =
+230 129 =
+230 91 =Z
+230 91 11 91 =AIMZ
+230 91 11 230 =AIM
+";
 
 /// Runs of C40 with shifts, and the bytes that they spell.
-static C40_SHIFTS: [(&[u8], &[u8]); 7] = [
-    (&[230, 10, 255], b"\xC1"),
-    (&[230, 12, 183], b"aA"),
-    (&[230, 10, 254], b"\xB9"),
-    (&[230, 19, 110], b" 09"),
-    (&[230, 0, 1, 194, 60], b"\x00\x1F  "),
-    (&[230, 6, 66, 87, 184, 9, 138, 137, 195], b"!/:@[_"),
-    (&[230, 12, 131, 194, 60], b"`\x7F  "),
-];
+static C40_SHIFTS: &[u8] = b"\
+230 10 255 =\xC1
+230 12 183 =aA
+230 10 254 =\xB9
+230 19 110 = 09
+230 0 1 194 60 =\x00\x1F\x20\x20
+230 6 66 87 184 9 138 137 195 =!/:@[_
+230 12 131 194 60 =`\x7F\x20\x20
+";
 
 /// Runs of Text, and the bytes that they spell.
-static TEXT: [(&[u8], &[u8]); 8] = [
-    (&[239, 91, 11], b"aim"),
-    (&[239, 12, 183], b"Aa"),
-    (&[239, 19, 110], b" 09"),
-    (&[239, 93, 192], b"azz"),
-    (&[239, 0, 1, 194, 60], b"\x00\x1F  "),
-    (&[239, 6, 66, 87, 184, 9, 138, 137, 195], b"!/:@[_"),
-    (&[239, 10, 244], b"\xA0"),
-    (&[239, 12, 131, 6, 171, 16, 187, 194, 60], b"`AZ{\x7F  "),
-];
+static TEXT: &[u8] = b"\
+239 91 11 =aim
+239 12 183 =Aa
+239 19 110 = 09
+239 93 192 =azz
+239 0 1 194 60 =\x00\x1F\x20\x20
+239 6 66 87 184 9 138 137 195 =!/:@[_
+239 10 244 =\xA0
+239 12 131 6 171 16 187 194 60 =`AZ{\x7F\x20\x20
+";
 
 /// Runs of X12, and the bytes that they spell.
-static X12: [(&[u8], &[u8]); 4] = [
-    (&[238, 0, 43], b"\r*>"),
-    (&[238, 91, 11, 254, 66], b"AIMA"),
-    (&[238, 19, 110], b" 09"),
-    (&[238, 93, 192], b"AZZ"),
-];
+static X12: &[u8] = b"\
+238 0 43 =\r*>
+238 91 11 254 66 =AIMA
+238 19 110 = 09
+238 93 192 =AZZ
+";
 
 /// Segments of Base 256, and the bytes that they spell.
-static BASE_256: [(&[u8], &[u8]); 4] = [
-    (&[231, 45, 65], b"\x80"),
-    (&[231, 44, 65], b"\x80"),
-    (&[66, 231, 193], b"A"),
-    (&[231, 44], b""),
-];
-
-/// Whether the codewords of each row spell its bytes.
-fn all_are_spelled(rows: &[(&[u8], &[u8])]) -> bool {
-    for (words, bytes) in rows {
-        if !spells_bytes(words, bytes) {
-            return false;
-        }
-    }
-    true
-}
+static BASE_256: &[u8] = b"\
+231 45 65 =\x80
+231 44 65 =\x80
+66 231 193 =A
+231 44 =
+";
 
 #[test]
 fn reads_messages(rt: HostRuntime) {
-    for rows in [ASCII.as_slice(), &C40, &C40_SHIFTS, &TEXT, &X12, &BASE_256] {
-        holds(&rt, all_are_spelled(rows));
-    }
+    holds(&rt, lines::are_spelled(Extent::Usual, ASCII));
+    holds(&rt, lines::are_spelled(Extent::Usual, C40));
+    holds(&rt, lines::are_spelled(Extent::Usual, C40_SHIFTS));
+    holds(&rt, lines::are_spelled(Extent::Usual, TEXT));
+    holds(&rt, lines::are_spelled(Extent::Usual, X12));
+    holds(&rt, lines::are_spelled(Extent::Usual, BASE_256));
 }
 
 /// Data codewords and the items that they spell.
