@@ -106,12 +106,17 @@ fn says(grid: &Grid, limit: u16, text: &[u8], corrected: &[u8], border_faults: u
     }
 }
 
+/// Whether the outcome of reading is this fault.
+fn is_read_fault(outcome: &Result<Reading, ReadFault>, fault: ReadFault) -> bool {
+    match outcome {
+        Ok(_) => false,
+        Err(found) => *found == fault,
+    }
+}
+
 /// Whether the grid is refused for this.
 fn is_refused(grid: &Grid, limit: u16, fault: ReadFault) -> bool {
-    match read(grid, limit) {
-        Ok(_) => false,
-        Err(found) => found == fault,
-    }
+    is_read_fault(&read(grid, limit), fault)
 }
 
 /// Whether this is the normal grid of the grid.

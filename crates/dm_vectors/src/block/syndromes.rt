@@ -21,12 +21,17 @@ fn syndromes_of_a_codeword_and_of_words_that_are_none(rt: HostRuntime) {
     holds(&rt, has_syndromes(&[1, 0, 0], &[4, 16, 64]));
 }
 
+/// Whether a word has this value at the root with this number.
+fn has_value(word: &[u8], root: u16, value: u8) -> bool {
+    value_at(word, Gf::power_of_two(root)).0 == value
+}
+
 /// Whether the syndromes of a word are its values at the roots.
 fn are_values(word: &[u8], k: usize) -> bool {
     let syndromes = syndromes_of(word, k);
     let mut root = 1;
     for syndrome in &syndromes {
-        if value_at(word, Gf::power_of_two(root)).0 != *syndrome {
+        if !has_value(word, root, *syndrome) {
             return false;
         }
         root = root.saturating_add(1);

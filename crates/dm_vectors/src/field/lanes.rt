@@ -9,9 +9,9 @@ static PRODUCTS: [(u8, u8, u8); 4] = [(66, 62, 122), (251, 111, 20), (0, 7, 0), 
 
 #[test]
 fn products_of_sixteen_lanes(rt: HostRuntime) {
-    for (a, b, product) in PRODUCTS {
-        let products = lanes_mul(u8x16::splat(a), u8x16::splat(b));
-        holds(&rt, products.to_array() == [product; 16]);
+    for (a, b, product) in &PRODUCTS {
+        let products = lanes_mul(u8x16::splat(*a), u8x16::splat(*b));
+        holds(&rt, products.to_array() == [*product; 16]);
     }
 }
 

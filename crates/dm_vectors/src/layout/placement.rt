@@ -6,7 +6,7 @@ use dm_layout::{Cells, Place, Size, table};
 
 /// Whether the list has this place at this index.
 fn is_at(list: &[(u16, u16)], index: usize, place: Place) -> bool {
-    index < list.len() && list[index] == (place.row, place.column)
+    index < list.len() && list[index].0 == place.row && list[index].1 == place.column
 }
 
 /// Whether these are the cells of the lowest bits, codeword by codeword. That of a standard shape is its anchor, that of

@@ -29,23 +29,25 @@ static ROWS: [[u16; 8]; SIZE_COUNT] = [
     [104, 16, 24, 96, 816, 336, 6, 28],
 ];
 
-/// Whether the methods of the size give this row.
-fn is_row(size: Size, row: &[u16; 8]) -> bool {
-    size.side() == row[0]
-        && size.regions() == row[1]
-        && size.region_side() == row[2]
-        && size.mapping() == row[3]
-        && size.data_count() == row[4]
-        && size.check_count() == row[5]
-        && size.blocks() == row[6]
-        && size.limit() == row[7]
+/// What the methods of the size give, in the order of a row.
+fn row_of(size: Size) -> [u16; 8] {
+    [
+        size.side(),
+        size.regions(),
+        size.region_side(),
+        size.mapping(),
+        size.data_count(),
+        size.check_count(),
+        size.blocks(),
+        size.limit(),
+    ]
 }
 
 /// Whether each size of the table has its row, and is that with its side.
 fn all_have_rows() -> bool {
     let sizes = table();
     for i in 0..SIZE_COUNT {
-        if !is_row(sizes[i], &ROWS[i]) || Size::of_side(ROWS[i][0]) != Some(sizes[i]) {
+        if row_of(sizes[i]) != ROWS[i] || Size::of_side(ROWS[i][0]) != Some(sizes[i]) {
             return false;
         }
     }

@@ -41,7 +41,7 @@ static ROWS: [(u16, &[u8], WordFault, &[u8]); 6] = [
 /// Whether reading in this extent leaves the same reading in a place.
 fn leaves(extent: Extent, grid: &Grid, reading: &Reading) -> bool {
     let mut place = Reading::new();
-    read_as_to(extent, grid, 0, &mut place) == Ok(()) && place == *reading
+    read_as_to(extent, grid, 0, &mut place).is_ok() && place == *reading
 }
 
 /// Whether the grid says these bytes in an extent.
@@ -56,7 +56,7 @@ fn says_in(extent: Extent, grid: &Grid, text: &[u8]) -> bool {
 fn leaves_normal(extent: Extent, grid: &Grid, expected: &Grid) -> bool {
     let (mut reading, mut place) = (Reading::new(), light_grid());
     let done = normal_read_as_to(extent, Profile::Ascii, grid, 0, &mut reading, &mut place);
-    done == Ok(()) && same(&place, expected)
+    done.is_ok() && same(&place, expected)
 }
 
 /// Whether this is the normal grid of the grid in an extent.
@@ -73,7 +73,7 @@ fn says_and_becomes(extent: Extent, grid: &Grid, text: &[u8], expected: &Grid) -
 /// Whether the usual extent refuses the grid with this fault, by each of its calls.
 fn is_refused_usually(grid: &Grid, fault: ReadFault) -> bool {
     is_refused(grid, 0, fault)
-        && read_as(Extent::Usual, grid, 0) == Err(fault)
+        && is_read_fault(&read_as(Extent::Usual, grid, 0), fault)
         && is_fault(&normal(grid, 0), NormalFault::Read(fault))
 }
 

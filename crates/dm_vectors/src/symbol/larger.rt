@@ -75,14 +75,19 @@ fn reads_what_has_no_normal_grid(rt: HostRuntime) {
     holds(&rt, is_fault(&normal(&grid, 26), NormalFault::TooLong));
 }
 
-/// The grid with its first `most` codewords wrong, and the one at the place `more`.
-fn damaged_grid(grid: &Grid, most: usize, more: usize) -> Grid {
+/// The codewords with the first `most` of them wrong, and the one at the place `more`.
+fn damaged(words: &[u8], most: usize, more: usize) -> Codewords {
     let mut list = Codewords::new();
-    for word in lift(grid).list() {
+    for word in words {
         let wrong = list.len() < most || list.len() == more;
         add_word(&mut list, if wrong { *word ^ 255 } else { *word });
     }
-    grid_of(side_of(grid), &list)
+    list
+}
+
+/// The grid with its first `most` codewords wrong, and the one at the place `more`.
+fn damaged_grid(grid: &Grid, most: usize, more: usize) -> Grid {
+    grid_of(side_of(grid), &damaged(lift(grid).list(), most, more))
 }
 
 /// Whether the grid of so many digits 7 is read with its first `most` codewords wrong, which is as many in each block as can be

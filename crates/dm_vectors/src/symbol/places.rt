@@ -18,7 +18,7 @@ fn is_written_to(profile: Profile, message: &Message, grid: &mut Grid) -> bool {
 
 /// Whether the grid was read into its place.
 fn is_read_to(grid: &Grid, reading: &mut Reading) -> bool {
-    read_to(grid, 0, reading) == Ok(())
+    read_to(grid, 0, reading).is_ok()
 }
 
 /// Normalises the grid in its place.
@@ -86,9 +86,10 @@ fn results_in_places(rt: HostRuntime) {
         normal_grid: light_grid(),
     };
     holds(&rt, side_of(&places.grid) == 10);
-    for count in [90, 3, 0, 40] {
-        holds(&rt, hold(&mut places, count));
-    }
+    holds(&rt, hold(&mut places, 90));
+    holds(&rt, hold(&mut places, 3));
+    holds(&rt, hold(&mut places, 0));
+    holds(&rt, hold(&mut places, 40));
     holds(
         &rt,
         are_refused(&mut places) && is_too_long_for_ascii(&mut places),

@@ -166,7 +166,7 @@ fn with_fnc1_at(place: usize) -> Message {
 /// One FNC1 keeps the whole message in ASCII.
 #[test]
 fn keeps_fnc1_in_ascii(rt: HostRuntime) {
-    for place in [0, 100, 199] {
-        holds(&rt, takes(&with_fnc1_at(place), 399, false));
-    }
+    holds(&rt, takes(&with_fnc1_at(0), 399, false));
+    holds(&rt, takes(&with_fnc1_at(100), 399, false));
+    holds(&rt, takes(&with_fnc1_at(199), 399, false));
 }
