@@ -13,6 +13,8 @@ PYTHON = "/usr/bin/python3"  # Debian's, for which numpy, Pillow and mypy are in
 
 left_out = []
 subprocess.run([os.path.join(TOP, "library", "python", "tree"), PACKAGE], check=True)
+# Each of some hundreds of interpreters would compile the package anew otherwise.
+subprocess.run([PYTHON, "-m", "compileall", "-q", PACKAGE], check=True)
 
 
 def same(name, got, wanted):

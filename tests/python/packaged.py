@@ -63,13 +63,16 @@ def contents(wheel):
 def installed(folder, wheel):
     """An environment without the system's packages, into which the wheel is installed without network."""
     place = os.path.join(folder, "venv")
-    status, output, errors = run([PYTHON, "-m", "venv", place], env=clean(HOME=folder))
+    pip, more = [os.path.join(place, "bin", "pip")], []
+    if run([PYTHON, "-m", "pip", "--python", PYTHON, "--version"], env=clean(HOME=folder))[0] == 0:
+        # (the system's pip works on another environment just as well, and needn't be installed there first)
+        pip, more = [PYTHON, "-m", "pip", "--python", os.path.join(place, "bin", "python3")], ["--without-pip"]
+    status, output, errors = run([PYTHON, "-m", "venv", *more, place], env=clean(HOME=folder))
     if status:
         left_out.append("the installed wheel (python3-venv isn't installed)")
         return
     alone = ["unshare", "-n"] if os.geteuid() == 0 and has("unshare", "installing with no network at all") else []
-    status, output, errors = run([*alone, os.path.join(place, "bin", "pip"), "install", "--no-index", "--no-cache-dir", wheel],
-                                 env=clean(HOME=folder))
+    status, output, errors = run([*alone, *pip, "install", "--no-index", "--no-cache-dir", wheel], env=clean(HOME=folder))
     yield holds("pip install without network", status == 0, output + errors)
     command, python = os.path.join(place, "bin", "ecc200"), os.path.join(place, "bin", "python3")
     yield from used("in a clean environment", [], command, python, place)
