@@ -66,8 +66,9 @@ def copy(path, root):
         shutil.copy2(path, to)
 
 
-def stanza(name):
-    return subprocess.run(["dpkg-query", "--status", name], stdout=subprocess.PIPE, check=True, text=True).stdout + "\n"
+def told(option, names):
+    """What dpkg-query tells of these packages, asked once for all, since each time it reads all that it knows."""
+    return subprocess.run(["dpkg-query", option, *names], stdout=subprocess.PIPE, check=True, text=True).stdout
 
 
 def keep_triggers(names, root):
@@ -91,12 +92,10 @@ def make(root, names, own=()):
     names = closure([*BASE, *names], own)
     os.makedirs(root + INFO)
     with open(f"{root}/var/lib/dpkg/status", "w", encoding="utf-8") as status:
-        for name in names:
-            status.write(stanza(name))
-            listed = subprocess.run(["dpkg-query", "-L", name], stdout=subprocess.PIPE, check=True, text=True).stdout
-            for path in listed.splitlines():
-                if path.startswith("/") and not LEFT_OUT.search(path):
-                    copy(path, root)
+        status.write(told("--status", names) + "\n")
+    for path in dict.fromkeys(told("-L", names).splitlines()):
+        if path.startswith("/") and not LEFT_OUT.search(path):
+            copy(path, root)
     for file in os.listdir(INFO):
         if file == "format" or re.split(r"[.:]", file)[0] in names or file.rsplit(".", 1)[0].split(":")[0] in names:
             copy(f"{INFO}/{file}", root)
