@@ -244,6 +244,7 @@ def sizes():
 def much_damage():
     """Grids that are turned over at random and pasted, as they are shown and as the program answers."""
     push("tab-read")
+    run("document.documentElement.style.display = arguments[0]", "none")  # what is compared is text: nothing need be laid out or painted for it
     some = on.page.execute_async_script("""
         const [done] = arguments, { desks, gridText, idle } = mitsubadoor, any = (below) => Math.floor(chance() * below), area = document.getElementById("grid"), out = [];
         const shown = () => { %s };
@@ -269,6 +270,7 @@ def much_damage():
             }
             done(out);
         })();""" % SHOWN)
+    run("document.documentElement.style.display = arguments[0]", "")
     answers = told([text for text, _, _ in some])
     got = [as_program(seen) for _, seen, _ in some]
     odd = [(text, ours, theirs) for (text, _, _), ours, theirs in zip(some, got, answers) if ours != theirs]

@@ -30,7 +30,7 @@ def made():
 def photographs():
     folder, pictures = made()
     push("tab-read")
-    read = beside = 0
+    read = 0
     for picture in pictures:
         file = folder / picture["file"]
         said = opened(file.name, file.read_bytes())
@@ -39,14 +39,26 @@ def photographs():
         read += is_read
         if is_read and not said.startswith(f"{file.name}: side "):
             count.expect(f"{file.name}: what is said", said, "side")
-        if shutil.which("dmtxread"):
-            other = subprocess.run(["dmtxread", "-N1", f"-m{BESIDE}", str(file)], stdout=subprocess.PIPE, stderr=subprocess.DEVNULL, check=False).stdout
-            beside += other.decode("latin-1") in picture["messages"]
     if pictures:
         count.expect(f"{read} of {len(pictures)} photographs read, at least nine of ten", 10 * read >= 9 * len(pictures), True)
-        count.expect("at least as many as dmtxread", read >= beside, True)
-        print(f"photographs: {read} of {len(pictures)} read; dmtxread {beside if shutil.which('dmtxread') else 'is not installed'}")
+        count.expect("at least as many as dmtxread", dmtxread_misses(folder, pictures, len(pictures) - read), True)
+        print(f"photographs: {read} of {len(pictures)} read")
     push("tab-write")
+
+
+def dmtxread_misses(folder, pictures, least):
+    """Whether dmtxread misses so many of the pictures. Each that it misses takes it a second, so no more are looked for."""
+    missed = 0
+    if not shutil.which("dmtxread"):
+        print("left out: photographs beside dmtxread, which isn't installed")
+        return True
+    for picture in pictures:
+        if missed >= least:
+            break
+        words = ["dmtxread", "-N1", f"-m{BESIDE}", str(folder / picture["file"])]
+        said = subprocess.run(words, stdout=subprocess.PIPE, stderr=subprocess.DEVNULL, check=False).stdout
+        missed += said.decode("latin-1") not in picture["messages"]
+    return missed >= least
 
 
 def turned_about():
