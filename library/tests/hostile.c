@@ -19,11 +19,18 @@ static ecc200_symbol *symbol, *again;
 static ecc200_inspection *inspection;
 static ecc200_place_table *table;
 static ecc200_size_table sizes;
-static unsigned power[255], logarithm[256];
+static unsigned power[510], logarithm[256]; /* each power twice, since a sum of two logarithms is below 510 */
 
 static int fail(const char *what) {
     printf("%s\n", what);
     return 1;
+}
+
+/* a random number below 2^31: the upper bits of Knuth's generator for MMIX, since half of the time went into the lock of C's own */
+static int chance(void) {
+    static uint64_t state = 3;
+    state = state * 6364136223846793005 + 1442695040888963407;
+    return (int)(state >> 33);
 }
 
 /* so many bytes, which end at an inaccessible page */
@@ -37,30 +44,30 @@ static void *guarded(size_t size) {
 
 /* random modules, now and then a number of them that makes no square */
 static uint8_t *noise(uint16_t side, size_t *count) {
-    *count = rand() % 20 ? (size_t)side * side : (size_t)(rand() % 12000);
+    *count = chance() % 20 ? (size_t)side * side : (size_t)(chance() % 12000);
     if (*count > AREA)
         *count = AREA;
     uint8_t *modules = area + AREA - *count;
     for (size_t i = 0; i < *count; i++)
-        modules[i] = (uint8_t)rand();
+        modules[i] = (uint8_t)chance();
     return modules;
 }
 
 /* the modules of a written symbol, damaged or not; or noise if the items can't be written */
 static uint8_t *written(uint16_t *side, size_t *count) {
-    size_t items_count = (size_t)(rand() % 2 ? rand() % 1700 : rand() % 40);
+    size_t items_count = (size_t)(chance() % 2 ? chance() % 1700 : chance() % 40);
     uint16_t *items = (uint16_t *)(void *)(area + AREA) - items_count;
     for (size_t i = 0; i < items_count; i++)
-        items[i] = (uint16_t)(rand() % (rand() % 500 ? 257 : 300));
+        items[i] = (uint16_t)(chance() % (chance() % 500 ? 257 : 300));
     memset(symbol, 0xEE, sizeof *symbol);
-    if (ecc200_write(items, items_count, (uint16_t)(rand() % 3), symbol))
+    if (ecc200_write(items, items_count, (uint16_t)(chance() % 3), symbol))
         return noise(*side, count);
     *side = symbol->side;
     *count = (size_t)*side * *side;
     uint8_t *modules = area + AREA - *count;
     memcpy(modules, symbol->modules, *count);
-    for (int turns = rand() % 3 * (rand() % 40); turns > 0; turns--)
-        modules[(size_t)rand() % *count] ^= 1;
+    for (int turns = chance() % 3 * (chance() % 40); turns > 0; turns--)
+        modules[(size_t)chance() % *count] ^= 1;
     return modules;
 }
 
@@ -68,12 +75,12 @@ static uint8_t *written(uint16_t *side, size_t *count) {
 static void make_field(void) {
     unsigned value = 1;
     for (unsigned i = 0; i < 255; i++) {
-        power[i] = value, logarithm[value] = i;
+        power[i] = power[i + 255] = value, logarithm[value] = i;
         value = value < 128 ? value << 1 : value << 1 ^ 301;
     }
 }
 
-static unsigned product(unsigned a, unsigned b) { return a && b ? power[(logarithm[a] + logarithm[b]) % 255] : 0; }
+static unsigned product(unsigned a, unsigned b) { return a && b ? power[logarithm[a] + logarithm[b]] : 0; }
 
 /* the check codewords of each block, behind the data codewords */
 static void add_checks(uint8_t *words, const ecc200_size *size) {
@@ -96,21 +103,21 @@ static void add_checks(uint8_t *words, const ecc200_size *size) {
 /* a symbol whose data codewords are random, but often begin or end something: an encodation, a shift, a macro, the message */
 static uint8_t *spelled(uint16_t *side, size_t *count) {
     static const uint8_t turns[] = {129, 230, 231, 232, 233, 234, 235, 236, 237, 238, 239, 240, 241, 254, 0, 124, 31};
-    const ecc200_size *size = &sizes.sizes[(size_t)rand() % (rand() % 2 ? 8 : ECC200_SIZE_COUNT)];
+    const ecc200_size *size = &sizes.sizes[(size_t)chance() % (chance() % 2 ? 8 : ECC200_SIZE_COUNT)];
     uint8_t words[ECC200_MOST_CODEWORDS];
-    int often = 2 + rand() % 40;
+    int often = 2 + chance() % 40;
     for (int i = 0; i < size->data_codewords; i++)
-        words[i] = rand() % often ? (uint8_t)(1 + rand() % (often % 2 ? 229 : 128)) : turns[(size_t)rand() % sizeof turns];
-    if (rand() % 3 == 0)
-        words[0] = turns[(size_t)rand() % sizeof turns];
+        words[i] = chance() % often ? (uint8_t)(1 + chance() % (often % 2 ? 229 : 128)) : turns[(size_t)chance() % sizeof turns];
+    if (chance() % 3 == 0)
+        words[0] = turns[(size_t)chance() % sizeof turns];
     add_checks(words, size);
     *side = size->side, *count = (size_t)*side * *side;
     uint8_t *modules = area + AREA - *count;
     ecc200_places(*side, table);
     for (size_t i = 0; i < *count; i++) {
-        const ecc200_place *at = &table->places[i];
-        int is_dark = at->kind == ECC200_BORDER_DARK || at->kind == ECC200_FIXED_DARK;
-        modules[i] = at->kind == ECC200_BIT ? words[at->codeword] >> (8 - at->bit) & 1 : (uint8_t)is_dark;
+        const ecc200_place at = table->places[i];
+        int is_dark = at.kind == ECC200_BORDER_DARK || at.kind == ECC200_FIXED_DARK;
+        modules[i] = at.kind == ECC200_BIT ? words[at.codeword] >> (8 - at.bit) & 1 : (uint8_t)is_dark;
     }
     return modules;
 }
@@ -131,17 +138,17 @@ static int check_normal(uint16_t profile) {
 
 /* the side of a size, or one that no size has */
 static uint16_t any_side(void) {
-    size_t at = (size_t)rand() % (ECC200_SIZE_COUNT + sizeof others / sizeof *others);
+    size_t at = (size_t)chance() % (ECC200_SIZE_COUNT + sizeof others / sizeof *others);
     return at < ECC200_SIZE_COUNT ? sizes.sizes[at].side : others[at - ECC200_SIZE_COUNT];
 }
 
 static int round_of(void) {
     static ecc200_reading second;
-    uint16_t side = any_side(), profile = (uint16_t)(rand() % 2);
+    uint16_t side = any_side(), profile = (uint16_t)(chance() % 2);
     size_t count;
-    int way = rand() % 4;
+    int way = chance() % 4;
     uint8_t *modules = way == 0 ? noise(side, &count) : way == 1 ? written(&side, &count) : spelled(&side, &count);
-    uint16_t limit = rand() % 2 ? ECC200_ANY_LIMIT : ecc200_usual_limit(side);
+    uint16_t limit = chance() % 2 ? ECC200_ANY_LIMIT : ecc200_usual_limit(side);
     memset(reading, 0xEE, sizeof *reading), memset(&second, 0x11, sizeof second);
     uint16_t code = ecc200_read(modules, count, side, limit, extent, reading);
     ecc200_read(modules, count, side, limit, extent, &second);
@@ -182,7 +189,6 @@ int main(int argc, char **argv) {
     if (ecc200_write_bytes(NULL, 0, 0, again) || memcmp(symbol, again, sizeof *symbol))
         return fail("no bytes aren't the empty message");
     make_field(), ecc200_sizes(&sizes);
-    srand(3);
     for (long i = 0; i < rounds; i++)
         if (round_of())
             return 1;
