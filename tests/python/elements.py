@@ -121,12 +121,12 @@ def table():
 
 
 def by_zint(text):
-    """What zint says of an element string: whether it knows the identifiers, and whether it complains of anything."""
+    """What zint says of an element string: whether it knows the identifiers, and what it complains of, if of anything."""
     data = re.sub(r"(?<!\\)\((\d+)\)", r"[\1]", text).replace("\\(", "(")
-    done = subprocess.run(["zint", "-b", "71", "--gs1", "--square", "-d", data, "--direct", "--filetype=txt"], stdout=subprocess.PIPE,
+    done = subprocess.run(["zint", "-b", "71", "--gs1", "--square", "-d", data, "--direct", "--filetype=txt"], stdout=subprocess.DEVNULL,
                           stderr=subprocess.PIPE, timeout=60)
     said = done.stderr.decode(errors="replace")
-    return "Invalid AI" not in said, done.returncode == 0 and not said
+    return "Invalid AI" not in said, said or (f"status {done.returncode}" if done.returncode else "")
 
 
 def beside_zint():
@@ -137,14 +137,14 @@ def beside_zint():
     for identifier in gs1.identifiers():
         for shortest in (True, False):
             text = gs1.text([gs1.Element(identifier, sample(identifier, shortest, chance))])
-            knows, accepts = by_zint(text)
+            knows, complaint = by_zint(text)
             if knows:
                 known.add(identifier)
                 if not identifier.startswith(STRICTER):
-                    yield holds(f"zint accepts {text}", accepts, str(by_zint(text)))
+                    yield same(f"zint accepts {text}", complaint, "")
         if identifier in known:
             longer = gs1.text([gs1.Element(identifier, sample(identifier, False, chance) + "0")])
-            yield holds(f"zint refuses {longer}", not by_zint(longer)[1])
+            yield holds(f"zint refuses {longer}", by_zint(longer)[1] != "")
     yield holds("identifiers that zint knows", len(known) > 450, str(len(known)))
     for number in [*range(100), *range(100, 1000, 7), *range(4300, 4400), *range(7000, 7060), *range(8000, 8030)]:
         identifier = f"{number:02}"
