@@ -3,7 +3,7 @@ import collections
 import random
 import re
 
-from stage import By, Keys, QUIET, SHOWN, acting, agree, as_program, cells, changed, click, coloured, count, drawn, find, grid, offset, on, pointed, push, put, ran, run, settle, shown, text_of, to_top, told, usable, value_at, wait_for, write, written
+from stage import By, Keys, QUIET, SHOWN, acting, agree, as_program, cells, changed, click, coloured, count, drawn, find, grid, offset, on, pointed, push, put, ran, run, settle, shown, text_of, to_top, told, unseen, usable, value_at, wait_for, write, written
 
 
 def small_symbol():
@@ -241,36 +241,38 @@ def sizes():
         count.expect(f"side {side}, facts", facts, [f"{side} × {side}", str(data), str(check), str(limit)])
 
 
+MUCH_DAMAGE = """
+    const [done] = arguments, { desks, gridText, idle } = mitsubadoor, any = (below) => Math.floor(chance() * below), area = document.getElementById("grid"), out = [];
+    const shown = () => { %s };
+    let seed = 1;
+    const chance = () => {
+        seed = (seed + 0x6d2b79f5) | 0;
+        let mixed = Math.imul(seed ^ (seed >>> 15), seed | 1);
+        mixed ^= mixed + Math.imul(mixed ^ (mixed >>> 7), mixed | 61);
+        return ((mixed ^ (mixed >>> 14)) >>> 0) / 2 ** 32;
+    };
+    (async () => {
+        while (out.length < 600) {
+            const k = out.length, length = k %% 20 ? 1 + any(60) : 200 + any(500), wide = any(2) ? 256 : 128;
+            const items = Array.from({ length }, () => (chance() < 0.02 ? 256 : any(wide)));
+            const { fault, modules, side } = await desks.quick.ask("write", { items, profile: k %% 2, hasLook: false }, "test");
+            if (fault) continue;
+            for (let turns = any(side * (k %% 20 ? 0.9 : 1.5)); turns; turns--) modules[any(modules.length)] ^= 1;
+            area.value = gridText(modules);
+            area.dispatchEvent(new Event("input"));
+            await idle();
+            const { seen } = mitsubadoor.mark, standsFor = seen.answer.fault ? null : mitsubadoor.spelled(seen.told.flatMap((it) => it.items));
+            out.push([area.value, shown(), standsFor]);
+        }
+        done(out);
+    })();""" % SHOWN
+
+
 def much_damage():
     """Grids that are turned over at random and pasted, as they are shown and as the program answers."""
     push("tab-read")
-    run("document.documentElement.style.display = arguments[0]", "none")  # what is compared is text: nothing need be laid out or painted for it
-    some = on.page.execute_async_script("""
-        const [done] = arguments, { desks, gridText, idle } = mitsubadoor, any = (below) => Math.floor(chance() * below), area = document.getElementById("grid"), out = [];
-        const shown = () => { %s };
-        let seed = 1;
-        const chance = () => {
-            seed = (seed + 0x6d2b79f5) | 0;
-            let mixed = Math.imul(seed ^ (seed >>> 15), seed | 1);
-            mixed ^= mixed + Math.imul(mixed ^ (mixed >>> 7), mixed | 61);
-            return ((mixed ^ (mixed >>> 14)) >>> 0) / 2 ** 32;
-        };
-        (async () => {
-            while (out.length < 600) {
-                const k = out.length, length = k %% 20 ? 1 + any(60) : 200 + any(500), wide = any(2) ? 256 : 128;
-                const items = Array.from({ length }, () => (chance() < 0.02 ? 256 : any(wide)));
-                const { fault, modules, side } = await desks.quick.ask("write", { items, profile: k %% 2, hasLook: false }, "test");
-                if (fault) continue;
-                for (let turns = any(side * (k %% 20 ? 0.9 : 1.5)); turns; turns--) modules[any(modules.length)] ^= 1;
-                area.value = gridText(modules);
-                area.dispatchEvent(new Event("input"));
-                await idle();
-                const { seen } = mitsubadoor.mark, standsFor = seen.answer.fault ? null : mitsubadoor.spelled(seen.told.flatMap((it) => it.items));
-                out.push([area.value, shown(), standsFor]);
-            }
-            done(out);
-        })();""" % SHOWN)
-    run("document.documentElement.style.display = arguments[0]", "")
+    with unseen():
+        some = on.page.execute_async_script(MUCH_DAMAGE)
     answers = told([text for text, _, _ in some])
     got = [as_program(seen) for _, seen, _ in some]
     odd = [(text, ours, theirs) for (text, _, _), ours, theirs in zip(some, got, answers) if ours != theirs]

@@ -1,4 +1,5 @@
 """What the parts of the page's test have in common: the program, the page in its browser, and the count of what was compared."""
+import contextlib
 import os
 import re
 import subprocess
@@ -222,6 +223,16 @@ def media(**features):
     named = {name.replace("_", "-"): value for name, value in features.items()}
     on.page.execute_cdp_cmd("Emulation.setEmulatedMedia", {"features": [{"name": name, "value": value} for name, value in named.items()]})
     wait_for(lambda: run("return Object.entries(arguments[0]).every(([name, value]) => matchMedia(`(${name}: ${value})`).matches)", named))
+
+
+@contextlib.contextmanager
+def unseen():
+    """Meanwhile nothing is laid out or painted, which takes most of the time where only texts are compared, hundreds of times."""
+    run("document.documentElement.style.display = 'none'")
+    try:
+        yield
+    finally:
+        run("document.documentElement.style.display = ''")
 
 
 def to_top():

@@ -2,7 +2,7 @@
 import pathlib
 
 from pictures import png
-from stage import By, Keys, agree, as_program, count, find, grid, is_wide, on, push, put, run, settle, shown, text_of, told, turned, write, written
+from stage import By, Keys, agree, as_program, count, find, grid, is_wide, on, push, put, run, settle, shown, text_of, told, turned, unseen, write, written
 
 HERE = pathlib.Path(__file__).resolve().parent
 # The marks of other encoders, and three that dmtxwrite made (-e c, t and x): characters of each shift set, with and without an Upper Shift.
@@ -111,14 +111,15 @@ def other_encoders():
     grids = [record.rstrip("\n") + "\n" for file in MARKS for record in file.read_text().split("\n\n") if record.strip()]
     push("tab-read")
     answers = told(grids)
-    for text, answer in [(text, answer) for text, answer in zip(grids, answers) if not is_wide(answer)]:
-        put("grid", text)
-        name = f"mark of another encoder, {answer[0][:20]}"
-        count.expect(name, as_program(shown()), answer)
-        if shown()["state"] != "Refused":
-            count.expect(f"{name}: its codewords", run("return mitsubadoor.spelled(mitsubadoor.mark.seen.told.flatMap((it) => it.items))"), answer[0])
-            count.expect(f"{name}: one for each", run("const { told, size } = mitsubadoor.mark.seen; return told.length === size.data"), True)
-    wide_marks()
+    with unseen():
+        for text, answer in [(text, answer) for text, answer in zip(grids, answers) if not is_wide(answer)]:
+            put("grid", text)
+            name = f"mark of another encoder, {answer[0][:20]}"
+            count.expect(name, as_program(shown()), answer)
+            if shown()["state"] != "Refused":
+                count.expect(f"{name}: its codewords", run("return mitsubadoor.spelled(mitsubadoor.mark.seen.told.flatMap((it) => it.items))"), answer[0])
+                count.expect(f"{name}: one for each", run("const { told, size } = mitsubadoor.mark.seen; return told.length === size.data"), True)
+        wide_marks()
 
 
 def wide_marks():
