@@ -140,11 +140,12 @@ def parser() -> argparse.ArgumentParser:
 def main(words: Optional[List[str]] = None) -> int:
     """Runs the command with these words, by default those of the command line. Returns its status."""
     line = parser()
-    try:
-        import argcomplete
-        argcomplete.autocomplete(line)
-    except ImportError:
-        pass
+    if "_ARGCOMPLETE" in os.environ:  # a shell asks how the line may go on; the import would be a tenth of each start
+        try:
+            import argcomplete
+            argcomplete.autocomplete(line)
+        except ImportError:
+            pass
     given = line.parse_args(words)
     if isinstance(sys.stdout, io.TextIOWrapper):  # a terminal that has no such character gets it spelled
         sys.stdout.reconfigure(errors="backslashreplace")
