@@ -23,8 +23,8 @@ FAULTS = {
     "isn't found": "exec /nowhere/dm_tool",
     "is killed at once": "kill -s KILL $$",
     "is ended by TERM": "kill -s TERM $$",
-    "is killed after a third of its part": "head -c 100000 | REAL; kill -s KILL $$",
-    "ends with 0 after a third of its part": "head -c 100000 | REAL; exit 0",
+    "is killed after 100,000 bytes": "head -c 100000 | REAL; kill -s KILL $$",
+    "ends with 0 after 100,000 bytes": "head -c 100000 | REAL; exit 0",
     "reads its part and answers nothing": "cat > /dev/null; exit 0",
     "loses its last answer": "REAL | head -n -$LINES_OF_LAST; exit 0",
     "answers once more": "REAL; echo A; echo; exit 0",
@@ -37,8 +37,8 @@ FAULTS = {
 }
 # Faults of what is around the program, which is none on other machines or without dm_parts; and those in which the program's own answers are wrong.
 AROUND = {"is killed with its job", "sees GNU parallel killed", "sees the joint killed"}
-LIES = {"is killed with its job", "is killed after a third of its part", "ends with 0 after a third of its part", "answers once more"}
-FAKE = """#!/bin/bash
+LIES = {"is killed with its job", "is killed after 100,000 bytes", "ends with 0 after 100,000 bytes", "answers once more"}
+FAKE = """#!/bin/sh
 # Stands for dm_tool. In the job that is hit, or in all if that is number 0, it has a fault. GNU parallel numbers its jobs.
 number=${PARALLEL_SEQ:-1}
 if [ "$HIT" -ne 0 ] && [ "$HIT" -ne "$number" ]; then exec REAL; fi
@@ -143,7 +143,7 @@ def of_jobs(recipes, given, wanted):
     for name in ALONE:
         file, words = WORDS[name]
         for fault in FAULTS:
-            for size, number in ((None, 1), ("300K", 1), ("300K", 3), ("300K", 0))[: 4 if "file" in name else 2]:
+            for size, number in ((None, 1), ("400K", 1), ("400K", 3), ("400K", 0))[: 4 if "file" in name else 2]:
                 block = recipes[name] if size is None else in_parts(recipes[name], size)
                 which = f"{name}, {'whole' if size is None else f'in parts, job {number or chr(42)}'}: dm_tool {fault}"
                 yield which, lambda a=(fault, block, {file: given[file]}, words, wanted[name], number): planted(*a)
@@ -187,7 +187,7 @@ def of_machine(recipes, given, wanted, folder):
     paths = machines(folder)
     for name in ALONE:
         file = WORDS[name][0]
-        case = in_parts(recipes[name], "300K"), {file: given[file]}, wanted[name]
+        case = in_parts(recipes[name], "400K"), {file: given[file]}, wanted[name]
         for missing, path in paths.items():
             yield f"{name}: no {missing}", lambda a=(recipes[name], {file: given[file]}, wanted[name]), p=path: hit(*a, path=p)
             if missing != "dm_tool":
@@ -243,7 +243,7 @@ def same_folder(recipes, given, wanted):
     with tempfile.TemporaryDirectory() as folder:
         names = ["jobs.tsv", "part.0000", "part.0000.out", "part.0000.status", "text", "answers", "counted", "joined", "parallel", "1"]
         put(folder, {"grids.txt": given["grids.txt"], **{one: b"old\n" for one in names}})
-        block = in_parts(recipes[name], "300K")
+        block = in_parts(recipes[name], "400K")
         commands = [block, block.replace("answers.txt", "others.txt")]
         runs = [subprocess.Popen(["bash", "-c", command], cwd=folder, env=environment(folder)) for command in commands]
         statuses = [run.wait() for run in runs]
@@ -347,14 +347,14 @@ def of_hosts(recipes):
     with two_hosts() as ssh:
         for hosts, sure in (("nowhere", True), ("one,nowhere", False), ("nowhere,:", False)):
             for text in ("grids.txt", "< grids.txt"):
-                command = f"dm_parts --block 300K --ssh {hosts} --output answers.txt read {text}"
+                command = f"dm_parts --block 400K --ssh {hosts} --output answers.txt read {text}"
                 yield f"hosts {hosts}, {text}", hit(command, {"grids.txt": given}, wanted, sure=sure, ssh=ssh), None
-                command = f"dm_parts --block 300K --jobs 2 --ssh {hosts} --output answers.txt read {text}"
+                command = f"dm_parts --block 400K --jobs 2 --ssh {hosts} --output answers.txt read {text}"
                 yield f"hosts {hosts}, {text}, two jobs each", hit(command, {"grids.txt": given}, wanted, sure=sure, ssh=ssh), None
     faults = {fault: body for fault, body in FAULTS.items() if fault not in AROUND}
-    faults.update({"sees its host go away": GOES, "sees its host go away after half": f"head -c 100000 | REAL; {GOES}"})
+    faults.update({"sees its host go away": GOES, "sees its host go away after half": f"head -c 200000 | REAL; {GOES}"})
     with tempfile.TemporaryDirectory() as folder, two_hosts(os.path.join(folder, "fake") + os.pathsep + PATH) as ssh:
-        command = in_parts(block.replace("one,two,:", "one,two"), "300K")
+        command = in_parts(block.replace("one,two,:", "one,two"), "400K")
         for fault, body in faults.items():
             for number in (1, 3):
                 on_host(folder, body, number)

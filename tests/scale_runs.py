@@ -38,7 +38,7 @@ def grids():
     bad = [b"x", b"1", b"10\r\n01\r", b"10\n1", b"1010\n0101\n1010\n0101", b"1 0\n0 1", b"1,0\n0,1", b"\x00\xff", b"0" * 105]
     records = good + [turned, light, first.replace(b"1" * 10, b"0" * 10)] + bad
     text = b"\n\n"
-    for count in range(40):
+    for count in range(len(records)):
         text += records[count * 7 % len(records)] + b"\n" * (2 + count % 4)
     return text + records[0]
 
