@@ -17,7 +17,9 @@ import crates
 
 AT_ONCE = 3
 LANGUAGES = {"ecc200.h": [Callers.in_c, Callers.in_cpp], "ecc200.rs": [Callers.in_rust], "ecc200.py": [Callers.in_python]}
-SOURCES = os.path.join("crates", "ecc200")
+# The crate that has the structs and all that the exports do.
+CALLS = "ecc200_calls"
+SOURCES = os.path.join("crates", CALLS)
 
 
 def bugs(word):
@@ -51,7 +53,7 @@ def first_failure(tests):
 
 def add_sources(top):
     """What tools/callers compares with the interface: the sources of these crates, where they aren't there."""
-    for crate in ("dm_layout", "dm_words", "ecc200"):
+    for crate in ("dm_layout", "dm_words", CALLS):
         source = os.path.join("crates", crate, "src")
         if not os.path.exists(os.path.join(top, source)):
             shutil.copytree(os.path.join(TOP, source), os.path.join(top, source))
@@ -66,21 +68,26 @@ def over_interface(top, callers):
 
 
 def over_crate(top, callers):
-    """A spoilt crate is proved and built: the tests in C have to fail over it, and so has the comparison of its structs."""
+    """A spoilt crate is proved, and the exports are built over it: the tests in C have to fail over them, and so has the comparison of its structs."""
     add_sources(top)
     said = run([sys.executable, os.path.join(TOP, "tools", "callers"), "--check", "--top", top])[1]
     callers.built, callers.archive = os.path.join(top, "built"), os.path.join(top, "built", "libecc200.a")
     os.mkdir(callers.built)
-    kit = f"{crates.kit()}/toolchain"
-    words = [*crates.command("build", "ecc200"), "--toolchain", kit, "--incremental", "out/incremental", "-o", callers.archive]
+    kit, spoilt_crate = f"{crates.kit()}/toolchain", os.path.join(top, SOURCES)
+    here = lambda word: word.replace(crates.folder(CALLS), spoilt_crate)
+    shutil.rmtree(here(crates.rlib_of(CALLS)), ignore_errors=True)
+    os.makedirs(os.path.dirname(here(crates.rlib_of(CALLS))), exist_ok=True)
+    proved = [*crates.command("build", CALLS), "--incremental", "out/incremental", "-o", here(crates.rlib_of(CALLS))]
+    exports = [*map(here, crates.command("build", "ecc200")), "--toolchain", kit, "-o", callers.archive]
     about = os.path.join(callers.built, "about.o")
     compiled = ["cc", "-std=c11", f"-I{callers.library}", "-c", callers.source("about.c"), "-o", about]
-    for step, folder in ((words, os.path.join(top, SOURCES)), (compiled, top), ([f"{kit}/bin/llvm-ar", "r", callers.archive, about], top)):
+    archived = [f"{kit}/bin/llvm-ar", "r", callers.archive, about]
+    for step, folder in ((proved, spoilt_crate), (exports, crates.folder("ecc200")), (compiled, top), (archived, top)):
         status, output = run(step, cwd=folder)
         if status:
             print(f"not proved: {output[-300:]}", flush=True)
             return [None]
-    return [said if "crates/ecc200/src" in said else None, first_failure(callers.in_c())]
+    return [said if f"{SOURCES}/src" in said else None, first_failure(callers.in_c())]
 
 
 def found_by(top, file, callers):

@@ -1,5 +1,0 @@
-use Rattle.ecc200.proofs.MadeGrids.{made, one_made}
-use Rattle.ecc200.proofs.laws.modules_make_the_grid.Goals as goal
-
-pub returns : goal.returns
-returns c = record { made = made; one = one_made }

@@ -1,6 +1,0 @@
-use Rattle.std.proofs.Common.{◌≡◌, take}
-use Rattle.ecc200.specs.Items.{numbers_of}
-use Rattle.ecc200.proofs.message.message_of_bytes.Given as goal
-
-abbrev pub invariant-loop-byte : goal.invariant-loop-byte
-invariant-loop-byte l = numbers_of l.message ≡ take l.byte-index l.bytes

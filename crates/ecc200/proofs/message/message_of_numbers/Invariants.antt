@@ -1,6 +1,0 @@
-use Rattle.std.proofs.Common.{◌≡◌, take}
-use Rattle.ecc200.specs.Items.{numbers_of}
-use Rattle.ecc200.proofs.message.message_of_numbers.Given as goal
-
-abbrev pub invariant-loop-number : goal.invariant-loop-number
-invariant-loop-number l = numbers_of l.message ≡ take l.number-index l.numbers

@@ -1,0 +1,12 @@
+use Rattle.std.proofs.Common.{◌≡◌, ◌*◌, ◌<◌, ◌≤◌, ℕ, get_or, length}
+use Rattle.ecc200_calls.specs.Places.{nothing, place_at}
+use Rattle.ecc200_calls.specs.inner.PlaceSteps.{structure_place}
+use Rattle.ecc200_calls.proofs.place_table.put_structure.Given as goal
+
+abbrev pub invariant-loop-row : goal.invariant-loop-row
+invariant-loop-row l = record {
+  put : (r c : ℕ) → r < l.row → c < l.size.side → place_at l.size l.places r c ≡ structure_place l.size r c;
+  behind : (i : ℕ) → l.row * l.size.side ≤ i → get_or l.places i nothing ≡ get_or l.initial.places i nothing;
+  room : length l.places ≡ length l.initial.places;
+  side : l.row-end ≡ l.size.side;
+}

@@ -1,0 +1,9 @@
+use Rattle.std.proofs.Common.{◌≡◌, length, map, take}
+use Rattle.ecc200_calls.specs.Sizes.{size_shown}
+use Rattle.ecc200_calls.proofs.size_table.put_sizes.Given as goal
+
+abbrev pub invariant-loop-i : goal.invariant-loop-i
+invariant-loop-i l = record {
+  prefix : take l.i l.rows ≡ map size_shown (take l.i l.sizes);
+  room : length l.rows ≡ length l.sizes;
+}

@@ -1,0 +1,63 @@
+-- Faults as numbers: the codes of the header. The numbers 3 to 14 are those of the program's refusals.
+use Rattle.std.specs.Prelude.{ℕ}
+use Rattle.dm_symbol.specs.declared.WordFault.{WordFault}
+use Rattle.dm_symbol.specs.declared.WordFault.TheVariants as word
+use Rattle.dm_symbol.specs.declared.ReadFault.{ReadFault}
+use Rattle.dm_symbol.specs.declared.ReadFault.TheVariants as read
+use Rattle.dm_symbol.specs.declared.NormalFault.{NormalFault}
+use Rattle.dm_symbol.specs.declared.NormalFault.TheVariants as normal
+use Rattle.ecc200_calls.specs.declared.fault.Fault.{Fault}
+
+-- A fault has these three numbers.
+abbrev pub fault : ℕ → ℕ → ℕ → Fault
+fault code value place = record { code = code; value = value; place = place }
+
+-- There is no fault.
+abbrev pub no_fault : Fault
+no_fault = fault 0 0 0
+
+-- There are not as many modules as the square of the side.
+abbrev pub shape : Fault
+shape = fault 3 0 0
+
+-- No size has this side.
+abbrev pub no_such_side : ℕ → Fault
+no_such_side side = fault 4 side 0
+
+-- The data codewords spell no message. Places count them from 1.
+abbrev pub word_fault : WordFault → Fault
+word_fault (word.Reserved place) = fault 7 0 place
+word_fault (word.LeftOut value place) = fault 8 value place
+word_fault (word.UpperShift place) = fault 9 0 place
+word_fault (word.Triplet place) = fault 10 0 place
+word_fault (word.Value place) = fault 11 0 place
+word_fault (word.Length place) = fault 12 0 place
+word_fault (word.Unfinished place) = fault 13 0 place
+
+-- A grid is not read: because of its borders, with the number of their wrong modules; because of a block, with its number, from 0; or
+-- because of its data codewords.
+abbrev pub read_fault : ReadFault → Fault
+read_fault (read.Border count) = fault 5 count 0
+read_fault (read.Block block) = fault 6 0 block
+read_fault (read.Words why) = word_fault why
+
+-- A message fits no size.
+abbrev pub too_long : Fault
+too_long = fault 14 0 0
+
+-- A grid has no normal grid.
+abbrev pub normal_fault : NormalFault → Fault
+normal_fault (normal.Read why) = read_fault why
+normal_fault normal.TooLong = too_long
+
+-- This number, at this place, stands for no item.
+abbrev pub foreign : ℕ → ℕ → Fault
+foreign number place = fault 15 number place
+
+-- This number stands for no profile.
+abbrev pub no_such_profile : ℕ → Fault
+no_such_profile number = fault 16 number 0
+
+-- This number stands for no extent.
+abbrev pub no_such_extent : ℕ → Fault
+no_such_extent number = fault 17 number 0

@@ -1,0 +1,109 @@
+//! Faults as numbers.
+
+ghost use Rattle.std.specs.Prelude.{◌≡◌};
+ghost use Rattle.ecc200_calls.specs.Faults.{fault, foreign, no_fault, no_such_extent, no_such_profile, no_such_side, normal_fault, read_fault, shape, too_long, word_fault};
+
+use dm_symbol::{NormalFault, ReadFault, WordFault};
+
+/// Why there is no result: a code of the header, and what the header says beside it. All three are 0 if there is a result.
+#[repr(C)]
+#[derive(Clone, Copy)]
+pub struct Fault {
+    pub code: u16,
+    pub value: u16,
+    pub place: u16,
+}
+
+impl Fault {
+    /// Makes a fault of its three numbers.
+    fn of(code: u16, value: u16, place: u16) -> Fault
+        ensures { result ≡ fault code value place }
+    {
+        Fault { code, value, place }
+    }
+
+    /// Says that there is no fault.
+    pub(crate) fn none() -> Fault
+        ensures { result ≡ no_fault }
+    {
+        Fault::of(0, 0, 0)
+    }
+
+    /// Says that there are not as many modules as the square of the side.
+    pub(crate) fn shape() -> Fault
+        ensures { result ≡ shape }
+    {
+        Fault::of(3, 0, 0)
+    }
+
+    /// Says that no size has this side.
+    pub(crate) fn no_such_side(side: u16) -> Fault
+        ensures { result ≡ no_such_side side }
+    {
+        Fault::of(4, side, 0)
+    }
+
+    /// Says that a message fits no size.
+    pub(crate) fn too_long() -> Fault
+        ensures { result ≡ too_long }
+    {
+        Fault::of(14, 0, 0)
+    }
+
+    /// Says that this number, at this place, stands for no item.
+    pub(crate) fn foreign(number: u16, place: u16) -> Fault
+        ensures { result ≡ foreign number place }
+    {
+        Fault::of(15, number, place)
+    }
+
+    /// Says that this number stands for no profile.
+    pub(crate) fn no_such_profile(number: u16) -> Fault
+        ensures { result ≡ no_such_profile number }
+    {
+        Fault::of(16, number, 0)
+    }
+
+    /// Says that this number stands for no extent.
+    pub(crate) fn no_such_extent(number: u16) -> Fault
+        ensures { result ≡ no_such_extent number }
+    {
+        Fault::of(17, number, 0)
+    }
+}
+
+/// Gives the fault of a grid that is not read.
+pub(crate) fn read_fault(why: ReadFault) -> Fault
+    ensures { result ≡ read_fault why }
+{
+    match why {
+        ReadFault::Border(count) => Fault::of(5, count, 0),
+        ReadFault::Block(block) => Fault::of(6, 0, u16::from(block)),
+        ReadFault::Words(why) => word_fault(why),
+    }
+}
+
+/// Gives the fault of data codewords that spell no message.
+fn word_fault(why: WordFault) -> Fault
+    ensures { result ≡ word_fault why }
+{
+    match why {
+        WordFault::Reserved(place) => Fault::of(7, 0, place),
+        WordFault::LeftOut(word, place) => Fault::of(8, u16::from(word), place),
+        WordFault::UpperShift(place) => Fault::of(9, 0, place),
+        WordFault::Triplet(place) => Fault::of(10, 0, place),
+        WordFault::Value(place) => Fault::of(11, 0, place),
+        WordFault::Length(place) => Fault::of(12, 0, place),
+        WordFault::Unfinished(place) => Fault::of(13, 0, place),
+    }
+}
+
+/// Gives the fault of a grid that has no normal grid.
+pub(crate) fn normal_fault(why: NormalFault) -> Fault
+    ensures { result ≡ normal_fault why }
+{
+    match why {
+        NormalFault::Read(why) => read_fault(why),
+        NormalFault::TooLong => Fault::too_long(),
+    }
+}

@@ -1,0 +1,82 @@
+//! Messages as numbers: a byte is itself, FNC1 is 256.
+
+ghost use Rattle.std.specs.Prelude.{◌≡◌, ◌≤◌, ◌++◌, drop, length, map, All, IfSome, IfNone};
+ghost use Rattle.dm_symbol.specs.Messages.{IsMessage};
+ghost use Rattle.ecc200_calls.specs.Items.{IsFirstForeign, number_of, numbers_of};
+
+use dm_symbol::{Item, MOST_ITEMS, Message};
+
+/// The number of FNC1.
+const FNC1: u16 = 256;
+
+/// Gives the place of the first of these numbers that stands for no item.
+pub(crate) fn first_foreign(numbers: &[u16]) -> Option<usize>
+    ensures some { IfSome result (λ place. IsFirstForeign numbers.now place) }
+    ensures none { IfNone result (All (λ number. number ≤ 256) numbers.now) }
+{
+    numbers.iter().position(|number| *number > FNC1)
+}
+
+/// Gives the message of these numbers.
+pub(crate) fn message_of_numbers(numbers: &[u16]) -> Message
+    requires items { All (λ number. number ≤ 256) numbers.now }
+    requires room { length numbers.now ≤ MOST_ITEMS }
+    ensures numbers { numbers_of result ≡ numbers.now }
+    ensures message { IsMessage result }
+{
+    let mut message = Message::new();
+    for number in numbers {
+        let _room = message.push(item_of(*number));
+    }
+    // That its bytes are 0 to 255 is known from this call.
+    let _items = message.items();
+    message
+}
+
+/// Gives the message of these bytes.
+pub(crate) fn message_of_bytes(bytes: &[u8]) -> Message
+    requires { length bytes.now ≤ MOST_ITEMS }
+    ensures numbers { numbers_of result ≡ bytes.now }
+    ensures message { IsMessage result }
+{
+    let mut message = Message::new();
+    for byte in bytes {
+        let _room = message.push(Item::Byte(*byte));
+    }
+    // That its bytes are 0 to 255 is known from this call.
+    let _items = message.items();
+    message
+}
+
+/// Gives the item of a number.
+fn item_of(number: u16) -> Item
+    requires { number ≤ 256 }
+    ensures { number_of result ≡ number }
+{
+    if number < FNC1 {
+        Item::Byte(number as u8)
+    } else {
+        Item::Fnc1
+    }
+}
+
+/// Gives the number of an item.
+fn number_of(item: Item) -> u16
+    ensures { result ≡ number_of item }
+{
+    match item {
+        Item::Byte(byte) => u16::from(byte),
+        Item::Fnc1 => FNC1,
+    }
+}
+
+/// Writes the numbers of a message over the first ones.
+pub(crate) fn put_message(all: &mut [u16], message: &Message)
+    requires { length message.now ≤ length all.old }
+    ensures { all.new ≡ numbers_of message.now ++ drop (length message.now) all.old }
+{
+    let items = message.items();
+    for (i, item) in items.iter().enumerate() {
+        all[i] = number_of(*item);
+    }
+}

@@ -1,0 +1,154 @@
+//! Grids as bytes, one for each module, row by row from the top. They are packed and unpacked sixteen at once.
+
+ghost use Rattle.std.specs.Prelude.{◌≡◌, ◌+◌, ◌*◌, ◌^◌, ◌≤◌, ◌<◌, ◌++◌, ℕ, [], drop, get_or, length, map, take, IfErr, OnOk};
+ghost use Rattle.dm_symbol.specs.Grid.{is_dark_in};
+ghost use Rattle.std.specs.Simd.Lanes.{mask_l};
+ghost use Rattle.ecc200_calls.specs.inner.UnpackedCells.{unpacked_cells};
+ghost use Rattle.ecc200_calls.specs.Modules.{IsGridOf, IsModulesFault, is_dark, module_of, modules_of};
+
+use crate::fault::Fault;
+use dm_symbol::{Grid, LARGEST_SIDE};
+use std::simd::prelude::*;
+
+/// This many modules are packed together, and as many are unpacked.
+const TOGETHER: usize = 16;
+
+/// The modules of a row of the largest side, and some more, so that the last ones can be unpacked together.
+const LINE: usize = LARGEST_SIDE / TOGETHER * TOGETHER + TOGETHER;
+
+/// The weight of each module in its byte.
+const WEIGHTS: [u8; TOGETHER] = [1, 2, 4, 8, 16, 32, 64, 128, 1, 2, 4, 8, 16, 32, 64, 128];
+
+/// The most modules of a symbol.
+pub(crate) const MOST_MODULES: usize = LARGEST_SIDE * LARGEST_SIDE;
+
+/// Turns `grid` into that of these modules, or says why they make none.
+pub(crate) fn make_grid(modules: &[u8], side: u16, grid: &mut Grid) -> Result<(), Fault>
+    ensures grid { OnOk result (IsGridOf side modules.now grid.new) }
+    ensures fault { IfErr result (λ why. IsModulesFault side modules.now why) }
+{
+    let across = usize::from(side);
+    if modules.len() != across * across {
+        return Err(Fault::shape());
+    }
+    if across > LARGEST_SIDE {
+        return Err(Fault::no_such_side(side));
+    }
+    let mut rows = [0; LARGEST_SIDE];
+    for row in 0..across {
+        rows[row] = pack(&modules[row * across..], across);
+    }
+    match grid.set_rows(side, &rows[..across]) {
+        Ok(()) => Ok(()),
+        Err(_) => Err(Fault::no_such_side(side)),
+    }
+}
+
+/// Packs the first modules into one number: the module of a column is the bit whose weight is 2 to the power of that column, 1 for dark. What its
+/// other bits are is of no account.
+fn pack(modules: &[u8], across: usize) -> u128
+    requires few { across ≤ LARGEST_SIDE }
+    requires there { across ≤ length modules.now }
+    ensures { (column : ℕ) → column < across
+        → is_dark_in result column ≡ is_dark (get_or modules.now column 0) }
+{
+    let mut row = 0;
+    let mut column = 0;
+    while column < across {
+        row |= pack_together(&modules[column..]) << column;
+        column += TOGETHER;
+    }
+    row
+}
+
+/// Packs the first modules, as many as are packed together, or all if they are fewer. The last modules of a symbol can be fewer; else modules of the
+/// row below are among them.
+fn pack_together(modules: &[u8]) -> u128
+    ensures modules { (column : ℕ) → column < TOGETHER → column < length modules.now
+        → is_dark_in result column ≡ is_dark (get_or modules.now column 0) }
+    ensures small { result < 2 ^ TOGETHER }
+{
+    if modules.len() < TOGETHER {
+        return pack_singly(modules);
+    }
+    u128::from(dark_bits(u8x16::from_slice(modules)))
+}
+
+/// Gives the dark ones of these modules as bits, the first as the lowest. A module is dark if its number isn't 0.
+#[inline]
+fn dark_bits(modules: u8x16) -> u64
+    ensures { result ≡ mask_l (map is_dark modules) }
+{
+    modules.simd_ne(u8x16::splat(0)).to_bitmask()
+}
+
+/// Packs these modules, one after the other.
+fn pack_singly(modules: &[u8]) -> u128
+    requires { length modules.now < TOGETHER }
+    ensures modules { (column : ℕ) → column < length modules.now
+        → is_dark_in result column ≡ is_dark (get_or modules.now column 0) }
+    ensures small { result < 2 ^ length modules.now }
+{
+    let across = modules.len();
+    let mut row = 0;
+    for i in 0..across {
+        row = 2 * row + u128::from(modules[across - 1 - i] != 0);
+    }
+    row
+}
+
+/// Writes the modules of a grid over the first numbers.
+pub(crate) fn put_modules(all: &mut [u8], grid: &Grid)
+    requires { grid.now.size.side * grid.now.size.side ≤ length all.old }
+    ensures { all.new ≡ modules_of grid.now ++ drop (length (modules_of grid.now)) all.old }
+{
+    for row in 0..grid.size().side() {
+        put_row(all, grid, row);
+    }
+}
+
+/// Writes the modules of a row over the numbers where it stands.
+fn put_row(all: &mut [u8], grid: &Grid, row: u16)
+    requires row { row < grid.now.size.side }
+    requires room { grid.now.size.side * grid.now.size.side ≤ length all.old }
+    ensures { all.new ≡ take (row * grid.now.size.side) all.old
+        ++ map module_of (get_or grid.now.rows row [])
+        ++ drop ((row + 1) * grid.now.size.side) all.old }
+{
+    let width = grid.size().side();
+    let side = usize::from(width);
+    let start = usize::from(row) * side;
+    let line = unpack(grid.row(row), width);
+    all[start..start + side].copy_from_slice(&line[..side]);
+}
+
+/// Unpacks the first cells of a row, of which the first is the lowest bit. What follows their modules is of no account.
+fn unpack(cells: u128, width: u16) -> [u8; LINE]
+    requires { width ≤ LARGEST_SIDE }
+    ensures modules { (column : ℕ) → column < width
+        → get_or result column 0 ≡ module_of (is_dark_in cells column) }
+    ensures room { length result ≡ LINE }
+{
+    let mut line = [0; LINE];
+    let mut column = 0;
+    while column < width {
+        let together = unpack_together((cells >> column & 0xffff) as u16);
+        together.copy_to_slice(&mut line[usize::from(column)..]);
+        column += TOGETHER as u16;
+    }
+    line
+}
+
+/// Unpacks sixteen cells, of which the first is the lowest bit.
+#[inline]
+fn unpack_together(cells: u16) -> u8x16
+    ensures { result ≡ unpacked_cells TOGETHER cells }
+{
+    let low = (cells & 0xff) as u8;
+    let high = (cells >> 8) as u8;
+    let spread = u8x16::from_array([
+        low, low, low, low, low, low, low, low, high, high, high, high, high, high, high, high,
+    ]);
+    let dark = (spread & u8x16::from_array(WEIGHTS)).simd_ne(u8x16::splat(0));
+    dark.select(u8x16::splat(1), u8x16::splat(0))
+}
