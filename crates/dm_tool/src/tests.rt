@@ -110,34 +110,18 @@ fn comes_to<'a>(alloc: Global, words: &'a [&'a str], task: Result<Task, CallFaul
     task_of(alloc, words) == task
 }
 
-/// Each line of words comes to the task beside it.
-fn tasks_are_named(alloc: Global) -> bool {
-    for (words, task) in &TASKS {
-        if !comes_to(alloc, words, Ok(*task)) {
-            return false;
-        }
-    }
-    true
-}
-
 #[test]
 fn each_line_of_words_names_its_task(rt: HostRuntime) {
-    assert!(rt; tasks_are_named(rt.alloc()));
-}
-
-/// Each line of words that names no task is refused.
-fn others_are_refused(alloc: Global) -> bool {
-    for words in &REFUSED {
-        if !comes_to(alloc, words, Err(CallFault::Usage)) {
-            return false;
-        }
+    for (words, task) in &TASKS {
+        assert!(rt; comes_to(rt.alloc(), words, Ok(*task)));
     }
-    true
 }
 
 #[test]
 fn other_words_are_refused(rt: HostRuntime) {
-    assert!(rt; others_are_refused(rt.alloc()));
+    for words in &REFUSED {
+        assert!(rt; comes_to(rt.alloc(), words, Err(CallFault::Usage)));
+    }
 }
 
 /// A fault as text is this line.

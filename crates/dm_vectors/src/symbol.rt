@@ -169,19 +169,11 @@ fn is_normal_grid(text: &[u8], words: &[u8], cells: &str) -> bool {
         && says(&grid, 0, text, &[0], 0)
 }
 
-/// Whether the normal grid of each row's text is as the row says.
-fn all_are_normal_grids() -> bool {
-    for (text, words, cells) in &NORMAL_GRIDS {
-        if !is_normal_grid(text, words, cells) {
-            return false;
-        }
-    }
-    true
-}
-
 #[test]
 fn writes_normal_grids(rt: HostRuntime) {
-    holds(&rt, all_are_normal_grids());
+    for (text, words, cells) in &NORMAL_GRIDS {
+        holds(&rt, is_normal_grid(text, words, cells));
+    }
 }
 
 /// Messages, and their ASCII codewords at side 10.
@@ -201,19 +193,11 @@ static ASCII: [(&[Item], &[u8]); 4] = [
     (&[Item::Byte(255)], &[235, 128, 129]),
 ];
 
-/// Whether the items of each row are written as its codewords.
-fn all_are_written_in_ascii() -> bool {
-    for (items, words) in &ASCII {
-        if !is_of(&write(&of_items(items)), 10, words) {
-            return false;
-        }
-    }
-    true
-}
-
 #[test]
 fn messages_are_written_as_symbols(rt: HostRuntime) {
-    holds(&rt, all_are_written_in_ascii());
+    for (items, words) in &ASCII {
+        holds(&rt, is_of(&write(&of_items(items)), 10, words));
+    }
 }
 
 /// Whether a message that just fills this size is written at it, and one that just doesn't fit at a larger one, if there is one.
@@ -226,26 +210,14 @@ fn is_just_filled(size: Size) -> bool {
     larger && is_filled(&write(&of_many(b'A', count)), side, 66)
 }
 
-/// Whether each size can be filled.
-fn all_are_just_filled() -> bool {
-    for size in table() {
-        if !is_just_filled(size) {
-            return false;
-        }
-    }
-    true
-}
-
-/// Whether two digits take one codeword, also at the sizes of several blocks.
-fn digits_fill() -> bool {
-    is_filled(&write(&of_many(b'7', 408)), 52, 207)
-        && is_filled(&write(&of_many(b'7', 1632)), 104, 207)
-}
-
 #[test]
 fn writes_every_size(rt: HostRuntime) {
-    holds(&rt, all_are_just_filled());
-    holds(&rt, digits_fill());
+    for size in table() {
+        holds(&rt, is_just_filled(size));
+    }
+    // two digits take one codeword, also at the sizes of several blocks
+    holds(&rt, is_filled(&write(&of_many(b'7', 408)), 52, 207));
+    holds(&rt, is_filled(&write(&of_many(b'7', 1632)), 104, 207));
     holds(&rt, write(&of_many(b'A', MOST_DATA + 1)).is_err());
 }
 
@@ -286,23 +258,18 @@ static NORMALISED: [([u8; 3], [u8; 3]); 3] = [
     ([230, 10, 255], [235, 66, 129]),
 ];
 
-/// Whether the data codewords of each row become those of the normal grid.
-fn all_are_normalised() -> bool {
-    for (data_words, normal_words) in &NORMALISED {
-        if !is_of(
-            &normal(&completed_grid(10, data_words), 2),
-            10,
-            normal_words,
-        ) {
-            return false;
-        }
-    }
-    true
-}
-
 #[test]
 fn normalises_bytes_above_127(rt: HostRuntime) {
-    holds(&rt, all_are_normalised());
+    for (data_words, normal_words) in &NORMALISED {
+        holds(
+            &rt,
+            is_of(
+                &normal(&completed_grid(10, data_words), 2),
+                10,
+                normal_words,
+            ),
+        );
+    }
 }
 
 /// A message in the smallest symbol, whatever size it came in.

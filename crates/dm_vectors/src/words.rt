@@ -138,19 +138,11 @@ static SPELLED_WITH_FNC1: [(&[u8], &[Item]); 3] = [
     ),
 ];
 
-/// Whether the codewords of each row spell its items.
-fn all_are_spelled_with_fnc1() -> bool {
-    for (words, items) in &SPELLED_WITH_FNC1 {
-        if !spells(words, items) {
-            return false;
-        }
-    }
-    true
-}
-
 #[test]
 fn reads_fnc1(rt: HostRuntime) {
-    holds(&rt, all_are_spelled_with_fnc1());
+    for (words, items) in &SPELLED_WITH_FNC1 {
+        holds(&rt, spells(words, items));
+    }
 }
 
 /// Codewords that are reserved or left out, and the fault with which they are refused.
@@ -238,19 +230,11 @@ fn refuses_what_spells_no_message(rt: HostRuntime) {
     holds(&rt, all_are_refused(&LENGTHS));
 }
 
-/// Whether each reserved codeword is refused.
-fn reserved_are_refused() -> bool {
-    for codeword in 242..=255u8 {
-        if !is_refused(&[codeword], WordFault::Reserved(1)) {
-            return false;
-        }
-    }
-    true
-}
-
 #[test]
 fn refuses_reserved_codewords(rt: HostRuntime) {
-    holds(&rt, reserved_are_refused());
+    for codeword in 242..=255u8 {
+        holds(&rt, is_refused(&[codeword], WordFault::Reserved(1)));
+    }
 }
 
 /// The codewords with pads up to this size, where there is one that has room for them.

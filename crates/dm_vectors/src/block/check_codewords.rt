@@ -20,35 +20,20 @@ static SIDE_10: [([u8; 3], [u8; 5]); 5] = [
     ([66, 74, 78], [60, 104, 105, 21, 207]),
 ];
 
-/// Whether each block of side 10 has its check codewords.
-fn all_have_checks() -> bool {
-    for (data, checks) in &SIDE_10 {
-        if !has_checks(data, checks) {
-            return false;
-        }
-    }
-    true
-}
-
 #[test]
 fn check_codewords_of_blocks_of_side_10(rt: HostRuntime) {
-    holds(&rt, all_have_checks());
-}
-
-/// Whether the check codewords are all 0, in each block, where the data codewords are.
-fn zeros_have_zeros(zeros: &[u8; 255]) -> bool {
-    for size in table() {
-        let (count, k) = data_and_checks(size);
-        if !has_checks(part(zeros, 0, count), part(zeros, 0, k)) {
-            return false;
-        }
+    for (data, checks) in &SIDE_10 {
+        holds(&rt, has_checks(data, checks));
     }
-    true
 }
 
 #[test]
 fn check_codewords_of_zeros_are_zeros(rt: HostRuntime) {
-    holds(&rt, zeros_have_zeros(&[0; 255]));
+    let zeros = [0; 255];
+    for size in table() {
+        let (count, k) = data_and_checks(size);
+        holds(&rt, has_checks(part(&zeros, 0, count), part(&zeros, 0, k)));
+    }
 }
 
 /// Takes the multiple of the divisor, whose first coefficient is 1, away that leaves 0 at the first place.

@@ -91,21 +91,16 @@ fn with_error(word: [u8; 8], place: usize, error: u8) -> [u8; 8] {
     damaged
 }
 
-/// Whether each error at this place is corrected.
-fn is_each_error_corrected(place: usize) -> bool {
-    for error in 1..=255u8 {
-        if !is_corrected(&with_error(WORD, place, error), &WORD, 5, 1) {
-            return false;
-        }
-    }
-    true
-}
-
 /// Each codeword replaced by each other value.
 #[test]
 fn each_single_error_is_corrected(rt: HostRuntime) {
     for place in 0..8 {
-        holds(&rt, is_each_error_corrected(place));
+        for error in 1..=255u8 {
+            holds(
+                &rt,
+                is_corrected(&with_error(WORD, place, error), &WORD, 5, 1),
+            );
+        }
     }
 }
 
@@ -127,23 +122,15 @@ fn errors_at_each_two_places_are_corrected(rt: HostRuntime) {
     }
 }
 
-/// Whether errors at these two places and at each place before them are refused.
-fn is_refused_before(i: usize, j: usize) -> bool {
-    for m in 0..j {
-        let damaged = with_error(with_error(with_error(WORD, i, 255), j, 255), m, 255);
-        if !is_refused(&damaged, 5) {
-            return false;
-        }
-    }
-    true
-}
-
 /// No codeword lies within the limit of these words, so none is made up.
 #[test]
 fn errors_at_each_three_places_with_five_checks_are_refused(rt: HostRuntime) {
     for i in 0..8 {
         for j in 0..i {
-            holds(&rt, is_refused_before(i, j));
+            for m in 0..j {
+                let damaged = with_error(with_error(with_error(WORD, i, 255), j, 255), m, 255);
+                holds(&rt, is_refused(&damaged, 5));
+            }
         }
     }
 }
@@ -183,36 +170,24 @@ fn is_corrected_to_the_generator(count: usize, k: usize) -> bool {
     is_corrected(part(&damaged, 0, length), part(&word, 0, length), k, k / 2)
 }
 
-/// Whether that is so in each block with an even number of check codewords.
-fn all_are_corrected_to_the_generator() -> bool {
-    for size in table() {
-        let (count, k) = data_and_checks(size);
-        if k % 2 == 0 && !is_corrected_to_the_generator(count, k) {
-            return false;
-        }
-    }
-    true
-}
-
 /// The generator polynomial is nearer there than the word of zeros.
 #[test]
 fn a_word_nearer_to_another_codeword_is_corrected_to_that(rt: HostRuntime) {
-    holds(&rt, all_are_corrected_to_the_generator());
-}
-
-/// Whether both solvers agree for so many codewords of the list, in each block.
-fn all_are_corrected_alike(list: &[u8; 255]) -> bool {
     for size in table() {
         let (count, k) = data_and_checks(size);
-        if !are_corrected_alike(part(list, 0, count.saturating_add(k)), k) {
-            return false;
-        }
+        holds(&rt, k % 2 == 1 || is_corrected_to_the_generator(count, k));
     }
-    true
 }
 
 /// The blocks of a symbol whose cells are all dark but for its borders: their codewords are all 255.
 #[test]
 fn blocks_of_dark_symbols_are_corrected_alike(rt: HostRuntime) {
-    holds(&rt, all_are_corrected_alike(&[255; 255]));
+    let dark = [255; 255];
+    for size in table() {
+        let (count, k) = data_and_checks(size);
+        holds(
+            &rt,
+            are_corrected_alike(part(&dark, 0, count.saturating_add(k)), k),
+        );
+    }
 }

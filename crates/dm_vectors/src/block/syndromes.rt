@@ -53,17 +53,10 @@ static COUNTS: [(usize, usize); 9] = [
     (68, 255),
 ];
 
-/// Whether the syndromes of so many codewords of the list are their values, for each row.
-fn all_are_values(list: &[u8; 255]) -> bool {
-    for (k, count) in &COUNTS {
-        if !are_values(part(list, 0, *count), *k) {
-            return false;
-        }
-    }
-    true
-}
-
 #[test]
 fn syndromes_are_values_at_the_roots(rt: HostRuntime) {
-    holds(&rt, all_are_values(&pseudorandom(7, 19)));
+    let list = pseudorandom(7, 19);
+    for (k, count) in &COUNTS {
+        holds(&rt, are_values(part(&list, 0, *count), *k));
+    }
 }

@@ -16,19 +16,11 @@ static POWERS: [(u16, u8); 9] = [
     (65535, 1),
 ];
 
-/// Whether each exponent has its power.
-fn all_are_powers() -> bool {
-    for (e, power) in &POWERS {
-        if Gf::power_of_two(*e) != Gf(*power) {
-            return false;
-        }
-    }
-    true
-}
-
 #[test]
 fn powers_of_two(rt: HostRuntime) {
-    holds(&rt, all_are_powers());
+    for (e, power) in &POWERS {
+        holds(&rt, Gf::power_of_two(*e) == Gf(*power));
+    }
 }
 
 /// Factors, and their products.
@@ -41,19 +33,11 @@ static PRODUCTS: [(u8, u8, u8); 6] = [
     (1, 9, 9),
 ];
 
-/// Whether each two factors have their product.
-fn all_are_products() -> bool {
-    for (a, b, product) in &PRODUCTS {
-        if Gf(*a).mul(Gf(*b)) != Gf(*product) {
-            return false;
-        }
-    }
-    true
-}
-
 #[test]
 fn sums_and_products(rt: HostRuntime) {
-    holds(&rt, all_are_products());
+    for (a, b, product) in &PRODUCTS {
+        holds(&rt, Gf(*a).mul(Gf(*b)) == Gf(*product));
+    }
     holds(&rt, Gf(66).add(Gf(62)) == Gf(124));
 }
 

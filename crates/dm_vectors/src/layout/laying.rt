@@ -78,20 +78,12 @@ fn multiples(size: Size, factor: usize) -> Words {
     words_of(size, &list)
 }
 
-/// Whether such codewords of each size are lifted out of their grid again.
-fn all_are_lifted_again() -> bool {
-    for size in table() {
-        let words = multiples(size, 37);
-        if lift(&lay(&words)).list() != words.list() {
-            return false;
-        }
-    }
-    true
-}
-
 #[test]
 fn codewords_that_are_laid_are_lifted_again(rt: HostRuntime) {
-    holds(&rt, all_are_lifted_again());
+    for size in table() {
+        let words = multiples(size, 37);
+        holds(&rt, lift(&lay(&words)).list() == words.list());
+    }
 }
 
 /// Lays codewords into a grid, and lifts them out of it.

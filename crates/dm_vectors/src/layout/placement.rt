@@ -134,17 +134,12 @@ fn place_count(size: Size) -> u16 {
     count
 }
 
-/// Whether each size has eight places for each codeword.
-fn have_eight_places() -> bool {
-    for size in table() {
-        if place_count(size) != 8 * (size.data_count() + size.check_count()) {
-            return false;
-        }
-    }
-    true
-}
-
 #[test]
 fn eight_places_a_codeword(rt: HostRuntime) {
-    holds(&rt, have_eight_places());
+    for size in table() {
+        holds(
+            &rt,
+            place_count(size) == 8 * (size.data_count() + size.check_count()),
+        );
+    }
 }

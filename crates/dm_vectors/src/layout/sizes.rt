@@ -43,20 +43,15 @@ fn row_of(size: Size) -> [u16; 8] {
     ]
 }
 
-/// Whether each size of the table has its row, and is that with its side.
-fn all_have_rows() -> bool {
-    let sizes = table();
-    for i in 0..SIZE_COUNT {
-        if row_of(sizes[i]) != ROWS[i] || Size::of_side(ROWS[i][0]) != Some(sizes[i]) {
-            return false;
-        }
-    }
-    true
-}
-
 #[test]
 fn every_row_is_that_of_the_standard(rt: HostRuntime) {
-    holds(&rt, all_have_rows());
+    let sizes = table();
+    for i in 0..SIZE_COUNT {
+        holds(
+            &rt,
+            row_of(sizes[i]) == ROWS[i] && Size::of_side(ROWS[i][0]) == Some(sizes[i]),
+        );
+    }
 }
 
 /// How many data codewords, and the side of the smallest size that holds them.
@@ -73,19 +68,11 @@ static SIDES: [(u16, u16); 10] = [
     (816, 104),
 ];
 
-/// Whether each count has its smallest side.
-fn all_have_sides() -> bool {
-    for (count, side) in &SIDES {
-        if Size::for_words(*count) != Size::of_side(*side) {
-            return false;
-        }
-    }
-    true
-}
-
 #[test]
 fn the_smallest_size_that_holds_the_words(rt: HostRuntime) {
-    holds(&rt, all_have_sides());
+    for (count, side) in &SIDES {
+        holds(&rt, Size::for_words(*count) == Size::of_side(*side));
+    }
     holds(&rt, Size::for_words(MOST_DATA as u16 + 1).is_none());
     holds(&rt, Size::of_side(11).is_none());
 }

@@ -34,20 +34,12 @@ fn is_read(words: &[u8; 8], corrected: u8) -> bool {
     says(&grid_of(10, words), 2, b"123456", &[corrected], 0)
 }
 
-/// Whether each change of the codeword at this place is corrected.
-fn is_each_change_corrected(place: usize) -> bool {
-    for change in 1..=255u8 {
-        if !is_read(&changed(DIGITS, place, change), 1) {
-            return false;
-        }
-    }
-    true
-}
-
 #[test]
 fn corrects_each_one_codeword(rt: HostRuntime) {
     for place in 0..8 {
-        holds(&rt, is_each_change_corrected(place));
+        for change in 1..=255u8 {
+            holds(&rt, is_read(&changed(DIGITS, place, change), 1));
+        }
     }
 }
 
@@ -70,22 +62,17 @@ fn corrects_each_two_codewords(rt: HostRuntime) {
     }
 }
 
-/// Whether changes at these two places and at each place before them are refused.
-fn is_each_triple_refused(i: usize, j: usize) -> bool {
-    for k in 0..j {
-        let words = changed(changed(changed(DIGITS, i, 255), j, 255), k, 255);
-        if !is_refused(&grid_of(10, &words), 2, ReadFault::Block(0)) {
-            return false;
-        }
-    }
-    true
-}
-
 #[test]
 fn refuses_each_three_codewords(rt: HostRuntime) {
     for i in 0..8 {
         for j in 0..i {
-            holds(&rt, is_each_triple_refused(i, j));
+            for k in 0..j {
+                let words = changed(changed(changed(DIGITS, i, 255), j, 255), k, 255);
+                holds(
+                    &rt,
+                    is_refused(&grid_of(10, &words), 2, ReadFault::Block(0)),
+                );
+            }
         }
     }
 }
@@ -131,39 +118,29 @@ static PLAIN: [(u16, bool, u16); 6] = [
     (104, true, 400),
 ];
 
-/// Whether each grid of one colour is refused for its border.
-fn plain_are_refused() -> bool {
-    for (side, dark, count) in &PLAIN {
-        if !is_refused(
-            &plain(*side, *dark),
-            usual_limit(*side),
-            ReadFault::Border(*count),
-        ) {
-            return false;
-        }
-    }
-    true
-}
-
 #[test]
 fn refuses_plain_grids(rt: HostRuntime) {
-    holds(&rt, plain_are_refused());
-}
-
-/// Whether a grid of each size with nothing but its border is refused for its codewords.
-fn empty_are_refused() -> bool {
-    for size in table() {
-        let fault = ReadFault::Words(WordFault::Reserved(1));
-        if !is_refused(&empty(size), usual_limit(size.side()), fault) {
-            return false;
-        }
+    for (side, dark, count) in &PLAIN {
+        holds(
+            &rt,
+            is_refused(
+                &plain(*side, *dark),
+                usual_limit(*side),
+                ReadFault::Border(*count),
+            ),
+        );
     }
-    true
 }
 
 #[test]
 fn refuses_empty_grids(rt: HostRuntime) {
-    holds(&rt, empty_are_refused());
+    for size in table() {
+        let fault = ReadFault::Words(WordFault::Reserved(1));
+        holds(
+            &rt,
+            is_refused(&empty(size), usual_limit(size.side()), fault),
+        );
+    }
 }
 
 /// The grid of side 10 with two cells turned over.
@@ -184,21 +161,13 @@ fn reads_as(grid: &Grid, text: &[u8]) -> bool {
     }
 }
 
-/// Whether the grid of `123456` is read with this cell and each cell before it turned over.
-fn is_read_with_two_turned(right: &Grid, i: u16) -> bool {
-    for j in 0..i {
-        if !reads_as(&with_two_turned(right, i, j), b"123456") {
-            return false;
-        }
-    }
-    true
-}
-
 /// Each two cells of a normal grid turned over.
 #[test]
 fn reads_with_two_cells_turned(rt: HostRuntime) {
     let right = grid_of(10, &DIGITS);
     for i in 0..100 {
-        holds(&rt, is_read_with_two_turned(&right, i));
+        for j in 0..i {
+            holds(&rt, reads_as(&with_two_turned(&right, i, j), b"123456"));
+        }
     }
 }

@@ -59,16 +59,6 @@ pub(super) fn writes(run: Run<'_>) -> bool {
     outcome == Ok(Tally { answered, refused }) && has_taken(&sink, written)
 }
 
-/// Whether each run writes what its row has.
-pub(super) fn all_write(runs: &[Run<'_>]) -> bool {
-    for run in runs {
-        if !writes(*run) {
-            return false;
-        }
-    }
-    true
-}
-
 /// Whether the task writes just this for a text of one record or line, and counts it as refused where this is a refusal.
 pub(super) fn answers(task: Task, text: &[u8], written: &[u8]) -> bool {
     let refused = u64::from(written.starts_with(b"\\no "));
@@ -107,7 +97,9 @@ static NO_ANSWERS: [Run<'_>; 7] = [
 
 #[test]
 fn an_empty_text_has_no_answers(rt: HostRuntime) {
-    holds(&rt, all_write(&NO_ANSWERS));
+    for run in &NO_ANSWERS {
+        holds(&rt, writes(*run));
+    }
 }
 
 #[test]

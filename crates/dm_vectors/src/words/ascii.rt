@@ -39,19 +39,11 @@ static WRITTEN: [(&[Item], u16, &[u8]); 9] = [
     ),
 ];
 
-/// Whether the items of each row are written as its codewords.
-fn all_are_written() -> bool {
-    for (items, side, words) in &WRITTEN {
-        if !writes(items, *side, words) {
-            return false;
-        }
-    }
-    true
-}
-
 #[test]
 fn messages_are_written_in_ascii(rt: HostRuntime) {
-    holds(&rt, all_are_written());
+    for (items, side, words) in &WRITTEN {
+        holds(&rt, writes(items, *side, words));
+    }
 }
 
 /// Whether the ASCII codewords of the message are so many times this one.

@@ -140,19 +140,14 @@ static TIES: [(usize, usize, usize, bool); 9] = [
     (809, 4, 816, true),
 ];
 
-/// Whether the letters and bytes of each row take its codewords.
-fn all_are_taken() -> bool {
-    for (letters, bytes, length, is_segment) in &TIES {
-        if !takes(&letters_and_bytes(*letters, *bytes), *length, *is_segment) {
-            return false;
-        }
-    }
-    true
-}
-
 #[test]
 fn takes_ascii_at_a_tie_and_a_segment_behind_it(rt: HostRuntime) {
-    holds(&rt, all_are_taken());
+    for (letters, bytes, length, is_segment) in &TIES {
+        holds(
+            &rt,
+            takes(&letters_and_bytes(*letters, *bytes), *length, *is_segment),
+        );
+    }
 }
 
 /// The message of 200 items, FNC1 at this place and else bytes 255.

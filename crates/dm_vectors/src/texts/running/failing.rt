@@ -193,38 +193,40 @@ fn all_answered<'a>(answered: u64, written: &'a [u8], flushes: &'a [usize]) -> E
     }
 }
 
+/// How many bytes of the two grids may come, how many are then answered, or none where that is too much, and what is written.
+static GRID_LIMITS: [(u32, Option<u64>, &[u8]); 6] = [
+    (223, Some(2), b"123456\nA\n"),
+    (222, Some(2), b"123456\nA\n"),
+    (221, None, b"123456\n"),
+    (111, None, b"123456\n"),
+    (110, None, b""),
+    (0, None, b""),
+];
+
 /// Whether a run that reads grids from this text in such pieces, of which so many bytes may come, ends so.
-fn is_limited(text: &[u8], piece: usize, most: u32, end: &End<'_>) -> bool {
-    let end = End {
-        reads: reads_of(text, piece, most as usize),
-        ..*end
+fn is_limited(text: &[u8], piece: usize, most: u32, answered: Option<u64>, written: &[u8]) -> bool {
+    let flushes = [written.len()];
+    let end = match answered {
+        Some(answered) => all_answered(answered, written, &flushes),
+        None => failed(RunFault::TooMuchInput, 0, written),
     };
-    run_ends(Task::Read(None), text, &moving(piece), most, &end)
+    let reads = reads_of(text, piece, most as usize);
+    run_ends(
+        Task::Read(None),
+        text,
+        &moving(piece),
+        most,
+        &End { reads, ..end },
+    )
 }
 
 #[test]
 fn input_is_limited(rt: HostRuntime) {
-    let table = [
-        (TWO_GRIDS, 223, all_answered(2, OUT, &[9])),
-        (TWO_GRIDS, 222, all_answered(2, OUT, &[9])),
-        (
-            TWO_GRIDS,
-            221,
-            failed(RunFault::TooMuchInput, 0, b"123456\n"),
-        ),
-        (
-            TWO_GRIDS,
-            111,
-            failed(RunFault::TooMuchInput, 0, b"123456\n"),
-        ),
-        (TWO_GRIDS, 110, failed(RunFault::TooMuchInput, 0, b"")),
-        (TWO_GRIDS, 0, failed(RunFault::TooMuchInput, 0, b"")),
-        (b"".as_slice(), 0, all_answered(0, b"", &[0])),
-    ];
     for piece in PIECES {
-        for (text, most, end) in &table {
-            holds(&rt, is_limited(text, piece, *most, end));
+        for (most, answered, written) in &GRID_LIMITS {
+            holds(&rt, is_limited(TWO_GRIDS, piece, *most, *answered, written));
         }
+        holds(&rt, is_limited(b"", piece, 0, Some(0), b""));
     }
 }
 

@@ -72,19 +72,15 @@ static DIGITS: [(usize, usize, &[u8]); 3] = [
     (1632, 104, b"ok 104 border 0 corrected 0 0 0 0 0 0\n"),
 ];
 
-/// Whether each row of so many of these digits is written as its grid.
-fn all_are_grids(digits: &[u8]) -> bool {
-    for (count, side, checked) in &DIGITS {
-        if !is_grid_of(digits.get(..*count).unwrap_or(b""), *side, checked) {
-            return false;
-        }
-    }
-    true
-}
-
 #[test]
 fn the_largest_messages_are_written(rt: HostRuntime) {
-    holds(&rt, all_are_grids(&[b'7'; 1632]));
+    let digits = [b'7'; 1632];
+    for (count, side, checked) in &DIGITS {
+        holds(
+            &rt,
+            is_grid_of(digits.get(..*count).unwrap_or(b""), *side, checked),
+        );
+    }
 }
 
 #[test]
