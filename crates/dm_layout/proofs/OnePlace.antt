@@ -11,7 +11,7 @@ use Rattle.dm_layout.specs.declared.shape.Shape.TheVariants.{Standard, Corner1, 
 use Rattle.dm_layout.specs.Border.{is_fixed}
 use Rattle.dm_layout.specs.Placement.{At, shapes, cells_of, place, IsPlace, NoPlace, OnePlace, EachCellOnce}
 use Rattle.dm_layout.proofs.SweepTest.{cells_of_all, is_free, number_of}
-use Rattle.dm_layout.proofs.SweptCells.{FillsAll, IsAmong, IsInside, filled_with, new_at, new_apart, filled_at, among, fixed_free}
+use Rattle.dm_layout.proofs.SweptCells.{FillsAll, IsAmong, IsInside, filled_with, free_first, new_at, new_apart, filled_at, among, fixed_free}
 
 -- A shape has eight cells.
 pub eight : (n : ℕ) (s : Shape) → length (cells_of n s) ≡ 8
@@ -119,7 +119,7 @@ module _ (n : ℕ) (fills : FillsAll n 0 (shapes n)) where
     where
       by_test : (fixed : Bool) → is_free whole (r * n + c) ≡ fixed → MatchBool fixed (NoPlace n (At r c)) (OnePlace n (At r c))
       by_test true e = λ w b h. true≢false (sym e ∙ is_taken r c w b h)
-      by_test false e = one_place r c lr lc (among n 0 (r * n + c) cells (At 0 0) refl e)
+      by_test false e = one_place r c lr lc (among n 0 (r * n + c) cells (At 0 0) (free_first (r * n + c)) e)
 
   by_filling : EachCellOnce n
   by_filling = record { once = at_any; inside = inside_square }

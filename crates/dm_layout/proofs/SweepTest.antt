@@ -3,7 +3,7 @@
 use Rattle.std.proofs.Common.{ℕ, ◌+◌, ◌-◌, ◌*◌, ◌/◌, ◌%◌, ◌^◌, Bool, true, false, not, ◌&&◌, nat_eq, nat_lt, List, [], ◌∷◌, flat_map}
 use Rattle.std.specs.Bool.{beq}
 use Rattle.std.specs.Int.RustNames.{bit_or}
-use lib.Bits.{bit_and}
+use Prim.Native.Nat.{bit_and}
 use Rattle.std.specs.List.{list_all, range_with_len}
 use Rattle.dm_layout.specs.declared.shape.Cell.{Cell}
 use Rattle.dm_layout.specs.declared.shape.Shape.{Shape}
@@ -16,7 +16,7 @@ use Rattle.dm_layout.proofs.SameShapes.{same_shape}
 abbrev pub cells_of_all : ℕ → List Shape → List Cell
 cells_of_all n ps = flat_map (cells_of n) ps
 
--- The cell that belongs to this bit isn't filled.
+-- The cell that belongs to this bit isn't filled. (The native `bit_and` computes at once; that of the contracts looks whether t is 0 first.)
 abbrev pub is_free : ℕ → ℕ → Bool
 is_free t k = nat_eq (bit_and t (2 ^ k)) 0
 
@@ -32,10 +32,14 @@ with_cell n t x = bit_or t (2 ^ number_of n x)
 abbrev pub is_new : ℕ → ℕ → Cell → Bool
 is_new n t x = nat_lt x.row n && nat_lt x.column n && is_free t (number_of n x)
 
+-- This new cell is filled too: a sum is then the same as `with_cell`, and cheaper to compute.
+abbrev pub with_new : ℕ → ℕ → Cell → ℕ
+with_new n t x = t + 2 ^ number_of n x
+
 -- These cells are new when they are filled one after the other, and with them filled what comes next passes its test.
 abbrev pub fill_new : ℕ → ℕ → List Cell → (ℕ → Bool) → Bool
 fill_new n t [] next = next t
-fill_new n t (x ∷ rest) next = elim (is_new n t x) [ true ↦ fill_new n (with_cell n t x) rest next | false ↦ false ]
+fill_new n t (x ∷ rest) next = elim (is_new n t x) [ true ↦ fill_new n (with_new n t x) rest next | false ↦ false ]
 
 -- The anchor of a standard shape lies in the square.
 abbrev pub anchor_inside : ℕ → Shape → Bool

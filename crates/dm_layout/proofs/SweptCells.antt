@@ -6,6 +6,8 @@ use Rattle.std.specs.Bool.{beq}
 use Rattle.std.specs.Int.{bit_at}
 use Rattle.std.specs.List.{list_all, range_with_len}
 use Rattle.std.specs.Int.RustNames.{bit_or}
+use Prim.Native.Nat.{bit_and as native_and, bit_and-bitwise}
+use lib.Bits.{bit_and, or_disjoint}
 use Rattle.std.proofs.lemmas.Bool.{and_parts, eqb-true, eqb-false, ne_eqb, ltb-true, false≢true}
 use Rattle.std.proofs.lemmas.Nat.{pow_pos, mul-add-lt, div-mul-add, mod-mul-add}
 use Rattle.std.proofs.lemmas.Nat.Bits.{and_pow, bit_at_or, bit_at-lt, bit_at-pow_same, bit_at-pow_other, bit_at_ones}
@@ -16,7 +18,7 @@ use Rattle.dm_layout.proofs.SameShapes.{same_shape, shape_equal}
 use Rattle.dm_layout.specs.Border.{is_fixed}
 use Rattle.std.specs.Cmp.{booleans_Decides}
 use Rattle.dm_layout.proofs.Ranges.{all_below}
-use Rattle.dm_layout.proofs.SweepTest.{cells_of_all, is_free, number_of, with_cell, is_new, fill_new, anchor_inside, left_out, places_next, all_filled, sweep_test}
+use Rattle.dm_layout.proofs.SweepTest.{cells_of_all, is_free, number_of, with_cell, is_new, with_new, fill_new, anchor_inside, left_out, places_next, all_filled, sweep_test}
 
 -- ---- one more cell
 
@@ -26,9 +28,18 @@ digit_times zero m l p = ap (λ (k : ℕ). nat_eq k 0) (let e : 0 * m ≡ 0 = om
 digit_times (suc zero) m l p = ne_eqb (1 * m) 0 (λ h. omega (arith, h, p))
 digit_times (suc (suc b)) m l p = absurd (omega arith)
 
+-- The native `bit_and` gives what that of the contracts does.
+same_and : (a b : ℕ) → native_and a b ≡ bit_and a b
+same_and zero b = bit_and-bitwise zero b
+same_and (suc a) b = refl
+
+-- Before the first cell is filled, each is free.
+pub free_first : (k : ℕ) → is_free 0 k ≡ true
+free_first k = ap (λ (j : ℕ). nat_eq j 0) (same_and 0 (2 ^ k))
+
 -- A cell isn't filled exactly if its bit is 0.
 pub free_bit : (t k : ℕ) → is_free t k ≡ nat_eq (bit_at t k) 0
-free_bit t k = ap (λ (j : ℕ). nat_eq j 0) (and_pow t k) ∙ digit_times (bit_at t k) (2 ^ k) (bit_at-lt t k) (pow_pos k)
+free_bit t k = ap (λ (j : ℕ). nat_eq j 0) (same_and t (2 ^ k) ∙ and_pow t k) ∙ digit_times (bit_at t k) (2 ^ k) (bit_at-lt t k) (pow_pos k)
 
 -- The larger of two binary digits is 0 exactly if both are.
 max_free : (x y : ℕ) → x < 2 → y < 2 → nat_eq (max x y) 0 ≡ (nat_eq x 0 && nat_eq y 0)
@@ -97,14 +108,23 @@ abbrev pub AreNew : ℕ → ℕ → List Cell → Type 0
 AreNew n t [] = Unit {0}
 AreNew n t (x ∷ rest) = (is_new n t x ≡ true) × AreNew n (with_cell n t x) rest
 
+-- A new cell is filled by a sum.
+same_filled : (n t : ℕ) (x : Cell) → is_new n t x ≡ true → with_new n t x ≡ with_cell n t x
+same_filled n t x h =
+    let free = (and_parts (nat_lt x.row n && nat_lt x.column n) (is_free t (number_of n x)) h).1 in
+    sym (or_disjoint t (2 ^ number_of n x) (sym (same_and t (2 ^ number_of n x)) ∙ eqb-true _ 0 free))
+
 -- Where cells pass their test, they are new, and what comes next passes its own.
 pub new_cells : (n t : ℕ) (xs : List Cell) (next : ℕ → Bool) → fill_new n t xs next ≡ true → AreNew n t xs × (next (filled_with n t xs) ≡ true)
 new_cells n t [] next h = (tt, h)
-new_cells n t (x ∷ xs) next h = by_test (new_cells n (with_cell n t x) xs next) (is_new n t x) refl h
+new_cells n t (x ∷ xs) next h = by_test (new_cells n (with_new n t x) xs next) (is_new n t x) refl h
   where
-    by_test : (fill_new n (with_cell n t x) xs next ≡ true → AreNew n (with_cell n t x) xs × (next (filled_with n (with_cell n t x) xs) ≡ true)) → (b : Bool) → is_new n t x ≡ b →
-        elim b as (λ _. Bool) [ true ↦ fill_new n (with_cell n t x) xs next | false ↦ false ] ≡ true → AreNew n t (x ∷ xs) × (next (filled_with n t (x ∷ xs)) ≡ true)
-    by_test others true e g = let rest = others g in ((e, rest.0), rest.1)
+    Passed : ℕ → Type 0
+    Passed u = AreNew n u xs × (next (filled_with n u xs) ≡ true)
+
+    by_test : (fill_new n (with_new n t x) xs next ≡ true → Passed (with_new n t x)) → (b : Bool) → is_new n t x ≡ b →
+        elim b as (λ _. Bool) [ true ↦ fill_new n (with_new n t x) xs next | false ↦ false ] ≡ true → AreNew n t (x ∷ xs) × (next (filled_with n t (x ∷ xs)) ≡ true)
+    by_test others true e g = let rest = subst Passed (same_filled n t x e) (others g) in ((e, rest.0), rest.1)
     by_test others false e g = absurd (false≢true g)
 
 -- Two lists of cells are filled one after the other.

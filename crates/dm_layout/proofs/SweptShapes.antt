@@ -19,7 +19,7 @@ use Rattle.dm_layout.specs.Sizes.{largest_mapping}
 use Rattle.dm_layout.proofs.OuterRows.{or_dark}
 use Rattle.dm_layout.proofs.Ranges.{same_tests}
 use Rattle.dm_layout.proofs.SweepTest.{is_free, number_of, with_cell, anchor_inside, left_out, sweep_test}
-use Rattle.dm_layout.proofs.SweptCells.{AreNew, IsInside, filled_with, free_after, is_new-parts, comes, LeavesOut, Places}
+use Rattle.dm_layout.proofs.SweptCells.{AreNew, IsInside, filled_with, free_first, free_after, is_new-parts, comes, LeavesOut, Places}
 
 -- ---- one number for a table
 
@@ -97,7 +97,7 @@ record SweepKeeps (n : ℕ) (table : List (List ℕ)) (t : ℕ) : Type 0 where
 sweep_begins : (n : ℕ) → SweepKeeps n (sweeping.nothing_filled n) 0
 sweep_begins n = record {
   height = length-replicate n [];
-  keeps = λ r c lr lc. ap (list_any (nat_eq c)) (get_or-replicate n r [] [] lr);
+  keeps = λ r c lr lc. ap (list_any (nat_eq c)) (get_or-replicate n r [] [] lr) ∙ ap not (sym (free_first (r * n + c)));
 }
 
 -- The sweep fills one more cell.
@@ -173,7 +173,8 @@ walk_begins n small = record {
   height = let l = length-replicate {A = ℕ} marked_side 0 in omega (arith, l, small);
   keeps = λ r c lr lc.
       ap (λ (row : ℕ). is_dark_in row c) (get_or-replicate marked_side r 0 0 (omega (arith, lr, small)))
-      ∙ ap (λ (b : ℕ). nat_eq b 1) (bit_at-zero c);
+      ∙ ap (λ (b : ℕ). nat_eq b 1) (bit_at-zero c)
+      ∙ ap not (sym (free_first (r * n + c)));
 }
 
 -- A power of 2 is dark at one column.

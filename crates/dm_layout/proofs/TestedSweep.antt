@@ -1,5 +1,4 @@
 -- The test of the sweep, computed for the mapping side of each size.
--- All sizes together take 10 s, and the check that computes them 1.4 GB.
 use Rattle.std.proofs.Common.{◌≡◌, ℕ, ◌*◌, Bool, true, ◌&&◌, nat_eq, List, length, refl}
 use Rattle.std.specs.Prelude.{pos}
 use Rattle.std.specs.List.{list_all}

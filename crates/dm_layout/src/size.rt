@@ -109,7 +109,10 @@ pub fn table() -> [Size; SIZE_COUNT]
 fn first_with(count: u16) -> Option<Size>
     ensures { result ≡ row_for_words count }
 {
-    TABLE.iter().copied().find(|size| count <= size.data_count)
+    table()
+        .iter()
+        .copied()
+        .find(|size| count <= size.data_count)
 }
 
 impl Size {
@@ -117,7 +120,7 @@ impl Size {
     pub fn of_side(side: u16) -> Option<Size>
         ensures { result ≡ row_with_side side }
     {
-        TABLE.iter().copied().find(|size| size.side == side)
+        table().iter().copied().find(|size| size.side == side)
     }
 
     /// Gives the smallest size with at least `count` data codewords, or None where no size has as many.

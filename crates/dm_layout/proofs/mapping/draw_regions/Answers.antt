@@ -1,6 +1,6 @@
-use Rattle.std.proofs.Common.{◌≡◌, ◌⊎◌, ℕ, ◌+◌, ◌*◌, ◌%◌, ◌^◌, nat_eq, ◌<◌, ◌≤◌, ◌∙◌, sym, false, refl, arith, ap, subst, get_or}
+use Rattle.std.proofs.Common.{◌≡◌, ◌⊎◌, ℕ, ◌+◌, ◌-◌, ◌*◌, ◌%◌, ◌^◌, nat_eq, ◌<◌, ◌≤◌, ◌∙◌, sym, false, refl, arith, ap, subst, get_or}
 use Rattle.std.proofs.Math.Nat.{mul-le-mul_right}
-use Rattle.dm_layout.specs.Sizes.{SizeRow, IsRow, regions_across}
+use Rattle.dm_layout.specs.Sizes.{SizeRow, IsRow, regions_across, most_across}
 use Rattle.dm_layout.specs.Border.{symbol_line}
 use Rattle.dm_layout.specs.Grid.{is_dark_in}
 use Rattle.dm_layout.specs.inner.Drawing.{IsDrawn}
@@ -88,3 +88,13 @@ returns g c =
     let u = ap (λ (i : ℕ). (c.args.region + 1) * i) c.region_side-region_side.ensures.value in
     let e : c.loop-line.line ≡ (c.args.region + 1) * c.args.size.region_side = omega (arith, t, u, c.loop-line-test.false, c.loop-line.auto.line-end) in
     subst (λ (i : ℕ). IsDrawn c.args.size (λ r q. look_in (g.R.BitRows.numbers c.args.rows.now) (r + 2) (q + 4)) i c.loop-line.grid) e c.loop-line.invariant.drawn
+
+pub overflow_mul-first : goal.overflow_mul-first
+overflow_mul-first g c =
+    let few : c.args.region ≤ most_across = omega (arith, c.requires.region, c.regions_across-across.ensures.few) in
+    omega (arith, mul-le-mul_right c.region_side-region_side.result few, c.region_side-region_side.ensures.most, c.region_side-region_side.ensures.value)
+
+pub outer_row-cells-requires-clause-prefixes : goal.outer_row-cells-requires-clause-prefixes
+outer_row-cells-requires-clause-prefixes g c = λ region l.
+    c.requires.prefixes region (omega (arith, l, c.regions_across-across.ensures.value))
+    ∙ ap (λ (d : ℕ). 2 ^ (region * (d + 2) + 1 + d) - 1) (sym c.region_side-region_side.ensures.value)

@@ -2,7 +2,7 @@ use Rattle.std.proofs.Common.{◌≡◌, ℕ, ◌+◌, ◌*◌, ◌<◌, ◌≤�
 use Rattle.std.proofs.lemmas.List.{length-set}
 use Rattle.std.proofs.Math.Pow.{pow_mono}
 use Rattle.std.proofs.Math.Nat.{mul-le-mul_right}
-use Rattle.dm_layout.specs.Sizes.{SizeRow, IsRow, regions_across}
+use Rattle.dm_layout.specs.Sizes.{SizeRow, IsRow, regions_across, most_across, largest_side}
 use Rattle.dm_layout.proofs.TableRows.{across_covers, row_facts}
 use Rattle.dm_layout.specs.Border.{mapped_cell}
 use Rattle.dm_layout.specs.Grid.{cell_at, is_dark_in}
@@ -24,6 +24,24 @@ row_inside s size row region d m h e em ed l lr =
     let a = ap (λ (i : ℕ). region * i) ed in
     let b : (region + 1) * s.region_side ≡ region * s.region_side + s.region_side = omega arith in
     omega (arith, more, f, a, b, em, ed, lr)
+
+-- A row of regions ends early enough for numbers of 16 bits.
+ends_early : (s size : SizeRow) (region d : ℕ) → s ≡ size → d ≡ s.region_side → region < regions_across size → regions_across s ≤ most_across → s.region_side ≤ largest_side →
+    region * d + d ≤ most_across * largest_side
+ends_early s size region d e ed l few most =
+    let across = ap regions_across e in
+    let below : region + 1 ≤ most_across = omega (arith, l, few, across) in
+    omega (arith, mul-le-mul_right d below, ed, most)
+
+pub overflow_add-row-end : goal.overflow_add-row-end
+overflow_add-row-end g c =
+    let ends =
+    ends_early c.size-size.result c.args.grid.now.size c.args.region c.region_side-region_side.result c.size-size.ensures.value c.region_side-region_side.ensures.value c.requires.region c.regions_across-across.ensures.few
+    c.region_side-region_side.ensures.most in
+    omega (arith, ends)
+
+pub overflow_mul-first : goal.overflow_mul-first
+overflow_mul-first g c = omega (arith, overflow_add-row-end g c)
 
 pub put-requires-clause-inner : goal.put-requires-clause-inner
 put-requires-clause-inner g c =

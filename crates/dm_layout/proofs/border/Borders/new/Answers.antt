@@ -10,6 +10,17 @@ inside side s a l =
     let d = div-mul-le_self side s in
     omega (arith, m, d)
 
+pub overflow_shl-both-in-loop-region : goal.overflow_shl-both-in-loop-region
+overflow_shl-both-in-loop-region c =
+    let fits = inside c.side-side.result (c.region_side-last.result + 1 + 1) c.loop-region.region c.loop-region-test.true in
+    omega (arith, fits, c.side-side.ensures.most, c.side-side.ensures.value)
+
+pub overflow_shl-left : goal.overflow_shl-left
+overflow_shl-left c = omega (arith, overflow_shl-both-in-loop-region c)
+
+pub overflow_shl-both : goal.overflow_shl-both
+overflow_shl-both c = omega (arith, overflow_shl-both-in-loop-region c)
+
 pub loop-region-preserved : goal.loop-region-preserved
 loop-region-preserved c =
     let last : ℕ = c.region_side-last.result + 1 in

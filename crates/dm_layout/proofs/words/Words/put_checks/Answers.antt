@@ -1,4 +1,5 @@
 use Rattle.std.proofs.Common.{◌≡◌, ◌∙◌, ◌<◌, ◌-◌, length, sym, ap, arith}
+use Rattle.std.proofs.lemmas.Grind.{common_steps}
 use Rattle.std.specs.Prelude.{All}
 use Rattle.std.proofs.lemmas.List.Elements.{All-from_get_or}
 use Rattle.dm_layout.specs.Sizes.{SizeRow}
@@ -19,3 +20,6 @@ invariant_of-self c =
 
 pub returns-clause-words : goal.returns-clause-words
 returns-clause-words c = words_of_kept c.self.inside.size _ (invariant_of-self c)
+
+pub returns-clause-value : goal.returns-clause-value
+returns-clause-value c = grind (arith, common_steps)
