@@ -1,6 +1,6 @@
 -- The laws of the field.
-use Rattle.std.proofs.Common.{◌≡◌, ℕ, zero, suc, ◌+◌, ◌-◌, ◌*◌, ◌/◌, ◌%◌, ◌^◌, ◌<◌, refl, sym, ap, subst, ◌∙◌, arith, bit_xor, true, false, eqb, not, inl, inr}
-use Rattle.std.proofs.lemmas.Bool.{eqb-true, eqb-false, not-true, cases_order}
+use Rattle.std.proofs.Common.{◌≡◌, ℕ, zero, suc, ◌+◌, ◌-◌, ◌*◌, ◌/◌, ◌%◌, ◌^◌, ◌<◌, refl, sym, ap, subst, ◌∙◌, arith, bit_xor, Bool, true, ◌&&◌, eqb, not, inl, inr}
+use Rattle.std.proofs.lemmas.Bool.{and_parts, eqb-true, eqb-false, not-true, cases_order}
 use Rattle.std.proofs.lemmas.Nat.{mod_below, xor_mod, xor_lt, pow_pos, xor_block}
 use lib.Bits.{xor_assoc, xor_self, xor_zero_r}
 use Rattle.std.proofs.Math.Nat.{zero-mul, one-mul, mul_comm, add-zero, zero-add, suc-add, mul-zero, pos_of_ne-zero}
@@ -304,18 +304,30 @@ pub power_255 : power 255 ≡ 1
 unfolding raise ◌⊗◌ carryless modulo_301
 power_255 = refl
 
+-- None of n elements is 1, of which x is the first and each other one is twice the one before it.
+unfoldable none_one : ℕ → ℕ → Bool
+none_one zero x = true
+none_one (suc n) x = not (eqb x 1) && none_one n (2 ⊗ x)
+
 -- No power of 2 with an exponent of 1 to 254 is 1: 254 cases.
-power_test : all_below 254 (λ i. not (eqb (power (i + 1)) 1)) ≡ true
-unfolding raise all_below ◌⊗◌ carryless modulo_301
+power_test : none_one 254 2 ≡ true
+unfolding none_one ◌⊗◌ carryless modulo_301
 power_test = refl
+
+-- Where none of n powers of 2 is 1, of which that of e is the first, that of e + i isn't.
+none_one_at : (n e i : ℕ) → none_one n (power e) ≡ true → i < n → power (e + i) ≡ 1 → ⊥
+unfolding none_one raise
+none_one_at zero e i t l q = absurd (omega arith)
+none_one_at (suc n) e zero t l q =
+    eqb-false (power e) 1 (not-true (eqb (power e) 1) (and_parts (not (eqb (power e) 1)) (none_one n (power (suc e))) t).0) (ap power (sym (add-zero e)) ∙ q)
+none_one_at (suc n) e (suc i) t l q =
+    none_one_at n (suc e) i (and_parts (not (eqb (power e) 1)) (none_one n (power (suc e))) t).1 (omega arith)
+    (ap power (let s : suc e + i ≡ e + suc i = omega arith in s) ∙ q)
 
 -- No power of 2 with an exponent of 1 to 254 is 1.
 power_one : (i : ℕ) → 0 < i → i < 255 → power i ≡ 1 → ⊥
-power_one i l h e =
-    let s : i - 1 + 1 ≡ i = omega arith in
-    let t : not (eqb (power (i - 1 + 1)) 1) ≡ true = all_below_at 254 (λ i. not (eqb (power (i + 1)) 1)) power_test (i - 1) (omega arith) in
-    let n : eqb (power i) 1 ≡ false = not-true (eqb (power i) 1) (subst (λ x. not (eqb (power x) 1) ≡ true) s t) in
-    eqb-false (power i) 1 n e
+unfolding raise ◌⊗◌ carryless modulo_301
+power_one i l h e = none_one_at 254 1 (i - 1) power_test (omega arith) (ap power (let s : 1 + (i - 1) ≡ i = omega arith in s) ∙ e)
 
 -- Powers of 2 whose exponents differ by less than 255 differ.
 pub power_apart : (i j : ℕ) → i < j → j < i + 255 → power i ≡ power j → ⊥
