@@ -1,8 +1,8 @@
 -- The table of powers of powers.
-use Rattle.std.proofs.Common.{◌≡◌, ℕ, ◌+◌, ◌-◌, ◌*◌, ◌%◌, ◌<◌, ◌≤◌, List, [], length, get_or, map, take, drop, refl, sym, ap, ◌∙◌, arith, true, eqb}
-use Rattle.std.proofs.lemmas.Bool.{eqb-true}
-use Rattle.std.proofs.lemmas.List.{get_or-map, length-map, ext_get_or, take-take}
-use Rattle.std.proofs.lemmas.Nat.{mod_below}
+use Rattle.std.proofs.Common.{◌≡◌, ℕ, zero, suc, ◌+◌, ◌-◌, ◌*◌, ◌%◌, ◌<◌, ◌≤◌, List, [], ◌∷◌, ◌++◌, length, get_or, map, take, drop, refl, sym, ap, ◌∙◌, arith, Bool, true, ◌&&◌, eqb, inl, inr}
+use Rattle.std.proofs.lemmas.Bool.{and_parts, eqb-true, cases_lt}
+use Rattle.std.proofs.lemmas.List.{get_or-map, length-map, ext_get_or, take-take, get_or-drop, get_or_append_left, get_or-append_right}
+use Rattle.std.proofs.lemmas.Nat.{mul-le}
 use Rattle.std.proofs.lemmas.Simd.{length-chunk, get_or-chunk}
 use lib.Lanes.{chunk}
 use Rattle.gf301.specs.Field.{◌⊗◌, raise, power}
@@ -18,16 +18,42 @@ use Rattle.gf301.proofs.Tables.{powers_at, power_mod}
 abbrev pub row : ℕ → List ℕ
 row e = get_or POWER_ROWS e []
 
--- All 8960 numbers are looked up in the table of powers: at most 30 seconds for this whole file.
-rows_test : all_below 35 (λ e. all_below 256 (λ j. eqb (get_or (row e) j 0) (get_or POWERS (e * j % 255) 0))) ≡ true
-unfolding all_below
-rows_test = refl
+-- The numbers of a list are each e-th of another one, from its first on.
+unfoldable strides : ℕ → List ℕ → List ℕ → Bool
+strides e ps [] = true
+strides e ps (y ∷ ys) = eqb y (get_or ps 0 0) && strides e (drop e ps) ys
 
--- The row of e holds at the place j the power e * j of 2.
-row_at : (e j : ℕ) → e < 35 → j < 256 → get_or (row e) j 0 ≡ power (e * j)
-row_at e j h l =
-    eqb-true _ _ (all_below_at 256 (λ j. eqb (get_or (row e) j 0) (get_or POWERS (e * j % 255) 0)) (all_below_at 35 (λ e. all_below 256 (λ j. eqb (get_or (row e) j 0) (get_or POWERS (e * j % 255) 0))) rows_test e h) j l)
-    ∙ powers_at (e * j % 255) (mod_below (e * j) 255 (omega arith)) ∙ power_mod (e * j)
+-- A list that passes this test holds at the place j the number at the place e * j of the other one.
+strides_at : (e j : ℕ) (ps ys : List ℕ) → strides e ps ys ≡ true → j < length ys → get_or ys j 0 ≡ get_or ps (e * j) 0
+unfolding strides
+strides_at e j ps [] t l = absurd (omega arith)
+strides_at e zero ps (y ∷ ys) t l =
+    eqb-true y (get_or ps 0 0) (and_parts (eqb y (get_or ps 0 0)) (strides e (drop e ps) ys) t).0 ∙ ap (λ i. get_or ps i 0) (let q : 0 ≡ e * 0 = omega arith in q)
+strides_at e (suc j) ps (y ∷ ys) t l =
+    strides_at e j (drop e ps) ys (and_parts (eqb y (get_or ps 0 0)) (strides e (drop e ps) ys) t).1 (omega arith)
+    ∙ get_or-drop e ps (e * j) 0 ∙ ap (λ i. get_or ps i 0) (let q : e + e * j ≡ e * suc j = omega arith in q)
+
+-- The table of powers, n more times behind itself.
+unfoldable rounds : ℕ → List ℕ
+rounds zero = POWERS
+rounds (suc n) = POWERS ++ rounds n
+
+-- Since the powers repeat, it has at each place the power of 2.
+rounds_at : (n i : ℕ) → i < 255 * suc n → get_or (rounds n) i 0 ≡ power i
+unfolding rounds
+rounds_at zero i h = powers_at i (omega arith)
+rounds_at (suc n) i h =
+    elim (cases_lt i 255) [
+      | inl b ↦ get_or_append_left POWERS (rounds n) 0 i b ∙ powers_at i b
+      | inr b ↦
+          get_or-append_right POWERS (rounds n) 255 i 0 refl b ∙ rounds_at n (i - 255) (omega arith)
+          ∙ sym (power_mod (i - 255)) ∙ ap power (let q : (i - 255) % 255 ≡ i % 255 = omega arith in q) ∙ power_mod i
+    ]
+
+-- Each row has each e-th power, in as many rounds through the table of powers as it takes: 8960 numbers.
+rows_test : all_below 35 (λ e. strides e (rounds e) (row e)) ≡ true
+unfolding all_below strides rounds
+rows_test = refl
 
 -- Each row has 256 numbers: 35 cases.
 lengths_test : all_below 35 (λ e. eqb (length (row e)) 256) ≡ true
@@ -37,6 +63,13 @@ lengths_test = refl
 -- The row of an exponent has 256 numbers.
 row_length : (e : ℕ) → e < 35 → length (row e) ≡ 256
 row_length e h = eqb-true (length (row e)) 256 (all_below_at 35 (λ e. eqb (length (row e)) 256) lengths_test e h)
+
+-- The row of e holds at the place j the power e * j of 2.
+row_at : (e j : ℕ) → e < 35 → j < 256 → get_or (row e) j 0 ≡ power (e * j)
+row_at e j h l =
+    let far : e * j ≤ e * 255 = mul-le e j e 255 (omega arith) (omega arith) in
+    strides_at e j (rounds e) (row e) (all_below_at 35 (λ e. strides e (rounds e) (row e)) rows_test e h) (omega (arith, row_length e h))
+    ∙ rounds_at e (e * j) (omega arith)
 
 -- Sixteen numbers of the row of e are the powers e of sixteen powers of 2 in their order.
 row_lanes : (e first : ℕ) → e < 35 → first ≤ 240 → chunk first 16 (row e) ≡ map (λ x. raise x e) (values_from power first 16)
