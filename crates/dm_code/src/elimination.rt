@@ -1,8 +1,9 @@
 //! The key equation by elimination.
 
-ghost use Rattle.std.specs.Prelude.{◌≡◌, ◌+◌, ◌-◌, ◌*◌, ◌<◌, ◌≤◌, ℕ, length};
+ghost use Rattle.std.specs.Prelude.{◌≡◌, ◌+◌, ◌-◌, ◌*◌, ◌<◌, ◌≤◌, ℕ, length, IfNone, IfSome};
 ghost use Rattle.gf301.specs.Polynomial.{Bytes, coefficient, convolution};
 ghost use Rattle.arrayvec.specs.ArrayVec.{array_vec_len};
+ghost use Rattle.dm_code.specs.KeyEquation.{IsLeastPair, NoPair};
 ghost use Rattle.dm_code.specs.inner.LinearSystem.{row};
 
 use crate::key::{Key, KeySolver};
@@ -19,14 +20,25 @@ pub struct Elimination;
 
 impl KeySolver for Elimination {
     fn solve(&self, s: &[u8], t: usize) -> Option<Key> {
-        for degree in 0..t + 1 {
-            let rows = rows_of(s, degree);
-            if let Some(solution) = solve(&rows, MOST_ERRORS - degree) {
-                return Some(key_of(s, &solution, degree));
-            }
-        }
-        None
+        least_key(s, t)
     }
+}
+
+/// Gives the pair of the first degree whose equations have a solution.
+fn least_key(s: &[u8], t: usize) -> Option<Key>
+    requires few { length s.now ≤ MOST_CHECKS }
+    requires half { 2 * t ≤ length s.now }
+    ensures least { IfSome result
+        (λ key. IsLeastPair s.now t key.locator.items key.evaluator.items) }
+    ensures none { IfNone result (NoPair s.now t) }
+{
+    for degree in 0..t + 1 {
+        let rows = rows_of(s, degree);
+        if let Some(solution) = solve(&rows, MOST_ERRORS - degree) {
+            return Some(key_of(s, &solution, degree));
+        }
+    }
+    None
 }
 
 /// Gives the equations for a locator of a degree of at most `degree`: at each place from `degree` on, the product of the

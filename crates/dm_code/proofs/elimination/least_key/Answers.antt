@@ -4,7 +4,7 @@ use Rattle.gf301.specs.Polynomial.{coefficient}
 use Rattle.dm_code.specs.inner.LinearSystem.{Solves, Unsolvable}
 use Rattle.dm_code.proofs.Connections.{Connects, NoneBelow, none_connects, first_is_least}
 use Rattle.dm_code.proofs.Systems.{IsSystem, unsolvable_none, solved_connects}
-use Rattle.dm_code.proofs.elimination.EliminationKeySolver.solve.Goals as goal
+use Rattle.dm_code.proofs.elimination.least_key.Goals as goal
 
 pub loop-degree-preserved : goal.loop-degree-preserved
 loop-degree-preserved c =
