@@ -22,6 +22,9 @@ returns-then-are_zero-clause-near g c =
 pub returns-then-are_zero-clause-changed : goal.returns-then-are_zero-clause-changed
 returns-then-are_zero-clause-changed g c = sym (distance_self c.args.word.now c.copy_of.result.items c.copy_of.ensures)
 
+pub returns-then-are_zero-clause-itself : goal.returns-then-are_zero-clause-itself
+returns-then-are_zero-clause-itself g c h = (c.copy_of.ensures, refl)
+
 -- ---- no pair, so no codeword is near
 pub solve-requires-clause-half : goal.solve-requires-clause-half
 solve-requires-clause-half g c =
@@ -36,6 +39,9 @@ returns-in_default-clause-near g c v h =
     let e : s ≡ syndromes_of w k = c.deref-3.ensures.0 ∙ c.syndromes-syndromes.ensures.values ∙ ap (λ t. syndromes_of t c.args.k) c.deref-2.ensures.0 ∙ c.remainder-rest.ensures in
     let n : length s ≡ k = ap length e ∙ syndromes_length w k in
     near_pair w s v (e ∙ ap (syndromes_of w) (sym n)) (subst (λ m. IsNear m w v) (sym n) h) (subst (λ m. NoPair s (m / 2)) (sym n) c.in_default.ensures.none)
+
+pub returns-in_default-clause-changed : goal.returns-in_default-clause-changed
+returns-in_default-clause-changed g c = tt
 
 pub returns-in_default-clause-itself : goal.returns-in_default-clause-itself
 returns-in_default-clause-itself g c h = returns-in_default-clause-near g c c.args.word.now (near_self c.args.k c.args.word.now c.args.word.now refl h)
@@ -74,6 +80,9 @@ returns-then-from-k-clause-near g c =
       close = d;
     })
 
+pub returns-then-from-k-clause-changed : goal.returns-then-from-k-clause-changed
+returns-then-from-k-clause-changed g c = c.differences-changed.ensures ∙ ap (distance c.args.word.now) c.deref-5.ensures.0
+
 pub returns-then-from-k-clause-itself : goal.returns-then-from-k-clause-itself
 returns-then-from-k-clause-itself g c h =
     let w = c.args.word.now in
@@ -100,6 +109,9 @@ returns-else-are_zero-2-clause-near g c v h =
           let not : c.are_zero-2.result ≡ false = b.if-are_zero-2.false in
           absurd (cc (yes, not))
     ]
+
+pub returns-else-are_zero-2-clause-changed : goal.returns-else-are_zero-2-clause-changed
+returns-else-are_zero-2-clause-changed g c = tt
 
 pub returns-else-are_zero-2-clause-itself : goal.returns-else-are_zero-2-clause-itself
 returns-else-are_zero-2-clause-itself g c h = returns-else-are_zero-2-clause-near g c c.args.word.now (near_self c.args.k c.args.word.now c.args.word.now refl h)

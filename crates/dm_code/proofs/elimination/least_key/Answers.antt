@@ -37,6 +37,9 @@ returns-in-Some-clause-least c =
     first_is_least s l key.result.evaluator.items c.args.t e (omega arith) c.loop-degree.invariant k
     key.ensures.locator_bytes key.ensures.evaluator_bytes key.ensures.evaluator_long key.ensures.evaluator
 
+pub returns-in-Some-clause-none : goal.returns-in-Some-clause-none
+returns-in-Some-clause-none c = tt
+
 pub returns-clause-none : goal.returns-clause-none
 returns-clause-none c =
     let s = c.args.s.now in
