@@ -41,10 +41,10 @@ fn completed_grid(side: u16, data_words: &[u8]) -> Grid {
 }
 
 /// The grid of side 10 whose cells are these characters, row by row: 1 is dark, 0 light.
-fn drawn(cells: &str) -> Grid {
-    let mut list: ArrayVec<bool, 100> = ArrayVec::new();
-    for cell in cells.as_bytes() {
-        let _room = list.try_push(*cell == b'1');
+fn drawn(cells: &[u8; 100]) -> Grid {
+    let mut list = [false; 100];
+    for place in 0..100 {
+        list[place] = cells[place] == b'1';
     }
     grid_with(10, &list)
 }
@@ -137,32 +137,37 @@ fn is_fault(outcome: &Result<Grid, NormalFault>, fault: NormalFault) -> bool {
     }
 }
 
+/// Whether the grid has no normal grid for this.
+fn has_no_normal(grid: &Grid, limit: u16, fault: NormalFault) -> bool {
+    is_fault(&normal(grid, limit), fault)
+}
+
 /// Whether the message is too long for any symbol under the profile.
 fn is_too_long(profile: Profile, message: &Message) -> bool {
     write_as(profile, message).is_err()
 }
 
 /// Texts, the codewords of their normal grids, and the cells of these.
-static NORMAL_GRIDS: [(&[u8], &[u8], &str); 3] = [
+static NORMAL_GRIDS: [(&[u8], &[u8], &[u8; 100]); 3] = [
     (
         b"123456",
         &DIGITS,
-        "1010101010110010110111000001001100011101110000100010000011111110110000111101100110011101001111111111",
+        b"1010101010110010110111000001001100011101110000100010000011111110110000111101100110011101001111111111",
     ),
     (
         b"A",
         &[66, 129, 70, 138, 234, 82, 82, 95],
-        "1010101010110110001110001101001001101011100101000010010010111101001100110011110111000010001111111111",
+        b"1010101010110110001110001101001001101011100101000010010010111101001100110011110111000010001111111111",
     ),
     (
         b"",
         &[129, 175, 70, 33, 1, 170, 139, 55],
-        "1010101010110110100111010000101111000101101000100011101000011001011010101011110111100000001111111111",
+        b"1010101010110110100111010000101111000101101000100011101000011001011010101011110111100000001111111111",
     ),
 ];
 
 /// Whether the text's normal grid has these codewords and these cells, and says the text.
-fn is_normal_grid(text: &[u8], words: &[u8], cells: &str) -> bool {
+fn is_normal_grid(text: &[u8], words: &[u8], cells: &[u8; 100]) -> bool {
     let grid = drawn(cells);
     is_grid(&write(&of_bytes(text)), &grid)
         && lift(&grid).list() == words
@@ -281,8 +286,8 @@ fn normalises_to_the_smallest_size(rt: HostRuntime) {
 }
 
 /// The cells of `123456` with ten border faults.
-static FAULTY: &str =
-    "1010101010110010110111000001001100011101110000100010000011111110110000111101100110011101000000000000";
+static FAULTY: &[u8; 100] =
+    b"1010101010110010110111000001001100011101110000100010000011111110110000111101100110011101000000000000";
 
 #[test]
 fn compares_the_border_with_the_limit(rt: HostRuntime) {
@@ -293,7 +298,7 @@ fn compares_the_border_with_the_limit(rt: HostRuntime) {
         is_refused(&grid, 2, fault) && is_refused(&grid, 9, fault),
     );
     holds(&rt, says(&grid, 10, b"123456", &[0], 10));
-    holds(&rt, is_fault(&normal(&grid, 2), NormalFault::Read(fault)));
+    holds(&rt, has_no_normal(&grid, 2, NormalFault::Read(fault)));
 }
 
 /// The grid of side 12 with its fixed square turned over.

@@ -124,8 +124,8 @@ static READS: [(u32, u32, &[AskedRead]); 3] = [
 ];
 
 /// Whether a read has this outcome and leaves the source with this count of failures.
-fn reads(
-    source: &mut FromRead<Device<'_>>,
+fn reads<I: Source>(
+    source: &mut I,
     into: &mut [u8],
     outcome: Result<usize, Failed>,
     failures: u64,
@@ -134,11 +134,12 @@ fn reads(
 }
 
 /// Whether a read into this many zeros has this outcome, and writes over the first zero if it gives a byte.
-fn reads_bytes(source: &mut FromRead<Device<'_>>, read: AskedRead) -> bool {
+fn reads_bytes<I: Source>(source: &mut I, read: AskedRead) -> bool {
     let (length, outcome, failures, _) = read;
     let mut place = [0u8; 4];
+    let is_good = reads(source, &mut place[..length.min(4)], outcome, failures);
     let first = if outcome == Ok(1) { 65 } else { 0 };
-    reads(source, &mut place[..length.min(4)], outcome, failures) && place == [first, 0, 0, 0]
+    is_good && place == [first, 0, 0, 0]
 }
 
 /// Whether the reads of a source over this device have these outcomes.
@@ -259,15 +260,18 @@ static WRITES: [(u32, usize, bool, &[AskedWrite]); 4] = [
 ];
 
 /// Writes these bytes, or flushes.
-fn write_or_flush(sink: &mut ToWrite<Device<'_>>, bytes: Option<&[u8]>) -> Result<usize, Failed> {
+fn write_or_flush<O: Sink>(sink: &mut O, bytes: Option<&[u8]>) -> Result<usize, Failed> {
     match bytes {
         Some(bytes) => sink.write(bytes),
-        None => sink.flush().and(Ok(0)),
+        None => match sink.flush() {
+            Ok(()) => Ok(0),
+            Err(failed) => Err(failed),
+        },
     }
 }
 
 /// Whether a sink has this count of failures, and bytes pending or not.
-fn has_state(sink: &ToWrite<Device<'_>>, failures: u64, pending: bool) -> bool {
+fn has_state<O: Sink>(sink: &O, failures: u64, pending: bool) -> bool {
     sink.failures() == failures && sink.pending() == pending
 }
 
