@@ -10,7 +10,7 @@ use crate::key::{Key, KeySolver};
 use crate::limits::{MOST_COEFFICIENTS, MOST_ERRORS};
 use crate::system::{Row, solve};
 use arrayvec::ArrayVec;
-use gf301::{Gf, MOST_CHECKS, product_at};
+use gf301::{MOST_CHECKS, product_at};
 
 /// Solves the key equation by elimination. For each degree of the locator, from 0 on, its coefficients are the unknowns
 /// of a system of linear equations; the first system with a solution gives the least pair. The work grows with the
@@ -24,7 +24,8 @@ impl KeySolver for Elimination {
     }
 }
 
-/// Gives the pair of the first degree whose equations have a solution.
+/// Gives the pair of the first degree up to `t` whose equations have a solution, and None where no degree's have one.
+// (A function of its own, since wrong bodies of it are tried beside it, where those of a trait's method can't stand.)
 fn least_key(s: &[u8], t: usize) -> Option<Key>
     requires few { length s.now ≤ MOST_CHECKS }
     requires half { 2 * t ≤ length s.now }

@@ -305,29 +305,29 @@ unfolding raise ◌⊗◌ carryless modulo_301
 power_255 = refl
 
 -- None of n elements is 1, of which x is the first and each other one is twice the one before it.
-unfoldable none_one : ℕ → ℕ → Bool
-none_one zero x = true
-none_one (suc n) x = not (eqb x 1) && none_one n (2 ⊗ x)
+unfoldable none_is_one : ℕ → ℕ → Bool
+none_is_one zero x = true
+none_is_one (suc n) x = not (eqb x 1) && none_is_one n (2 ⊗ x)
 
 -- No power of 2 with an exponent of 1 to 254 is 1: 254 cases.
-power_test : none_one 254 2 ≡ true
-unfolding none_one ◌⊗◌ carryless modulo_301
+power_test : none_is_one 254 2 ≡ true
+unfolding none_is_one ◌⊗◌ carryless modulo_301
 power_test = refl
 
--- Where none of n powers of 2 is 1, of which that of e is the first, that of e + i isn't.
-none_one_at : (n e i : ℕ) → none_one n (power e) ≡ true → i < n → power (e + i) ≡ 1 → ⊥
-unfolding none_one raise
-none_one_at zero e i t l q = absurd (omega arith)
-none_one_at (suc n) e zero t l q =
-    eqb-false (power e) 1 (not-true (eqb (power e) 1) (and_parts (not (eqb (power e) 1)) (none_one n (power (suc e))) t).0) (ap power (sym (add-zero e)) ∙ q)
-none_one_at (suc n) e (suc i) t l q =
-    none_one_at n (suc e) i (and_parts (not (eqb (power e) 1)) (none_one n (power (suc e))) t).1 (omega arith)
+-- Where none of the n powers of 2 from the exponent e on is 1, that with the exponent e + i isn't, for i below n.
+none_is_one_at : (n e i : ℕ) → none_is_one n (power e) ≡ true → i < n → power (e + i) ≡ 1 → ⊥
+unfolding none_is_one raise
+none_is_one_at zero e i t l q = absurd (omega arith)
+none_is_one_at (suc n) e zero t l q =
+    eqb-false (power e) 1 (not-true (eqb (power e) 1) (and_parts (not (eqb (power e) 1)) (none_is_one n (power (suc e))) t).0) (ap power (sym (add-zero e)) ∙ q)
+none_is_one_at (suc n) e (suc i) t l q =
+    none_is_one_at n (suc e) i (and_parts (not (eqb (power e) 1)) (none_is_one n (power (suc e))) t).1 (omega arith)
     (ap power (let s : suc e + i ≡ e + suc i = omega arith in s) ∙ q)
 
 -- No power of 2 with an exponent of 1 to 254 is 1.
 power_one : (i : ℕ) → 0 < i → i < 255 → power i ≡ 1 → ⊥
 unfolding raise ◌⊗◌ carryless modulo_301
-power_one i l h e = none_one_at 254 1 (i - 1) power_test (omega arith) (ap power (let s : 1 + (i - 1) ≡ i = omega arith in s) ∙ e)
+power_one i l h e = none_is_one_at 254 1 (i - 1) power_test (omega arith) (ap power (let s : 1 + (i - 1) ≡ i = omega arith in s) ∙ e)
 
 -- Powers of 2 whose exponents differ by less than 255 differ.
 pub power_apart : (i j : ℕ) → i < j → j < i + 255 → power i ≡ power j → ⊥

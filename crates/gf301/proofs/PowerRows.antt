@@ -18,7 +18,7 @@ use Rattle.gf301.proofs.Tables.{powers_at, power_mod}
 abbrev pub row : ℕ → List ℕ
 row e = get_or POWER_ROWS e []
 
--- The numbers of a list are each e-th of another one, from its first on.
+-- The numbers of a list are those of another one at the places 0, e, 2 * e and so on, or 0 behind its end.
 unfoldable strides : ℕ → List ℕ → List ℕ → Bool
 strides e ps [] = true
 strides e ps (y ∷ ys) = eqb y (get_or ps 0 0) && strides e (drop e ps) ys
@@ -38,7 +38,7 @@ unfoldable rounds : ℕ → List ℕ
 rounds zero = POWERS
 rounds (suc n) = POWERS ++ rounds n
 
--- Since the powers repeat, it has at each place the power of 2.
+-- So many tables of powers, one behind another, hold the power i of 2 at each place i, since the powers repeat.
 rounds_at : (n i : ℕ) → i < 255 * suc n → get_or (rounds n) i 0 ≡ power i
 unfolding rounds
 rounds_at zero i h = powers_at i (omega arith)
@@ -50,9 +50,13 @@ rounds_at (suc n) i h =
           ∙ sym (power_mod (i - 255)) ∙ ap power (let q : (i - 255) % 255 ≡ i % 255 = omega arith in q) ∙ power_mod i
     ]
 
--- Each row has each e-th power, in as many rounds through the table of powers as it takes: 8960 numbers.
-rows_test : all_below 35 (λ e. strides e (rounds e) (row e)) ≡ true
-unfolding all_below strides rounds
+-- The row of e has the numbers at each e-th step through as many tables of powers as that takes.
+row_test : ℕ → Bool
+row_test e = strides e (rounds e) (row e)
+
+-- So it is for each row: 8960 numbers, at most 2 seconds for this whole file.
+rows_test : all_below 35 row_test ≡ true
+unfolding all_below row_test strides rounds
 rows_test = refl
 
 -- Each row has 256 numbers: 35 cases.
@@ -66,9 +70,10 @@ row_length e h = eqb-true (length (row e)) 256 (all_below_at 35 (λ e. eqb (leng
 
 -- The row of e holds at the place j the power e * j of 2.
 row_at : (e j : ℕ) → e < 35 → j < 256 → get_or (row e) j 0 ≡ power (e * j)
+unfolding row_test
 row_at e j h l =
-    let far : e * j ≤ e * 255 = mul-le e j e 255 (omega arith) (omega arith) in
-    strides_at e j (rounds e) (row e) (all_below_at 35 (λ e. strides e (rounds e) (row e)) rows_test e h) (omega (arith, row_length e h))
+    let within : e * j ≤ e * 255 = mul-le e j e 255 (omega arith) (omega arith) in
+    strides_at e j (rounds e) (row e) (all_below_at 35 row_test rows_test e h) (omega (arith, row_length e h))
     ∙ rounds_at e (e * j) (omega arith)
 
 -- Sixteen numbers of the row of e are the powers e of sixteen powers of 2 in their order.

@@ -24,13 +24,13 @@ first_test : all_below 80 (λ i. eqb (get_or (get_or TAP_ROWS 0 []) i 0) 0) ≡ 
 unfolding all_below
 first_test = refl
 
--- A list has the numbers of another one of its length, each plus r times the one before it, which for the first is x.
+-- A list has no more numbers than another one, and each is the other's at its place plus r times the other's before that, which for the first is x.
 unfoldable follows : ℕ → ℕ → List ℕ → List ℕ → Bool
 follows r x ts [] = true
 follows r x [] (u ∷ us) = false
 follows r x (t ∷ ts) (u ∷ us) = eqb u (t ⊕ r ⊗ x) && follows r t ts us
 
--- A list that passes this test holds such a number at each place.
+-- A list that passes this test holds at the place i the other one's number there plus r times the one before that, which is x at the first place.
 follows_at : (r x i : ℕ) (ts us : List ℕ) → follows r x ts us ≡ true → i < length us → get_or us i 0 ≡ get_or ts i 0 ⊕ r ⊗ get_or (x ∷ ts) i 0
 unfolding follows
 follows_at r x i ts [] f l = absurd (omega arith)
@@ -38,18 +38,22 @@ follows_at r x i [] (u ∷ us) f l = let never : false ≡ true = f in cc
 follows_at r x zero (t ∷ ts) (u ∷ us) f l = eqb-true u (t ⊕ r ⊗ x) (and_parts (eqb u (t ⊕ r ⊗ x)) (follows r t ts us) f).0
 follows_at r x (suc i) (t ∷ ts) (u ∷ us) f l = follows_at r t i ts us (and_parts (eqb u (t ⊕ r ⊗ x)) (follows r t ts us) f).1 (omega arith)
 
--- Each further row has 80 numbers and is the one before it, times one factor more: 5440 products, at most 9 seconds and 0.7 GB for this whole file.
-rows_test : all_below 68 (λ k. eqb (length (get_or TAP_ROWS (suc k) [])) 80 && follows (get_or POWERS (suc k) 0) 1 (get_or TAP_ROWS k []) (get_or TAP_ROWS (suc k) [])) ≡ true
-unfolding all_below follows ◌⊗◌ carryless modulo_301
+-- The row behind that of k has 80 numbers, each that of the row of k plus the new root times the one before it.
+row_test : ℕ → Bool
+row_test k = eqb (length (get_or TAP_ROWS (suc k) [])) 80 && follows (get_or POWERS (suc k) 0) 1 (get_or TAP_ROWS k []) (get_or TAP_ROWS (suc k) [])
+
+-- So it is for each row: 5440 products, at most 2 seconds for this whole file.
+rows_test : all_below 68 row_test ≡ true
+unfolding all_below row_test follows ◌⊗◌ carryless modulo_301
 rows_test = refl
 
 -- A coefficient of the next row is that of this row plus the new root times the one before it.
 row_step : (k i : ℕ) → k < 68 → i < 80 → get_or (taps_of (suc k)) (suc i) 0 ≡ get_or (taps_of k) (suc i) 0 ⊕ power (suc k) ⊗ get_or (taps_of k) i 0
+unfolding row_test
 row_step k i h l =
     let row = get_or TAP_ROWS k [] in
     let next = get_or TAP_ROWS (suc k) [] in
-    let test : ℕ → Bool = λ k. eqb (length (get_or TAP_ROWS (suc k) [])) 80 && follows (get_or POWERS (suc k) 0) 1 (get_or TAP_ROWS k []) (get_or TAP_ROWS (suc k) []) in
-    let t = and_parts (eqb (length next) 80) (follows (get_or POWERS (suc k) 0) 1 row next) (all_below_at 68 test rows_test k h) in
+    let t = and_parts (eqb (length next) 80) (follows (get_or POWERS (suc k) 0) 1 row next) (all_below_at 68 row_test rows_test k h) in
     follows_at (get_or POWERS (suc k) 0) 1 i row next t.1 (omega (arith, eqb-true (length next) 80 t.0))
     ∙ ap (λ p. get_or (taps_of k) (suc i) 0 ⊕ p ⊗ get_or (taps_of k) i 0) (powers_at (suc k) (omega arith))
 
