@@ -45,17 +45,25 @@ fn task_of_call(rt: &HostRuntime) -> Result<Task, CallFault> {
     task_of(rt.alloc(), words.as_slice())
 }
 
-fn main(rt: HostRuntime) -> ExitCode {
-    let (status, line) = match task_of_call(&rt) {
-        Ok(task) => {
-            let (mut source, mut sink) = (FromRead::new(rt.stdin()), ToWrite::new(rt.stdout()));
-            ending(&run_streams(task, &mut source, &mut sink))
-        }
-        Err(fault) => call_ending(fault),
-    };
+/// Does a task over the standard streams, and gives the exit status and the line for standard error.
+fn do_task(rt: &HostRuntime, task: Task) -> (u8, &'static str) {
+    let (mut source, mut sink) = (FromRead::new(rt.stdin()), ToWrite::new(rt.stdout()));
+    ending(&run_streams(task, &mut source, &mut sink))
+}
+
+/// Writes a line to standard error, unless it is empty. If that fails, nobody is left to be told.
+fn report(rt: &HostRuntime, line: &str) {
     if !line.is_empty() {
         let _ = rt.stderr().write_all(line.as_bytes());
         let _ = rt.stderr().write_all(b"\n");
     }
+}
+
+fn main(rt: HostRuntime) -> ExitCode {
+    let (status, line) = match task_of_call(&rt) {
+        Ok(task) => do_task(&rt, task),
+        Err(fault) => call_ending(fault),
+    };
+    report(&rt, line);
     ExitCode::from(status)
 }
