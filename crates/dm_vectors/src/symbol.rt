@@ -42,11 +42,11 @@ fn completed_grid(side: u16, data_words: &[u8]) -> Grid {
 
 /// The grid of side 10 whose cells are these characters, row by row: 1 is dark, 0 light.
 fn drawn(cells: &[u8; 100]) -> Grid {
-    let mut list = [false; 100];
+    let mut dark = [false; 100];
     for place in 0..100 {
-        list[place] = cells[place] == b'1';
+        dark[place] = cells[place] == b'1';
     }
-    grid_with(10, &list)
+    grid_with(10, &dark)
 }
 
 /// Whether two grids have one side and equal cells.
@@ -106,17 +106,17 @@ fn says(grid: &Grid, limit: u16, text: &[u8], corrected: &[u8], border_faults: u
     }
 }
 
-/// Whether the outcome of reading is this fault.
-fn is_read_fault(outcome: &Result<Reading, ReadFault>, fault: ReadFault) -> bool {
+/// Whether the outcome is this fault.
+fn is_fault<T, E: PartialEq>(outcome: &Result<T, E>, fault: &E) -> bool {
     match outcome {
         Ok(_) => false,
-        Err(found) => *found == fault,
+        Err(found) => found == fault,
     }
 }
 
 /// Whether the grid is refused for this.
 fn is_refused(grid: &Grid, limit: u16, fault: ReadFault) -> bool {
-    is_read_fault(&read(grid, limit), fault)
+    is_fault(&read(grid, limit), &fault)
 }
 
 /// Whether this is the normal grid of the grid.
@@ -129,17 +129,9 @@ fn becomes_under(profile: Profile, grid: &Grid, limit: u16, expected: &Grid) -> 
     is_grid(&normal_as(profile, grid, limit), expected)
 }
 
-/// Whether the outcome is this fault.
-fn is_fault(outcome: &Result<Grid, NormalFault>, fault: NormalFault) -> bool {
-    match outcome {
-        Ok(_) => false,
-        Err(found) => *found == fault,
-    }
-}
-
-/// Whether the grid has no normal grid for this.
-fn has_no_normal(grid: &Grid, limit: u16, fault: NormalFault) -> bool {
-    is_fault(&normal(grid, limit), fault)
+/// Whether the grid gets no normal grid under this limit, for this fault.
+fn has_no_normal_grid(grid: &Grid, limit: u16, fault: NormalFault) -> bool {
+    is_fault(&normal(grid, limit), &fault)
 }
 
 /// Whether the message is too long for any symbol under the profile.
@@ -298,7 +290,7 @@ fn compares_the_border_with_the_limit(rt: HostRuntime) {
         is_refused(&grid, 2, fault) && is_refused(&grid, 9, fault),
     );
     holds(&rt, says(&grid, 10, b"123456", &[0], 10));
-    holds(&rt, has_no_normal(&grid, 2, NormalFault::Read(fault)));
+    holds(&rt, has_no_normal_grid(&grid, 2, NormalFault::Read(fault)));
 }
 
 /// The grid of side 12 with its fixed square turned over.

@@ -73,8 +73,8 @@ fn says_and_becomes(extent: Extent, grid: &Grid, text: &[u8], expected: &Grid) -
 /// Whether the usual extent refuses the grid with this fault, by each of its calls.
 fn is_refused_usually(grid: &Grid, fault: ReadFault) -> bool {
     is_refused(grid, 0, fault)
-        && is_read_fault(&read_as(Extent::Usual, grid, 0), fault)
-        && is_fault(&normal(grid, 0), NormalFault::Read(fault))
+        && is_fault(&read_as(Extent::Usual, grid, 0), &fault)
+        && has_no_normal_grid(grid, 0, NormalFault::Read(fault))
 }
 
 /// Whether the data codewords are read in the wide extent alone, and the symbol in which the same text is spelled out, which is the normal one of
@@ -126,7 +126,7 @@ fn the_longest_message_is_read(rt: HostRuntime) {
         &rt,
         is_fault(
             &normal_read_as(Extent::Wide, Profile::Ascii, &grid, 0),
-            NormalFault::TooLong,
+            &NormalFault::TooLong,
         ),
     );
 }

@@ -72,7 +72,7 @@ fn normalises_to_a_larger_size(rt: HostRuntime) {
 fn reads_what_has_no_normal_grid(rt: HostRuntime) {
     let grid = long_segment_grid();
     holds(&rt, says(&grid, 26, &[255; 813], &[0; 6], 0));
-    holds(&rt, has_no_normal(&grid, 26, NormalFault::TooLong));
+    holds(&rt, has_no_normal_grid(&grid, 26, NormalFault::TooLong));
 }
 
 /// The codewords with the first `most` of them wrong, and the one at the place `more`.

@@ -104,7 +104,7 @@ fn normalises_a_segment_that_fills_side_104(rt: HostRuntime) {
     let long = long_segment_grid();
     holds(
         &rt,
-        is_fault(&normal_as(Profile::Ascii, &long, 0), NormalFault::TooLong),
+        is_fault(&normal_as(Profile::Ascii, &long, 0), &NormalFault::TooLong),
     );
     holds(&rt, becomes_under(Profile::Shorter, &long, 0, &long));
 }

@@ -137,9 +137,9 @@ fn reads<I: Source>(
 fn reads_bytes<I: Source>(source: &mut I, read: AskedRead) -> bool {
     let (length, outcome, failures, _) = read;
     let mut place = [0u8; 4];
-    let is_good = reads(source, &mut place[..length.min(4)], outcome, failures);
+    let as_told = reads(source, &mut place[..length.min(4)], outcome, failures);
     let first = if outcome == Ok(1) { 65 } else { 0 };
-    is_good && place == [first, 0, 0, 0]
+    as_told && place == [first, 0, 0, 0]
 }
 
 /// Whether the reads of a source over this device have these outcomes.
@@ -263,10 +263,10 @@ static WRITES: [(u32, usize, bool, &[AskedWrite]); 4] = [
 fn write_or_flush<O: Sink>(sink: &mut O, bytes: Option<&[u8]>) -> Result<usize, Failed> {
     match bytes {
         Some(bytes) => sink.write(bytes),
-        None => match sink.flush() {
-            Ok(()) => Ok(0),
-            Err(failed) => Err(failed),
-        },
+        None => {
+            sink.flush()?;
+            Ok(0)
+        }
     }
 }
 
