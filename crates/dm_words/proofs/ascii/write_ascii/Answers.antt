@@ -1,5 +1,5 @@
-use Rattle.std.proofs.Common.{arith}
-use Rattle.dm_words.proofs.UnitLoops.{has_unit, unit_turn, unit_room, fnc1_turn}
+use Rattle.std.proofs.Common.{◌∙◌, ap, length, arith}
+use Rattle.dm_words.proofs.UnitLoops.{has_unit, unit_turn, unit_room, fnc1_turn, words_end, fnc1_end}
 use Rattle.dm_words.proofs.ascii.write_ascii.Goals as goal
 
 pub write_unit-at-requires : goal.write_unit-at-requires
@@ -20,3 +20,13 @@ pub loop-at-smaller : goal.loop-at-smaller
 loop-at-smaller c =
     let h = has_unit c.unit_at-unit.result c.args.items.now c.loop-at.at c.loop-at-test.true c.unit_at-unit.ensures in
     omega (arith, h.some, h.within, c.write_unit-at.ensures.item_count)
+
+pub returns-clause-words : goal.returns-clause-words
+returns-clause-words c = words_end c.args.items.now c.loop-at.at c.loop-at.words.items c.loop-at-test.false c.loop-at.invariant.so_far
+
+pub returns-clause-length : goal.returns-clause-length
+returns-clause-length c =
+    c.len.ensures.value ∙ ap length (words_end c.args.items.now c.loop-at.at c.loop-at.words.items c.loop-at-test.false c.loop-at.invariant.so_far)
+
+pub returns-clause-has_fnc1 : goal.returns-clause-has_fnc1
+returns-clause-has_fnc1 c = fnc1_end c.args.items.now c.loop-at.at c.loop-at.has_fnc1 c.loop-at-test.false c.loop-at.invariant.has_fnc1

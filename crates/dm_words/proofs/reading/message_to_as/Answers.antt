@@ -17,3 +17,9 @@ returns-in-None c =
     is_message_result c.args.extent c.args.words.now (outcome c.add_parts.result c.add_parts.new.message) (λ i. omega (arith, c.type_inv.words i))
     (reads_plain c.args.extent c.args.words.now _ (sym c.macro_digit.ensures ∙ c.in-None.is) (rw c.clear.ensures at c.add_parts.ensures.read))
     (few_plain c.args.extent _ c.add_parts.result _ c.add_parts.new.message c.clear.ensures c.add_parts.ensures.two_for_each_codeword)
+
+pub framed_parts-requires-clause-empty : goal.framed_parts-requires-clause-empty
+framed_parts-requires-clause-empty c = c.clear.ensures
+
+pub add_parts-requires-clause-room : goal.add_parts-requires-clause-room
+add_parts-requires-clause-room c = rw c.clear.ensures (omega arith)

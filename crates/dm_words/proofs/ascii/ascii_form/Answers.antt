@@ -1,0 +1,30 @@
+use Rattle.std.proofs.Common.{◌≡◌, ◌∙◌, List, Bool, true, false, ap, sym, arith, length}
+use Rattle.std.proofs.lemmas.List.{at_drop_all}
+use Rattle.std.specs.Prelude.{◌||◌}
+use Rattle.dm_words.specs.declared.item.Item.{Item}
+use Rattle.dm_words.specs.Ascii.{ascii}
+use Rattle.dm_words.proofs.UnitLoops.{fnc1_end}
+use Rattle.dm_words.proofs.ascii.ascii_form.Goals as goal
+
+-- Once FNC1 is met, it is among the items.
+met : (found here whole : Bool) → here ≡ true → (found || here) ≡ whole → true ≡ whole
+met true here whole is so_far = so_far
+met false here whole is so_far = sym is ∙ so_far
+
+pub loop-at-preserved : goal.loop-at-preserved
+loop-at-preserved c =
+    let v = c.loop-at.invariant in
+    let u = rw c.in-Fnc1.is at c.unit_at.ensures in
+    record {
+      in_range = omega (arith, c.loop-at-test.true);
+      room = omega (arith, v.room);
+      so_far = omega (arith, v.so_far, ap length u.0);
+      has_fnc1 = met _ _ _ u.1 v.has_fnc1;
+    }
+
+pub returns-clause-length : goal.returns-clause-length
+returns-clause-length c =
+    omega (arith, c.loop-at.invariant.so_far, at_drop_all (λ (r : List Item). length (ascii r)) c.args.items.now c.loop-at.at c.loop-at-test.false)
+
+pub returns-clause-has_fnc1 : goal.returns-clause-has_fnc1
+returns-clause-has_fnc1 c = fnc1_end c.args.items.now c.loop-at.at c.loop-at.form.has_fnc1 c.loop-at-test.false c.loop-at.invariant.has_fnc1

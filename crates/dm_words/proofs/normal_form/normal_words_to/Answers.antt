@@ -1,0 +1,12 @@
+use Rattle.std.proofs.Common.{arith, ap, length}
+use Rattle.dm_words.proofs.normal_form.normal_words_to.Goals as goal
+
+pub returns-then-not-surely_fits-clause-same : goal.returns-then-not-surely_fits-clause-same
+returns-then-not-surely_fits-clause-same c = c.write_counted.ensures.same
+
+pub write_segment-requires : goal.write_segment-requires
+write_segment-requires c =
+    let e = c.form_of.ensures in
+    let form = rw c.if-form_of.true at e.form in
+    let fits = rw c.if-not-surely_fits.false at c.surely_fits.ensures in
+    omega (arith, ap length form, e.length, e.no_longer, c.write_ascii-ascii.ensures.length, fits)
