@@ -1,4 +1,4 @@
-use Rattle.std.proofs.Common.{inl}
+use Rattle.std.proofs.Common.{inl, rules}
 use Rattle.dm_text.specs.Runs.{answers_text}
 use Rattle.dm_text.proofs.Flushes.{flushed_badly, flushed_well, on_error}
 use Rattle.dm_text.proofs.KnownBytes.{appends_kept}
@@ -30,3 +30,6 @@ returns-clause-late g c =
 
 pub returns-in_err-put_last-clause-late : goal.returns-in_err-put_last-clause-late
 returns-in_err-put_last-clause-late g c = on_error c.from_residual.result _ (inl c.put_last.ensures.unflushed)
+
+pub returns-clause-flushed : goal.returns-clause-flushed
+returns-clause-flushed g c = search rules depth 1

@@ -28,3 +28,12 @@ returns-clause-closed c = record {
       };
   empty = c.close_to.ensures.empty;
 }
+
+pub returns-in_default-clause-some_text : goal.returns-in_default-clause-some_text
+returns-in_default-clause-some_text c = rw (← c.self.view_is) c.self.invariant
+
+pub returns-clause-some_text : goal.returns-clause-some_text
+returns-clause-some_text c = rw (← c.self.view_is) c.self.invariant
+
+pub overflow_add-result : goal.overflow_add-result
+overflow_add-result c = omega (arith, c.in-Some.ensures.within)

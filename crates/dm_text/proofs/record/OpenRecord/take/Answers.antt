@@ -1,8 +1,47 @@
-use Rattle.std.proofs.Common.{◌∙◌, ◌+◌, ◌<◌, ◌++◌, List, ℕ, length, take, subst, arith}
+use Rattle.std.proofs.Common.{◌∙◌, ◌+◌, ◌<◌, ◌++◌, List, ℕ, append-nil, length, take, subst, arith}
 use Rattle.dm_text.specs.Records.{IsClosedRecord}
 use Rattle.dm_text.specs.RecordFacts.{AreRecordFacts}
 use Rattle.dm_text.proofs.Pieces.{all_taken, go_on, go_on_by_one, rest_length}
 use Rattle.dm_text.proofs.record.OpenRecord.take.Goals as goal
+
+pub loop-at-init : goal.loop-at-init
+loop-at-init c = record {
+  within = omega arith;
+  grown = λ text known. rw (append-nil text) known;
+}
+
+pub slice_bounds-take_cells-count : goal.slice_bounds-take_cells-count
+slice_bounds-take_cells-count c = omega (arith, rest_length c.args.bytes.now c.loop-at.at)
+
+pub overflow_add-line : goal.overflow_add-line
+overflow_add-line c = omega (arith, rest_length c.args.bytes.now c.loop-at.at)
+
+pub overflow_add-end : goal.overflow_add-end
+overflow_add-end c =
+    let line = c.loop-at.at + c.take_lines.result in
+    omega (arith, rest_length c.args.bytes.now c.loop-at.at, rest_length c.args.bytes.now line)
+
+pub bounds-bytes-end : goal.bounds-bytes-end
+bounds-bytes-end c =
+    let line = c.loop-at.at + c.take_lines.result in
+    omega (arith, rest_length c.args.bytes.now c.loop-at.at, rest_length c.args.bytes.now line)
+
+pub returns-then-push-clause-within : goal.returns-then-push-clause-within
+returns-then-push-clause-within c =
+    let line = c.loop-at.at + c.take_lines.result in
+    omega (arith, rest_length c.args.bytes.now c.loop-at.at, rest_length c.args.bytes.now line)
+
+pub overflow_add-at : goal.overflow_add-at
+overflow_add-at c =
+    let line = c.loop-at.at + c.take_lines.result in
+    omega (arith, rest_length c.args.bytes.now c.loop-at.at, rest_length c.args.bytes.now line)
+
+pub loop-at-smaller : goal.loop-at-smaller
+loop-at-smaller c = omega arith
+
+pub returns-clause-open : goal.returns-clause-open
+returns-clause-open c text known =
+    subst (λ (l : List ℕ). AreRecordFacts l c.loop-at.self) (all_taken text c.args.bytes.now c.loop-at.at c.loop-at-test.false) (c.loop-at.invariant.grown text known)
 
 pub returns-then-end-bytes-clause-open : goal.returns-then-end-bytes-clause-open
 returns-then-end-bytes-clause-open c text known =
