@@ -55,7 +55,7 @@ pub pair_begins : (items : List Item) (at b c : ℕ) → at + 2 ≤ length items
     → is_digit b ≡ true → is_digit c ≡ true → BeginsAscii (Digits (130 + 10 * (b - 48) + (c - 48))) items at
 pair_begins items at b c within first second hb hc =
     let behind : (i j : ℕ) (x : Item) → i < length items → get_or items i (Byte 0) ≡ x → suc i ≡ j → drop i items ≡ x ∷ drop j items =
-        λ i j x lt is next. drop-cons items i (Byte 0) lt ∙ ap₂ (λ (y : Item) (k : ℕ). y ∷ drop k items) is next in
+    λ i j x lt is next. drop-cons items i (Byte 0) lt ∙ ap₂ (λ (y : Item) (k : ℕ). y ∷ drop k items) is next in
     let cut : drop at items ≡ Byte b ∷ Byte c ∷ drop (at + 2) items =
-        behind at (at + 1) (Byte b) (omega arith) first (omega arith) ∙ ap (λ (r : List Item). Byte b ∷ r) (behind (at + 1) (at + 2) (Byte c) (omega arith) second (omega arith)) in
+    behind at (at + 1) (Byte b) (omega arith) first (omega arith) ∙ ap (λ (r : List Item). Byte b ∷ r) (behind (at + 1) (at + 2) (Byte c) (omega arith) second (omega arith)) in
     (rw (cut, hb, hc) (ap (λ (w : ℕ). w ∷ ascii (drop (at + 2) items)) (omega arith)), rw cut refl, within)

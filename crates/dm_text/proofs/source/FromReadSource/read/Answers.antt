@@ -12,5 +12,8 @@ at_end (Err e) a b into read (Ok m) ok err = absurd (true≢false (sym err))
 at_end (Err e) a b into read (Err f) ok err = tt
 
 pub returns-clause-end : goal.returns-clause-end
-returns-clause-end g c = search (rules, at_end c.read-outcome.result (g.R.Read.remaining c.args.self.now.reader) (g.R.Read.remaining c.read-outcome.new.self)
-    c.read-outcome.new.buf c.read-outcome.ensures.bytes) depth 2
+returns-clause-end g c = search (
+  rules,
+  at_end c.read-outcome.result (g.R.Read.remaining c.args.self.now.reader) (g.R.Read.remaining c.read-outcome.new.self)
+      c.read-outcome.new.buf c.read-outcome.ensures.bytes,
+) depth 2
