@@ -1,21 +1,21 @@
 # What people run by hand; `make` alone lists it. `make test` is the merge gate.
 TOOL := crates/dm_tool/out/dm_tool
-# They try the wrong bodies, and test what no contract mentions. Each ends with a line 'N passed, M failed', and with status 1 if something failed.
-SCRIPTS := tests/definitions tests/tables tests/program tests/library tests/packages tests/dask tests/python/run tests/sampler tests/edits tests/marks/run tests/recipes tests/scale tests/page/run
+# Debian's Python, where it is there: optional modules of the tests are installed for it.
+PYTHON ?= $(firstword $(wildcard /usr/bin/python3) python3)
 # Where to install; packaging/install says more.
 export PREFIX DESTDIR LIBDIR PYTHONDIR
 
-.PHONY: help build library page sampler wheel try test $(SCRIPTS) install install-library uninstall deb dist bench
+.PHONY: help build library page sampler wheel try test install install-library uninstall deb dist bench
 
 # Processor times on an idle machine of 2.5 GHz. What is proved already isn't proved again.
 help:
 	@echo "make build     proves the program and everything below it: ten minutes on four processors"
 	@echo "make library   proves the library for C and builds it, static and shared: a minute after make build"
-	@echo "make page      builds the page, one file for a browser: a minute after make build"
+	@echo "make page      builds the page, one file for a browser: a minute after make build; binaryen is needed"
 	@echo "make sampler   builds what finds symbols in pictures, over the library: seconds; libdmtx-dev, libpng-dev and libjpeg-dev are needed"
 	@echo "make wheel     builds the Python package's wheel, with the libraries that are built: seconds"
 	@echo "make try       shows the program at work, unproved if it isn't built yet: half a minute"
-	@echo "make test      the merge gate, every proof from scratch and all tests: about 50 minutes of processor time"
+	@echo "make test      the merge gate, every proof from scratch and all tests: over 50 minutes of processor time"
 	@echo "make install   installs program, library, callers, man pages and docs below PREFIX=/usr/local; DESTDIR, LIBDIR and PYTHONDIR as usual"
 	@echo "make install-library, make uninstall   the library alone; removes what make install put there"
 	@echo "make deb       builds Debian packages into out/deb: ten seconds after make build library sampler"
@@ -35,7 +35,8 @@ library:
 	@library/build
 	@echo "The library is library/out/libecc200.a and library/out/libecc200.so; its manual is library/ecc200.h."
 
-# Builds the page, one file that opens from disk: web/out/mitsubadoor.html. Its library is proved for WebAssembly too.
+# Builds the page, one file that opens from disk: web/out/mitsubadoor.html. Its library is proved for WebAssembly too,
+# and lowered to 32-bit memory by wasm-opt (Debian: binaryen).
 page:
 	web/build
 
@@ -49,15 +50,12 @@ wheel: library
 
 # Shows the program at work: writing, damage, reading with a correction, a refusal.
 try:
-	@try/tour
+	@demo/tour
 
-# The merge gate: every proof from scratch and the crates' tests by rt ci, then the scripts, of which tests/edits tries the edits that must fail.
+# The merge gate: every proof from scratch and the crates' tests by rt ci, then all other tests, of which tests/edits
+# tries the edits that must fail. What these see of the caller's environment, tests/environment says.
 test:
-	tests/proofs
-	@$(MAKE) --no-print-directory --keep-going $(SCRIPTS)
-
-$(SCRIPTS):
-	$@
+	@tests/environment $(PYTHON) -m tests --proofs
 
 install: build library
 	packaging/install

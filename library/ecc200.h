@@ -1,9 +1,9 @@
 /* ecc200.h: Data Matrix ECC 200 (ISO/IEC 16022), the square symbols of sides 10 to ECC200_MOST_SIDE.
  *
  *     ecc200_read           what a symbol says, and how much of it was wrong
- *     ecc200_write          the normal symbol of a message
+ *     ecc200_write          the normal grid of a message
  *     ecc200_write_bytes    the same for a message of bytes alone
- *     ecc200_normal         the normal symbol of what a symbol says
+ *     ecc200_normal         the normal grid of what a symbol says
  *     ecc200_inspect        the codewords that a symbol holds, and what they are corrected to
  *     ecc200_places         what each module of a symbol is: the bit of a codeword, border, or fixed square
  *     ecc200_sizes          the table of sizes and limits
@@ -42,11 +42,11 @@
  * message has ECC200_FNC1 first and another, or more rarely the byte 0x1D, between its fields. ecc200_text and ecc200_items, below,
  * turn items into bytes and back.
  *
- * A PROFILE chooses the normal form of a message, and so its one normal symbol, which the documents call its normal grid: under
+ * A PROFILE chooses the normal form of a message, and so its normal grid, the one symbol by which it is compared: under
  * ECC200_ASCII its codewords are those of ASCII encodation; under ECC200_SHORTER they are those of one Base 256 segment where the
  * message has no FNC1 and the segment is shorter, which serves binary messages. Either way they stand in the smallest symbol that
- * holds them, followed by pads; a message that no symbol holds in this form has no normal symbol. Symbols that have normal symbols
- * under one profile say the same exactly if these are equal, byte by byte; and a normal symbol is its own normal symbol.
+ * holds them, followed by pads; a message that no symbol holds in this form has no normal grid. Symbols that have normal grids
+ * under one profile say the same exactly if these are equal, byte by byte; and a normal grid is its own normal grid.
  *
  * EACH CALL returns, whatever it is given, and touches only what it was given. It allocates nothing and uses less than ECC200_STACK bytes of stack,
  * keeps nothing, waits for nothing, and calls nothing but memcpy, memmove and memset: any number of threads may call at once, each with an `out` of
@@ -164,11 +164,13 @@ enum ECC200_SMALL ecc200_code {
     ECC200_LEFT_OUT = 8,    /* value: a codeword that begins something that isn't read: structured append (233), reader programming
                                (234) or ECI (241); USUAL: macro 05 (236), macro 06 (237) or EDIFACT (240) too; WIDE: a macro that
                                isn't the first codeword of the symbol too; place: where it stands */
-    ECC200_UPPER_SHIFT = 9, /* something other than a character follows an Upper Shift; place: that of the Upper Shift */
+    ECC200_UPPER_SHIFT = 9, /* something other than a character follows an Upper Shift; place: that of the Upper Shift, or, in a run of
+                               C40 or Text, that of the pair that holds it */
     ECC200_TRIPLET = 10,    /* two codewords of C40, Text or X12 that don't stand for three values; place: that of the first */
     ECC200_VALUE = 11,      /* a value of C40 or Text that has no meaning after a shift; place: that of its codewords */
     ECC200_LENGTH = 12,     /* a Base 256 length that is missing, ill-formed, or too large; place: that of the latch */
-    ECC200_UNFINISHED = 13, /* the symbol ends before the character of an Upper Shift, or, USUAL, the run does; place: that of the Upper Shift */
+    ECC200_UNFINISHED = 13, /* the symbol ends before the character of an Upper Shift, or, USUAL, the run does; place: as for
+                               UPPER_SHIFT */
 
     /* The message isn't written. */
     ECC200_TOO_LONG = 14, /* no size holds the message in its normal form */
@@ -223,15 +225,15 @@ typedef struct ecc200_symbol {
 } ecc200_symbol;
 /* interface.toml: end */
 
-/* Writes the normal symbol of a message. ecc200_read reads it as that message, with nothing corrected.
+/* Writes the normal grid of a message. ecc200_read reads it as that message, with nothing corrected.
  * Returns the first fault that applies: PROFILE, ITEM, TOO_LONG. */
 uint16_t ecc200_write(const uint16_t *ECC200_RESTRICT items, size_t count, uint16_t profile, ecc200_symbol *ECC200_RESTRICT out);
 
-/* Writes the normal symbol of bytes, each of which is an item: what ecc200_write does for the same numbers.
+/* Writes the normal grid of bytes, each of which is an item: what ecc200_write does for the same numbers.
  * Returns the first fault that applies: PROFILE, TOO_LONG. */
 uint16_t ecc200_write_bytes(const uint8_t *ECC200_RESTRICT bytes, size_t count, uint16_t profile, ecc200_symbol *ECC200_RESTRICT out);
 
-/* Writes the normal symbol of what a symbol says in an extent, whatever its size and encodation, and whatever damage was corrected.
+/* Writes the normal grid of what a symbol says in an extent, whatever its size and encodation, and whatever damage was corrected.
  * Returns the first fault that applies: EXTENT, PROFILE, those of ecc200_read, TOO_LONG. */
 uint16_t ecc200_normal(const uint8_t *ECC200_RESTRICT modules, size_t count, uint16_t side, uint16_t border_limit, uint16_t extent, uint16_t profile, ecc200_symbol *ECC200_RESTRICT out);
 

@@ -6,17 +6,19 @@ pictures by the library ecc200_sample, where that is installed.
     b'123456'
 
 A grid is the rows of a symbol from the top, each with its modules from the left, without a quiet zone: true or 1 is dark, false or 0
-is light. A row is bytes, a list of numbers, or text of the characters 0 and 1. Taken as well are all modules in one bytes, a text with a row
-on each line, a square array, and a Pillow picture with one pixel a module, whose light margin is left out. Functions return rows as bytes,
-whose items are 1 and 0. A symbol stands upright: the solid column is on the left, the solid row at the bottom.
+is light. A row is bytes, a list of numbers, or text of the characters 0 and 1. Taken as well are all modules in one
+bytes, a text with a row on each line, a square array, what has `rows`, such as an encoded symbol, and a Pillow picture
+with one pixel a module, whose light margin is left out. Functions return rows as bytes, whose items are 1 and 0. A
+symbol stands upright: the solid column is on the left, the solid row at the bottom.
 
 A message is its bytes, and whether FNC1 stands in front, which marks GS1 messages; further FNC1s are the byte 0x1D, GS. To tell FNC1 from
 GS, use the items: 0 to 255, and FNC1. Text is a message only with the name of its charset.
 
 What can't be read or written raises Refused. All functions may be called from any number of threads, and let others run meanwhile.
 
-A picture, for `decode` and `find`, is Pillow's, or anything with a buffer or the array interface (numpy, OpenCV): luminances, a byte each with 0
-black, or booleans, true being light, or colours, for which Pillow is needed.
+A picture, for `decode` and `find`, is Pillow's, or anything with a buffer or the array interface (numpy, OpenCV):
+luminances, a byte each with 0 black, or booleans, true being light, or colours, for which Pillow is needed. Or it is
+the file of a picture, given by its path, open, or as its bytes: Pillow opens it, and every page of it is looked at.
 
 The shared library is looked for at the path in the environment variable ECC200_LIBRARY; if that isn't set, beside this file, then where
 the system keeps its libraries. The sampler's, ECC200_SAMPLE_LIBRARY, is looked for in the same way when it is first needed.
@@ -25,14 +27,17 @@ import array
 import ctypes
 import enum
 import functools
+import io
 import math
 import os
 import struct
-from typing import Any, Callable, Dict, Iterable, List, NamedTuple, Optional, Protocol, Sequence, Tuple, Type, Union
+from typing import (Any, Callable, Dict, Iterable, Iterator, List, NamedTuple, Optional, Protocol, Sequence, Tuple,
+                    Type, Union)
 
-__all__ = ["ABI", "Code", "Extent", "FNC1", "Found", "Grid", "Inspection", "Kind", "MOST_ITEMS", "Message", "Place", "Profile", "Reading",
-           "Refused", "Rows", "SamplerMissing", "Size", "decode", "find", "has_sampler", "inspect", "luminance", "normal", "places", "read",
-           "read_many", "sizes", "usual_limit", "version", "write"]
+__all__ = ["ABI", "Code", "Corners", "Extent", "FNC1", "Found", "Grid", "Inspection", "Kind", "MOST_ITEMS", "Message",
+           "Place", "Profile", "Reading", "Refused", "Rows", "SamplerMissing", "Size", "decode", "find", "has_sampler",
+           "inspect", "luminance", "normal", "places", "read", "read_many", "sampler_fault", "sizes", "usual_limit",
+           "version", "write"]
 
 # interface.toml: constants
 ABI = 2
@@ -53,9 +58,20 @@ class _Array(Protocol):
     def __array_interface__(self) -> Dict[str, Any]: ...
 
 
-Grid = Union[str, bytes, bytearray, memoryview, Sequence[str], Sequence[bytes], Sequence[bytearray], Sequence[Sequence[int]], _Array]
-Message = Union[str, bytes, bytearray, memoryview, Iterable[int]]
 Rows = List[bytes]
+
+
+class _Symbol(Protocol):
+    """What a symbol that was encoded and one that was found have in common."""
+    @property
+    def rows(self) -> Rows: ...
+
+
+Grid = Union[str, bytes, bytearray, memoryview, Sequence[str], Sequence[bytes], Sequence[bytearray],
+             Sequence[Sequence[int]], _Array, _Symbol]
+Message = Union[str, bytes, bytearray, memoryview, Iterable[int]]
+# Top left, top right, bottom right and bottom left of the upright symbol, in pixels from the picture's upper left.
+Corners = Tuple[Tuple[float, float], ...]
 
 
 class Profile(enum.IntEnum):
@@ -114,6 +130,16 @@ class Reading(NamedTuple):
     items: Tuple[int, ...]      # the message item by item: 0 to 255, or FNC1
     corrected: Tuple[int, ...]  # for each block, how many of its codewords were corrected
     border_faults: int          # how many border modules have the wrong colour
+    side: int                   # how many modules the symbol has on a side
+    corners: Optional[Corners] = None  # where it was found, if that was in a picture
+
+    @property
+    def text(self) -> str:
+        """The message as text: in UTF-8 where its bytes are that, else in ISO/IEC 8859-1."""
+        try:
+            return self.data.decode("utf-8")
+        except UnicodeDecodeError:
+            return self.data.decode("iso-8859-1")
 
 
 class Inspection(NamedTuple):
@@ -211,22 +237,34 @@ def _lacking(path: str) -> List[str]:
     return [] if flags is None else sorted(_INSTRUCTIONS - set(flags.split()))
 
 
+# What else must be installed for a library to be loaded.
+_NEEDS = {"ecc200_sample": "; it needs libdmtx (Debian: libdmtx0b)"}
+
+
 def _opened(name: str, needed: int, missing: Type[ImportError]) -> ctypes.CDLL:
     """The shared library of this name, with the version of its interface that is needed."""
-    file, variable, faults = f"lib{name}.so", f"{name.upper()}_LIBRARY", []
+    file, variable, faults, there = f"lib{name}.so", f"{name.upper()}_LIBRARY", [], ""
     beside, own = os.path.join(os.path.dirname(os.path.abspath(__file__)), file), f"{file}.{needed}"
     named = os.environ.get(variable)
     for path in [named] if named else [beside, own, file, os.path.join("/usr/local/lib", own)]:
         try:
             library = ctypes.CDLL(path)
+            abi = getattr(library, f"{name}_abi")()
+        except AttributeError:
+            raise missing(f"{path} is a library, but not {name}", path=path) from None
         except OSError as why:
             faults.append(str(why))
+            is_there = os.path.isfile(path) or not str(why).startswith(f"{path}:")  # (or it names what this one needs)
+            if is_there:
+                there = there or f"{path} is there, but can't be loaded: {why}{_NEEDS.get(name, '')}"
             continue
-        abi = getattr(library, f"{name}_abi")()
         if abi != needed:
-            raise missing(f"{path} has version {abi} of the interface, but this module needs version {needed}")
+            said = f"{path} has version {abi} of the interface, but this module needs version {needed}"
+            raise missing(said, path=path)
         return library
-    raise missing(f"{file} can't be loaded; set {variable} to its path (" + "; ".join(faults) + ")")
+    if there:
+        raise missing(there, path=path)
+    raise missing(f"the library {name} isn't installed, or set {variable} to its path ({'; '.join(faults)})")
 
 
 def _load(processor: str = "/proc/cpuinfo") -> ctypes.CDLL:
@@ -268,6 +306,7 @@ def _room(rooms: List[_Room], kind: Type[ctypes.Structure]) -> _Room:
 _seven, _four = struct.Struct("=7H").unpack_from, struct.Struct("=4H").unpack_from
 _CORRECTED = _ReadingOut.corrected.offset
 _DIGITS = bytes(byte == 0x31 for byte in range(256))
+_TURNS = {2: 0, 3: 3, 4: 1, 5: 5, 6: 4, 7: 6, 8: 2}  # for each orientation of EXIF, Pillow's way of transposing
 
 
 def _of_row(row: Any) -> bytes:
@@ -278,12 +317,35 @@ def _of_row(row: Any) -> bytes:
     return row if isinstance(row, bytes) else bytes(1 if module else 0 for module in row)
 
 
-def _of_picture(picture: Any) -> Sequence[bytes]:
-    shade, cover = picture.convert("RGBA").convert("LA").split()
-    dark = shade.point([1] * 128 + [0] * 128)
-    dark.paste(0, mask=cover.point([255] * 128 + [0] * 128))  # where it is transparent it is light
-    dark = dark.crop(dark.getbbox())
+def _orientation(picture: Any) -> int:
+    """How EXIF says that a picture is to be turned: 1, for not at all, to 8."""
+    try:
+        tags = getattr(picture, "tag_v2", None) or picture.getexif()  # a TIFF's own are there without its file
+        return int(tags.get(274, 1))
+    except Exception:  # Pillow's plugins raise what they like
+        return 1
+
+
+def _rows_of(dark: Any) -> Rows:
     return [dark.crop((0, row, dark.width, row + 1)).tobytes() for row in range(dark.height)]
+
+
+def _ways(picture: Any) -> List[Rows]:
+    """The pixels of a picture, true for dark, without its light margin: as they are stored, and as EXIF says that they
+    are turned, if it does."""
+    dark = _of_pillow(picture).point([1] * 128 + [0] * 128)
+    dark = dark.crop(dark.getbbox())
+    turn = _TURNS.get(_orientation(picture))
+    return [_rows_of(dark)] if turn is None else [_rows_of(dark), _rows_of(dark.transpose(turn))]
+
+
+def _best(ways: List[Rows]) -> Rows:
+    """Of the ways in which a symbol may stand the one in which it is read, or else has most of the solid borders."""
+    def merit(rows: Rows) -> Tuple[bool, int]:
+        is_read = any(isinstance(answer, Reading) for answer in read_many([rows]))
+        return is_read, sum(row[0] for row in rows) + sum(rows[-1])
+
+    return ways[0] if len(ways) == 1 else max(ways, key=merit)
 
 
 def _plain(grid: Any) -> Sequence[Any]:
@@ -293,8 +355,10 @@ def _plain(grid: Any) -> Sequence[Any]:
     if isinstance(grid, (bytes, bytearray, memoryview)):
         modules = bytes(grid)
         return modules.split() if b"\n" in modules and not modules.strip(b"01\r\n") else modules
+    if isinstance(getattr(grid, "rows", None), list):
+        return list(grid.rows)
     if hasattr(grid, "getbbox"):
-        return _of_picture(grid)
+        return _best(_ways(grid))
     return _of_row(grid) if getattr(grid, "ndim", 2) == 1 else list(grid)
 
 
@@ -328,14 +392,14 @@ def _limit(side: int, border_limit: Optional[int]) -> int:
 
 
 def _said(answer: memoryview) -> Reading:
-    code, value, place, _, border_faults, blocks, count = _seven(answer)
+    code, value, place, side, border_faults, blocks, count = _seven(answer)
     if code:
         raise Refused(code, value, place)
     raw = answer[14:14 + 2 * count].tobytes()
     data, items, gs1 = raw[::2], struct.unpack(f"={count}H", raw), raw[:2] == b"\0\1"
     if b"\1" in raw[1::2]:  # the upper byte of an FNC1
         data = bytes(_GS if item == FNC1 else item for item in items[gs1:])
-    return Reading(data, gs1, items, tuple(answer[_CORRECTED:_CORRECTED + blocks]), border_faults)
+    return Reading(data, gs1, items, tuple(answer[_CORRECTED:_CORRECTED + blocks]), border_faults, side)
 
 
 @functools.lru_cache(maxsize=None)
@@ -397,7 +461,7 @@ def _items(message: Iterable[int], gs1: bool) -> "array.array[int]":
 
 
 def write(message: Message, gs1: bool = False, profile: Profile = Profile.ASCII, charset: Optional[str] = None) -> Rows:
-    """The normal symbol of a message, given as bytes, as items, which are 0 to 255 or FNC1, or as text with the charset that makes it bytes.
+    """The normal grid of a message, given as bytes, as items, which are 0 to 255 or FNC1, or as text with the charset that makes it bytes.
     With `gs1`, FNC1 stands in front and in place of each 0x1D."""
     if isinstance(message, str):
         if charset is None:
@@ -417,7 +481,7 @@ def write(message: Message, gs1: bool = False, profile: Profile = Profile.ASCII,
 
 
 def normal(grid: Grid, border_limit: Optional[int] = None, profile: Profile = Profile.ASCII, extent: Extent = Extent.WIDE) -> Rows:
-    """The normal symbol of what a symbol says. Symbols that have normal symbols under one profile say the same exactly if these are
+    """The normal grid of what a symbol says. Symbols that have normal grids under one profile say the same exactly if these are
     equal."""
     modules, side = _modules(grid)
     wanted, form = _number(Code.EXTENT, extent), _number(Code.PROFILE, profile)
@@ -465,16 +529,17 @@ _COLOURS = {1: "L", 2: "LA", 3: "RGB", 4: "RGBA"}  # by the bytes of a pixel, as
 
 
 class SamplerMissing(ImportError):
-    """The library ecc200_sample isn't installed, or is of another version."""
+    """The library ecc200_sample isn't installed, can't be loaded, or is of another version."""
 
 
 class Found(NamedTuple):
     """A symbol in a picture."""
     answer: Union[Reading, Refused]           # what it says, or why it isn't read
     rows: Rows                                # its modules, upright
-    corners: Tuple[Tuple[float, float], ...]  # top left, top right, bottom right, bottom left of the symbol, in pixels from the picture's upper left
+    corners: Corners                          # among the pixels as they are stored
     inverted: bool                            # whether it is light on dark
     mirrored: bool
+    page: int = 1                             # of a picture with several pages, which one has it
 
 
 class _Options(ctypes.Structure):
@@ -495,13 +560,18 @@ def _sampler() -> ctypes.CDLL:
     return library
 
 
-def has_sampler() -> bool:
-    """Whether the library ecc200_sample is installed, so that symbols can be found in pictures."""
+def sampler_fault() -> Optional[str]:
+    """Why the library ecc200_sample can't be used, or None if it can."""
     try:
         _sampler()
-        return True
-    except SamplerMissing:
-        return False
+        return None
+    except SamplerMissing as why:
+        return str(why) if why.path else "the library ecc200_sample isn't installed"
+
+
+def has_sampler() -> bool:
+    """Whether the library ecc200_sample is installed, so that symbols can be found in pictures."""
+    return sampler_fault() is None
 
 
 def _of_pillow(picture: Any) -> Any:
@@ -548,47 +618,135 @@ def luminance(picture: Any) -> Tuple[bytes, int, int]:
     return grey.tobytes(), grey.width, grey.height
 
 
-def _found(sample: Any) -> Found:
+def _held(data: bytes, name: str) -> Any:
+    """What these bytes are: a grid, which has two values or is text, or else the file of a picture."""
+    if data and (len(set(data)) <= 2 or not data.strip(b"01\r\n")):
+        return data
+    try:
+        from PIL import Image, UnidentifiedImageError
+    except ImportError:
+        raise ImportError("to read the files of pictures install Pillow") from None
+    try:
+        picture = Image.open(io.BytesIO(data))
+        picture.load()
+        return picture
+    except UnidentifiedImageError:
+        raise TypeError(f"{name} is neither a grid nor a picture that Pillow opens") from None
+    except Exception as why:  # Pillow's plugins raise what they like
+        raise TypeError(f"{name} is a picture that can't be opened: {why}") from why
+
+
+def _loaded(given: Any) -> Any:
+    """What a file holds, given by its path, open, or as its bytes; a grid or a picture as it is."""
+    if isinstance(given, (bytes, bytearray)) or isinstance(given, memoryview) and given.ndim == 1:
+        return _held(bytes(given), "what these bytes are")
+    is_path = isinstance(given, str) and "\n" not in given and (not given.strip() or given.strip("01 \t\r") != "")
+    if is_path or hasattr(given, "__fspath__"):
+        with open(given, "rb") as file:
+            return _held(file.read(), os.fspath(given))
+    if not hasattr(given, "read"):
+        return given
+    data = given.read()
+    if isinstance(data, str):
+        raise TypeError("a file is opened for bytes, as by open(name, 'rb')")
+    return _held(data, str(getattr(given, "name", "what this file has")))
+
+
+def _pages(picture: Any) -> Iterator[Any]:
+    """The pages of a Pillow picture that stands at its first, as those of a TIFF or a GIF, one after another; else the
+    picture as it is."""
+    count = getattr(picture, "n_frames", 1)
+    if count == 1 or picture.tell() > 0:
+        yield picture
+        return
+    try:
+        for number in range(count):
+            try:
+                picture.seek(number)
+                picture.load()
+            except Exception as why:  # Pillow's plugins raise what they like
+                raise ValueError(f"page {number + 1} of the picture can't be opened ({why})") from why
+            yield picture
+    finally:
+        picture.seek(0)
+
+
+def _found(sample: Any, page: int) -> Found:
     modules, side = bytes(sample.modules), sample.side
+    corners = tuple(zip(sample.corners[::2], sample.corners[1::2]))
     answer: Union[Reading, Refused]
     try:
-        answer = _said(memoryview(bytes(sample.reading)))
+        answer = _said(memoryview(bytes(sample.reading)))._replace(corners=corners)
     except Refused as why:
         answer = why
-    corners = tuple(zip(sample.corners[::2], sample.corners[1::2]))
     rows = [modules[at:at + side] for at in range(0, side * side, side)]
-    return Found(answer, rows, corners, bool(sample.inverted), bool(sample.mirrored))
+    return Found(answer, rows, corners, bool(sample.inverted), bool(sample.mirrored), page)
 
 
-def find(picture: Any, most: int = _MOST_FOUND, milliseconds: int = 1000, margin: int = 0, unread: bool = False) -> List[Found]:
-    """At most `most` symbols of a picture; the search takes about `milliseconds`, and ends at once where `most` are found. `margin`: how many
-    corrections each block must leave unused. With `unread`, where none is read, the most likely grid that isn't, with its refusal.
-
-    Where the library ecc200_sample isn't installed SamplerMissing is raised."""
-    library = _sampler()
+def _searched(picture: Any, page: int, most: int, options: _Options) -> List[Found]:
+    """The symbols of one page of a picture."""
     pixels, width, height = luminance(picture)
-    options, count = _Options(milliseconds, 0, margin, int(unread)), ctypes.c_size_t()
-    samples = (_Sample * most)()
-    code = library.ecc200_sample_picture(pixels, width, height, width, ctypes.byref(options), samples, most, ctypes.byref(count))
+    samples, count = (_Sample * most)(), ctypes.c_size_t()
+    looked = ctypes.byref(options), samples, most, ctypes.byref(count)
+    code = _sampler().ecc200_sample_picture(pixels, width, height, width, *looked)
     if code:
         raise ValueError(f"a picture of {width} by {height} pixels can't be searched ({code})")
-    return [_found(sample) for sample in samples[:count.value]]
+    return [_found(sample, page) for sample in samples[:count.value]]
+
+
+def _only_read(answers: Iterable[Union[Reading, Refused]]) -> List[Reading]:
+    return [answer for answer in answers if isinstance(answer, Reading)]
+
+
+def _records(grid: Any) -> List[Any]:
+    """A grid; or each of those in a text, in which empty lines stand between."""
+    text = grid.decode("ascii") if isinstance(grid, bytes) and not grid.strip(b"01\r\n") else grid
+    if not isinstance(text, str):
+        return [grid]
+    rows, records = text.split(), [record for record in text.replace("\r\n", "\n").split("\n\n") if record.strip()]
+    return [grid] if len(records) < 2 or set(map(len, rows)) == {len(rows)} else records
+
+
+def find(picture: Any, most: int = _MOST_FOUND, milliseconds: int = 1000, margin: int = 0,
+         unread: bool = False) -> List[Found]:
+    """At most `most` symbols of each page of a picture; the search takes about `milliseconds` for a page, and ends at
+    once where `most` are found. `margin`: how many corrections each block must leave unused. With `unread`, where none
+    is read, the most likely grid that isn't, with its refusal.
+
+    Where the library ecc200_sample isn't installed SamplerMissing is raised."""
+    _sampler()
+    options = _Options(milliseconds, 0, margin, int(unread))
+    found: List[Found] = []
+    likely: List[Found] = []
+    for number, page in enumerate(_pages(_loaded(picture)), 1):
+        for symbol in _searched(page, number, most, options):
+            (likely if isinstance(symbol.answer, Refused) else found).append(symbol)
+    return found or likely[:1]
 
 
 def decode(picture: Any, most: int = _MOST_FOUND, milliseconds: int = 1000, border_limit: Optional[int] = None,
            extent: Extent = Extent.WIDE) -> List[Reading]:
-    """What the symbols of a grid or of a picture say: a list, empty if nothing is read. Rows, bytes and text are grids; what has the array
-    interface (numpy, OpenCV, Pillow) is a picture, in which at most `most` symbols are looked for during `milliseconds`, wherever they stand.
+    """What the symbols of a grid or of a picture say: a list, empty if nothing is read. Rows, text of 0 and 1, and what
+    has `rows`, such as an encoded symbol, are grids; what has the array interface (numpy, OpenCV, Pillow) is a picture,
+    on each page of which at most `most` symbols are looked for during `milliseconds`, wherever they stand. A memoryview
+    of rows is a grid, or else a picture. The path of a file, an open file, and the bytes of one are what the file
+    holds; if that is neither, TypeError is raised.
 
-    Symbols found in a picture are read at the wide extent and the usual limit. A Pillow picture in which nothing is found, or where the
-    library ecc200_sample isn't installed, is read as one symbol with one pixel a module; for other arrays SamplerMissing is raised then."""
-    is_pillow = hasattr(picture, "getbbox")
-    if hasattr(picture, "__array_interface__") and (has_sampler() or not is_pillow):
-        answers = [symbol.answer for symbol in find(picture, most, milliseconds)]
-        readings = [answer for answer in answers if not isinstance(answer, Refused)]
-        if readings or not is_pillow:
+    Symbols found in a picture are read at the wide extent and the usual limit. A Pillow picture in which nothing is
+    found is read as one symbol with one pixel a module; where that is none, and the library ecc200_sample isn't
+    installed, SamplerMissing is raised."""
+    given = _loaded(picture)
+    if hasattr(given, "rows") or not hasattr(given, "__array_interface__"):
+        readings = _only_read(read_many(_records(given), border_limit, extent))
+        if readings or not (isinstance(given, memoryview) and given.ndim > 1):
             return readings
-    try:
-        return [read(picture, border_limit, extent)]
-    except Refused:
-        return []
+    if not hasattr(given, "getbbox"):
+        return _only_read(symbol.answer for symbol in find(given, most, milliseconds))
+    readings = []
+    options = _Options(milliseconds, 0, 0, 0)
+    for number, page in enumerate(_pages(given), 1):
+        found = _searched(page, number, most, options) if has_sampler() else []
+        readings += _only_read(symbol.answer for symbol in found) or _only_read(read_many([page], border_limit, extent))
+    if not readings:
+        _sampler()
+    return readings

@@ -1,5 +1,6 @@
 //! Data Matrix ECC 200 (ISO/IEC 16022), the square symbols, by the C library ecc200: a safe interface over `ecc200.h`, whose conventions
 //! hold here too. Put this file beside yours, write `mod ecc200;`, and link the library: `rustc -l ecc200`, with `-L` for its folder.
+//! It needs Rust 1.82 or later.
 //!
 //! What `ecc200.h` asks of callers holds here for any arguments: slices point to all of their elements, and a `&mut` overlaps nothing.
 #![deny(unsafe_op_in_unsafe_fn)]
@@ -363,26 +364,26 @@ fn symbol(code: u16, out: &sys::SymbolOut) -> Result<Symbol, Fault> {
     }
 }
 
-/// The normal symbol of a message.
+/// The normal grid of a message.
 pub fn write(items: &[u16], profile: Profile) -> Result<Symbol, Fault> {
     let mut out = unsafe { zeros::<sys::SymbolOut>() };
     let code = unsafe { sys::ecc200_write(items.as_ptr(), items.len(), profile as u16, &mut *out) };
     symbol(code, &out)
 }
 
-/// The normal symbol of bytes, each of which is an item.
+/// The normal grid of bytes, each of which is an item.
 pub fn write_bytes(bytes: &[u8], profile: Profile) -> Result<Symbol, Fault> {
     let mut out = unsafe { zeros::<sys::SymbolOut>() };
     let code = unsafe { sys::ecc200_write_bytes(bytes.as_ptr(), bytes.len(), profile as u16, &mut *out) };
     symbol(code, &out)
 }
 
-/// The normal symbol of what a symbol says, read in the extent `Wide`.
+/// The normal grid of what a symbol says, read in the extent `Wide`.
 pub fn normal(modules: &[u8], side: u16, border_limit: u16, profile: Profile) -> Result<Symbol, Fault> {
     normal_as(Extent::Wide, modules, side, border_limit, profile)
 }
 
-/// The normal symbol of what a symbol says, read in an extent.
+/// The normal grid of what a symbol says, read in an extent.
 pub fn normal_as(extent: Extent, modules: &[u8], side: u16, border_limit: u16, profile: Profile) -> Result<Symbol, Fault> {
     let mut out = unsafe { zeros::<sys::SymbolOut>() };
     let code = unsafe { sys::ecc200_normal(modules.as_ptr(), modules.len(), side, border_limit, extent as u16, profile as u16, &mut *out) };

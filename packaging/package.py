@@ -81,6 +81,27 @@ def packages() -> List[str]:
     return list(dict.fromkeys(part.package for part in parts()))
 
 
+# A link of Markdown, whose text may have brackets of its own, or a picture.
+LINK = re.compile(r"\[((?:[^][]|\[[^]]*\])*)\]\(([^()\s]+)\)|(?<=<img src=\")([^\"]+)(?=\")")
+
+
+def relinked(source, path, places):
+    """A document as it reads at this path: its links lead to where, by `places`, the sources lie that are installed;
+    of others they name the path among the sources."""
+    def link(found):
+        words, target = found[1], found[2] or found[3]
+        if target.startswith("#") or ":" in target:
+            return found[0]
+        name, anchor = re.match(r"([^#]*)(.*)", target).groups()
+        name = os.path.normpath(os.path.join(os.path.dirname(source), name))
+        if name in places:
+            target = os.path.relpath(places[name], os.path.dirname(path)) + anchor
+            return f"[{words}]({target})" if found[2] else target
+        return f"{words} ({name} of the sources)"
+
+    return LINK.sub(link, text(source))
+
+
 class Folders:
     """Where the parts go: below a prefix, with folders for libraries and for Python that may lie elsewhere; all absolute."""
 
@@ -94,6 +115,14 @@ class Folders:
     def path(self, place):
         first, rest = place.split("/", 1)
         return os.path.join(self.of[first], rest)
+
+    def places(self, some):
+        """Where the sources of some parts lie; of those that go to several places, the first."""
+        placed: Dict[str, str] = {}
+        for part in some:
+            if not part.is_link:
+                placed.setdefault(part.source, self.path(part.place))
+        return placed
 
     def values(self):
         """What is filled into files that end in .in: folders below the prefix by way of it, as pkg-config moves them."""

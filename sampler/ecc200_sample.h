@@ -54,7 +54,7 @@ typedef struct ecc200_sample_options {
     uint32_t milliseconds;            /* how long to try at most. What is being tried is ended, so a call may take a little longer */
     uint16_t least_side;              /* symbols of fewer modules a side are passed over; 0: none is */
     uint16_t margin;                  /* how many corrections each block must leave unused, of those that its size allows */
-    uint16_t keep_unread;             /* not 0: if no symbol is read, the most likely grid that isn't read is given, with its fault */
+    uint16_t keep_unread;             /* not 0: if no symbol is read, the most likely grid that has a symbol's border is given, with its fault */
 } ecc200_sample_options;
 
 typedef struct ecc200_sample_point {

@@ -4,6 +4,40 @@
 #include <stdlib.h>
 
 static const double LEAST_SINE = 0.7, LEAST_RATIO = 0.4, LEAST_SOLID = 0.7;
+static const double LEAST_LIVELINESS = 0.3, MOST_LIVELINESS = 2.5; /* of the turns from dark to light and back that modules of chance have */
+static const double MOST_UNEVEN = 2.5;           /* of the numbers of modules that the two borders seem to have, more over fewer */
+
+/* ---- The width of a module */
+
+/* How far it is dark from a point on a border inwards, in pixels. */
+static double depth_at(const struct plane *dark, struct point at, struct point inwards, double most) {
+    double depth = 0, light = 0;
+    for (double way = 0.5; way < most && light < 1.5; way += 0.5) {
+        bool is_dark = dark_at(dark, sum(at, scale_by(inwards, way))) != 0;
+        light = is_dark ? 0 : light + 0.5;
+        depth = is_dark ? way + 0.25 : depth;
+    }
+    return depth;
+}
+
+/* About how wide a module is along `inwards`: the solid border is one module deep wherever a light one follows. */
+static double module_width(const struct plane *dark, struct point from, struct point to, struct point inwards) {
+    enum { PLACES = 96, DEPTHS = 256 };
+    double whole = length(difference(to, from)), most = whole / 6;
+    int histogram[DEPTHS] = {0}, counted = 0;
+    for (int k = 0; k < PLACES; k++) {
+        struct point at = sum(from, scale_by(difference(to, from), 0.05 + 0.9 * k / PLACES));
+        int depth = (int)(2 * depth_at(dark, at, inwards, most));
+        if (depth > 1)
+            histogram[depth < DEPTHS ? depth : DEPTHS - 1]++, counted++;
+    }
+    int passed = 0, depth = 0;
+    while (depth < DEPTHS - 1 && (passed += histogram[depth]) * 10 < counted * 3)
+        depth++;
+    return fmax(1, 0.5 * depth + 0.25);
+}
+
+/* ---- Elbows */
 
 /* The share of dark pixels along a line, `inwards` pixels to its right. */
 static double solidity(const struct plane *dark, struct point from, struct point to, double inwards) {
@@ -16,6 +50,41 @@ static double solidity(const struct plane *dark, struct point from, struct point
         count += dark_at(dark, at);
     }
     return (double)count / (steps + 1);
+}
+
+/* How often dark turns to light, or back, along a line. */
+static int turns_along(const struct plane *dark, struct point from, struct point to) {
+    struct point way = difference(to, from);
+    int steps = (int)length(way) + 1, turns = 0, before = dark_at(dark, from);
+    for (int k = 1; k <= steps; k++) {
+        int here = dark_at(dark, sum(from, scale_by(way, (double)k / steps)));
+        turns += here != before, before = here;
+    }
+    return turns;
+}
+
+/* Whether three rows, from `from` to `to` and beside that at each module's width, turn about as often as modules do. */
+static bool is_lively(const struct plane *dark, struct point from, struct point to, struct point inwards, double module) {
+    enum { ROWS = 3 };
+    int turns = 0;
+    for (int row = 1; row <= ROWS; row++) {
+        struct point in = scale_by(inwards, row + 0.5);
+        turns += turns_along(dark, sum(from, in), sum(to, in));
+    }
+    double usual = ROWS * 0.5 * length(difference(to, from)) / module;
+    return turns >= LEAST_LIVELINESS * usual && turns <= MOST_LIVELINESS * usual;
+}
+
+/* Measures the modules of an elbow, and looks at those inside of its borders. */
+static void look_inside(const struct plane *dark, struct elbow *elbow) {
+    struct point along = difference(elbow->right, elbow->corner), up = difference(elbow->top, elbow->corner);
+    double wide = length(along), high = length(up);
+    elbow->across = fmin(module_width(dark, elbow->corner, elbow->top, scale_by(along, 1 / wide)), 0.1 * wide);
+    elbow->upwards = fmin(module_width(dark, elbow->corner, elbow->right, scale_by(up, 1 / high)), 0.1 * high);
+    double uneven = wide / elbow->across / (high / elbow->upwards);
+    elbow->is_lively = uneven < MOST_UNEVEN && uneven > 1 / MOST_UNEVEN &&
+                       is_lively(dark, elbow->corner, elbow->right, scale_by(up, elbow->upwards / high), elbow->across) &&
+                       is_lively(dark, elbow->corner, elbow->top, scale_by(along, elbow->across / wide), elbow->upwards);
 }
 
 /* The elbow of a bottom border, which comes to the corner, and a left border, which leaves it; with a score of 0 if there is none. */
@@ -40,12 +109,13 @@ static struct elbow elbow_of(const struct plane *dark, const struct line *bottom
         return none;
     double shorter = fmin(length(difference(elbow.right, elbow.corner)), length(difference(elbow.top, elbow.corner)));
     elbow.score = solid * (shorter + 0.25 * (wide + high)) / (1 + 0.01 * (gap + other));
+    look_inside(dark, &elbow);
     return elbow;
 }
 
-static int by_score(const void *one, const void *other) {
-    double a = ((const struct elbow *)one)->score, b = ((const struct elbow *)other)->score;
-    return a < b ? 1 : a > b ? -1 : 0;
+static int by_likelihood(const void *one, const void *other) {
+    const struct elbow *a = one, *b = other;
+    return a->is_lively != b->is_lively ? b->is_lively - a->is_lively : a->score < b->score ? 1 : a->score > b->score ? -1 : 0;
 }
 
 static bool alike(const struct elbow *one, const struct elbow *other) {
@@ -74,12 +144,12 @@ int find_elbows(const struct plane *dark, const struct lines *lines, int64_t end
             if (elbow.score <= 0)
                 continue;
             if (count == room) {
-                qsort(out, (size_t)count, sizeof *out, by_score);
+                qsort(out, (size_t)count, sizeof *out, by_likelihood);
                 count = without_repetitions(out, count);
                 count = count == room ? room / 2 : count;
             }
             out[count++] = elbow;
         }
-    qsort(out, (size_t)count, sizeof *out, by_score);
+    qsort(out, (size_t)count, sizeof *out, by_likelihood);
     return without_repetitions(out, count);
 }

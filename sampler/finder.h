@@ -8,10 +8,12 @@ struct elbow {
     struct point corner; /* bottom left of the upright symbol */
     struct point top;    /* top left: where the left border ends */
     struct point right;  /* bottom right: where the bottom border ends */
+    double across, upwards; /* about the width of a module along the bottom border and along the left one, in pixels */
+    bool is_lively;      /* whether dark and light follow one another inside as often as a symbol's modules do */
     double score;
 };
 
-/* Writes at most `room` elbows, the most likely first, and returns their number. Stops at the time `end`. */
+/* Writes at most `room` elbows, the lively ones first, then by their scores, and returns their number. Stops at the time `end`. */
 int find_elbows(const struct plane *dark, const struct lines *lines, int64_t end, struct elbow *out, int room);
 
 #endif

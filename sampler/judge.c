@@ -7,9 +7,10 @@
 #include "witness.h"
 
 static const struct rule RULES[] = {
-    {0.00, 0.00, false}, {0.12, 0.00, true},  {0.00, 0.00, true},   {0.20, 0.00, true},  {0.12, 0.00, false}, {0.30, 0.00, true},
-    {0.12, 0.08, true},  {0.12, -0.08, true}, {0.00, 0.10, false},  {0.00, -0.10, false}, {0.20, 0.15, true},  {0.20, -0.15, true},
-    {0.00, 0.20, false}, {0.00, -0.20, false}, {0.12, 0.25, true},  {0.12, -0.25, true}};
+    {0.00, 0.00, false, 0}, {0.12, 0.00, true, 0},  {0.00, 0.00, true, 0},   {0.20, 0.00, true, 0},  {0.12, 0.00, false, 0}, {0.30, 0.00, true, 0},
+    {0.12, 0.08, true, 0},  {0.12, -0.08, true, 0}, {0.00, 0.10, false, 0},  {0.00, -0.10, false, 0}, {0.20, 0.15, true, 0},  {0.20, -0.15, true, 0},
+    {0.00, 0.20, false, 0}, {0.00, -0.20, false, 0}, {0.12, 0.25, true, 0},  {0.12, -0.25, true, 0},
+    {0.00, 0.00, false, 3}, {0.12, 0.00, false, 2}, {0.12, 0.00, false, 4}};
 enum { RULE_COUNT = sizeof RULES / sizeof *RULES, FEW_RULES = 4 };
 static const double LEAST_SHARE = 0.4;
 
@@ -77,9 +78,11 @@ static void keep_if_best(struct trials *trials, bool is_mirrored) {
     set_corners(trials->best, trials->to_picture, trials->layout->side, is_mirrored);
 }
 
+/* A grid whose border the reader doesn't take is no symbol, but whatever else has a solid elbow. */
 static void keep_unread(struct trials *trials) {
     struct judge *judge = trials->judge;
-    if (judge->unread == NULL || trials->best_cost >= 0 || judge->unread_score >= trials->score)
+    bool is_wanted = judge->unread != NULL && trials->best_cost < 0 && judge->unread_score < trials->score;
+    if (!is_wanted || judge->trial->reading.fault.code == ECC200_BORDER)
         return;
     judge->unread_score = trials->score;
     *judge->unread = *judge->trial;
@@ -99,7 +102,8 @@ static void try_rules(struct trials *trials, const struct brightnesses *brightne
             keep_if_best(trials, false);
             continue;
         }
-        keep_unread(trials);
+        if (RULES[k].around == 0)
+            keep_unread(trials);
         if (trial->reading.fault.code == ECC200_BORDER)
             continue;
         mirror(trial->modules, side);

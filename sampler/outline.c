@@ -21,7 +21,7 @@ struct tracing {
 };
 
 static bool is_dark(const struct plane *dark, int x, int y) {
-    return dark->pixels[(ptrdiff_t)y * (ptrdiff_t)dark->stride + x] != 0;
+    return *pixel_of(dark, x, y) != 0;
 }
 
 static bool push(struct tracing *tracing, int x, int y) {

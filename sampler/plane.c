@@ -3,10 +3,22 @@
 #include <stdlib.h>
 #include <string.h>
 
-static bool plane_make(int width, int height, struct plane *out, uint8_t **pixels) {
-    *pixels = malloc((size_t)width * (size_t)height);
-    *out = (struct plane){width, height, (size_t)width, *pixels, *pixels};
-    return *pixels != NULL;
+#include "clock.h"
+
+enum { ROWS_AT_A_TIME = 32 };
+
+/* Whether there is time for a row; the clock is looked at now and then. */
+static bool has_time(int64_t end, int row) {
+    return row % ROWS_AT_A_TIME > 0 || !clock_reached(end);
+}
+
+/* Makes room for a plane of 0, and gives its first pixel; NULL if there is no memory. */
+static uint8_t *plane_make(int width, int height, int frame, struct plane *out) {
+    size_t stride = (size_t)width + 2 * (size_t)frame;
+    uint8_t *owned = calloc((size_t)height + 2 * (size_t)frame, stride);
+    uint8_t *first = owned != NULL ? owned + (size_t)frame * (stride + 1) : NULL;
+    *out = (struct plane){width, height, frame, stride, first, owned};
+    return first;
 }
 
 void plane_free(struct plane *plane) {
@@ -14,66 +26,166 @@ void plane_free(struct plane *plane) {
     *plane = (struct plane){0};
 }
 
-bool plane_invert(const struct plane *from, struct plane *out) {
-    uint8_t *to;
-    if (!plane_make(from->width, from->height, out, &to))
-        return false;
-    for (int y = 0; y < from->height; y++) {
-        const uint8_t *row = from->pixels + (size_t)y * from->stride;
-        for (int x = 0; x < from->width; x++)
-            *to++ = (uint8_t)(255 - row[x]);
-    }
-    return true;
+/* Takes back a plane if it wasn't made whole. */
+static bool is_made(bool is_whole, struct plane *plane) {
+    if (!is_whole)
+        plane_free(plane);
+    return is_whole;
 }
 
-bool plane_smooth(const struct plane *from, struct plane *out) {
-    int width = from->width, height = from->height;
-    uint8_t *to;
-    uint16_t *sums = malloc(sizeof *sums * (size_t)(width + 2));
-    if (!plane_make(width, height, out, &to) || sums == NULL) {
-        free(sums);
-        plane_free(out);
-        return false;
+bool plane_invert(const struct plane *from, int64_t end, struct plane *out) {
+    uint8_t *to = plane_make(from->width, from->height, 0, out);
+    int y = 0;
+    for (; to != NULL && y < from->height && has_time(end, y); y++, to += out->stride) {
+        const uint8_t *row = pixel_of(from, 0, y);
+        for (int x = 0; x < from->width; x++)
+            to[x] = (uint8_t)(255 - row[x]);
     }
-    for (int y = 0; y < height; y++, to += width) {
-        const uint8_t *row = from->pixels + (size_t)y * from->stride;
-        const uint8_t *above = y > 0 ? row - from->stride : row, *below = y + 1 < height ? row + from->stride : row;
+    return is_made(to != NULL && y == out->height, out);
+}
+
+bool plane_halve(const struct plane *from, int64_t end, struct plane *out) {
+    uint8_t *to = plane_make(from->width / 2, from->height / 2, 0, out);
+    int y = 0;
+    for (; to != NULL && y < out->height && has_time(end, y); y++, to += out->stride) {
+        const uint8_t *row = pixel_of(from, 0, 2 * y), *below = row + from->stride;
+        for (int x = 0; x < out->width; x++)
+            to[x] = (uint8_t)((row[2 * x] + row[2 * x + 1] + below[2 * x] + below[2 * x + 1] + 2) >> 2);
+    }
+    return is_made(to != NULL && y == out->height, out);
+}
+
+/* ---- Smooth, and framed */
+
+/* A side of a plane: its first pixel, the way to the next one along it, and the way inwards, in bytes. */
+struct side {
+    uint8_t *first;
+    ptrdiff_t along, inwards;
+    int count, depth;
+};
+
+enum { STRETCH = 8, DEEPEST = 16 }; /* pixels of a side that are looked at together, and how deep */
+
+/* The lightest of the pixels of a side from `first` on, a stretch of them. */
+static uint8_t lightest_of(const struct side *side, int first) {
+    uint8_t most = 0;
+    for (int k = first; k < first + STRETCH && k < side->count; k++)
+        for (int deep = 0; deep < DEEPEST && deep < side->depth; deep++) {
+            uint8_t here = side->first[k * side->along + deep * side->inwards];
+            most = here > most ? here : most;
+        }
+    return most;
+}
+
+/* Makes the frame beside a side, and its corner beyond the end, as light as the lightest pixel of three stretches. */
+static void frame_side(struct side side) {
+    uint8_t before = 0, here = lightest_of(&side, 0), light = here;
+    for (int first = 0; first < side.count; first += STRETCH) {
+        uint8_t after = lightest_of(&side, first + STRETCH);
+        light = before > here ? before : here;
+        light = after > light ? after : light;
+        for (int k = first; k < first + STRETCH && k < side.count; k++)
+            side.first[k * side.along - side.inwards] = light;
+        before = here, here = after;
+    }
+    side.first[side.count * side.along - side.inwards] = light;
+}
+
+/* Fills the frame, around each way in turn, so that each side makes the corner at its end. */
+static void frame_plane(uint8_t *first, const struct plane *plane) {
+    int width = plane->width, height = plane->height;
+    ptrdiff_t down = (ptrdiff_t)plane->stride;
+    uint8_t *last = first + (height - 1) * down + width - 1;
+    frame_side((struct side){first, 1, down, width, height});
+    frame_side((struct side){first + width - 1, down, -1, height, width});
+    frame_side((struct side){last, -1, -down, width, height});
+    frame_side((struct side){first + (height - 1) * down, -down, 1, height, width});
+}
+
+/* Smooths all rows that there is time for, and returns their number. `sums` has room for a row and one more pixel on each side. */
+static int smooth_rows(const struct plane *from, int64_t end, uint16_t *sums, uint8_t *to, size_t stride) {
+    int width = from->width, y = 0;
+    for (; y < from->height && has_time(end, y); y++, to += stride) {
+        const uint8_t *row = pixel_of(from, 0, y);
+        const uint8_t *above = y > 0 ? row - from->stride : row, *below = y + 1 < from->height ? row + from->stride : row;
         for (int x = 0; x < width; x++)
             sums[x + 1] = (uint16_t)(above[x] + 2 * row[x] + below[x]);
         sums[0] = sums[1], sums[width + 1] = sums[width];
         for (int x = 0; x < width; x++)
             to[x] = (uint8_t)((sums[x] + 2 * sums[x + 1] + sums[x + 2] + 8) >> 4);
     }
+    return y;
+}
+
+bool plane_smooth(const struct plane *from, int64_t end, struct plane *out) {
+    uint16_t *sums = malloc(sizeof *sums * (size_t)(from->width + 2));
+    uint8_t *first = plane_make(from->width, from->height, 1, out);
+    bool is_whole = sums != NULL && first != NULL && smooth_rows(from, end, sums, first, out->stride) == from->height;
     free(sums);
-    return true;
+    if (is_whole)
+        frame_plane(first, out);
+    return is_made(is_whole, out);
 }
 
-bool plane_halve(const struct plane *from, struct plane *out) {
-    int width = from->width / 2, height = from->height / 2;
-    uint8_t *to;
-    if (!plane_make(width, height, out, &to))
-        return false;
-    for (int y = 0; y < height; y++) {
-        const uint8_t *row = from->pixels + 2 * (size_t)y * from->stride, *below = row + from->stride;
-        for (int x = 0; x < width; x++)
-            *to++ = (uint8_t)((row[2 * x] + row[2 * x + 1] + below[2 * x] + below[2 * x + 1] + 2) >> 2);
+/* ---- The median of nine */
+
+static inline uint8_t least_of(uint8_t a, uint8_t b) {
+    return a < b ? a : b;
+}
+
+static inline uint8_t most_of(uint8_t a, uint8_t b) {
+    return a > b ? a : b;
+}
+
+static inline uint8_t median_of(uint8_t a, uint8_t b, uint8_t c) {
+    return most_of(least_of(a, b), least_of(most_of(a, b), c));
+}
+
+/* The median of nine is that of the most of the least, the median of the medians and the least of the most of three columns. */
+static void calm_row(const uint8_t *row, ptrdiff_t stride, int width, uint8_t *columns, uint8_t *to) {
+    uint8_t *least = columns, *median = least + width + 2, *most = median + width + 2;
+    for (int x = 0; x < width + 2; x++) {
+        uint8_t above = row[x - 1 - stride], here = row[x - 1], below = row[x - 1 + stride];
+        least[x] = least_of(least_of(above, here), below);
+        median[x] = median_of(above, here, below);
+        most[x] = most_of(most_of(above, here), below);
     }
-    return true;
+    for (int x = 0; x < width; x++)
+        to[x] = median_of(most_of(most_of(least[x], least[x + 1]), least[x + 2]), median_of(median[x], median[x + 1], median[x + 2]),
+                          least_of(least_of(most[x], most[x + 1]), most[x + 2]));
 }
 
-/* ---- Darker than the surroundings: than the middle between the lightest and the darkest pixel of five by five tiles. */
+bool plane_calm(const struct plane *from, int64_t end, struct plane *out) {
+    uint8_t *first = plane_make(from->width, from->height, 1, out), *columns = malloc(3 * ((size_t)from->width + 2)), *to = first;
+    bool has_room = first != NULL && columns != NULL;
+    int y = 0;
+    for (; has_room && y < from->height && has_time(end, y); y++, to += out->stride)
+        calm_row(pixel_of(from, 0, y), (ptrdiff_t)from->stride, from->width, columns, to);
+    bool is_whole = has_room && y == from->height;
+    free(columns);
+    if (is_whole)
+        frame_plane(first, out);
+    return is_made(is_whole, out);
+}
 
-enum { TILE = 8, TILES_AROUND = 2, LEAST_CONTRAST = 24 };
+/* ---- Darker than the surroundings: than the middle between the lightest and the darkest pixel of the tiles around. */
+
+enum { TILE = 8, LEAST_CONTRAST = 24 };
+
+static int tiles_in(int pixels) {
+    return (pixels + TILE - 1) / TILE;
+}
 
 struct range {
     uint8_t least, most;
 };
 
-static void find_ranges(const struct plane *from, int across, int down, struct range *ranges) {
+static bool find_ranges(const struct plane *from, int64_t end, int across, int down, struct range *ranges) {
+    int y = 0;
     for (int k = 0; k < across * down; k++)
         ranges[k] = (struct range){255, 0};
-    for (int y = 0; y < from->height; y++) {
-        const uint8_t *row = from->pixels + (size_t)y * from->stride;
+    for (; y < from->height && has_time(end, y); y++) {
+        const uint8_t *row = pixel_of(from, 0, y);
         struct range *tiles = ranges + (size_t)(y / TILE) * (size_t)across;
         for (int x = 0; x < from->width; x++) {
             struct range *tile = tiles + x / TILE;
@@ -81,47 +193,50 @@ static void find_ranges(const struct plane *from, int across, int down, struct r
             tile->most = row[x] > tile->most ? row[x] : tile->most;
         }
     }
+    return y == from->height;
 }
 
+/* The least and the most of all tiles of a plane, row by row, and how many tiles around one are its surroundings. */
+struct tiles {
+    int across, down, around;
+    struct range *ranges;
+};
+
 /* The pixels of a tile below this are dark. */
-static uint8_t limit_of(const struct range *ranges, int across, int down, int column, int row) {
-    int least = 255, most = 0;
-    for (int y = row - TILES_AROUND; y <= row + TILES_AROUND; y++)
-        for (int x = column - TILES_AROUND; x <= column + TILES_AROUND; x++) {
-            if (x < 0 || y < 0 || x >= across || y >= down)
+static uint8_t limit_of(const struct tiles *tiles, int column, int row) {
+    int least = 255, most = 0, around = tiles->around;
+    for (int y = row - around; y <= row + around; y++)
+        for (int x = column - around; x <= column + around; x++) {
+            if (x < 0 || y < 0 || x >= tiles->across || y >= tiles->down)
                 continue;
-            struct range tile = ranges[(size_t)y * (size_t)across + (size_t)x];
+            struct range tile = tiles->ranges[(size_t)y * (size_t)tiles->across + (size_t)x];
             least = tile.least < least ? tile.least : least;
             most = tile.most > most ? tile.most : most;
         }
     return (uint8_t)(most - least < LEAST_CONTRAST ? 0 : (most + least) / 2);
 }
 
-static void mark_dark(const struct plane *from, int across, int down, const struct range *ranges, uint8_t *limits, uint8_t *to, size_t stride) {
-    for (int y = 0; y < from->height; y++, to += stride) {
+/* Marks what is dark by the limits of the tiles. `to` is light all over. */
+static bool mark_dark(const struct plane *from, int64_t end, const struct tiles *tiles, uint8_t *limits, uint8_t *to, size_t stride) {
+    int y = 0;
+    for (; y < from->height && has_time(end, y); y++, to += stride) {
         if (y % TILE == 0)
-            for (int column = 0; column < across; column++)
-                limits[column] = limit_of(ranges, across, down, column, y / TILE);
-        const uint8_t *row = from->pixels + (size_t)y * from->stride;
+            for (int column = 0; column < tiles->across; column++)
+                limits[column] = limit_of(tiles, column, y / TILE);
+        const uint8_t *row = pixel_of(from, 0, y);
         for (int x = 0; x < from->width; x++)
             to[x] = row[x] < limits[x / TILE];
     }
+    return y == from->height;
 }
 
-bool plane_darken(const struct plane *from, struct plane *out) {
-    int across = (from->width + TILE - 1) / TILE, down = (from->height + TILE - 1) / TILE;
-    size_t stride = (size_t)from->width + 2, tiles = (size_t)across * (size_t)down;
-    uint8_t *marks = calloc(stride * ((size_t)from->height + 2), 1), *limits = malloc((size_t)across);
-    struct range *ranges = malloc(tiles * sizeof *ranges);
-    *out = (struct plane){0};
-    if (marks != NULL && limits != NULL && ranges != NULL) {
-        find_ranges(from, across, down, ranges);
-        mark_dark(from, across, down, ranges, limits, marks + stride + 1, stride);
-        *out = (struct plane){from->width, from->height, stride, marks + stride + 1, marks};
-    } else {
-        free(marks);
-    }
+bool plane_darken(const struct plane *from, int around, int64_t end, struct plane *out) {
+    struct tiles tiles = {.across = tiles_in(from->width), .down = tiles_in(from->height), .around = around};
+    uint8_t *to = plane_make(from->width, from->height, 1, out), *limits = malloc((size_t)tiles.across);
+    tiles.ranges = malloc((size_t)tiles.across * (size_t)tiles.down * sizeof *tiles.ranges);
+    bool is_whole = to != NULL && limits != NULL && tiles.ranges != NULL && find_ranges(from, end, tiles.across, tiles.down, tiles.ranges) &&
+                    mark_dark(from, end, &tiles, limits, to, out->stride);
     free(limits);
-    free(ranges);
-    return out->owned != NULL;
+    free(tiles.ranges);
+    return is_made(is_whole, out);
 }

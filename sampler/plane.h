@@ -9,24 +9,36 @@
 
 struct plane {
     int width, height;
+    int frame;             /* how many pixels all around it may be read as well, 0 or 1: index -1, and the width or height */
     size_t stride;         /* bytes from a row to the next */
-    const uint8_t *pixels;
+    const uint8_t *pixels; /* the first one, within the frame */
     uint8_t *owned;        /* what is freed, if anything */
 };
 
-/* Each of these makes a new plane, and says whether there was memory for it. */
-bool plane_invert(const struct plane *from, struct plane *out);
-bool plane_smooth(const struct plane *from, struct plane *out); /* by weights 1 2 1 in both directions */
-bool plane_halve(const struct plane *from, struct plane *out);   /* each pixel is the mean of four */
+/* Each of these makes a new plane by the time `end`. False if there was no memory, or no time, and then there is none. */
+bool plane_invert(const struct plane *from, int64_t end, struct plane *out);
+bool plane_halve(const struct plane *from, int64_t end, struct plane *out); /* each pixel is the mean of four */
 
-/* 1 where a pixel is darker than its surroundings, else 0, with a frame of light pixels around it: index -1 and the width may be read. */
-bool plane_darken(const struct plane *from, struct plane *out);
+/* By weights 1 2 1 in both directions. Its frame is as light as the lightest pixel near by, so that what is dark ends with the picture. */
+bool plane_smooth(const struct plane *from, int64_t end, struct plane *out);
+
+/* The median of each pixel of a plane with a frame, and of the eight around it; framed as the smooth one is. */
+bool plane_calm(const struct plane *from, int64_t end, struct plane *out);
+
+/* 1 where a pixel is darker than its surroundings, else 0, and in the frame. The surroundings are `around` tiles of eight pixels each way. */
+bool plane_darken(const struct plane *from, int around, int64_t end, struct plane *out);
 
 void plane_free(struct plane *plane);
 
-/* The pixel of a row or column that a coordinate lies in; outside, the nearest. It may be any number, as far away as a projection takes it. */
-static inline int nearest_pixel(double at, int count) {
-    return !(at > 0) ? 0 : at < count ? (int)at : count - 1;
+/* The pixel of a row or column that a coordinate lies in; outside, the nearest one of `count` and those of the frame. The coordinate may be any
+ * number, as far away as a projection takes it. */
+static inline int nearest_pixel(double at, int count, int frame) {
+    return !(at > -frame) ? -frame : at < count + frame ? (int)(at + frame) - frame : count + frame - 1;
+}
+
+/* A pixel, of the frame or within it. */
+static inline const uint8_t *pixel_of(const struct plane *plane, int column, int row) {
+    return plane->pixels + (ptrdiff_t)row * (ptrdiff_t)plane->stride + column;
 }
 
 /* Whether the plane shows a point. */
@@ -36,24 +48,24 @@ static inline bool shows(const struct plane *plane, struct point at) {
 
 /* 1 if the plane, one of 0 and 1, shows the point and it is dark. */
 static inline int dark_at(const struct plane *dark, struct point at) {
-    return shows(dark, at) ? dark->pixels[(size_t)at.y * dark->stride + (size_t)at.x] : 0;
+    return shows(dark, at) ? *pixel_of(dark, (int)at.x, (int)at.y) : 0;
 }
 
 /* The brightness of the pixel that a point lies in; outside, that of the nearest pixel. */
 static inline int grey_at(const struct plane *grey, struct point at) {
-    return grey->pixels[(size_t)nearest_pixel(at.y, grey->height) * grey->stride + (size_t)nearest_pixel(at.x, grey->width)];
+    return *pixel_of(grey, nearest_pixel(at.x, grey->width, grey->frame), nearest_pixel(at.y, grey->height, grey->frame));
 }
 
 /* The brightness at a point, between the centres of pixels by their distances; outside, that of the nearest pixel. */
 static inline double brightness(const struct plane *plane, struct point at) {
-    double x = at.x - 0.5, y = at.y - 0.5, most_x = plane->width - 1, most_y = plane->height - 1;
-    x = !(x > 0) ? 0 : x > most_x ? most_x : x;
-    y = !(y > 0) ? 0 : y > most_y ? most_y : y;
-    int column = (int)x, row = (int)y;
-    const uint8_t *here = plane->pixels + (size_t)row * plane->stride + column;
+    double least = -plane->frame, x = at.x - 0.5, y = at.y - 0.5, most_x = plane->width - 1 - least, most_y = plane->height - 1 - least;
+    x = !(x > least) ? least : x > most_x ? most_x : x;
+    y = !(y > least) ? least : y > most_y ? most_y : y;
+    int column = (int)(x - least) - plane->frame, row = (int)(y - least) - plane->frame;
+    const uint8_t *here = pixel_of(plane, column, row);
     double right = x - column, down = y - row;
-    int next = column < plane->width - 1 ? 1 : 0;
-    const uint8_t *below = row < plane->height - 1 ? here + plane->stride : here;
+    int next = column < most_x ? 1 : 0;
+    const uint8_t *below = row < most_y ? here + plane->stride : here;
     double upper = here[0] + right * (here[next] - here[0]), lower = below[0] + right * (below[next] - below[0]);
     return upper + down * (lower - upper);
 }

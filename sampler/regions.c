@@ -8,18 +8,19 @@ enum { LEAST_PICTURE = 16 }; /* pixels: libdmtx ends the program over a picture 
 struct regions {
     DmtxImage *image;
     DmtxDecode *decode;
-    int height;
+    int height, frame;     /* of the plane, whose frame libdmtx takes for a part of the image */
 };
 
 struct regions *regions_begin(const struct plane *plane) {
     struct regions *regions = calloc(1, sizeof *regions);
     if (regions == NULL || plane->width < LEAST_PICTURE || plane->height < LEAST_PICTURE)
         return regions;
-    regions->height = plane->height;
+    int frame = plane->frame, width = plane->width + 2 * frame, height = plane->height + 2 * frame;
+    regions->height = plane->height, regions->frame = frame;
     /* libdmtx takes its pixels as if it wrote them, but doesn't. */
-    regions->image = dmtxImageCreate((unsigned char *)(uintptr_t)plane->pixels, plane->width, plane->height, DmtxPack8bppK);
+    regions->image = dmtxImageCreate((unsigned char *)(uintptr_t)pixel_of(plane, -frame, -frame), width, height, DmtxPack8bppK);
     if (regions->image != NULL) {
-        dmtxImageSetProp(regions->image, DmtxPropRowPadBytes, (int)(plane->stride - (size_t)plane->width));
+        dmtxImageSetProp(regions->image, DmtxPropRowPadBytes, (int)(plane->stride - (size_t)width));
         regions->decode = dmtxDecodeCreate(regions->image, 1);
     }
     if (regions->decode == NULL) {
@@ -35,7 +36,7 @@ struct regions *regions_begin(const struct plane *plane) {
 static struct point corner_of(const struct regions *regions, DmtxRegion *region, double x, double y) {
     DmtxVector2 at = {x, y};
     dmtxMatrix3VMultiplyBy(&at, region->fit2raw);
-    return point_at(at.X + 0.5, regions->height - at.Y - 0.5);
+    return point_at(at.X + 0.5 - regions->frame, regions->height + regions->frame - at.Y - 0.5);
 }
 
 bool regions_next(struct regions *regions, int64_t end, struct point corners[4]) {

@@ -1,3 +1,4 @@
+#include <math.h>
 #include <stdlib.h>
 #include <string.h>
 
@@ -9,7 +10,7 @@
 #include "judge.h"
 #include "regions.h"
 
-enum { LEVELS = 6, LEAST_LEVEL = 24, LINES = 800, ELBOWS = 64 };
+enum { LEVELS = 6, CALM_LEVELS = 3, LEAST_LEVEL = 24, LINES = 800, ELBOWS = 128, AROUND = 2, CLOSE_AROUND = 1 };
 static const double LEAST_LINE = 10; /* pixels of a level */
 
 uint16_t ecc200_sample_abi(void) {
@@ -20,11 +21,18 @@ ecc200_sample_options ecc200_sample_usual(void) {
     return (ecc200_sample_options){.milliseconds = ECC200_SAMPLE_USUAL_TIME};
 }
 
+/* Where solid borders may be, the lively ones first. */
+struct elbows {
+    struct elbow items[ELBOWS];
+    int count, lively;
+};
+
 /* The picture as it is, or inverted: symbols are looked for as dark on light in both. */
 struct sight {
     struct plane picture;
     struct plane levels[LEVELS];  /* the picture smoothed, and each after it half as large */
     int level_count;
+    struct elbows elbows[LEVELS]; /* of each level that was searched */
     bool is_inverted;
 };
 
@@ -32,7 +40,9 @@ struct sight {
 
 struct search {
     struct judge judge;
+    struct sight sights[2];       /* as it is, and inverted */
     struct line lines[LINES];
+    struct elbows calm;           /* of the calm level that is being searched */
     ecc200_sample *found;
     size_t count, room;
 };
@@ -49,6 +59,37 @@ static bool lies_within(const ecc200_sample *sample, struct point at) {
         left += (to->x - from->x) * (at.y - from->y) - (to->y - from->y) * (at.x - from->x) > 0;
     }
     return left == 0 || left == 4;
+}
+
+/* Makes light, in what a level shows as dark, the symbols that have been found, so that they cost no more time. */
+static void blank_found(const struct search *search, int level, struct plane *dark) {
+    double scale = 1 << level;
+    uint8_t *pixels = dark->owned + (dark->pixels - dark->owned);
+    for (size_t k = 0; k < search->count; k++) {
+        const ecc200_sample *found = &search->found[k];
+        double least_x = dark->width, least_y = dark->height, most_x = 0, most_y = 0;
+        for (int corner = 0; corner < 4; corner++) {
+            double x = found->corners[corner].x / scale, y = found->corners[corner].y / scale;
+            least_x = fmin(least_x, x), least_y = fmin(least_y, y), most_x = fmax(most_x, x), most_y = fmax(most_y, y);
+        }
+        for (int y = nearest_pixel(least_y, dark->height, 0); y <= nearest_pixel(most_y, dark->height, 0); y++)
+            for (int x = nearest_pixel(least_x, dark->width, 0); x <= nearest_pixel(most_x, dark->width, 0); x++)
+                if (lies_within(found, point_at((x + 0.5) * scale, (y + 0.5) * scale)))
+                    pixels[(size_t)y * dark->stride + (size_t)x] = LIGHT;
+    }
+}
+
+/* Marks what is dark in a level, as plane_darken does, but for what has been found. */
+static bool darken(const struct search *search, const struct plane *grey, int level, int around, struct plane *out) {
+    bool is_made = plane_darken(grey, around, search->judge.end, out);
+    if (is_made)
+        blank_found(search, level, out);
+    return is_made;
+}
+
+/* Takes note of a plane that wasn't made: there was no memory, if there was time. */
+static void note_lack(struct search *search, bool is_made) {
+    search->judge.has_no_memory |= !is_made && !clock_reached(search->judge.end);
 }
 
 static bool is_known(const struct search *search, struct point at) {
@@ -76,39 +117,78 @@ static bool judge_all(struct search *search, const struct sight *sight, struct p
 
 /* ---- By solid borders, at one level */
 
-static void search_elbows(struct search *search, const struct sight *sight, int level, const struct plane *dark, const struct elbow *elbows,
-                          int count) {
+/* Tries the elbows of a scene from `first` up to, not including, `last`. */
+static void search_elbows(struct search *search, const struct sight *sight, int level, struct scene scene, const struct elbow *first,
+                          const struct elbow *last) {
     struct placement placements[MOST_PLACEMENTS];
-    struct scene scene = {&sight->levels[level], dark, search->judge.end};
     double scale = 1 << level;
-    for (int k = 0; k < count && !is_over(search); k++) {
-        struct point middle = scale_by(sum(elbows[k].top, elbows[k].right), 0.5 * scale);
+    for (const struct elbow *elbow = first; elbow < last && !is_over(search); elbow++) {
+        struct point middle = scale_by(sum(elbow->top, elbow->right), 0.5 * scale);
         if (!is_known(search, middle))
-            judge_all(search, sight, placements, placements_of(&scene, &elbows[k], placements), scale);
+            judge_all(search, sight, placements, placements_of(&scene, elbow, placements), scale);
     }
 }
 
-static void search_level(struct search *search, const struct sight *sight, int level) {
-    struct plane dark;
+/* Finds the elbows of a level, unless there is no memory, or no time. */
+static bool find_all_elbows(struct search *search, const struct plane *dark, struct elbows *out) {
     struct lines lines = {search->lines, 0, LINES};
-    struct elbow elbows[ELBOWS];
-    if (level >= sight->level_count || is_over(search))
-        return;
-    if (!plane_darken(&sight->levels[level], &dark)) {
-        search->judge.has_no_memory = true;
-        return;
-    }
-    if (find_lines(&dark, LEAST_LINE, search->judge.end, &lines))
-        search_elbows(search, sight, level, &dark, elbows, find_elbows(&dark, &lines, search->judge.end, elbows, ELBOWS));
-    else
-        search->judge.has_no_memory = true;
+    if (!find_lines(dark, LEAST_LINE, search->judge.end, &lines))
+        return false;
+    out->count = find_elbows(dark, &lines, search->judge.end, out->items, ELBOWS);
+    for (out->lively = 0; out->lively < out->count && out->items[out->lively].is_lively;)
+        out->lively++;
+    return true;
+}
+
+/* Finds the elbows of a level, and tries the lively ones. */
+static void search_lively(struct search *search, struct sight *sight, int level) {
+    struct elbows *elbows = &sight->elbows[level];
+    const struct plane *grey = &sight->levels[level];
+    struct plane dark;
+    bool is_made = darken(search, grey, level, AROUND, &dark) && find_all_elbows(search, &dark, elbows);
+    if (is_made)
+        search_elbows(search, sight, level, (struct scene){grey, &dark, search->judge.end}, elbows->items, elbows->items + elbows->lively);
+    note_lack(search, is_made);
     plane_free(&dark);
 }
 
-static void search_levels(struct search *search, const struct sight *sight) {
+/* Tries the elbows of a level that aren't lively. */
+static void search_still(struct search *search, struct sight *sight, int level) {
+    struct elbows *elbows = &sight->elbows[level];
+    const struct plane *grey = &sight->levels[level];
+    struct plane dark;
+    if (elbows->count == elbows->lively)
+        return;
+    bool is_made = darken(search, grey, level, AROUND, &dark);
+    if (is_made)
+        search_elbows(search, sight, level, (struct scene){grey, &dark, search->judge.end}, elbows->items + elbows->lively,
+                      elbows->items + elbows->count);
+    note_lack(search, is_made);
+    plane_free(&dark);
+}
+
+/* Finds the elbows of a fine level in another way, against noise and sudden changes of light, and tries the lively ones. That is for pictures in
+ * which nothing else has been found. */
+static void search_calm(struct search *search, struct sight *sight, int level) {
+    struct elbows *elbows = &search->calm;
+    struct plane grey, dark = {0};
+    if (level >= CALM_LEVELS || search->count > 0)
+        return;
+    bool is_made = plane_calm(&sight->levels[level], search->judge.end, &grey) &&
+                   darken(search, &grey, level, CLOSE_AROUND, &dark) && find_all_elbows(search, &dark, elbows);
+    if (is_made)
+        search_elbows(search, sight, level, (struct scene){&grey, &dark, search->judge.end}, elbows->items, elbows->items + elbows->lively);
+    note_lack(search, is_made);
+    plane_free(&grey);
+    plane_free(&dark);
+}
+
+/* Searches all levels in one of these ways. */
+static void search_levels(struct search *search, struct sight *sight, void (*search_level)(struct search *, struct sight *, int)) {
     static const int order[LEVELS] = {1, 0, 2, 3, 4, 5};
-    for (int k = 0; k < LEVELS; k++)
-        search_level(search, sight, order[k]);
+    for (int k = 0; k < LEVELS && !is_over(search); k++)
+        if (order[k] < sight->level_count)
+            search_level(search, sight, order[k]);
 }
 
 /* ---- By libdmtx, which finds symbols dark on light and light on dark */
@@ -130,10 +210,12 @@ static void search_regions(struct search *search, const struct sight sights[2]) 
         return;
     struct plane dark[2] = {0};
     struct regions *regions = regions_begin(&sights[0].levels[0]);
-    if (regions != NULL && plane_darken(&sights[0].levels[0], &dark[0]) && plane_darken(&sights[1].levels[0], &dark[1]))
+    bool is_made = regions != NULL;
+    for (int way = 0; way < 2; way++)
+        is_made = is_made && plane_darken(&sights[way].levels[0], AROUND, search->judge.end, &dark[way]);
+    if (is_made)
         judge_regions(search, sights, dark, regions);
-    else
-        search->judge.has_no_memory = true;
+    note_lack(search, is_made);
     regions_end(regions);
     plane_free(&dark[0]);
     plane_free(&dark[1]);
@@ -141,18 +223,18 @@ static void search_regions(struct search *search, const struct sight sights[2]) 
 
 /* ---- A picture */
 
-/* Makes the levels of a sight, whose picture is there. */
-static bool make_levels(struct sight *sight) {
-    if (!plane_smooth(&sight->picture, &sight->levels[0]))
+/* Makes the levels of a sight, whose picture is there, by the time `end`. False if there was no memory, or no time. */
+static bool make_levels(struct sight *sight, int64_t end) {
+    if (!plane_smooth(&sight->picture, end, &sight->levels[0]))
         return false;
     for (sight->level_count = 1; sight->level_count < LEVELS; sight->level_count++) {
         const struct plane *last = &sight->levels[sight->level_count - 1];
         struct plane half;
         if (last->width / 2 < LEAST_LEVEL || last->height / 2 < LEAST_LEVEL)
             break;
-        if (!plane_halve(last, &half))
+        if (!plane_halve(last, end, &half))
             return false;
-        bool is_made = plane_smooth(&half, &sight->levels[sight->level_count]);
+        bool is_made = plane_smooth(&half, end, &sight->levels[sight->level_count]);
         plane_free(&half);
         if (!is_made)
             return false;
@@ -166,18 +248,25 @@ static void sight_free(struct sight *sight) {
     plane_free(&sight->picture);
 }
 
-/* First by solid borders, dark on light and then light on dark, and last by libdmtx, which takes longest. */
+/* First by solid borders beside which it looks like a symbol, dark on light and then light on dark, then by those that a calm picture shows,
+ * then by other solid borders, and last by libdmtx, which takes longest. */
 static void search_picture(struct search *search, const struct plane *picture) {
-    struct sight sights[2] = {{.picture = *picture}, {.is_inverted = true}};
-    search->judge.has_no_memory = !make_levels(&sights[0]);
-    search_levels(search, &sights[0]);
+    struct sight *plain = &search->sights[0], *inverted = &search->sights[1];
+    int64_t end = search->judge.end;
+    plain->picture = *picture, inverted->is_inverted = true;
+    note_lack(search, make_levels(plain, end));
+    search_levels(search, plain, search_lively);
     if (!is_over(search)) {
-        search->judge.has_no_memory = !plane_invert(picture, &sights[1].picture) || !make_levels(&sights[1]);
-        search_levels(search, &sights[1]);
-        search_regions(search, sights);
+        note_lack(search, plane_invert(picture, end, &inverted->picture) && make_levels(inverted, end));
+        search_levels(search, inverted, search_lively);
+        search_levels(search, plain, search_calm);
+        search_levels(search, inverted, search_calm);
+        search_levels(search, plain, search_still);
+        search_levels(search, inverted, search_still);
+        search_regions(search, search->sights);
     }
-    sight_free(&sights[0]);
-    sight_free(&sights[1]);
+    sight_free(plain);
+    sight_free(inverted);
 }
 
 uint16_t ecc200_sample_picture(const uint8_t *luminance, size_t width, size_t height, size_t stride, const ecc200_sample_options *options,
@@ -187,7 +276,7 @@ uint16_t ecc200_sample_picture(const uint8_t *luminance, size_t width, size_t he
     *count = 0;
     if (width == 0 || height == 0 || width > ECC200_SAMPLE_MOST_SIDE || height > ECC200_SAMPLE_MOST_SIDE || stride < width)
         return ECC200_SAMPLE_PICTURE;
-    struct plane picture = {(int)width, (int)height, stride, luminance, NULL};
+    struct plane picture = {.width = (int)width, .height = (int)height, .stride = stride, .pixels = luminance};
     struct search *search = calloc(1, sizeof *search);
     ecc200_sample *trials = calloc(2, sizeof *trials);
     uint16_t code = ECC200_SAMPLE_NO_MEMORY;

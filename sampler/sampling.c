@@ -5,6 +5,7 @@
 
 enum { POINTS = 4 };
 static const double FIRST = -0.27, APART = 0.18; /* modules: where the points of a module are */
+static const double LEAST_AROUND = 0.15;         /* of the contrast of the symbol, below which a window shows one colour only */
 
 void sample_modules(const struct plane *plane, const struct layout *layout, const struct bent *bent, double x, double y, struct brightnesses *out) {
     int side = layout->side, region = side / bent->across;
@@ -111,6 +112,31 @@ static void divide(const float *of, int side, const struct levels *levels, doubl
         }
 }
 
+/* Writes for each module of a line the least and the most of those of a window of 2 * `around` + 1 of them, which is moved into the line. */
+static void find_extremes(const float *least, const float *most, int side, int step, int around, float *out_least, float *out_most) {
+    for (int k = 0; k < side; k++) {
+        int first = k - around < 0 ? 0 : k + around >= side ? side - 1 - 2 * around : k - around;
+        float low = least[first * step], high = most[first * step];
+        for (int j = first + 1; j <= first + 2 * around; j++) {
+            low = least[j * step] < low ? least[j * step] : low;
+            high = most[j * step] > high ? most[j * step] : high;
+        }
+        out_least[k * step] = low, out_most[k * step] = high;
+    }
+}
+
+/* Divides by the middle between the darkest and the lightest module around each, where these differ by a share of the contrast. */
+static void divide_around(const float *of, int side, double contrast, int around, uint8_t *modules) {
+    float rows[2][MOST_SIDE * MOST_SIDE], squares[2][MOST_SIDE * MOST_SIDE];
+    for (int row = 0; row < side; row++)
+        find_extremes(of + row * side, of + row * side, side, 1, around, rows[0] + row * side, rows[1] + row * side);
+    for (int column = 0; column < side; column++)
+        find_extremes(rows[0] + column, rows[1] + column, side, side, around, squares[0] + column, squares[1] + column);
+    for (int k = 0; k < side * side; k++)
+        if (squares[1][k] - squares[0][k] >= LEAST_AROUND * contrast)
+            modules[k] = 2 * of[k] < squares[0][k] + squares[1][k];
+}
+
 bool tell_apart(const struct brightnesses *from, const struct layout *layout, struct rule rule, uint8_t *modules) {
     float sharp[MOST_SIDE * MOST_SIDE];
     const float *of = from->of;
@@ -130,5 +156,7 @@ bool tell_apart(const struct brightnesses *from, const struct layout *layout, st
         divide(of, from->side, &levels, 0, modules);
     }
     divide(of, from->side, &levels, rule.offset, modules);
+    if (rule.around > 0)
+        divide_around(of, from->side, levels.of[LIGHT].a - levels.of[DARK].a, rule.around, modules);
     return true;
 }

@@ -4,36 +4,7 @@
 
 static const double WIDEST = 0.44;                 /* by how much, in radians, opposite borders may differ in direction */
 static const double LEAST_TRACK = 0.68, LEAST_SOLID = 0.6;
-
-/* ---- The width of a module */
-
-/* How far it is dark from a point on a border inwards, in pixels. */
-static double depth_at(const struct plane *dark, struct point at, struct point inwards, double most) {
-    double depth = 0, light = 0;
-    for (double way = 0.5; way < most && light < 1.5; way += 0.5) {
-        bool is_dark = dark_at(dark, sum(at, scale_by(inwards, way))) != 0;
-        light = is_dark ? 0 : light + 0.5;
-        depth = is_dark ? way + 0.25 : depth;
-    }
-    return depth;
-}
-
-/* About how wide a module is along `inwards`: the solid border is one module deep wherever a light one follows. */
-static double module_width(const struct plane *dark, struct point from, struct point to, struct point inwards) {
-    enum { PLACES = 96, DEPTHS = 256 };
-    double whole = length(difference(to, from)), most = whole / 6;
-    int histogram[DEPTHS] = {0}, counted = 0;
-    for (int k = 0; k < PLACES; k++) {
-        struct point at = sum(from, scale_by(difference(to, from), 0.05 + 0.9 * k / PLACES));
-        int depth = (int)(2 * depth_at(dark, at, inwards, most));
-        if (depth > 1)
-            histogram[depth < DEPTHS ? depth : DEPTHS - 1]++, counted++;
-    }
-    int passed = 0, depth = 0;
-    while (depth < DEPTHS - 1 && (passed += histogram[depth]) * 10 < counted * 3)
-        depth++;
-    return fmax(1, 0.5 * depth + 0.25);
-}
+static const double STILL_BEFORE = 12, STILL_BETWEEN = 6; /* modules without a turn after which a track is given up, at its start and later */
 
 /* ---- The line along an alternating border */
 
@@ -49,6 +20,11 @@ struct rhythm {
     int turns, good;
     double bad;
 };
+
+/* Whether the track has ended before `way`, or hasn't begun: nothing turned for too many modules. */
+static bool is_still(const struct rhythm *rhythm, double way, double module) {
+    return rhythm->turns > 4 ? way - rhythm->last > STILL_BETWEEN * rhythm->mean : way - rhythm->last > STILL_BEFORE * module;
+}
 
 /* Takes a turn into account. False where the track has ended: nothing turns for too long. */
 static bool add_turn(struct rhythm *rhythm, double place) {
@@ -68,14 +44,15 @@ static bool add_turn(struct rhythm *rhythm, double place) {
 }
 
 /* Follows the turns of brightness along the track, of at least `least` in brightness, and counts those that come evenly. */
-static void follow(const struct plane *grey, struct track *track, double step, double longest, int least) {
+static void follow(const struct plane *grey, struct track *track, double module, double longest, int least) {
     struct rhythm rhythm = {0};
+    double step = fmax(module / 7, 0.5);
     bool seeks_dark = true;
     int extreme = 255;
     double place = 0;
     track->darks = 0;
     struct point at = track->from, move = scale_by(track->along, step);
-    for (double way = 0; way < longest && rhythm.bad < rhythm.good + 4; way += step, at = sum(at, move)) {
+    for (double way = 0; way < longest && rhythm.bad < rhythm.good + 4 && !is_still(&rhythm, way, module); way += step, at = sum(at, move)) {
         int here = grey_at(grey, at);
         if (seeks_dark ? here < extreme : here > extreme) {
             extreme = here, place = way;
@@ -117,7 +94,7 @@ static void look_around(const struct scene *scene, const struct start *start, st
     for (double s = from.shift - from.shift_reach; s <= last && !clock_reached(scene->end); s += from.shift_step)
         for (double a = from.angle - from.angle_reach; a <= from.angle + from.angle_reach; a += from.angle_step) {
             struct track track = {.from = sum(start->end, scale_by(start->inwards, s * start->module)), .along = turn_by(start->along, a)};
-            follow(scene->grey, &track, fmax(start->module / 7, 0.5), 1.4 * start->whole, start->least);
+            follow(scene->grey, &track, start->module, 1.4 * start->whole, start->least);
             track.score -= 0.3 * fabs(s - 0.5);
             if (track.score <= best->score)
                 continue;
@@ -245,8 +222,7 @@ static int contrast_of(const struct plane *grey, struct point from, struct point
 int placements_of(const struct scene *scene, const struct elbow *elbow, struct placement out[MOST_PLACEMENTS]) {
     struct point along = difference(elbow->right, elbow->corner), up = difference(elbow->top, elbow->corner), meeting;
     double wide = length(along), high = length(up);
-    double across = fmin(module_width(scene->dark, elbow->corner, elbow->top, scale_by(along, 1 / wide)), 0.1 * wide);
-    double upwards = fmin(module_width(scene->dark, elbow->corner, elbow->right, scale_by(up, 1 / high)), 0.1 * high);
+    double across = elbow->across, upwards = elbow->upwards;
     int contrast = contrast_of(scene->grey, elbow->corner, elbow->top, scale_by(along, across / wide)) +
                    contrast_of(scene->grey, elbow->corner, elbow->right, scale_by(up, upwards / high));
     int least = contrast / 2 / 7 > 4 ? contrast / 2 / 7 : 4, count = 0;

@@ -1,10 +1,14 @@
-// The camera, where the browser allows one: a picture each half second, until a symbol in one is read.
+// The camera, where the browser allows one: a picture each half second, until a symbol in one is read, or something
+// else is entered or shown.
+import { whenShown } from "./flow.mjs";
+import { whenEntered } from "./order.mjs";
 import { lookAt, showFound } from "./source.mjs";
-import { $, hint } from "./state.mjs";
+import { $, hint, panes } from "./state.mjs";
 
 const EACH = 500; // milliseconds
 const LENGTH = 1280; // pixels of the longer side that are asked for
-let stream = null;
+const WANTED = { video: { facingMode: "environment", width: { ideal: LENGTH } }, audio: false };
+let session = null; // the one that is on: its stream, once the browser has allowed one
 
 async function frame() {
   const { videoWidth: width, videoHeight: height } = $("video");
@@ -16,39 +20,52 @@ async function frame() {
 const wait = (time) => new Promise((resolve) => setTimeout(resolve, time));
 
 async function watch(own) {
-  while (stream === own) {
+  while (session === own) {
     const begun = performance.now(), file = await frame();
-    const symbol = file && stream === own ? await lookAt(file) : null;
-    if (stream !== own) return;
+    const symbol = file && session === own ? await lookAt(file, "camera") : null;
+    if (session !== own) return;
     if (symbol?.isRead) { stopCamera(); showFound(symbol, "The camera"); return; }
-    if (symbol?.stopped) { stopCamera(); return; }
+    if (symbol?.stopped) { stopCamera("The camera is off."); return; }
     await wait(Math.max(50, EACH - (performance.now() - begun)));
   }
 }
-export function stopCamera() {
-  for (const track of stream?.getTracks() ?? []) track.stop();
-  stream = null;
+const endStream = (stream) => { for (const track of stream?.getTracks() ?? []) track.stop(); };
+function stopCamera(words = "") {
+  if (!session) return;
+  endStream(session.stream);
+  session = null;
   $("video").srcObject = null;
   $("viewfinder").hidden = true;
+  if (words) hint("picture-hint", words);
 }
 async function startCamera() {
-  if (stream) return;
+  if (session) return;
+  const own = session = { stream: null };
   try {
-    stream = await navigator.mediaDevices.getUserMedia({ video: { facingMode: "environment", width: { ideal: LENGTH } }, audio: false });
+    const stream = await navigator.mediaDevices.getUserMedia(WANTED);
+    if (session !== own) { endStream(stream); return; }
+    own.stream = stream;
   } catch (why) {
+    if (session !== own) return;
+    session = null;
     const isForbidden = why?.name === "NotAllowedError";
     hint("picture-hint", isForbidden ? "The browser doesn’t allow the camera here." : "There is no camera that this page can use.", true);
     return;
   }
-  $("video").srcObject = stream;
+  $("video").srcObject = own.stream;
   $("viewfinder").hidden = false;
   hint("picture-hint", "Hold a symbol before the camera, so that it fills a good part of the picture.");
-  await $("video").play();
-  watch(stream);
+  await $("video").play().catch(() => {}); // it has been stopped by then
+  watch(own);
 }
 export function wireCamera() {
   $("camera").hidden = !navigator.mediaDevices?.getUserMedia;
   $("camera").addEventListener("click", startCamera);
-  $("camera-off").addEventListener("click", () => { stopCamera(); hint("picture-hint", "The camera is off."); $("camera").focus(); });
-  addEventListener("pagehide", stopCamera);
+  $("camera-off").addEventListener("click", () => { stopCamera("The camera is off."); $("camera").focus(); });
+  whenEntered((it) => { if (it === panes.read) stopCamera("The camera is off, since something else was entered."); });
+  whenShown((pane) => { if (pane !== "read") stopCamera("The camera is off, since the other pane was opened."); });
+  document.addEventListener("visibilitychange", () => {
+    if (document.hidden) stopCamera("The camera is off, since the page was out of sight.");
+  });
+  addEventListener("pagehide", () => stopCamera());
 }

@@ -1,11 +1,11 @@
 // Pointing at modules and codewords, and turning modules over: with the mouse, a finger, or keys.
-import { BIT } from "./common.mjs";
+import { BIT, limitIn, sideOf } from "./common.mjs";
 import { drawAbout, drawWords, spokenModule } from "./cells.mjs";
-import { begin, damage, look, redo, undo, undoAll } from "./flow.mjs";
-import { $, EMPTY, BAD, mapOf, mark, setUsable, whenUsed } from "./state.mjs";
+import { begin, damage, look, redo, setLimit, undo, undoAll } from "./flow.mjs";
+import { afterThat, inTurn, settled } from "./order.mjs";
+import { $, hint, mapOf, mark, setUsable, whenUsed } from "./state.mjs";
 import { QUIET, drawSymbol } from "./symbol.mjs";
-
-const canTurn = () => mark().seen && mark().modules.length === mark().seen.modules.length && mark().stage !== BAD && mark().stage !== EMPTY;
+import { noLimit } from "./words.mjs";
 
 function point(module, word = null) {
   const it = mark();
@@ -16,14 +16,18 @@ function point(module, word = null) {
   Object.assign(it, { module, word });
   drawSymbol(); drawWords(); drawAbout();
 }
-function moduleUnder(event) {
-  const { seen } = mark();
-  if (!seen) return null;
-  const box = $("symbol").getBoundingClientRect(), { side } = seen, all = side + 2 * QUIET, edge = $("symbol").clientLeft;
-  const line = (from, length) => Math.floor(((from - edge) / (length - 2 * edge)) * all) - QUIET;
-  const c = line(event.clientX - box.left, box.width), r = line(event.clientY - box.top, box.height);
+// Where an event is, as shares of the symbol's width and height.
+function placeOfEvent({ clientX, clientY }) {
+  const box = $("symbol").getBoundingClientRect(), edge = $("symbol").clientLeft;
+  const share = (from, length) => (from - edge) / (length - 2 * edge);
+  return { x: share(clientX - box.left, box.width), y: share(clientY - box.top, box.height) };
+}
+// The module of a symbol of this side that is there, if one is.
+function moduleAt({ x, y }, side) {
+  const line = (share) => Math.floor(share * (side + 2 * QUIET)) - QUIET, r = line(y), c = line(x);
   return r >= 0 && c >= 0 && r < side && c < side ? r * side + c : null;
 }
+const moduleUnder = (event) => (mark().seen ? moduleAt(placeOfEvent(event), mark().seen.side) : null);
 
 // The modules on the line from one to another, so that a quick drag leaves none out.
 function between(from, to, side) {
@@ -36,38 +40,43 @@ function turn(it, cells) {
   for (const cell of cells) it.modules[cell] ^= 1;
   look(it);
 }
-function turnOne(k) {
-  Object.assign(mark(), { byKeys: false, cursor: k, module: null, word: null });
-  begin(mark());
-  turn(mark(), [k]);
+
+// A click or a drag: one step, in which each module is turned over once.
+class Stroke {
+  constructor(it) { Object.assign(this, { it, entry: null, turned: new Set(), last: null }); }
+  to(place) { inTurn(this.it, (it) => this.reach(it, moduleAt(place, sideOf(it.modules)))); }
+  reach(it, k) {
+    if (k === null) return;
+    if (this.entry !== it.entry) {
+      Object.assign(this, { entry: it.entry, turned: new Set(), last: k });
+      Object.assign(it, { byKeys: false, module: null, word: null });
+      begin(it);
+    }
+    const fresh = between(this.last, k, sideOf(it.modules)).filter((cell) => !this.turned.has(cell));
+    this.last = it.cursor = k;
+    if (!fresh.length) return;
+    for (const cell of fresh) this.turned.add(cell);
+    turn(it, fresh);
+  }
 }
 
 // The mouse draws. A finger or pen scrolls and zooms, as the browser does, and turns a module over by a tap: that is a click.
 function wirePointer() {
   const svg = $("symbol");
-  let stroke = null, last = null; // the modules that this drag has turned over, each once
+  let stroke = null;
   svg.addEventListener("pointerdown", (event) => {
-    const k = moduleUnder(event);
-    if (event.pointerType !== "mouse" || event.button !== 0 || k === null || !canTurn()) return;
+    if (event.pointerType !== "mouse" || event.button !== 0 || moduleUnder(event) === null) return;
     svg.setPointerCapture(event.pointerId);
-    stroke = new Set([k]); last = k;
-    turnOne(k);
+    stroke = new Stroke(mark());
+    stroke.to(placeOfEvent(event));
   });
   svg.addEventListener("pointermove", (event) => {
     if (event.pointerType !== "mouse") return;
-    const k = moduleUnder(event);
-    if (!stroke) { point(k); return; }
-    if (k === null || !canTurn()) return;
-    const fresh = between(last, k, mark().seen.side).filter((cell) => !stroke.has(cell));
-    last = mark().cursor = k;
-    if (!fresh.length) return;
-    for (const cell of fresh) stroke.add(cell);
-    turn(mark(), fresh);
+    if (stroke) stroke.to(placeOfEvent(event)); else point(moduleUnder(event));
   });
   for (const name of ["pointerup", "pointercancel"]) svg.addEventListener(name, () => { stroke = null; });
   svg.addEventListener("click", (event) => {
-    const k = moduleUnder(event);
-    if (event.pointerType && event.pointerType !== "mouse" && k !== null && canTurn()) turnOne(k);
+    if (event.pointerType && event.pointerType !== "mouse") new Stroke(mark()).to(placeOfEvent(event));
   });
   svg.addEventListener("pointerleave", () => { if (!stroke) point(null); });
 }
@@ -79,29 +88,37 @@ const STEPS = {
   ArrowUp: (r, c) => [r - 1, c], ArrowDown: (r, c) => [r + 1, c], ArrowLeft: (r, c) => [r, c - 1], ArrowRight: (r, c) => [r, c + 1],
   Home: (r) => [r, 0], End: (r) => [r, -1], PageUp: (_r, c) => [0, c], PageDown: (_r, c) => [-1, c],
 };
+function moveCursor(it, key) {
+  const { side } = it.seen, to = STEPS[key](Math.floor(it.cursor / side), it.cursor % side);
+  it.cursor = ((to[0] + side) % side) * side + ((to[1] + side) % side);
+}
+// What a key does to the symbol, if anything.
+function actOf({ key, shiftKey, ctrlKey, metaKey }) {
+  const isCommand = ctrlKey || metaKey;
+  if (key === " " || key === "Enter") return (it) => inTurn(it, () => { begin(it); turn(it, [it.cursor]); });
+  if (key.toLowerCase() === "z" && isCommand) return shiftKey ? redo : undo;
+  return key === "y" && isCommand ? redo : null;
+}
 async function keyOnSymbol(event) {
-  const it = mark();
+  const it = mark(), isMove = event.key in STEPS, act = actOf(event);
   if (!it.seen) return;
-  const { side } = it.seen, to = STEPS[event.key]?.(Math.floor(it.cursor / side), it.cursor % side), isCommand = event.ctrlKey || event.metaKey;
-  it.byKeys = true;
-  if (to) it.cursor = ((to[0] + side) % side) * side + ((to[1] + side) % side);
-  else if ((event.key === " " || event.key === "Enter") && canTurn()) { begin(it); turn(it, [it.cursor]); }
-  else if (event.key.toLowerCase() === "z" && isCommand) { if (event.shiftKey) redo(); else undo(); }
-  else if (event.key === "y" && isCommand) redo();
-  else if (event.key === "Escape") { $("symbol").blur(); return; }
-  else return;
+  if (event.key === "Escape") { $("symbol").blur(); return; }
+  if (!isMove && !act) return;
   event.preventDefault();
+  it.byKeys = true;
+  if (isMove) afterThat(it, () => moveCursor(it, event.key)); else act(it);
+  await (isMove ? it.turn : settled(it));
+  if (it !== mark() || !it.seen) return;
   point(it.cursor);
   drawSymbol();
-  if (to) speakCursor(); else whenDrawn(it, speakCursor);
-}
-// Calls back once the mark is valid again, or gives up if that takes too long.
-function whenDrawn(it, then, tries = 40) {
-  if (it.seen && it.seen.modules.every((module, k) => module === it.modules[k])) { then(); return; }
-  if (tries) setTimeout(() => whenDrawn(it, then, tries - 1), 25);
+  speakCursor();
 }
 function wireKeys() {
   const svg = $("symbol");
+  document.querySelector(".skip").addEventListener("click", (event) => {
+    event.preventDefault(); // the address says what is entered, and leads nowhere else
+    svg.focus();
+  });
   svg.addEventListener("focus", () => {
     if (!svg.matches(":focus-visible") || !mark().seen) return;
     mark().byKeys = true;
@@ -138,22 +155,26 @@ function setZoom(to) {
   setUsable("zoom-in", zoom < LARGEST_ZOOM);
 }
 function limitEntered() {
-  const field = $("border-limit"), text = field.value, value = Number(text), isWhole = Number.isInteger(value) && value >= 0 && value <= 65535;
-  const isFine = text === "" || isWhole;
-  if (isFine && !field.validity.badInput) field.removeAttribute("aria-invalid"); else field.setAttribute("aria-invalid", "true");
-  $("border-hint").textContent = isFine ? "" : "a whole number from 0 to 65535";
-  const it = mark();
-  if (!isFine || !it.modules || it.stage === BAD) return;
-  it.limit = text === "" ? null : value;
-  look(it);
+  const field = $("border-limit"), text = field.value, limit = limitIn(text);
+  if (!field.validity.badInput && (text === "" || limit !== null)) {
+    field.removeAttribute("aria-invalid");
+    inTurn(mark(), (it) => setLimit(it, limit));
+    return;
+  }
+  field.setAttribute("aria-invalid", "true");
+  mark().limitWhy = noLimit(text, mark().seen?.limit);
+  hint("border-hint", mark().limitWhy, true);
 }
 export function wireDamage() {
   wirePointer(); wireKeys(); wireWords(); setZoom(1);
-  for (const [id, what] of [["to-limit", "limit"], ["one-more", "more"], ["scratch", "scratch"]]) whenUsed(id, () => damage(what));
-  for (const [id, action] of [["undo", undo], ["redo", redo], ["undo-all", undoAll]]) whenUsed(id, action);
+  const acts = {
+    "to-limit": () => damage("limit"), "one-more": () => damage("more"), scratch: () => damage("scratch"),
+    undo, redo, "undo-all": undoAll,
+    usual: () => inTurn(mark(), (it) => setLimit(it, null)),
+  };
+  for (const [id, act] of Object.entries(acts)) $(id).addEventListener("click", () => act());
   whenUsed("zoom-in", () => setZoom(zoom + 1));
   whenUsed("zoom-out", () => setZoom(zoom - 1));
   $("border-limit").addEventListener("input", limitEntered);
-  $("border-limit").addEventListener("blur", () => { if (mark().modules && mark().stage !== BAD) look(mark()); });
-  whenUsed("usual", () => { mark().limit = null; look(mark()); });
+  $("border-limit").addEventListener("blur", () => inTurn(mark(), look));
 }

@@ -11,7 +11,7 @@ export const workingSince = () => allDesks.reduce((first, { running }) => Math.m
 
 export class Desk {
   constructor(script, library) {
-    Object.assign(this, { script, library, worker: null, ready: null, running: null, waiting: [], count: 0, tell: null });
+    Object.assign(this, { script, library, worker: null, ready: null, running: null, waiting: [], count: 0 });
     allDesks.push(this);
   }
   // Starts a worker with the library; what it says of the library, or { failed }.
@@ -22,14 +22,15 @@ export class Desk {
     this.ready = this.ask("load", this.library, "load");
     return this.ready;
   }
-  ask(kind, given, lane, transfer = []) {
+  // `tell` is given what the worker says of this question meanwhile.
+  ask(kind, given, lane, { transfer = [], tell = null } = {}) {
     if (!this.worker && kind !== "load") this.start();
     return new Promise((resolve) => {
       this.waiting = this.waiting.filter((question) => {
         if (question.lane === lane) question.resolve(undefined);
         return question.lane !== lane;
       });
-      this.waiting.push({ number: ++this.count, kind, given, lane, transfer, resolve });
+      this.waiting.push({ number: ++this.count, kind, given, lane, transfer, tell, resolve });
       this.next();
     });
   }
@@ -42,7 +43,7 @@ export class Desk {
     wake();
   }
   hear({ number, answer, failed, progress }) {
-    if (progress) { this.tell?.(progress); return; }
+    if (progress) { this.running?.tell?.(progress); return; }
     if (number !== this.running?.number) return;
     const { resolve } = this.running;
     this.running = null;

@@ -4,7 +4,7 @@ import { drawAbout, drawWords } from "./cells.mjs";
 import { drawElements, elementsOf, faultsOf } from "./elements.mjs";
 import { drawLesson } from "./lesson.mjs";
 import { isPlain, spelled, spelledItem } from "./messages.mjs";
-import { $, BAD, EMPTY, VALID, WORKING, isDamaged, made, mark, setUsable } from "./state.mjs";
+import { $, BAD, EMPTY, VALID, WORKING, hint, isDamaged, made, mark, setUsable } from "./state.mjs";
 import { drawSymbol } from "./symbol.mjs";
 import { drawPrintSize } from "./taking.mjs";
 import { borne, refusal } from "./words.mjs";
@@ -17,6 +17,7 @@ export function drawAll() {
 export function drawStage() {
   const it = mark(), isValid = it.stage === VALID, canAct = isValid || (it.stage === WORKING && it.modules !== null);
   document.body.dataset.stage = it.stage;
+  document.body.toggleAttribute("data-entering", it.isEntering);
   for (const id of ["copy", "save-svg", "save-png", "print", "copy-link"]) setUsable(id, isValid);
   for (const id of ["to-limit", "one-more", "scratch"]) setUsable(id, canAct);
   setUsable("undo", canAct && it.past.length > 0);
@@ -95,9 +96,9 @@ function drawMeters() {
   const { size, corrected, border, limit } = it.seen, name = (b) => (size.blocks > 1 ? `Block ${b + 1}` : "Codewords");
   $("meters").innerHTML = corrected.map((count, b) => meter(name(b), count, size.limit, count === BEYOND, "can be corrected")).join("")
     + meter("Border", border, limit, border > limit, "accepted");
+  hint("border-hint", it.limitWhy, Boolean(it.limitWhy));
   if (document.activeElement !== $("border-limit")) {
     $("border-limit").value = limit;
     $("border-limit").removeAttribute("aria-invalid");
-    $("border-hint").textContent = "";
   }
 }

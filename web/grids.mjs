@@ -13,7 +13,8 @@ export const isGrid = (text) => text.length <= MOST_TEXT && /\S.*\n.*\S/s.test(t
 
 // Rows of 0 and 1; or with # or X for dark and . or space for light, in which spaces that an editor cut off at the right are restored.
 export function gridFrom(text, sides) {
-  if (text.length > MOST_TEXT) return { why: tooMuch(text) };
+  const much = tooMuch(text);
+  if (much) return { why: much };
   const isPictured = /[#Xx]/.test(text);
   let lines = text.split(/\r?\n/).filter((line) => line.trim());
   if (!lines.length) return { why: "Paste the rows of a grid here." };

@@ -1,6 +1,6 @@
 // GS1 messages: element strings as people write them, with identifiers in parentheses, and as a symbol holds them. The identifiers are those
 // of library/gs1/identifiers.txt, which is packed into the page.
-import { FNC1, MOST_TEXT, plural } from "./common.mjs";
+import { FNC1, plural } from "./common.mjs";
 import { parse, tooMuch } from "./messages.mjs";
 
 const SEPARATOR = 29; // GS, which may stand in place of an FNC1 between elements
@@ -49,12 +49,16 @@ const CHECKS = {
     return Number(text.at(-1)) === right ? { words: "the check digit is right" } : { fault: `the check digit ${text.at(-1)} should be ${right}` };
   },
   pair(text) {
+    if (text.length < 3) return { fault: "the check pair is missing" };
     const right = checkPair(text.slice(0, -2));
     return text.slice(-2) === right ? { words: "the check pair is right" } : { fault: `the check pair ${text.slice(-2)} should be ${right}` };
   },
   date: (text) => dayOf(fullYear(numberAt(text, 0)), text.slice(2), false),
   "month-day": (text) => dayOf(fullYear(numberAt(text, 0)), text.slice(2), true),
-  "full-date": (text) => dayOf(Number(text.slice(0, 4)), text.slice(4), false),
+  "full-date"(text) {
+    const year = Number(text.slice(0, 4));
+    return year ? dayOf(year, text.slice(4), false) : { fault: "there is no year 0000" };
+  },
   time: (text) => (text === "9999" || (numberAt(text, 0) < 24 && numberAt(text, 2) < 60) ? {} : { fault: `${text} is no time of day` }),
   hour: below(24, "hour"),
   minute: below(60, "minute"),
@@ -104,6 +108,7 @@ export function readIdentifiers(text) {
       known.set(String(number).padStart(first.length, "0"), { isFixed: ending === "fixed", parts: parts.split("+").map(partOf), name });
   }
 }
+const mostOf = ({ parts }) => parts.reduce((sum, { most }) => sum + most, 0);
 // The identifier at the beginning of a text.
 const identifierAt = (text) => [2, 3, 4].map((length) => text.slice(0, length)).find((some) => known.has(some));
 
@@ -120,8 +125,7 @@ export function elementsIn(items) {
       at += whole.length + 1;
       continue;
     }
-    const length = entry.isFixed ? entry.parts.reduce((sum, { most }) => sum + most, 0) : Infinity;
-    const value = whole.slice(identifier.length).slice(0, length);
+    const value = whole.slice(identifier.length).slice(0, entry.isFixed ? mostOf(entry) : Infinity);
     elements.push({ identifier, name: entry.name, items: value, ...judgedValue(identifier, entry, textOf(value)) });
     at += identifier.length + value.length;
     if (items[at] === FNC1 || items[at] === SEPARATOR) at++;
@@ -131,25 +135,70 @@ export function elementsIn(items) {
 
 // ---- As people write them
 
-const MARK = /\((\d{2,4})\)/g;
-const isElements = (text) => { const found = /^\((\d{2,4})\)/.exec(text); return found !== null && known.has(found[1]); };
+// A text that begins with a bracket is meant as elements. In it each bracket that is opened begins an identifier, but
+// for those that are spelled \x28 or \(. Square brackets may stand in place of all round ones, as zint has them.
+const isElements = (text) => text.startsWith("(") || /^\[\d{2,4}\]/.test(text);
+const ELEMENTS = { "(": /\((\d*)(\)?)((?:\\[^]?|[^(\\])*)/y, "[": /\[(\d*)(\]?)([^[]*)/y };
+function noElement(text, at, why) {
+  const name = at ? "as part of the value" : "as plain text", bracket = text[at] === "(" ? "\\x28" : "\\x5B";
+  return { column: at + 1, why, ways: [{ name, text: `${text.slice(0, at)}${bracket}${text.slice(at + 1)}` }] };
+}
 
 // Why a text has no items, in words.
 export const whyNot = ({ column, why }) => (column ? `Column ${column} ${why}.` : why);
 
+// The element that is written at this place: { identifier, items, end }, or what is wrong.
+function elementAt(text, at) {
+  const element = ELEMENTS[text[0]];
+  element.lastIndex = at;
+  const [all, identifier, closed, spelledValue] = element.exec(text), begin = at + identifier.length + 2;
+  if (!closed) return noElement(text, at, "opens a bracket that holds no identifier, such as (01)");
+  const entry = known.get(identifier), value = parse(spelledValue, true);
+  if (!entry) return noElement(text, at, `begins (${identifier}), which is no identifier of GS1’s table`);
+  if (!value.items) {
+    const [before, after] = [text.slice(0, begin), text.slice(begin + spelledValue.length)];
+    const ways = value.ways?.map((way) => ({ ...way, text: before + way.text + after }));
+    return { ...value, column: begin + value.column, ways };
+  }
+  if (value.items.some((item) => item === FNC1 || item === SEPARATOR))
+    return { why: `(${identifier}) ${entry.name} has a separator in its value: FNC1 is put in where one is due.` };
+  return { identifier, items: value.items, end: at + all.length };
+}
+// The items of elements: FNC1 in front, and at the end of each value of variable length that another element follows.
+function joinedItems(elements) {
+  const items = [FNC1];
+  elements.forEach(({ identifier, items: value }, k) => {
+    items.push(...Array.from(identifier, (digit) => digit.charCodeAt(0)), ...value);
+    if (k + 1 < elements.length && !known.get(identifier).isFixed) items.push(FNC1);
+  });
+  return items;
+}
+// What a reader would take apart otherwise than it was written, in words, or "": a value of fixed length runs into what
+// follows it if it has another.
+function misread(elements, items) {
+  const read = elementsIn(items.slice(1));
+  const isOdd = ({ identifier, items: value }, k) =>
+    read[k]?.identifier !== identifier || read[k].items.length !== value.length;
+  const odd = elements.find(isOdd);
+  if (!odd) return "";
+  const entry = known.get(odd.identifier), due = plural(mostOf(entry), ...CHARSETS[entry.parts[0].charset].words);
+  return `(${odd.identifier}) ${entry.name} takes ${due}, and has ${odd.items.length}.`;
+}
+function elementsOfText(text) {
+  const elements = [];
+  for (let at = 0; at < text.length;) {
+    const element = elementAt(text, at);
+    if (!element.items) return element;
+    elements.push(element);
+    at = element.end;
+  }
+  const items = joinedItems(elements), why = misread(elements, items);
+  return why ? { why } : { items, isElements: true };
+}
+
 // The items of what is entered: of element strings, or of a spelled message. { items, isElements }, or what is wrong.
 export function itemsOf(text) {
-  if (text.length > MOST_TEXT) return { why: tooMuch(text) };
-  if (!isElements(text)) return parse(text);
-  const marks = [...text.matchAll(MARK)].filter(([, identifier]) => known.has(identifier)), items = [FNC1];
-  for (const [k, found] of marks.entries()) {
-    const begin = found.index + found[0].length, end = marks[k + 1]?.index ?? text.length, value = parse(text.slice(begin, end));
-    if (!value.items) {
-      const ways = value.ways?.map((way) => ({ ...way, text: text.slice(0, begin) + way.text + text.slice(end) }));
-      return { ...value, column: begin + value.column, ways };
-    }
-    items.push(...Array.from(found[1], (digit) => digit.charCodeAt(0)), ...value.items);
-    if (k + 1 < marks.length && !known.get(found[1]).isFixed) items.push(FNC1);
-  }
-  return { items, isElements: true };
+  const much = tooMuch(text);
+  if (much) return { why: much, isTooMuch: true };
+  return isElements(text) ? elementsOfText(text) : parse(text);
 }

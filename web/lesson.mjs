@@ -71,6 +71,7 @@ function checkStep({ size, mended, held }) {
 // The path of the placement: from the eighth bit of each codeword to that of the next.
 export const pathOf = (map, side, count) => map.modules.slice(0, count).map(([, , , , , , , last]) => [last % side, Math.floor(last / side)]);
 const place = { word: 0 };
+const wordShown = ({ held }) => Math.min(place.word, held.length - 1);
 function pathDrawn({ side, held, modules }, word) {
   const map = mapOf(side), inks = [["#c5e3f6", "#00456e"], ["#00629b", "#fff"]]; // of a light module and its number, and of a dark one
   const line = pathOf(map, side, word + 1).map(([x, y], k) => `${k ? "L" : "M"}${x + 0.5} ${y + 0.5}`).join("");
@@ -82,13 +83,24 @@ function pathDrawn({ side, held, modules }, word) {
     <g font-size=".56" font-family="sans-serif" font-weight="600" text-anchor="middle">${bits}</g>
     <path class="way" d="${line}" fill="none" stroke="#d9480f" stroke-width="${Math.max(0.16, side / 260)}" stroke-linejoin="round"/></svg>`;
 }
+function wordTold({ held, size }, word) {
+  const what = word < size.data ? "data" : "check";
+  return `Codeword ${word + 1}, ${what}, is ${held[word]}: ${bitsOf(held[word])}, bit 1 to bit 8.`;
+}
 function placeStep(seen) {
-  const { held, size } = seen, word = Math.min(place.word, held.length - 1), what = word < size.data ? "data" : "check";
+  const { held } = seen, word = wordShown(seen);
   return paragraph("The bits of each codeword take eight modules, mostly in the shape of a small utah: three rows of two, three and three.",
     "The codewords follow a path that sweeps up and down the diagonals; the border is left out, and shapes that reach over an edge go on at the other side.")
     + `<label class="walk">Codeword <input type="range" id="walk" min="1" max="${held.length}" value="${word + 1}">
     <output>${word + 1} of ${held.length}</output></label>
-    <p id="walk-words">Codeword ${word + 1}, ${what}, is ${held[word]}: ${bitsOf(held[word])}, bit 1 to bit 8.</p>${pathDrawn(seen, word)}`;
+    <p id="walk-words">${wordTold(seen, word)}</p>${pathDrawn(seen, word)}`;
+}
+// Shows another codeword of the path. The slider stays as it is, since it may be held.
+function walkTo(seen) {
+  const word = wordShown(seen);
+  $("step").querySelector("output").textContent = `${word + 1} of ${seen.held.length}`;
+  $("walk-words").textContent = wordTold(seen, word);
+  $("path").outerHTML = pathDrawn(seen, word);
 }
 function borderStep({ side, size }) {
   return paragraph("Last comes the border: a solid column on the left and a solid row at the bottom show where the symbol lies and how it stands,",
@@ -98,7 +110,10 @@ function borderStep({ side, size }) {
 }
 const STEPS_OF_LESSON = [["The message", messageStep], ["Data codewords", codewordStep], ["Blocks", blockStep],
   ["Check codewords", checkStep], ["Places", placeStep], ["Border", borderStep]];
+const UNTOLD = "<p>The lesson needs a symbol that is read. Undo the damage, or enter another message.</p>";
 let stepAt = 0;
+// What the lesson tells of: the codewords as corrected, but for the sums, which show damage.
+const taught = (seen) => ({ ...seen, held: stepAt === 3 ? seen.held : seen.mended });
 
 export function drawLesson() {
   if (!$("lesson").open) return;
@@ -107,8 +122,7 @@ export function drawLesson() {
   setUsable("step-back", stepAt > 0);
   setUsable("step-on", stepAt + 1 < STEPS_OF_LESSON.length);
   const isTold = stage === VALID && !seen.answer.fault && !seen.corrected.includes(BEYOND);
-  const whole = isTold ? { ...seen, held: stepAt === 3 ? seen.held : seen.mended } : null;
-  $("step").innerHTML = isTold ? step(whole) : "<p>The lesson needs a symbol that is read. Undo the damage, or enter another message.</p>";
+  $("step").innerHTML = isTold ? step(taught(seen)) : UNTOLD;
 }
 function go(to) {
   stepAt = Math.max(0, Math.min(STEPS_OF_LESSON.length - 1, to));
@@ -121,7 +135,6 @@ export function wireLesson() {
   $("step").addEventListener("input", (event) => {
     if (event.target.id !== "walk") return;
     place.word = +event.target.value - 1;
-    drawLesson();
-    $("walk").focus();
+    walkTo(taught(mark().seen));
   });
 }

@@ -1,6 +1,6 @@
-// The proved library, ecc200.wasm, whose interface is that of library/ecc200.h: WebAssembly with 64-bit memory, so that addresses and
-// lengths are BigInts. For everything about Data Matrix symbols (sizes, places, codewords, correction, messages, borders, normal forms)
-// the page asks it.
+// The proved library, lowered from 64-bit memory to 32 bits, whose interface is that of library/ecc200.h. Addresses and lengths stay 64 bits
+// wide, so they are BigInts; pages of its memory are counted in ordinary numbers. For everything about Data Matrix symbols (sizes, places,
+// codewords, correction, messages, borders, normal forms) the page asks it.
 import { ABI, BIT, MOST_CODEWORDS, MOST_ITEMS, MOST_SIDE, SIZE_COUNT, WIDE, sideOf } from "./common.mjs";
 
 // In the memory that the caller adds: after the modules of a symbol come items, one more than a message has, and then what a call writes, of which
@@ -16,16 +16,12 @@ export class Library {
   constructor(exports) {
     this.c = exports;
     if (exports.ecc200_abi() !== ABI) throw new Error("the library has another interface than this page");
-    const start = this.grow(PAGES) * PAGE;
+    const start = exports.memory.grow(PAGES) * PAGE;
     this.modulesAt = start;
     this.itemsAt = start + ITEMS;
     this.outAt = start + OUT;
     this.sizes = new Map(this.sizeTable().map((size) => [size.side, size]));
     this.maps = new Map();
-  }
-  // Older engines count pages in ordinary numbers.
-  grow(pages) {
-    try { return Number(this.c.memory.grow(BigInt(pages))); } catch { return Number(this.c.memory.grow(pages)); }
   }
   bytes(at, count) { return new Uint8Array(this.c.memory.buffer, at, count); }
   numbers(at, count) { return new Uint16Array(this.c.memory.buffer, at, count); }

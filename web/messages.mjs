@@ -1,12 +1,14 @@
-// How messages are spelled: \\ is the backslash, \F FNC1, \xHH a byte, and any other character of 32 to 126 itself.
-import { FNC1, MOST_TEXT } from "./common.mjs";
+// How messages are spelled: \\ is the backslash, \F FNC1, \xHH a byte, and any other character of 32 to 126 itself; in
+// the values of element strings also \( a bracket.
+import { FNC1, MOST_LINES, MOST_TEXT } from "./common.mjs";
 
-export function parse(text) {
+export function parse(text, isValue = false) {
   const items = [];
   for (let at = 0; at < text.length;) {
     const code = text.codePointAt(at), rest = text.slice(at, at + 4);
     if (rest.startsWith("\\\\")) { items.push(92); at += 2; }
     else if (rest.startsWith("\\F")) { items.push(FNC1); at += 2; }
+    else if (isValue && rest.startsWith("\\(")) { items.push(40); at += 2; }
     else if (/^\\x[0-9A-Fa-f]{2}$/.test(rest)) { items.push(parseInt(rest.slice(2), 16)); at += 4; }
     else if (code === 92) return { column: at + 1, why: STRAY, ways: [{ name: "with the backslash doubled", text: doubled(text) }] };
     else if (code >= 32 && code <= 126) { items.push(code); at += 1; }
@@ -15,7 +17,14 @@ export function parse(text) {
   return { items };
 }
 const STRAY = "is a backslash that doesn’t begin a spelling; those are \\\\, \\F and \\xHH";
-export const tooMuch = (text) => `${text.length.toLocaleString("en")} characters, and no more than ${MOST_TEXT.toLocaleString("en")} are looked at.`;
+// Why a text is more than a field takes, or "".
+export function tooMuch(text, most = MOST_TEXT) {
+  const words = (count, what, bound) =>
+    `${count.toLocaleString("en")} ${what}, and no more than ${bound.toLocaleString("en")} are taken.`;
+  if (text.length > most) return words(text.length, "characters", most);
+  const lines = text.split("\n").length;
+  return lines > MOST_LINES ? words(lines, "lines", MOST_LINES) : "";
+}
 
 // The text with each backslash that begins no spelling doubled.
 const doubled = (text) => text.replace(/\\(?:\\|F|x[0-9A-Fa-f]{2})|\\/g, (found) => (found.length > 1 ? found : "\\\\"));

@@ -1,8 +1,9 @@
 #!/usr/bin/env python3
 """Packs the page, its styles, its modules and the library into one HTML file that opens from disk: pack.py LIBRARY.wasm PAGE.html
 
-The file fetches nothing: its policy, which the browser enforces, lets it run this one script and workers made of it, and make no connection.
-The modules of the page become one script, those of its worker another, which the page starts from its own text.
+The file fetches nothing: its policy, which the browser enforces, lets it run its own scripts and workers made of them, and make no connection.
+The modules of the page become one script, those of its worker another, which the page starts from its own text. Before them stands fallback.js,
+which any browser can read.
 """
 import base64
 import hashlib
@@ -14,6 +15,7 @@ HERE = pathlib.Path(__file__).parent
 IDENTIFIERS = HERE.parent / "library" / "gs1" / "identifiers.txt"
 LOOKS = '<link rel="stylesheet" href="style.css">'
 SCRIPT = '<script type="module" src="page.mjs"></script>'
+FALLBACK = '<script src="fallback.js"></script>'
 CHARSET = '<meta charset="utf-8">'
 IMPORT = re.compile(r'^import (?:\{[^}]*\} from )?"\./([a-z0-9]+\.mjs)";\n', re.M)
 DECLARED = re.compile(r"^(?:export )?(?:async )?(?:const|let|function|class) "
@@ -65,15 +67,19 @@ def joined(modules, first):
     return "\n" + "\n".join(texts)
 
 
+def hash_of(script):
+    """How the policy names a script that may run."""
+    return f"'sha256-{base64.b64encode(hashlib.sha256(script.encode()).digest()).decode()}'"
+
+
 def packed(library, modules):
-    page, looks = ((HERE / name).read_text(encoding="utf-8") for name in ("index.html", "style.css"))
-    assert all(page.count(line) == 1 for line in (LOOKS, SCRIPT, CHARSET))
+    page, looks, fallback = ((HERE / name).read_text(encoding="utf-8") for name in ("index.html", "style.css", "fallback.js"))
+    assert all(page.count(line) == 1 for line in (LOOKS, SCRIPT, FALLBACK, CHARSET))
     script = joined(modules, "page.mjs")
-    own = base64.b64encode(hashlib.sha256(script.encode()).digest()).decode()
-    policy = (f"default-src 'none'; script-src 'sha256-{own}' 'wasm-unsafe-eval'; worker-src blob:; style-src 'unsafe-inline'; img-src data: blob:; "
-              "media-src blob:; base-uri 'none'; form-action 'none'")
+    policy = (f"default-src 'none'; script-src {hash_of(fallback)} {hash_of(script)} 'wasm-unsafe-eval'; worker-src blob:; style-src 'unsafe-inline'; "
+              "img-src data: blob:; media-src blob:; base-uri 'none'; form-action 'none'")
     page = page.replace(CHARSET, f'{CHARSET}\n<meta http-equiv="Content-Security-Policy" content="{policy}">')
-    page = page.replace(LOOKS, f"<style>\n{looks}</style>")
+    page = page.replace(LOOKS, f"<style>\n{looks}</style>").replace(FALLBACK, f"<script>{fallback}</script>")
     plain = {"library": base64.b64encode(library).decode(), "worker": joined(modules, "worker.mjs"),
              "identifiers": IDENTIFIERS.read_text(encoding="utf-8")}
     parts = [f'<script type="text/plain" id="{name}">{text}</script>' for name, text in plain.items()]

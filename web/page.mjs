@@ -4,6 +4,7 @@ import { wireCamera } from "./camera.mjs";
 import { wireCompare } from "./compare.mjs";
 import { wireDamage } from "./damage.mjs";
 import { isWorking, stopAll, whenChanged, workingSince } from "./desk.mjs";
+import { wireDropping } from "./dropping.mjs";
 import { desks, openDesks } from "./flow.mjs";
 import { readIdentifiers } from "./gs1.mjs";
 import { gridText } from "./grids.mjs";
@@ -14,10 +15,11 @@ import { wirePrinting } from "./printing.mjs";
 import { pending, restore, wireSource } from "./source.mjs";
 import { $, mark, panes } from "./state.mjs";
 import { drawSmall } from "./symbol.mjs";
-import { wireTaking } from "./taking.mjs";
+import { toast, wireTaking } from "./taking.mjs";
 
-const NO_MEMORY = "no 64-bit memory";
-const SMALL_MODULE = new Uint8Array([0, 97, 115, 109, 1, 0, 0, 0, 5, 3, 1, 4, 1]); // a module that has only a page of such memory
+// A module that has only the type of a function that gives a vector: without SIMD there is none.
+const SMALL_MODULE = new Uint8Array([0, 97, 115, 109, 1, 0, 0, 0, 1, 5, 1, 96, 0, 1, 123]);
+const hasVectors = () => typeof WebAssembly === "object" && WebAssembly.validate(SMALL_MODULE);
 const BUSY_AFTER = 300; // milliseconds until a running thing shows that it runs
 
 function wireBusy() {
@@ -38,26 +40,23 @@ async function idle() {
   }
 }
 async function startPage() {
-  if (typeof WebAssembly !== "object" || !WebAssembly.validate(SMALL_MODULE)) throw new Error(NO_MEMORY);
   readIdentifiers($("identifiers").textContent);
   const library = Uint8Array.from(atob($("library").textContent.trim()), (c) => c.charCodeAt(0));
   const loaded = await openDesks(URL.createObjectURL(new Blob([$("worker").textContent], { type: "text/javascript" })), library);
   if (loaded.failed !== undefined) throw new Error(loaded.failed);
-  wireBusy(); wireDamage(); wireSource(); wireTaking(); wirePrinting(); wireLesson(); wireCamera();
+  desks.readsFiles = loaded.readsFiles;
+  wireBusy(); wireDamage(); wireSource(); wireDropping(); wireTaking(); wirePrinting(); wireLesson(); wireCamera();
   const logo = await desks.quick.ask("write", { items: Array.from("Mitsubadoor", (c) => c.charCodeAt(0)), profile: 0, hasLook: false }, "logo");
   drawSmall($("logo"), logo.modules);
-  await wireLink(restore);
+  await wireLink(restore, toast);
   wireCompare();
   globalThis.mitsubadoor = { get mark() { return mark(); }, panes, desks, idle, isLinked, spelled, gridText }; // for the tests
 }
+removeEventListener("error", showFallback); // that was for a script that can't be read or begun
 try {
-  await startPage();
+  if (hasVectors()) await startPage(); else showFallback();
 } catch (why) {
-  const isOld = why.message === NO_MEMORY || why.name === "CompileError";
-  $("broken").hidden = false;
-  $("broken").textContent = isOld
-    ? "This browser can’t run the library, which is built for WebAssembly with 64-bit memory. Recent versions of Chrome, Edge and Firefox have it."
-    : `The library couldn’t be loaded: ${why.message}`;
-  for (const node of document.querySelectorAll("main > section, main > .bench, main > details")) node.hidden = true;
-  if (!isOld) throw why;
+  showFallback();
+  $("broken").textContent = `The library couldn’t be loaded: ${why.message}`;
+  throw why;
 }

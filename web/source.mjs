@@ -1,15 +1,18 @@
 // Where the symbol comes from: a message, a grid, or a picture.
+import { bitmapOf } from "./bitmap.mjs";
 import { ASCII, MOST_TEXT, SHORTER, plural } from "./common.mjs";
 import { C40, EDIFACT, TURNED } from "./examples.mjs";
-import { brokenWords, clear, desks, isFor, look, refuse, showPane, take, work } from "./flow.mjs";
-import { gridText, isGrid } from "./grids.mjs";
+import { desks, setLimit, showPane, take } from "./flow.mjs";
+import { gridText } from "./grids.mjs";
 import { itemsOf, whyNot } from "./gs1.mjs";
-import { tellLink } from "./link.mjs";
+import { beginEntry, tellLink } from "./link.mjs";
 import { tooMuch } from "./messages.mjs";
-import { $, VALID, hint, made, panes, whenUsed } from "./state.mjs";
+import { brokenWords, clear, enter, inTurn, isBroken, refuse, settled } from "./order.mjs";
+import { $, VALID, hint, made, panes } from "./state.mjs";
+import { drawnSvg } from "./svg.mjs";
 import { refusal, stood } from "./words.mjs";
 
-const profileNow = () => ($("profile-1").checked ? SHORTER : ASCII);
+export const profileNow = () => ($("profile-1").checked ? SHORTER : ASCII);
 const STILL = "The symbol below is the one before, and isn’t read.";
 
 // ---- The message
@@ -37,181 +40,153 @@ function showSides(sides) {
 const SPELLINGS = "<code>\\\\</code> is the backslash, <code>\\F</code> FNC1, <code>\\xHH</code> a byte. "
   + "GS1 data can be entered as <code>(01)09506000134352(10)AB-42</code>.";
 
-const AS_ELEMENTS = "Taken as GS1 data. To take it as plain text, spell the first parenthesis <code>\\x28</code>.";
+const AS_ELEMENTS = "Taken as GS1 data. To take it as plain text, spell the first bracket as a byte: <code>\\x28</code> "
+  + "is ( and <code>\\x5B</code> is [.";
 
-// Writes the message that is entered. After a link, `then` is called when the symbol is there.
-export async function writeMessage(then = null) {
+// Writes the message that is entered.
+export function writeMessage() {
   const it = panes.write, text = $("message").value, read = itemsOf(text);
   fitHeight($("message"));
-  if (!read.items) { refuseMessage(whyNot(read), read.ways); return; }
-  const version = work(it), profile = profileNow();
-  const written = await desks.quick.ask("write", { items: read.items, profile }, "write");
-  if (!isFor(it, version, written)) {
-    if (it.version === version + 1 && (written?.stopped || written?.failed)) hint("message-hint", brokenWords(written), true);
+  if (!read.items) {
+    refuseMessage(`${whyNot(read)}${read.isTooMuch ? " The link doesn’t keep them." : ""}`, read.ways);
     return;
   }
-  if (written.fault) {
-    const over = read.items.length - written.fits;
-    refuseMessage(`${refusal(written.fault)} It is ${plural(over, "character", "characters")} too long.`);
+  const { items } = read, profile = profileNow();
+  enter(it, () => desks.quick.ask("write", { items: read.items, profile }, "write"), (written) => {
+    if (isBroken(written)) { refuseMessage(brokenWords(written)); return; }
+    if (written.fault) {
+      const over = items.length - written.fits;
+      refuseMessage(`${refusal(written.fault)} It is ${plural(over, "character", "characters")} too long.`);
+    } else {
+      hint("message-hint", "", false, "message");
+      $("message-hint").innerHTML = read.isElements ? AS_ELEMENTS : SPELLINGS;
+      take(it, { modules: written.modules, items, seen: written.seen });
+    }
     showSides(written.sides);
-    return;
-  }
-  hint("message-hint", "", false, "message");
-  $("message-hint").innerHTML = read.isElements ? AS_ELEMENTS : SPELLINGS;
-  showSides(written.sides);
-  take(it, { modules: written.modules, items: read.items, seen: written.seen });
-  then?.();
+  });
 }
 
 // ---- The grid
 
-export async function readGrid(text = $("grid").value, then = null) {
-  const it = panes.read;
-  if (!text.trim()) { clear(it); hint("grid-hint", "Paste the rows of a grid here.", false, "grid"); return; }
-  const version = work(it), symbol = await desks.quick.ask("grid", text, "grid");
-  if (!isFor(it, version, symbol)) return;
+function takeGrid(symbol) {
+  const it = panes.read, why = isBroken(symbol) ? brokenWords(symbol) : symbol.why;
   if (!symbol.modules) {
-    hint("grid-hint", symbol.why, true, "grid");
-    refuse(it, symbol.why);
+    hint("grid-hint", why, true, "grid");
+    refuse(it, why);
     return;
   }
   hint("grid-hint", stood(symbol, "The grid is"), false, "grid");
   take(it, symbol);
-  then?.();
+}
+export function readGrid(text = $("grid").value) {
+  const it = panes.read;
+  if (!text.trim()) { clear(it); hint("grid-hint", "Paste the rows of a grid here.", false, "grid"); return; }
+  enter(it, () => desks.quick.ask("grid", text, "grid"), takeGrid);
+}
+function enterGrid() {
+  const much = tooMuch($("grid").value);
+  hint("picture-hint", "");
+  if (!much) { readGrid(); return; }
+  $("grid").value = ""; // even to lay it out takes long
+  takeGrid({ why: much });
+}
+// Reads the symbol of the message, as it stands now.
+function readWritten() {
+  const { write, read } = panes;
+  enter(read, async () => {
+    await settled(write);
+    if (write.stage !== VALID) return { why: "There is no written symbol: the message can’t be taken." };
+    const text = gridText(write.modules);
+    return { ...await desks.quick.ask("grid", text, "written"), text };
+  }, (symbol) => {
+    $("grid").value = symbol.text ?? "";
+    takeGrid(symbol);
+  });
 }
 
 // ---- A picture. While it is looked at the pane goes on as it is; what is entered meanwhile wins.
 
 const isSvg = (file) => file.type === "image/svg+xml";
-// Browsers open SVG files only where there is a document.
-async function bitmapOf(file) {
-  const image = new Image(), url = URL.createObjectURL(file);
-  try {
-    image.src = url;
-    await image.decode();
-    return await createImageBitmap(image, { resizeWidth: image.naturalWidth || 1000, resizeHeight: image.naturalHeight || 1000 });
-  } finally { URL.revokeObjectURL(url); }
+function questionOf(file) {
+  if (isSvg(file)) return drawnSvg(file);
+  return desks.readsFiles ? { file } : bitmapOf(file);
 }
-const CANNOT = { why: "The file can’t be opened as a picture." };
-export async function lookAt(file, kind = "picture", lane = "picture", more = (question) => question) {
-  let question = { file };
-  if (isSvg(file)) {
-    try { question = { bitmap: await bitmapOf(file) }; } catch { return CANNOT; }
-  }
-  return desks.pictures.ask(kind, more(question), lane, question.bitmap ? [question.bitmap] : []);
+export async function lookAt(file, lane, { kind = "picture", more = (question) => question, tell = null } = {}) {
+  const question = await questionOf(file), { why, bitmap } = question;
+  return why ? { why } : desks.pictures.ask(kind, more(question), lane, { transfer: bitmap ? [bitmap] : [], tell });
 }
-export const pending = { pictures: 0 };
-export async function readPicture(file, name = file.name || "The picture") {
-  const it = panes.read;
+export const pending = { pictures: 0, last: null };
+export async function readPicture(file, note = "") {
+  const it = panes.read, name = file.name || "The picture";
+  beginEntry();
   showPane("read");
-  hint("picture-hint", `Looking at ${name}…`);
-  desks.pictures.tell = (progress) => hint("picture-hint", `Looking at ${name}: ${progress}…`);
-  const version = work(it);
+  pending.last = file;
   pending.pictures++;
-  const symbol = await lookAt(file).catch(() => CANNOT);
-  pending.pictures--;
-  if (it.version !== version || !symbol) {
-    if (symbol) hint("picture-hint", `${name} was given up, since something else was entered meanwhile.`);
-    return;
-  }
-  takePicture(it, symbol, name);
+  const tell = (progress) => { if (pending.last === file) hint("picture-hint", `Looking at ${name}: ${progress}…`); };
+  const question = () => lookAt(file, "picture", { tell }).finally(() => { pending.pictures--; });
+  const looking = enter(it, question, (symbol) => takePicture(symbol, name, note));
+  hint("picture-hint", `Looking at ${name}…`);
+  const isTaken = await looking;
+  if (isTaken || pending.last !== file) return;
+  hint("picture-hint", `${name} was given up, since something else was entered meanwhile.`);
 }
 // What the camera has found.
-export const showFound = (symbol, name) => takePicture(panes.read, symbol, name);
-function takePicture(it, symbol, name) {
-  if (symbol.stopped || symbol.failed !== undefined || !symbol.modules) {
-    const why = symbol.modules || symbol.why ? symbol.why : brokenWords(symbol);
-    hint("picture-hint", `${name}: ${why}`, true);
+export const showFound = (symbol, name) => enter(panes.read, () => symbol, () => takePicture(symbol, name));
+function takePicture(symbol, name, note = "") {
+  const it = panes.read;
+  if (!symbol.modules) {
+    const why = isBroken(symbol) ? brokenWords(symbol) : symbol.why;
+    hint("picture-hint", `${name}: ${why}${note}`, true);
     refuse(it, `${name}: ${why}`);
     return;
   }
   const how = symbol.how ? `, ${symbol.how}` : "";
   const words = symbol.isPhotograph ? `Found in the picture${how}, and shown upright.` : stood(symbol, "The symbol is");
-  hint("picture-hint", `${name}: side ${symbol.seen.side}. ${words}`);
+  hint("picture-hint", `${name}: side ${symbol.seen.side}. ${words}${note}`);
   $("grid").value = gridText(symbol.modules);
   hint("grid-hint", "The grid of the picture.", false, "grid");
-  tellLink(true);
   take(it, symbol);
-}
-
-// ---- Pasting and dropping
-
-const fileOf = (list) => [...(list?.files ?? [])].find((file) => file.type.startsWith("image/"));
-const isTooLong = (text) => text.length > MOST_TEXT;
-function insert(area, text) {
-  area.setRangeText(text, area.selectionStart, area.selectionEnd, "end");
-  area.dispatchEvent(new Event("input", { bubbles: true }));
-}
-function pasted(event) {
-  const file = fileOf(event.clipboardData), text = event.clipboardData.getData("text");
-  if (event.defaultPrevented) return;
-  if (file) { event.preventDefault(); readPicture(file); return; }
-  const isMessage = event.target === $("message");
-  if ((isMessage || event.target === $("grid")) && isTooLong(text)) {
-    event.preventDefault();
-    hint(isMessage ? "message-hint" : "grid-hint", `Nothing was pasted: ${tooMuch(text)}`, true);
-  } else if (isMessage && isGrid(text) && text.trim().length >= 100) { // a grid that is pasted as a message is taken as a grid
-    event.preventDefault();
-    $("grid").value = text;
-    showPane("read");
-    readGrid();
-  }
-}
-function dropped(event) {
-  document.body.classList.remove("over");
-  const file = fileOf(event.dataTransfer), text = event.dataTransfer.getData("text");
-  if (event.defaultPrevented) return;
-  event.preventDefault();
-  if (file) { readPicture(file); return; }
-  if (!text) { if (event.dataTransfer.files.length) { showPane("read"); hint("picture-hint", CANNOT.why, true); } return; }
-  if (isTooLong(text)) { hint("message-hint", `Nothing was taken: ${tooMuch(text)}`, true); return; }
-  if (isGrid(text)) { $("grid").value = text; showPane("read"); readGrid(); return; }
-  showPane("write");
-  if (event.target === $("message")) insert($("message"), text);
-  else { $("message").value = text; writeMessage(); }
-}
-function wirePasting() {
-  addEventListener("paste", pasted);
-  addEventListener("dragover", (event) => { event.preventDefault(); document.body.classList.add("over"); });
-  addEventListener("dragleave", (event) => { if (!event.relatedTarget) document.body.classList.remove("over"); });
-  addEventListener("drop", dropped);
 }
 
 // ---- From a link
 
-const withTurned = (it, places, limit) => () => {
-  if (!places.length && limit === null) return;
+// Turns these modules over, in one step, and sets the limit.
+function spoil(it, places, { limit, why }) {
+  if (!places.length && limit === null && !why) return;
   if (places.length) it.past.push(it.modules.slice());
   for (const place of places) it.modules[place] ^= 1;
-  it.limit = limit;
-  look(it);
-};
-export async function restore(held) {
-  if (held) {
-    $("message").value = held.message;
-    $(held.isShorter ? "profile-1" : "profile-0").checked = true;
-    if (held.grid) {
-      $("grid").value = gridText(held.grid);
-      const it = panes.read;
-      await readGrid($("grid").value, () => withTurned(it, held.gridDamage(it.modules.length), held.gridLimit)());
-    } else { $("grid").value = ""; clear(panes.read); }
-    showPane(held.pane);
-  }
-  const it = panes.write;
-  await writeMessage(() => { if (held) withTurned(it, held.damage(it.modules.length), held.limit)(); });
+  setLimit(it, limit, why);
+}
+// What an address without a fragment holds.
+const begun = () => ({
+  message: $("message").defaultValue, isShorter: false, grid: null, pane: "write",
+  damage: () => [], limit: { limit: null, why: "" },
+});
+export async function restore(linked) {
+  const { write, read } = panes, held = linked ?? begun();
+  $("message").value = held.message;
+  $(held.isShorter ? "profile-1" : "profile-0").checked = true;
+  $("grid").value = held.grid ? gridText(held.grid) : "";
+  readGrid();
+  inTurn(read, () => spoil(read, held.gridDamage(read.modules.length), held.gridLimit));
+  showPane(held.pane);
+  writeMessage();
+  inTurn(write, () => spoil(write, held.damage(write.modules.length), held.limit));
+  await Promise.all([read.turn, write.turn]);
 }
 
 // ---- Wiring
 
 function choosePane(name) {
+  beginEntry();
   showPane(name);
-  tellLink(true);
+  tellLink();
 }
 export function wireSource() {
   $("message").addEventListener("input", () => writeMessage());
   $("message").addEventListener("keydown", (event) => { if (event.key === "Enter") event.preventDefault(); });
   for (const profile of [ASCII, SHORTER]) $(`profile-${profile}`).addEventListener("change", () => writeMessage());
-  $("grid").addEventListener("input", () => { hint("picture-hint", ""); readGrid(); });
+  $("grid").addEventListener("input", enterGrid);
   for (const [name, other] of [["write", "read"], ["read", "write"]]) {
     $(`tab-${name}`).addEventListener("click", () => choosePane(name));
     $(`tab-${name}`).addEventListener("keydown", (event) => {
@@ -222,11 +197,6 @@ export function wireSource() {
   example("example-c40", C40);
   example("example-turned", TURNED);
   example("example-edifact", EDIFACT);
-  whenUsed("take-written", () => {
-    if (panes.write.stage !== VALID) { hint("grid-hint", "There is no written symbol: the message can’t be taken.", true); return; }
-    $("grid").value = gridText(panes.write.modules);
-    readGrid();
-  });
+  $("take-written").addEventListener("click", readWritten);
   $("picture").addEventListener("change", (event) => { if (event.target.files[0]) readPicture(event.target.files[0]); event.target.value = ""; });
-  wirePasting();
 }

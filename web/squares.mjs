@@ -1,8 +1,6 @@
 // Symbols in pictures whose modules are equal squares that stand straight.
 import { found, hasBorder } from "./grids.mjs";
 
-export const NO_COLOURS = "The picture has only one colour.";
-
 // The grey of each pixel, transparent ones as on white paper.
 export function greyOf({ data, width, height }) {
   const grey = new Uint8Array(width * height);
@@ -44,7 +42,7 @@ function sampled(isInk, pictureWidth, at, side) {
   }
   return { modules, odd: odd / (modules.length * looks * looks) };
 }
-function extent(grey) {
+export function extent(grey) {
   let least = 255, most = 0;
   for (const value of grey) {
     if (value < least) least = value;
@@ -57,7 +55,6 @@ function extent(grey) {
 // smallest comes first, since one module can also be seen as four. One that isn't read is given too if it has the border of a symbol.
 export function squareSymbol(lib, grey, width, height) {
   const [least, most] = extent(grey), middle = (least + most) / 2;
-  if (most - least < 32) return { why: NO_COLOURS };
   const isDark = (k) => grey[k] < middle, likely = [];
   for (const isInk of [isDark, (k) => !isDark(k)]) {
     const at = frame(isInk, width, height);

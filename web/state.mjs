@@ -15,11 +15,15 @@ export class Mark {
       stage: EMPTY,
       why: "", // why there is no verdict, in a bad mark
       version: 0, // grows with each change, so that an answer about an older state is known as such
-      source: 0, // grows with each symbol that is written or opened
+      entry: 0, // grows with each thing that is entered
+      isEntering: false, // whether there is no answer yet about what is entered, and the verdict is about what was before
+      turn: Promise.resolve(), // ends when what was entered, and what has been done to it, has its effect
+      looking: Promise.resolve(), // ends when the modules, as they were last, are looked at
       modules: null, // as they are now
       original: null, // as they were written or opened
       items: null, // the message that was written, if one was
       limit: null, // of wrong border modules, if it isn't the usual one
+      limitWhy: "", // why another limit, which was entered or linked, isn't taken
       past: [], // the modules before each act, to be undone
       future: [], // the modules after each act that was undone
       seen: null, // what the library says of modules: with them it is drawn

@@ -2,7 +2,9 @@
 import { sideOf } from "./common.mjs";
 import { gridText } from "./grids.mjs";
 import { linkNow } from "./link.mjs";
-import { $, VALID, hint, made, mark, whenUsed } from "./state.mjs";
+import { settled } from "./order.mjs";
+import { tooWide, wirePaper } from "./paper.mjs";
+import { $, VALID, hint, isDamaged, made, mark } from "./state.mjs";
 import { QUIET, runs, viewBox } from "./symbol.mjs";
 
 export function toast(text) {
@@ -13,11 +15,20 @@ export function toast(text) {
 }
 
 // What is given: the modules, and how they are called.
-export function given() {
-  const it = mark(), isDamagedOne = !$("which").hidden && $("which-damaged").checked;
-  return { modules: isDamagedOne ? it.modules : it.original, isDamaged: isDamagedOne, items: it.items ?? it.seen.answer.items ?? null };
+const isDamagedChosen = () => !$("which").hidden && $("which-damaged").checked;
+export function given(it = mark(), isChosen = isDamagedChosen()) {
+  const isDamagedOne = isChosen && isDamaged(it);
+  const modules = isDamagedOne ? it.modules : it.original;
+  return { modules, isDamagedOne, items: it.items ?? it.seen.answer.items ?? null };
 }
-const nameOf = ({ modules, isDamaged }, ending) => `symbol-${sideOf(modules)}${isDamaged ? "-damaged" : ""}.${ending}`;
+// Gives the symbol that is entered now, once there is an answer about it.
+export const giving = (give) => async () => {
+  const it = mark(), isChosen = isDamagedChosen();
+  await settled(it);
+  if (it.stage === VALID) give(given(it, isChosen));
+};
+const nameOf = ({ modules, isDamagedOne }, ending) =>
+  `symbol-${sideOf(modules)}${isDamagedOne ? "-damaged" : ""}.${ending}`;
 
 // Whether a text went to the clipboard.
 async function isCopied(text) {
@@ -32,13 +43,17 @@ async function isCopied(text) {
   }
 }
 const NOT_COPIED = "This browser doesn’t let the page copy. Save the symbol instead.";
-async function copySymbol() {
-  const what = given(), isDone = await isCopied(gridText(what.modules));
-  toast(isDone ? `Copied: ${what.isDamaged ? "the damaged symbol" : "the symbol"}, a line for each row` : NOT_COPIED);
+async function copySymbol({ modules, isDamagedOne }) {
+  const isDone = await isCopied(gridText(modules));
+  toast(isDone ? `Copied: ${isDamagedOne ? "the damaged symbol" : "the symbol"}, a line for each row` : NOT_COPIED);
 }
+const LONG = 8000; // characters of a link that some programs don't take whole
+const LINK_NOT_COPIED = "This browser doesn’t let the page copy. The link is in the address bar.";
 async function copyLink() {
-  const isDone = await isCopied(linkNow());
-  toast(isDone ? "Copied: a link that holds what is entered" : "This browser doesn’t let the page copy. The link is in the address bar.");
+  const link = linkNow(), isDone = await isCopied(link);
+  const count = link.length.toLocaleString("en");
+  const size = link.length > LONG ? `. It has ${count} characters, which not every program takes.` : "";
+  toast(isDone ? `Copied: a link that holds what is entered${size}` : LINK_NOT_COPIED);
 }
 export function save(blob, name) {
   const link = made("a", { href: URL.createObjectURL(blob), download: name });
@@ -52,14 +67,18 @@ const LEAST = 0.05, MOST = 20, USUAL_WIDTH = 0.5; // millimetres of a module
 const isMillimetres = () => { const { value } = $("millimetres"); return value !== "" && +value >= LEAST && +value <= MOST; };
 export const millimetres = () => (isMillimetres() ? +$("millimetres").value : USUAL_WIDTH);
 const rounded = (value) => String(+value.toFixed(2));
+// The millimetres of a symbol of this side, with its quiet zone.
+export const lengthNow = (side) => +rounded((side + 2 * QUIET) * millimetres());
 export function drawPrintSize() {
   const { seen } = mark();
   if (!isMillimetres()) { hint("print-size", `Enter ${LEAST} to ${MOST} mm. ${USUAL_WIDTH} mm is taken.`, true, "millimetres"); return; }
-  const all = seen ? rounded((seen.side + 2 * QUIET) * millimetres()) : "";
-  hint("print-size", seen ? `${all} × ${all} mm with ${QUIET} modules of quiet zone` : "", false, "millimetres");
+  const all = seen ? lengthNow(seen.side) : 0, why = tooWide(all);
+  const words = `${all} × ${all} mm with ${QUIET} modules of quiet zone`;
+  hint("print-size", seen ? `${words}${why && `. It can’t be printed: ${why}`}` : "", false, "millimetres");
+  $("print-size").classList.toggle("bad", Boolean(why));
 }
-export function plainSvg(modules, each) {
-  const side = sideOf(modules), all = side + 2 * QUIET, length = `${rounded(all * each)}mm`;
+export function plainSvg(modules) {
+  const side = sideOf(modules), all = side + 2 * QUIET, length = `${lengthNow(side)}mm`;
   return `<svg xmlns="http://www.w3.org/2000/svg" width="${length}" height="${length}" viewBox="${viewBox(side)}" shape-rendering="crispEdges">`
     + `<path fill="#fff" d="M${-QUIET} ${-QUIET}h${all}v${all}h${-all}z"/><path d="${runs(side, (k) => modules[k])}"/></svg>\n`;
 }
@@ -83,8 +102,8 @@ function withResolution(png, perMetre) {
   view.setUint32(17, crcOf(chunk.subarray(4, 17)));
   return [png.subarray(0, 33), chunk, png.subarray(33)];
 }
-function savePng() {
-  const what = given(), side = sideOf(what.modules), millimetre = millimetres();
+function savePng(what) {
+  const side = sideOf(what.modules), millimetre = millimetres();
   const each = Math.min(32, Math.max(8, Math.round(24 * millimetre))), all = (side + 2 * QUIET) * each; // about 600 an inch
   const canvas = made("canvas", { width: all, height: all }), pen = canvas.getContext("2d");
   pen.fillStyle = "#fff"; pen.fillRect(0, 0, all, all); pen.fillStyle = "#000";
@@ -94,13 +113,12 @@ function savePng() {
     save(new Blob(withResolution(png, Math.round((1000 * each) / millimetre)), { type: "image/png" }), nameOf(what, "png"));
   }, "image/png");
 }
-function saveSvg() {
-  const what = given();
-  save(new Blob([plainSvg(what.modules, millimetres())], { type: "image/svg+xml" }), nameOf(what, "svg"));
+function saveSvg(what) {
+  save(new Blob([plainSvg(what.modules)], { type: "image/svg+xml" }), nameOf(what, "svg"));
 }
-const ifValid = (action) => () => { if (mark().stage === VALID) action(); };
 export function wireTaking() {
   const actions = { copy: copySymbol, "copy-link": copyLink, "save-svg": saveSvg, "save-png": savePng };
-  for (const [id, action] of Object.entries(actions)) whenUsed(id, ifValid(action));
+  for (const [id, action] of Object.entries(actions)) $(id).addEventListener("click", giving(action));
   $("millimetres").addEventListener("input", drawPrintSize);
+  wirePaper(drawPrintSize);
 }

@@ -1,5 +1,5 @@
 // Refusals and corrections in words.
-import { BLOCK_FAULT, BORDER_FAULT, MOST_SIDE, TOO_LONG, plural } from "./common.mjs";
+import { BLOCK_FAULT, BORDER_FAULT, MOST_LIMIT, MOST_SIDE, TOO_LONG, plural } from "./common.mjs";
 
 const LEFT_OUT = {
   233: "structured append: this symbol has one part of a message that several symbols share",
@@ -34,6 +34,8 @@ export function refusal({ code, value, place }, size, limit) {
     default: return `Refused: ${code} ${value} ${place}.`;
   }
 }
+export const noLimit = (text, limit) =>
+  `${text || "This"} isn’t a whole number from 0 to ${MOST_LIMIT}: ${limit ?? "the usual limit"} is taken.`;
 // What had to be corrected or accepted, in words; empty if nothing had.
 export function borne(corrected, border) {
   const sum = corrected.reduce((a, b) => a + b, 0), parts = [];

@@ -1,5 +1,6 @@
 // The worker: it has the library, and answers the page's questions, one at a time. A question is { number, kind, given }, its answer
 // { number, answer } or, if something went wrong, { number, failed }.
+import { readsFiles } from "./bitmap.mjs";
 import { ASCII, SHORTER, TOO_LONG, sideOf } from "./common.mjs";
 import { damaged, examine, mostThatFit, plainMap } from "./examine.mjs";
 import { found, gridFrom } from "./grids.mjs";
@@ -14,7 +15,7 @@ const sideUnder = (items, profile) => lib.write(items, profile).side ?? null;
 const seen = (modules, limit = null) => ({ ...examine(lib, modules, limit), map: plainMap(lib.map(sideOf(modules))) });
 const shownOf = (symbol) => (symbol.modules ? { ...symbol, seen: seen(symbol.modules) } : symbol);
 
-// Modules with their normal symbols under both profiles, where they have them.
+// Modules with their normal grids under both profiles, where they have them.
 function judged(symbol) {
   if (!symbol.modules) return symbol;
   const shown = shownOf(symbol), { limit, answer } = shown.seen;
@@ -29,7 +30,7 @@ const picture = (given) => symbolInPicture(lib, given, (progress) => postMessage
 const ANSWERS = {
   async load(bytes) {
     lib = await Library.load(bytes);
-    return {};
+    return { readsFiles: await readsFiles() };
   },
   // The symbol of items, the sides that both profiles take, and if no size holds them how many would fit.
   write({ items, profile, hasLook = true }) {

@@ -14,7 +14,7 @@ static const char HELP[] =
     "  -a, --all            all symbols of a picture, and not only the first that is found\n"
     "  -c, --corners        before each record, its file and corners on standard error: top left, top right, bottom right, bottom left\n"
     "  -j, --json           a line of JSON for each symbol instead of a record: also message, corrections, side and corners\n"
-    "  -u, --unread         where no symbol is read, print the likeliest grid all the same\n"
+    "  -u, --unread         where no symbol is read, print the likeliest grid that has a symbol's border\n"
     "  -t, --time MS        how long to try at most for each picture, in milliseconds (usually 1000)\n"
     "  -m, --margin N       take only readings that leave N corrections of each block unused (usually 0)\n"
     "      --min-modules N  pass over symbols of fewer modules on a side\n"

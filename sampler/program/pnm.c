@@ -1,5 +1,6 @@
 #include <ctype.h>
 #include <stdbool.h>
+#include <string.h>
 
 #include "picture.h"
 
@@ -113,6 +114,8 @@ const char *pnm_read(struct bytes from, struct picture *out) {
         return problem;
     if (header.is_bits && !header.is_text)
         read_bits(&reader, out);
+    else if (!header.is_text && header.samples == 1 && header.most == 255)
+        memcpy(out->luminance, from.items + reader.at, out->width * out->height);
     else
         problem = read_samples(&reader, &header, out);
     if (problem != NULL)

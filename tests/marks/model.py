@@ -1,5 +1,6 @@
-"""A plain reader of the data codewords of a symbol, in both extents of reading: written from ISO/IEC 16022 and from the rules in
-docs/DEFINITIONS.md, and not from the library, so that what the library answers can be compared with it. It favours plainness over speed."""
+"""A plain reader of the data codewords of a symbol, in both extents of reading: written from ISO/IEC 16022 and from the
+rules in docs/DEFINITIONS.md, and not from the library, so that what the library answers can be compared with it. It
+favours plainness over speed."""
 
 FNC1 = 256
 RESERVED, LEFT_OUT, UPPER_SHIFT, TRIPLET, VALUE, LENGTH, UNFINISHED = range(7, 14)

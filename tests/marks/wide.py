@@ -1,21 +1,20 @@
-"""The library on marks of other encoders in EDIFACT and with macros, and on data codewords at random, in both extents of reading.
+"""The library on marks of other encoders in EDIFACT and with macros, and on data codewords at random, in both extents
+of reading.
 
-Mark N of wide_made.txt is record N of wide_grids.txt. In the wide extent the library has to say what was printed; where a line names another text
-behind it, the encoder has written that one, and ZXing reads it too. In the usual extent it has to answer what model.py, a plain reader of
-codewords, says. The lists of codewords are laid in symbols with check codewords that are computed here."""
+Mark N of wide_made.txt is record N of wide_grids.txt. In the wide extent the library has to say what was printed; where
+a line names another text behind it, the encoder has written that one, and ZXing reads it too. In the usual extent it
+has to answer what model.py, a plain reader of codewords, says. The lists of codewords are laid in symbols with check
+codewords that are computed here."""
 import ctypes
-import os
 import random
 import tomllib
 
-import model
+from tests.marks import model
+from tests.support import places
 
-HERE = os.path.dirname(os.path.abspath(__file__))
-LIBRARY = os.path.join(os.path.dirname(os.path.dirname(HERE)), "library", "out", "libecc200.so")
 EXTENTS = {"usual": 0, "wide": 1}
 ANY_LIMIT, BIT = 65535, 1
-with open(os.path.join(os.path.dirname(os.path.dirname(HERE)), "library", "interface.toml"), "rb") as interface:
-    NUMBERS = tomllib.load(interface)["constants"]
+NUMBERS = tomllib.loads(places.text_of("library", "interface.toml"))["constants"]
 MOST_ITEMS, MOST_MODULES, MOST_CODEWORDS, MOST_BLOCKS, SIZE_COUNT = (
     NUMBERS[name]["value"] for name in ("MOST_ITEMS", "MOST_MODULES", "MOST_CODEWORDS", "MOST_BLOCKS", "SIZE_COUNT"))
 u8, u16 = ctypes.c_uint8, ctypes.c_uint16
@@ -26,7 +25,8 @@ def struct_of(*fields):
 
 
 FAULT = [("code", u16), ("value", u16), ("place", u16)]
-READING = struct_of(*FAULT, ("side", u16), ("border_faults", u16), ("block_count", u16), ("item_count", u16), ("items", u16 * MOST_ITEMS),
+READING = struct_of(*FAULT, ("side", u16), ("border_faults", u16), ("block_count", u16), ("item_count", u16),
+                    ("items", u16 * MOST_ITEMS),
                     ("corrected", u8 * MOST_BLOCKS))
 INSPECTION = struct_of(*FAULT, ("side", u16), ("border_faults", u16), ("block_count", u16), ("codeword_count", u16),
                        ("held", u8 * MOST_CODEWORDS), ("mended", u8 * MOST_CODEWORDS), ("corrected", u8 * MOST_BLOCKS))
@@ -39,7 +39,7 @@ class Library:
     """The calls that are tried here, and the table of sizes."""
 
     def __init__(self):
-        self.calls = ctypes.CDLL(LIBRARY)
+        self.calls = ctypes.CDLL(places.SHARED)
         table = (SIZE * SIZE_COUNT)()
         self.calls.ecc200_sizes(table)
         self.sizes = {size.side: size for size in table}
@@ -47,7 +47,8 @@ class Library:
     def read(self, modules, side, extent):
         """The items of a symbol, or the fault: code, value and place."""
         out = READING()
-        code = self.calls.ecc200_read(modules, ctypes.c_size_t(len(modules)), u16(side), u16(ANY_LIMIT), u16(EXTENTS[extent]), ctypes.byref(out))
+        code = self.calls.ecc200_read(modules, ctypes.c_size_t(len(modules)), u16(side), u16(ANY_LIMIT),
+                                      u16(EXTENTS[extent]), ctypes.byref(out))
         return (out.code, out.value, out.place) if code else list(out.items[:out.item_count])
 
     def data_codewords(self, modules, side):
@@ -56,11 +57,13 @@ class Library:
         return list(out.mended[:self.sizes[side].data])
 
     def places(self, side):
-        """For each module, the index of its codeword and the weight of its bit, or None; and the modules without any."""
+        """For each module, the index of its codeword and the weight of its bit, or None; and the modules without
+        any."""
         out = PLACES()
         self.calls.ecc200_places(u16(side), ctypes.byref(out))
         at = out.places[:side * side]
-        return [(it.codeword, 8 - it.bit) if it.kind == BIT else None for it in at], bytes(it.kind in (3, 5) for it in at)
+        return [(it.codeword, 8 - it.bit) if it.kind == BIT else None
+                for it in at], bytes(it.kind in (3, 5) for it in at)
 
 
 def powers():
@@ -106,7 +109,8 @@ class Printer:
         blocks = self.size.blocks
         dealt = [checks_of(words[block::blocks], self.generator) for block in range(blocks)]
         whole = words + [check for row in zip(*dealt) for check in row]
-        return bytes(other if bit is None else whole[bit[0]] >> bit[1] & 1 for bit, other in zip(self.bits, self.others))
+        return bytes(other if bit is None else whole[bit[0]] >> bit[1] & 1
+                     for bit, other in zip(self.bits, self.others))
 
 
 def wanted_of(words, extent):
@@ -125,12 +129,14 @@ def some_words(chance, left):
     """Some codewords that mean something together, or nothing at all, where so many are left."""
     kind = chance.randrange(12)
     if kind == 0:
-        return [chance.choice([230, 239, 238])] + [word for _ in range(chance.randrange(4)) for word in pair(chance)] + [254] * chance.randrange(2)
+        return [chance.choice([230, 239, 238])] + [word for _ in range(chance.randrange(4))
+                                                   for word in pair(chance)] + [254] * chance.randrange(2)
     if kind == 1:
         count = chance.randrange(6)
         return [231] + [chance.randrange(256) for _ in range(count + 1)]
     if kind <= 5:
-        groups = [[chance.choice([31, 0, 1, 32, 63, 30, chance.randrange(64)]) for _ in range(4)] for _ in range(chance.randrange(4))]
+        groups = [[chance.choice([31, 0, 1, 32, 63, 30, chance.randrange(64)]) for _ in range(4)]
+                  for _ in range(chance.randrange(4))]
         return [240] + [word for values in groups for word in group(values)]
     if kind == 6:
         return [chance.choice([129, 232, 233, 234, 235, 236, 237, 241, 254, 124, 0, 242])]
@@ -170,11 +176,13 @@ def lists(library, count):
             if given != wanted:
                 wrong.append(f"{words} in the {extent} extent: {given}, and not {wanted}")
     yield f"{count} lists of codewords", "\n".join(wrong[:5]) or None
-    yield "some of them are read, and some refused", None if count / 10 < read < count else f"{read} of {count} are read"
+    is_mixed = count / 10 < read < count
+    yield "some of them are read, and some refused", None if is_mixed else f"{read} of {count} are read"
 
 
 def marks(made, records, message_of):
-    """Each mark of another encoder in both extents. `made` has lines, `records` grids, and `message_of` takes a line's text to bytes."""
+    """Each mark of another encoder in both extents. `made` has lines, `records` grids, and `message_of` takes a line's
+    text to bytes."""
     library = Library()
     for line, record in zip(made, records):
         encoder, side, *texts = line.split("\t")
@@ -182,6 +190,7 @@ def marks(made, records, message_of):
         name = f"{encoder}, side {side}"
         said, wanted = library.read(modules, int(side), "wide"), list(message_of(texts[-1]))
         yield f"{name}, wide", None if said == wanted else f"{said}, and not {wanted}"
-        said, wanted = library.read(modules, int(side), "usual"), wanted_of(library.data_codewords(modules, int(side)), "usual")
+        said, wanted = library.read(modules, int(side),
+                                    "usual"), wanted_of(library.data_codewords(modules, int(side)), "usual")
         is_left_out = isinstance(wanted, tuple) and wanted[:2] in ((8, 236), (8, 237), (8, 240))
         yield f"{name}, usual", None if said == wanted and is_left_out else f"{said}, and not {wanted}"

@@ -4,7 +4,8 @@ import pathlib
 import shutil
 import signal
 
-from stage import RemoteConnection, Service, on, webdriver
+from tests.page.stage import RemoteConnection, Service, UselessFileDetector, WebKitService, on, webdriver
+from tests.support import commands
 
 PATIENCE = 900  # seconds in which each command to the browser has to be answered
 WORDS = ("--headless=new", "--no-sandbox", "--disable-gpu", "--disable-dev-shm-usage", "--hide-scrollbars", "--window-size=1240,1500")
@@ -39,6 +40,18 @@ def start():
         print(f"the browser didn't start, and is started once more: {first_line(fault)}", flush=True)
         end()
         on.page = opened()
+
+
+def start_webkit(display):
+    """Starts WebKit's own browser on a display of X, by its driver."""
+    RemoteConnection.set_timeout(PATIENCE)
+    room = commands.environment(DISPLAY=display, HOME=str(on.folder))
+    service = WebKitService(shutil.which("WebKitWebDriver"), env=room, popen_kw={"start_new_session": True})
+    started.append(service)
+    service.start()
+    on.page = webdriver.Remote(service.service_url, options=webdriver.WebKitGTKOptions())
+    on.page.file_detector = UselessFileDetector()  # files lie where the browser finds them
+    on.page.set_script_timeout(PATIENCE)
 
 
 def start_again(part, fault):

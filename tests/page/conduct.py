@@ -2,8 +2,10 @@
 import base64
 import re
 
-from pictures import chunks, opened, png
-from stage import By, Keys, agree, cells, changed, click, count, find, grid, media, metrics, on, pointed, push, put, run, settle, shown, text_of, told, unseen, usable, usual_metrics, wait_for, write, written
+from tests.page.pictures import chunks, opened, png
+from tests.page.stage import (By, Keys, acting, agree, cells, changed, click, count, find, grid, media, metrics, on,
+                              pointed, push, put, run, settle, shown, text_of, unseen, usable, usual_metrics, wait_for,
+                              write, written)
 
 NOTHING = ("Nothing is read", "")
 GIVING = ("copy", "save-svg", "save-png", "print")
@@ -79,6 +81,8 @@ def each_pane_keeps_its_state():
 def a_picture_does_not_win():
     """A picture is looked at only when a gate is opened; what is entered meanwhile stays."""
     push("tab-read")
+    begin = "const { pictures } = mitsubadoor.desks; (pictures.ready ?? pictures.start()).then(() => arguments[0]())"
+    on.page.execute_async_script(begin)  # its worker has the library before there are gates
     run("""const { pictures } = mitsubadoor.desks, ask = pictures.ask;
            globalThis.gates = [];
            pictures.ask = async function (...rest) { await new Promise((open) => gates.push(open)); return ask.apply(this, rest); };""")
@@ -231,8 +235,14 @@ def rows():
 
 def gs1():
     fine = "09506000134352"
-    for text, line in ((f"(01){fine}(10)AB-42", f"\\F01{fine}10AB-42"), (f"(10)AB-42(01){fine}", f"\\F10AB-42\\F01{fine}"), ("(10)A(B)\\x25", "\\F10A(B)%"),
-                       ("(21)1(10)2(17)271231(37)5", "\\F211\\F102\\F1727123137" + "5"), ("\\x2801)5", "(01)5"), ("(5)a", "(5)a")):
+    for text, line in (
+        (f"(01){fine}(10)AB-42", f"\\F01{fine}10AB-42"),
+        (f"(10)AB-42(01){fine}", f"\\F10AB-42\\F01{fine}"),
+        ("(10)A\\x28B)\\x25", "\\F10A(B)%"),
+        ("(21)1(10)2(17)271231(37)5", "\\F211\\F102\\F1727123137" + "5"),
+        ("\\x2801)5", "(01)5"),
+        ("a(5)", "a(5)"),
+    ):
         write(text)
         count.expect(f"{text} as a symbol", grid(), written(line))
         agree(f"{text} read")
@@ -372,6 +382,33 @@ def lesson():
     run("document.getElementById('lesson').open = false")
 
 
+def slider():
+    """The slider of the lesson follows the mouse as long as it is held."""
+    write("A" * 10 + "123")
+    run("document.getElementById('lesson').open = true")
+    settle()
+    while text_of("step-count") != "Step 5 of 6: Places":
+        push("step-on" if usable("step-on") else "step-back")
+    slide, width = find("walk"), find("walk").rect["width"]
+    run("""globalThis.walked = [];
+           const one = (where) => document.querySelector(where);
+           const now = () => [+one('#walk').value, one('#step output').textContent,
+               one('#walk-words').textContent.split(',')[0], one('#path .way').getAttribute('d').split('L').length];
+           one('#step').addEventListener('input', () => walked.push(now()));""")
+    chain = acting().move_to_element_with_offset(slide, 8 - width / 2, 0).click_and_hold()
+    for share in (0.3, 0.6, 0.99):
+        chain.move_to_element_with_offset(slide, (share - 0.5) * width, 0).pause(0.1)
+    chain.release().perform()
+    walked = run("return walked")
+    last = [24, "24 of 24", "Codeword 24", 24]
+    count.expect("the slider goes on while it is held", (len(walked) >= 3, walked[-1]), (True, last))
+    odd = [it for it in walked if it[1:] != [f"{it[0]} of 24", f"Codeword {it[0]}", it[0]]]
+    count.expect("what it shows goes along", odd, [])
+    slide.send_keys(Keys.ARROW_LEFT)
+    count.expect("by keys", run("return walked.at(-1)"), [23, "23 of 24", "Codeword 23", 23])
+    run("document.getElementById('lesson').open = false")
+
+
 # ---- Words and looks
 
 def words_and_looks():
@@ -477,4 +514,5 @@ def pasted_pictures():
     count.expect("the message has its symbol", verdict(), ("Read", "123456"))
 
 
-PARTS = [never_stale, each_pane_keeps_its_state, a_picture_does_not_win, names_follow, gives_what_it_says, nothing_freezes, phones, gs1, links, print_, lesson, words_and_looks, dropped, pasted_pictures]
+PARTS = [never_stale, each_pane_keeps_its_state, a_picture_does_not_win, names_follow, gives_what_it_says,
+         nothing_freezes, phones, gs1, links, print_, lesson, slider, words_and_looks, dropped, pasted_pictures]

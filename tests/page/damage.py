@@ -3,7 +3,7 @@ import collections
 import random
 import re
 
-from stage import By, Keys, QUIET, SHOWN, acting, agree, as_program, cells, changed, click, coloured, count, drawn, find, grid, offset, on, pointed, push, put, ran, run, settle, shown, text_of, to_top, told, unseen, usable, value_at, wait_for, write, written
+from tests.page.stage import By, Keys, QUIET, SHOWN, acting, agree, as_program, cells, changed, click, coloured, count, drawn, find, grid, offset, on, pointed, push, put, ran, run, settle, shown, text_of, to_top, told, unseen, usable, value_at, wait_for, write, written
 
 
 def small_symbol():

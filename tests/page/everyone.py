@@ -1,5 +1,12 @@
 """The page connects to nobody and serves everyone: contrast, names, narrow screens, old browsers."""
-from stage import By, count, find, media, metrics, on, push, run, text_of, usual_metrics, wait_for, write
+import contextlib
+import sys
+
+from tests.page.stage import By, count, find, media, metrics, on, push, run, usual_metrics, wait_for, write
+from tests.support import places
+
+sys.path.insert(0, places.path("web"))
+import pack
 
 
 def one_file():
@@ -48,13 +55,46 @@ def to_be_seen_by_all():
     usual_metrics()
 
 
+SENTENCE = ("This browser can’t run the page, which needs WebAssembly with SIMD. Chrome, Edge and Firefox have had that since 2021,"
+            " Safari since 2023.")
+OTHERS = "main > section, main > .bench, main > details"
+LACKS = {"SIMD": "WebAssembly.validate = () => false", "WebAssembly": "delete globalThis.WebAssembly"}
+
+
+@contextlib.contextmanager
+def begun_with(source):
+    """Meanwhile each page runs this script before its own."""
+    script = on.page.execute_cdp_cmd("Page.addScriptToEvaluateOnNewDocument", {"source": source})
+    try:
+        yield
+    finally:
+        on.page.execute_cdp_cmd("Page.removeScriptToEvaluateOnNewDocument", script)
+
+
+def says_so(name):
+    """The page says what it needs, and shows nothing that wouldn't work."""
+    wait_for(lambda: find("broken").is_displayed())
+    count.expect(name, " ".join(find("broken").text.split()), SENTENCE)
+    seen = [it.is_displayed() for it in on.page.find_elements(By.CSS_SELECTOR, OTHERS)]
+    count.expect(f"{name}: nothing else", (any(seen), len(seen) > 3), (False, True))
+
+
+def open_unreadable():
+    """Opens the page with a script that no browser can read."""
+    file = on.folder / "unreadable.html"
+    file.write_text(pack.packed(b"", {**pack.sources(), "page.mjs": "a word too many"}), encoding="utf-8")
+    on.page.get(file.as_uri())
+
+
 def old_browser():
-    """In a browser without 64-bit memory the page says so, and shows nothing that wouldn't work."""
-    script = on.page.execute_cdp_cmd("Page.addScriptToEvaluateOnNewDocument", {"source": "WebAssembly.validate = () => false"})
-    on.page.refresh()
-    said = wait_for(lambda: text_of("broken"))
-    count.expect("old browser", said, "This browser can’t run the library, which is built for WebAssembly with 64-bit memory. Recent versions of Chrome, Edge and Firefox have it.")
-    count.expect("old browser: nothing else", [it.is_displayed() for it in on.page.find_elements(By.CSS_SELECTOR, "main > section, main > .bench, main > details")], [False] * 5)
-    on.page.execute_cdp_cmd("Page.removeScriptToEvaluateOnNewDocument", script)
-    on.page.refresh()
+    """A browser without WebAssembly or SIMD says what the page needs, and so does one that can't read its script."""
+    own = on.page.current_url
+    for name, source in LACKS.items():
+        with begun_with(source):
+            on.page.refresh()
+            says_so(f"without {name}")
+    open_unreadable()
+    says_so("with a script that it can't read")
+    count.expect("what the console says", ["SyntaxError" in entry["message"] for entry in on.page.get_log("browser")], [True])
+    on.page.get(own)
     wait_for(lambda: run("return 'mitsubadoor' in globalThis"))

@@ -2,11 +2,13 @@
 import base64
 import json
 import pathlib
+import random
 import shutil
 import subprocess
 
-from pictures import chunks, opened, png
-from stage import DEBIANS, count, find, on, push, run, settle, shown, text_of, wait_for, write, written
+from tests.page.bounds import drop
+from tests.page.pictures import chunks, opened, png
+from tests.page.stage import DEBIANS, count, find, on, push, put, run, settle, shown, text_of, wait_for, write, written
 
 MAKER = pathlib.Path(__file__).resolve().parents[2] / "bench" / "photographs"
 SHARE = 17  # of each kind every so many: they have different sizes
@@ -114,4 +116,80 @@ def camera():
     write("123456")
 
 
-PARTS = [turned_about, camera, photographs]
+SLOW_CAMERA = """
+    globalThis.streams = [];
+    globalThis.allowed = [];
+    const canvas = Object.assign(document.createElement('canvas'), { width: 480, height: 480 });
+    const pen = canvas.getContext('2d');
+    globalThis.painter = setInterval(() => { pen.fillStyle = '#bbb'; pen.fillRect(0, 0, 480, 480); }, 50);
+    const allow = () => { const stream = canvas.captureStream(20); streams.push(stream); return stream; };
+    const getUserMedia = () => new Promise((then) => allowed.push(() => then(allow())));
+    Object.defineProperty(navigator, 'mediaDevices', { configurable: true, value: { getUserMedia } });
+    document.getElementById('camera').hidden = false;"""
+
+
+def camera_ends():
+    """The camera is off after Stop, however often it was asked for, when the other pane is opened, the page is out of
+    sight, or something else is entered; what is entered stays."""
+    push("tab-read", "example-c40")
+    run(SLOW_CAMERA)
+    tracks = lambda: run("return streams.flatMap((stream) => stream.getTracks().map((track) => track.readyState))")
+    allow = lambda: run("for (const each of allowed.splice(0)) each()")
+
+    def on_again():
+        run("streams.length = 0; document.getElementById('camera').click()")
+        allow()
+        wait_for(lambda: find("viewfinder").is_displayed())
+        count.expect("the camera is on", tracks(), ["live"])
+
+    run("const button = document.getElementById('camera'); button.click(); button.click()")
+    allow()
+    wait_for(lambda: find("viewfinder").is_displayed())
+    run("document.getElementById('camera-off').click()")
+    said = lambda: text_of("picture-hint")
+    seen = (set(tracks()), find("viewfinder").is_displayed(), said())
+    count.expect("asked for twice and stopped", seen, ({"ended"}, False, "The camera is off."))
+    on_again()
+    push("tab-write")
+    count.expect("behind the other pane", tracks(), ["ended"])
+    push("tab-read")
+    why = "The camera is off, since the other pane was opened."
+    count.expect("behind the other pane, said", (said(), shown()["says"]), (why, "Every answer is proved."))
+    on_again()
+    put("grid", written("typed"))
+    why = "The camera is off, since something else was entered."
+    count.expect("a grid that was typed", (tracks(), said(), shown()["says"]), (["ended"], why, "typed"))
+    on_again()
+    run("""Object.defineProperty(document, 'hidden', { configurable: true, value: true });
+           document.dispatchEvent(new Event('visibilitychange'));
+           delete document.hidden;""")
+    why = "The camera is off, since the page was out of sight."
+    count.expect("out of sight", (tracks(), said()), (["ended"], why))
+    run("streams.length = 0; document.getElementById('camera').click()")
+    push("tab-write")
+    count.expect("allowed before the other pane was opened, or not at all", tracks(), [])
+    allow()
+    count.expect_soon("allowed after that", tracks, ["ended"])
+    beside_pictures(allow)
+    run("clearInterval(painter); delete navigator.mediaDevices")
+    write("123456")
+
+
+def beside_pictures(allow):
+    """A picture that waits for another is looked at, though the camera is on by then."""
+    push("tab-read")
+    asked = lambda: run("return mitsubadoor.desks.pictures.count")
+    noise = ["".join(random.choice("01") for _ in range(53)) for _ in range(53)]
+    drop("body", [("noise.png", "image/png", png(noise, 9, 2))])
+    drop("body", [("waiting.png", "image/png", png(written("in its turn").split("\n"), 5, 2))])
+    before = asked()
+    run("document.getElementById('camera').click()")
+    allow()
+    wait_for(lambda: asked() > before)
+    said = "waiting.png: side 16. Read as it stands."
+    count.expect_soon("a picture that waits", lambda: text_of("picture-hint"), said)
+    run("document.getElementById('camera-off').click()")
+    settle()
+
+
+PARTS = [turned_about, camera, camera_ends, photographs]

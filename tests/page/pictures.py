@@ -5,7 +5,7 @@ import struct
 import subprocess
 import zlib
 
-from stage import Keys, agree, count, find, grid, on, push, put, run, settle, shown, text_of, turned, usable, wait_for, write, written
+from tests.page.stage import Keys, agree, count, find, grid, on, push, put, run, settle, shown, text_of, turned, usable, wait_for, write, written
 
 
 def png(rows, scale, around, light=255, dark=0):
@@ -72,6 +72,10 @@ def pictures():
     before = grid()
     noise = ["".join(random.choice("01") for _ in range(23)) for _ in range(23)]
     no_symbol = "No symbol that can be read was found in the picture."
+    (on.folder / "beside.png").write_bytes(png(noise, 5, 2))
+    find("picture-A").send_keys(str(on.folder / "beside.png"))
+    count.expect_soon("a picture without a symbol in a slot", lambda: no_symbol in find("slot-a").text, True)
+    count.expect("what is said of a picture stays, whatever is looked at in a slot", text_of("picture-hint"), said)
     whole = png(rows, 8, 3)
     for name, body, why in (("noise.png", png(noise, 5, 2), no_symbol), ("white.png", png(["0" * 10] * 10, 2, 2), "The picture has only one colour."),
                             ("square.png", png(["1" * 10] * 10, 8, 3), no_symbol), ("text.png", b"no picture", "The file can’t be opened as a picture."),

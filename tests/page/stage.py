@@ -1,9 +1,7 @@
-"""What the parts of the page's test have in common: the program, the page in its browser, and the count of what was compared."""
+"""What the parts of the page's test have in common: the program, the page in its browser, and what was compared."""
 import contextlib
-import os
 import re
 import subprocess
-import sys
 import time
 
 DEBIANS = "/usr/bin/python3"
@@ -13,11 +11,11 @@ try:
     from selenium.webdriver.common.action_chains import ActionChains
     from selenium.webdriver.common.by import By
     from selenium.webdriver.common.keys import Keys
+    from selenium.webdriver.remote.file_detector import UselessFileDetector
     from selenium.webdriver.remote.remote_connection import RemoteConnection
+    from selenium.webdriver.webkitgtk.service import Service as WebKitService
 except ImportError:
-    if os.path.realpath(sys.executable) != os.path.realpath(DEBIANS) and os.path.exists(DEBIANS):
-        os.execv(DEBIANS, [DEBIANS, *sys.argv])  # Debian's packages are seen by Debian's interpreter alone
-    webdriver = ActionChains = By = Keys = RemoteConnection = Service = None
+    webdriver = ActionChains = By = Keys = RemoteConnection = Service = UselessFileDetector = WebKitService = None
 
 QUIET = 2
 LEFT_OUT = {"structured append": 233, "reader programming": 234, "macro 05": 236, "macro 06": 237, "EDIFACT": 240, "an ECI": 241}
@@ -43,17 +41,17 @@ class Failed(Exception):
 
 
 class Count:
-    passed = failed = 0
+    """What was compared: rows, each a name, what came, and what is wanted."""
+
     stops = False
 
+    def __init__(self):
+        self.rows = []
+
     def expect(self, name, got, wanted):
-        if got == wanted:
-            self.passed += 1
-            return
-        self.failed += 1
-        if self.stops:
+        if self.stops and got != wanted:
             raise Failed(name)
-        print(f"{name}: {str(got)[:600]!r}, and not {str(wanted)[:600]!r}", flush=True)
+        self.rows.append((name, got, wanted))
 
     def expect_soon(self, name, what, wanted):
         """As `expect`, of what takes its time."""
@@ -85,9 +83,11 @@ def is_wide(answer):
     return re.match(r"refused 8 (236 1|237 1|240 \d+)$", answer[0]) is not None
 
 
-def told(grids):
-    """What the program's `read` and `check` answer to grids: message and counts, or the refusal."""
-    reads, checks = (ran(task, "\n".join(grid.rstrip("\n") + "\n" for grid in grids)).splitlines() for task in ("read", "check"))
+def told(grids, *more):
+    """What the program's `read` and `check` answer to grids: message and counts, or the refusal. `more` may set the
+    limit."""
+    text = "\n".join(grid.rstrip("\n") + "\n" for grid in grids)
+    reads, checks = (ran(task, text, *more).splitlines() for task in ("read", "check"))
     return [(f"refused {refused(check)}",) * 2 if check.startswith("\\no ") else (read, check) for read, check in zip(reads, checks)]
 
 

@@ -1,8 +1,8 @@
 """Messages, profiles, grids as text, marks of other encoders, and two symbols compared."""
 import pathlib
 
-from pictures import png
-from stage import By, Keys, agree, as_program, count, find, grid, is_wide, on, push, put, run, settle, shown, text_of, told, turned, unseen, write, written
+from tests.page.pictures import png
+from tests.page.stage import By, Keys, agree, as_program, count, find, grid, is_wide, on, push, put, run, settle, shown, text_of, told, turned, unseen, write, written
 
 HERE = pathlib.Path(__file__).resolve().parent
 # The marks of other encoders, and three that dmtxwrite made (-e c, t and x): characters of each shift set, with and without an Upper Shift.
@@ -135,8 +135,8 @@ def wide_marks():
 
 def compared():
     head = lambda: run("return [...document.querySelectorAll('#same strong, #same p')].map((it) => it.textContent)")
-    count.expect("same", head(), ["Yes, they say the same.", "Their modules differ, but both have this one normal symbol:"])
-    count.expect("one normal symbol", len(find("same").find_elements(By.TAG_NAME, "svg")), 1)
+    count.expect("same", head(), ["Yes, they say the same.", "Their modules differ, but both have this one normal grid:"])
+    count.expect("one normal grid", len(find("same").find_elements(By.TAG_NAME, "svg")), 1)
     area = lambda slot: find(f"slot-{slot}").find_element(By.TAG_NAME, "textarea")
 
     def fill(slot, text):
@@ -149,15 +149,15 @@ def compared():
 
     write("another")
     take("a")
-    count.expect("different", (head(), len(find("same").find_elements(By.TAG_NAME, "svg"))), (["No, they say different things.", "Their normal symbols differ:"], 2))
+    count.expect("different", (head(), len(find("same").find_elements(By.TAG_NAME, "svg"))), (["No, they say different things.", "Their normal grids differ:"], 2))
     fill("b", "1" * 10 + "\n" + "0" * 9)
     count.expect("no grid", head(), ["No answer", "Symbol B isn’t a grid."])
     fill("b", "another")
-    count.expect("a message", head(), ["Yes, they say the same.", "Both have this one normal symbol:"])
+    count.expect("a message", head(), ["Yes, they say the same.", "Both have this one normal grid:"])
     fill("b", "caf\u00e9")
     count.expect("no message", (head(), "Column 4 is \u00e9" in find("slot-b").text), (["No answer", "Symbol B can’t be taken."], True))
     take("b")
-    count.expect("alike", head(), ["Yes, they say the same.", "Both have this one normal symbol:"])
+    count.expect("alike", head(), ["Yes, they say the same.", "Both have this one normal grid:"])
     fill("b", turned(written("another"), 1, False, True))
     count.expect("turned", (head()[0], "inverted, light for dark, and turned a quarter to the right" in find("slot-b").text), ("Yes, they say the same.", True))
     fill("b", turned(written("Another"), 1, False, True))
@@ -168,7 +168,7 @@ def compared():
     write(message, 0)
     push("to-limit")
     take("b")
-    count.expect("two profiles", head(), ["Yes, they say the same.", "Their modules differ, but both have this one normal symbol:"])
+    count.expect("two profiles", head(), ["Yes, they say the same.", "Their modules differ, but both have this one normal grid:"])
     message = "".join(f"\\x{128 + k % 128:02X}" for k in range(700))
     write(message, 1)
     take("a")
@@ -184,5 +184,5 @@ def compared():
     fill("a", "another")
     find("picture-B").send_keys(str(picture))
     settle()
-    count.expect("a picture", head(), ["Yes, they say the same.", "Both have this one normal symbol:"])
+    count.expect("a picture", head(), ["Yes, they say the same.", "Both have this one normal grid:"])
     count.expect("large enough to see", find("slot-b").find_element(By.TAG_NAME, "svg").rect["width"] >= 200, True)

@@ -4,17 +4,18 @@ import os
 import shutil
 import subprocess
 
-TOP = os.path.dirname(os.path.dirname(os.path.dirname(os.path.abspath(__file__))))
-PACKAGE = os.path.join(TOP, "library", "python", "out", "tree")
-SHARED = os.environ.get("ECC200_LIBRARY") or os.path.join(TOP, "library", "out", "libecc200.so")
-SAMPLER = os.environ.get("ECC200_SAMPLE_LIBRARY") or os.path.join(TOP, "sampler", "out", "libecc200_sample.so")
-MARKS = os.path.join(TOP, "tests", "marks")
+from tests.support import package, places
+
+TOP, MARKS, SHARED = places.TOP, places.MARKS, places.SHARED
+SAMPLER = os.environ.get("ECC200_SAMPLE_LIBRARY") or places.path("sampler", "out", "libecc200_sample.so")
+PACKAGE = package.tree()
 PYTHON = "/usr/bin/python3"  # Debian's, for which numpy, Pillow and mypy are installed
 
 left_out = []
-subprocess.run([os.path.join(TOP, "library", "python", "tree"), PACKAGE], check=True)
 # Each of some hundreds of interpreters would compile the package anew otherwise.
 subprocess.run([PYTHON, "-m", "compileall", "-q", PACKAGE], check=True)
+if os.path.isfile(SAMPLER):
+    os.environ["ECC200_SAMPLE_LIBRARY"] = SAMPLER
 
 
 def same(name, got, wanted):
@@ -50,6 +51,14 @@ def has(program, what):
     if shutil.which(program):
         return True
     left_out.append(f"{what} ({program} isn't installed)")
+    return False
+
+
+def has_sampler(what):
+    """Whether the sampler's library is built; if it isn't, what it is needed for is left out."""
+    if os.path.isfile(SAMPLER):
+        return True
+    left_out.append(f"{what} (the library ecc200_sample isn't built)")
     return False
 
 

@@ -2,9 +2,10 @@
 import importlib.util
 import io
 import os
+import pathlib
 import zlib
 
-from common import SAMPLER, TOP, has, holds, left_out, raises, run, same, wanted_module
+from tests.python.common import PACKAGE, PYTHON, SAMPLER, SHARED, TOP, clean, has, has_sampler, holds, left_out, raises, run, same, wanted_module
 
 import ecc200
 from ecc200 import drawing, pictures
@@ -100,6 +101,189 @@ def symbols():
         yield same("read from a picture", ecc200.read(picture).data, b"123456")
 
 
+def unloadable(folder):
+    """A sampler's library that is there, and lacks another that it needs, isn't said to be missing."""
+    if not has("cc", "a library that can't be loaded"):
+        return
+    gone, path = os.path.join(folder, "libgone.so"), os.path.join(folder, "libecc200_sample.so")
+    run(["cc", "-shared", "-o", gone, "-Wl,-soname,libgone.so.7", "-x", "c", "-"])
+    run(["cc", "-shared", "-o", path, "-x", "c", "-", "-x", "none", "-Wl,--no-as-needed", gone])
+    os.remove(gone)
+    env = clean(PYTHONPATH=PACKAGE, ECC200_LIBRARY=SHARED, ECC200_SAMPLE_LIBRARY=path, COLUMNS="500")
+    asked = "import ecc200; print(ecc200.has_sampler(), flush=True); ecc200.find([])"
+    status, output, errors = run([PYTHON, "-c", asked], env=env)
+    yield same("a library that can't be loaded", (status, output), (1, "False\n"))
+    help_told = run([PYTHON, "-m", "ecc200", "read", "--help"], env=env)[1]
+    for name, told in (("the module", errors), ("the command", help_told)):
+        parts = [f"{path} is there, but can't be loaded: libgone.so.7", "libdmtx0b"]
+        is_told = all(part in told for part in parts) and "isn't installed" not in told
+        yield holds(f"{name} names what is lacking", is_told, told)
+
+
+# ---- What decode takes
+
+def texts(given, **more):
+    return [reading.text for reading in ecc200.decode(given, **more)]
+
+
+def taken(folder):
+    """Grids and symbols, in memory and in files; what is none of these is no empty list."""
+    symbol, other = ecc200.encode(b"123456"), ecc200.encode("Mitsubadoor", charset="ascii")
+    path = os.path.join(folder, "two.txt")
+    with open(path, "w", encoding="ascii") as file:
+        file.write(f"{symbol}\n{other}\n")
+    with open(path, "rb") as file:
+        two = {"an open file": file, "bytes": file.read(), "a path": path, "a Path": pathlib.Path(path)}
+        file.seek(0)
+        for name, given in {**two, "text": two["bytes"].decode(), "CR": two["bytes"].replace(b"\n", b"\r\n")}.items():
+            yield same(f"two grids as {name}", texts(given), ["123456", "Mitsubadoor"])
+    yield same("a symbol", texts(symbol), ["123456"])
+    for call in (ecc200.read, ecc200.normal, ecc200.inspect):
+        yield same(f"{call.__name__} of a symbol", call(other), call(other.rows))
+    with open(path, encoding="ascii") as file:
+        yield raises("a file that is open for text", TypeError, "'rb'", lambda: ecc200.decode(file))
+    none = os.path.join(folder, "none.png")
+    yield raises("a path of nothing", FileNotFoundError, "none.png", lambda: ecc200.decode(none))
+    yield raises("a grid with another character", ValueError, "'10x'", lambda: ecc200.decode("10x\n101\n111\n"))
+    for name, given in {"a number": 7, "nothing": None}.items():
+        yield raises(f"decode of {name}", TypeError, "", lambda given=given: ecc200.decode(given))
+    fault = TypeError if wanted_module("PIL.Image", "Pillow", "what is no picture") else ImportError
+    for name, given in {"no bytes": b"", "other bytes": b"no picture", "a square of them": b"abcd" * 25,
+                        "a broken picture": b"\x89PNG\r\n\x1a\nrubbish",
+                        "an open file": io.BytesIO(b"rubbish")}.items():
+        yield raises(f"decode of {name}", fault, "", lambda given=given: ecc200.decode(given))
+
+
+def saved(folder):
+    """A symbol's file is of the kind that its name says, and is read again."""
+    symbol = ecc200.encode(b"123456")
+    grid = str(symbol).encode()
+    for name, wanted in {"a.png": symbol.png(600), "a.PNG": symbol.png(600), "a.svg": symbol.svg(),
+                         "a.pdf": symbol.pdf(), "a.txt": grid}.items():
+        path = pathlib.Path(folder, name)
+        symbol.save(path, dpi=600)
+        yield same(f"saved as {name}", path.read_bytes(), wanted)
+    symbol.save(os.path.join(folder, "usual.png"))
+    yield same("saved as usual", pathlib.Path(folder, "usual.png").read_bytes(), symbol.png())
+    yield same("a saved grid is read", texts(os.path.join(folder, "a.txt")), ["123456"])
+    yield raises("saved as another kind", ValueError, "a.gif: its name should end with .png, .svg, .pdf, .txt",
+                 lambda: symbol.save(os.path.join(folder, "a.gif")))
+    if os.path.isfile(SAMPLER) and wanted_module("PIL.Image", "Pillow", "a saved picture"):
+        yield same("a saved picture is read", texts(os.path.join(folder, "a.png")), ["123456"])
+
+
+def in_files(folder):
+    """Pictures as the bytes of a file, as an open file, as a path; also without the sampler."""
+    image = wanted_module("PIL.Image", "Pillow", "files of pictures")
+    if not image:
+        return
+    path, picture = os.path.join(folder, "label.png"), ecc200.encode(b"123456", quiet=4).png()
+    with open(path, "wb") as file:
+        file.write(picture)
+    given = {"bytes": picture, "a bytearray": bytearray(picture), "a memoryview": memoryview(picture), "a path": path,
+             "a Path": pathlib.Path(path), "bytes in memory": io.BytesIO(picture)}
+    lone = "import ecc200; print([found.text for found in ecc200.decode({!r})])"
+    env = clean(PYTHONPATH=PACKAGE, ECC200_LIBRARY=SHARED, ECC200_SAMPLE_LIBRARY=os.path.join(folder, "none.so"))
+    status, _, errors = run([PYTHON, "-c", lone.format(path)], env=env)
+    yield holds("a picture without the sampler", status == 1 and "SamplerMissing" in errors, errors)
+    small = os.path.join(folder, "small.png")
+    ecc200.encode(b"123456", module=25.4 / 300).save(small)
+    yield same("a pixel a module without the sampler", run([PYTHON, "-c", lone.format(small)], env=env),
+               (0, "['123456']\n", ""))
+    if not os.path.isfile(SAMPLER):
+        left_out.append("symbols in files of pictures (the library ecc200_sample isn't built)")
+        return
+    for name, some in given.items():
+        yield same(f"a picture as {name}", texts(some), ["123456"])
+    with image.Image.open(path) as opened:
+        pixels, width, height = ecc200.luminance(opened)
+    view = memoryview(pixels).cast("B", (height, width))
+    yield same("a picture as a view of its rows", texts(view), ["123456"])
+    grid = memoryview(b"".join(ecc200.write(b"123456"))).cast("B", (10, 10))
+    yield same("a grid as a view of its rows", texts(grid), ["123456"])
+    corners = ecc200.decode(path)[0].corners
+    in_modules = [tuple(round(value / 6) for value in corner) for corner in corners]  # a module has six dots
+    yield same("corners of a reading", in_modules, [(4, 4), (14, 4), (14, 14), (4, 14)])
+    yield same("those of what is found", [symbol.corners for symbol in pictures.find(path)], [corners])
+    yield raises("find in bytes that are no picture", TypeError, "neither", lambda: pictures.find(b"rubbish"))
+
+
+def leaves(image):
+    """Three pages: two symbols of one message, nothing, a symbol of another."""
+    drawn = (ecc200.encode(message, quiet=4).png() for message in (b"first", b"third"))
+    first, third = (image.open(io.BytesIO(data)).convert("L") for data in drawn)
+    pages = [image.new("L", (2 * first.width, first.height), 255) for _ in range(3)]
+    pages[0].paste(first, (0, 0))
+    pages[0].paste(first, (first.width, 0))
+    pages[2].paste(third, (0, 0))
+    return pages
+
+
+def paged(folder):
+    """Each page of a TIFF and of a GIF is looked at, and a picture stands at its first page afterwards."""
+    pillow = wanted_module("PIL.Image", "Pillow", "pages of pictures")
+    if not pillow or not has_sampler("pages of pictures"):
+        return
+    image = pillow.Image
+    pages, quickly = leaves(image), {"milliseconds": 300}
+    for kind in ("tiff", "gif"):
+        path = os.path.join(folder, f"pages.{kind}")
+        pages[0].save(path, save_all=True, append_images=pages[1:])
+        yield same(f"the pages of a {kind}", texts(path, **quickly), ["first", "first", "third"])
+        yield same(f"where they are, {kind}", [symbol.page for symbol in pictures.find(path, **quickly)], [1, 1, 3])
+        yield same(f"one symbol of each page, {kind}", texts(path, most=1, **quickly), ["first", "third"])
+        with image.open(path) as picture:
+            got = texts(picture, **quickly), picture.tell()
+            yield same(f"Pillow's {kind}", got, (["first", "first", "third"], 0))
+            picture.seek(2)
+            yield same(f"a later page of Pillow's {kind}", (texts(picture, **quickly), picture.tell()), (["third"], 2))
+    with open(os.path.join(folder, "pages.tiff"), "rb") as file:
+        whole = file.read()
+    yield raises("a page that is cut off", ValueError, "page 3", lambda: ecc200.decode(whole[:-200], **quickly))
+
+
+def stored(rows, orientation):
+    """Pixels as a camera stores them with an orientation of EXIF: where in the scene the first row and column lie."""
+    height, width = len(rows), len(rows[0])
+    at = {1: lambda y, x: (y, x), 2: lambda y, x: (y, width - 1 - x), 3: lambda y, x: (height - 1 - y, width - 1 - x),
+          4: lambda y, x: (height - 1 - y, x), 5: lambda y, x: (x, y), 6: lambda y, x: (x, width - 1 - y),
+          7: lambda y, x: (height - 1 - x, width - 1 - y), 8: lambda y, x: (height - 1 - x, y)}[orientation]
+    sides = (width, height) if orientation > 4 else (height, width)
+    places = [[at(y, x) for x in range(sides[1])] for y in range(sides[0])]
+    return [bytes(rows[y][x] for y, x in line) for line in places]
+
+
+def photograph(image, rows, orientation):
+    """A picture of dark modules, with an orientation, as the bytes of a PNG, which keeps each pixel."""
+    picture = image.frombytes("L", (len(rows[0]), len(rows)), b"".join(rows).translate(b"\xff\0" + bytes(254)))
+    exif, file = image.Exif(), io.BytesIO()
+    exif[274] = orientation
+    picture.save(file, "PNG", exif=exif)
+    return file.getvalue()
+
+
+def oriented():
+    """A picture is read as it is stored and as EXIF says that it is turned; corners are among the stored pixels."""
+    pillow = wanted_module("PIL.Image", "Pillow", "pictures with an orientation")
+    if not pillow:
+        return
+    rows = ecc200.write(b"Mitsubadoor")
+    large = [bytes(module for module in row for _ in range(4)).ljust(100, b"\0") for row in rows for _ in range(4)]
+    wide = [bytes(120)] * 10 + [bytes(20) + row for row in large] + [bytes(120)] * 30
+    for orientation in range(1, 9):
+        for name, kept in (("stored", rows), ("turned", stored(rows, orientation))):
+            with pillow.Image.open(io.BytesIO(photograph(pillow.Image, kept, orientation))) as picture:
+                got = ecc200.read(picture).data, ecc200.normal(picture)
+                yield same(f"orientation {orientation}, {name}", got, (b"Mitsubadoor", rows))
+        if os.path.isfile(SAMPLER):
+            got = ecc200.decode(photograph(pillow.Image, stored(wide, orientation), orientation), most=1)
+            marked = [bytearray(120) for _ in wide]
+            marked[10][20] = 1  # the symbol's first pixel
+            y, x = next((y, line.index(1)) for y, line in enumerate(stored(marked, orientation)) if 1 in line)
+            near = [abs(reading.corners[0][0] - x) < 2 and abs(reading.corners[0][1] - y) < 2 for reading in got]
+            yield same(f"orientation {orientation}, found where it is stored", near, [True])
+
+
 def sampled():
     """The sampler's library: pictures in arrays and in Pillow's pictures, turned and light on dark."""
     if not os.path.isfile(SAMPLER):
@@ -160,10 +344,3 @@ def by_one_file(image, numpy, array):
         yield same(f"decoded by the file alone, {name}", [reading.data for reading in one.decode(given, most=1)], [b"Mitsubadoor"])
     for name, given in [("shorts", array.astype(numpy.uint16)), ("floats", colours.astype(numpy.float32)), ("a line", array[0])]:
         yield raises(f"no picture for the file alone, {name}", TypeError, "rows of bytes", lambda given=given: one.find(given))
-
-
-def tests(folder):
-    yield from png()
-    yield from rendered(folder)
-    for source in (sheets, symbols, sampled):
-        yield from source()

@@ -3,7 +3,7 @@ import random
 import re
 import subprocess
 
-from common import has, holds, left_out, raises, same
+from tests.python.common import has, holds, left_out, raises, same
 
 import ecc200
 from ecc200 import gs1
@@ -38,6 +38,16 @@ def worked():
     yield same("brackets in a value", accepted("(10)A\\(01)B"), "(10)A\\(01)B")
     yield same("their bytes", gs1.message(gs1.parse("(10)A\\(01)B")), b"10A(01)B")
     yield same("encode", ecc200.encode(WORKED, gs1=True).rows, ecc200.write(gs1.message(elements), gs1=True))
+
+
+def square():
+    """Identifiers in square brackets, as zint has them."""
+    yield same("zint's form", gs1.parse("[01]09521234543213[17]251231[10]ABC123"), gs1.parse(WORKED))
+    yield same("round brackets in a value", gs1.parse("[10]A(01)B[21]C"), [("10", "A(01)B"), ("21", "C")])
+    for text, part in [("[01]09521234543214", "should be 3"), ("[01]09521234543213(10)A", "has 19"),
+                       ("[10]A[", "character 6"), ("[10]A\\(B", "character 6"), ("[10", "character 1"),
+                       ("(10)A[21]B", "not '['")]:
+        yield holds(f"refused: {text}", part in accepted(text), accepted(text))
 
 
 def faults():
@@ -166,8 +176,3 @@ def beside_stdnum():
             most = sum(int(re.findall(r"\d+", part)[-1]) for part in info["format"].split("+"))
             yield same(f"the greatest length of ({identifier})", sum(part.most for part in known.parts), most)
             yield same(f"whether FNC1 ends ({identifier})", known.fixed, "fnc1" not in info)
-
-
-def tests(folder):
-    for source in (worked, faults, table, beside_zint, beside_stdnum):
-        yield from source()

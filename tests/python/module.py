@@ -8,7 +8,7 @@ import signal
 import threading
 import time
 
-from common import MARKS, TOP, holds, marks, raises, same, setting, wanted_module
+from tests.python.common import MARKS, SHARED, TOP, holds, marks, raises, same, setting, wanted_module
 
 import ecc200
 from ecc200 import core
@@ -103,6 +103,17 @@ def strange_grids():
     yield raises("no grid", TypeError, "", lambda: ecc200.read(7))
 
 
+def readings():
+    """What a reading says besides the message: its text, the side, and no corners where it is of a grid."""
+    for number, lines in enumerate(marks()):
+        said = ecc200.read(lines)
+        yield same(f"the side of mark {number + 1}", (said.side, said.corners), (len(lines), None))
+    for data, text in [(b"123", "123"), (b"caf\xc3\xa9", "caf\u00e9"), (b"caf\xe9", "caf\u00e9"),
+                       (b"A\x1dB\0", "A\x1dB\0"), (b"", "")]:
+        yield same(f"the text of {data}", ecc200.read(ecc200.write(data)).text, text)
+    yield same("the text of GS1 data", ecc200.read(ecc200.write(b"10A\x1d21B", gs1=True)).text, "10A\x1d21B")
+
+
 def messages():
     rows = ecc200.write(b"caf\xe9")
     for name, message in [("a bytearray", bytearray(b"caf\xe9")), ("a view", memoryview(b"caf\xe9")), ("items", [99, 97, 102, 233]),
@@ -190,7 +201,7 @@ def shown():
         yield same(f"the kinds of side {size.side}", {type(place.kind) for row in places for place in row}, {ecc200.Kind})
         rows = ecc200.write(b"A" * size.data_codewords)
         yield same(f"the codewords of side {size.side}", ecc200.inspect(rows).held[:size.data_codewords], b"B" * size.data_codewords)
-        yield same(f"its normal symbol, {size.side}", ecc200.normal(rows), rows)
+        yield same(f"its normal grid, {size.side}", ecc200.normal(rows), rows)
     first = ecc200.write(b"123456")
     kept = list(first)
     ecc200.write(b"7" * 1000)
@@ -240,11 +251,8 @@ def loading(folder):
     yield same("a processor that isn't described", core._lacking(os.path.join(folder, "none")), [])
     with setting(ECC200_LIBRARY=os.path.join(folder, "none.so")):
         yield raises("no library", ImportError, "ECC200_LIBRARY", core._load)
+    with setting(ECC200_SAMPLE_LIBRARY=SHARED):
+        yield raises("a library in place of another", core.SamplerMissing,
+                     f"{SHARED} is a library, but not ecc200_sample", core._sampler.__wrapped__)
     with open(os.path.join(TOP, "packaging", "version"), encoding="ascii") as file:
         yield same("the version", core.version(), file.read().strip())
-
-
-def tests(folder):
-    for source in (forms, strange_grids, messages, refusals, many, shown, by_threads):
-        yield from source()
-    yield from loading(folder)

@@ -1,11 +1,14 @@
 """The wheel: built, installed without network, and used in clean environments; what mypy says of the package."""
 import os
 import pwd
+import re
 import shutil
 import subprocess
 import zipfile
 
-from common import MARKS, PACKAGE, PYTHON, SAMPLER, SHARED, TOP, clean, has, holds, left_out, run, same, wanted_module
+import ecc200
+
+from tests.python.common import MARKS, PACKAGE, PYTHON, SAMPLER, SHARED, TOP, clean, has, holds, left_out, run, same, wanted_module
 
 GS1 = "(01)09521234543213(17)251231(10)ABC123"
 USED = """
@@ -17,17 +20,55 @@ print(ecc200.core._library._name)
 """
 
 
+# What a program does with the package, for the checker of types.
+PROGRAM = """
+import pathlib
+from typing import List, Optional
+
+
+def texts(path: str) -> List[str]:
+    said: List[str] = [reading.text for reading in decode(path) + decode(pathlib.Path(path)) + decode(b"")]
+    with open(path, "rb") as file:
+        said += [reading.text for reading in decode(file)]
+    return said
+
+
+def first(symbol: Symbol) -> Optional[Reading]:
+    try:
+        reading: Reading = read(symbol)
+        corners: Optional[Corners] = reading.corners
+        print(reading.side, corners, inspect(symbol).held, normal(symbol), [found.page for found in find("a.png")])
+        return reading
+    except Refused as why:
+        print(why.code, why.value, why.place)
+        return None
+
+
+symbol: Symbol = encode("A", charset="ascii", profile=Profile.SHORTER)
+symbol.save("a.png", dpi=600)
+first(symbol)
+elements: List[gs1.Element] = gs1.parse("(10)A")
+"""
+
+
 def version():
     with open(os.path.join(TOP, "packaging", "version"), encoding="ascii") as file:
         return file.read().strip()
 
 
-def typed():
+def typed(folder):
     """What mypy says, strictly, of the package and of a program that uses it."""
     if wanted_module("mypy", "python3-mypy", "types"):
         words = [PYTHON, "-m", "mypy", "--cache-dir", os.devnull]
         status, output, errors = run(words, cwd=PACKAGE)
         yield holds("mypy --strict", status == 0, output + errors)
+        path = os.path.join(folder, "program.py")
+        with open(path, "w", encoding="ascii") as file:
+            file.write(f"from ecc200 import {', '.join(ecc200.__all__)}\n{PROGRAM}")
+        words += ["--strict", "--follow-imports", "silent", path]  # as of a package that is installed
+        status, output, errors = run(words, cwd=folder, env=clean(MYPYPATH=PACKAGE))
+        yield holds("mypy --strict of a program", status == 0, output + errors)
+        yield same("names of the core that aren't exported", set(ecc200.core.__all__) - set(ecc200.__all__), set())
 
 
 def built(folder):
@@ -55,8 +96,14 @@ def contents(wheel):
         with open(os.path.join(TOP, "library", "ecc200.py"), "rb") as file:
             yield same("its module is library/ecc200.py", archive.read("ecc200/core.py"), file.read())
         described = archive.read(f"ecc200-{version()}.dist-info/METADATA").decode()
-    for line in (f"Version: {version()}", "License: None has been chosen yet."):
+    for line in (f"Version: {version()}", "License: MIT OR Apache-2.0"):
         yield holds(f"the wheel says {line}", line + "\n" in described, described)
+    if os.path.isfile(SAMPLER) and has("readelf", "what the sampler needs"):
+        needed = re.findall(r"\(NEEDED\).*\[(.*)\]", run(["readelf", "-d", SAMPLER])[1])
+        told = [run(["dpkg-query", "-S", f"*/x86_64-linux-gnu/{name}"])[1] for name in needed if "ecc200" not in name]
+        owners = {line.split(":")[0] for line in told} - {"libc6"}
+        yield same("packages that the wheel needs and doesn't name", [it for it in owners if it not in described], [])
+        yield holds("they are known", "libdmtx0b" in owners, str(needed))
     yield holds("the wheel is for this kind of machine", "-py3-none-linux_" in os.path.basename(wheel), wheel)
 
 
@@ -123,13 +170,12 @@ def from_system(folder):
     yield same("the module alone, with a library beside it", run(words, env=env, cwd=place), (0, "b'A'\n", ""))
 
 
-def tests(folder):
-    yield from typed()
-    yield from from_system(folder)
+def wheel(folder):
+    """The wheel, where what builds it is installed: what it has, and what it gives where it is installed."""
     if not all([wanted_module("setuptools", "python3-setuptools", "the wheel"), wanted_module("wheel.bdist_wheel", "python3-wheel", "the wheel")]):
         return
-    wheel, said = built(folder)
-    yield holds("library/python/build", wheel is not None, said)
-    if wheel is not None:
-        yield from contents(wheel)
-        yield from installed(folder, wheel)
+    made, said = built(folder)
+    yield holds("library/python/build", made is not None, said)
+    if made is not None:
+        yield from contents(made)
+        yield from installed(folder, made)

@@ -1,4 +1,5 @@
 """The command ecc200: what it prints, its statuses, and its refusals in words."""
+import io
 import json
 import os
 import pty
@@ -6,7 +7,7 @@ import re
 import subprocess
 import tempfile
 
-from common import MARKS, PACKAGE, PYTHON, SAMPLER, SHARED, TOP, clean, has, holds, marks, raises, run, same, wanted_module
+from tests.python.common import MARKS, PACKAGE, PYTHON, SAMPLER, SHARED, TOP, clean, has, has_sampler, holds, marks, raises, run, same, wanted_module
 
 import ecc200
 from ecc200 import advice, explaining
@@ -118,10 +119,14 @@ def in_words():
         ("no square", "10\n10\n10\n", ["isn't square"]), ("no side", "1" * 11 + "\n" + ("1" * 11 + "\n") * 10,
                                                           ["no symbol has the side 11", "10, 12, 14"]),
         ("a large side", ("1" * 132 + "\n") * 132, [f"and {ecc200.sizes()[-1].side}; the standard's larger sides, up to 144"]),
-        ("a wrong border", text([bytes(10)] * 10), ["27 of the 36", "--border 27"]),
+        ("a wrong border", text([*ecc200.write(b"123456")[:-1], bytes(10)]),
+         ["10 of the 36", "--border 10 accepts them"]),
         ("damage", text(hurt(5)), ["block 1 of its 1", "2 wrong codewords", "scan it again"]),
     ]:
         yield says(name, ecc("read", given=given), 1, "", ["symbol 1: ", *parts])
+    lost = ecc("read", given=text([bytes(10)] * 10))
+    yield holds("no other border would help", lost[0] == 1 and "27 of the 36" in lost[2] and "--border" not in lost[2],
+                str(lost))
     for word, part in [(241, "an ECI"), (233, "structured append"), (234, "reader programming")]:
         yield holds(f"codeword {word}", part in advice.in_words(ecc200.Refused(8, word, 3), [bytes(10)] * 10)
                     and "codeword 3" in advice.in_words(ecc200.Refused(8, word, 3), []))
@@ -173,12 +178,12 @@ def writing(folder):
     yield says("write --escapes", ecc("write", "--escapes", "\\FA\\x80\\\\"), output=text(ecc200.write([256, 65, 128, 92])))
     yield says("write wrong --escapes", ecc("write", "--escapes", "\\q"), 1, "", ["'q'"])
     yield says("write --shorter", ecc("write", "--shorter", "--hex", "80" * 3), output=text(ecc200.write(b"\x80" * 3, profile=1)))
-    yield says("write Latin-1", ecc("write", "caf\u00e9"), output=text(ecc200.write(b"caf\xe9")))
-    yield says("write what Latin-1 hasn't", ecc("write", "\u20ac"), 1, "", ["has no '\u20ac'", "--charset"])
-    yield says("write UTF-8", ecc("write", "--charset", "utf-8", "\u20ac"), output=text(ecc200.write("\u20ac".encode())))
-    yield says("write lines with CR", ecc("write", given="A\r\n"), 2, "", ["tr -d"])
-    yield says("write lines that aren't UTF-8", ecc("write", given=b"\xff\n"), 2, "", ["--bytes"])
+    yield says("write Latin-1", ecc("write", "--charset", "iso-8859-1", "caf\u00e9"),
+               output=text(ecc200.write(b"caf\xe9")))
+    yield says("write UTF-8", ecc("write", "caf\u00e9"), output=text(ecc200.write("caf\u00e9".encode())))
     yield says("write bytes", ecc("write", "--bytes", "-", given=b"\xff\n"), output=text(ecc200.write(b"\xff\n")))
+    yield says("bytes and a message", ecc("write", "--bytes", os.devnull, "A"), 2, "",
+               ["--bytes", "'A' would be another"])
     yield says("one is refused", ecc("write", "--hex", "41", "x", "42"), 1, text(ecc200.write(b"A")) + text(ecc200.write(b"B")), ["message 2"])
     for name, words, part in [("no size", ("--module", "x"), "--module x"), ("half a dot", ("--module", "1.5"), "whole number"),
                               ("no kind", ("-o", "a.gif"), ".png, .svg"),
@@ -209,8 +214,9 @@ def files(folder):
     if pillow:
         path = os.path.join(folder, "blank.png")
         pillow.Image.new("L", (90, 90), 255).save(path)
-        yield says("a blank picture", ecc("read", path), 1, "", ["no symbol was found in its 90 by 90" if os.path.isfile(SAMPLER)
-                                                                 else "nothing in the picture is dark"])
+        yield says("a blank picture", ecc("read", path), 1, "",
+                   ["no square Data Matrix symbol was found in its 90 by 90" if os.path.isfile(SAMPLER)
+                    else "nothing in the picture is dark"])
         picture = pillow.Image.open(os.path.join(folder, "small7.png")).convert("L")
         picture.resize((picture.width * 3 // 2, picture.height * 3 // 2)).save(path)
         without = run([*WORDS, "read", path], env={**environment(), "ECC200_SAMPLE_LIBRARY": os.path.join(folder, "none.so")})
@@ -225,12 +231,13 @@ def files(folder):
     yield says("numbered files", ecc("write", "-o", os.path.join(folder, "many.png"), given=lines), output="")
     names = [os.path.join(folder, f"many-{number:02}.png") for number in range(1, 13)]
     if pillow:
-        yield says("numbered files are read", ecc("read", *names), output=lines)
+        yield says("numbered files are read", ecc("read", *names),
+                   output="".join(map("{}:{}".format, names, lines.splitlines(True))))
     yield says("a sheet", ecc("write", "--sheet", "-o", os.path.join(folder, "sheet.pdf"), given=lines), output="")
     yield says("a sheet of labels", ecc("write", "--sheet", "100x50", "-o", os.path.join(folder, "sheet.png"), given=lines), output="")
     yield same("its name", sorted(name for name in os.listdir(folder) if name.startswith("sheet")), ["sheet.pdf", "sheet.png"])
     if pillow and os.path.isfile(SAMPLER):
-        status, output, _ = ecc("read", "--milliseconds", "20000", os.path.join(folder, "sheet.png"))
+        status, output, _ = ecc("read", "--all", "--time", "20000", os.path.join(folder, "sheet.png"))
         yield same("a sheet is read", (status, sorted(output.splitlines())), (0, sorted(lines.splitlines())))
     if pillow and has("zint", "a mark of zint from a PNG"):
         path = os.path.join(folder, "zint.png")
@@ -249,6 +256,48 @@ def files(folder):
         file.write(b"\x89PNG\r\n\x1a\nrubbish")
     yield says("a broken picture", ecc("read", os.path.join(folder, "broken.png")), 2, "", ["broken.png", "can't be opened" if pillow else "Pillow"])
     yield says("a folder that isn't there", ecc("write", "A", "-o", os.path.join(folder, "none", "a.png")), 2, "", ["No such file"])
+
+
+def named_alike(folder):
+    """The sampler's program and the command have the same names for the same things, in options and in JSON."""
+    what = "one name for one thing"
+    if not has_sampler(what) or not wanted_module("PIL.Image", "Pillow", what):
+        return
+    path, rows = os.path.join(folder, "alike.png"), [bytearray(row) for row in hurt(1)]
+    rows[0][1] ^= 1  # a module of the border
+    ecc200.Symbol(rows, quiet=4).save(path)
+    program = os.path.join(os.path.dirname(SAMPLER), "dm_sample")
+    first = json.loads(run([program, "--json", "--time", "2000", path])[1])
+    for option in ("--time", "--milliseconds"):
+        second = json.loads(ecc("read", "--json", option, "2000", path)[1])
+        for name in ("file", "side", "inverted", "mirrored", "message", "corrected", "border"):
+            yield same(f"{name}, with {option}", second[name], first[name])
+    yield same("what is compared", (first["message"], first["corrected"], first["border"]), ("123456", [1], 1))
+
+
+def pages(folder):
+    """Pages behind the first are read, also without the sampler, and a turned photograph is read either way."""
+    pillow = wanted_module("PIL.Image", "Pillow", "pages of pictures")
+    if not pillow:
+        return
+    for name, module in (("small", 25.4 / 300), ("large", 0.5)):
+        drawn = [ecc200.encode(message, module=module).png() for message in (b"first", b"third")]
+        first, third = (pillow.Image.open(io.BytesIO(data)).convert("L") for data in drawn)
+        path = os.path.join(folder, f"{name}.tiff")
+        first.save(path, save_all=True, append_images=[third])
+        without = {**environment(), "ECC200_SAMPLE_LIBRARY": os.path.join(folder, "none.so")}
+        got = run([*WORDS, "read", path], env=without)
+        yield says(f"{name} pages without the sampler", got, output="first\nthird\n")
+        if os.path.isfile(SAMPLER):
+            yield says(f"{name} pages", ecc("read", path), output="first\nthird\n")
+    if os.path.isfile(SAMPLER):
+        told = [json.loads(line) for line in ecc("read", "--json", path)[1].splitlines()]
+        yield same("pages in JSON", [(one["symbol"], one["page"]) for one in told], [(1, 1), (2, 2)])
+    turned, exif = first.transpose(pillow.Image.ROTATE_90), pillow.Image.Exif()
+    exif[274] = 6  # shown turned by a quarter, clockwise
+    path = os.path.join(folder, "turned.png")
+    turned.save(path, exif=exif)
+    yield says("a turned picture without the sampler", run([*WORDS, "read", path], env=without), output="first\n")
 
 
 def comparing(folder):
@@ -271,7 +320,7 @@ def comparing(folder):
         yield holds(name, got[0] == status and got[1].endswith(end) and not got[2], str(got))
     for name, pair, part in [("one isn't read", (ascii_, lost), "27 of the 36"), ("one isn't there", (ascii_, lost + "x"), "No such file"),
                              ("two in one", (ascii_, saved("two", text(ecc200.write(b"A")) * 2)), "there are 2"),
-                             ("none in one", (saved("empty", ""), ascii_), "there are none")]:
+                             ("none in one", (saved("empty", ""), ascii_), "there are no grids")]:
         got = ecc("compare", *pair)
         yield holds(name, got[0] >= 2 and part in got[2], str(got))
 
@@ -347,12 +396,3 @@ def completion():
         told["_ARGCOMPLETE_STDOUT_FILENAME"] = file.name
         done = subprocess.run([PYTHON, os.path.join(PACKAGE, "bin", "ecc200")], env=told, stdout=subprocess.PIPE, stderr=subprocess.PIPE, timeout=60)
         yield same("completion", (done.returncode, file.read().decode().split()), (0, ["compare"]))
-
-
-def tests(folder):
-    for source in (usage, reading, in_words, otherwise):
-        yield from source()
-    for source in (writing, files, comparing):
-        yield from source(folder)
-    for source in (explained, spellings, at_a_terminal, completion):
-        yield from source()

@@ -52,7 +52,7 @@ differing_more v w n (suc m) =
     omega (arith, differs_le (get_or v (n + m) 0) (get_or w (n + m) 0))
 
 -- Words that agree at the first n places differ at none of them.
-differing_none : (v w : List ℕ) (n : ℕ) → ((i : ℕ) → i < n → get_or v i 0 ≡ get_or w i 0) → differing v w n ≡ 0
+pub differing_none : (v w : List ℕ) (n : ℕ) → ((i : ℕ) → i < n → get_or v i 0 ≡ get_or w i 0) → differing v w n ≡ 0
 unfolding differing
 differing_none v w zero h = refl
 differing_none v w (suc n) h =

@@ -18,6 +18,8 @@ mod LeastPairs
 mod ErrorPlaces
 mod ErrorValues
 mod Nearness
+mod ErasedPlaces
+mod EachErased
 mod OddTerms
 mod Corrections
 mod ErrorTerms

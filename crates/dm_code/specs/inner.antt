@@ -2,3 +2,4 @@ pub mod LinearSystem
 pub mod OddTerms
 pub mod Ones
 pub mod Backwards
+pub mod Lessened

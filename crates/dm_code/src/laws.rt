@@ -1,6 +1,7 @@
 //! Laws of the definitions: facts about codewords and the key equation alone, whatever code writes or reads them.
 
 ghost use Rattle.dm_code.specs.CodewordLaws.{CodewordsLieApart, CloseCodewordsAreOne, NearCodewordIsOne, NearCodewordIsThereOrNot, FrontDeterminesChecks, ChecksAreThere, CodewordsAreBytes, CodewordsHaveNoSyndromes};
+ghost use Rattle.dm_code.specs.Erased.{NearButIsOne, NearButNoneIsNear};
 ghost use Rattle.dm_code.specs.KeyEquationLaws.{PairsAreMultiples, LeastPairIsOne, ExactLeastPairIsOne, LeastPairIsThere};
 
 /// The distance law: two different codewords of k checks and one length of at most 255 differ in at least k + 1 places.
@@ -59,4 +60,10 @@ pub fn exact_least_pair_is_one()
 /// Where there is a pair of the key equation, there is a least pair.
 pub fn least_pair_is_there()
     ensures { LeastPairIsThere }
+{}
+
+/// At most one codeword is near to a word but for erased places, and with none erased it is the one that is near to the word.
+pub fn near_but_is_one()
+    ensures one { NearButIsOne }
+    ensures none { NearButNoneIsNear }
 {}

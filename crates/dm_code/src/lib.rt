@@ -15,15 +15,20 @@
 //! codewords are what is left of a division in place, syndromes are sums over parts of a word, and wrong places are looked
 //! for sixteen at a time.
 //!
-//! The definitions that the contracts cite are in `specs/`: `Codeword`, `Syndromes` and `KeyEquation`. What holds of these
+//! [`correct_erased`] does what [`correct`] does where some codewords are erased, that is, known to be unknown: an error then
+//! uses two of the k check codewords, and an erasure one.
+//!
+//! The definitions that the contracts cite are in `specs/`: `Codeword`, `Erased`, `Syndromes` and `KeyEquation`. What holds of these
 //! definitions, whatever the code does, is stated in `CodewordLaws` and `KeyEquationLaws` there and proved in [`laws`].
 //! `inner` has the definitions that private functions alone cite: `LinearSystem` for the elimination, `OddTerms` for finding
-//! errors, `Ones` and `Backwards` for [`Quick`].
+//! errors, `Ones` and `Backwards` for [`Quick`],
+//! `Lessened` for [`correct_erased`].
 #![tactic(auto)]
 
 mod correction;
 mod elimination;
 mod encoding;
+mod erasures;
 mod errors;
 mod key;
 pub mod laws;
@@ -36,6 +41,7 @@ mod system;
 pub use correction::{BeyondLimit, Fixed, correct};
 pub use elimination::Elimination;
 pub use encoding::encode;
+pub use erasures::{Restored, correct_erased};
 pub use gf301::MOST_CHECKS;
 pub use key::{Key, KeySolver};
 pub use limits::{LONGEST_WORD, MOST_COEFFICIENTS, MOST_ERRORS};

@@ -11,7 +11,7 @@ use Rattle.dm_layout.specs.Sizes.{SizeRow, block_data, block_length, codeword_co
 use Rattle.dm_layout.specs.Words.{WordsView, IsWords, data_of}
 use Rattle.dm_layout.specs.Blocks.{block_of}
 use Rattle.dm_layout.proofs.TableRows.{row_facts}
-use Rattle.dm_layout.proofs.Ranges.{filter_skip, filter_keep}
+use Rattle.dm_place.proofs.Exported.{filter_skip, filter_keep}
 
 -- A place belongs to block b of B if it leaves b when divided by B.
 abbrev pub is_of_block : ℕ → ℕ → ℕ → Bool

@@ -11,7 +11,7 @@ use Rattle.dm_layout.specs.inner.Drawing.{mapping_line}
 use Rattle.std.proofs.Math.Nat.{div-add-mod, mul-le-mul_right, lt_of_mul-lt-mul_right}
 use Rattle.std.proofs.lemmas.Bool.{and_parts}
 use Rattle.dm_layout.proofs.TableRows.{row_facts}
-use Rattle.dm_layout.proofs.Ranges.{range-append}
+use Rattle.dm_place.proofs.Exported.{range-append}
 
 -- ---- all rows
 

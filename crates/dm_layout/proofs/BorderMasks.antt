@@ -19,9 +19,9 @@ use Rattle.dm_layout.specs.Grid.{GridView, cell_at, is_dark_in}
 use Rattle.dm_layout.specs.Border.{is_on_edge, edge_is_dark, is_fault, is_border, border_is_dark}
 use Rattle.dm_layout.specs.inner.BorderMasks.{AreBorders, is_wrong}
 use Rattle.dm_layout.specs.declared.border.TheConstants.{EVEN_COLUMNS}
-use Rattle.dm_layout.proofs.Ranges.{same_tests}
+use Rattle.dm_place.proofs.Exported.{same_tests}
 use Rattle.dm_layout.proofs.PackedRows.{darkened, darkened_cell, darkened_narrow}
-use Rattle.dm_layout.proofs.Ranges.{range-append, all_at}
+use Rattle.dm_place.proofs.Exported.{range-append, all_at}
 use Rattle.dm_layout.proofs.TableRows.{row_facts}
 
 -- ---- how many cells of a row are dark

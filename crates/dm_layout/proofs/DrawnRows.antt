@@ -3,7 +3,7 @@ use Rattle.std.proofs.Common.{◌≡◌, ◌≢◌, ◌⊎◌, inl, inr, ℕ, �
 use Rattle.std.proofs.Math.Bool.{or-false, false-or}
 use Rattle.std.proofs.lemmas.Bool.{eqb-true, ne_eqb, cases_lt, le-ltb, lt-ltb}
 use Rattle.std.proofs.lemmas.Bool.Decides.{eqb_tells}
-use Rattle.dm_layout.specs.declared.shape.Cell.{Cell}
+use Rattle.dm_place.specs.declared.shape.Cell.{Cell}
 use Rattle.dm_layout.specs.Sizes.{SizeRow, IsRow, regions_across}
 use Rattle.dm_layout.specs.Border.{symbol_line, mapped_cell, is_border, border_is_dark, is_fixed, fixed_is_dark}
 use Rattle.dm_layout.specs.Grid.{GridView, IsGrid, is_dark_in, cell_at}
@@ -14,7 +14,7 @@ use Rattle.dm_layout.specs.Words.{WordsView, IsWords}
 use Rattle.dm_layout.proofs.GridLemmas.{cell_of_square}
 use Rattle.dm_layout.proofs.Laid.{begun_empty, on_border, in_mapping}
 use Rattle.dm_layout.proofs.NoFaults.{no_faults}
-use Rattle.dm_layout.proofs.PlaceOrder.{none_fixed}
+use Rattle.dm_place.proofs.Exported.{none_fixed}
 use Rattle.dm_layout.proofs.PlacementRows.{once_at_row}
 use Rattle.dm_layout.proofs.SymbolLines.{symbol_line-one, symbol_line-mod, mapping_line-symbol_line, lies_inside, no_border}
 use Rattle.dm_layout.proofs.TableRows.{row_facts, across_covers}
@@ -190,7 +190,7 @@ laid_by words size look grid h es eg g border mapped bits fixed =
       where
         by_test : (t : Bool) → is_fixed grid.size.mapping cell.row cell.column ≡ t → is_fixed grid.size.mapping cell.row cell.column ≡ false
         by_test false e = e
-        by_test true e = absurd (none_fixed grid.size.mapping cell.row cell.column w b law e p)
+        by_test true e = absurd (none_fixed grid.size.mapping grid.size.mapping cell.row cell.column w b law e p)
 
 -- ---- a row of the symbol, by the size's numbers
 

@@ -4,7 +4,7 @@ use Rattle.std.proofs.lemmas.Bool.{eqb-true, cases_lt, le-ltb, lt-ltb}
 use Rattle.std.proofs.Math.Bool.{or-false}
 use Rattle.std.proofs.Math.Nat.{mul-le-mul_right}
 use Rattle.std.proofs.lemmas.Bool.Decides.{eqb_tells}
-use Rattle.dm_layout.proofs.Ranges.{same_tests}
+use Rattle.dm_place.proofs.Exported.{same_tests}
 use Rattle.dm_layout.specs.Sizes.{SizeRow, IsRow, regions_across, largest_side}
 use Rattle.dm_layout.specs.Grid.{GridView, IsGrid, cell_at, is_dark_in}
 use Rattle.dm_layout.specs.inner.Drawing.{HasBorders, mapping_line, is_fixed_dark, empty_colour, empty_grid}

@@ -9,7 +9,7 @@ use Rattle.dm_layout.specs.Sizes.{SizeRow, IsRow, row_with_side}
 use Rattle.dm_layout.specs.Grid.{GridView, IsGrid, square_of_rows}
 use Rattle.dm_layout.specs.Equality.{equal_grids, grids_equiv}
 use Rattle.dm_layout.proofs.GridLemmas.{same_parts}
-use Rattle.dm_layout.proofs.Pointwise.{same_by_pointwise}
+use Rattle.dm_place.proofs.Exported.{same_by_pointwise}
 use Rattle.dm_layout.proofs.PackedRows.{same_packed}
 
 -- Sizes of the table with the same side are the same.

@@ -8,7 +8,6 @@ pub use Rattle.dm_layout.proofs.HeldWords.{every_grid_holds, laid_somewhere}
 pub use Rattle.dm_layout.proofs.Laid.{one_laid}
 pub use Rattle.dm_layout.proofs.NoFaults.{summands_zero}
 pub use Rattle.dm_layout.proofs.PackedRows.{square_of_prefix}
-pub use Rattle.dm_layout.proofs.PlaceOrder.{ArePlaces, all_are_places, length-places_in_order, none_fixed, one_bit, place_at}
 pub use Rattle.dm_layout.proofs.PlacementRows.{count_at_row, once_at_row}
 pub use Rattle.dm_layout.proofs.Reading.{one_list}
 pub use Rattle.dm_layout.proofs.SymbolLines.{lies_inside, no_border, symbol_line-one}

@@ -4,7 +4,7 @@ use Rattle.std.specs.Prelude.{Decides}
 use Rattle.std.proofs.Math.Bool.{and-or_distrib_left}
 use Rattle.std.proofs.lemmas.Bool.{le-leb, leb-true, ltb-true, ltb-false}
 use Rattle.std.proofs.lemmas.Bool.Decides.{Decides-and, Decides-or, Decides-like, Decides-eqb, Decides-ltb, same_from_decides}
-use Rattle.dm_layout.specs.Placement.{wrapped_cell}
+use Rattle.dm_layout.specs.inner.Wrapped.{wrapped_cell}
 use Rattle.dm_layout.specs.inner.Laying.{lowered, folded}
 use Rattle.dm_layout.proofs.LiftedWords.{cell_by}
 

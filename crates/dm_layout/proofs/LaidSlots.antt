@@ -10,15 +10,16 @@ use Rattle.std.proofs.lemmas.Nat.{pow-add, mul-add-lt}
 use Rattle.std.proofs.lemmas.Nat.Bits.{bit_at_above}
 use Rattle.std.proofs.lemmas.Bool.{true≢false, agree_below, agree_below_at, cases_eq, cases_lt, lt-leb, le-leb, ltb-true, ne_eqb}
 use Rattle.std.proofs.lemmas.Bool.Decides.{Decides-and, Decides-or, Decides-like, Decides-eqb, Decides-ltb, Decides-at, same_from_decides}
-use Rattle.dm_layout.specs.declared.shape.Cell.{Cell}
+use Rattle.dm_place.specs.declared.shape.Cell.{Cell}
 use Rattle.dm_layout.specs.Grid.{is_dark_in}
-use Rattle.dm_layout.specs.Placement.{At, wrapped_cell, standard}
+use Rattle.dm_layout.specs.Placement.{At}
+use Rattle.dm_layout.specs.inner.Wrapped.{wrapped_cell, standard}
 use Rattle.dm_layout.specs.inner.Laying.{by_anchors, scattered, folded}
 use Rattle.dm_layout.specs.inner.Reading.{look_in, marks_in}
 use Rattle.dm_layout.specs.inner.Slots.{first_column, reversed_bits}
 use Rattle.dm_layout.proofs.FoldedRows.{IsCell, one_cell, decides_le, decides_cell, folded_or, folded_same, folded_none, folded_cell}
 use Rattle.dm_layout.proofs.OuterRows.{or_dark}
-use Rattle.dm_layout.proofs.Ranges.{all_below}
+use Rattle.dm_place.proofs.Exported.{all_below}
 use Rattle.dm_layout.proofs.SlotRows.{reversed_twice}
 use Rattle.dm_layout.proofs.WidenedRows.{put_over, low_bit, bit_up, none_up}
 

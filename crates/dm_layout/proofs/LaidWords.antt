@@ -5,20 +5,22 @@ use Rattle.std.specs.List.{list_all}
 use Rattle.std.proofs.Math.Bool.{or_assoc, or-false, and-false}
 use Rattle.std.proofs.lemmas.Bool.{and_parts, ltb-true, eqb-true}
 use Rattle.std.proofs.lemmas.List.{get_or-map}
-use Rattle.dm_layout.specs.declared.cells.Place.{Place}
-use Rattle.dm_layout.specs.declared.shape.Cell.{Cell}
-use Rattle.dm_layout.specs.declared.shape.Shape.{Shape}
-use Rattle.dm_layout.specs.declared.shape.Shape.TheVariants.{Standard, Corner1, Corner2, Corner3, Corner4}
+use Rattle.dm_place.specs.declared.cells.Place.{Place}
+use Rattle.dm_place.specs.declared.shape.Cell.{Cell}
+use Rattle.dm_place.specs.declared.shape.Shape.{Shape}
+use Rattle.dm_place.specs.declared.shape.Shape.TheVariants.{Standard, Corner1, Corner2, Corner3, Corner4}
 use Rattle.dm_layout.specs.Sizes.{largest_mapping}
 use Rattle.dm_layout.specs.Grid.{is_dark_in}
-use Rattle.dm_layout.specs.Placement.{standard, cells_of, shapes, places_from, places_in_order}
+use Rattle.dm_layout.specs.Placement.{cells_of, shapes, places_from, places_in_order}
+use Rattle.dm_layout.specs.inner.Wrapped.{standard}
 use Rattle.dm_layout.specs.inner.Laying.{by_anchors, scattered, folded, corner_marks, with_byte}
 use Rattle.dm_layout.specs.inner.Reading.{marks_in}
 use Rattle.dm_layout.specs.inner.Slots.{corner_slot, first_column, reversed_bits, slot_of}
 use Rattle.dm_layout.proofs.FoldedRows.{folded_or, folded_same, folded_none}
-use Rattle.dm_layout.proofs.OnePlace.{eight}
+use Rattle.dm_place.proofs.Exported.{eight, inside_test}
+use Rattle.dm_place.specs.Placement as general
 use Rattle.dm_layout.proofs.LaidSlots.{byte_fits, marks_low, marks_reversed, marks_turned, marks_or, wide_cells, scattered_shape, scattered_corner, folded_marks, wide_folded}
-use Rattle.dm_layout.proofs.LiftedWords.{kind_test, inside_test, fits_test}
+use Rattle.dm_layout.proofs.LiftedWords.{same_cells, cells_equal, kind_test, fits_test}
 use Rattle.dm_layout.proofs.Painting.{marks, marks_word, light_at}
 
 -- The cells of the corner that belongs to a mapping square of this side, if one does.
@@ -87,15 +89,17 @@ module _ (n y : ℕ) (slots : List ℕ) (least : 8 ≤ n) (most : n ≤ largest_
   -- One more byte in the slot of a shape that fits marks the cells of the shape.
   put_low : (s : Shape) (r c : ℕ) → fits_test n s ≡ true → r < n → c < n → laid_slots n (with_byte slots (slot_of s) y) r c ≡ (laid_slots n slots r c || marks_low y 0 (cells_of n s) r c)
   put_low (Standard i j) r c fits lr lc =
-      let both = and_parts (kind_test n (Standard i j)) (inside_test n (standard n i j)) fits in
-      let kind = and_parts (nat_lt i n && nat_lt j n) (nat_eq ((5 * i + j) % 8) 4) both.0 in
+      let both = and_parts (kind_test n (Standard i j)) (inside_test n n (cells_of n (Standard i j))) fits in
+      let plain = and_parts ((nat_lt i n && nat_lt j n) && nat_eq ((5 * i + j) % 8) 4) (same_cells (cells_of n (Standard i j)) (standard n i j)) both.0 in
+      let kind = and_parts (nat_lt i n && nat_lt j n) (nat_eq ((5 * i + j) % 8) 4) plain.0 in
       let here = and_parts (nat_lt i n) (nat_lt j n) kind.0 in
       put_standard i j r c (ltb-true i n here.0) (ltb-true j n here.1) (eqb-true ((5 * i + j) % 8) 4 kind.1) lr lc
+      ∙ ap (λ (cs : List Cell). laid_slots n slots r c || marks_low y 0 cs r c) (sym (cells_equal (cells_of n (Standard i j)) (standard n i j) plain.1))
   put_low Corner1 r c fits lr lc =
-      let both = and_parts (kind_test n Corner1) (inside_test n (cells_of n Corner1)) fits in
+      let both = and_parts (kind_test n Corner1) (inside_test n n (cells_of n Corner1)) fits in
       put_corner (cells_of n Corner1) r c lc (ap (λ (b : Bool). elim b as (λ _. List Cell) [ true ↦ cells_of n Corner1 | false ↦ elim (nat_eq (n % 8) 6) [ true ↦ cells_of n Corner2 | false ↦ [] ] ]) both.0)
   put_low Corner2 r c fits lr lc =
-      let both = and_parts (kind_test n Corner2) (inside_test n (cells_of n Corner2)) fits in
+      let both = and_parts (kind_test n Corner2) (inside_test n n (cells_of n Corner2)) fits in
       let six = eqb-true (n % 8) 6 both.0 in
       put_corner (cells_of n Corner2) r c lc
       (ap (λ (i : ℕ). elim (nat_eq i 4) as (λ _. List Cell) [ true ↦ cells_of n Corner1 | false ↦ elim (nat_eq i 6) as (λ _. List Cell) [ true ↦ cells_of n Corner2 | false ↦ [] ] ]) six)
@@ -110,7 +114,7 @@ reversed_small w = omega arith
 slot_put : (n w : ℕ) (slots : List ℕ) (s : Shape) (r c : ℕ) → 8 ≤ n → n ≤ largest_mapping → n % 2 ≡ 0 → largest_mapping < length slots → w < 256 → fits_test n s ≡ true → r < n → c < n →
     laid_slots n (with_byte slots (slot_of s) (reversed_bits w)) r c ≡ (laid_slots n slots r c || marks_in w 0 (cells_of n s) r c)
 slot_put n w slots s r c least most even inside small fits lr lc =
-    let k = eight n s in
+    let k = eight n n s in
     put_low n (reversed_bits w) slots least most even inside (reversed_small w) s r c fits lr lc ∙ ap (λ (b : Bool). laid_slots n slots r c || b) (marks_reversed w (cells_of n s) r c small (omega arith))
 
 -- ---- all codewords
@@ -176,7 +180,7 @@ marks_none y k (x ∷ xs) r c dark =
 
 -- With slots of zeros and all codewords still to come, the square is that of all codewords.
 pub laid_first : (n m : ℕ) (words slots : List ℕ) → slots ≡ replicate m 0 → AreLaid n words slots 0
-unfolding places_in_order
+unfolding general.places_in_order
 laid_first n m words slots e r c lr lc =
     ap (λ (ss : List ℕ). laid_slots n ss r c || marks words (places_from n 0 (shapes n)) r c) e
     ∙ ap (λ (b : Bool). (b || marks_low (get_or (replicate m 0) largest_mapping 0) 0 (corner_cells n) r c) || marks words (places_from n 0 (shapes n)) r c)

@@ -1,30 +1,45 @@
 -- That the codewords of widened rows, read slot by slot, are those of the grid.
-use Rattle.std.proofs.Common.{◌≡◌, ℕ, ◌+◌, ◌-◌, ◌*◌, ◌/◌, ◌%◌, ◌^◌, ◌<◌, ◌≤◌, Bool, true, false, ◌&&◌, nat_eq, nat_lt, List, [], ◌∷◌, map, get_or, refl, sym, ◌∙◌, ap, arith}
+use Rattle.std.proofs.Common.{◌≡◌, ℕ, ◌+◌, ◌-◌, ◌*◌, ◌/◌, ◌%◌, ◌^◌, ◌<◌, ◌≤◌, Bool, true, false, ◌&&◌, nat_eq, nat_lt, List, [], ◌∷◌, map, get_or, refl, sym, ◌∙◌, ap, arith, subst}
 use Rattle.std.specs.List.{list_all}
+use Rattle.std.specs.Cmp.Lexicographic.{pointwise}
 use Rattle.std.proofs.lemmas.Bool.{and_parts, ltb-true, ltb-false, eqb-true}
-use Rattle.dm_layout.specs.declared.shape.Cell.{Cell}
-use Rattle.dm_layout.specs.declared.shape.Shape.{Shape}
-use Rattle.dm_layout.specs.declared.shape.Shape.TheVariants.{Standard, Corner1, Corner2, Corner3, Corner4}
+use Rattle.dm_place.specs.declared.shape.Cell.{Cell}
+use Rattle.dm_place.specs.declared.shape.Shape.{Shape}
+use Rattle.dm_place.specs.declared.shape.Shape.TheVariants.{Standard, Corner1, Corner2, Corner3, Corner4}
 use Rattle.dm_layout.specs.Grid.{is_dark_in}
 use Rattle.dm_layout.specs.Sizes.{largest_mapping}
-use Rattle.dm_layout.specs.Placement.{At, wrapped_cell, standard, cells_of}
+use Rattle.dm_layout.specs.Placement.{At, cells_of}
+use Rattle.dm_layout.specs.inner.Wrapped.{wrapped_cell, standard}
 use Rattle.dm_layout.specs.inner.Reading.{look_in}
 use Rattle.dm_layout.specs.inner.Slots.{bits_in, reversed_bits, first_column, slot_of, slot_byte, IsJoined, HasSlots}
 use Rattle.dm_layout.specs.inner.Walking.{CellsInside}
 use Rattle.dm_layout.specs.inner.Widened.{IsWidened}
-use Rattle.dm_layout.proofs.Bits.{digit, digit-has, number_of, sum_of_digits}
-use Rattle.dm_layout.proofs.Reading.{word_of}
+use Rattle.dm_place.specs.Holding.{digit, number_of, word_at}
+use Rattle.dm_place.proofs.Exported.{digit-has, sum_of_digits, inside_test, cells_inside, same_by_pointwise}
 
 -- ---- which shapes there are
 
--- All of these cells lie in the square.
-abbrev pub inside_test : ℕ → List Cell → Bool
-inside_test n [] = true
-inside_test n (x ∷ rest) = (nat_lt x.row n && nat_lt x.column n) && inside_test n rest
+-- Two cells agree.
+abbrev pub same_cell : Cell → Cell → Bool
+same_cell x y = nat_eq x.row y.row && nat_eq x.column y.column
+
+-- Cells that agree are equal.
+cell_equal : (x y : Cell) → same_cell x y ≡ true → x ≡ y
+cell_equal x y h =
+    let here = and_parts (nat_eq x.row y.row) (nat_eq x.column y.column) h in
+    ap (λ (i : ℕ). At i x.column) (eqb-true x.row y.row here.0) ∙ ap (λ (i : ℕ). At y.row i) (eqb-true x.column y.column here.1)
+
+-- Two lists of cells agree cell by cell.
+abbrev pub same_cells : List Cell → List Cell → Bool
+same_cells = pointwise same_cell
+
+-- Lists of cells that agree are equal.
+pub cells_equal : (xs ys : List Cell) → same_cells xs ys ≡ true → xs ≡ ys
+cells_equal = same_by_pointwise same_cell cell_equal
 
 -- The anchor of a standard shape lies in the square, in a column of its row's anchors; a corner belongs to the side.
 abbrev pub kind_test : ℕ → Shape → Bool
-kind_test n (Standard r c) = (nat_lt r n && nat_lt c n) && nat_eq ((5 * r + c) % 8) 4
+kind_test n (Standard r c) = ((nat_lt r n && nat_lt c n) && nat_eq ((5 * r + c) % 8) 4) && same_cells (cells_of n (Standard r c)) (standard n r c)
 kind_test n Corner1 = nat_eq (n % 8) 4
 kind_test n Corner2 = nat_eq (n % 8) 6
 kind_test n Corner3 = false
@@ -32,14 +47,7 @@ kind_test n Corner4 = false
 
 -- A shape fits if it is of a kind that the square has, and its cells lie in the square.
 abbrev pub fits_test : ℕ → Shape → Bool
-fits_test n s = kind_test n s && inside_test n (cells_of n s)
-
-all_inside : (n : ℕ) (xs : List Cell) → inside_test n xs ≡ true → CellsInside n xs
-all_inside n [] h = tt
-all_inside n (x ∷ xs) h =
-    let both = and_parts (nat_lt x.row n && nat_lt x.column n) (inside_test n xs) h in
-    let here = and_parts (nat_lt x.row n) (nat_lt x.column n) both.0 in
-    (ltb-true x.row n here.0, ltb-true x.column n here.1, all_inside n xs both.1)
+fits_test n s = kind_test n s && inside_test n n (cells_of n s)
 
 -- ---- a cell of a standard shape in widened rows
 
@@ -111,7 +119,7 @@ module _ (n : ℕ) (look : ℕ → ℕ → Bool) (rows : List ℕ) (least : 8 �
 
   -- The byte of an anchor, with its bits in the opposite order, is the codeword of the anchor's standard shape.
   standard_word : (r c x : ℕ) → r < n → c < n → (5 * r + c) % 8 ≡ 4 → CellsInside n (standard n r c) → IsJoined n rows r x →
-      reversed_bits (x / 2 ^ (8 * (c / 8)) % 256) ≡ word_of look (standard n r c)
+      reversed_bits (x / 2 ^ (8 * (c / 8)) % 256) ≡ word_at look (standard n r c)
   standard_word r c x lr lc anchor inside slots =
       let k : ℕ = c / 8 in
       let lk : 8 * k < n = omega (arith, lc) in
@@ -143,27 +151,30 @@ module _ (n : ℕ) (look : ℕ → ℕ → Bool) (rows : List ℕ) (least : 8 �
         ∙ ap (λ (i : ℕ). get_or news r 0 / 2 ^ (8 * i) % 256) p
 
     -- The codeword of a shape stands in its slot.
-    shape_word : (s : Shape) → fits_test n s ≡ true → reversed_bits (slot_byte news (slot_of s)) ≡ word_of look (cells_of n s)
+    shape_word : (s : Shape) → fits_test n s ≡ true → reversed_bits (slot_byte news (slot_of s)) ≡ word_at look (cells_of n s)
     shape_word (Standard r c) fits =
-        let both = and_parts (kind_test n (Standard r c)) (inside_test n (standard n r c)) fits in
-        let kind = and_parts (nat_lt r n && nat_lt c n) (nat_eq ((5 * r + c) % 8) 4) both.0 in
+        let both = and_parts (kind_test n (Standard r c)) (inside_test n n (cells_of n (Standard r c))) fits in
+        let plain = and_parts ((nat_lt r n && nat_lt c n) && nat_eq ((5 * r + c) % 8) 4) (same_cells (cells_of n (Standard r c)) (standard n r c)) both.0 in
+        let same = cells_equal (cells_of n (Standard r c)) (standard n r c) plain.1 in
+        let kind = and_parts (nat_lt r n && nat_lt c n) (nat_eq ((5 * r + c) % 8) 4) plain.0 in
         let here = and_parts (nat_lt r n) (nat_lt c n) kind.0 in
         let lr = ltb-true r n here.0 in
         let lc = ltb-true c n here.1 in
         ap reversed_bits (in_row r (c / 8) lr (omega (arith, lc, most)))
-        ∙ standard_word r c (get_or news r 0) lr lc (eqb-true ((5 * r + c) % 8) 4 kind.1) (all_inside n (standard n r c) both.1) (slots.anchors r lr)
+        ∙ standard_word r c (get_or news r 0) lr lc (eqb-true ((5 * r + c) % 8) 4 kind.1) (cells_inside n n (standard n r c) (subst (λ (cs : List Cell). inside_test n n cs ≡ true) same both.1)) (slots.anchors r lr)
+        ∙ ap (word_at look) (sym same)
     shape_word Corner1 fits =
-        let both = and_parts (kind_test n Corner1) (inside_test n (cells_of n Corner1)) fits in
-        slots.corner1 (eqb-true (n % 8) 4 both.0) ∙ plain_bits 0 (cells_of n Corner1) (all_inside n (cells_of n Corner1) both.1)
+        let both = and_parts (kind_test n Corner1) (inside_test n n (cells_of n Corner1)) fits in
+        slots.corner1 (eqb-true (n % 8) 4 both.0) ∙ plain_bits 0 (cells_of n Corner1) (cells_inside n n (cells_of n Corner1) both.1)
     shape_word Corner2 fits =
-        let both = and_parts (kind_test n Corner2) (inside_test n (cells_of n Corner2)) fits in
-        slots.corner2 (eqb-true (n % 8) 6 both.0) ∙ plain_bits 0 (cells_of n Corner2) (all_inside n (cells_of n Corner2) both.1)
+        let both = and_parts (kind_test n Corner2) (inside_test n n (cells_of n Corner2)) fits in
+        slots.corner2 (eqb-true (n % 8) 6 both.0) ∙ plain_bits 0 (cells_of n Corner2) (cells_inside n n (cells_of n Corner2) both.1)
     shape_word Corner3 fits = cc
     shape_word Corner4 fits = cc
 
     -- The codewords of all shapes stand in their slots.
-    pub slot_words : (ss : List Shape) → list_all (fits_test n) ss ≡ true → map (λ x. reversed_bits (slot_byte news x)) (map slot_of ss) ≡ map (λ sh. word_of look (cells_of n sh)) ss
+    pub slot_words : (ss : List Shape) → list_all (fits_test n) ss ≡ true → map (λ x. reversed_bits (slot_byte news x)) (map slot_of ss) ≡ map (λ sh. word_at look (cells_of n sh)) ss
     slot_words [] fits = refl
     slot_words (s ∷ ss) fits =
         let both = and_parts (fits_test n s) (list_all (fits_test n) ss) fits in
-        ap (λ (w : ℕ). w ∷ map (λ x. reversed_bits (slot_byte news x)) (map slot_of ss)) (shape_word s both.0) ∙ ap (λ (ws : List ℕ). word_of look (cells_of n s) ∷ ws) (slot_words ss both.1)
+        ap (λ (w : ℕ). w ∷ map (λ x. reversed_bits (slot_byte news x)) (map slot_of ss)) (shape_word s both.0) ∙ ap (λ (ws : List ℕ). word_at look (cells_of n s) ∷ ws) (slot_words ss both.1)

@@ -7,7 +7,7 @@ use Rattle.std.proofs.lemmas.Bool.{eqb-true}
 use Rattle.std.proofs.lemmas.List.Folds.{sum_by-zero}
 use Rattle.dm_layout.specs.Grid.{GridView, cell_at}
 use Rattle.dm_layout.specs.Border.{is_border, border_is_dark, is_fault, border_fault_count}
-use Rattle.dm_layout.proofs.Ranges.{all_at}
+use Rattle.dm_place.proofs.Exported.{all_at}
 
 -- The border cells of the grid have their colours.
 abbrev pub IsBordered : GridView → Type 0

@@ -6,9 +6,9 @@ use Rattle.dm_layout.specs.Border.{is_border, is_fixed, symbol_line}
 use Rattle.dm_layout.specs.Modules.{Kind, LiesAt, IsOfKind, EachModuleHasOneKind}
 use Rattle.dm_layout.specs.Modules.Kind.{OfBorder, OfFixedSquare, Bit}
 use Rattle.dm_layout.specs.Placement.{At, IsPlace}
-use Rattle.dm_layout.specs.declared.shape.Cell.{Cell}
+use Rattle.dm_place.specs.declared.shape.Cell.{Cell}
 use Rattle.dm_layout.specs.inner.Drawing.{mapping_line}
-use Rattle.dm_layout.proofs.PlaceOrder.{none_fixed, one_bit, some_bit}
+use Rattle.dm_place.proofs.Exported.{none_fixed, one_bit, some_bit}
 use Rattle.dm_layout.proofs.PlacementRows.{once_at_row}
 use Rattle.dm_layout.proofs.SymbolLines.{no_border, off_border, symbol_line-one}
 use Rattle.dm_layout.proofs.TableRows.{row_facts}
@@ -49,7 +49,7 @@ module _ (size : SizeRow) (row column : ℕ) (is_row : IsRow size) where
       only OfBorder h = absurd (none_in_border cell at h)
       only OfFixedSquare h = refl
       only (Bit word bit) h =
-          absurd (none_fixed size.mapping cell.row cell.column word bit (once_at_row size is_row) fixed (subst (IsPlace size.mapping word bit) (same_cell h.0 cell h.2 at) h.1))
+          absurd (none_fixed size.mapping size.mapping cell.row cell.column word bit (once_at_row size is_row) fixed (subst (IsPlace size.mapping word bit) (same_cell h.0 cell h.2 at) h.1))
 
   -- A module of a bit is nothing else.
   of_bit : (cell : Cell) (word bit : ℕ) → IsPlace size.mapping word bit cell → LiesAt size cell row column → OfOne
@@ -59,10 +59,10 @@ module _ (size : SizeRow) (row column : ℕ) (is_row : IsRow size) where
       only OfBorder h = absurd (none_in_border cell at h)
       only OfFixedSquare h =
           let here : IsPlace size.mapping word bit h.0 = subst (IsPlace size.mapping word bit) (same_cell cell h.0 at h.4) place in
-          absurd (none_fixed size.mapping h.0.row h.0.column word bit (once_at_row size is_row) h.3 here)
+          absurd (none_fixed size.mapping size.mapping h.0.row h.0.column word bit (once_at_row size is_row) h.3 here)
       only (Bit v b) h =
           let here : IsPlace size.mapping v b cell = subst (IsPlace size.mapping v b) (same_cell h.0 cell h.2 at) h.1 in
-          let same = one_bit size.mapping cell.row cell.column word bit v b (once_at_row size is_row) place here in
+          let same = one_bit size.mapping size.mapping cell.row cell.column word bit v b (once_at_row size is_row) place here in
           ap (λ (i : ℕ). Bit i b) same.0 ∙ ap (Bit word) same.1
 
   -- A module that lies in no border lies where a cell of the mapping square does, in the fixed square or outside it.
@@ -78,7 +78,7 @@ module _ (size : SizeRow) (row column : ℕ) (is_row : IsRow size) where
           LiesAt size (At (mapping_line size.region_side row) (mapping_line size.region_side column)) row column → OfOne
       by_square true fixed r c at = of_fixed (At (mapping_line size.region_side row) (mapping_line size.region_side column)) r c fixed at
       by_square false free r c at =
-          let one = some_bit size.mapping (mapping_line size.region_side row) (mapping_line size.region_side column) (once_at_row size is_row) r c free in
+          let one = some_bit size.mapping size.mapping (mapping_line size.region_side row) (mapping_line size.region_side column) (once_at_row size is_row) r c free in
           of_bit (At (mapping_line size.region_side row) (mapping_line size.region_side column)) one.0 one.1 one.2 at
 
   by_border : (border : Bool) → is_border size row column ≡ border → row < size.side → column < size.side → OfOne

@@ -7,14 +7,14 @@ use Rattle.std.proofs.Math.Pow.{pow_pos}
 use Rattle.std.proofs.lemmas.Bool.{eqb-true, eqb-false, ne_eqb, cases_lt}
 use Rattle.std.proofs.lemmas.Nat.{pow_below}
 use Rattle.std.proofs.lemmas.Nat.Bits.{bit_at-zero, bit_at_above}
-use Rattle.dm_layout.specs.declared.shape.Cell.{Cell}
-use Rattle.dm_layout.specs.declared.cells.Place.{Place}
+use Rattle.dm_place.specs.declared.shape.Cell.{Cell}
+use Rattle.dm_place.specs.declared.cells.Place.{Place}
 use Rattle.dm_layout.specs.Border.{is_fixed}
 use Rattle.dm_layout.specs.Grid.{is_dark_in}
 use Rattle.dm_layout.specs.Holds.{bit_of}
 use Rattle.dm_layout.specs.Placement.{At, IsPlace, EachCellOnce, bits_from, places_in_order}
 use Rattle.dm_layout.specs.inner.Reading.{look_in, marks_in}
-use Rattle.dm_layout.proofs.PlaceOrder.{ArePlaces, all_are_places, one_bit, none_fixed, place_at, lies_in, length-places_in_order}
+use Rattle.dm_place.proofs.Exported.{ArePlaces, all_are_places, one_bit, none_fixed, place_at, lies_in, length-places_in_order}
 use Rattle.dm_layout.proofs.WidenedRows.{put_over, bit_up, none_up}
 
 -- ---- one bit
@@ -118,21 +118,21 @@ same_place n r c p e f h =
     subst (λ (j : ℕ). IsPlace n p.word p.bit (At r j)) (sym (eqb-true c p.column f)) (subst (λ (i : ℕ). IsPlace n p.word p.bit (At i p.column)) (sym (eqb-true r p.row e)) h)
 
 -- A cell whose bit is 0 isn't marked.
-marks_none : (n : ℕ) (words : List ℕ) (r c w b : ℕ) (ps : List Place) → EachCellOnce n → IsPlace n w b (At r c) → bit_of words w b ≡ false → ArePlaces n ps → marks words ps r c ≡ false
+marks_none : (n : ℕ) (words : List ℕ) (r c w b : ℕ) (ps : List Place) → EachCellOnce n → IsPlace n w b (At r c) → bit_of words w b ≡ false → ArePlaces n n ps → marks words ps r c ≡ false
 marks_none n words r c w b [] law place e are = refl
 marks_none n words r c w b (p ∷ rest) law place e are =
     both_false _ _
     (head_false (nat_eq r p.row) (nat_eq c p.column) (bit_of words p.word p.bit) (λ x y.
-    let one = one_bit n r c w b p.word p.bit law place (same_place n r c p x y are.0) in
+    let one = one_bit n n r c w b p.word p.bit law place (same_place n r c p x y are.0) in
     ap (λ (i : ℕ). bit_of words i p.bit) one.0 ∙ ap (bit_of words w) one.1 ∙ e))
     (marks_none n words r c w b rest law place e are.1)
 
 -- A cell of the fixed square isn't marked.
-marks_fixed : (n : ℕ) (words : List ℕ) (r c : ℕ) (ps : List Place) → EachCellOnce n → is_fixed n r c ≡ true → ArePlaces n ps → marks words ps r c ≡ false
+marks_fixed : (n : ℕ) (words : List ℕ) (r c : ℕ) (ps : List Place) → EachCellOnce n → is_fixed n r c ≡ true → ArePlaces n n ps → marks words ps r c ≡ false
 marks_fixed n words r c [] law e are = refl
 marks_fixed n words r c (p ∷ rest) law e are =
     both_false _ _
-    (head_false (nat_eq r p.row) (nat_eq c p.column) (bit_of words p.word p.bit) (λ x y. absurd (none_fixed n r c p.word p.bit law e (same_place n r c p x y are.0))))
+    (head_false (nat_eq r p.row) (nat_eq c p.column) (bit_of words p.word p.bit) (λ x y. absurd (none_fixed n n r c p.word p.bit law e (same_place n r c p x y are.0))))
     (marks_fixed n words r c rest law e are.1)
 
 -- One of two tests passes if the second does.
@@ -162,14 +162,14 @@ pub marks_bit : (n : ℕ) (words : List ℕ) (w b : ℕ) (cell : Cell) → EachC
 marks_bit n words w b cell law p = by_bit (bit_of words w b) refl
   where
     by_bit : (t : Bool) → bit_of words w b ≡ t → marks words (places_in_order n) cell.row cell.column ≡ t
-    by_bit false e = marks_none n words cell.row cell.column w b (places_in_order n) law p e (all_are_places n)
+    by_bit false e = marks_none n words cell.row cell.column w b (places_in_order n) law p e (all_are_places n n)
     by_bit true e =
         let d : Place = lies_in w b cell in
         let lo = p.from_one in
         let hi = p.to_eight in
-        let k : 8 * w + (b - 1) < length (places_in_order n) = omega (arith, length-places_in_order n, p.word_in) in
-        marks_some words cell.row cell.column w b (places_in_order n) (8 * w + (b - 1)) d k (place_at n w b d p.word_in lo hi ∙ ap (lies_in w b) p.there) e
+        let k : 8 * w + (b - 1) < length (places_in_order n) = omega (arith, length-places_in_order n n, p.word_in) in
+        marks_some words cell.row cell.column w b (places_in_order n) (8 * w + (b - 1)) d k (place_at n n w b d p.word_in lo hi ∙ ap (lies_in w b) p.there) e
 
 -- The places of all bits mark nothing in the fixed square.
 pub marks_no_fixed : (n : ℕ) (words : List ℕ) (r c : ℕ) → EachCellOnce n → is_fixed n r c ≡ true → marks words (places_in_order n) r c ≡ false
-marks_no_fixed n words r c law e = marks_fixed n words r c (places_in_order n) law e (all_are_places n)
+marks_no_fixed n words r c law e = marks_fixed n words r c (places_in_order n) law e (all_are_places n n)

@@ -7,12 +7,13 @@ use Rattle.std.proofs.lemmas.Bool.{and_parts, ltb-true}
 use Rattle.std.proofs.lemmas.List.{length-map, take_more, take_more_set, get_or-map}
 use Rattle.dm_layout.specs.Sizes.{SizeRow, IsRow, codeword_count, largest_mapping}
 use Rattle.dm_layout.specs.Placement.{shapes}
-use Rattle.dm_layout.specs.declared.shape.Shape.{Shape}
-use Rattle.dm_layout.specs.declared.shape.Shape.TheVariants.{Standard, Corner1, Corner2, Corner3, Corner4}
+use Rattle.dm_place.specs.declared.shape.Shape.{Shape}
+use Rattle.dm_place.specs.declared.shape.Shape.TheVariants.{Standard, Corner1, Corner2, Corner3, Corner4}
 use Rattle.dm_layout.specs.Placement.{cells_of}
+use Rattle.dm_layout.specs.inner.Wrapped.{standard}
 use Rattle.dm_layout.specs.inner.Slots.{order_of, slot_of, HasSlot}
-use Rattle.dm_layout.proofs.FewerTests.{few_shapes, shapes-few}
-use Rattle.dm_layout.proofs.LiftedWords.{fits_test, kind_test, inside_test}
+use Rattle.dm_place.proofs.Exported.{few_shapes, inside_test, shapes-few}
+use Rattle.dm_layout.proofs.LiftedWords.{same_cells, fits_test, kind_test}
 use Rattle.dm_layout.proofs.PlacementRows.{count_at_row}
 use Rattle.dm_layout.proofs.TableRows.{passed_at_row}
 use Rattle.dm_layout.proofs.TestedSlots as slotted
@@ -28,17 +29,17 @@ pub order_at_row : (s : SizeRow) → IsRow s → IsOrder s.mapping
 order_at_row s row =
     let n : ℕ = s.mapping in
     let passed = passed_at_row (λ size. slots_test size.mapping) s slotted.tested row in
-    let both = and_parts (pointwise nat_eq (order_of n) (map slot_of (few_shapes n))) (list_all (fits_test n) (few_shapes n)) passed in
+    let both = and_parts (pointwise nat_eq (order_of n) (map slot_of (few_shapes n n))) (list_all (fits_test n) (few_shapes n n)) passed in
     record {
-      slots = same_text (order_of n) (map slot_of (few_shapes n)) (sym both.0) ∙ ap (map slot_of) (sym (shapes-few n));
-      fits = ap (list_all (fits_test n)) (shapes-few n) ∙ both.1;
+      slots = same_text (order_of n) (map slot_of (few_shapes n n)) (sym both.0) ∙ ap (map slot_of) (sym (shapes-few n n));
+      fits = ap (list_all (fits_test n)) (shapes-few n n) ∙ both.1;
     }
 
 -- The slot of a shape that fits lies in the rows.
 slot_fits : (n most : ℕ) (s : Shape) → n ≤ most → n ≤ largest_mapping → fits_test n s ≡ true → HasSlot most (slot_of s)
 slot_fits n most (Standard r c) l small fits =
-    let both = and_parts (kind_test n (Standard r c)) (inside_test n (cells_of n (Standard r c))) fits in
-    let kind = and_parts (nat_lt r n && nat_lt c n) (nat_eq ((5 * r + c) % 8) 4) both.0 in
+    let both = and_parts (kind_test n (Standard r c)) (inside_test n n (cells_of n (Standard r c))) fits in
+    let kind = and_parts (nat_lt r n && nat_lt c n) (nat_eq ((5 * r + c) % 8) 4) (and_parts ((nat_lt r n && nat_lt c n) && nat_eq ((5 * r + c) % 8) 4) (same_cells (cells_of n (Standard r c)) (standard n r c)) both.0).0 in
     let here = and_parts (nat_lt r n) (nat_lt c n) kind.0 in
     let lr = ltb-true r n here.0 in
     let lc = ltb-true c n here.1 in

@@ -16,10 +16,10 @@ use Rattle.dm_layout.specs.inner.Reading.{look_in}
 use Rattle.dm_layout.specs.inner.Slots.{is_joined, reversed_bits}
 use Rattle.dm_layout.specs.declared.slots.TheConstants.{REVERSED}
 use Rattle.dm_layout.specs.declared.bit_rows.TheConstants.{LOW_TWO_BITS, LOW_THREE_BITS, NARROW_LOW_TWO_BITS, NARROW_LOW_THREE_BITS}
-use Rattle.dm_layout.proofs.Ranges.{all_below}
+use Rattle.dm_place.proofs.Exported.{all_below}
 use Rattle.dm_layout.proofs.OuterRows.{or_dark}
 use Rattle.dm_layout.specs.Placement.{cells_of}
-use Rattle.dm_layout.specs.declared.shape.Shape.TheVariants.{Corner1, Corner2}
+use Rattle.dm_place.specs.declared.shape.Shape.TheVariants.{Corner1, Corner2}
 use Rattle.dm_layout.specs.inner.Slots.{IsJoined, AreJoined, HasSlots, corner_slot, first_column, slot_byte, word_in}
 use Rattle.dm_layout.proofs.InnerRows.{moved_bit}
 use Rattle.dm_layout.proofs.WidenedRows.{bit_up, none_up, low_bit}

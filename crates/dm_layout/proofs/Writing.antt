@@ -1,14 +1,14 @@
 -- A grid after the bits of codewords are put at their places.
 use Rattle.std.proofs.Common.{◌≡◌, ◌≢◌, ◌⊎◌, inl, inr, ℕ, zero, suc, ◌<◌, Bool, true, false, nat_eq, List, [], ◌∷◌, length, get_or, refl, sym, ◌∙◌, ap, arith, subst}
 use Rattle.std.proofs.lemmas.Bool.Decides.{eqb_tells}
-use Rattle.dm_layout.specs.declared.cells.Place.{Place}
+use Rattle.dm_place.specs.declared.cells.Place.{Place}
 use Rattle.dm_layout.specs.Sizes.{SizeRow, IsRow}
 use Rattle.dm_layout.specs.Grid.{GridView, IsGrid, cell_at}
 use Rattle.dm_layout.specs.Border.{symbol_line}
 use Rattle.dm_layout.specs.Placement.{At, IsPlace, EachCellOnce}
 use Rattle.dm_layout.specs.Holds.{bit_of}
 use Rattle.dm_layout.proofs.GridLemmas.{with_cell, cell_written, cell_of_other_row, cell_of_other_column, grid_with_cell}
-use Rattle.dm_layout.proofs.PlaceOrder.{ArePlaces, one_bit}
+use Rattle.dm_place.proofs.Exported.{ArePlaces, one_bit}
 use Rattle.dm_layout.proofs.SymbolLines.{symbol_line-one, lies_inside}
 use Rattle.dm_layout.proofs.TableRows.{row_facts}
 
@@ -44,7 +44,7 @@ begun_more s p b grid row law place h =
     record { square = grid_with_cell grid _ _ b h.square (subst (λ (t : SizeRow). symbol_line s.region_side p.row < t.side) (sym h.same_size) l); same_size = h.same_size }
 
 -- A grid into which any bits are put at their places stays well formed and keeps its size.
-pub begun_all : (s : SizeRow) (words : List ℕ) (ps : List Place) (grid : GridView) → IsRow s → EachCellOnce s.mapping → ArePlaces s.mapping ps → IsBegun s grid → IsBegun s (written s words ps grid)
+pub begun_all : (s : SizeRow) (words : List ℕ) (ps : List Place) (grid : GridView) → IsRow s → EachCellOnce s.mapping → ArePlaces s.mapping s.mapping ps → IsBegun s grid → IsBegun s (written s words ps grid)
 begun_all s words [] grid row law are h = h
 begun_all s words (p ∷ rest) grid row law are h =
     begun_all s words rest (with_cell grid _ _ (bit_of words p.word p.bit)) row law are.1 (begun_more s p (bit_of words p.word p.bit) grid row law are.0 h)
@@ -59,7 +59,7 @@ side_of : (s : SizeRow) (grid : GridView) (x : ℕ) → IsBegun s grid → x < s
 side_of s grid x h l = subst (λ (t : SizeRow). x < t.side) (sym h.same_size) l
 
 -- A cell in which none of the places lies stays as it was, whatever bits are put.
-pub written-avoided : (s : SizeRow) (words : List ℕ) (ps : List Place) (grid : GridView) (u v : ℕ) → IsRow s → EachCellOnce s.mapping → ArePlaces s.mapping ps → IsBegun s grid → Avoids s u v ps →
+pub written-avoided : (s : SizeRow) (words : List ℕ) (ps : List Place) (grid : GridView) (u v : ℕ) → IsRow s → EachCellOnce s.mapping → ArePlaces s.mapping s.mapping ps → IsBegun s grid → Avoids s u v ps →
     cell_at (written s words ps grid) u v ≡ cell_at grid u v
 written-avoided s words [] grid u v row law are h a = refl
 written-avoided s words (p ∷ rest) grid u v row law are h a =
@@ -70,7 +70,7 @@ written-avoided s words (p ∷ rest) grid u v row law are h a =
     ∙ cell_elsewhere grid _ _ u v b h.square l a.0
 
 -- A cell that has its bit keeps it when further bits are put, since a cell holds one bit.
-pub stays_right : (s : SizeRow) (words : List ℕ) (ps : List Place) (grid : GridView) (w b r c : ℕ) → IsRow s → EachCellOnce s.mapping → ArePlaces s.mapping ps → IsBegun s grid → IsPlace s.mapping w b (At r c) →
+pub stays_right : (s : SizeRow) (words : List ℕ) (ps : List Place) (grid : GridView) (w b r c : ℕ) → IsRow s → EachCellOnce s.mapping → ArePlaces s.mapping s.mapping ps → IsBegun s grid → IsPlace s.mapping w b (At r c) →
     cell_at grid (symbol_line s.region_side r) (symbol_line s.region_side c) ≡ bit_of words w b →
     cell_at (written s words ps grid) (symbol_line s.region_side r) (symbol_line s.region_side c) ≡ bit_of words w b
 stays_right s words [] grid w b r c row law are h place e = e
@@ -89,7 +89,7 @@ stays_right s words (p ∷ rest) grid w b r c row law are h place e =
         cell_at (with_cell grid (symbol_line s.region_side p.row) (symbol_line s.region_side p.column) (bit_of words p.word p.bit)) (symbol_line s.region_side r) (symbol_line s.region_side c) ≡ bit_of words w b
     by_row lr lc (inl x) (inl y) =
         let here : IsPlace s.mapping w b (At p.row p.column) = subst (λ (j : ℕ). IsPlace s.mapping w b (At p.row j)) y.1 (subst (λ (i : ℕ). IsPlace s.mapping w b (At i c)) x.1 place) in
-        let one = one_bit s.mapping p.row p.column w b p.word p.bit law here are.0 in
+        let one = one_bit s.mapping s.mapping p.row p.column w b p.word p.bit law here are.0 in
         let put = cell_written grid (symbol_line s.region_side p.row) (symbol_line s.region_side p.column) (bit_of words p.word p.bit) h.square lr lc in
         let moved = ap (λ (i : ℕ). cell_at (with_cell grid (symbol_line s.region_side p.row) (symbol_line s.region_side p.column) (bit_of words p.word p.bit)) (symbol_line s.region_side i) (symbol_line s.region_side c)) x.1 in
         let across = ap (λ (j : ℕ). cell_at (with_cell grid (symbol_line s.region_side p.row) (symbol_line s.region_side p.column) (bit_of words p.word p.bit)) (symbol_line s.region_side p.row) (symbol_line s.region_side j)) y.1 in
@@ -102,7 +102,7 @@ stays_right s words (p ∷ rest) grid w b r c row law are h place e =
         cell_elsewhere grid _ _ _ _ _ h.square lr (λ f g. y.1 (symbol_line-one s.region_side c p.column facts.least g)) ∙ e
 
 -- The cell of a place has its bit once the bit of this place is put.
-pub becomes_right : (s : SizeRow) (words : List ℕ) (ps : List Place) (grid : GridView) (i : ℕ) (d : Place) → IsRow s → EachCellOnce s.mapping → ArePlaces s.mapping ps → IsBegun s grid → i < length ps →
+pub becomes_right : (s : SizeRow) (words : List ℕ) (ps : List Place) (grid : GridView) (i : ℕ) (d : Place) → IsRow s → EachCellOnce s.mapping → ArePlaces s.mapping s.mapping ps → IsBegun s grid → i < length ps →
     cell_at (written s words ps grid) (symbol_line s.region_side (get_or ps i d).row) (symbol_line s.region_side (get_or ps i d).column) ≡ bit_of words (get_or ps i d).word (get_or ps i d).bit
 becomes_right s words [] grid i d row law are h l = absurd (omega arith)
 becomes_right s words (p ∷ rest) grid zero d row law are h l =

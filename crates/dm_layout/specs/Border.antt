@@ -1,8 +1,10 @@
 -- Borders (the finder pattern and the alignment patterns), where a cell of the mapping square lies in the symbol,
 -- and the fixed square: ISO/IEC 16022, symbol structure.
-use Rattle.std.specs.Prelude.{◌≡◌, ℕ, ◌+◌, ◌*◌, ◌/◌, ◌%◌, ◌<◌, Bool, true, not, ◌&&◌, ◌||◌, nat_eq, nat_le, if◌then◌else◌, sum_by, count_by}
+use Rattle.std.specs.Prelude.{◌≡◌, ℕ, ◌+◌, ◌%◌, ◌<◌, Bool, true, not, ◌&&◌, sum_by, count_by}
 use Rattle.std.specs.Bool.{beq}
 use Rattle.std.specs.List.{range_with_len}
+use Rattle.dm_place.specs.Border as border
+pub use Rattle.dm_place.specs.Border.{edge_is_dark, symbol_line, fixed_is_dark}
 use Rattle.dm_layout.specs.Sizes.{SizeRow}
 use Rattle.dm_layout.specs.Grid.{GridView, cell_at}
 
@@ -10,14 +12,7 @@ use Rattle.dm_layout.specs.Grid.{GridView, cell_at}
 
 -- A cell of this square belongs to the border if it lies in the left or right column or in the top or bottom row.
 abbrev pub is_on_edge : ℕ → ℕ → ℕ → Bool
-is_on_edge d row column = nat_eq column 0 || nat_eq row (d + 1) || nat_eq row 0 || nat_eq column (d + 1)
-
--- A border cell of the left column or the bottom row is dark; another one of the top row is dark if its column is
--- even, and another one of the right column if its row is odd.
-abbrev pub edge_is_dark : ℕ → ℕ → ℕ → Bool
-edge_is_dark d row column =
-    if nat_eq column 0 || nat_eq row (d + 1) then true
-    else (if nat_eq row 0 then nat_eq (column % 2) 0 else nat_eq (row % 2) 1)
+is_on_edge d = border.is_on_edge d d
 
 -- ---- the whole symbol, whose regions with their borders lie side by side
 
@@ -29,10 +24,6 @@ is_border size row column = is_on_edge size.region_side (row % (size.region_side
 -- A border cell of the symbol is dark if it is dark at its place in its region's square.
 abbrev pub border_is_dark : SizeRow → ℕ → ℕ → Bool
 border_is_dark size row column = edge_is_dark size.region_side (row % (size.region_side + 2)) (column % (size.region_side + 2))
-
--- A row of the mapping square lies in this row of a symbol whose data regions have the side d; a column likewise.
-abbrev pub symbol_line : ℕ → ℕ → ℕ
-symbol_line d line = line + 2 * (line / d) + 1
 
 -- A cell of the mapping square has the colour of the symbol cell at which it lies.
 abbrev pub mapped_cell : GridView → ℕ → ℕ → Bool
@@ -54,11 +45,7 @@ border_fault_count grid =
 -- The fixed square is the lower right 2 by 2 cells of a mapping square whose side n leaves 2 when divided by 4; a
 -- mapping square of another side has none.
 abbrev pub is_fixed : ℕ → ℕ → ℕ → Bool
-is_fixed n row column = nat_eq (n % 4) 2 && nat_le n (row + 2) && nat_le n (column + 2)
-
--- Of the cells of the fixed square (n-2, n-2) and (n-1, n-1) are dark, the other two light.
-abbrev pub fixed_is_dark : ℕ → ℕ → Bool
-fixed_is_dark row column = nat_eq row column
+is_fixed n = border.is_fixed n n
 
 -- A grid has the fixed square if, where its size has one, each cell of it has its colour.
 abbrev pub HasFixedSquare : GridView → Type 0

@@ -1,14 +1,10 @@
 -- Which codewords a grid holds, and the grid in which codewords are laid: ISO/IEC 16022, module placement and symbol structure.
-use Rattle.std.specs.Prelude.{◌≡◌, ℕ, ◌-◌, ◌/◌, ◌%◌, ◌^◌, Bool, List, get_or, nat_eq}
-use Rattle.dm_layout.specs.declared.shape.Cell.{Cell}
+use Rattle.std.specs.Prelude.{◌≡◌}
+use Rattle.dm_place.specs.Holding.{HoldsBits}
+pub use Rattle.dm_place.specs.Holding.{bit_of}
 use Rattle.dm_layout.specs.Grid.{GridView, IsGrid}
 use Rattle.dm_layout.specs.Words.{WordsView, IsWords}
 use Rattle.dm_layout.specs.Border.{mapped_cell, border_fault_count, HasFixedSquare}
-use Rattle.dm_layout.specs.Placement.{IsPlace}
-
--- Bit 1 of a codeword is its highest bit and bit 8 its lowest; true is 1.
-abbrev pub bit_of : List ℕ → ℕ → ℕ → Bool
-bit_of words word bit = nat_eq (get_or words word 0 / 2 ^ (8 - bit) % 2) 1
 
 -- A grid holds codewords if both are of one size and, for every bit of every codeword, the cell at which the bit's
 -- place lies in the symbol is dark exactly where the bit is 1. There are exactly as many codewords as the size has,
@@ -18,7 +14,7 @@ pub record Holds (grid : GridView) (words : WordsView) : Type 0 where
   pub square : IsGrid grid
   pub codewords : IsWords words
   pub same_size : words.size ≡ grid.size
-  pub bits : (word bit : ℕ) (cell : Cell) → IsPlace grid.size.mapping word bit cell → mapped_cell grid cell.row cell.column ≡ bit_of words.list word bit
+  pub bits : HoldsBits grid.size.mapping grid.size.mapping (mapped_cell grid) words.list
 
 -- Codewords are laid in a grid if the grid holds them, has no border fault and has the fixed square.
 pub record IsLaid (words : WordsView) (grid : GridView) : Type 0 where

@@ -5,7 +5,6 @@ pub mod Border
 pub mod Modules
 pub mod Blocks
 pub mod Placement
-pub mod Sweep
 pub mod Holds
 pub mod Equality
 pub mod inner

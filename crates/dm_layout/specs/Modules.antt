@@ -3,7 +3,7 @@ use Rattle.std.specs.Prelude.{◌≡◌, ℕ, ◌<◌, Bool, true, if◌then◌e
 use Rattle.dm_layout.specs.Sizes.{SizeRow, IsRow}
 use Rattle.dm_layout.specs.Border.{is_border, border_is_dark, is_fixed, symbol_line}
 use Rattle.dm_layout.specs.Placement.{IsPlace}
-use Rattle.dm_layout.specs.declared.shape.Cell.{Cell}
+use Rattle.dm_place.specs.declared.shape.Cell.{Cell}
 
 -- A module of a border has a prescribed colour. Any other module has none here, not even one of the fixed square.
 abbrev pub border_colour : SizeRow → ℕ → ℕ → Option Bool

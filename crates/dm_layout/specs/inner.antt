@@ -2,6 +2,7 @@
 -- contract of a public function and no law does.
 pub mod Keeping
 pub mod Walking
+pub mod Wrapped
 pub mod Reading
 pub mod Widened
 pub mod Slots

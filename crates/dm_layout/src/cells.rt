@@ -4,31 +4,20 @@ ghost use Rattle.std.specs.Prelude.{◌≡◌, List};
 ghost use Rattle.std.specs.Iterator.{YieldsFirst, item_count};
 ghost use Rattle.dm_layout.specs.Placement.{places_in_order};
 ghost use Rattle.dm_layout.specs.inner.Walking.{places_left, CellsAreSafe};
-ghost use Rattle.dm_layout.specs.declared.cells.Place.{Place};
+ghost use Rattle.dm_place.specs.declared.cells.Place.{Place};
 
 use crate::shape::Cell;
 use crate::size::Size;
-use crate::sweep::Walk;
+pub use dm_place::Place;
+use dm_place::Shapes;
 use std::marker::Model;
-
-/// One bit of one codeword of a symbol, and the cell of the mapping square in which it lies.
-#[derive(Clone, Copy, Debug, PartialEq, Eq)]
-pub struct Place {
-    /// The codeword, in the order of the symbol, from 0.
-    pub word: u16,
-    /// The bit, from 1, the highest, to 8, the lowest.
-    pub bit: u8,
-    /// The row in the mapping square, from 0 at the top.
-    pub row: u16,
-    /// The column in the mapping square, from 0 at the left.
-    pub column: u16,
-}
 
 /// The places of all bits of all codewords of a symbol, by codeword and then by bit: an iterator, which ends
 /// after 8 places for each codeword (ISO/IEC 16022, module placement). In contracts it is the list of the places that are left.
 #[derive(Drop)]
 pub struct Cells {
-    walk: Walk,
+    shapes: Shapes,
+    mapping: u16,
     /// The cells of the current codeword.
     current: [Cell; 8],
     /// How many codewords the walk has given, with the current one.
@@ -40,9 +29,9 @@ pub struct Cells {
 impl Model for Cells {
     ghost Value = { List Place };
 
-    ghost view = { λ s. places_left s.current s.taken s.bit s.walk };
+    ghost view = { λ s. places_left s.mapping s.current s.taken s.bit s.shapes };
 
-    ghost invariant = { λ s. CellsAreSafe s.current s.taken s.bit s.walk };
+    ghost invariant = { λ s. CellsAreSafe s.mapping s.current s.taken s.bit s.shapes };
 }
 
 impl Cells {
@@ -50,8 +39,10 @@ impl Cells {
     pub fn new(size: Size) -> Cells
         ensures { result ≡ places_in_order size.mapping }
     {
+        let mapping = size.mapping();
         Cells {
-            walk: Walk::new(size.mapping()),
+            shapes: Shapes::new(mapping, mapping),
+            mapping,
             current: [Cell { row: 0, column: 0 }; 8],
             taken: 0,
             bit: 8,
@@ -70,7 +61,8 @@ impl Iterator for Cells {
     #[inline]
     fn next(&mut self) -> Option<Place> {
         if self.bit == 8 {
-            self.current = self.walk.next_cells()?;
+            let shape = self.shapes.next()?;
+            self.current = shape.cells(self.mapping, self.mapping);
             self.taken += 1;
             self.bit = 0;
         }

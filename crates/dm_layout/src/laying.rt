@@ -104,9 +104,9 @@ fn put_corner<R: BitRows>(rows: &mut R, mapping: u16, word: u8)
         ≡ (look_in (R.numbers rows.old) (r + 2) (c + 4) || corner_marks mapping word r c) }
 {
     if mapping % 8 == 4 {
-        put_cells(rows, word, &Shape::Corner1.cells(mapping));
+        put_cells(rows, word, &Shape::Corner1.cells(mapping, mapping));
     } else if mapping % 8 == 6 {
-        put_cells(rows, word, &Shape::Corner2.cells(mapping));
+        put_cells(rows, word, &Shape::Corner2.cells(mapping, mapping));
     }
 }
 

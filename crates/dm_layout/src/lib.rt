@@ -33,7 +33,6 @@ mod shape;
 mod size;
 mod slot_rows;
 mod slots;
-mod sweep;
 mod widened;
 mod words;
 

@@ -8,7 +8,7 @@ ghost use Rattle.dm_layout.specs.Sizes.{largest_mapping, most_across, regions_ac
 ghost use Rattle.dm_layout.specs.inner.Drawing.{IsDrawn, is_fixed_dark};
 ghost use Rattle.dm_layout.specs.inner.Reading.{look_in};
 ghost use Rattle.dm_layout.specs.Holds.{bit_of};
-ghost use Rattle.dm_layout.specs.declared.shape.Cell.{Cell};
+ghost use Rattle.dm_place.specs.declared.shape.Cell.{Cell};
 
 use crate::bit_rows::BitRows;
 use crate::border::draw_borders;

@@ -7,7 +7,7 @@ ghost use Rattle.dm_layout.specs.Placement.{cells_of};
 ghost use Rattle.dm_layout.specs.Sizes.{largest_mapping};
 ghost use Rattle.dm_layout.specs.inner.Slots.{first_column as first_column_by, reversed_bits, word_in, order_of, slot_byte, AreJoined, HasSlot, HasSlots};
 ghost use Rattle.dm_layout.specs.inner.Walking.{CellsInside};
-ghost use Rattle.dm_layout.specs.declared.shape.Shape.TheVariants.{Corner1, Corner2};
+ghost use Rattle.dm_place.specs.declared.shape.Shape.TheVariants.{Corner1, Corner2};
 
 use crate::bit_rows::BitRows;
 use crate::order_rows::*;
@@ -67,9 +67,9 @@ fn corner_word<R: BitRows>(rows: &R, mapping: u16) -> u8
         ≡ word_in (R.numbers rows.now) (cells_of mapping Corner2) }
 {
     if mapping % 8 == 4 {
-        word_of_cells(rows, &Shape::Corner1.cells(mapping))
+        word_of_cells(rows, &Shape::Corner1.cells(mapping, mapping))
     } else if mapping % 8 == 6 {
-        word_of_cells(rows, &Shape::Corner2.cells(mapping))
+        word_of_cells(rows, &Shape::Corner2.cells(mapping, mapping))
     } else {
         0
     }

@@ -10,13 +10,14 @@ use Rattle.dm_words.specs.declared.extent.Extent.{Extent}
 use Rattle.dm_words.specs.declared.item.Item.{Item}
 use Rattle.dm_words.specs.declared.profile.Profile.{Profile}
 use Rattle.dm_code.specs.Codeword.{distance, differing}
-use Rattle.dm_layout.specs.declared.shape.Cell.{Cell}
+use Rattle.dm_place.specs.declared.shape.Cell.{Cell}
 use Rattle.dm_layout.specs.Sizes.{SizeRow, IsRow, codeword_count, block_length}
 use Rattle.dm_layout.specs.Grid.{GridView, IsGrid, cell_at}
 use Rattle.dm_layout.specs.Border.{border_fault_count, is_fault, is_border, border_is_dark, symbol_line}
 use Rattle.dm_layout.specs.Placement.{place, At, IsPlace}
 use Rattle.dm_layout.specs.Holds.{bit_of}
-use Rattle.dm_layout.proofs.Exported.{lies_inside, one_bit, row_facts, same_row, symbol_line-one}
+use Rattle.dm_place.proofs.Exported.{one_bit}
+use Rattle.dm_layout.proofs.Exported.{lies_inside, row_facts, same_row, symbol_line-one}
 use Rattle.dm_words.specs.Messages.{IsMessage}
 use Rattle.dm_symbol.specs.Blocks.{AreHeld, block_at}
 use Rattle.dm_symbol.specs.NormalGrid.{IsNormalGrid}
@@ -127,7 +128,7 @@ one_lies size row b hb i j r c hi hj li lj =
     let py = is_place size row b j lj.bit hb hj lj.from_one lj.to_eight in
     let same : y ≡ x = same_cell y x (symbol_line-one size.region_side y.row x.row least (lj.row ∙ sym li.row)) (symbol_line-one size.region_side y.column x.column least (lj.column ∙ sym li.column)) in
     let py_at : IsPlace size.mapping (j * size.blocks + b) lj.bit x = subst (λ cell. IsPlace size.mapping (j * size.blocks + b) lj.bit cell) same py in
-    let both = one_bit size.mapping x.row x.column (i * size.blocks + b) li.bit (j * size.blocks + b) lj.bit (each_cell_once size row) px py_at in
+    let both = one_bit size.mapping size.mapping x.row x.column (i * size.blocks + b) li.bit (j * size.blocks + b) lj.bit (each_cell_once size row) px py_at in
     (same_from_place i b j b size.blocks hb hb (sym both.0)).0
 
 -- Two numbers that equal two different ones differ.

@@ -2,6 +2,7 @@
 
 mod check_codewords;
 mod correction;
+mod erasures;
 mod samples;
 mod solvers;
 mod syndromes;

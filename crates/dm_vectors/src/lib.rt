@@ -17,6 +17,8 @@ mod layout;
 #[cfg(test)]
 mod messages;
 #[cfg(test)]
+mod modules;
+#[cfg(test)]
 mod symbol;
 #[cfg(test)]
 mod texts;

@@ -14,6 +14,7 @@ mod hostile;
 mod lines;
 mod places;
 mod shorter;
+mod smallest;
 mod wide;
 
 /// What the codewords spell, and the fault of no codeword where there are too many of them.

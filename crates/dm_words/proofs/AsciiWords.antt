@@ -13,7 +13,9 @@ use Rattle.dm_words.specs.Joined.{Piece, spelled, gathered, AreJoined}
 use Rattle.dm_words.specs.Ascii.{IsAsciiUnit, character, digits, fnc1, raised, is_digit, digit_pair, single, ascii, IsOneDigit, BeginsWithDigit, IsGreedy, IsAscii}
 use Rattle.dm_words.specs.Pads.{further_pads, pads, padded}
 use Rattle.dm_words.specs.Base256.{AreBytes}
+use Rattle.dm_words.specs.Smallest.{SpellsThenPads, plain_padded}
 use Rattle.dm_words.specs.Spells.{IsPart, ascii as ascii_part, IsEnd, nothing, pad, plain, Spells}
+use Rattle.dm_words.proofs.PadWords.{pads_are}
 use Rattle.dm_words.specs.Messages.{IsItem}
 use Rattle.dm_words.proofs.Segments.{AreBytes-append}
 
@@ -34,7 +36,7 @@ digits_of n lt = grind (arith, nat_tests)
 -- ---- the form from the left spells the message
 
 -- The codewords of a byte by itself are a unit that means it.
-single_spells : (b : ℕ) → b < 256 → (after : List ℕ) → IsAsciiUnit (single b) (Byte b ∷ [])
+pub single_spells : (b : ℕ) → b < 256 → (after : List ℕ) → IsAsciiUnit (single b) (Byte b ∷ [])
 single_spells b lt after = by_test (ltb b 128) refl where
   by_test : (t : Bool) → ltb b 128 ≡ t → IsAsciiUnit (cond t ((b + 1) ∷ []) (235 ∷ (b - 127) ∷ [])) (Byte b ∷ [])
   by_test true e = character (b + 1) b (character_of b (grind (arith, nat_tests))) refl refl
@@ -45,7 +47,7 @@ single_spells b lt after = by_test (ltb b 128) refl where
       raised 235 (b - 127) (b - 128) refl (rw w (character_of (b - 128) (omega arith))) refl (ap (λ (i : Item). i ∷ []) is)
 
 -- The codeword of two digits is a unit that means them.
-pair_spells : (b c : ℕ) → is_digit b ≡ true → is_digit c ≡ true → IsAsciiUnit (digit_pair b c ∷ []) (Byte b ∷ Byte c ∷ [])
+pub pair_spells : (b c : ℕ) → is_digit b ≡ true → is_digit c ≡ true → IsAsciiUnit (digit_pair b c ∷ []) (Byte b ∷ Byte c ∷ [])
 pair_spells b c hb hc =
     let lb : (48 ≤ b) × (b ≤ 57) = grind (arith, nat_tests) in
     let lc : (48 ≤ c) × (c ≤ 57) = grind (arith, nat_tests) in
@@ -118,6 +120,14 @@ ascii_spells extent m count fit =
     let h = units_of m fit in
     let after = pads (length (ascii m) + 1) (count - length (ascii m)) in
     plain (record { parts = h.units; after = after; whole = ap (λ (r : List ℕ). r ++ after) h.whole; joined = joined_units extent 1 h.units after h.each; ended = pads_end (length (ascii m) + 1) (count - length (ascii m)); items_are = h.items })
+
+-- It has only pads behind it.
+pub ascii_padded : (extent : Extent) (m : List Item) (count : ℕ) → AreItems m → SpellsThenPads extent (padded (ascii m) count) m
+ascii_padded extent m count fit =
+    let h = units_of m fit in
+    let after = pads (length (ascii m) + 1) (count - length (ascii m)) in
+    plain_padded (record { parts = h.units; after = after; whole = ap (λ (r : List ℕ). r ++ after) h.whole; joined = joined_units extent 1 h.units after h.each; ended = pads_end (length (ascii m) + 1) (count - length (ascii m)); items_are = h.items })
+    (pads_are (ascii m) count)
 
 -- The form from the left of a message is its ASCII form.
 pub is_ascii : (m : List Item) → AreItems m → IsAscii m (ascii m)

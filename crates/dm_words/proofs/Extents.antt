@@ -14,6 +14,7 @@ use Rattle.dm_words.specs.RunFaults.{OpenRun, IsRunFault, value, upper_shift, tr
 use Rattle.dm_words.specs.Spells.{IsPart, ascii, run, segment, edifact, plain, by_macro, Spells}
 use Rattle.dm_words.specs.Refused.{IsLeftOut, always, macro_behind, edifact as edifact_left_out, IsFault, reserved, left_out, unfinished as unfinished_unit, upper_shift as wrong_unit, faulty_run, faulty_segment, BeginNoMacro, plain as plain_fault, by_macro as behind_macro, Refused}
 use Rattle.dm_words.specs.Laws.{CanBeLeftOut}
+use Rattle.dm_words.specs.Smallest.{SpellsThenPads, plain_padded, macro_padded}
 use Rattle.dm_words.proofs.Parts.{part_complete}
 
 -- ---- what the usual extent reads
@@ -49,6 +50,12 @@ pub wide_reads_the_same : (words : List ℕ) (m : List Item) → Spells Usual wo
 wide_reads_the_same words m (plain p) =
     plain (record { parts = p.parts; after = p.after; joined = joined_wider 1 p.parts p.after p.joined; ended = p.ended; whole = p.whole; items_are = p.items_are })
 wide_reads_the_same words m (by_macro word digit more text is k whole p e) = absurd cc
+
+-- The same, with pads behind them.
+pub wide_reads_the_padded : (words : List ℕ) (m : List Item) → SpellsThenPads Usual words m → SpellsThenPads Wide words m
+wide_reads_the_padded words m (plain_padded p pads) =
+    plain_padded (record { parts = p.parts; after = p.after; joined = joined_wider 1 p.parts p.after p.joined; ended = p.ended; whole = p.whole; items_are = p.items_are }) pads
+wide_reads_the_padded words m (macro_padded word digit more text is k whole p e pads) = absurd cc
 
 -- ---- what is left out
 

@@ -265,7 +265,7 @@ edifact_complete words after items r =
 -- ---- how many items a run has
 
 -- Three codewords have four values.
-groups_room : (ps : List (Piece (List ℕ))) → AllByRecursion (λ p. IsGroup p.words p.what) ps → 3 * length (gathered ps) ≡ 4 * length (spelled ps)
+pub groups_room : (ps : List (Piece (List ℕ))) → AllByRecursion (λ p. IsGroup p.words p.what) ps → 3 * length (gathered ps) ≡ 4 * length (spelled ps)
 groups_room [] h = refl
 groups_room (p ∷ ps) h =
     let one = group_room p.words p.what h.0 in

@@ -42,7 +42,7 @@ shifted_byte Text Two v b e = grind (arith, nat_tests)
 shifted_byte Text Three v b e = grind (arith, nat_tests)
 
 -- A character of a run is below 128.
-character_byte : (set : CodeSet) (vs : List ℕ) (b : ℕ) → IsCharacter set vs b → b < 128
+pub character_byte : (set : CodeSet) (vs : List ℕ) (b : ℕ) → IsCharacter set vs b → b < 128
 character_byte set vs b (plain v e w) = basic_byte set v b e
 character_byte set vs b (by_shift s) = shifted_byte set s.shift s.second b s.means
 
@@ -70,11 +70,11 @@ unit_items words items (fnc1 w k e i) = rw i (omega arith, tt)
 unit_items words items (raised s w b k l e i) = let is = character_is w b l in rw i (omega (arith, is.1), tt)
 
 -- Each value is below 64.
-abbrev AreSixBits : List ℕ → Type 0
+abbrev pub AreSixBits : List ℕ → Type 0
 AreSixBits values = AllByRecursion (λ v. v < 64) values
 
 -- Two lists of values below 64, joined, are such a list.
-small-append : (a b : List ℕ) → AreSixBits a → AreSixBits b → AreSixBits (a ++ b)
+pub small-append : (a b : List ℕ) → AreSixBits a → AreSixBits b → AreSixBits (a ++ b)
 small-append [] b ha hb = hb
 small-append (v ∷ a) b ha hb = (ha.0, small-append a b ha.1 hb)
 
@@ -83,12 +83,12 @@ group_small : (words values : List ℕ) → IsGroup words values → AreSixBits 
 group_small words values g = rw g.values_are (g.first_small, (g.second_small, (g.third_small, (g.fourth_small, tt))))
 
 -- The values of groups are below 64.
-groups_small : (ps : List (Piece (List ℕ))) → AllByRecursion (λ p. IsGroup p.words p.what) ps → AreSixBits (gathered ps)
+pub groups_small : (ps : List (Piece (List ℕ))) → AllByRecursion (λ p. IsGroup p.words p.what) ps → AreSixBits (gathered ps)
 groups_small [] h = tt
 groups_small (p ∷ ps) h = small-append p.what (gathered ps) (group_small p.words p.what h.0) (groups_small ps h.1)
 
 -- The values before an unlatch are below 64.
-end_small : (end after last : List ℕ) → IsEdifactEnd end after last → AreSixBits last
+pub end_small : (end after last : List ℕ) → IsEdifactEnd end after last → AreSixBits last
 end_small end after last (few_left w v le) = rw v tt
 end_small end after last (first word rest is lt w v le) = rw v tt
 end_small end after last (second high low value rest small six is lt w v le) = rw v (six, tt)

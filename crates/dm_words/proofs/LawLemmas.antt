@@ -10,6 +10,7 @@ use Rattle.dm_words.specs.Ascii.{ascii, IsAscii}
 use Rattle.dm_words.specs.Pads.{padded}
 use Rattle.dm_words.specs.Values.{IsRest}
 use Rattle.dm_words.specs.Macros.{macro_text}
+use Rattle.dm_words.specs.Smallest.{SpellsThenPads}
 use Rattle.dm_words.specs.Spells.{by_macro, Spells}
 use Rattle.dm_words.specs.Laws.{HasOneResult, AreCodewords, AreRunValues, BeginsNoSpelling, AreMacro}
 use Rattle.dm_words.proofs.WholeReading as reading
@@ -25,6 +26,10 @@ one_result extent words fit = reading.one_result extent words (recursion_from_Al
 -- The ASCII form of a message with pads spells it.
 pub ascii_spells : (extent : Extent) (m : List Item) (count : ℕ) → IsMessage m → length (ascii m) ≤ count → Spells extent (padded (ascii m) count) m
 ascii_spells extent m count fit le = form.ascii_spells extent m count (recursion_from_All IsItem m fit)
+
+-- It has only pads behind it.
+pub ascii_padded : (extent : Extent) (m : List Item) (count : ℕ) → IsMessage m → SpellsThenPads extent (padded (ascii m) count) m
+ascii_padded extent m count fit = form.ascii_padded extent m count (recursion_from_All IsItem m fit)
 
 -- A macro spells its text in the wide extent.
 pub macro_short : (digit : ℕ) (words : List ℕ) (text : List Item) → AreMacro digit words text → Spells Wide words (macro_text digit text)

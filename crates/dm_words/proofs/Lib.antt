@@ -17,4 +17,21 @@ mod NormalForms
 mod ItemBytes
 mod Extents
 mod LawLemmas
+mod Pieces
+mod SpellingCounts
+mod LowerBounds
+mod EdifactBounds
+mod CostsMet
+mod Plans
+mod RunWritten
+mod RunBudget
+mod PartsWritten
+mod SegmentBudget
+mod GroupsWritten
+mod GroupBudget
+mod SegmentWritten
+mod PartBudget
+mod UnitWritten
+mod Frames
+mod SmallestSymbols
 pub mod Exported

@@ -4,7 +4,7 @@ use Rattle.std.specs.Prelude.{◌==◌}
 use Rattle.std.specs.Ordering.{ord_max}
 use Rattle.std.proofs.lemmas.Bool.{cases_lt, cases_Bool}
 use Rattle.std.proofs.lemmas.Bool.Decides.{nat_tests}
-use Rattle.std.proofs.lemmas.List.{append-nil, at_drop_more, length-append, length-map, length-take, map-append}
+use Rattle.std.proofs.lemmas.List.{append-nil, at_drop_more, length-append, length-map, map-append}
 use Rattle.std.proofs.Math.Seq.{take-suc}
 use Rattle.std.proofs.lemmas.List.Elements.{recursion_from_All, All-from_recursion}
 use Rattle.dm_layout.specs.Sizes.{most_data}
@@ -37,7 +37,7 @@ pub long_numbers : (n : ℕ) → 249 < n → length_numbers n ≡ (249 + n / 250
 long_numbers n big = grind (arith, nat_tests)
 
 -- The length numbers of a count are a length field that says this count.
-says_count : (n : ℕ) (after : List ℕ) → 0 < n → n < 1750 → IsLengthField (length_numbers n) n after
+pub says_count : (n : ℕ) (after : List ℕ) → 0 < n → n < 1750 → IsLengthField (length_numbers n) n after
 says_count n after some few =
     elim (cases_lt 249 n) [
       | inl big ↦ long (249 + n / 250) (n % 250) (omega arith) (omega arith) (omega arith) (long_numbers n big) (omega arith)
@@ -58,7 +58,7 @@ bytes_are_items (Byte b ∷ m) none = ap (λ (r : List Item). Byte b ∷ r) (byt
 bytes_are_items (Fnc1 ∷ m) none = cc
 
 -- The bytes of a message are 0 to 255.
-bytes_of_items : (m : List Item) → AreItems m → AreBytes (map byte_of m)
+pub bytes_of_items : (m : List Item) → AreItems m → AreBytes (map byte_of m)
 bytes_of_items [] fit = tt
 bytes_of_items (i ∷ m) fit = (fit.0, bytes_of_items m fit.1)
 
@@ -308,42 +308,34 @@ normal_form_items Shorter m =
 
 -- ---- writing a segment
 
--- One more value is written at the end.
-pub one_value_more : (old new vs : List ℕ) (v : ℕ) → old ≡ 231 ∷ written 2 vs → new ≡ old ++ randomised (length old + 1) v ∷ [] → new ≡ 231 ∷ written 2 (vs ++ v ∷ [])
-one_value_more old new vs v so_far e =
-    let place : length old + 1 ≡ 2 + length vs = omega (arith, ap length so_far, length-written 2 vs) in
-    let more : written 2 (vs ++ v ∷ []) ≡ written 2 vs ++ randomised (2 + length vs) v ∷ [] = written-append 2 vs (v ∷ []) in
-    rw (e, so_far, more) (ap (λ (k : ℕ). 231 ∷ (written 2 vs ++ randomised k v ∷ [])) (sym (ap (λ (k : ℕ). k) (ap (λ (r : List ℕ). length r + 1) so_far)) ∙ place))
-
 -- One more item has its byte at the end.
 pub one_byte_more : (m : List Item) (i : ℕ) (d : Item) → i < length m → map byte_of (take (i + 1) m) ≡ map byte_of (take i m) ++ byte_of (get_or m i d) ∷ []
 one_byte_more m i d lt = ap (map byte_of) (rw add-one (take-suc m i d lt)) ∙ map-append byte_of (take i m) (get_or m i d ∷ [])
 
--- One turn of the loop that writes the bytes writes that of one more item.
-pub one_item_more : (old new : List ℕ) (m : List Item) (i b : ℕ) (d : Item) → i < length m → b ≡ byte_of (get_or m i d)
-    → old ≡ 231 ∷ written 2 (length_numbers (length m) ++ map byte_of (take i m)) → new ≡ old ++ randomised (length old + 1) b ∷ []
-    → new ≡ 231 ∷ written 2 (length_numbers (length m) ++ map byte_of (take (i + 1) m))
-one_item_more old new m i b d lt is so_far e =
-    let numbers = length_numbers (length m) in
-    let more : (numbers ++ map byte_of (take i m)) ++ b ∷ [] ≡ numbers ++ map byte_of (take (i + 1) m) =
-    append_assoc numbers (map byte_of (take i m)) (b ∷ []) ∙ ap (λ (r : List ℕ). numbers ++ r) (ap (λ (k : ℕ). map byte_of (take i m) ++ k ∷ []) is ∙ sym (one_byte_more m i d lt)) in
-    one_value_more old new (numbers ++ map byte_of (take i m)) b so_far e ∙ ap (λ (r : List ℕ). 231 ∷ written 2 r) more
+-- One turn of the loop that writes bytes writes that of one more item.
+pub bytes_more : (start old new : List ℕ) (m : List Item) (i b : ℕ) (d : Item) → i < length m → b ≡ byte_of (get_or m i d)
+    → old ≡ start ++ written (length start + 1) (map byte_of (take i m)) → new ≡ old ++ randomised (length old + 1) b ∷ []
+    → new ≡ start ++ written (length start + 1) (map byte_of (take (i + 1) m))
+bytes_more start old new m i b d lt is so_far e =
+    let place = length start + 1 in
+    let before = map byte_of (take i m) in
+    let here : length old + 1 ≡ place + length before = omega (arith, ap length so_far, length-append start (written place before), length-written place before) in
+    let more : before ++ b ∷ [] ≡ map byte_of (take (i + 1) m) = ap (λ (k : ℕ). before ++ k ∷ []) is ∙ sym (one_byte_more m i d lt) in
+    e ∙ ap (λ (l : List ℕ). l ++ randomised (length old + 1) b ∷ []) so_far ∙ append_assoc start (written place before) (randomised (length old + 1) b ∷ [])
+    ∙ ap (λ (k : ℕ). start ++ (written place before ++ randomised k b ∷ [])) here ∙ ap (λ (l : List ℕ). start ++ l) (sym (written-append place before (b ∷ [])))
+    ∙ ap (λ (l : List ℕ). start ++ written place l) more
 
--- As long as items are left, the segment isn't full.
-pub has_room : (old : List ℕ) (m : List Item) (i : ℕ) → i < length m → old ≡ 231 ∷ written 2 (length_numbers (length m) ++ map byte_of (take i m))
-    → length old < length (one_segment (map byte_of m))
-has_room old m i lt so_far =
-    omega (
-      arith,
-      ap length so_far,
-      length-written 2 (length_numbers (length m) ++ map byte_of (take i m)),
-      length-append (length_numbers (length m)) (map byte_of (take i m)),
-      length-map (take i m) byte_of,
-      length-take i m,
-      length-one_segment (map byte_of m),
-      length-map m byte_of,
-      ap (λ (k : ℕ). length (length_numbers k)) (length-map m byte_of),
-    )
+-- A latch, numbers and bytes that are written one behind the other are a latch and all values.
+pub segment_whole : (start latched counted new numbers bytes : List ℕ) → latched ≡ start ++ 231 ∷ [] → counted ≡ latched ++ written (length latched + 1) numbers → new ≡ counted ++ written (length counted + 1) bytes
+    → new ≡ start ++ 231 ∷ written (length start + 2) (numbers ++ bytes)
+segment_whole start latched counted new numbers bytes latch count all =
+    let place : length latched + 1 ≡ length start + 2 = omega (arith, ap length latch, length-append start (231 ∷ [])) in
+    let next : length counted + 1 ≡ (length start + 2) + length numbers = omega (arith, place, ap length count, length-append latched (written (length latched + 1) numbers), length-written (length latched + 1) numbers) in
+    let behind : counted ≡ start ++ 231 ∷ written (length start + 2) numbers =
+    count ∙ ap (λ (k : ℕ). latched ++ written k numbers) place ∙ ap (λ (l : List ℕ). l ++ written (length start + 2) numbers) latch ∙ append_assoc start (231 ∷ []) (written (length start + 2) numbers) in
+    all ∙ ap (λ (k : ℕ). counted ++ written k bytes) next ∙ ap (λ (l : List ℕ). l ++ written ((length start + 2) + length numbers) bytes) behind
+    ∙ append_assoc start (231 ∷ written (length start + 2) numbers) (written ((length start + 2) + length numbers) bytes)
+    ∙ ap (λ (l : List ℕ). start ++ 231 ∷ l) (sym (written-append (length start + 2) numbers bytes))
 
 -- ---- choosing
 

@@ -1,8 +1,9 @@
 -- Lemmas on pads.
-use Rattle.std.proofs.Common.{◌≡◌, ℕ, zero, suc, ◌+◌, ◌-◌, ◌*◌, ◌%◌, ◌<◌, ◌≤◌, List, [], ◌∷◌, ◌++◌, length, length-append, refl, ap, ◌∙◌, append_assoc, add-zero, arith, Bool, true, false, cond, leb}
+use Rattle.std.proofs.Common.{◌≡◌, ℕ, zero, suc, ◌+◌, ◌-◌, ◌*◌, ◌%◌, ◌<◌, ◌≤◌, List, [], ◌∷◌, ◌++◌, length, length-append, refl, sym, ap, ◌∙◌, append_assoc, add-zero, arith, Bool, true, false, cond, leb}
 use Rattle.std.proofs.lemmas.Bool.Decides.{nat_tests}
 use Rattle.dm_words.specs.Pads.{pad_at, further_pads, pads, padded}
 use Rattle.dm_words.specs.Base256.{AreBytes}
+use Rattle.dm_words.specs.Smallest.{ArePads}
 use Rattle.dm_words.proofs.Segments.{AreBytes-append}
 
 -- One more pad stands at the end.
@@ -26,7 +27,7 @@ length-further_pads place zero = refl
 length-further_pads place (suc n) = ap suc (length-further_pads (place + 1) n)
 
 -- There are as many pads, the first one among them, as asked for.
-length-pads : (place n : ℕ) → length (pads place n) ≡ n
+pub length-pads : (place n : ℕ) → length (pads place n) ≡ n
 length-pads place zero = refl
 length-pads place (suc n) = ap suc (length-further_pads (place + 1) n)
 
@@ -34,6 +35,16 @@ length-pads place (suc n) = ap suc (length-further_pads (place + 1) n)
 pub length-padded : (words : List ℕ) (count : ℕ) → length words ≤ count → length (padded words count) ≡ count
 length-padded words count le =
     omega (arith, length-append words (pads (length words + 1) (count - length words)), length-pads (length words + 1) (count - length words))
+
+-- The pads behind words up to a count are those of their places.
+pub pads_are : (words : List ℕ) (count : ℕ) → ArePads (padded words count) (pads (length words + 1) (count - length words))
+pads_are words count =
+    let n = count - length words in
+    let p = pads (length words + 1) n in
+    let long : length p ≡ n = length-pads (length words + 1) n in
+    let all : length (words ++ p) ≡ length words + length p = length-append words p in
+    let place : length words + 1 ≡ length (words ++ p) + 1 - length p = omega (arith, all) in
+    ap (λ (k : ℕ). pads k n) place ∙ ap (pads (length (words ++ p) + 1 - length p)) (sym long)
 
 -- A pad is a codeword.
 pad_byte : (place : ℕ) → pad_at place < 256

@@ -306,7 +306,7 @@ fault_complete extent set place words f r =
 -- ---- how many items a run has
 
 -- Two codewords have three values.
-pairs_room : (ps : List (Piece (List ℕ))) → AllByRecursion (λ p. IsPair p.words p.what) ps → 2 * length (gathered ps) ≡ 3 * length (spelled ps)
+pub pairs_room : (ps : List (Piece (List ℕ))) → AllByRecursion (λ p. IsPair p.words p.what) ps → 2 * length (gathered ps) ≡ 3 * length (spelled ps)
 pairs_room [] h = refl
 pairs_room (p ∷ ps) h =
     let one = pair_room p.words p.what h.0 in

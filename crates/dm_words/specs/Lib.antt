@@ -17,4 +17,5 @@ pub mod Refused
 pub mod Outcomes
 pub mod Results
 pub mod Laws
+pub mod Smallest
 pub mod inner

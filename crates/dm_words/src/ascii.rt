@@ -1,9 +1,9 @@
 //! The ASCII codewords of a message (ISO/IEC 16022, ASCII encodation).
 
-ghost use Rattle.std.specs.Prelude.{◌≡◌, ◌+◌, ◌≤◌, ◌<◌, ◌++◌, IsTrue, length};
-ghost use Rattle.dm_words.specs.Ascii.{ascii, is_digit};
+ghost use Rattle.std.specs.Prelude.{◌≡◌, ◌+◌, ◌≤◌, ◌<◌, ◌++◌, IsTrue, length, true};
+ghost use Rattle.dm_words.specs.Ascii.{ascii, is_digit, digit_pair};
 ghost use Rattle.dm_words.specs.NormalForm.{has_fnc1};
-ghost use Rattle.dm_words.specs.inner.Scan.Results.{BeginsAscii, IsSingle, unit_words, unit_items, unit_is_fnc1};
+ghost use Rattle.dm_words.specs.inner.Scan.Results.{BeginsAscii, IsSingle, unit_words, unit_items, unit_is_fnc1, item_words};
 
 use crate::codeword::{FIRST_DIGITS, FNC1, UPPER_SHIFT};
 use crate::item::{Item, byte};
@@ -42,6 +42,26 @@ fn single(byte: u8) -> Unit
     }
 }
 
+/// Gives the codeword of two digits.
+pub(crate) fn digit_pair(tens: u8, ones: u8) -> u8
+    requires tens { is_digit tens ≡ true }
+    requires ones { is_digit ones ≡ true }
+    ensures { result ≡ digit_pair tens ones }
+{
+    FIRST_DIGITS + (10 * (tens - b'0') + (ones - b'0'))
+}
+
+/// Gives the unit of one item.
+pub(crate) fn unit_of(item: Item) -> Unit
+    ensures words { unit_words result ≡ item_words item }
+    ensures one { unit_items result ≡ 1 }
+{
+    match item {
+        Item::Fnc1 => Unit::Fnc1,
+        Item::Byte(byte) => single(byte),
+    }
+}
+
 /// Gives the unit that begins at an index.
 fn unit_at(items: &[Item], at: usize) -> Unit
     requires { at < length items.now }
@@ -55,7 +75,7 @@ fn unit_at(items: &[Item], at: usize) -> Unit
         && let Item::Byte(second) = items[at + 1]
         && is_digit(second)
     {
-        return Unit::Digits(FIRST_DIGITS + 10 * (first - b'0') + (second - b'0'));
+        return Unit::Digits(digit_pair(first, second));
     }
     single(first)
 }
@@ -112,7 +132,7 @@ fn is_fnc1(unit: Unit) -> bool
 }
 
 /// Adds the codewords of a unit, and gives the number of its items.
-fn write_unit(unit: Unit, words: &mut ArrayVec<u8, MOST_DATA>) -> usize
+pub(crate) fn write_unit(unit: Unit, words: &mut ArrayVec<u8, MOST_DATA>) -> usize
     requires { length words.old.items + length (unit_words unit) ≤ MOST_DATA }
     ensures words { words.new.items ≡ words.old.items ++ unit_words unit }
     ensures item_count { result ≡ unit_items unit }

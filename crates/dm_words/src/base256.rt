@@ -16,11 +16,11 @@ use arrayvec::ArrayVec;
 use dm_layout::MOST_DATA;
 
 /// The most bytes whose length is one number.
-const MOST_SHORT: usize = 249;
+pub(crate) const MOST_SHORT: usize = 249;
 
 /// Gives the pseudo-random number of a place of the symbol: 1 to 255.
 fn random(place: usize) -> u32
-    requires { place ≤ MOST_DATA }
+    requires { place ≤ MOST_DATA + 1 }
     ensures { result ≡ random_at place }
 {
     RANDOM_FACTOR * place as u32 % 255 + 1
@@ -90,7 +90,7 @@ pub(crate) fn segment_part(
 }
 
 /// Writes a value as the next codeword of a symbol that begins with these words.
-fn push_value(words: &mut ArrayVec<u8, MOST_DATA>, value: u8)
+pub(crate) fn push_value(words: &mut ArrayVec<u8, MOST_DATA>, value: u8)
     requires { length words.old.items < MOST_DATA }
     ensures { words.new.items
         ≡ words.old.items ++ randomised (length words.old.items + 1) value ∷ [] }
@@ -100,7 +100,7 @@ fn push_value(words: &mut ArrayVec<u8, MOST_DATA>, value: u8)
 }
 
 /// Writes the length field for this many bytes: one number up to `MOST_SHORT`, else two.
-fn push_length(words: &mut ArrayVec<u8, MOST_DATA>, count: usize)
+pub(crate) fn push_length(words: &mut ArrayVec<u8, MOST_DATA>, count: usize)
     requires room { length words.old.items + 2 ≤ MOST_DATA }
     requires few { count ≤ MOST_DATA }
     ensures { words.new.items
@@ -148,6 +148,15 @@ pub(crate) fn write_segment(items: &[Item], words: &mut ArrayVec<u8, MOST_DATA>)
     words.clear();
     words.push(BASE256_LATCH);
     push_length(words, items.len());
+    write_bytes(items, words);
+}
+
+/// Writes the bytes of the items, as the next codewords of a symbol that begins with these words.
+pub(crate) fn write_bytes(items: &[Item], words: &mut ArrayVec<u8, MOST_DATA>)
+    requires { length words.old.items + length items.now ≤ MOST_DATA }
+    ensures { words.new.items
+        ≡ words.old.items ++ written (length words.old.items + 1) (map byte_of items.now) }
+{
     let mut number = random(words.len() + 1);
     for item in items {
         words.push(((byte(*item) as u32 + number) % 256) as u8);

@@ -20,6 +20,12 @@ pub const FNC1: u8 = 232;
 /// The Upper Shift, which adds 128 to the character that follows.
 pub const UPPER_SHIFT: u8 = 235;
 
+/// Macro 05.
+pub const MACRO_05: u8 = 236;
+
+/// Macro 06.
+pub const MACRO_06: u8 = 237;
+
 /// The unlatch, which ends a run of C40, Text or X12. It has no meaning in ASCII encodation.
 pub const UNLATCH: u8 = 254;
 
@@ -63,8 +69,8 @@ pub(crate) fn meaning(codeword: u8) -> Option<Codeword>
         BASE256_LATCH => Some(Codeword::Base256),
         FNC1 => Some(Codeword::Fnc1),
         UPPER_SHIFT => Some(Codeword::UpperShift),
-        236 => Some(Codeword::Macro(b'5')),
-        237 => Some(Codeword::Macro(b'6')),
+        MACRO_05 => Some(Codeword::Macro(b'5')),
+        MACRO_06 => Some(Codeword::Macro(b'6')),
         238 => Some(Codeword::Latch(CodeSet::X12)),
         239 => Some(Codeword::Latch(CodeSet::Text)),
         240 => Some(Codeword::Edifact),

@@ -5,9 +5,12 @@
 //! Reading: [`message_of()`] gives the [`Message`] of [`Item`]s that a list spells in the usual extent, or the [`WordFault`] with which the list is
 //! refused, [`message_of_as()`] the same in either extent; [`message_to()`] and [`message_to_as()`] write the message into a target.
 //!
-//! Writing: [`normal_words()`] gives the codewords of a message under a [`Profile`], or [`TooLong`], and [`normal_words_to()`] writes them into a
-//! target. Under one profile they are ASCII ([`ascii_words()`]), under the other whatever is shorter, ASCII or one segment of Base 256
-//! ([`shorter_words()`]). [`padded()`] gives codewords with pads up to the data codewords of a size, and [`add_pads()`] adds the pads in a target.
+//! Writing: [`normal_words()`] gives the codewords of a message under a [`Profile`], or [`TooLong`], and
+//! [`normal_words_to()`] writes them into a target. Under one profile they are ASCII ([`ascii_words()`]), under the
+//! other whatever is shorter, ASCII or one segment of Base 256 ([`shorter_words()`]). [`smallest_words()`] gives
+//! codewords of the smallest size that has any that spell the message in an extent, and [`smallest_words_to()`]
+//! writes them into a target. [`padded()`] gives codewords with pads up to the data codewords of a size, and
+//! [`add_pads()`] adds the pads in a target.
 //!
 //! Limits: [`MOST_DATA`] codewords, [`MOST_ITEMS`] items in the usual extent, and room for [`MESSAGE_ROOM`].
 //!
@@ -32,6 +35,7 @@ mod numbers;
 mod pad;
 mod profile;
 mod reading;
+mod smallest;
 
 pub use dm_layout::MOST_DATA;
 pub use extent::Extent;
@@ -43,3 +47,4 @@ pub use normal_form::{ascii_words, normal_words, normal_words_to, shorter_words}
 pub use pad::{add_pads, padded};
 pub use profile::Profile;
 pub use reading::{message_of, message_of_as, message_to, message_to_as};
+pub use smallest::{smallest_words, smallest_words_to};

@@ -1,11 +1,14 @@
 //! Macros (ISO/IEC 16022, 05 and 06 macro characters): one codeword for the header and the trailer of a message.
 
-ghost use Rattle.std.specs.Prelude.{◌≡◌, ◌+◌, ◌≤◌, ◌++◌, length};
-ghost use Rattle.dm_words.specs.Macros.{macro_header, macro_trailer};
+ghost use Rattle.std.specs.Prelude.{◌≡◌, ◌+◌, ◌≤◌, ◌++◌, List, length, IsTrue, IfSome, IfNone};
+ghost use Rattle.dm_words.specs.declared.item.Item.{Item};
+ghost use Rattle.dm_words.specs.Base256.{byte_items};
+ghost use Rattle.dm_words.specs.Macros.{macro_header, macro_trailer, macro_text};
+ghost use Rattle.dm_words.specs.inner.Ways.{inner_text, IsMacroOf, HasNoMacro};
 ghost use Rattle.dm_words.specs.Codewords.{codeword_of};
 ghost use Rattle.dm_words.specs.inner.Scan.Prefixes.{macro_digit, digit_by};
 
-use crate::codeword::{Codeword, meaning};
+use crate::codeword::{Codeword, MACRO_05, MACRO_06, meaning};
 use crate::extent::Extent;
 use crate::item::Item;
 use crate::limits::MESSAGE_ROOM;
@@ -61,4 +64,73 @@ pub(crate) fn add_trailer(message: &mut Message)
 {
     message.add(Item::Byte(RS));
     message.add(Item::Byte(EOT));
+}
+
+/// How many items the header of a macro has.
+pub const HEADER_LENGTH: usize = 7;
+
+/// How many items the trailer of a macro has.
+pub const TRAILER_LENGTH: usize = 2;
+
+/// Whether the item is this byte.
+fn is_byte(item: Item, byte: u8) -> bool
+    ensures yes { IsTrue result → item ≡ Item.Byte byte }
+    ensures no { item ≡ Item.Byte byte → IsTrue result }
+{
+    match item {
+        Item::Byte(own) => own == byte,
+        Item::Fnc1 => false,
+    }
+}
+
+/// Whether the items are these bytes.
+fn are_bytes(items: &[Item], bytes: &[u8]) -> bool
+    ensures yes { IsTrue result → items.now ≡ byte_items bytes.now }
+    ensures no { items.now ≡ byte_items bytes.now → IsTrue result }
+{
+    if items.len() != bytes.len() {
+        return false;
+    }
+    for i in 0..bytes.len() {
+        if !is_byte(items[i], bytes[i]) {
+            return false;
+        }
+    }
+    true
+}
+
+/// Whether the items have the header of the macro of this digit and its trailer.
+fn is_framed(items: &[Item], digit: u8) -> bool
+    ensures long { IsTrue result → 9 ≤ length items.now }
+    ensures yes { IsTrue result → items.now ≡ macro_text digit (inner_text items.now) }
+    ensures no { (text : List Item) → items.now ≡ macro_text digit text → IsTrue result }
+{
+    let count = items.len();
+    if count < HEADER_LENGTH + TRAILER_LENGTH {
+        return false;
+    }
+    let header = [b'[', b')', b'>', RS, b'0', digit, GS];
+    if !are_bytes(&items[..HEADER_LENGTH], &header) {
+        return false;
+    }
+    are_bytes(&items[count - TRAILER_LENGTH..], &[RS, EOT])
+}
+
+/// Gives the macro that stands for the header and the trailer of these items, where one is read in this extent.
+pub(crate) fn macro_of(extent: Extent, items: &[Item]) -> Option<u8>
+    ensures found { IfSome result (λ word. IsMacroOf extent items.now word) }
+    ensures none { IfNone result (HasNoMacro extent items.now) }
+{
+    match extent {
+        Extent::Usual => None,
+        Extent::Wide => {
+            if is_framed(items, b'5') {
+                Some(MACRO_05)
+            } else if is_framed(items, b'6') {
+                Some(MACRO_06)
+            } else {
+                None
+            }
+        }
+    }
 }

@@ -6,12 +6,13 @@ use Rattle.std.proofs.lemmas.Bool.Decides.{eqb_tells}
 use Rattle.std.proofs.lemmas.List.{length-set}
 use Rattle.std.proofs.lemmas.Nat.{div-mul-add, mod-mul-add}
 use Rattle.std.proofs.Math.Nat.{mul-le-mul_right}
-use Rattle.dm_layout.specs.declared.cells.Place.{Place}
-use Rattle.dm_layout.specs.declared.shape.Cell.{Cell}
+use Rattle.dm_place.specs.declared.cells.Place.{Place}
+use Rattle.dm_place.specs.declared.shape.Cell.{Cell}
 use Rattle.dm_layout.specs.Sizes.{SizeRow, IsRow}
 use Rattle.dm_layout.specs.Border.{is_border, border_is_dark, is_fixed, fixed_is_dark, symbol_line}
 use Rattle.dm_layout.specs.Placement.{At, IsPlace, places_in_order}
-use Rattle.dm_layout.proofs.Exported.{ArePlaces, all_are_places, one_bit, none_fixed, place_at, length-places_in_order, once_at_row, symbol_line-one, lies_inside, no_border, row_facts}
+use Rattle.dm_place.proofs.Exported.{ArePlaces, all_are_places, one_bit, none_fixed, place_at, length-places_in_order}
+use Rattle.dm_layout.proofs.Exported.{once_at_row, symbol_line-one, lies_inside, no_border, row_facts}
 use Rattle.ecc200_calls.specs.declared.place_table.PlaceOut.{PlaceOut}
 use Rattle.ecc200_calls.specs.Arrays.{most_modules}
 use Rattle.ecc200_calls.specs.Places.{AreModulesOf, nothing, bit_place, border_place, fixed_place}
@@ -47,7 +48,7 @@ cell_inside size r c row lr lc =
     omega (arith, room, across)
 
 -- A module at which no bit lies stays as it was.
-bits_kept : (size : SizeRow) (ps : List Place) (xs : List PlaceOut) (i : ℕ) → ArePlaces size.mapping ps
+bits_kept : (size : SizeRow) (ps : List Place) (xs : List PlaceOut) (i : ℕ) → ArePlaces size.mapping size.mapping ps
     → ((w b r c : ℕ) → IsPlace size.mapping w b (At r c) → i ≢ module_of_cell size r c) → get_or (with_bits size ps xs) i nothing ≡ get_or xs i nothing
 bits_kept size [] xs i are h = refl
 bits_kept size (p ∷ rest) xs i are h =
@@ -55,7 +56,7 @@ bits_kept size (p ∷ rest) xs i are h =
     ∙ get_or-set_other xs (module_of_cell size p.row p.column) i (bit_place p.word p.bit) nothing (h p.word p.bit p.row p.column are.0)
 
 -- The module of a bit has it once it is right, since a cell holds one bit.
-bits_stay : (size : SizeRow) (ps : List Place) (xs : List PlaceOut) (w b r c : ℕ) → IsRow size → ArePlaces size.mapping ps → IsPlace size.mapping w b (At r c)
+bits_stay : (size : SizeRow) (ps : List Place) (xs : List PlaceOut) (w b r c : ℕ) → IsRow size → ArePlaces size.mapping size.mapping ps → IsPlace size.mapping w b (At r c)
     → size.side * size.side ≤ length xs → get_or xs (module_of_cell size r c) nothing ≡ bit_place w b → get_or (with_bits size ps xs) (module_of_cell size r c) nothing ≡ bit_place w b
 bits_stay size [] xs w b r c row are place room e = e
 bits_stay size (p ∷ rest) xs w b r c row are place room e =
@@ -78,12 +79,12 @@ bits_stay size (p ∷ rest) xs w b r c row are place room e =
         let its = law.inside p.word p.bit (At p.row p.column) are.0 in
         let same = one_cell size r c p.row p.column row mine.1 its.1 x.1 in
         let there : IsPlace size.mapping w b (At p.row p.column) = subst (λ j. IsPlace size.mapping w b (At p.row j)) same.1 (subst (λ i. IsPlace size.mapping w b (At i c)) same.0 place) in
-        let one = one_bit size.mapping p.row p.column w b p.word p.bit law there are.0 in
+        let one = one_bit size.mapping size.mapping p.row p.column w b p.word p.bit law there are.0 in
         ap (λ i. get_or next i nothing) x.1 ∙ get_or-set_same xs at (bit_place p.word p.bit) nothing (omega (arith, cell_inside size p.row p.column row its.0 its.1, room))
         ∙ ap (λ i. bit_place i p.bit) one.0 ∙ ap (bit_place w) one.1
 
 -- The module of a bit becomes right when its place is written.
-bits_come : (size : SizeRow) (ps : List Place) (xs : List PlaceOut) (i : ℕ) (d : Place) → IsRow size → ArePlaces size.mapping ps → size.side * size.side ≤ length xs → i < length ps
+bits_come : (size : SizeRow) (ps : List Place) (xs : List PlaceOut) (i : ℕ) (d : Place) → IsRow size → ArePlaces size.mapping size.mapping ps → size.side * size.side ≤ length xs → i < length ps
     → get_or (with_bits size ps xs) (module_of_cell size (get_or ps i d).row (get_or ps i d).column) nothing ≡ bit_place (get_or ps i d).word (get_or ps i d).bit
 bits_come size [] xs i d row are room l = absurd (omega arith)
 bits_come size (p ∷ rest) xs zero d row are room l =
@@ -102,16 +103,16 @@ bits_are_there size xs word bit cell row room p =
     let d : Place = record { word = 0; bit = 0; row = 0; column = 0 } in
     let i : ℕ = 8 * word + (bit - 1) in
     let found : get_or (places_in_order n) i d ≡ record { word = word; bit = bit; row = cell.row; column = cell.column } =
-    place_at n word bit d p.word_in p.from_one p.to_eight ∙ ap (λ (x : Cell). record { word = word; bit = bit; row = x.row; column = x.column }) p.there in
-    let inside : i < length (places_in_order n) = omega (arith, length-places_in_order n, p.word_in, p.from_one, p.to_eight) in
+    place_at n n word bit d p.word_in p.from_one p.to_eight ∙ ap (λ (x : Cell). record { word = word; bit = bit; row = x.row; column = x.column }) p.there in
+    let inside : i < length (places_in_order n) = omega (arith, length-places_in_order n n, p.word_in, p.from_one, p.to_eight) in
     subst (λ (q : Place). get_or (with_bits size (places_in_order n) xs) (module_of_cell size q.row q.column) nothing ≡ bit_place q.word q.bit) found
-    (bits_come size (places_in_order n) xs i d row (all_are_places n) room inside)
+    (bits_come size (places_in_order n) xs i d row (all_are_places n n) room inside)
 
 -- The module of a border is right before the bits are written, and stays so.
 border_is_there : (size : SizeRow) (xs : List PlaceOut) (r c : ℕ) → IsRow size → r < size.side → c < size.side → is_border size r c ≡ true
     → places.place_at size xs r c ≡ structure_place size r c → places.place_at size (with_bits size (places_in_order size.mapping) xs) r c ≡ border_place (border_is_dark size r c)
 border_is_there size xs r c row lr lc h e =
-    bits_kept size (places_in_order size.mapping) xs (r * size.side + c) (all_are_places size.mapping) (λ w b u v p same.
+    bits_kept size (places_in_order size.mapping) xs (r * size.side + c) (all_are_places size.mapping size.mapping) (λ w b u v p same.
     let inside = (once_at_row size row).inside w b (At u v) p in
     let d : ℕ = size.region_side in
     let one = one_module size.side r c (symbol_line d u) (symbol_line d v) lc (lies_inside size v row inside.1) same in
@@ -139,10 +140,10 @@ fixed_is_there size xs r c row lr lc h e =
     let d : ℕ = size.region_side in
     let least = (row_facts size row).least in
     let law = once_at_row size row in
-    bits_kept size (places_in_order size.mapping) xs (module_of_cell size r c) (all_are_places size.mapping) (λ w b u v p same.
+    bits_kept size (places_in_order size.mapping) xs (module_of_cell size r c) (all_are_places size.mapping size.mapping) (λ w b u v p same.
     let inside = law.inside w b (At u v) p in
     let one = one_cell size r c u v row lc inside.1 same in
-    none_fixed size.mapping r c w b law h (subst (λ j. IsPlace size.mapping w b (At r j)) (sym one.1) (subst (λ i. IsPlace size.mapping w b (At i v)) (sym one.0) p)))
+    none_fixed size.mapping size.mapping r c w b law h (subst (λ j. IsPlace size.mapping w b (At r j)) (sym one.1) (subst (λ i. IsPlace size.mapping w b (At i v)) (sym one.0) p)))
     ∙ e ∙ ap (λ x. structure_by (cond x (Some (border_is_dark size (symbol_line d r) (symbol_line d c))) None) (symbol_line d r) (symbol_line d c)) (no_border size r c least)
     ∙ ap fixed_place (same_lines d r c least)
 
@@ -155,7 +156,7 @@ modules_are size xs ys zs row room blank put behind bits = subst (AreModulesOf s
   border = λ r c lr lc h. border_is_there size ys r c row lr lc h (put r c lr lc);
   fixed = λ r c lr lc h. fixed_is_there size ys r c row lr lc h (put _ _ (lies_inside size r row lr) (lies_inside size c row lc));
   behind = λ i l.
-      bits_kept size (places_in_order size.mapping) ys i (all_are_places size.mapping) (λ w b u v p same.
+      bits_kept size (places_in_order size.mapping) ys i (all_are_places size.mapping size.mapping) (λ w b u v p same.
       let inside = (once_at_row size row).inside w b (At u v) p in
       omega (arith, cell_inside size u v row inside.0 inside.1, same, l))
       ∙ behind i l ∙ ap (λ k. get_or k i nothing) blank ∙ of_nothing most_modules i;

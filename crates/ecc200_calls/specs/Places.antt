@@ -1,6 +1,6 @@
 -- What each module of a symbol is (ISO/IEC 16022, symbol structure and module placement).
 use Rattle.std.specs.Prelude.{◌≡◌, ℕ, ◌+◌, ◌*◌, ◌<◌, ◌≤◌, Bool, true, if◌then◌else◌, List, get_or, replicate, Some, IsNone}
-use Rattle.dm_layout.specs.declared.shape.Cell.{Cell}
+use Rattle.dm_place.specs.declared.shape.Cell.{Cell}
 use Rattle.dm_layout.specs.Sizes.{SizeRow, row_with_side}
 use Rattle.dm_layout.specs.Border.{is_border, border_is_dark, is_fixed, fixed_is_dark, symbol_line}
 use Rattle.dm_layout.specs.Placement.{IsPlace}

@@ -4,18 +4,20 @@
     >>> symbol = ecc200.encode("caf\\u00e9", charset="iso-8859-1")
     >>> symbol.side
     12
-    >>> ecc200.decode(symbol.rows)[0].data
-    b'caf\\xe9'
+    >>> ecc200.decode(symbol)[0].text
+    'caf\\u00e9'
 
 `encode` and `decode` are for most; below them `read`, `write`, `normal`, `inspect` and `places` (ecc200.core) work on grids of modules, one call
 of the library each. `ecc200.gs1` has GS1 element strings, `ecc200.pictures` finds symbols in pictures, and `ecc200.drawing` draws them.
 """
 from . import core, drawing, gs1, pictures
 from .codec import Symbol, encode
-from .core import (ABI, Code, Extent, FNC1, Found, Grid, Inspection, Kind, MOST_ITEMS, Message, Place, Profile, Reading, Refused, Rows,
-                   SamplerMissing, Size, decode, find, has_sampler, inspect, luminance, normal, places, read, read_many, sizes, usual_limit,
-                   version, write)
+from .core import *
 
-__all__ = [*core.__all__, "Symbol", "drawing", "encode", "gs1", "pictures"]
+# (a list of words, since checkers of types take no other)
+__all__ = ["ABI", "Code", "Corners", "Extent", "FNC1", "Found", "Grid", "Inspection", "Kind", "MOST_ITEMS", "Message",
+           "Place", "Profile", "Reading", "Refused", "Rows", "SamplerMissing", "Size", "Symbol", "decode", "drawing",
+           "encode", "find", "gs1", "has_sampler", "inspect", "luminance", "normal", "pictures", "places", "read",
+           "read_many", "sampler_fault", "sizes", "usual_limit", "version", "write"]
 __version__ = version()
 _library = core._library

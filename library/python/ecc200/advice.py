@@ -19,14 +19,15 @@ _BEGINS = {
 _DAMAGE = "a codeword that no encoder writes there, so the symbol comes from a faulty encoder or was damaged into the codewords of another message"
 
 
-def _border(why: Refused, rows: Rows) -> str:
+def _border(why: Refused, rows: Rows, extent: Extent) -> str:
     count = sum(place.kind in (core.Kind.BORDER_DARK, core.Kind.BORDER_LIGHT) for row in core.places(len(rows)) for place in row)
-    return (f"{why.value} of the {count} modules of its border have the wrong colour; --border {why.value} would accept them. The left "
+    accept = f"; --border {why.value} accepts them" if _reading(rows, why.value, extent) is not None else ""
+    return (f"{why.value} of the {count} modules of its border have the wrong colour{accept}. The left "
             "column and the bottom row must be dark, the top row and the right column alternate")
 
 
-def in_words(why: Refused, rows: Rows) -> str:
-    """Why a grid isn't read, and what to do."""
+def in_words(why: Refused, rows: Rows, extent: Extent = Extent.WIDE) -> str:
+    """Why a grid isn't read at this extent, and what to do."""
     side, code, place = len(rows), why.code, why.place
     if code == Code.SHAPE:
         return f"it has {side} rows of {len(rows[0])} modules, and isn't square: rectangles aren't read, and a square must be cut out exactly"
@@ -36,7 +37,7 @@ def in_words(why: Refused, rows: Rows) -> str:
         sides = f"{', '.join(map(str, others))} and {largest}{larger}"
         return f"no symbol has the side {side}; there are {sides}. Is it cut out exactly, with one character or pixel for each module?"
     if code == Code.BORDER:
-        return _border(why, rows)
+        return _border(why, rows, extent)
     if code == Code.BLOCK:
         size = next(size for size in core.sizes() if size.side == side)
         return (f"block {place + 1} of its {size.blocks} has more than {size.limit} wrong codewords, the most that can be corrected: scan "

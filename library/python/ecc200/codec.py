@@ -1,6 +1,7 @@
 """Messages into symbols that are drawn."""
 import functools
-from typing import Any, Dict, Optional
+import os
+from typing import Any, Callable, Dict, Optional, Union
 
 from . import core, drawing, gs1 as element_strings
 from .core import Message, Profile, Rows
@@ -13,6 +14,7 @@ class Symbol:
     modules. As an array it is a picture with one pixel a module, 0 dark and 255 light, with its quiet zone."""
 
     def __init__(self, rows: Rows, module: float = 0.5, quiet: int = 2) -> None:
+        drawing.check(module, quiet)
         self.rows, self.module, self.quiet = rows, module, quiet
 
     @property
@@ -53,13 +55,24 @@ class Symbol:
     def pdf(self) -> bytes:
         return drawing.pdf([self.page()])
 
+    def save(self, path: Union[str, "os.PathLike[str]"], dpi: float = 300) -> None:
+        """Writes a file, of the kind that its name's end says: .png, at this resolution, .svg, .pdf or .txt, a grid."""
+        kinds: Dict[str, Callable[[], bytes]] = {".png": lambda: self.png(dpi), ".svg": self.svg, ".pdf": self.pdf,
+                                                 ".txt": str(self).encode}
+        kind = os.path.splitext(path)[1].lower()
+        if kind not in kinds:
+            raise ValueError(f"{os.fspath(path)}: its name should end with {', '.join(kinds)}")
+        data = kinds[kind]()
+        with open(path, "wb") as file:
+            file.write(data)
+
     def _repr_svg_(self) -> str:
         return self.svg().decode()
 
 
 def encode(message: Message, gs1: bool = False, profile: Profile = Profile.ASCII, charset: Optional[str] = None, unknown: bool = False,
            module: float = 0.5, quiet: int = 2) -> Symbol:
-    """The normal symbol of a message. With `gs1` a text is an element string with its identifiers in brackets, which is checked (with `unknown`
+    """The normal grid of a message. With `gs1` a text is an element string with its identifiers in brackets, which is checked (with `unknown`
     those that aren't in the table pass); other text needs the name of its charset."""
     if gs1 and isinstance(message, str):
         message = element_strings.message(element_strings.parse(message, unknown))

@@ -1,14 +1,20 @@
-"""Symbols as pictures: PNG, SVG and PDF, one symbol or a sheet of them. Nothing but Python's own modules is needed."""
+"""Symbols as pictures: PNG, SVG and PDF, one symbol or a sheet of them, perhaps with text below each. Nothing but
+Python's own modules is needed."""
 import struct
 import zlib
 from typing import List, NamedTuple, Sequence, Tuple
+from xml.sax.saxutils import escape
 
+from . import font
 from .core import Rows
 
-__all__ = ["A4", "Cell", "Page", "alone", "pdf", "png", "sheets", "svg"]
+__all__ = ["A4", "Cell", "DOT", "Line", "Page", "alone", "check", "dots", "pdf", "png", "sheets", "svg", "wrapped"]
 
 A4 = (210.0, 297.0)
+DOT = 0.25  # the side of a dot of a letter in millimetres: letters are 1.75 mm high
 _INCH = 25.4
+_ADVANCE, _FEED = font.WIDTH + 1, font.HEIGHT  # from letter to letter, and from line to line, in dots
+_LEAST_COLUMNS = 20  # letters that a caption has room for below the smallest symbol
 
 
 class Cell(NamedTuple):
@@ -18,34 +24,112 @@ class Cell(NamedTuple):
     top: float
 
 
+class Line(NamedTuple):
+    """A line of text, and where it begins, in millimetres from the left and from the top, with room for accents."""
+    text: str
+    left: float
+    top: float
+
+
 class Page(NamedTuple):
-    """A page in millimetres, the side of a module, and the symbols on it."""
+    """A page in millimetres, the side of a module, the symbols on it, the lines of text, and the side of a dot of their
+    letters."""
     width: float
     height: float
     module: float
     cells: List[Cell]
+    lines: Sequence[Line] = ()
+    dot: float = DOT
 
 
-def alone(rows: Rows, module: float, quiet: int) -> Page:
-    """A page that is just one symbol with its quiet zone."""
-    side = (len(rows) + 2 * quiet) * module
-    return Page(side, side, module, [Cell(rows, quiet * module, quiet * module)])
+def check(module: float, quiet: int) -> None:
+    """That a module has a side, and the quiet zone a width that isn't negative."""
+    if not 0 < module < float("inf"):
+        raise ValueError(f"the side of a module is more than 0 mm, unlike {module}")
+    if quiet < 0:
+        raise ValueError(f"the width of a quiet zone is 0 modules or more, unlike {quiet}")
 
 
-def sheets(symbols: Sequence[Rows], module: float, quiet: int, size: Tuple[float, float] = A4, margin: float = 10.0) -> List[Page]:
-    """Pages of this size that hold the symbols row by row, each in a square that has room for the largest with its quiet zone."""
-    step = (max(map(len, symbols)) + 2 * quiet) * module
-    columns, lines = int((size[0] - 2 * margin) / step + 1e-9), int((size[1] - 2 * margin) / step + 1e-9)
+def dots(length: float, dpi: float) -> int:
+    """How many dots of this resolution, in dots an inch, come nearest to a length in millimetres: at least one."""
+    if not 1 <= dpi <= 100000:
+        raise ValueError(f"a resolution is 1 to 100000 dots an inch, unlike {dpi}")
+    return max(1, round(length * dpi / _INCH))
+
+
+# ---- Pages
+
+def wrapped(parts: Sequence[str], columns: int) -> List[str]:
+    """Lines of at most so many letters. They end between parts, where no part is longer than a line."""
+    lines = [""]
+    for part in parts:
+        if lines[-1] and len(lines[-1]) + len(part.rstrip()) > columns:
+            lines.append("")
+        lines[-1] += part
+        while len(lines[-1].rstrip()) > columns:
+            lines[-1:] = [lines[-1][:columns], lines[-1][columns:]]
+    return [line.rstrip() for line in lines if line.strip()]
+
+
+class _Block:
+    """A symbol with its quiet zone, and its caption in the middle below: how large it is, in millimetres, and what it
+    puts on a page."""
+
+    def __init__(self, rows: Rows, module: float, quiet: int, caption: Sequence[str], dot: float) -> None:
+        self.rows, self.module, self.dot = rows, module, dot
+        self.quiet, self.side = quiet * module, (len(rows) + 2 * quiet) * module
+        columns = max(_LEAST_COLUMNS, int((self.side / dot + 1) / _ADVANCE + 1e-9))
+        self.lines = wrapped(caption, columns)
+        self.width = max(self.side, *(self._width(line) + _ADVANCE * dot for line in self.lines), 0)
+        self.gap = max(0, module - self.quiet) if self.lines else 0  # the standard's least quiet zone
+        self.height = self.side + self.gap + len(self.lines) * _FEED * dot
+
+    def _width(self, line: str) -> float:
+        return (len(line) * _ADVANCE - 1) * self.dot
+
+    def cell(self, left: float, top: float) -> Cell:
+        return Cell(self.rows, left + (self.width - self.side) / 2 + self.quiet, top + self.quiet)
+
+    def caption(self, left: float, top: float) -> List[Line]:
+        first = top + self.side + self.gap
+        return [Line(line, left + (self.width - self._width(line)) / 2, first + place * _FEED * self.dot)
+                for place, line in enumerate(self.lines)]
+
+
+def alone(rows: Rows, module: float, quiet: int, caption: Sequence[str] = (), dot: float = DOT) -> Page:
+    """A page that is just one symbol with its quiet zone, and below it its caption, in parts between which a line may
+    end."""
+    check(module, quiet)
+    block = _Block(rows, module, quiet, caption, dot)
+    return Page(block.width, block.height, module, [block.cell(0, 0)], block.caption(0, 0), dot)
+
+
+def sheets(symbols: Sequence[Rows], module: float, quiet: int, size: Tuple[float, float] = A4, margin: float = 10.0,
+           captions: Sequence[Sequence[str]] = (), dot: float = DOT) -> List[Page]:
+    """Pages of this size that hold the symbols row by row, each in the middle of a place that has room for the largest
+    with its quiet zone and its caption."""
+    check(module, quiet)
+    blocks = [_Block(rows, module, quiet, caption, dot)
+              for rows, caption in zip(symbols, captions or [()] * len(symbols))]
+    wide, high = max(block.width for block in blocks), max(block.height for block in blocks)
+    columns, lines = int((size[0] - 2 * margin) / wide + 1e-9), int((size[1] - 2 * margin) / high + 1e-9)
     if columns < 1 or lines < 1:
-        raise ValueError(f"a symbol of {step:.1f} mm doesn't fit on a sheet of {size[0]:g} by {size[1]:g} mm with a margin of {margin:g} mm")
+        raise ValueError(f"a symbol of {wide:.1f} by {high:.1f} mm doesn't fit on a sheet of {size[0]:g} by "
+                         f"{size[1]:g} mm with a margin of {margin:g} mm")
     pages = []
-    for begin in range(0, len(symbols), columns * lines):
-        cells = []
-        for place, rows in enumerate(symbols[begin:begin + columns * lines]):
-            inset = (step - len(rows) * module) / 2
-            cells.append(Cell(rows, margin + place % columns * step + inset, margin + place // columns * step + inset))
-        pages.append(Page(size[0], size[1], module, cells))
+    for begin in range(0, len(blocks), columns * lines):
+        cells: List[Cell] = []
+        words: List[Line] = []
+        for place, block in enumerate(blocks[begin:begin + columns * lines]):
+            left = margin + place % columns * wide + (wide - block.width) / 2
+            top = margin + place // columns * high + (high - block.height) / 2
+            cells.append(block.cell(left, top))
+            words += block.caption(left, top)
+        pages.append(Page(size[0], size[1], module, cells, words, dot))
     return pages
+
+
+# ---- Pictures of pages
 
 
 def _runs(row: bytes) -> List[Tuple[int, int]]:
@@ -74,7 +158,17 @@ def svg(page: Page) -> bytes:
         path = "".join(f"M{x} {y}h{run}v1h-{run}z" for y, row in enumerate(rows) for x, run in _runs(row))
         place = f"translate({_number(left)} {_number(top)}) scale({_number(page.module)})"
         parts.append(f'<path transform="{place}" fill="#000" shape-rendering="crispEdges" d="{path}"/>\n')
-    return "".join([*parts, "</svg>\n"]).encode("ascii")
+    for text, left, top in page.lines:
+        place = f'x="{_number(left)}" y="{_number(top + font.BASELINE * page.dot)}"'
+        letters = f'font-family="monospace" font-size="{_number(_size(page))}" xml:space="preserve"'
+        length = f'textLength="{_number(len(text) * _ADVANCE * page.dot)}"'
+        parts.append(f'<text {place} {length} {letters}>{escape(text)}</text>\n')
+    return "".join([*parts, "</svg>\n"]).encode()
+
+
+def _size(page: Page) -> float:
+    """The size of a font whose letters are as wide as these: six tenths of it, as is usual where all have one width."""
+    return _ADVANCE * page.dot / 0.6
 
 
 def _content(page: Page) -> bytes:
@@ -84,7 +178,14 @@ def _content(page: Page) -> bytes:
         lines.append(f"q {_number(page.module)} 0 0 {_number(page.module)} {_number(left)} {_number(top)} cm")
         lines += [f"{x} {y} {run} 1 re" for y, row in enumerate(rows) for x, run in _runs(row)]
         lines.append("f Q")
+    for text, left, top in page.lines:
+        place = f"{_number(left)} {_number(top + font.BASELINE * page.dot)}"
+        letters = text.encode("cp1252", "replace").hex()
+        lines.append(f"BT /F {_number(_size(page))} Tf 1 0 0 -1 {place} Tm <{letters}> Tj ET")
     return zlib.compress("\n".join(lines).encode("ascii"))
+
+
+_FONT = "<< /Font << /F << /Type /Font /Subtype /Type1 /BaseFont /Courier /Encoding /WinAnsiEncoding >> >> >>"
 
 
 def pdf(pages: Sequence[Page]) -> bytes:
@@ -94,7 +195,8 @@ def pdf(pages: Sequence[Page]) -> bytes:
     objects = [b"<< /Type /Catalog /Pages 2 0 R >>", f"<< /Type /Pages /Kids [{kids}] /Count {len(pages)} >>".encode()]
     for place, page in enumerate(pages):
         box = f"[0 0 {page.width * point:.4f} {page.height * point:.4f}]"
-        objects.append(f"<< /Type /Page /Parent 2 0 R /MediaBox {box} /Resources << >> /Contents {4 + 2 * place} 0 R >>".encode())
+        objects.append(f"<< /Type /Page /Parent 2 0 R /MediaBox {box} /Resources {_FONT if page.lines else '<< >>'} "
+                       f"/Contents {4 + 2 * place} 0 R >>".encode())
         content = _content(page)
         objects.append(b"<< /Length %d /Filter /FlateDecode >>\nstream\n%s\nendstream" % (len(content), content))
     out, places = bytearray(b"%PDF-1.4\n%\xe2\xe3\xcf\xd3\n"), []
@@ -109,20 +211,31 @@ def pdf(pages: Sequence[Page]) -> bytes:
 def png(page: Page, dpi: float) -> bytes:
     """A page as PNG with one bit a pixel at this resolution, in dots an inch, which the file states. A module is a whole number of dots, and at
     least one."""
-    dots = max(1, round(page.module * dpi / _INCH))
-    scale = dots / page.module
+    many = dots(page.module, dpi)
+    scale = many / page.module
     width, height = round(page.width * scale), round(page.height * scale)
     lines = [bytearray(b"\1" * width) for _ in range(height)]
     for rows, left, top in page.cells:
         x, y = round(left * scale), round(top * scale)
         for number, row in enumerate(rows):
-            dark = bytes(0 if module else 1 for module in row for _ in range(dots))
-            for line in lines[y + number * dots:y + (number + 1) * dots]:
+            dark = bytes(0 if module else 1 for module in row for _ in range(many))
+            for line in lines[y + number * many:y + (number + 1) * many]:
                 line[x:x + len(dark)] = dark
+    for text, left, top in page.lines:
+        _set(lines, text, round(left * scale), round(top * scale), max(1, int(page.dot * scale + 1e-6)))
     packed = b"".join(b"\0" + _packed(line) for line in lines)
     metre = round(dpi / _INCH * 1000)
     return (b"\x89PNG\r\n\x1a\n" + _chunk(b"IHDR", struct.pack(">IIBBBBB", width, height, 1, 0, 0, 0, 0))
             + _chunk(b"pHYs", struct.pack(">IIB", metre, metre, 1)) + _chunk(b"IDAT", zlib.compress(packed, 9)) + _chunk(b"IEND", b""))
+
+
+def _set(lines: Sequence[bytearray], text: str, left: int, top: int, many: int) -> None:
+    """Sets a line of text into lines of pixels, with so many for a dot."""
+    columns = [column for letter in text for column in (*font.glyph(letter), 0)]
+    for bit in range(font.HEIGHT):
+        dark = bytes(1 - (column >> bit & 1) for column in columns for _ in range(many))
+        for line in lines[top + bit * many:top + (bit + 1) * many]:
+            line[left:left + len(dark)] = dark[:len(line) - left]
 
 
 def _packed(line: bytearray) -> bytes:

@@ -205,14 +205,17 @@ def _checked(element: Element, unknown: bool) -> Element:
 # ---- Text and messages
 
 _BRACKETED = re.compile(r"\((\d*)\)((?:[^(\\]|\\.)*)", re.DOTALL)
+_SQUARE = re.compile(r"\[(\d*)\]([^\[\\]*)", re.DOTALL)
 
 
 def parse(text: str, unknown: bool = False) -> List[Element]:
     """The elements of a text as it is printed: each identifier in brackets, and its value behind it. An opening bracket that is part of a
-    value is written \\( there, and a backslash can't be part of one."""
+    value is written \\( there, and a backslash can't be part of one. Identifiers may instead all stand in square
+    brackets, as zint has them, which are part of no value; round ones in a value are then written as they are."""
     elements, at = [], 0
+    bracketed = _SQUARE if text.startswith("[") else _BRACKETED
     while at < len(text) or not text:
-        found = _BRACKETED.match(text, at)
+        found = bracketed.match(text, at)
         if not found:
             raise Faulty(f"an identifier in brackets, such as (01), is wanted at character {at + 1}")
         elements.append(_checked(Element(found[1], re.sub(r"\\(.)", r"\1", found[2])), unknown))

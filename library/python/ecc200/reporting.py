@@ -2,15 +2,15 @@
 import argparse
 import json
 import sys
-from typing import Any, Dict, Iterator, List, NamedTuple, Optional, Union
+from typing import Any, Dict, Iterator, List, NamedTuple, Optional, Tuple, Union
 
 from . import core, explaining, gs1
 from .advice import in_words, righted, why_not_written
-from .core import FNC1, Reading, Refused, Rows
+from .core import FNC1, Code, Reading, Refused, Rows
+from .labels import Label, Output, printed
 from .progress import Progress
 from .sources import Source, Trouble, known_charset, sources
-from .spelling import shown, spelled
-from .writing import put_out
+from .spelling import decoded, shown, spelled
 
 __all__ = ["Answer", "answers", "check", "compare", "explain", "normal", "read"]
 
@@ -29,9 +29,12 @@ def _refusal(source: Source, rows: Rows, why: Refused, given: argparse.Namespace
     hint = None if source.found else righted(rows, given.border, given.extent)
     if hint is not None and given.upright:
         return Answer(source, hint.reading, hint.rows, how=hint.how)
-    fault = in_words(why, rows)
+    fault = in_words(why, rows, given.extent)
+    if source.found and why.code in (Code.BORDER, Code.BLOCK):
+        fault = (f"what looks most like a symbol isn't read: {fault}. Rectangles and other codes, as QR codes, aren't "
+                 "read at all")
     if hint is not None:
-        fault = f"it {hint.how}; --upright reads it so" + ("" if core.Code.SIDE >= why.code else f" (as it stands, {fault})")
+        fault = f"it {hint.how}; --upright reads it so" + ("" if Code.SIDE >= why.code else f" (as it stands, {fault})")
     return Answer(source, None, rows, "; ".join(filter(None, (fault, source.fault))), why)
 
 
@@ -41,31 +44,41 @@ def _answer(source: Source, given: argparse.Namespace) -> Answer:
     rows = source.rows
     try:
         if len({len(row) for row in rows} | {len(rows)}) > 1:
-            raise Refused(core.Code.SHAPE)
+            raise Refused(Code.SHAPE)
         return Answer(source, core.read(rows, given.border, given.extent), rows)
     except Refused as why:
         return _refusal(source, rows, why, given)
 
 
 def answers(given: argparse.Namespace, names: List[str]) -> Iterator[Answer]:
-    """An answer for each grid and each symbol of a picture."""
+    """An answer for each grid and each symbol of a picture, and for each file that can't be read."""
     progress = Progress("symbols read")
     try:
-        for source in sources(names, given.most, given.milliseconds, given.margin):
+        for source in sources(names, given.recursive, given.most, given.milliseconds, given.margin):
             yield _answer(source, given)
             progress.step()
     finally:
         progress.end()
 
 
-def _where(answer: Answer, names: List[str]) -> str:
-    file = "" if answer.source.file == "-" and len(names) < 2 else answer.source.file
-    return ", ".join(filter(None, (file, f"symbol {answer.source.number}")))
+def _is_named(given: argparse.Namespace) -> bool:
+    """Whether answers are told apart by the names of files."""
+    return bool(len(given.files) > 1 or given.recursive if given.filename is None else given.filename)
 
 
-def _complain(answer: Answer, names: List[str]) -> None:
+def _print(answer: Answer, text: str, given: argparse.Namespace) -> None:
+    """Prints a line, behind the name of its file if there are several."""
+    print(f"{answer.source.file}:{text}" if _is_named(given) else text, flush=True)
+
+
+def _complain(answer: Answer, given: argparse.Namespace) -> int:
+    """Says on standard error why a symbol isn't read. Returns the status that this makes."""
+    source = answer.source
+    file = "" if source.file == "-" and not _is_named(given) else source.file
+    where = ", ".join(filter(None, (file, f"symbol {source.number}" if source.number else "")))
     sys.stdout.flush()
-    print(f"ecc200: {_where(answer, names)}: {answer.fault}", file=sys.stderr, flush=True)
+    print(f"ecc200: {where or 'standard input'}: {answer.fault}", file=sys.stderr, flush=True)
+    return 1 if source.number else 2
 
 
 def _elements(reading: Reading, unknown: bool) -> Union[List[gs1.Element], str, None]:
@@ -79,26 +92,38 @@ def _elements(reading: Reading, unknown: bool) -> Union[List[gs1.Element], str, 
 
 
 def _about(answer: Answer) -> Dict[str, Any]:
-    """What JSON has of each symbol, read or not."""
+    """What JSON has of each symbol, read or not, and of a file that can't be read."""
+    if not answer.source.number:
+        return {"file": answer.source.file, "error": answer.fault}
     told: Dict[str, Any] = {"file": answer.source.file, "symbol": answer.source.number}
     found = answer.source.found
     if found is not None:
-        told.update(corners=[[round(value, 2) for value in corner] for corner in found.corners], inverted=found.inverted, mirrored=found.mirrored)
+        corners = [[round(value, 2) for value in corner] for corner in found.corners]
+        told.update(page=found.page, corners=corners, inverted=found.inverted, mirrored=found.mirrored)
     if answer.how:
         told["righted"] = answer.how
     if answer.reading is None:
         told["refused"] = answer.fault
         if answer.refused is not None:
-            told.update(code=answer.refused.code.name, value=answer.refused.value, place=answer.refused.place)
+            code, value, place = answer.refused.code, answer.refused.value, answer.refused.place
+            told["code"] = code.name
+            told.update({"block": place + 1} if code == Code.BLOCK else {"value": value, "place": place})
     else:
-        told.update(side=len(answer.rows), border_faults=answer.reading.border_faults, corrected=list(answer.reading.corrected))
+        reading = answer.reading
+        told.update(side=len(answer.rows), border=reading.border_faults, corrected=list(reading.corrected))
     return told
+
+
+def _json(told: Dict[str, Any]) -> str:
+    """A line of JSON, in ASCII: other characters are \\u and four digits, whatever the locale."""
+    return json.dumps(told)
 
 
 def _read_json(answer: Answer, given: argparse.Namespace) -> str:
     told, reading = _about(answer), answer.reading
     if reading is not None:
-        told.update(text=shown(reading.items[reading.gs1:], given.charset), hex=reading.data.hex(), items=list(reading.items), gs1=reading.gs1)
+        told.update(message=spelled(reading.items), text=decoded(reading.data, given.charset), hex=reading.data.hex(),
+                    items=list(reading.items), gs1=reading.gs1)
         elements = _elements(reading, given.unknown)
         if isinstance(elements, str):
             told["gs1_fault"] = elements
@@ -106,10 +131,10 @@ def _read_json(answer: Answer, given: argparse.Namespace) -> str:
             table = gs1.identifiers()
             told["elements"] = [{"identifier": identifier, "value": value, "title": table[identifier].title if identifier in table else None}
                                 for identifier, value in elements]
-    return json.dumps(told, ensure_ascii=False)
+    return _json(told)
 
 
-def _text(answer: Answer, reading: Reading, given: argparse.Namespace, names: List[str]) -> str:
+def _text(answer: Answer, reading: Reading, given: argparse.Namespace) -> str:
     if given.hex:
         return reading.data.hex()
     if given.escapes:
@@ -118,7 +143,7 @@ def _text(answer: Answer, reading: Reading, given: argparse.Namespace, names: Li
     if isinstance(elements, list):
         return gs1.text(elements)
     if isinstance(elements, str):
-        _complain(answer._replace(fault=f"marked as GS1 data, but {elements}"), names)
+        _complain(answer._replace(fault=f"marked as GS1 data, but {elements}"), given)
     return shown(reading.items, given.charset)
 
 
@@ -129,12 +154,11 @@ def read(given: argparse.Namespace) -> int:
         known_charset(given.charset)
     for answer in answers(given, given.files):
         if answer.reading is None:
-            status = 1
-            _complain(answer, given.files)
+            status = max(status, _complain(answer, given))
         if given.json:
             print(_read_json(answer, given), flush=True)
         elif answer.reading is not None:
-            print(_text(answer, answer.reading, given, given.files), flush=True)
+            _print(answer, _text(answer, answer.reading, given), given)
     return status
 
 
@@ -143,32 +167,39 @@ def check(given: argparse.Namespace) -> int:
     status, limits = 0, {size.side: size.limit for size in core.sizes()}
     for answer in answers(given, given.files):
         if answer.reading is None:
-            status = 1
-            _complain(answer, given.files)
+            status = max(status, _complain(answer, given))
         if given.json:
-            print(json.dumps(_about(answer), ensure_ascii=False), flush=True)
+            print(_json(_about(answer)), flush=True)
         elif answer.reading is not None:
             side = len(answer.rows)
             counts = ", ".join(map(str, answer.reading.corrected))
-            print(f"side {side}, {answer.reading.border_faults} border modules wrong, codewords corrected in each block: {counts} "
-                  f"(at most {limits[side]})", flush=True)
+            _print(answer, f"side {side}, {answer.reading.border_faults} border modules wrong, codewords corrected in "
+                   f"each block: {counts} (at most {limits[side]})", given)
     return status
+
+
+def _parts(reading: Reading) -> Tuple[str, ...]:
+    """What a symbol says, as it is printed, in parts between which a line may end."""
+    elements = _elements(reading, True)
+    if isinstance(elements, list):
+        return tuple(gs1.text([element]) for element in elements)
+    return printed(shown(reading.items))
 
 
 def normal(given: argparse.Namespace) -> int:
-    """Writes the normal symbols of what symbols say."""
-    status, symbols = 0, []
-    for answer in answers(given, given.files):
+    """Writes the normal grids of what symbols say."""
+    status, count, labels, output = 0, 0, [], Output(given)  # type: int, int, List[Label], Output
+    for count, answer in enumerate(answers(given, given.files), 1):
         if answer.reading is not None:
             try:
-                symbols.append(core.normal(answer.rows, given.border, given.profile, given.extent))
+                rows = core.normal(answer.rows, given.border, given.profile, given.extent)
+                labels.append(Label(count, _parts(answer.reading), rows))
                 continue
             except Refused as why:
                 answer = answer._replace(fault=why_not_written(why))
-        status = 1
-        _complain(answer, given.files)
-    put_out(symbols, given)
-    return status
+        status = max(status, _complain(answer, given))
+    output.put(labels, count)
+    return max(status, output.status)
 
 
 def _only(given: argparse.Namespace, name: str) -> Answer:
@@ -216,17 +247,20 @@ def explain(given: argparse.Namespace) -> int:
     status = 0
     for answer in answers(given, given.files):
         if answer.reading is None:
-            status = 1
-            _complain(answer, given.files)
+            status = max(status, _complain(answer, given))
         try:
             explanation = explaining.explain(answer.rows, given.border, given.extent)
         except Refused:
+            if given.json:
+                print(_json(_about(answer)), flush=True)
             continue
         if given.json:
             words = [codeword._asdict() for codeword in explanation.codewords]
-            print(json.dumps({**_about(answer), "codewords": words}, ensure_ascii=False), flush=True)
-        else:
-            print("\n".join(_table(explanation)), flush=True)
-            if answer.reading is not None:
-                print(f"It says {shown(answer.reading.items)}", end="\n\n", flush=True)
+            print(_json({**_about(answer), "codewords": words}), flush=True)
+            continue
+        if _is_named(given):
+            print(f"{answer.source.file}, symbol {answer.source.number}:")
+        print("\n".join(_table(explanation)), flush=True)
+        if answer.reading is not None:
+            print(f"It says {shown(answer.reading.items)}", end="\n\n", flush=True)
     return status

@@ -1,47 +1,58 @@
-"""What the command reads: files with grids as text, or pictures."""
-import codecs
+"""What the command reads: files with grids as text, or pictures, also those of whole folders."""
 import io
+import os
+import re
+import stat
 import sys
-from typing import Any, BinaryIO, Iterator, List, NamedTuple, Optional
+from typing import Any, BinaryIO, Iterator, List, NamedTuple, Optional, Union
 
 from . import core, pictures
 from .advice import reduced
 from .core import Rows
 
-__all__ = ["Source", "Trouble", "known_charset", "of_picture", "of_text", "sources"]
+__all__ = ["Source", "Trouble", "known_charset", "of_picture", "of_text", "open_input", "sources"]
 
-_STARTS = (b"\x89PNG", b"\xff\xd8\xff", b"GIF8", b"BM", b"II*\0", b"MM\0*", b"RIFF", b"P1", b"P2", b"P3", b"P4", b"P5", b"P6")
-_WITHOUT = ("the library ecc200_sample isn't installed, and without it a picture has to show one upright symbol with a whole number of pixels for "
-            "each module")
+# How pictures begin: PNG, JPEG, GIF, BMP, TIFF, WebP, PNM. A sound is a RIFF too, and a text may begin with BM.
+_PICTURE = re.compile(rb"\x89PNG|\xff\xd8\xff|GIF8|BM.{13}\0\0\0|II\*\0|MM\0\*|RIFF....WEBP|P[1-6]\s+[#\d]",
+                      re.DOTALL)
+_WITHOUT = "without it a picture has to show one upright symbol with a whole number of pixels for each module"
 _MOST_CHARACTERS, _MOST_LINES = 4096, 4096  # of a record; a symbol has at most 104
+_GRID = re.compile(rb"[\r\n]*[01]{10,}\r?\n")
+_NOT_DOTS = re.compile(rb"(?P<PDF>%PDF-)|(?P<SVG>(?:\xef\xbb\xbf)?\s*(?:<[?!][^>]*>\s*)*<svg\b)")
+_OBJECT = re.compile(r"\s*<_io\.BytesIO object at \w+>")  # how Pillow names what it was given
+_DRAWN_BY = {"PDF": "pdftoppm -r 300 -png label.pdf label", "SVG": "rsvg-convert -d 300 -p 300 -o label.png label.svg"}
 
 
 class Trouble(Exception):
     """What can't be done as it was asked for, in words: the command ends with status 2."""
 
 
+class _Unreadable(Exception):
+    """Why a file can't be read, in words."""
+
+
 def known_charset(name: str) -> None:
     """That there is a charset of this name."""
     try:
-        codecs.lookup(name)
-    except LookupError:
+        "".encode(name)
+    except (LookupError, UnicodeError):
         raise Trouble(f"there is no charset {name!r}") from None
 
 
 class Source(NamedTuple):
     """A grid of a file: its rows, as the file has them, or why there are none."""
     file: str
-    number: int                            # counts the grids of a file from 1
+    number: int                            # counts the grids of a file from 1; 0 where the file can't be read
     rows: Optional[Rows]
     fault: str = ""                        # why there are no rows; or, if these aren't read, what else may be the reason
     found: Optional[pictures.Found] = None
 
 
-def _opened(name: str) -> io.BufferedReader:
-    try:
-        return open(sys.stdin.fileno() if name == "-" else name, "rb", closefd=name != "-")
-    except OSError as why:
-        raise Trouble(f"{name}: {why.strerror}") from None
+def open_input(name: str) -> io.BufferedReader:
+    """A file's bytes, or those of standard input for -."""
+    if name == "-" and sys.stdin is None:
+        raise Trouble("standard input is closed")
+    return open(sys.stdin.fileno() if name == "-" else name, "rb", closefd=name != "-")
 
 
 def _line_fault(line: bytes) -> str:
@@ -70,37 +81,37 @@ def of_text(name: str, stream: BinaryIO) -> Iterator[Source]:
         if line not in (b"", b"\r"):
             lines.append(line)
             if len(line) > _MOST_CHARACTERS or len(lines) > _MOST_LINES:
-                raise Trouble(f"{name}: a record has more than {_MOST_CHARACTERS} characters or {_MOST_LINES} lines, and is no grid")
+                raise _Unreadable(f"a record has more than {_MOST_CHARACTERS} characters or {_MOST_LINES} lines, and "
+                                  "is no grid")
         elif lines:
             number += 1
             yield _of_record(name, number, lines)
             lines = []
     if lines:
         yield _of_record(name, number + 1, lines)
+    elif not number and name != "-":
+        raise _Unreadable("its lines are empty: there are no grids in it")
 
 
-def _picture(name: str, data: bytes) -> Any:
+def _picture(data: bytes) -> Any:
     try:
         from PIL import Image
     except ImportError:
-        raise Trouble(f"{name}: to read pictures install Pillow (Debian: python3-pil)") from None
+        raise _Unreadable("to read pictures install Pillow (Debian: python3-pil)") from None
     try:
         picture = Image.open(io.BytesIO(data))
         picture.load()
         return picture
     except Exception as why:  # Pillow's plugins raise what they like
-        raise Trouble(f"{name}: the picture can't be opened ({why})") from None
+        raise _Unreadable(f"the picture can't be opened ({str(why) or type(why).__name__})") from None
 
 
-def _of_modules(name: str, picture: Any, note: str) -> Source:
-    """A picture of one upright symbol with a whole number of pixels a module, each cut to one."""
-    dark = picture.convert("L").point([1] * 128 + [0] * 128)
-    box = dark.getbbox()
-    if box is None:
+def _of_modules(name: str, page: Any, note: str) -> Source:
+    """A page of one upright symbol with a whole number of pixels a module, each cut to one."""
+    ways = core._ways(page)
+    if not any(map(any, ways[0])):
         return Source(name, 1, None, "nothing in the picture is dark")
-    dark = dark.crop(box)
-    data, width = dark.tobytes(), dark.width
-    return Source(name, 1, reduced([data[at:at + width] for at in range(0, len(data), width)])[0], note)
+    return Source(name, 1, core._best([reduced(rows)[0] for rows in ways]), note)
 
 
 def _is_symbol(source: Source) -> bool:
@@ -111,28 +122,99 @@ def _is_symbol(source: Source) -> bool:
         return why.code not in (core.Code.SHAPE, core.Code.SIDE, core.Code.BORDER, core.Code.BLOCK)
 
 
-def of_picture(name: str, data: bytes, most: int, milliseconds: int, margin: int) -> Iterator[Source]:
-    """The symbols of a picture. Where the sampler isn't installed or finds none, one that the pixels spell module by module."""
-    picture = _picture(name, data)
-    is_there = pictures.is_there()
-    found = pictures.find(picture, most, milliseconds, margin, unread=True) if is_there else []
+def _has_margin(source: Source, margin: int) -> bool:
+    """Whether a symbol that is read leaves so many corrections of each block."""
+    try:
+        reading = core.read(source.rows or [])
+    except core.Refused:
+        return True
+    limit = next(size.limit for size in core.sizes() if size.side == reading.side)
+    return limit - max(reading.corrected) >= margin
+
+
+def _of_page(name: str, page: Any, number: int, most: int, options: core._Options) -> List[Source]:
+    """The symbols of a page. Where the sampler can't be used or reads none, the one that the pixels spell module by
+    module; or else the likeliest that isn't read."""
+    fault = core.sampler_fault()
+    found = core._searched(page, number, most, options) if fault is None else []
     if not any(isinstance(symbol.answer, core.Reading) for symbol in found):
-        source = _of_modules(name, picture, "" if is_there else _WITHOUT)
-        if not is_there or _is_symbol(source):
-            yield source
-            return
-    for number, symbol in enumerate(found, 1):
-        yield Source(name, number, symbol.rows, "", symbol)
-    if not found:
-        yield Source(name, 1, None, f"no symbol was found in its {picture.width} by {picture.height} pixels; a module should have at least "
-                     "two pixels, and the symbol a light margin. --milliseconds allows a longer search")
+        spelled = _of_modules(name, page, "" if fault is None else f"{fault}; {_WITHOUT}")
+        if _has_margin(spelled, options.margin) and (fault is not None or _is_symbol(spelled)):
+            return [spelled]
+    return [Source(name, 1, symbol.rows, "", symbol) for symbol in found]
 
 
-def sources(names: List[str], most: int = 64, milliseconds: int = 1000, margin: int = 0) -> Iterator[Source]:
-    """The grids of these files, or of standard input if there are none, in order."""
-    for name in names or ["-"]:
-        with _opened(name) as file:
-            if file.peek(4)[:4].startswith(_STARTS):
-                yield from of_picture(name, file.read(), most, milliseconds, margin)
-            else:
-                yield from of_text(name, file)
+def of_picture(name: str, data: bytes, most: int, milliseconds: int, margin: int) -> Iterator[Source]:
+    """The symbols of a picture, page by page."""
+    picture, count, options = _picture(data), 0, core._Options(milliseconds, 0, margin, True)
+    for number, page in enumerate(core._pages(picture), 1):
+        for source in _of_page(name, page, number, most, options):
+            count += 1
+            yield source._replace(number=count)
+    if not count:
+        passed = f"; those that leave fewer than {margin} corrections are passed over" if margin else ""
+        yield Source(name, 1, None, f"no square Data Matrix symbol was found in its {picture.width} by "
+                     f"{picture.height} pixels; rectangles and other codes, as QR codes, aren't read. A module should "
+                     "have at least two pixels, and the symbol a light margin. --time allows a longer search" + passed)
+
+
+# ---- Files and folders
+
+def _of_file(name: str, is_named: bool, most: int, milliseconds: int, margin: int) -> Iterator[Source]:
+    """The grids of a file. One that isn't named, but found in a folder, is passed over if it is neither a picture nor
+    has grids."""
+    with open_input(name) as file:
+        start = file.peek(4096)
+        if _PICTURE.match(start):
+            yield from of_picture(name, file.read(), most, milliseconds, margin)
+        elif is_named or _GRID.match(start):
+            _check_text(start, name)
+            yield from of_text(name, file)
+
+
+def _check_text(start: bytes, name: str) -> None:
+    """That what a file begins with may be text of grids."""
+    found = _NOT_DOTS.match(start)
+    if found:
+        kind = str(found.lastgroup)
+        raise _Unreadable(f"it is {'an' if kind == 'SVG' else 'a'} {kind}, and pictures made of pixels are read: draw "
+                          f"it first, as by  {_DRAWN_BY[kind]}")
+    if re.search(rb"[\0-\x08\x0e-\x1f]", start):
+        raise _Unreadable("it is neither a picture (PNG, JPEG, GIF, BMP, TIFF, WebP, PNM) nor text with grids")
+    if not start and name != "-":
+        raise _Unreadable("it is empty: there are no grids in it, and no picture")
+
+
+def _walked(folder: str) -> Iterator[Union[str, OSError]]:
+    """The files in a folder and in those below it, in the order of their names, and which folders can't be opened.
+    Links are left alone."""
+    faults: List[OSError] = []
+    for path, inner, files in os.walk(folder or ".", onerror=faults.append):
+        inner.sort()
+        for name in sorted(files):
+            file = os.path.join(path, name)
+            try:
+                if stat.S_ISREG(os.lstat(file).st_mode):
+                    yield file if folder else file[2:]
+            except OSError as why:
+                faults.append(why)
+    yield from faults
+
+
+def sources(names: List[str], recursive: bool = False, most: int = 64, milliseconds: int = 1000,
+            margin: int = 0) -> Iterator[Source]:
+    """The grids of these files in order, and of all files in these folders if `recursive`. Without names those of
+    standard input, or if `recursive` of the folder in which the command runs."""
+    for name in names or ["" if recursive else "-"]:
+        is_named = not (recursive and os.path.isdir(name or "."))
+        for file in [name] if is_named else _walked(name):
+            try:
+                if isinstance(file, OSError):
+                    raise file
+                yield from _of_file(file, is_named, most, milliseconds, margin)
+            except IsADirectoryError:
+                yield Source(name, 0, None, "it is a folder; -r reads the files in it")
+            except OSError as why:
+                yield Source(str(why.filename) if why is file else str(file), 0, None, str(why.strerror))
+            except (_Unreadable, ValueError) as why:  # as of a page that can't be opened
+                yield Source(str(file), 0, None, _OBJECT.sub("", str(why)))

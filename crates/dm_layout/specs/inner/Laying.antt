@@ -3,7 +3,7 @@
 -- which lies behind those of all anchors, has that of a corner.
 use Rattle.std.specs.Prelude.{ℕ, ◌+◌, ◌-◌, ◌*◌, ◌/◌, ◌%◌, ◌^◌, Bool, ◌&&◌, ◌||◌, nat_eq, nat_le, nat_lt, List, get_or, set, bit_or}
 use Rattle.dm_layout.specs.Placement.{cells_of}
-use Rattle.dm_layout.specs.declared.shape.Shape.TheVariants.{Corner1, Corner2}
+use Rattle.dm_place.specs.declared.shape.Shape.TheVariants.{Corner1, Corner2}
 use Rattle.dm_layout.specs.inner.Reading.{look_in, marks_in}
 use Rattle.dm_layout.specs.inner.Slots.{first_column}
 

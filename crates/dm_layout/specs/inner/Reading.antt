@@ -1,7 +1,7 @@
 -- Codewords in the mapping square, whose rows are numbers: the cell of column c is the bit of weight 2^c.
 use Rattle.std.specs.Prelude.{ℕ, suc, ◌+◌, ◌-◌, ◌/◌, ◌%◌, ◌^◌, Bool, false, ◌&&◌, ◌||◌, nat_eq, List, [], ◌∷◌, get_or}
 use Rattle.dm_layout.specs.Grid.{is_dark_in}
-use Rattle.dm_layout.specs.declared.shape.Cell.{Cell}
+use Rattle.dm_place.specs.declared.shape.Cell.{Cell}
 
 -- The cell at a row and a column of rows that are numbers is the bit of its column.
 abbrev pub look_in : List ℕ → ℕ → ℕ → Bool

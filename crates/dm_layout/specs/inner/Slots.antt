@@ -6,9 +6,9 @@ use Rattle.dm_layout.specs.Grid.{is_dark_in}
 use Rattle.dm_layout.specs.inner.Reading.{look_in}
 use Rattle.dm_layout.specs.Sizes.{largest_mapping}
 use Rattle.dm_layout.specs.Placement.{cells_of}
-use Rattle.dm_layout.specs.declared.shape.Cell.{Cell}
-use Rattle.dm_layout.specs.declared.shape.Shape.{Shape}
-use Rattle.dm_layout.specs.declared.shape.Shape.TheVariants.{Standard, Corner1, Corner2, Corner3, Corner4}
+use Rattle.dm_place.specs.declared.shape.Cell.{Cell}
+use Rattle.dm_place.specs.declared.shape.Shape.{Shape}
+use Rattle.dm_place.specs.declared.shape.Shape.TheVariants.{Standard, Corner1, Corner2, Corner3, Corner4}
 use Rattle.dm_layout.specs.declared.order_rows.TheConstants.{ORDER_8, ORDER_10, ORDER_12, ORDER_14, ORDER_16, ORDER_18, ORDER_20, ORDER_22, ORDER_24, ORDER_28, ORDER_32, ORDER_36, ORDER_40, ORDER_44, ORDER_48, ORDER_56, ORDER_64, ORDER_72, ORDER_80, ORDER_88, ORDER_96}
 
 -- A number goes on with the bits of these cells, in widened rows.

@@ -2,8 +2,7 @@
 
 ghost use Rattle.std.specs.Prelude.{◌≡◌, ℕ, All, length};
 ghost use Rattle.dm_layout.specs.Sizes.{size_table, codeword_count};
-ghost use Rattle.dm_layout.specs.Placement.{shapes, places_in_order, EachCellOnce, IsPlaceList};
-ghost use Rattle.dm_layout.specs.Sweep.{Sweeps};
+ghost use Rattle.dm_layout.specs.Placement.{shapes, places_in_order, EachCellOnce, IsPlaceList, Sweeps};
 ghost use Rattle.dm_layout.specs.Modules.{EachModuleHasOneKind};
 
 /// The sweep of the standard places the shapes of the closed form, in its order, and ends.

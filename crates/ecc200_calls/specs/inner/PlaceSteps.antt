@@ -1,6 +1,6 @@
 -- The steps in which the modules of a symbol are written.
 use Rattle.std.specs.Prelude.{ℕ, ◌+◌, ◌*◌, Bool, nat_eq, Option, Some, None, List, [], ◌∷◌, set}
-use Rattle.dm_layout.specs.declared.cells.Place.{Place}
+use Rattle.dm_place.specs.declared.cells.Place.{Place}
 use Rattle.dm_layout.specs.Sizes.{SizeRow}
 use Rattle.dm_layout.specs.Border.{symbol_line}
 use Rattle.dm_layout.specs.Modules.{border_colour}

@@ -1,7 +1,7 @@
 use Rattle.std.proofs.Common.{◌≡◌, ℕ, ◌+◌, ◌%◌, Bool, ◌&&◌, ◌||◌, nat_eq, List, ap, sym, ◌∙◌}
 use Rattle.std.proofs.Math.Bool.{or-false}
-use Rattle.dm_layout.specs.declared.shape.Cell.{Cell}
-use Rattle.dm_layout.specs.declared.shape.Shape.TheVariants.{Corner1, Corner2}
+use Rattle.dm_place.specs.declared.shape.Cell.{Cell}
+use Rattle.dm_place.specs.declared.shape.Shape.TheVariants.{Corner1, Corner2}
 use Rattle.dm_layout.specs.Placement.{cells_of}
 use Rattle.dm_layout.specs.inner.Laying.{corner_marks}
 use Rattle.dm_layout.specs.inner.Reading.{look_in, marks_in}

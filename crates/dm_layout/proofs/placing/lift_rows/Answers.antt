@@ -10,7 +10,8 @@ use Rattle.dm_layout.specs.Words.{WordsView}
 use Rattle.dm_layout.proofs.LiftedWords.{slot_words, fits_test}
 use Rattle.dm_layout.proofs.PlacementRows.{side_at_row}
 use Rattle.dm_layout.proofs.SlotOrder.{order_at_row, slot_in_rows, slot_count, read_more}
-use Rattle.dm_layout.proofs.Reading.{one_list, held, gathered_all, word_of}
+use Rattle.dm_place.specs.Holding.{word_at}
+use Rattle.dm_layout.proofs.Reading.{one_list, held}
 use Rattle.dm_layout.proofs.placing.lift_rows.Goals as goal
 
 -- The codeword in a slot.
@@ -70,8 +71,7 @@ returns-clause-holds g c =
     ∙ take_all c.loop-i.i (map f (order_of m)) (omega (arith, l, k, c.loop-i-test.false))
     ∙ ap (map f) (ap order_of c.mapping-mapping.ensures.value ∙ order.slots ∙ ap (λ (i : ℕ). map slot_of (shapes i)) (sym c.mapping-mapping.ensures.value))
     ∙ words
-    ∙ ap (λ (i : ℕ). map (λ sh. word_of (mapped_cell c.args.grid.now) (cells_of i sh)) (shapes i)) em
-    ∙ sym (gathered_all (mapped_cell c.args.grid.now) n))
+    ∙ ap (λ (i : ℕ). map (λ sh. word_at (mapped_cell c.args.grid.now) (cells_of i sh)) (shapes i)) em)
 
 pub returns-clause-no_other_words : goal.returns-clause-no_other_words
 returns-clause-no_other_words g c = λ other h. one_list c.args.grid.now other c.loop-i.words h (returns-clause-holds g c)

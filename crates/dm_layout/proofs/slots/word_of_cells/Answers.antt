@@ -3,7 +3,7 @@ use Rattle.std.proofs.Math.Nat.{pow-suc}
 use Rattle.std.proofs.Math.Seq.{drop-cons}
 use Rattle.std.proofs.lemmas.List.{drop_all}
 use Rattle.std.proofs.lemmas.Nat.Bits.{bit_at-lt}
-use Rattle.dm_layout.specs.declared.shape.Cell.{Cell}
+use Rattle.dm_place.specs.declared.shape.Cell.{Cell}
 use Rattle.dm_layout.specs.Placement.{At}
 use Rattle.dm_layout.specs.inner.Slots.{bits_in}
 use Rattle.dm_layout.specs.inner.Walking.{CellsInside}

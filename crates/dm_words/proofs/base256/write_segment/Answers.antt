@@ -1,9 +1,10 @@
-use Rattle.std.proofs.Common.{◌≡◌, ◌∙◌, ◌+◌, ◌%◌, ◌<◌, ◌++◌, ◌∷◌, [], length, map, arith, ap, sym}
-use Rattle.std.proofs.lemmas.List.{length-map}
+use Rattle.std.proofs.Common.{◌∙◌, ◌+◌, ◌++◌, ◌∷◌, [], length, map, arith, ap, sym}
+use Rattle.std.proofs.lemmas.List.{length-map, length-append}
 use Rattle.dm_words.specs.Messages.{byte_of}
-use Rattle.dm_words.specs.Base256.{random_at, randomised}
-use Rattle.dm_words.specs.NormalForm.{one_segment}
-use Rattle.dm_words.proofs.NormalForms.{length-one_segment, has_room, one_item_more}
+use Rattle.dm_words.specs.Base256.{written}
+use Rattle.dm_words.specs.NormalForm.{length_numbers}
+use Rattle.dm_words.proofs.Segments.{length-written}
+use Rattle.dm_words.proofs.NormalForms.{length-one_segment, segment_whole}
 use Rattle.dm_words.proofs.base256.write_segment.Goals as goal
 
 pub push_length-requires-clause-few : goal.push_length-requires-clause-few
@@ -11,19 +12,25 @@ push_length-requires-clause-few c =
     let m = c.args.items.now in
     omega (arith, c.requires, length-one_segment (map byte_of m), length-map m byte_of)
 
-pub push-requires-in-loop-item : goal.push-requires-in-loop-item
-push-requires-in-loop-item c =
+pub write_bytes-requires : goal.write_bytes-requires
+write_bytes-requires c =
     let m = c.args.items.now in
-    let room : length c.loop-item.words.items < length (one_segment (map byte_of m)) = has_room c.loop-item.words.items m c.loop-item.item-index c.loop-item-test.true c.loop-item.invariant.so_far in
-    omega (arith, room, c.requires)
+    omega (
+      arith,
+      c.requires,
+      length-one_segment (map byte_of m),
+      length-map m byte_of,
+      ap (λ k. length (length_numbers k)) (length-map m byte_of),
+      ap length c.push_length.ensures,
+      length-append c.push.new.self.items (written (length c.push.new.self.items + 1) (length_numbers (length m))),
+      length-written (length c.push.new.self.items + 1) (length_numbers (length m)),
+      ap length c.push.ensures.items,
+      ap length c.clear.ensures,
+    )
 
-pub loop-item-preserved : goal.loop-item-preserved
-loop-item-preserved c =
-    let old = c.loop-item.words.items in
-    let v = c.loop-item.invariant in
-    let put : c.push-in-loop-item.new.self.items ≡ old ++ randomised (length old + 1) c.byte.result ∷ [] =
-    c.push-in-loop-item.ensures.items ∙ ap (λ n. old ++ ((c.byte.result + n) % 256) ∷ []) v.number in
-    record {
-      so_far = one_item_more old c.push-in-loop-item.new.self.items c.args.items.now c.loop-item.item-index c.byte.result _ c.loop-item-test.true c.byte.ensures v.so_far put;
-      number = c.next_random-number.ensures.next (length old + 1) v.number ∙ ap (λ n. random_at (n + 1)) (sym c.push-in-loop-item.ensures.len);
-    }
+pub returns : goal.returns
+returns c =
+    let m = c.args.items.now in
+    let whole = segment_whole [] c.push.new.self.items c.push_length.new.words.items c.write_bytes.new.words.items (length_numbers (length m)) (map byte_of m)
+    (c.push.ensures.items ∙ ap (λ l. l ++ 231 ∷ []) c.clear.ensures) c.push_length.ensures c.write_bytes.ensures in
+    whole ∙ ap (λ k. 231 ∷ written 2 (length_numbers k ++ map byte_of m)) (sym (length-map m byte_of))

@@ -2,6 +2,7 @@
 use Rattle.std.specs.Prelude.{◌≡◌, ℕ, ◌+◌, ◌*◌, ◌<◌, ◌≤◌, length, drop, List, [], ◌∷◌, ◌++◌, Option, Some, None, Result, Ok, Err, Bool, true, false}
 use Rattle.dm_words.specs.declared.extent.Extent.{Extent}
 use Rattle.dm_words.specs.declared.item.Item.{Item}
+use Rattle.dm_words.specs.declared.item.Item.TheVariants.{Byte, Fnc1}
 use Rattle.dm_words.specs.declared.fault.WordFault.{WordFault}
 use Rattle.dm_words.specs.declared.ascii.Unit.{Unit}
 use Rattle.dm_words.specs.declared.ascii.Unit.TheVariants as unit
@@ -76,6 +77,11 @@ unit_words (unit.One w) = w ∷ []
 unit_words (unit.Digits w) = w ∷ []
 unit_words (unit.Raised w) = upper_shift ∷ w ∷ []
 unit_words unit.Fnc1 = fnc1_word ∷ []
+
+-- An item has these codewords by itself.
+abbrev pub item_words : Item → List ℕ
+item_words (Byte byte) = single byte
+item_words Fnc1 = fnc1_word ∷ []
 
 -- How many items a unit has.
 abbrev pub unit_items : Unit → ℕ

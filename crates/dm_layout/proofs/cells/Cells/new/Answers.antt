@@ -1,43 +1,43 @@
 use Rattle.std.proofs.Common.{◌≡◌, ℕ, ◌*◌, ◌≤◌, arith, ap, ◌∙◌, sym, subst, length, List}
-use Rattle.std.proofs.Math.Nat.{mul-le-mul}
 use Rattle.dm_layout.specs.Sizes.{SizeRow, IsRow, codeword_count, largest_mapping}
-use Rattle.dm_layout.specs.declared.shape.Cell.{Cell}
-use Rattle.dm_layout.specs.declared.sweep.Walk.{Walk}
-use Rattle.dm_layout.specs.Placement.{places_from, places_in_order}
-use Rattle.dm_layout.specs.inner.Walking.{CellsAreSafe, walk_of, shapes_left}
-use Rattle.dm_layout.proofs.PlacementRows.{count_at_row, walk_at_row}
+use Rattle.dm_place.specs.declared.shape.Cell.{Cell}
+use Rattle.dm_place.specs.declared.shape.Shape.{Shape}
+use Rattle.dm_place.specs.Placement as general
+use Rattle.dm_place.specs.Sides.{SidesAreSafe}
+use Rattle.dm_layout.specs.Placement.{places_from, places_in_order, shapes}
+use Rattle.dm_layout.specs.inner.Walking.{CellsAreSafe}
+use Rattle.dm_layout.proofs.PlacementRows.{facts_at_row}
 use Rattle.dm_layout.proofs.TableRows.{row_facts}
 use Rattle.dm_layout.proofs.cells.Cells.new.Goals as goal
 
-square : (n : ℕ) → n ≤ largest_mapping → n * n ≤ largest_mapping * largest_mapping
-square n h = mul-le-mul h h
-
--- The walk of a size is safe before its first move.
-safe_at_first : (s : SizeRow) (cells : List Cell) → IsRow s → CellsAreSafe cells 0 8 (walk_of s.mapping)
-safe_at_first s cells row =
+-- The iterator is safe before its first place.
+safe_at_first : (s : SizeRow) (m : ℕ) (ss : List Shape) (cells : List Cell) → IsRow s → m ≡ s.mapping → ss ≡ shapes m → CellsAreSafe m cells 0 8 ss
+safe_at_first s m ss cells row e f =
     let facts = row_facts s row in
-    let q = square s.mapping facts.mapping_most in
-    let k : length (shapes_left (walk_of s.mapping)) ≡ codeword_count s = ap length (walk_at_row s row) ∙ count_at_row s row in
-    record {
-      walk = record { low = facts.mapping_least; small = facts.mapping_most; cursor = (omega arith, omega arith, omega arith) };
+    let here = facts_at_row s row in
+    let g : ss ≡ shapes s.mapping = f ∙ ap shapes e in
+    subst (λ (k : ℕ). CellsAreSafe k cells 0 8 ss) (sym e)
+    (subst (CellsAreSafe s.mapping cells 0 8) (sym g)
+    (record {
+      low = facts.mapping_least;
+      small = facts.mapping_most;
       within = omega arith;
       begun = λ h. omega arith;
-      room = omega (arith, k, facts.codewords);
-    }
-
-first_walk : (s : SizeRow) (m : ℕ) (w : Walk) → m ≡ s.mapping → w ≡ walk_of m → w ≡ walk_of s.mapping
-first_walk s m w e f = f ∙ ap walk_of e
+      room = omega (arith, here.counted, facts.codewords);
+      inside = here.inside;
+    }))
 
 pub new-requires : goal.new-requires
-new-requires c = let h = (row_facts c.args.size c.mapping.ensures.row).mapping_most in omega (arith, h, c.mapping.ensures.value)
+new-requires c =
+    let e = c.mapping-mapping.ensures.value in
+    let safe = (facts_at_row c.args.size c.mapping-mapping.ensures.row).safe in
+    subst (λ (k : ℕ). SidesAreSafe k k) (sym e) safe
 
 pub invariant_of-result : goal.invariant_of-result
-invariant_of-result c =
-    subst (λ (w : Walk). CellsAreSafe _ 0 8 w) (sym (first_walk c.args.size _ _ c.mapping.ensures.value c.new.ensures))
-    (safe_at_first c.args.size _ c.mapping.ensures.row)
+invariant_of-result c = safe_at_first c.args.size _ _ _ c.mapping-mapping.ensures.row c.mapping-mapping.ensures.value c.new.ensures
 
 pub returns : goal.returns
-unfolding places_in_order
+unfolding general.places_in_order
 returns c =
-    let e = first_walk c.args.size _ _ c.mapping.ensures.value c.new.ensures in
-    ap (λ (w : Walk). places_from w.mapping 0 (shapes_left w)) e ∙ ap (places_from c.args.size.mapping 0) (walk_at_row c.args.size c.mapping.ensures.row)
+    let e = c.mapping-mapping.ensures.value in
+    ap (places_from c.mapping-mapping.result 0) c.new.ensures ∙ ap (λ (k : ℕ). places_from k 0 (shapes k)) e

@@ -1,6 +1,6 @@
 use Rattle.std.proofs.Common.{arith}
 use Rattle.std.proofs.lemmas.Grind.{common_steps}
-use Rattle.dm_layout.proofs.FirstItem.{goes_first}
+use Rattle.dm_place.proofs.Exported.{goes_first}
 use Rattle.dm_layout.proofs.cells.CellsIterator.next.Goals as goal
 
 pub returns-clause-steps : goal.returns-clause-steps

@@ -1,0 +1,41 @@
+-- How near a word of one Reed-Solomon block of ISO/IEC 16022, ECC 200, is to a codeword, where some of its places are erased: what
+-- stands there isn't known.
+use Rattle.std.specs.Prelude.{◌≡◌, ◌↔◌, Bool, ℕ, suc, ◌+◌, ◌*◌, ◌<◌, ◌≤◌, if◌then◌else◌, List, [], ◌∷◌, length, slice_set}
+use Rattle.std.specs.List.{All}
+use Rattle.gf301.specs.Polynomial.{Bytes}
+use Rattle.dm_code.specs.Codeword.{IsCodeword, IsNear, distance}
+
+-- A list says of each place, from this one on, whether it is erased: these are the erased places, in ascending order.
+unfoldable pub erased_from : ℕ → List Bool → List ℕ
+erased_from place [] = []
+erased_from place (is_erased ∷ rest) = if is_erased then place ∷ erased_from (suc place) rest else erased_from (suc place) rest
+
+-- A list says of each place of a word, from the first on, whether it is erased.
+abbrev pub erased_places : List Bool → List ℕ
+erased_places erased = erased_from 0 erased
+
+-- The word has 0 at each of these places, and is the same elsewhere.
+unfoldable pub blank : List ℕ → List ℕ → List ℕ
+blank [] word = word
+blank (place ∷ places) word = slice_set (blank places word) place 0
+
+-- Another word differs from a word at this many places outside the erased ones: so many differ once both have 0 at these.
+abbrev pub distance_but : List ℕ → List ℕ → List ℕ → ℕ
+distance_but places word other = distance (blank places word) (blank places other)
+
+-- Another word is near to a word but for its erased places where it is a codeword of k checks and as long, and twice the number
+-- of other places at which they differ, and the number of erased ones, are together at most k.
+pub record IsNearBut (k : ℕ) (word places other : List ℕ) : Type 0 where
+  pub codeword : IsCodeword k other
+  pub long : length other ≡ length word
+  pub close : 2 * distance_but places word other + length places ≤ k
+
+-- At most one codeword of less than 255 checks is near to a word of bytes but for places of it.
+abbrev pub NearButIsOne : Type 0
+NearButIsOne =
+    (k : ℕ) (word places first second : List ℕ) → k < 255 → Bytes word → k ≤ length word → length word ≤ 255 → All (λ p. p < length word) places
+    → IsNearBut k word places first → IsNearBut k word places second → first ≡ second
+
+-- With no place erased, those codewords are near to a word that are near to it but for none.
+abbrev pub NearButNoneIsNear : Type 0
+NearButNoneIsNear = (k : ℕ) (word other : List ℕ) → IsNearBut k word [] other ↔ IsNear k word other

@@ -1,0 +1,13 @@
+pub mod TableEntries
+pub mod SmallestSize
+pub mod KeptWords
+pub mod BlockPlaces
+pub mod BlockLemmas
+pub mod DealtWords
+pub mod ModulesLemmas
+pub mod EqualityLaws
+pub mod SymbolLines
+pub mod NoFaults
+pub mod Drawn
+pub mod LaidModules
+pub mod FaultCounts

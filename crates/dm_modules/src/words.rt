@@ -1,0 +1,176 @@
+//! The codewords of a symbol.
+
+ghost use Rattle.std.specs.Prelude.{◌≡◌, ◌<◌, ◌≤◌, ◌++◌, ◌*◌, All, length, replicate, set};
+ghost use Rattle.dm_modules.specs.Sizes.{codeword_count, mapping_rows, mapping_columns, most_codewords};
+ghost use Rattle.dm_modules.specs.Words.{WordsView, IsWords, data_of};
+ghost use Rattle.dm_place.specs.Holding.{HoldsBits, look_at};
+
+use crate::size::{MOST_CODEWORDS, SymbolSize};
+use dm_place::lift;
+use std::marker::Model;
+
+/// The codewords of a symbol of some [`SymbolSize`]: exactly its data codewords and then its check codewords, in the
+/// order in which they are placed. They stand at the start of an array for the most codewords; what stands behind them
+/// means nothing. In contracts it is a `WordsView` of `specs/Words.antt`.
+#[derive(Clone, Debug, Drop)]
+pub struct SymbolWords {
+    size: SymbolSize,
+    kept: [u8; MOST_CODEWORDS],
+}
+
+impl Model for SymbolWords {
+    ghost use Rattle.dm_modules.specs.Words.{WordsView};
+    ghost use Rattle.dm_modules.specs.inner.Keeping.{kept_words, AreKept};
+
+    ghost Value = { WordsView };
+
+    ghost view = { λ w. kept_words w.size w.kept };
+
+    ghost invariant = { λ w. AreKept w.size w.kept };
+}
+
+/// Turns `words` into the codewords that a mapping matrix holds, whose cells stand row by row.
+fn lift_list(size: SymbolSize, mapping: &[bool], words: &mut [u8])
+    requires cells { length mapping.now ≡ mapping_rows size * mapping_columns size }
+    requires words { length words.old ≡ codeword_count size }
+    ensures holds { HoldsBits (mapping_rows size) (mapping_columns size)
+        (look_at mapping.now (mapping_columns size)) words.new }
+    ensures bytes { All (λ word. word < 256) words.new }
+{
+    lift(size.mapping_rows(), size.mapping_columns(), mapping, words);
+}
+
+impl SymbolWords {
+    /// Gives the codewords `list` of a symbol of this size, data and then checks, in the order of the symbol: as many
+    /// as the size's data and check codewords together.
+    pub fn new(size: SymbolSize, list: &[u8]) -> SymbolWords
+        requires { length list.now ≡ codeword_count size }
+        ensures value { result ≡ record { size = size; list = list.now } }
+        ensures words { IsWords result }
+    {
+        // For the proof alone: what `check_count` ensures says that the codewords fit.
+        let _checks = size.check_count();
+        let mut kept = [0; MOST_CODEWORDS];
+        kept[..list.len()].copy_from_slice(list);
+        SymbolWords { size, kept }
+    }
+
+    /// Gives codewords of this size with these data codewords, as many as the size has. The check codewords are 0 until
+    /// they are put.
+    pub fn with_data(size: SymbolSize, prefix: &[u8]) -> SymbolWords
+        requires { length prefix.now ≡ size.data_count }
+        ensures value { result
+            ≡ record { size = size; list = prefix.now ++ replicate size.check_count 0 } }
+        ensures words { IsWords result }
+    {
+        // For the proof alone: what `check_count` ensures says that the codewords fit.
+        let _checks = size.check_count();
+        let mut kept = [0; MOST_CODEWORDS];
+        kept[..prefix.len()].copy_from_slice(prefix);
+        SymbolWords { size, kept }
+    }
+
+    /// Puts the check codewords, as many as the size has. The data codewords stay.
+    pub fn put_checks(&mut self, checks: &[u8])
+        requires { length checks.now ≡ self.old.size.check_count }
+        ensures value { self.new
+            ≡ record { size = self.old.size; list = data_of self.old ++ checks.now } }
+        ensures words { IsWords self.new }
+    {
+        let start = usize::from(self.size.data_count());
+        let end = self.count();
+        self.kept[start..end].copy_from_slice(checks);
+    }
+
+    /// Gives codewords of this size with any values, to be replaced.
+    pub(crate) fn any(size: SymbolSize) -> SymbolWords
+        ensures size { result.size ≡ size }
+        ensures words { IsWords result }
+    {
+        // For the proof alone: what `check_count` ensures says that the codewords fit.
+        let _checks = size.check_count();
+        SymbolWords {
+            size,
+            kept: [0; MOST_CODEWORDS],
+        }
+    }
+
+    /// Becomes the codewords of a symbol of this size that its mapping matrix holds, whose cells stand row by row.
+    pub(crate) fn lift_from(&mut self, size: SymbolSize, mapping: &[bool])
+        requires { length mapping.now ≡ mapping_rows size * mapping_columns size }
+        ensures size { self.new.size ≡ size }
+        ensures words { IsWords self.new }
+        ensures holds { HoldsBits (mapping_rows size) (mapping_columns size)
+            (look_at mapping.now (mapping_columns size)) self.new.list }
+    {
+        let count = (size.data_count() + size.check_count()) as usize;
+        lift_list(size, mapping, &mut self.kept[..count]);
+        self.size = size;
+    }
+
+    /// Gives how many codewords there are.
+    fn count(&self) -> usize
+        ensures value { result ≡ codeword_count self.now.size }
+        ensures fits { result ≤ most_codewords }
+    {
+        (self.size.data_count() + self.size.check_count()) as usize
+    }
+
+    /// Gives the size of the symbol.
+    pub fn size(&self) -> SymbolSize
+        ensures value { result ≡ self.now.size }
+        ensures words { IsWords self.now }
+    {
+        self.size
+    }
+
+    /// Gives all codewords, in the order of the symbol.
+    pub fn list(&self) -> &[u8]
+        ensures value { result.now ≡ self.now.list }
+        ensures words { IsWords self.now }
+    {
+        &self.kept[..self.count()]
+    }
+
+    /// Gives the data codewords.
+    pub fn data_part(&self) -> &[u8]
+        ensures value { result.now ≡ data_of self.now }
+        ensures words { IsWords self.now }
+    {
+        &self.kept[..self.size.data_count() as usize]
+    }
+
+    /// Puts a codeword at a place, counted from 0.
+    pub(crate) fn put(&mut self, place: usize, word: u8)
+        requires { place < length self.old.list }
+        ensures value { self.new
+            ≡ record { size = self.old.size; list = set self.old.list place word } }
+        ensures words { IsWords self.new }
+    {
+        self.kept[place] = word;
+    }
+}
+
+impl PartialEq for SymbolWords {
+    ghost use Rattle.std.specs.Prelude.{◌≡◌, ◌↔◌, IsTrue};
+    ghost use Rattle.dm_modules.specs.Equality.{equal_words};
+    ghost use Rattle.dm_modules.specs.Equality.{words_per};
+
+    ghost eq = { equal_words };
+
+    ghost laws = { words_per };
+
+    /// Whether the sizes agree, and all codewords.
+    fn eq(&self, other: &SymbolWords) -> bool
+        ensures value { result ≡ equal_words self.now other.now }
+        ensures same { IsTrue result ↔ (self.now ≡ other.now) }
+    {
+        self.size().is_same(other.size()) && self.list() == other.list()
+    }
+}
+
+impl Eq for SymbolWords {
+    ghost use Rattle.dm_modules.specs.Equality.{words_equiv};
+
+    ghost laws = { words_equiv };
+}

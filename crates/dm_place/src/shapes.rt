@@ -1,0 +1,226 @@
+//! The shapes of a mapping matrix in the order of the codewords, by the closed form.
+
+ghost use Rattle.std.specs.Prelude.{◌≡◌, ℕ, List, ◌+◌, ◌-◌, ◌<◌, ◌≤◌, ◌++◌, IfSome};
+ghost use Rattle.std.specs.Option.{option_to_list};
+ghost use Rattle.std.specs.Iterator.{YieldsFirst, item_count};
+ghost use Rattle.dm_place.specs.Placement.{shapes as shapes_by, corner_before, in_even_row, in_odd_row, shape_at as shape_at_by, AnchorInside};
+ghost use Rattle.dm_place.specs.Sides.{SidesAreSafe};
+ghost use Rattle.dm_place.specs.inner.Walking.{shapes_left, steps_left, StepsAreSafe};
+ghost use Rattle.dm_place.specs.declared.shape.Shape.{Shape};
+
+use crate::shape::Shape;
+use std::marker::Model;
+
+/// What comes next of the shapes of a sum.
+#[derive(Clone, Copy)]
+pub(crate) enum Part {
+    /// The corner, if one comes just before the anchors.
+    Corner,
+    /// An anchor in an even row, by its column.
+    Even,
+    /// An anchor in an odd row, by its row.
+    Odd,
+}
+
+/// Where the walk over the closed form is.
+#[derive(Drop)]
+pub(crate) struct Steps {
+    rows: u16,
+    columns: u16,
+    /// The sum of row and column of the anchors that come next.
+    sum: u16,
+    part: Part,
+    /// The column in which the next anchor of an even row may lie, or the row of the next one of an odd row.
+    index: u16,
+}
+
+/// The shapes of the codewords of a mapping matrix, in their order: an iterator, which ends after one for each codeword
+/// (ISO/IEC 16022, module placement). In contracts it is the list of the shapes that are left.
+#[derive(Drop)]
+pub struct Shapes {
+    steps: Steps,
+}
+
+impl Model for Shapes {
+    ghost use Rattle.dm_place.specs.declared.shape.Shape.{Shape};
+    ghost use Rattle.std.specs.Prelude.{List};
+    ghost use Rattle.dm_place.specs.inner.Walking.{shapes_left, StepsAreSafe};
+
+    ghost Value = { List Shape };
+
+    ghost view = { λ s. shapes_left s.steps };
+
+    ghost invariant = { λ s. StepsAreSafe s.steps };
+}
+
+/// Gives the corner that comes just before the anchors of a sum.
+fn corner(rows: u16, columns: u16, sum: u16) -> Option<Shape>
+    requires rows { 6 ≤ rows }
+    requires most { rows ≤ 132 }
+    ensures value { option_to_list result ≡ corner_before rows columns sum }
+    ensures anchor { IfSome result (AnchorInside rows columns) }
+{
+    if rows % 8 == 4 && columns % 8 == 4 && sum == rows {
+        Some(Shape::Corner1)
+    } else if rows % 8 == 6 && columns % 8 == 6 && sum == rows - 2 {
+        Some(Shape::Corner2)
+    } else if rows % 8 == 6 && columns % 8 == 4 && sum == rows - 2 {
+        Some(Shape::Corner3)
+    } else if rows % 8 == 6 && columns % 8 == 0 && sum == rows + 6 {
+        Some(Shape::Corner4)
+    } else {
+        None
+    }
+}
+
+/// Gives the standard shape whose anchor lies here, if one does.
+fn shape_at(rows: u16, columns: u16, row: u16, column: u16) -> Option<Shape>
+    requires rows { 6 ≤ rows }
+    requires columns { 6 ≤ columns }
+    requires row { row ≤ 300 }
+    requires column { column ≤ 300 }
+    ensures value { option_to_list result ≡ shape_at_by rows columns row column }
+    ensures anchor { IfSome result (AnchorInside rows columns) }
+{
+    let absent = rows % 8 == 6
+        && (row == rows - 2 && column == 0 && (columns % 8 == 6 || columns % 8 == 4)
+            || columns % 8 == 6 && row == 0 && column == columns - 2
+            || columns % 8 == 0 && row == 1 && column == columns - 1);
+    if row < rows && column < columns && (5 * row + column) % 8 == 4 && !absent {
+        Some(Shape::Standard(row, column))
+    } else {
+        None
+    }
+}
+
+/// Gives the standard shape of a sum whose anchor lies in this column and in an even row.
+fn in_even_row(rows: u16, columns: u16, sum: u16, column: u16) -> Option<Shape>
+    requires rows { 6 ≤ rows }
+    requires columns { 6 ≤ columns }
+    requires sum { sum ≤ 300 }
+    requires column { column ≤ 300 }
+    ensures value { option_to_list result ≡ in_even_row rows columns sum column }
+    ensures anchor { IfSome result (AnchorInside rows columns) }
+{
+    if column <= sum && (sum - column) % 2 == 0 {
+        shape_at(rows, columns, sum - column, column)
+    } else {
+        None
+    }
+}
+
+/// Gives the standard shape of a sum whose anchor lies in this row, if that is odd.
+fn in_odd_row(rows: u16, columns: u16, sum: u16, row: u16) -> Option<Shape>
+    requires rows { 6 ≤ rows }
+    requires columns { 6 ≤ columns }
+    requires sum { sum ≤ 300 }
+    requires row { row ≤ 300 }
+    ensures value { option_to_list result ≡ in_odd_row rows columns sum row }
+    ensures anchor { IfSome result (AnchorInside rows columns) }
+{
+    if row <= sum && row % 2 == 1 {
+        shape_at(rows, columns, row, sum - row)
+    } else {
+        None
+    }
+}
+
+impl Steps {
+    /// Makes one step, and gives the shape that it comes by, if it comes by one.
+    fn step(&mut self) -> Option<Shape>
+        requires safe { StepsAreSafe self.old }
+        requires more { self.old.sum + 1 < self.old.rows + self.old.columns }
+        ensures left { shapes_left self.old ≡ option_to_list result ++ shapes_left self.new }
+        ensures safe { StepsAreSafe self.new }
+        ensures rows { self.new.rows ≡ self.old.rows }
+        ensures columns { self.new.columns ≡ self.old.columns }
+        ensures anchor { IfSome result (AnchorInside self.old.rows self.old.columns) }
+        ensures fewer { steps_left self.new.rows self.new.columns self.new.sum self.new.part self.new.index
+            < steps_left self.old.rows self.old.columns self.old.sum self.old.part self.old.index }
+    {
+        let index = self.index;
+        match self.part {
+            Part::Corner => {
+                let found = corner(self.rows, self.columns, self.sum);
+                self.index = 0;
+                // The anchors of a sum lie all in even rows or all in odd ones, and only multiples of 4 have any.
+                if self.sum % 8 == 4 {
+                    self.part = Part::Even;
+                } else if self.sum % 8 == 0 {
+                    self.part = Part::Odd;
+                } else {
+                    self.sum += 1;
+                }
+                found
+            }
+            Part::Even => {
+                if index == self.columns {
+                    self.part = Part::Corner;
+                    self.index = 0;
+                    self.sum += 1;
+                    None
+                } else {
+                    self.index = index + 1;
+                    in_even_row(self.rows, self.columns, self.sum, index)
+                }
+            }
+            Part::Odd => {
+                if index == self.rows {
+                    self.part = Part::Corner;
+                    self.index = 0;
+                    self.sum += 1;
+                    None
+                } else {
+                    self.index = index + 1;
+                    in_odd_row(self.rows, self.columns, self.sum, index)
+                }
+            }
+        }
+    }
+
+    /// Gives the next shape.
+    fn next_shape(&mut self) -> Option<Shape>
+        requires safe { StepsAreSafe self.old }
+        ensures left { YieldsFirst shapes_left self.old result self.new }
+        ensures safe { StepsAreSafe self.new }
+        ensures anchor { IfSome result (AnchorInside self.old.rows self.old.columns) }
+    {
+        while self.sum + 1 < self.rows + self.columns {
+            if let Some(shape) = self.step() {
+                return Some(shape);
+            }
+        }
+        None
+    }
+}
+
+impl Shapes {
+    /// Gives all shapes of a mapping matrix of so many rows and columns, each 6 to 132.
+    pub fn new(rows: u16, columns: u16) -> Shapes
+        requires { SidesAreSafe rows columns }
+        ensures { result ≡ shapes_by rows columns }
+    {
+        Shapes {
+            steps: Steps {
+                rows,
+                columns,
+                sum: 0,
+                part: Part::Corner,
+                index: 0,
+            },
+        }
+    }
+}
+
+impl Iterator for Shapes {
+    type Item = Shape;
+
+    ghost next_gives = { YieldsFirst (λ s. s) };
+
+    ghost remaining = { item_count (λ s. s) };
+
+    /// Gives the next shape.
+    fn next(&mut self) -> Option<Shape> {
+        self.steps.next_shape()
+    }
+}

@@ -1,0 +1,178 @@
+//! The smallest symbol of a message. The codewords are those of a plain model, which isn't this program.
+
+use super::*;
+
+/// Whether the smallest codewords of the message in an extent are these, and are read as it.
+fn is_smallest(extent: Extent, message: &Message, expected: &[u8]) -> bool {
+    match smallest_words(extent, message) {
+        Ok(words) => words.as_slice() == expected && is_read(extent, expected, message),
+        Err(_) => false,
+    }
+}
+
+/// Whether the codewords are read in an extent as the message.
+fn is_read(extent: Extent, words: &[u8], message: &Message) -> bool {
+    if words.len() > MOST_DATA {
+        return false;
+    }
+    match message_of_as(extent, words) {
+        Ok(found) => has_items(&found, message.items()),
+        Err(_) => false,
+    }
+}
+
+/// The message of these bytes.
+fn of_bytes(bytes: &[u8]) -> Message {
+    let mut message = Message::new();
+    add_bytes(&mut message, bytes);
+    message
+}
+
+/// An extent, bytes, and their smallest codewords.
+type Row = (Extent, &'static [u8], &'static [u8]);
+
+/// Whether each row has the smallest codewords of its bytes.
+fn all_are_smallest(rows: &[Row]) -> bool {
+    for (extent, bytes, words) in rows {
+        if !is_smallest(*extent, &of_bytes(bytes), words) {
+            return false;
+        }
+    }
+    true
+}
+
+/// Bytes whose ASCII codewords fit the smallest size.
+static IN_ASCII: [Row; 4] = [
+    (Extent::Wide, b"", &[129, 175, 70]),
+    (Extent::Wide, b"ABC", &[66, 67, 68]),
+    (Extent::Wide, b"12345678", &[142, 164, 186, 208, 129]),
+    (
+        Extent::Wide,
+        b"!\"#$%&'()*+,",
+        &[34, 35, 36, 37, 38, 39, 40, 41, 42, 43, 44, 45],
+    ),
+];
+
+/// Bytes in runs of C40, Text and X12: with an unlatch or without one, with one codeword left, and with a byte of three values.
+static IN_RUNS: [Row; 6] = [
+    (
+        Extent::Usual,
+        b"AIMAIMAIM",
+        &[230, 91, 11, 91, 11, 91, 11, 129],
+    ),
+    (
+        Extent::Usual,
+        b"AIMAIMAIMAIMAIMAIMAIMAIMAIM",
+        &[
+            230, 91, 11, 91, 11, 91, 11, 91, 11, 91, 11, 91, 11, 91, 11, 91, 11, 91, 11, 254, 129,
+            118,
+        ],
+    ),
+    (
+        Extent::Usual,
+        b"AIMAIMAIMA",
+        &[66, 230, 141, 159, 141, 159, 141, 159],
+    ),
+    (
+        Extent::Usual,
+        b"aimaimaimaim1",
+        &[98, 239, 141, 159, 141, 159, 141, 159, 141, 150, 254, 129],
+    ),
+    (
+        Extent::Usual,
+        b"A*B>A*B>A*B>A*B>",
+        &[66, 238, 8, 155, 87, 184, 14, 178, 94, 31, 8, 155],
+    ),
+    (
+        Extent::Usual,
+        b"ABCDEF\xC1GHIJKL",
+        &[230, 89, 233, 109, 36, 10, 255, 128, 95, 147, 154, 129],
+    ),
+];
+
+/// Bytes in runs of EDIFACT, with each of their ends, and texts of macros.
+static WIDE: [Row; 6] = [
+    (
+        Extent::Wide,
+        b"!\"#$%&'()*+,-",
+        &[34, 240, 138, 57, 37, 154, 122, 41, 170, 187, 45, 129],
+    ),
+    (
+        Extent::Wide,
+        b".-.-.-.-.-.-.-.-abcd",
+        &[
+            47, 240, 182, 235, 110, 182, 235, 110, 182, 235, 110, 182, 235, 95, 98, 99, 100, 101,
+        ],
+    ),
+    (
+        Extent::Wide,
+        b".-.-.-.-.-.-.-.-.-.-.-.-",
+        &[
+            240, 186, 219, 173, 186, 219, 173, 186, 219, 173, 186, 219, 173, 186, 219, 173, 186,
+            219, 173, 124, 129, 118,
+        ],
+    ),
+    (
+        Extent::Wide,
+        b"[)>\x1E05\x1DABC\x1E\x04",
+        &[236, 66, 67, 68, 129],
+    ),
+    (
+        Extent::Usual,
+        b"[)>\x1E05\x1DABC\x1E\x04",
+        &[92, 42, 63, 31, 135, 30, 66, 67, 68, 31, 5, 129],
+    ),
+    (Extent::Wide, b"[)>\x1E06\x1D\x1E\x04", &[237, 129, 70]),
+];
+
+/// Bytes in segments of Base 256.
+static IN_SEGMENTS: [Row; 3] = [
+    (Extent::Usual, b"\x80\x81\x82", &[231, 47, 65, 216, 110]),
+    (
+        Extent::Usual,
+        b"\xC8\xC8\xC8\xC8\xC8\xC8\xC8\xC8\xC8\xC8",
+        &[231, 54, 137, 31, 180, 74, 224, 117, 11, 160, 54, 204],
+    ),
+    (
+        Extent::Usual,
+        b"\xC8\xC8\xC8\xC8\xC8\xC8\xC8\xC8\xC8\xC8\xC8\xC8\xC8\xC8\xC8\xC8\xC8\xC8\xC8\xC8AAA",
+        &[
+            231, 64, 137, 31, 180, 74, 224, 117, 11, 160, 54, 204, 97, 247, 140, 34, 183, 77, 227,
+            120, 14, 163, 66, 66, 66, 129, 104, 254, 150, 45,
+        ],
+    ),
+];
+
+#[test]
+fn writes_the_smallest(rt: HostRuntime) {
+    holds(&rt, all_are_smallest(&IN_ASCII));
+    holds(&rt, all_are_smallest(&IN_RUNS));
+    holds(&rt, all_are_smallest(&WIDE));
+    holds(&rt, all_are_smallest(&IN_SEGMENTS));
+}
+
+/// Whether the smallest codewords of so many bytes 255 are so many, begin with these, and are read as the bytes.
+fn is_segment(count: usize, words: usize, expected: &[u8]) -> bool {
+    let message = of_many(255, count);
+    match smallest_words(Extent::Usual, &message) {
+        Ok(found) => {
+            found.len() == words
+                && found.starts_with(expected)
+                && is_read(Extent::Usual, &found, &message)
+        }
+        Err(_) => false,
+    }
+}
+
+/// The length takes one codeword up to 249 bytes, and from 250 on two, but where the bytes end with the symbol.
+#[test]
+fn writes_the_length_of_a_segment(rt: HostRuntime) {
+    holds(&rt, is_segment(249, 280, &[231, 37, 192]));
+    holds(&rt, is_segment(250, 280, &[231, 38, 193, 86]));
+    holds(&rt, is_segment(813, 816, &[231, 40, 0, 86]));
+    holds(&rt, is_segment(814, 816, &[231, 44, 192]));
+    holds(
+        &rt,
+        smallest_words(Extent::Wide, &of_many(255, 815)).is_err(),
+    );
+}

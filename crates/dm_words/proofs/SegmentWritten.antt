@@ -1,0 +1,106 @@
+-- The segments that are written are segments.
+use Rattle.std.proofs.Common.{◌≡◌, ◌≢◌, ◌⊎◌, inl, inr, ℕ, ◌+◌, ◌/◌, ◌%◌, ◌<◌, ◌≤◌, List, [], ◌∷◌, ◌++◌, length, map, refl, sym, ap, subst, arith, Bool, true, false, cond}
+use Rattle.std.specs.Prelude.{nat_le}
+use Rattle.std.proofs.lemmas.Bool.{cases_lt}
+use Rattle.std.proofs.lemmas.List.{length-append, length-map}
+use Rattle.std.proofs.lemmas.List.Elements.{recursion_from_All}
+use Rattle.dm_words.specs.declared.extent.Extent.{Extent}
+use Rattle.dm_words.specs.declared.item.Item.{Item}
+use Rattle.dm_words.specs.Messages.{byte_of, IsItem, IsMessage}
+use Rattle.dm_words.specs.Base256.{written, randomised, IsLengthField, to_the_end}
+use Rattle.dm_words.specs.NormalForm.{has_fnc1, length_numbers}
+use Rattle.dm_words.specs.Spells.{segment}
+use Rattle.dm_words.specs.inner.Written.{IsFieldWritten, IsPartWritten}
+use Rattle.dm_words.proofs.Segments.{length-written}
+use Rattle.dm_words.proofs.NormalForms.{short_numbers, long_numbers, says_count, bytes_of_items, bytes_are_items, segment_whole}
+
+-- A latch, a field and bytes were written.
+pub field_written : (extent : Extent) (total : ℕ) (old latched counted new field : List ℕ) (m : List Item) → IsMessage m → has_fnc1 m ≡ false
+    → latched ≡ old ++ 231 ∷ [] → counted ≡ latched ++ written (length latched + 1) field → new ≡ counted ++ written (length counted + 1) (map byte_of m)
+    → ((after : List ℕ) → length new + length after ≡ total → IsLengthField field (length (map byte_of m)) after) → IsPartWritten extent total old new m
+field_written extent total old latched counted new field m fit none latch count all counts =
+    let bytes = map byte_of m in
+    let whole = segment_whole old latched counted new field bytes latch count all in
+    let place : length old + 2 ≡ (length old + 1) + 1 = omega arith in
+    record {
+      part = 231 ∷ written (length old + 2) (field ++ bytes);
+      some = omega arith;
+      begins = λ e. absurd (omega (arith, e));
+      whole = whole;
+      right = λ after fills first. segment (record {
+        latch = 231;
+        is_latch = refl;
+        field = field;
+        bytes = bytes;
+        in_range = bytes_of_items m (recursion_from_All IsItem m fit);
+        counted = counts after fills;
+        whole = ap (λ (k : ℕ). 231 ∷ written k (field ++ bytes)) place;
+        items_are = bytes_are_items m none;
+      });
+    }
+
+-- The bytes take a codeword each.
+pub bytes_length : (counted new : List ℕ) (m : List Item) → new ≡ counted ++ written (length counted + 1) (map byte_of m) → length new ≡ length counted + length m
+bytes_length counted new m all =
+    omega (arith, ap length all, length-append counted (written (length counted + 1) (map byte_of m)), length-written (length counted + 1) (map byte_of m), length-map m byte_of)
+
+-- So many codewords were written.
+pub field_length : (old latched counted new field : List ℕ) (m : List Item) → latched ≡ old ++ 231 ∷ [] → counted ≡ latched ++ written (length latched + 1) field → new ≡ counted ++ written (length counted + 1) (map byte_of m)
+    → length new ≡ length old + 1 + length field + length m
+field_length old latched counted new field m latch count all =
+    omega (
+      arith,
+      ap length latch,
+      length-append old (231 ∷ []),
+      ap length count,
+      length-append latched (written (length latched + 1) field),
+      length-written (length latched + 1) field,
+      bytes_length counted new m all,
+    )
+
+-- A field that says all bytes up to the end of the symbol.
+pub field_to_end : (total count : ℕ) (old new : List ℕ) → length old + 1 + count ≡ total → new ≡ old ++ randomised (length old + 1) 0 ∷ [] → IsFieldWritten total count old new
+field_to_end total count old new full is = record {
+  field = 0 ∷ [];
+  words_are = is;
+  few = by_test (nat_le count 249);
+  fits = omega (arith, l, full);
+  counts = λ after fills. by_after after (omega (arith, l, full, fills));
+} where
+  l : length new ≡ length old + 1
+  l = omega (arith, ap length is, length-append old (randomised (length old + 1) 0 ∷ []))
+
+  by_test : (t : Bool) → 1 ≤ length (cond t (count ∷ []) ((249 + count / 250) ∷ (count % 250) ∷ []))
+  by_test true = omega arith
+  by_test false = omega arith
+
+  by_after : (after : List ℕ) → length after ≡ 0 → IsLengthField (0 ∷ []) count after
+  by_after [] none = to_the_end refl refl
+  by_after (w ∷ after) none = absurd (omega (arith, none))
+
+-- A field that says the count.
+pub field_of_count : (total count : ℕ) (old new : List ℕ) → 0 < count → total ≤ 816 → (count ≤ 249) ⊎ (length old + 1 + count ≢ total) → length old + 1 + count ≤ total
+    → new ≡ old ++ written (length old + 1) (length_numbers count) → IsFieldWritten total count old new
+field_of_count total count old new some most which room is = record {
+  field = length_numbers count;
+  words_are = is;
+  few = omega arith;
+  fits = elim (cases_lt 249 count) [
+    | inl many ↦ elim which [
+      | inl few ↦ absurd (omega (arith, few, many))
+      | inr other ↦ omega (arith, l, ap length (long_numbers count many), other, room)
+    ]
+    | inr few ↦ omega (arith, l, ap length (short_numbers count few), room)
+  ];
+  counts = λ after fills. says_count count after some (omega (arith, most, room));
+} where
+  l : length new ≡ length old + length (length_numbers count)
+  l = omega (arith, ap length is, length-append old (written (length old + 1) (length_numbers count)), length-written (length old + 1) (length_numbers count))
+
+-- A segment was written.
+pub segment_written : (extent : Extent) (total : ℕ) (old latched counted new : List ℕ) (m : List Item) → IsMessage m → has_fnc1 m ≡ false → latched ≡ old ++ 231 ∷ []
+    → (f : IsFieldWritten total (length m) latched counted) → new ≡ counted ++ written (length counted + 1) (map byte_of m) → IsPartWritten extent total old new m
+segment_written extent total old latched counted new m fit none latch f all =
+    let long = bytes_length counted new m all in
+    field_written extent total old latched counted new f.field m fit none latch f.words_are all
+    (λ after fills. subst (λ (n : ℕ). IsLengthField f.field n after) (sym (length-map m byte_of)) (f.counts after (omega (arith, fills, long))))

@@ -1,0 +1,33 @@
+use Rattle.std.proofs.Common.{◌≡◌, ◌∙◌, ◌+◌, ◌%◌, ◌++◌, ◌∷◌, [], length, map, take, arith, ap, sym}
+use Rattle.std.proofs.lemmas.List.{length-append, length-map, length-take}
+use Rattle.dm_words.specs.Messages.{byte_of}
+use Rattle.dm_words.specs.Base256.{random_at, randomised, written}
+use Rattle.dm_words.proofs.Segments.{length-written}
+use Rattle.dm_words.proofs.NormalForms.{bytes_more}
+use Rattle.dm_words.proofs.base256.write_bytes.Goals as goal
+
+pub push-requires : goal.push-requires
+push-requires c =
+    let m = c.args.items.now in
+    let i = c.loop-item.item-index in
+    omega (
+      arith,
+      c.requires,
+      c.loop-item-test.true,
+      ap length c.loop-item.invariant.so_far,
+      length-append c.args.words.now.items (written (length c.args.words.now.items + 1) (map byte_of (take i m))),
+      length-written (length c.args.words.now.items + 1) (map byte_of (take i m)),
+      length-map (take i m) byte_of,
+      length-take i m,
+    )
+
+pub loop-item-preserved : goal.loop-item-preserved
+loop-item-preserved c =
+    let old = c.loop-item.words.items in
+    let v = c.loop-item.invariant in
+    let put : c.push.new.self.items ≡ old ++ randomised (length old + 1) c.byte.result ∷ [] =
+    c.push.ensures.items ∙ ap (λ n. old ++ ((c.byte.result + n) % 256) ∷ []) v.number in
+    record {
+      so_far = bytes_more c.args.words.now.items old c.push.new.self.items c.args.items.now c.loop-item.item-index c.byte.result _ c.loop-item-test.true c.byte.ensures v.so_far put;
+      number = c.next_random-number.ensures.next (length old + 1) v.number ∙ ap (λ n. random_at (n + 1)) (sym c.push.ensures.len);
+    }

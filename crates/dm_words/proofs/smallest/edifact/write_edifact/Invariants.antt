@@ -1,0 +1,18 @@
+use Rattle.std.proofs.Common.{◌≡◌, ◌+◌, ◌-◌, ◌≤◌, length, drop, take}
+use Rattle.dm_words.specs.declared.extent.Extent.TheVariants.{Wide}
+use Rattle.dm_words.specs.inner.Costs.{owed_group, row}
+use Rattle.dm_words.specs.inner.Written.{waiting_values}
+use Rattle.dm_words.proofs.GroupsWritten.{IsEdifactSoFar}
+use Rattle.dm_words.proofs.smallest.edifact.write_edifact.Given as goal
+
+abbrev pub invariant-loop-words : goal.invariant-loop-words
+invariant-loop-words l = record {
+  from : l.at + 1 ≤ l.next;
+  within : l.next ≤ length l.items;
+  wide : l.fn.extent ≡ Wide;
+  budget : length l.words.items + owed_group (length (waiting_values l.group)) (row l.fn.extent (drop l.next l.items)).edifact ≤ l.total;
+  so_far : IsEdifactSoFar l.fn.words.items l.words.items l.group (take (l.next - l.at) (drop l.at l.items));
+}
+
+abbrev pub decreases-loop-words : goal.decreases-loop-words
+decreases-loop-words l = length l.items - l.next

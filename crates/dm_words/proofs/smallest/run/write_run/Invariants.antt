@@ -1,0 +1,16 @@
+use Rattle.std.proofs.Common.{◌+◌, ◌-◌, ◌≤◌, length, drop, take}
+use Rattle.dm_words.specs.inner.Costs.{owed, row_pairs, row}
+use Rattle.dm_words.specs.inner.Written.{part_values}
+use Rattle.dm_words.proofs.RunWritten.{IsRunSoFar}
+use Rattle.dm_words.proofs.smallest.run.write_run.Given as goal
+
+abbrev pub invariant-loop-set : goal.invariant-loop-set
+invariant-loop-set l = record {
+  from : l.at + 1 ≤ l.next;
+  within : l.next ≤ length l.items;
+  budget : length l.words.items + owed (length (part_values l.part)) (row_pairs l.set (row l.fn.extent (drop l.next l.items))) ≤ l.total;
+  so_far : IsRunSoFar l.set l.fn.words.items l.words.items l.part (take (l.next - l.at) (drop l.at l.items));
+}
+
+abbrev pub decreases-loop-set : goal.decreases-loop-set
+decreases-loop-set l = length l.items - l.next

@@ -1,0 +1,37 @@
+-- The ways to write a message that have the fewest codewords: its parts, or in the wide extent the codeword of a
+-- macro and the parts of its text.
+use Rattle.std.specs.Prelude.{◌≡◌, ℕ, ◌+◌, ◌-◌, ◌≤◌, List, length, take, drop, Option, Some, None}
+use Rattle.dm_words.specs.declared.extent.Extent.{Extent}
+use Rattle.dm_words.specs.declared.extent.Extent.TheVariants.{Wide}
+use Rattle.dm_words.specs.declared.item.Item.{Item}
+use Rattle.dm_words.specs.declared.codeword.Codeword.TheVariants as codeword
+use Rattle.dm_words.specs.Codewords.{codeword_of}
+use Rattle.dm_words.specs.Macros.{macro_text}
+use Rattle.dm_words.specs.inner.Costs.{parts_cost}
+
+-- No way to write a message costs less: not its parts, nor the text of a macro and the macro itself.
+pub record IsLeastCost (extent : Extent) (message : List Item) (cost : ℕ) : Type 0 where
+  pub parts : cost ≤ parts_cost extent message
+  pub macros : (word digit : ℕ) (text : List Item) → extent ≡ Wide → codeword_of word ≡ Some (codeword.Macro digit) → message ≡ macro_text digit text
+      → cost ≤ 1 + parts_cost extent text
+
+-- The items between a header and a trailer are these, if there are as many.
+abbrev pub inner_text : List Item → List Item
+inner_text items = take (length items - 2 - 7) (drop 7 items)
+
+-- The codeword is a macro for the header and the trailer of these items.
+pub record IsMacroOf (extent : Extent) (items : List Item) (word : ℕ) : Type 0 where
+  pub wide : extent ≡ Wide
+  pub digit : ℕ
+  pub is_macro : codeword_of word ≡ Some (codeword.Macro digit)
+  pub framed : items ≡ macro_text digit (inner_text items)
+  pub long : 9 ≤ length items
+
+-- No macro stands for a header and a trailer of these items.
+abbrev pub HasNoMacro : Extent → List Item → Type 0
+HasNoMacro extent items = (word digit : ℕ) (text : List Item) → extent ≡ Wide → codeword_of word ≡ Some (codeword.Macro digit) → items ≡ macro_text digit text → ⊥
+
+-- To write a message by this macro, or by none, costs at most this much.
+abbrev pub IsWay : Extent → List Item → Option ℕ → ℕ → Type 0
+IsWay extent items None cost = parts_cost extent items ≤ cost
+IsWay extent items (Some word) cost = IsMacroOf extent items word × (1 + parts_cost extent (inner_text items) ≤ cost)

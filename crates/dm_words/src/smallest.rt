@@ -1,0 +1,206 @@
+//! The smallest symbol of a message: data codewords that spell it, of the smallest size that has any.
+
+ghost use Rattle.std.specs.Prelude.{◌≡◌, ◌+◌, ◌≤◌, OnErr, length};
+ghost use Rattle.dm_words.specs.Messages.{IsMessage};
+ghost use Rattle.dm_words.specs.Outcomes.{outcome};
+ghost use Rattle.dm_words.specs.Pads.{padded};
+ghost use Rattle.dm_words.specs.Smallest.{IsPlainest, IsSmallestResult, SpellsThenPads};
+ghost use Rattle.dm_words.specs.inner.Costs.{parts_cost};
+ghost use Rattle.dm_words.specs.inner.Ways.{IsLeastCost, IsWay, inner_text};
+ghost use Rattle.dm_words.specs.inner.Written.{ArePartsWritten};
+
+mod edifact;
+mod parts;
+mod plan;
+mod row;
+mod run;
+mod segment;
+mod values;
+
+use crate::ascii::{ascii_form, write_ascii};
+use crate::extent::Extent;
+use crate::fault::TooLong;
+use crate::item::Item;
+use crate::limits::MESSAGE_ROOM;
+use crate::macros::{HEADER_LENGTH, TRAILER_LENGTH, macro_of};
+use crate::message::Message;
+use crate::pad::add_pads;
+use crate::smallest::parts::write_parts;
+use crate::smallest::plan::{PLAN_ROOM, Step, plan_to};
+use arrayvec::ArrayVec;
+use dm_layout::{MOST_DATA, Size};
+
+/// Gives data codewords, with pads, that spell the message in an extent, of the smallest size that has any: no list
+/// of codewords of a smaller size spells it there. They are ASCII where the size has room for that; else codewords
+/// that spell the message in the usual extent, where there are any. `TooLong` exactly where the codewords of no size
+/// spell the message. ISO/IEC 16022, encodation schemes.
+pub fn smallest_words(extent: Extent, message: &Message) -> Result<ArrayVec<u8, MOST_DATA>, TooLong>
+    ensures { IsSmallestResult extent message.now result }
+{
+    let mut words = ArrayVec::new();
+    match smallest_words_to(extent, message, &mut words) {
+        Ok(()) => Ok(words),
+        Err(TooLong) => Err(TooLong),
+    }
+}
+
+/// Does the same as [`smallest_words()`] in a target: after `Ok`, `words` holds these codewords, whatever it held
+/// before. After `TooLong` it holds what it held before.
+pub fn smallest_words_to(
+    extent: Extent,
+    message: &Message,
+    words: &mut ArrayVec<u8, MOST_DATA>,
+) -> Result<(), TooLong>
+    ensures smallest { IsSmallestResult extent message.now (outcome result words.new) }
+    ensures same { OnErr result (words.new.items ≡ words.old.items) }
+{
+    let items = message.items();
+    let way = least_way(extent, items);
+    match Size::for_words(way.cost) {
+        None => Err(TooLong),
+        Some(size) => {
+            write_plainest(extent, items, way, words, size.data_count());
+            add_pads(words, size);
+            Ok(())
+        }
+    }
+}
+
+/// A way to write a message.
+#[derive(Clone, Copy)]
+struct Way {
+    /// The codeword of the macro by which it is written, if it is.
+    macro_word: Option<u8>,
+    /// How many codewords it takes at most, beside pads.
+    cost: u16,
+}
+
+/// Gives a way to write these items than which none takes fewer codewords.
+fn least_way(extent: Extent, items: &[Item]) -> Way
+    requires { length items.now ≤ MESSAGE_ROOM }
+    ensures way { IsWay extent items.now result.macro_word result.cost }
+    ensures least { IsLeastCost extent items.now result.cost }
+{
+    let plain = least_cost(extent, items);
+    match macro_of(extent, items) {
+        None => Way {
+            macro_word: None,
+            cost: plain,
+        },
+        Some(word) => {
+            let by_macro = 1 + least_cost(extent, inner(items));
+            if by_macro <= plain {
+                Way {
+                    macro_word: Some(word),
+                    cost: by_macro,
+                }
+            } else {
+                Way {
+                    macro_word: None,
+                    cost: plain,
+                }
+            }
+        }
+    }
+}
+
+/// Gives the items between the header and the trailer of a macro.
+fn inner(items: &[Item]) -> &[Item]
+    requires { 9 ≤ length items.now }
+    ensures { result.now ≡ inner_text items.now }
+{
+    &items[HEADER_LENGTH..items.len() - TRAILER_LENGTH]
+}
+
+/// Gives the least number of codewords of parts that have these items.
+fn least_cost(extent: Extent, items: &[Item]) -> u16
+    requires { length items.now ≤ MESSAGE_ROOM }
+    ensures cost { result ≡ parts_cost extent items.now }
+    ensures most { result ≤ 4000 }
+{
+    let mut plan = [Step::NONE; PLAN_ROOM];
+    plan_to(extent, items, &mut plan)
+}
+
+/// Writes the items, without pads, for a symbol of `count` data codewords: in ASCII where there is room for that;
+/// else as the usual extent has it, where there is room for that; else in this way.
+fn write_plainest(
+    extent: Extent,
+    items: &[Item],
+    way: Way,
+    words: &mut ArrayVec<u8, MOST_DATA>,
+    count: u16,
+)
+    requires few { length items.now ≤ MESSAGE_ROOM }
+    requires message { IsMessage items.now }
+    requires way { IsWay extent items.now way.macro_word way.cost }
+    requires room { way.cost ≤ count }
+    requires count { count ≤ MOST_DATA }
+    ensures spells { SpellsThenPads extent (padded words.new.items count) items.now }
+    ensures fits { length words.new.items ≤ count }
+    ensures plainest { IsPlainest (padded words.new.items count) items.now }
+{
+    if ascii_form(items).length <= usize::from(count) {
+        let _form = write_ascii(items, words);
+        return;
+    }
+    if least_cost(Extent::Usual, items) <= count {
+        write_plain(Extent::Usual, items, words, count);
+        return;
+    }
+    write_way(extent, items, way, words, count);
+}
+
+/// Writes the items in this way, without pads, for a symbol of `count` data codewords.
+fn write_way(
+    extent: Extent,
+    items: &[Item],
+    way: Way,
+    words: &mut ArrayVec<u8, MOST_DATA>,
+    count: u16,
+)
+    requires few { length items.now ≤ MESSAGE_ROOM }
+    requires message { IsMessage items.now }
+    requires way { IsWay extent items.now way.macro_word way.cost }
+    requires room { way.cost ≤ count }
+    requires count { count ≤ MOST_DATA }
+    ensures spells { SpellsThenPads extent (padded words.new.items count) items.now }
+    ensures fits { length words.new.items ≤ count }
+{
+    match way.macro_word {
+        None => write_plain(extent, items, words, count),
+        Some(word) => {
+            words.clear();
+            words.push(word);
+            write_least(extent, inner(items), words, count);
+        }
+    }
+}
+
+/// Writes the items by no macro, without pads, for a symbol of `count` data codewords.
+fn write_plain(extent: Extent, items: &[Item], words: &mut ArrayVec<u8, MOST_DATA>, count: u16)
+    requires few { length items.now ≤ MESSAGE_ROOM }
+    requires message { IsMessage items.now }
+    requires room { parts_cost extent items.now ≤ count }
+    requires count { count ≤ MOST_DATA }
+    ensures spells { SpellsThenPads extent (padded words.new.items count) items.now }
+    ensures fits { length words.new.items ≤ count }
+{
+    words.clear();
+    write_least(extent, items, words, count);
+}
+
+/// Writes the fewest parts that have these items behind the words that stand there, for a symbol of `count` data
+/// codewords.
+fn write_least(extent: Extent, items: &[Item], words: &mut ArrayVec<u8, MOST_DATA>, count: u16)
+    requires few { length items.now ≤ MESSAGE_ROOM }
+    requires message { IsMessage items.now }
+    requires room { length words.old.items + parts_cost extent items.now ≤ count }
+    requires count { count ≤ MOST_DATA }
+    ensures parts { ArePartsWritten extent count words.old.items words.new.items items.now }
+    ensures fits { length words.new.items ≤ count }
+{
+    let mut plan = [Step::NONE; PLAN_ROOM];
+    let _cost = plan_to(extent, items, &mut plan);
+    write_parts(extent, items, &plan, words, usize::from(count));
+}

@@ -1,0 +1,144 @@
+//! Runs of C40, Text and X12 that follow the plan.
+
+ghost use Rattle.std.specs.Prelude.{◌≡◌, ◌+◌, ◌-◌, ◌*◌, ◌/◌, ◌≤◌, ◌<◌, ◌&&◌, not, Some, length, All, ℕ, take, drop};
+ghost use Rattle.dm_words.specs.declared.smallest.plan.Step.{Step};
+ghost use Rattle.dm_words.specs.declared.codeword.Codeword.TheVariants as Codeword;
+ghost use Rattle.dm_words.specs.Codewords.{codeword_of};
+ghost use Rattle.dm_words.specs.Values.{IsRunValue};
+ghost use Rattle.dm_words.specs.inner.Costs.{set_values, owed, going_pairs, going_from, parts_cost, IsRightPlan};
+ghost use Rattle.dm_words.specs.inner.Written.{part_values, IsSmallPart, IsValuePushed, ArePushed, IsItemPushed, is_empty, run_ends, IsPartWritten};
+
+use crate::c40::set::CodeSet;
+use crate::codeword::UNLATCH;
+use crate::extent::Extent;
+use crate::item::Item;
+use crate::limits::MESSAGE_ROOM;
+use crate::smallest::plan::{PLAN_ROOM, Step};
+use crate::smallest::values::values_of;
+use arrayvec::ArrayVec;
+use dm_layout::MOST_DATA;
+
+/// Gives the latch to a set.
+fn latch(set: CodeSet) -> u8
+    ensures { codeword_of result ≡ Some (Codeword.Latch set) }
+{
+    match set {
+        CodeSet::C40 => 230,
+        CodeSet::X12 => 238,
+        CodeSet::Text => 239,
+    }
+}
+
+/// Whether the plan ends a run of a set there.
+fn ends(step: &Step, set: CodeSet) -> bool
+    ensures { result ≡ run_ends set step.now }
+{
+    match set {
+        CodeSet::C40 => step.c40_ends,
+        CodeSet::Text => step.text_ends,
+        CodeSet::X12 => step.x12_ends,
+    }
+}
+
+/// The values of a pair that stand already.
+#[derive(Clone, Copy)]
+pub enum Part {
+    /// None.
+    Empty,
+    /// One value.
+    One(u8),
+    /// Two values.
+    Two(u8, u8),
+}
+
+/// Adds a value of a run behind those that stand, and gives those that stand then. A whole pair is written.
+fn push_value(part: Part, value: u8, words: &mut ArrayVec<u8, MOST_DATA>) -> Part
+    requires small { value < 40 }
+    requires part { IsSmallPart part }
+    requires room { length words.old.items + 2 * ((length (part_values part) + 1) / 3) ≤ MOST_DATA }
+    ensures { IsValuePushed part words.old.items value result words.new.items }
+{
+    match part {
+        Part::Empty => Part::One(value),
+        Part::One(first) => Part::Two(first, value),
+        Part::Two(first, second) => {
+            let number = 1600 * first as u16 + 40 * second as u16 + value as u16 + 1;
+            words.push((number / 256) as u8);
+            words.push((number % 256) as u8);
+            Part::Empty
+        }
+    }
+}
+
+/// Adds values of a run.
+fn push_values(part: Part, values: &[u8], words: &mut ArrayVec<u8, MOST_DATA>) -> Part
+    requires small { All IsRunValue values.now }
+    requires part { IsSmallPart part }
+    requires few { length values.now ≤ 4 }
+    requires room { length words.old.items
+        + 2 * ((length (part_values part) + length values.now) / 3) ≤ MOST_DATA }
+    ensures { ArePushed words.old.items (part_values part) values.now words.new.items result }
+{
+    let mut part = part;
+    for value in values {
+        part = push_value(part, *value, words);
+    }
+    part
+}
+
+/// Adds the values of an item of a run.
+fn push_item(set: CodeSet, item: Item, part: Part, words: &mut ArrayVec<u8, MOST_DATA>) -> Part
+    requires held { 0 < set_values set item }
+    requires part { IsSmallPart part }
+    requires room { length words.old.items
+        + 2 * ((length (part_values part) + set_values set item) / 3) ≤ MOST_DATA }
+    ensures { IsItemPushed set item part words.old.items words.new.items result }
+{
+    let values = values_of(set, item);
+    push_values(part, &values, words)
+}
+
+/// Whether a run goes on at a step.
+fn goes_on(part: Part, step: &Step, set: CodeSet) -> bool
+    ensures { result ≡ not (is_empty part && run_ends set step.now) }
+{
+    match part {
+        Part::Empty => !ends(step, set),
+        _ => true,
+    }
+}
+
+/// Writes a run, and gives the index behind it.
+pub(crate) fn write_run(
+    extent: Extent,
+    items: &[Item],
+    at: usize,
+    set: CodeSet,
+    plan: &[Step; PLAN_ROOM],
+    words: &mut ArrayVec<u8, MOST_DATA>,
+    total: usize,
+) -> usize
+    requires at { at < length items.now }
+    requires few { length items.now ≤ MESSAGE_ROOM }
+    requires plan { IsRightPlan extent items.now plan.now }
+    requires budget { length words.old.items + 1
+        + owed 0 (going_pairs set (going_from extent (drop at items.now))) ≤ total }
+    requires total { total ≤ MOST_DATA }
+    ensures further { at < result }
+    ensures within { result ≤ length items.now }
+    ensures budget { length words.new.items + parts_cost extent (drop result items.now) ≤ total }
+    ensures part { IsPartWritten extent total words.old.items words.new.items
+        (take (result - at) (drop at items.now)) }
+{
+    words.push(latch(set));
+    let mut part = push_item(set, items[at], Part::Empty, words);
+    let mut next = at + 1;
+    while goes_on(part, &plan[next], set) {
+        part = push_item(set, items[next], part, words);
+        next += 1;
+    }
+    if total - words.len() > 1 {
+        words.push(UNLATCH);
+    }
+    next
+}

@@ -1,0 +1,76 @@
+//! Segments of Base 256 that follow the plan.
+
+ghost use Rattle.std.specs.Prelude.{◌≡◌, ◌+◌, ◌-◌, ◌≤◌, ◌<◌, length, take, drop, false};
+ghost use Rattle.dm_words.specs.declared.extent.Extent.{Extent};
+ghost use Rattle.dm_words.specs.Messages.{IsMessage};
+ghost use Rattle.dm_words.specs.NormalForm.{has_fnc1, length_numbers};
+ghost use Rattle.dm_words.specs.inner.Costs.{never, going_from, parts_cost, segment_cost, IsRightPlan};
+ghost use Rattle.dm_words.specs.inner.Written.{IsFieldWritten, IsPartWritten};
+
+use crate::base256::{MOST_SHORT, push_length, push_value, write_bytes};
+use crate::codeword::BASE256_LATCH;
+use crate::extent::Extent;
+use crate::item::Item;
+use crate::limits::MESSAGE_ROOM;
+use crate::smallest::plan::{PLAN_ROOM, Step};
+use arrayvec::ArrayVec;
+use dm_layout::MOST_DATA;
+
+/// Gives the index behind a segment whose length is written out, from that of its first byte.
+pub(crate) fn segment_end(
+    extent: Extent,
+    items: &[Item],
+    at: usize,
+    plan: &[Step; PLAN_ROOM],
+) -> usize
+    requires at { at < length items.now }
+    requires few { length items.now ≤ MESSAGE_ROOM }
+    requires plan { IsRightPlan extent items.now plan.now }
+    requires byte { (going_from extent (drop at items.now)).segment.bytes < never }
+    ensures further { at < result }
+    ensures within { result ≤ length items.now }
+    ensures bytes { has_fnc1 (take (result - at) (drop at items.now)) ≡ false }
+    ensures cost { let segment = (going_from extent (drop at items.now)).segment in
+        segment_cost segment.bytes segment.near
+        ≡ 1 + length (length_numbers (result - at)) + (result - at)
+        + parts_cost extent (drop result items.now) }
+{
+    let mut next = at + 1;
+    while !plan[next].segment_ends {
+        next += 1;
+    }
+    next
+}
+
+/// Writes the length field of a segment of `count` bytes: 0, for all bytes up to the end of the symbol, where they
+/// end there and the count would take two numbers.
+fn push_field(words: &mut ArrayVec<u8, MOST_DATA>, count: usize, total: usize)
+    requires some { 0 < count }
+    requires room { length words.old.items + 1 + count ≤ total }
+    requires total { total ≤ MOST_DATA }
+    ensures { IsFieldWritten total count words.old.items words.new.items }
+{
+    if count > MOST_SHORT && words.len() + 1 + count == total {
+        push_value(words, 0);
+    } else {
+        push_length(words, count);
+    }
+}
+
+/// Writes a segment of these bytes.
+pub(crate) fn write_segment(items: &[Item], words: &mut ArrayVec<u8, MOST_DATA>, total: usize)
+    requires some { 0 < length items.now }
+    requires bytes { has_fnc1 items.now ≡ false }
+    requires message { IsMessage items.now }
+    requires room { length words.old.items + 2 + length items.now ≤ total }
+    requires total { total ≤ MOST_DATA }
+    ensures fits { length words.new.items ≤ total }
+    ensures most { length words.new.items ≤ length words.old.items + 1
+        + length (length_numbers (length items.now)) + length items.now }
+    ensures part { (extent : Extent)
+        → IsPartWritten extent total words.old.items words.new.items items.now }
+{
+    words.push(BASE256_LATCH);
+    push_field(words, items.len(), total);
+    write_bytes(items, words);
+}

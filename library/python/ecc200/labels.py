@@ -1,0 +1,243 @@
+"""Labels: symbols as the command line asks for them, as grids, as blocks on a terminal, or as pictures in files."""
+import argparse
+import os
+import re
+import sys
+import unicodedata
+from typing import Dict, List, NamedTuple, Optional, Sequence, Tuple
+
+from . import drawing, font, terminal
+from .core import Rows
+from .progress import Progress
+from .sources import Trouble
+
+__all__ = ["KINDS", "Label", "Output", "printed", "safe"]
+
+KINDS = ("png", "svg", "pdf", "txt", "blocks")
+_DRAWN = ("png", "svg", "pdf")
+_INCH = 25.4
+_MOST_OFF = 0.02  # how much a module may be off before it is said, as a part of its side
+_MOST_NAME = 150  # bytes of a message in the name of a file
+
+
+class Label(NamedTuple):
+    """A symbol to be put out: its number, which counts messages or symbols from 1; what it says, in parts between which
+    a line may end; its rows."""
+    number: int
+    parts: Tuple[str, ...]
+    rows: Rows
+
+
+def printed(text: str) -> Tuple[str, ...]:
+    """A text as a caption has it: its words with the spaces behind them, accents joined to their letters, and a space
+    for what isn't printable."""
+    text = unicodedata.normalize("NFC", text)
+    if not text.isprintable():
+        text = "".join(letter if letter.isprintable() else " " for letter in text)
+    return tuple(re.findall(r"\S+ *| +", text))
+
+
+def safe(text: str) -> str:
+    """A text as a part of a file's name: letters, digits, -, _ and dots inside; what else there is becomes _."""
+    plain = re.sub(r"[^\w.-]+", "_", text).strip("_.-")
+    return plain.encode()[:_MOST_NAME].decode(errors="ignore") or "empty"
+
+
+def _grid(rows: Rows) -> str:
+    return "".join("".join("01"[module] for module in row) + "\n" for row in rows) + "\n"
+
+
+class Output:
+    """Where labels go and how, as the command line asks; Trouble says what can't be done so."""
+
+    def __init__(self, given: argparse.Namespace) -> None:
+        self.file: Optional[str] = None if given.output == "-" else given.output
+        self.quiet: int = given.quiet_zone
+        self.captions: bool = given.caption
+        self.kind = self._kind(given)
+        self.sheet = self._sheet(given)
+        self.module, self.dpi = self._module(given), float(given.dpi)
+        self.dot = drawing.DOT
+        if self.kind == "png":
+            self._round(given.module)
+        self.names: Dict[str, int] = {}
+        self.status = 0  # what files that can't be written make the command's
+
+    # ---- What is asked for
+
+    def _kind(self, given: argparse.Namespace) -> str:
+        if given.format:
+            kind = str(given.format)
+        elif self.file is not None:
+            kind = os.path.splitext(self.file)[1][1:].lower()
+            if kind not in (*_DRAWN, "txt"):
+                raise Trouble(f"{self.file}: its name should end with .png, .svg, .pdf or .txt, or --format say which"
+                              " it is")
+        else:
+            kind = "blocks" if terminal.is_terminal() and terminal.can_show() else "txt"
+        if kind == "blocks" and not terminal.can_show():
+            raise Trouble("--format blocks: the charset of standard output has no half blocks")
+        if kind in ("png", "pdf") and self.file is None and terminal.is_terminal():
+            raise Trouble("a picture isn't put onto a terminal: send it on, as in  > label.png, or name a file by -o")
+        if self.captions and kind == "txt":
+            raise Trouble("--caption: a grid has none; it needs a picture, as -o label.png, or --format blocks")
+        return kind
+
+    def _sheet(self, given: argparse.Namespace) -> Optional[Tuple[float, float]]:
+        if given.sheet is None:
+            return None
+        found = re.fullmatch(r"(\d+(?:\.\d+)?)x(\d+(?:\.\d+)?)", given.sheet)
+        if not found:
+            raise Trouble(f"--sheet {given.sheet}: a size in millimetres is wanted, as 210x297")
+        if self.kind not in _DRAWN:
+            raise Trouble("--sheet: sheets are pictures, and need -o FILE, its name ending with .pdf, .svg or .png")
+        if self.is_named:
+            raise Trouble(f"{self.file}: a sheet has several messages, and can't be named by one")
+        return float(found[1]), float(found[2])
+
+    @staticmethod
+    def _module(given: argparse.Namespace) -> float:
+        """The side of a module in millimetres."""
+        found = re.fullmatch(r"(\d+(?:\.\d+)?)(mm)?", given.module)
+        size = float(found[1]) if found else 0
+        if not found or not 0.01 <= size <= 1000 or (not found[2] and size != int(size)):
+            raise Trouble(f"--module {given.module}: a size is wanted, as 0.5mm, or as 8, a whole number of dots")
+        if not 1 <= given.dpi <= 100000:
+            raise Trouble(f"--dpi {given.dpi:g}: a resolution is wanted, as 300")
+        return size if found[2] else size * _INCH / float(given.dpi)
+
+    def _round(self, asked: str) -> None:
+        """Makes modules, and the dots of letters, whole numbers of dots of the resolution. Says how wide a module is
+        then, where that is another width."""
+        dots = drawing.dots(self.module, self.dpi)
+        made = dots * _INCH / self.dpi
+        if abs(made - self.module) > _MOST_OFF * self.module:
+            print(f"ecc200: a module of {asked} isn't a whole number of dots at {self.dpi:g} dots an inch: it is drawn "
+                  f"as {dots} dot{'s' * (dots > 1)}, {made:.3g} mm", file=sys.stderr)
+        self.module, self.dot = made, drawing.dots(drawing.DOT, self.dpi) * _INCH / self.dpi
+
+    @property
+    def is_named(self) -> bool:
+        """Whether files are named by their messages."""
+        return self.file is not None and "{}" in self.file
+
+    @property
+    def shows(self) -> bool:
+        """Whether labels go to standard output one by one."""
+        return self.file is None and self.kind in ("txt", "blocks")
+
+    # ---- Labels put out
+
+    def show(self, label: Label) -> None:
+        """Prints a label on standard output, at once."""
+        if self.kind == "txt":
+            text = _grid(label.rows)
+        else:
+            width = len(label.rows[0]) + 2 * self.quiet
+            if terminal.is_terminal() and 0 < terminal.columns() < width:
+                print(f"ecc200: the terminal has {terminal.columns()} columns, and the symbol takes {width}",
+                      file=sys.stderr)
+            text = "\n".join(self._lines(label, terminal.is_terminal())) + "\n\n"
+        sys.stdout.write(text)
+        sys.stdout.flush()
+
+    def put(self, labels: Sequence[Label], count: int) -> None:
+        """Writes labels into files, or onto standard output if none is named. `count`: how many messages there were,
+        also those that have no label: files are numbered by message."""
+        if self.shows:
+            for label in labels:
+                self.show(label)
+        elif labels and self.kind in ("txt", "blocks") and not self.is_named:
+            self._write(self._name(labels[0], 1), self._of_text(labels))
+        elif labels:
+            self._draw(labels, count)
+
+    def _of_text(self, labels: Sequence[Label]) -> bytes:
+        if self.kind == "txt":
+            return "".join(_grid(label.rows) for label in labels).encode("ascii")
+        return "".join("\n".join(self._lines(label, False)) + "\n\n" for label in labels).encode()
+
+    def _lines(self, label: Label, coloured: bool) -> List[str]:
+        """A label in blocks."""
+        width = len(label.rows[0]) + 2 * self.quiet
+        return terminal.blocks(label.rows, self.quiet, coloured) + drawing.wrapped(label.parts, width) * self.captions
+
+    def _draw(self, labels: Sequence[Label], count: int) -> None:
+        """A file for each label, or for each sheet, or one PDF."""
+        if self.kind not in _DRAWN:
+            for label in labels:
+                self._write(self._name(label, count), self._of_text([label]))
+            return
+        self._complain(labels)
+        if self.sheet is None:
+            pages = [drawing.alone(label.rows, self.module, self.quiet, self._caption(label), self.dot)
+                     for label in labels]
+            names = [self._name(label, count) for label in labels]
+        else:
+            pages = self._sheets(labels)
+            names = [self._name(Label(number, (), []), len(pages)) for number in range(1, len(pages) + 1)]
+        if self.kind == "pdf" and (self.sheet is not None or self.file is None):
+            self._write(self.file, drawing.pdf(pages))
+            return
+        if self.file is None and len(pages) > 1:
+            raise Trouble(f"{len(pages)} pictures don't go into standard output; --format pdf makes pages of them, and "
+                          "-o FILE files")
+        progress = Progress("pictures drawn")
+        for name, page in zip(names, pages):
+            self._write(name, self._drawn(page))
+            progress.step()
+        progress.end()
+
+    def _sheets(self, labels: Sequence[Label]) -> List[drawing.Page]:
+        assert self.sheet is not None
+        try:
+            return drawing.sheets([label.rows for label in labels], self.module, self.quiet, self.sheet,
+                                  captions=[self._caption(label) for label in labels], dot=self.dot)
+        except ValueError as why:
+            raise Trouble(str(why)) from None
+
+    def _caption(self, label: Label) -> Tuple[str, ...]:
+        return label.parts if self.captions else ()
+
+    def _complain(self, labels: Sequence[Label]) -> None:
+        """Says which letters of captions the kind of picture hasn't."""
+        for label in labels if self.captions else ():
+            lacking = font.lacking("".join(label.parts), self.kind)
+            if lacking:
+                print(f"ecc200: the caption of symbol {label.number} has {lacking}, for which a .{self.kind} has no "
+                      "letter; an .svg has all", file=sys.stderr)
+
+    def _drawn(self, page: drawing.Page) -> bytes:
+        if self.kind == "png":
+            return drawing.png(page, self.dpi)
+        return drawing.svg(page) if self.kind == "svg" else drawing.pdf([page])
+
+    def _name(self, label: Label, count: int) -> Optional[str]:
+        """The name of a label's file."""
+        if self.file is None:
+            return None
+        if self.is_named:
+            return self.file.replace("{}", self._by_message(label))
+        base, end = os.path.splitext(self.file)
+        return self.file if count == 1 else f"{base}-{label.number:0{len(str(count))}}{end}"
+
+    def _by_message(self, label: Label) -> str:
+        """The message as a part of a name, with the label's number behind it if another label has that name."""
+        name = safe("".join(label.parts))
+        while self.names.setdefault(name, label.number) != label.number:
+            name += f"-{label.number}"
+        return name
+
+    def _write(self, name: Optional[str], data: bytes) -> None:
+        """Writes a file, or onto standard output. A file that can't be written is named, and keeps no other from being
+        written."""
+        if name is None:
+            sys.stdout.flush()
+            sys.stdout.buffer.write(data)
+            return
+        try:
+            with open(name, "wb") as file:
+                file.write(data)
+        except OSError as why:
+            self.status = 2
+            print(f"ecc200: {name}: {why.strerror}", file=sys.stderr, flush=True)

@@ -1,0 +1,118 @@
+"""The messages of the subcommand write: words of the command line, lines of standard input, or the bytes of a file."""
+import argparse
+import os
+import re
+from typing import Iterator, List, NamedTuple, Tuple, Union
+
+from . import core, gs1
+from .advice import why_not_written
+from .core import Refused
+from .labels import Label, printed
+from .sources import Trouble, open_input
+from .spelling import Misspelled, of_spelling, shown, spelled
+
+__all__ = ["Unwritten", "labels"]
+
+_LINE_END = re.compile("(\r\n|\n|\r)\\Z")
+_UTF16 = (b"\xff\xfe", b"\xfe\xff")
+
+
+class Unwritten(NamedTuple):
+    """A message that has no symbol: what it is called, and why, in words."""
+    name: str
+    why: str
+
+
+class _Given(NamedTuple):
+    """A message as it is given: what it is called, and its text, in which bytes that aren't UTF-8 are surrogates."""
+    name: str
+    text: str
+
+
+def _lines() -> Iterator[str]:
+    with open_input("-") as stream:
+        if stream.peek(2)[:2] in _UTF16:
+            raise Trouble("standard input is UTF-16, and lines of UTF-8 are wanted: make it that first, as in  "
+                          "iconv -f UTF-16 -t UTF-8 < FILE")
+        for line in stream:
+            yield line.decode("utf-8", "surrogateescape")
+
+
+def _word(word: str) -> str:
+    """A word of the command line. Bytes that the locale has no letters for are UTF-8."""
+    is_text = not any("\udc80" <= letter <= "\udcff" for letter in word)
+    return word if is_text else os.fsencode(word).decode("utf-8", "surrogateescape")
+
+
+def _given(messages: List[str]) -> Iterator[_Given]:
+    """The messages, without a byte order mark in front of the first, and without the line end behind each."""
+    name, texts = ("message", map(_word, messages)) if messages else ("line", _lines())
+    for number, text in enumerate(texts, 1):
+        bare = _LINE_END.sub("", text)
+        yield _Given(f"{name} {number}", bare[1:] if number == 1 and bare.startswith("\ufeff") else bare)
+
+
+class _Unclear(ValueError):
+    """A text that is no message, in words."""
+
+
+def _check(text: str, is_line: bool) -> None:
+    """That a text is UTF-8, and that a line has no CR inside."""
+    try:
+        text.encode("utf-8")
+    except UnicodeEncodeError as why:
+        byte = ord(text[why.start]) - 0xDC00
+        raise _Unclear(f"it isn't UTF-8: its character {why.start + 1} is the byte {byte:02X}. iconv makes other "
+                       "charsets UTF-8; --escapes, --hex and --bytes take any bytes") from None
+    if is_line and "\r" in text:
+        raise _Unclear("it has a CR inside; if that is part of the message, write it as \\x0D with --escapes")
+
+
+def _message(text: str, given: argparse.Namespace) -> Tuple[Union[bytes, List[int]], bool, Tuple[str, ...]]:
+    """The bytes or items of a message, whether it is GS1 data, and its text in parts."""
+    if given.gs1:
+        elements = gs1.parse(text, given.unknown)
+        return gs1.message(elements), True, tuple(gs1.text([element]) for element in elements)
+    if given.hex:
+        data = bytes.fromhex(text)
+        return data, False, (data.hex(),)
+    if given.escapes:
+        items = of_spelling(text, given.charset)
+        return items, False, printed(spelled(items))
+    return text.encode(given.charset), False, printed(text)
+
+
+def _in_words(why: ValueError, given: argparse.Namespace) -> str:
+    if isinstance(why, Refused):
+        return why_not_written(why)
+    if isinstance(why, UnicodeEncodeError):
+        return f"the charset {given.charset} has no {why.object[why.start]!r}; name another by --charset, as utf-8"
+    if isinstance(why, (gs1.Faulty, Misspelled, _Unclear, UnicodeError)):
+        return str(why)
+    return f"these aren't bytes in hexadecimal ({why})"
+
+
+def _of_bytes(given: argparse.Namespace) -> Union[Label, Unwritten]:
+    with open_input(given.bytes) as stream:
+        data = stream.read()
+    try:
+        return Label(1, printed(shown(data)), core.write(data, profile=given.profile))
+    except Refused as why:
+        return Unwritten(given.bytes, why_not_written(why))
+
+
+def labels(given: argparse.Namespace) -> Iterator[Union[Label, Unwritten]]:
+    """For each message its label, or why it has none. Labels are numbered as the messages are."""
+    if given.bytes is not None:
+        if given.messages:
+            raise Trouble(f"--bytes {given.bytes}: this file is the message, and {given.messages[0]!r} would be "
+                          "another")
+        yield _of_bytes(given)
+        return
+    for number, (name, text) in enumerate(_given(given.messages), 1):
+        try:
+            _check(text, not given.messages)
+            message, is_gs1, parts = _message(text, given)
+            yield Label(number, parts, core.write(message, is_gs1, given.profile))
+        except ValueError as why:
+            yield Unwritten(name, _in_words(why, given))

@@ -1,0 +1,91 @@
+"""Runs the tests and counts them: all, or those of folders, modules, classes or cases, by their names or paths below
+tests/ (`program`, `program.test_answers.Answers`, `tests/program/test_answers.py`). Each part that needs something that
+isn't installed or built is left out, and named at the end.
+
+    python3 -m tests [--proofs] [-k WORD ..] [SUBJECT ..]
+"""
+import argparse
+import os
+import re
+import shutil
+import signal
+import subprocess
+import sys
+import unittest
+
+from tests.support import places
+from tests.support.tally import Tally
+
+PROOFS = places.path("tests", "proofs")
+
+
+def found(names, words):
+    """Gives the cases with these names, all if there are none, whose names have one of these words or fit a pattern of
+    them."""
+    loader = unittest.TestLoader()
+    loader.testNamePatterns = [word if "*" in word else f"*{word}*" for word in words] or None
+    return unittest.TestSuite(cases_of(loader, name) for name in names or ["tests"])
+
+
+def cases_of(loader, name):
+    """Gives the cases of a folder of tests/, or of a module, a class or a case in one, by its name with dots or by its
+    path."""
+    parts = name.removesuffix(".py").strip("/").replace("/", ".").split(".")
+    parts = parts if parts[0] == "tests" else ["tests", *parts]
+    if os.path.isdir(places.path(*parts)):
+        return loader.discover(places.path(*parts), top_level_dir=places.TOP)
+    return loader.loadTestsFromName(".".join(parts))
+
+
+def prove(tally):
+    """Runs tests/proofs, which ends with a line that counts what it proved and tried, and adds that. Whether all of it
+    passed."""
+    if not shutil.which("rt"):
+        tally.left_out["the Rattle toolchain (rt) isn't on the path"].append("tests.proofs")
+        return True
+    counted = (0, 0)
+    how = {"stdin": subprocess.DEVNULL, "stdout": subprocess.PIPE, "text": True, "errors": "replace"}
+    with subprocess.Popen([PROOFS], **how) as run:
+        for line in run.stdout:
+            print(line, end="", flush=True)
+            if counts := re.fullmatch(r"(\d+) passed, (\d+) failed\n", line):
+                counted = int(counts[1]), int(counts[2])
+    passed, failed = counted
+    tally.passed += passed
+    tally.failed += max(failed, 1) if run.returncode or not passed else 0
+    return not tally.failed
+
+
+def end_in_order(own):
+    """Lets SIGTERM end this process as Ctrl-C does, so that folders and processes are gone then too; its children end
+    at once."""
+    def end(number, frame):
+        if os.getpid() == own:
+            signal.default_int_handler(number, frame)
+        os._exit(128 + number)
+    signal.signal(signal.SIGTERM, end)
+
+
+def main():
+    how = {"description": __doc__, "formatter_class": argparse.RawDescriptionHelpFormatter}
+    words = argparse.ArgumentParser(prog="python3 -m tests", **how)
+    words.add_argument("--proofs", action="store_true", help="begin with tests/proofs, and count what it does")
+    words.add_argument("-k", metavar="WORD", action="append", default=[], help="run cases whose names have this word")
+    words.add_argument("names", metavar="SUBJECT", nargs="*", help="a folder, module, class or case of tests/")
+    given = words.parse_args()
+    end_in_order(os.getpid())
+    tally = Tally(lambda line: print(line, flush=True))
+    cases = found(given.names, given.k)
+    try:
+        if not given.proofs or prove(tally):
+            cases.run(tally)
+        else:
+            tally.leave_out(cases, "the proofs failed")
+    except KeyboardInterrupt:
+        tally.say("broken off by a signal")
+        tally.failed += 1
+    return tally.end()
+
+
+if __name__ == "__main__":
+    sys.exit(main())

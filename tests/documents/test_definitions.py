@@ -1,0 +1,169 @@
+"""Compares docs/DEFINITIONS.md and docs/CLAUSES.md with the crates.
+
+Their lists are what `tools/definitions` makes. Besides, by a reading of the tree that shares nothing with that script:
+what the pages name is there (each definition in that file of specs/, each function in that file of src/, each clause in
+its contract, and what is named behind a clause is cited by it), and what is there is named: each definition of specs/,
+each file of specs/inner, each public function, each of its clauses, what each crate uses of those below it, and each
+lemma that a crate passes on to those above it. Whether the words are right is for readers to judge."""
+import collections
+import glob
+import os
+import re
+
+from tests.documents.pages import CLAUSES, DEFINITIONS, ITEM, bodies, is_part, items, promises
+from tests.documents.tree import (QUOTED, clauses_of, crates, definitions, is_declared, modules, public_functions,
+                                  sources,
+                                  text)
+from tests.support import commands, places
+from tests.support.case import Case
+
+
+def checks_of_promises():
+    for path in (DEFINITIONS, CLAUSES):
+        for crate, file, of, clauses in promises(path):
+            page = os.path.basename(path)
+            for function in of:
+                known = clauses_of(file, function) if os.path.exists(file) else None
+                yield f"{page}: {crate}, {function} in {os.path.basename(file)}", known is not None
+                for clause, cited in clauses:
+                    which = f"{page}: {crate}, {function}, clause {clause or 'without a name'}"
+                    yield which, clause in (known or set())
+                    for name in cited:
+                        own = name.split(".")[0].strip("◌")
+                        is_cited = any(own in body for body in bodies(file, function, clause))
+                        yield f"{which} cites {name}", is_cited and is_part(name)
+
+
+def checks_of_headline():
+    """The clauses, the definitions and their parts by which README carries its promises."""
+    page = text(places.path("README.md"))
+    link = r"\[`(\w+)`\]\((crates/[^)]+)\)"
+    for function, file, clause in re.findall(link + r", clause `(\w+)`(?! of)", page):
+        yield f"README.md, {function}, clause {clause}", clause in (clauses_of(places.path(file), function) or set())
+    for clause, function, file in re.findall(r"clause `(\w+)` of " + link, page):
+        yield f"README.md, {function}, clause {clause}", clause in (clauses_of(places.path(file), function) or set())
+    for part, record, _ in re.findall(r"part `(\w+)` of " + link, page):
+        yield f"README.md, {record}.{part}", is_part(f"{record}.{part}")
+    for name, file in re.findall(link, page):
+        yield f"README.md, {name} in {file}", re.search(rf"\b{name}\b", text(places.path(file))) is not None
+
+
+def checks_of_definitions():
+    defined = set()
+    for item in items(DEFINITIONS):
+        found = ITEM.match(item)
+        if item.startswith("Inner: "):
+            for name, crate in re.findall(r"\[`(\w+)`\]\(\.\./crates/(\w+)/specs/inner/\1\.antt\)", item):
+                defined.add((crate, "inner", name))
+                yield f"{crate}, specs/inner, {name}", name in modules(crate, "specs/inner")
+        elif found and found[4] == "specs":
+            crate, inside = found[3], QUOTED.findall(found[1])[0]
+            source = modules(crate, "specs").get(inside)
+            is_there = found[2] == f"crates/{crate}/specs/{inside}.antt" and source is not None
+            yield f"{crate}, specs, {inside}: {found[2]}", is_there
+            for name in QUOTED.findall(found[5]):
+                defined.add((crate, inside, name))
+                yield f"{crate}, specs, {inside}.{name}", source is not None and is_declared(name, source)
+    for crate in crates():
+        for inside, source in modules(crate, "specs").items():
+            for name in definitions(source):
+                yield f"docs/DEFINITIONS.md, {crate}, {inside}.{name}", (crate, inside, name) in defined
+        for name in modules(crate, "specs/inner"):
+            yield f"docs/DEFINITIONS.md, {crate}, {name} behind Inner", (crate, "inner", name) in defined
+
+
+def checks_of_functions():
+    """Each public function is in docs/CLAUSES.md with all of its clauses."""
+    listed = collections.defaultdict(set)
+    for crate, _, of, clauses in promises(CLAUSES):
+        for function in of:
+            for name in (function.split("::")[-1], "::".join(function.split("::")[-2:])):
+                listed[crate, name] |= {None, *(clause for clause, _ in clauses)}
+    for crate in crates():
+        for function, file in public_functions(crate):
+            yield f"docs/CLAUSES.md, {crate}, {function}", (crate, function) in listed
+            for clause in clauses_of(file, function) or set():
+                name = f"docs/CLAUSES.md, {crate}, {function}, clause {clause or 'without a name'}"
+                yield name, clause in listed[crate, function]
+
+
+def home(crate, name):
+    """The crate that declares what others have by this name of a crate: that crate, or another, from which it passes
+    the name on; None if there is none."""
+    public = re.compile(rf"^pub (?:const )?(?:fn|struct|enum|trait) {name}\b", re.M)
+    return next((it for it in [crate, *crates()] if any(map(public.search, sources(it).values()))), None)
+
+
+def checks_of_uses():
+    """Behind each crate the page has exactly the functions and types of other crates that it imports and names once
+    more, or calls by the crate's name, with the files they are in."""
+    listed = collections.defaultdict(set)
+    for item in items(DEFINITIONS):
+        upper, _, rest = item.partition(": ")
+        if upper.strip("`") in crates():
+            links = re.findall(r"\[([^]]*)\]\(\.\./([^)]+)\)", rest)
+            listed[upper.strip("`")] |= {(name, path) for names, path in links for name in QUOTED.findall(names)}
+    for upper in crates():
+        code = "\n".join(source for name, source in sources(upper).items() if name != "tests")
+        imports = re.findall(rf"^(?:pub )?use (?!{upper}\b)({'|'.join(crates())})::([^;]*);", code, re.M)
+        plain = re.sub(r"^(?:pub |ghost )*use [^;]*;|//[^\n]*", "", code, flags=re.M)
+        named = collections.defaultdict(set)
+        for lower, names in imports:
+            for name in re.findall(r"\w+", names):
+                if name != name.upper() and re.search(rf"\b{name}\b", plain):
+                    named[name].add(home(lower, name))
+        for lower, name in re.findall(rf"\b({'|'.join(crates())})::(\w+)\(", plain):
+            named[name].add(home(lower, name))
+        for name in named if any(True for _ in public_functions(upper)) else ():
+            yield f"docs/DEFINITIONS.md, {upper} uses {name}", any(name == there for there, _ in listed[upper])
+        for name, path in sorted(listed[upper]):
+            source = text(places.path(path)) if os.path.exists(places.path(path)) else ""
+            is_declared_there = re.search(rf"\b(?:fn|struct|enum|trait) {name}\b", source) is not None
+            is_there = path.split("/")[1] in named.get(name, ()) and is_declared_there
+            yield f"docs/DEFINITIONS.md, {upper} uses {name} of {path}", is_there
+
+
+def checks_of_lemmas():
+    """Each lemma that a crate passes on to those above it is in docs/CLAUSES.md, with the file that has it, and no
+    other is."""
+    listed = set()
+    for item in items(CLAUSES):
+        if item.startswith("Lemmas: "):
+            for path, names in re.findall(r"\]\(\.\./(crates/[^)]+)\)((?: `[^`]+`,?)+)", item):
+                listed |= {(path, name) for name in QUOTED.findall(names)}
+    for path, name in sorted(listed):
+        is_there = os.path.exists(places.path(path)) and name in text(places.path(path)).split()
+        yield f"docs/CLAUSES.md, {path}, {name}", is_there
+    for crate in crates():
+        for exported in glob.glob(places.path("crates", crate, "proofs", "Exported.antt")):
+            for module, names in re.findall(r"use Rattle\.(\S+)\.\{(.*?)\}", text(exported), re.S):
+                for name in re.split(r",\s*", names):
+                    path = f"crates/{module.replace('.', '/')}.antt"
+                    is_passed_on = module.endswith(".Exported") and any(name == other for _, other in listed)
+                    yield f"docs/CLAUSES.md, lemma {module}.{name}", (path, name) in listed or is_passed_on
+
+
+class Definitions(Case):
+    """What docs/DEFINITIONS.md and docs/CLAUSES.md name is in the crates, and what is in the crates is named."""
+
+    def test_the_lists_are_those_that_tools_definitions_makes(self):
+        status, said = commands.said([places.path("tools", "definitions"), "--check"])
+        self.assertEqual(status, 0, said)
+
+    def test_each_definition(self):
+        self.there(checks_of_definitions())
+
+    def test_each_promise_of_the_pages(self):
+        self.there(checks_of_promises())
+
+    def test_the_promises_of_the_readme(self):
+        self.there(checks_of_headline())
+
+    def test_each_public_function_and_its_clauses(self):
+        self.there(checks_of_functions())
+
+    def test_what_each_crate_uses_of_those_below(self):
+        self.there(checks_of_uses())
+
+    def test_each_lemma_that_is_passed_on(self):
+        self.there(checks_of_lemmas())

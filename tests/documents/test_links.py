@@ -1,0 +1,150 @@
+"""Compares the other documents with the tree: each link leads to a file and a heading that are there, and so are the
+files that they name; names of functions and types in the pages about the tree are words of it; lines have at most 120
+columns; the passages of code in docs/NOTATION.md stand in the files to which it links; docs/MAP.md names what each
+crate stands on; and docs/GATE.md counts the edits and tests that there are."""
+import functools
+import glob
+import os
+import re
+
+from tests.documents.tree import QUOTED, crates, text
+from tests.support import places
+from tests.support.case import Case
+
+
+# What stands in code marks and is the path of a file.
+PATH = re.compile(r"(?:crates|tests|tools|docs|library|packaging|bench|sampler|web|scripts|demo)/[\w./-]+"
+                  r"|[\w/]+\.(?:rt|antt|mjs)")
+
+
+def documents():
+    top = [places.path(name) for name in ("README.md", "CONTRIBUTING.md", "CHANGELOG.md")]
+    return top + sorted(glob.glob(places.path("docs", "*.md")))
+
+
+def anchors(path):
+    """The headings of a page as links name them."""
+    heads = re.findall(r"^#+ (.*)$", text(path), re.M)
+    return {re.sub(r"[^\w\- ]", "", head.lower()).replace(" ", "-") for head in heads}
+
+
+def checks_of_links():
+    for path in documents():
+        for target in re.findall(r"\]\(([^)\s]+)\)", text(path)) + re.findall(r'<img src="([^"]+)"', text(path)):
+            file, _, anchor = target.partition("#")
+            if "://" in target:
+                continue
+            leads_to = os.path.normpath(os.path.join(os.path.dirname(path), file)) if file else path
+            is_there = os.path.exists(leads_to) and (not anchor or anchor in anchors(leads_to))
+            yield f"{os.path.basename(path)}, link {target}", is_there
+
+
+@functools.cache
+def file_names():
+    """The names of all files of the crates, without their folders."""
+    folders = [path for inside in ("src", "specs", "proofs") for path in glob.glob(places.path("crates", "*", inside))]
+    return {name for folder in folders for _, _, names in os.walk(folder) for name in names}
+
+
+def is_file(name):
+    """Whether a name is that of a file or a folder, in the tree or within the sources or the specs of some crate."""
+    folders = [places.path(folder) for folder in ("", "scripts", "crates", "docs", "library", "web", "packaging")]
+    within = [places.path("crates", crate, folder) for crate in crates()
+              for folder in ("", "src", "specs", "proofs", "src/c40")]
+    return name in file_names() or any(os.path.exists(os.path.join(folder, name)) for folder in folders + within)
+
+
+def checks_of_width():
+    """Lines of the documents have at most 120 columns, but in tables and blocks of code, and README has at most 140
+    lines."""
+    for path in documents():
+        plain = re.sub(r"^```.*?^```$", "", text(path), flags=re.M | re.S)
+        wide = [line for line in plain.splitlines() if len(line) > 120 and not line.startswith("|")]
+        yield f"{os.path.basename(path)}, lines of more than 120 columns: {wide[:1]}", not wide
+    yield "README.md, at most 140 lines", len(text(places.path("README.md")).splitlines()) <= 140
+
+
+def checks_of_files():
+    for path in documents():
+        for name in set(QUOTED.findall(re.sub(r"```.*?```", "", text(path), flags=re.S))):
+            if PATH.fullmatch(name) and "NAME" not in name and "/out" not in name:
+                yield f"{os.path.basename(path)}, file {name}", is_file(name)
+
+
+def checks_of_names():
+    """Each name with an underscore, of two parts, or of a type, in the pages about the tree, is a word of the tree."""
+    patterns = ("crates/*/src/**/*.rt", "crates/*/specs/**/*.antt", "crates/*/proofs/**/*.antt", "library/*.*",
+                "library/python/**/*.py", "web/*.mjs")
+    found = [path for pattern in patterns
+             for path in glob.glob(places.path(pattern), recursive=True) if os.path.isfile(path)]
+    words = set().union(*(re.findall(r"\w+", text(path)) for path in found))
+    for page in ("DECISIONS", "MAP", "LIBRARY", "NOTATION", "GATE"):
+        plain = re.sub(r"```.*?```", "", text(places.path("docs", page + ".md")), flags=re.S)
+        for name in sorted(set(QUOTED.findall(plain))):
+            if re.fullmatch(r"\w+(?:::\w+)+|[a-z]\w*_\w+|[A-Z][a-z]\w+", name) and not name.startswith("rattle_"):
+                yield f"docs/{page}.md, name {name}", is_file(name) or all(part in words for part in name.split("::"))
+
+
+def checks_of_passages():
+    """Each block of code in docs/NOTATION.md stands, line by line, in a file that the sentence before it links to."""
+    page = text(places.path("docs", "NOTATION.md"))
+    for before, block in re.findall(r"(\]\([^)]*\)[^`]*?(?:`[^`]+`[^`]*?)*?)```text\n(.*?)```", page, re.S):
+        file = places.path("docs", re.findall(r"\]\(([^)]*)\)", before)[-1])
+        for line in block.splitlines():
+            yield f"docs/NOTATION.md, {line.strip()}", line.strip() in [there.strip()
+                                                                        for there in text(file).splitlines()]
+
+
+def checks_of_layers():
+    """docs/MAP.md has a row for each crate, with what it stands on by crates.txt."""
+    declared = re.finditer(r"^(\w+)[^:#\n]*:(.*)$", text(places.path("crates.txt")), re.M)
+    stands_on = {found[1]: found[2].split() for found in declared}
+    rows = dict(re.findall(r"^\| `(\w+)` \| [^|]* \| ([^|]*) \| [^|]* \|$", text(places.path("docs", "MAP.md")), re.M))
+    yield "docs/MAP.md, a row for each crate", sorted(rows) == sorted(stands_on)
+    for crate, below in stands_on.items():
+        told = set(QUOTED.findall(rows.get(crate, ""))) - {"Size"}
+        yield f"docs/MAP.md, what {crate} stands on", sorted(told) == sorted(below)
+
+
+def checks_of_counts():
+    """How many wrong bodies and tests docs/GATE.md counts in each crate, and which scripts it names."""
+    page = text(places.path("docs", "GATE.md"))
+    rows = re.findall(r"^\| `(\w+)` \| [\d.]* ?\| (\d*)(?: in [\d.]+)? ?\| (\d*)(?: in [\d.]+)? ?\|", page, re.M)
+    yield "docs/GATE.md, a row for each crate", sorted(crate for crate, _, _ in rows) == sorted(crates())
+    for crate, tests, edits in rows:
+        sources_of = glob.glob(places.path("crates", crate, "src", "**", "*.rt"), recursive=True)
+        tests_there = sum(len(re.findall(r"#\[test\]", text(path))) for path in sources_of)
+        edits_there = len(glob.glob(places.path("crates", crate, "must-fail", "*.edit")))
+        for kind, counted, number in (("tests", tests, tests_there), ("edits", edits, edits_there)):
+            yield f"docs/GATE.md, {crate}, the number of its {kind}, {number}", int(counted or 0) == number
+    for subject in subjects():
+        yield f"docs/GATE.md, what tests/{subject} checks and costs", page.count(f"`tests/{subject}`") > 1
+
+
+def subjects():
+    """The folders of tests/ that have cases."""
+    found = glob.glob(places.path("tests", "*", "test_*.py"))
+    return sorted({os.path.basename(os.path.dirname(path)) for path in found})
+
+
+class Documents(Case):
+    def test_links_lead_to_files_and_headings(self):
+        self.there(checks_of_links())
+
+    def test_lines_have_at_most_120_columns(self):
+        self.there(checks_of_width())
+
+    def test_files_that_are_named_are_there(self):
+        self.there(checks_of_files())
+
+    def test_names_of_functions_and_types_are_words_of_the_tree(self):
+        self.there(checks_of_names())
+
+    def test_passages_of_code_stand_in_their_files(self):
+        self.there(checks_of_passages())
+
+    def test_what_each_crate_stands_on(self):
+        self.there(checks_of_layers())
+
+    def test_counts_of_edits_and_tests(self):
+        self.there(checks_of_counts())

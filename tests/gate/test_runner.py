@@ -1,0 +1,162 @@
+"""How the runner counts cases, rows and what is left out, what it tells of each, and with which status it ends."""
+import os
+import re
+import shutil
+import subprocess
+import sys
+
+from tests.support import commands, places
+from tests.support.case import Case
+
+SUITE = '''
+import time
+import unittest
+from tests.support.case import Case
+
+
+class Cases(Case):
+    def test_without_rows(self):
+        pass
+
+    def test_rows_of_which_one_is_wrong(self):
+        self.rows([("one", 1, 1), ("two", 2, 3), ("three", 3, 3)])
+
+    def test_a_row_that_is_left_out(self):
+        self.row("one", 1, 1)
+        with self.subTest("two"):
+            self.skipTest("nothing is installed")
+
+    def test_no_row(self):
+        self.rows([])
+
+    def test_what_breaks_off(self):
+        self.row("before", 1, 1)
+        raise OSError("the way is gone")
+
+    @unittest.skip("nothing is installed")
+    def test_skipped(self):
+        pass
+
+
+class Prepared(Case):
+    @classmethod
+    def setUpClass(cls):
+        time.sleep(0.3)
+
+    def test_at_once(self):
+        pass
+
+
+class Unprepared(Case):
+    @classmethod
+    def setUpClass(cls):
+        raise AssertionError("it can't be prepared")
+
+    def test_never_run(self):
+        pass
+'''
+
+
+# A case that waits, in a folder whose name it tells.
+SLOW = '''
+import time
+from tests.support.case import Case
+
+
+class Slow(Case):
+    def test_waiting(self):
+        print(self.folder(), flush=True)
+        time.sleep(60)
+'''
+
+
+class Runner(Case):
+    @classmethod
+    def setUpClass(cls):
+        """Runs a suite of a copy of the runner, with a stand-in for the proofs."""
+        cls.top = cls.folder_of_class()
+        for name in ("tests/__init__.py", "tests/__main__.py", "tests/environment", *cls.support()):
+            cls.write(name, places.text_of(name))
+        cls.write("tests/sample/__init__.py", "")
+        cls.write("tests/sample/test_sample.py", SUITE)
+        os.chmod(os.path.join(cls.top, "tests", "environment"), 0o755)
+
+    @staticmethod
+    def support():
+        names = os.listdir(places.path("tests", "support"))
+        return [f"tests/support/{name}" for name in names if name.endswith(".py")]
+
+    @classmethod
+    def write(cls, name, text):
+        path = os.path.join(cls.top, name)
+        os.makedirs(os.path.dirname(path), exist_ok=True)
+        with open(path, "w", encoding="utf-8") as file:
+            file.write(text)
+
+    def ran(self, *words, **more):
+        """Status and lines of a run of the copy."""
+        status, said = commands.said([sys.executable, "-m", "tests", *words], cwd=self.top,
+                                     env=commands.environment(**more))
+        return status, said.splitlines()
+
+    def proofs(self, script):
+        """Puts a script in the place of tests/proofs, and of the toolchain, which isn't asked for more."""
+        for name, text in (("tests/proofs", script), ("bin/rt", "exit 1")):
+            self.write(name, f"#!/bin/sh\n{text}\n")
+            os.chmod(os.path.join(self.top, name), 0o755)
+        return {"PATH": os.pathsep.join([os.path.join(self.top, "bin"), os.environ["PATH"]])}
+
+    def test_rows_are_counted_in_place_of_their_case(self):
+        status, said = self.ran()
+        self.row("the last line", said[-1], "6 passed, 4 failed, 2 skipped")
+        self.row("the status", status, 1)
+
+    def test_what_failed_and_what_is_left_out_is_named(self):
+        told = "\n".join(self.ran()[1])
+        for words in ("Cases.test_rows_of_which_one_is_wrong: two: 2, and not 3", "OSError: the way is gone",
+                      "test_no_row: 0 not greater than 0", "setUpClass (tests.sample.test_sample.Unprepared): it can't",
+                      "left out, since nothing is installed: sample.test_sample.Cases (2)"):
+            self.row(words, words in told, True)
+
+    def test_the_time_of_a_class_is_told_with_what_prepares_it(self):
+        told = re.search(r"sample.test_sample.Prepared: 1 passed, ([\d.]+) s", "\n".join(self.ran()[1]))
+        self.assertGreaterEqual(float(told[1]), 0.3)
+
+    def test_cases_are_chosen_by_words_and_names(self):
+        for words, last in ((["-k", "left_out"], "1 passed, 0 failed, 1 skipped"),
+                            (["sample", "-k", "without"], "1 passed, 0 failed, 0 skipped"),
+                            (["tests/sample/test_sample.py", "-k", "without"], "1 passed, 0 failed, 0 skipped"),
+                            (["sample.test_sample.Cases.test_without_rows"], "1 passed, 0 failed, 0 skipped")):
+            self.row(" ".join(words), (self.ran(*words)[0], self.ran(*words)[1][-1]), (0, last))
+
+    def test_a_word_that_no_case_has_is_a_failure(self):
+        self.assertEqual(self.ran("-k", "nosuch")[0], 1)
+
+    def test_a_signal_ends_a_run_in_order(self):
+        self.write("tests/slow/__init__.py", "")
+        self.write("tests/slow/test_slow.py", SLOW)
+        self.addCleanup(shutil.rmtree, os.path.join(self.top, "tests", "slow"))
+        run = self.process([sys.executable, "-m", "tests", "slow"], cwd=self.top, stdout=subprocess.PIPE, text=True)
+        room = run.stdout.readline().strip()
+        self.assertTrue(os.path.isdir(room))
+        run.terminate()
+        said = run.communicate(timeout=60)[0].splitlines()
+        wanted = 1, "broken off by a signal", "0 passed, 1 failed, 0 skipped", False
+        self.assertEqual((run.returncode, said[0], said[-1], os.path.exists(room)), wanted)
+
+    def test_proofs_are_counted(self):
+        found = self.proofs("echo '7 passed, 0 failed'")
+        status, said = self.ran("--proofs", "-k", "without", **found)
+        self.assertEqual((status, said[-1]), (0, "8 passed, 0 failed, 0 skipped"))
+
+    def test_where_a_proof_fails_the_cases_are_left_out(self):
+        for script, last in (("echo '6 passed, 2 failed'; exit 1", "6 passed, 2 failed, 1 skipped"),
+                             ("echo '7 passed, 0 failed'; exit 3", "7 passed, 1 failed, 1 skipped"),
+                             ("echo nothing", "0 passed, 1 failed, 1 skipped")):
+            status, said = self.ran("--proofs", "-k", "without", **self.proofs(script))
+            self.row(script, (status, said[-1]), (1, last))
+
+    def test_the_proofs_are_left_out_without_the_toolchain(self):
+        status, said = self.ran("--proofs", "-k", "without", PATH=self.folder())
+        told = "left out, since the Rattle toolchain (rt) isn't on the path: proofs"
+        self.assertEqual((status, told in said, said[-1]), (0, True, "1 passed, 0 failed, 1 skipped"))

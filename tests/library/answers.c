@@ -1,0 +1,323 @@
+/* Answers requests, one on each line of the standard input, by the calls and conveniences of ecc200.h, with a line for each: C and C++
+ * alike. What is given to a call and what it writes stand directly before an inaccessible page. tests/library/cases.py has the requests
+ * and the answers that are wanted. */
+#ifndef _GNU_SOURCE
+#define _GNU_SOURCE
+#endif
+#include <ecc200.h>
+#include <stdio.h>
+#include <stdlib.h>
+#include <string.h>
+#include <sys/mman.h>
+
+#define NAMED(name) printf("%s=%ld ", #name, (long)ECC200_##name)
+#define SIZED(type) printf("%s=%zu ", #type, sizeof(ecc200_##type))
+#define LAID(type, member) printf("%s.%s=%zu+%zu ", #type, #member, offsetof(ecc200_##type, member), sizeof(((ecc200_##type *)0)->member))
+
+enum { PAGE = 4096, AREA = 1 << 19 };
+
+/* an area that ends at an inaccessible page */
+typedef struct {
+    uint8_t *end;
+} area;
+
+static area modules_area, items_area, bytes_area, out_area;
+
+static void die(const char *what) {
+    printf("%s\n", what);
+    exit(2);
+}
+
+static area new_area(void) {
+    uint8_t *at = (uint8_t *)mmap(0, AREA + PAGE, PROT_READ | PROT_WRITE, MAP_PRIVATE | MAP_ANONYMOUS, -1, 0);
+    area made = {at + AREA};
+    if (at == MAP_FAILED || mprotect(at + AREA, PAGE, PROT_NONE))
+        die("no memory");
+    return made;
+}
+
+/* so many bytes at the end of the area, filled with rubbish, as are those before them */
+static uint8_t *place_of(area whole, size_t size) {
+    if (size > AREA)
+        die("too much");
+    memset(whole.end - AREA, 0xEE, AREA);
+    return whole.end - size;
+}
+
+static int is_untouched(area whole, size_t size) {
+    for (uint8_t *at = whole.end - AREA; at < whole.end - size; at++)
+        if (*at != 0xEE)
+            return 0;
+    return 1;
+}
+
+/* ---- Arguments: words of the line */
+
+static char *rest;
+
+static char *word(void) {
+    char *found = strtok_r(NULL, " \n", &rest);
+    if (!found)
+        die("a request lacks a word");
+    return found;
+}
+
+static uint16_t number(void) { return (uint16_t)strtoul(word(), NULL, 10); }
+
+/* bytes that are written as pairs of hexadecimal digits, or none as - */
+static const uint8_t *bytes_of(area whole, size_t *count) {
+    const char *text = word();
+    *count = *text == '-' ? 0 : strlen(text) / 2;
+    uint8_t *bytes = place_of(whole, *count);
+    for (size_t i = 0; i < *count; i++) {
+        char digits[3] = {text[2 * i], text[2 * i + 1], 0};
+        bytes[i] = (uint8_t)strtoul(digits, NULL, 16);
+    }
+    return bytes;
+}
+
+/* items that are written as numbers with commas between them, or none as - */
+static const uint16_t *items_of(size_t *count) {
+    char *text = word(), *at;
+    *count = *text != '-';
+    for (at = text; *at; at++)
+        *count += *at == ',';
+    uint16_t *items = (uint16_t *)(void *)place_of(items_area, 2 * *count);
+    for (size_t i = 0; i < *count; i++, text++)
+        items[i] = (uint16_t)strtoul(text, &text, 10);
+    return items;
+}
+
+/* ---- Answers */
+
+static void print_bytes(const uint8_t *bytes, size_t count) {
+    for (size_t i = 0; i < count; i++)
+        printf("%s%d", i ? "," : "", bytes[i]);
+    if (!count)
+        printf("-");
+}
+
+static void print_items(const uint16_t *items, size_t count) {
+    for (size_t i = 0; i < count; i++)
+        printf("%s%d", i ? "," : "", items[i]);
+    if (!count)
+        printf("-");
+}
+
+static void print_counts(const uint8_t *counts, size_t count) {
+    for (size_t i = 0; i < count; i++)
+        counts[i] == ECC200_BEYOND ? printf("%sbeyond", i ? "," : "") : printf("%s%d", i ? "," : "", counts[i]);
+}
+
+/* whether there is a fault, which is then printed: everything else has to be 0 */
+static int is_fault(uint16_t code, const void *out, size_t size) {
+    ecc200_fault fault;
+    memcpy(&fault, out, sizeof fault);
+    if (code != fault.code)
+        printf("returned %d, and ", code);
+    if (!fault.code)
+        return 0;
+    printf("no %d %d %d", fault.code, fault.value, fault.place);
+    for (size_t i = sizeof fault; i < size; i++)
+        if (((const uint8_t *)out)[i]) {
+            printf(", and not zero behind it");
+            break;
+        }
+    return 1;
+}
+
+/* the elements of an array past those that count are 0 */
+static void check_rest(const void *from, const void *to) {
+    for (const uint8_t *at = (const uint8_t *)from; at < (const uint8_t *)to; at++)
+        if (*at) {
+            printf(" not zero behind");
+            return;
+        }
+}
+
+static void answer_read(void) {
+    size_t count;
+    uint16_t extent = number(), limit = number(), side = number();
+    const uint8_t *modules = bytes_of(modules_area, &count);
+    ecc200_reading *out = (ecc200_reading *)(void *)place_of(out_area, sizeof *out);
+    uint16_t code = ecc200_read(modules, count, side, limit, extent, out);
+    if (is_fault(code, out, sizeof *out))
+        return;
+    printf("side %d border %d blocks %d items ", out->side, out->border_faults, out->block_count);
+    print_items(out->items, out->item_count);
+    printf(" corrected ");
+    print_counts(out->corrected, out->block_count);
+    check_rest(out->items + out->item_count, out->items + ECC200_MOST_ITEMS);
+    check_rest(out->corrected + out->block_count, out->corrected + ECC200_MOST_BLOCKS);
+}
+
+static void print_symbol(uint16_t code, const ecc200_symbol *out) {
+    if (is_fault(code, out, sizeof *out))
+        return;
+    printf("side %d modules ", out->side);
+    for (int i = 0; i < out->side * out->side; i++)
+        printf("%d", out->modules[i]);
+    check_rest(out->modules + out->side * out->side, out->modules + ECC200_MOST_MODULES);
+}
+
+static ecc200_symbol *symbol_place(void) { return (ecc200_symbol *)(void *)place_of(out_area, sizeof(ecc200_symbol)); }
+
+static void answer_normal(void) {
+    size_t count;
+    uint16_t extent = number(), profile = number(), limit = number(), side = number();
+    const uint8_t *modules = bytes_of(modules_area, &count);
+    ecc200_symbol *out = symbol_place();
+    print_symbol(ecc200_normal(modules, count, side, limit, extent, profile, out), out);
+}
+
+static void answer_write(void) {
+    size_t count;
+    uint16_t profile = number();
+    const uint16_t *items = items_of(&count);
+    ecc200_symbol *out = symbol_place();
+    print_symbol(ecc200_write(items, count, profile, out), out);
+}
+
+static void answer_write_bytes(void) {
+    size_t count;
+    uint16_t profile = number();
+    const uint8_t *bytes = bytes_of(bytes_area, &count);
+    ecc200_symbol *out = symbol_place();
+    print_symbol(ecc200_write_bytes(bytes, count, profile, out), out);
+}
+
+static void answer_inspect(void) {
+    size_t count;
+    uint16_t side = number();
+    const uint8_t *modules = bytes_of(modules_area, &count);
+    ecc200_inspection *out = (ecc200_inspection *)(void *)place_of(out_area, sizeof *out);
+    if (is_fault(ecc200_inspect(modules, count, side, out), out, sizeof *out))
+        return;
+    printf("side %d border %d blocks %d held ", out->side, out->border_faults, out->block_count);
+    print_bytes(out->held, out->codeword_count);
+    printf(" mended ");
+    print_bytes(out->mended, out->codeword_count);
+    printf(" corrected ");
+    print_counts(out->corrected, out->block_count);
+    check_rest(out->held + out->codeword_count, out->held + ECC200_MOST_CODEWORDS);
+    check_rest(out->mended + out->codeword_count, out->mended + ECC200_MOST_CODEWORDS);
+    check_rest(out->corrected + out->block_count, out->corrected + ECC200_MOST_BLOCKS);
+}
+
+static void answer_places(void) {
+    uint16_t side = number();
+    ecc200_place_table *out = (ecc200_place_table *)(void *)place_of(out_area, sizeof *out);
+    if (is_fault(ecc200_places(side, out), out, sizeof *out))
+        return;
+    printf("side %d", out->side);
+    for (int i = 0; i < ECC200_MOST_MODULES && out->places[i].kind != ECC200_NO_MODULE; i++)
+        printf(" %d,%d,%d", out->places[i].kind, out->places[i].codeword, out->places[i].bit);
+    check_rest(out->places + out->side * out->side, out->places + ECC200_MOST_MODULES);
+}
+
+static void answer_sizes(void) {
+    ecc200_size_table *out = (ecc200_size_table *)(void *)place_of(out_area, sizeof *out);
+    ecc200_sizes(out);
+    for (int i = 0; i < ECC200_SIZE_COUNT; i++) {
+        const ecc200_size *size = &out->sizes[i];
+        printf("%s%d %d %d %d", i ? " | " : "", size->side, size->regions, size->region_side, size->mapping);
+        printf(" %d %d %d %d", size->data_codewords, size->check_codewords, size->blocks, size->limit);
+    }
+}
+
+/* Room 0 is given as NULL, and so is where to put whether FNC1 stands in front, unless it's asked for. */
+static void answer_text(void) {
+    size_t count, room = strtoul(word(), NULL, 10);
+    int asked = number(), gs1 = -1;
+    const uint16_t *items = items_of(&count);
+    ecc200_reading *reading = (ecc200_reading *)(void *)place_of(out_area, sizeof *reading);
+    memset(reading, 0, sizeof *reading);
+    memcpy(reading->items, items, 2 * count);
+    reading->item_count = (uint16_t)count;
+    uint8_t *bytes = place_of(bytes_area, room);
+    size_t said = ecc200_text(reading, room ? bytes : NULL, room, asked ? &gs1 : NULL);
+    printf("%zu gs1 %d bytes ", said, gs1);
+    print_bytes(bytes, said < room ? said : room);
+    for (size_t i = said; i < room; i++)
+        if (bytes[i] != 0xEE)
+            die(" written behind the text");
+    if (!is_untouched(bytes_area, room))
+        die(" written before the room");
+}
+
+static void answer_items(void) {
+    size_t count, room = strtoul(word(), NULL, 10);
+    int gs1 = atoi(word());
+    const uint8_t *bytes = bytes_of(bytes_area, &count);
+    uint16_t *items = (uint16_t *)(void *)place_of(items_area, 2 * room);
+    size_t said = ecc200_items(count ? bytes : NULL, count, gs1, room ? items : NULL, room);
+    printf("%zu items ", said);
+    print_items(items, said < room ? said : room);
+    for (size_t i = said; i < room; i++)
+        if (items[i] != 0xEEEE)
+            die(" written behind the items");
+    if (!is_untouched(items_area, 2 * room))
+        die(" written before the room");
+}
+
+static void answer_constants(void) {
+    NAMED(ABI), NAMED(MOST_SIDE), NAMED(MOST_MODULES), NAMED(MOST_ITEMS), NAMED(MOST_CODEWORDS), NAMED(MOST_BLOCKS), NAMED(SIZE_COUNT);
+    NAMED(FNC1), NAMED(ANY_LIMIT), NAMED(BEYOND), NAMED(STACK);
+    NAMED(USUAL), NAMED(WIDE);
+    NAMED(ASCII), NAMED(SHORTER);
+    NAMED(OK), NAMED(SHAPE), NAMED(SIDE), NAMED(BORDER), NAMED(BLOCK), NAMED(RESERVED), NAMED(LEFT_OUT), NAMED(UPPER_SHIFT), NAMED(TRIPLET);
+    NAMED(VALUE), NAMED(LENGTH), NAMED(UNFINISHED), NAMED(TOO_LONG), NAMED(ITEM), NAMED(PROFILE);
+    NAMED(EXTENT);
+    NAMED(NO_MODULE), NAMED(BIT), NAMED(BORDER_LIGHT), NAMED(BORDER_DARK), NAMED(FIXED_LIGHT), NAMED(FIXED_DARK);
+}
+
+/* where each member of a struct stands, and how many bytes it has */
+static void answer_layout(void) {
+    SIZED(fault), LAID(fault, code), LAID(fault, value), LAID(fault, place);
+    SIZED(reading), LAID(reading, fault), LAID(reading, side), LAID(reading, border_faults), LAID(reading, block_count);
+    LAID(reading, item_count), LAID(reading, items), LAID(reading, corrected);
+    SIZED(symbol), LAID(symbol, fault), LAID(symbol, side), LAID(symbol, modules);
+    SIZED(inspection), LAID(inspection, fault), LAID(inspection, side), LAID(inspection, border_faults), LAID(inspection, block_count);
+    LAID(inspection, codeword_count), LAID(inspection, held), LAID(inspection, mended), LAID(inspection, corrected);
+    SIZED(place), LAID(place, codeword), LAID(place, bit), LAID(place, kind);
+    SIZED(place_table), LAID(place_table, fault), LAID(place_table, side), LAID(place_table, places);
+    SIZED(size), LAID(size, side), LAID(size, regions), LAID(size, region_side), LAID(size, mapping), LAID(size, data_codewords);
+    LAID(size, check_codewords), LAID(size, blocks), LAID(size, limit);
+    SIZED(size_table), LAID(size_table, sizes);
+}
+
+static void answer_compatible(void) { printf("%d", ecc200_abi() == ECC200_ABI); }
+static void answer_limit(void) { printf("%d", ecc200_usual_limit(number())); }
+static void answer_words(void) { printf("%s", ecc200_words(number())); }
+static void answer_code_words(void) { printf("%s", ecc200_code_words(number())); }
+static void answer_version(void) { printf("%s %s", ecc200_version(), ECC200_VERSION); }
+
+typedef struct {
+    const char *name;
+    void (*answer)(void);
+} request;
+
+static const request requests[] = {
+    {"read", answer_read}, {"normal", answer_normal}, {"write", answer_write}, {"inspect", answer_inspect}, {"places", answer_places},
+    {"sizes", answer_sizes}, {"text", answer_text}, {"items", answer_items}, {"constants", answer_constants}, {"layout", answer_layout},
+    {"compatible", answer_compatible}, {"limit", answer_limit}, {"words", answer_words},
+    {"write_bytes", answer_write_bytes}, {"code_words", answer_code_words}, {"version", answer_version},
+};
+
+int main(void) {
+    char *line = NULL;
+    size_t room = 0;
+    modules_area = new_area(), items_area = new_area(), bytes_area = new_area(), out_area = new_area();
+    while (getline(&line, &room, stdin) > 0) {
+        const char *name = strtok_r(line, " \n", &rest);
+        size_t i = 0;
+        while (i < sizeof requests / sizeof *requests && strcmp(requests[i].name, name))
+            i++;
+        if (i == sizeof requests / sizeof *requests)
+            die("no such request");
+        requests[i].answer();
+        printf("\n");
+    }
+    free(line);
+    return 0;
+}

@@ -1,0 +1,193 @@
+//! Answers requests, one on each line of the standard input, by every public function of `ecc200.rs`, with a line for each.
+//! `tests/library/cases.py` has the requests and the answers that are wanted.
+mod ecc200;
+
+use ecc200::{Extent, Fault, Inspection, Place, Profile, Reading, Size, Symbol};
+use std::error::Error;
+use std::io::{self, BufRead, Write};
+
+/// Words of a request.
+struct Words<'a>(std::str::SplitAsciiWhitespace<'a>);
+
+impl Words<'_> {
+    fn word(&mut self) -> &str {
+        self.0.next().expect("a request lacks a word")
+    }
+
+    fn number(&mut self) -> u16 {
+        self.word().parse().expect("a number")
+    }
+
+    /// Bytes that are written as pairs of hexadecimal digits, or none as -.
+    fn bytes(&mut self) -> Vec<u8> {
+        let text = self.word().trim_matches('-').as_bytes();
+        let digit = |letter: u8| (letter as char).to_digit(16).expect("a digit") as u8;
+        text.chunks(2).map(|pair| 16 * digit(pair[0]) + digit(pair[1])).collect()
+    }
+
+    /// Items that are written as numbers with commas between them, or none as -.
+    fn items(&mut self) -> Vec<u16> {
+        let text = self.word().trim_matches('-');
+        text.split(',').filter(|item| !item.is_empty()).map(|item| item.parse().expect("an item")).collect()
+    }
+
+    /// An extent that exists: no other can be given to a function.
+    fn extent(&mut self) -> Extent {
+        match self.number() {
+            0 => Extent::Usual,
+            _ => Extent::Wide,
+        }
+    }
+
+    /// A profile that exists.
+    fn profile(&mut self) -> Profile {
+        match self.number() {
+            0 => Profile::Ascii,
+            _ => Profile::Shorter,
+        }
+    }
+}
+
+fn numbers<T: ToString>(some: &[T]) -> String {
+    match some {
+        [] => "-".to_string(),
+        _ => some.iter().map(T::to_string).collect::<Vec<_>>().join(","),
+    }
+}
+
+fn refused(why: Fault) -> String {
+    format!("no {} {} {}", why.code, why.value, why.place)
+}
+
+fn reading(side: u16, got: Result<Reading, Fault>) -> String {
+    match got {
+        Ok(Reading { items, corrected, border_faults }) => {
+            format!("side {side} border {border_faults} blocks {} items {} corrected {}", corrected.len(), numbers(&items), numbers(&corrected))
+        }
+        Err(why) => refused(why),
+    }
+}
+
+fn symbol(got: Result<Symbol, Fault>) -> String {
+    match got {
+        Ok(Symbol { side, modules }) => {
+            format!("side {side} modules {}", modules.iter().map(u8::to_string).collect::<String>())
+        }
+        Err(why) => refused(why),
+    }
+}
+
+fn inspection(side: u16, got: Result<Inspection, Fault>) -> String {
+    match got {
+        Ok(Inspection { held, mended, corrected, border_faults }) => {
+            let counts: Vec<_> = corrected.iter().map(|count| count.map_or("beyond".to_string(), |it| it.to_string())).collect();
+            let words = format!("held {} mended {}", numbers(&held), numbers(&mended));
+            format!("side {side} border {border_faults} blocks {} {words} corrected {}", counts.len(), counts.join(","))
+        }
+        Err(why) => refused(why),
+    }
+}
+
+fn place(at: &Place) -> String {
+    match *at {
+        Place::Bit { codeword, bit } => format!(" 1,{codeword},{bit}"),
+        Place::Border { dark } => format!(" {},0,0", if dark { 3 } else { 2 }),
+        Place::Fixed { dark } => format!(" {},0,0", if dark { 5 } else { 4 }),
+    }
+}
+
+fn size(row: &Size) -> String {
+    let Size { side, regions, region_side, mapping, data_codewords, check_codewords, blocks, limit } = row;
+    format!("{side} {regions} {region_side} {mapping} {data_codewords} {check_codewords} {blocks} {limit}")
+}
+
+fn constants() -> String {
+    use ecc200::code::*;
+    let mut shown = format!("FNC1={} ANY_LIMIT={} ", ecc200::FNC1, ecc200::ANY_LIMIT);
+    let extents = [("USUAL", Extent::Usual), ("WIDE", Extent::Wide)];
+    shown.extend(extents.map(|(name, extent)| format!("{name}={} ", extent as u16)));
+    let profiles = [("ASCII", Profile::Ascii), ("SHORTER", Profile::Shorter)];
+    shown.extend(profiles.map(|(name, profile)| format!("{name}={} ", profile as u16)));
+    shown += &format!("OK={OK} SHAPE={SHAPE} SIDE={SIDE} BORDER={BORDER} BLOCK={BLOCK} RESERVED={RESERVED} LEFT_OUT={LEFT_OUT} ");
+    shown += &format!("UPPER_SHIFT={UPPER_SHIFT} TRIPLET={TRIPLET} VALUE={VALUE} LENGTH={LENGTH} UNFINISHED={UNFINISHED} ");
+    shown + &format!("TOO_LONG={TOO_LONG} ITEM={ITEM} PROFILE={PROFILE} EXTENT={EXTENT} ")
+}
+
+/// The bytes of items as a reading gives them, and whether FNC1 stands in front.
+fn text(items: Vec<u16>) -> String {
+    let (bytes, gs1) = Reading { items, corrected: vec![0], border_faults: 0 }.text();
+    format!("{} gs1 {} bytes {}", bytes.len(), u8::from(gs1), numbers(&bytes))
+}
+
+/// A fault in words, as people and as other errors see it.
+fn words(code: u16) -> String {
+    let fault = Fault { code, ..Fault::default() };
+    let why: Box<dyn Error> = Box::new(fault);
+    assert_eq!((fault.value, fault.place, why.to_string()), (0, 0, fault.to_string()));
+    fault.to_string()
+}
+
+fn answer_read(words: &mut Words) -> String {
+    let (extent, limit, side) = (words.extent(), words.number(), words.number());
+    let modules = words.bytes();
+    let got = ecc200::read_as(extent, &modules, side, limit);
+    assert_eq!(Extent::default(), Extent::Wide);
+    if extent == Extent::Wide {
+        assert_eq!(ecc200::read(&modules, side, limit), got);
+    }
+    reading(side, got)
+}
+
+fn answer_normal(words: &mut Words) -> String {
+    let (extent, profile, limit, side) = (words.extent(), words.profile(), words.number(), words.number());
+    let modules = words.bytes();
+    let got = ecc200::normal_as(extent, &modules, side, limit, profile);
+    if extent == Extent::Wide {
+        assert_eq!(ecc200::normal(&modules, side, limit, profile), got);
+    }
+    symbol(got)
+}
+
+fn answer(line: &str) -> String {
+    let mut words = Words(line.split_ascii_whitespace());
+    let name = words.word().to_string();
+    match name.as_str() {
+        "read" => answer_read(&mut words),
+        "normal" => answer_normal(&mut words),
+        "write" => {
+            let profile = words.profile();
+            symbol(ecc200::write(&words.items(), profile))
+        }
+        "write_bytes" => {
+            let profile = words.profile();
+            symbol(ecc200::write_bytes(&words.bytes(), profile))
+        }
+        "inspect" => {
+            let side = words.number();
+            inspection(side, ecc200::inspect(&words.bytes(), side))
+        }
+        "places" => {
+            let side = words.number();
+            match ecc200::places(side) {
+                Ok(places) => format!("side {side}{}", places.iter().map(place).collect::<String>()),
+                Err(why) => refused(why),
+            }
+        }
+        "sizes" => ecc200::sizes().iter().map(size).collect::<Vec<_>>().join(" | "),
+        "compatible" => u8::from(ecc200::is_compatible()).to_string(),
+        "limit" => ecc200::usual_limit(words.number()).to_string(),
+        "words" => self::words(words.number()),
+        "text" => text(words.items()),
+        "constants" => constants(),
+        "version" => ecc200::version().to_string(),
+        other => panic!("no such request: {other}"),
+    }
+}
+
+fn main() -> io::Result<()> {
+    let mut out = io::BufWriter::new(io::stdout().lock());
+    for line in io::stdin().lock().lines() {
+        writeln!(out, "{}", answer(&line?))?;
+    }
+    out.flush()
+}

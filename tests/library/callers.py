@@ -1,0 +1,131 @@
+"""Builds the library's callers from a folder that has them, over a library that is built, puts the requests of cases.py
+to them, and compares what they answer with what is wanted. Each function yields names of tests, each with None or what
+is wrong."""
+import json
+import os
+import shutil
+import sys
+
+from tests.support import commands, places
+from tests.support.commands import said
+
+HERE = places.path("tests", "library")
+SANITISED = ["-g", "-fsanitize=address,undefined", "-fno-sanitize-recover=all"]
+WARNINGS = ["-Wall", "-Wextra", "-Werror"]
+
+
+class Callers:
+    """The callers of a folder `library`, the folder `built` with the library, and a folder to work in."""
+
+    def __init__(self, library, built, work, interface):
+        self.library, self.built, self.work, self.interface = library, built, work, interface
+        self.archive = os.path.join(built, "libecc200.a")
+
+    def source(self, *names):
+        return os.path.join(self.library, *names)
+
+    def made(self, name):
+        return os.path.join(self.work, name)
+
+    def compiled(self, name, words):
+        """A program that a compiler makes, or what it says."""
+        status, output = said([*words, "-o", self.made(name)])
+        return (self.made(name), None) if status == 0 else (None, f"status {status}: {output[-2000:]}")
+
+    def answered(self, name, program, requests):
+        """The answers of a program, each compared with what is wanted."""
+        asked = "".join(f"{request}\n" for request, _ in requests)
+        status, output = said([program], given=asked.encode())
+        got = output.split("\n")
+        yield f"{name}: status", None if status == 0 else f"{status}: {output[-3000:]}"
+        for i, (request, wanted) in enumerate(requests):
+            answer = got[i] if i < len(got) else "no answer"
+            yield f"{name}: {request[:80]}", None if answer == wanted else f"{answer[:300]}, and not {wanted[:300]}"
+
+    def in_c(self):
+        """C with the sanitisers, if the compiler has them, and without."""
+        yield from self.in_c_with("C", "-O2")
+        if self.has_sanitisers():
+            yield from self.in_c_with_sanitisers()
+
+    def in_c_with_sanitisers(self):
+        return self.in_c_with("C with the sanitisers", "-O1", *SANITISED)
+
+    def in_c_with(self, name, *flags):
+        """C, compiled with these flags."""
+        requests = [*self.interface.calls(), *self.interface.of_the_header()]
+        words = ["cc", "-std=c11", *WARNINGS, "-pedantic", f"-I{self.library}", os.path.join(HERE, "answers.c"),
+                 self.archive]
+        program, problem = self.compiled(f"answers{len(flags)}", [*words, *flags])
+        yield f"{name}: compiled", problem
+        if program:
+            yield from self.answered(name, program, requests)
+
+    def has_sanitisers(self):
+        source = self.made("empty.c")
+        with open(source, "w", encoding="utf-8") as file:
+            file.write("int main(void) { return 0; }\n")
+        return said(["cc", *SANITISED, source, "-o", self.made("empty")])[0] == 0
+
+    def in_cpp(self):
+        """The same in C++."""
+        words = ["c++", "-std=c++17", "-O1", *WARNINGS, f"-I{self.library}", "-x", "c++",
+                 os.path.join(HERE, "answers.c")]
+        words += ["-x", "none", self.archive]
+        program, problem = self.compiled("answers_cpp", words)
+        yield "C++: compiled", problem
+        if program:
+            yield from self.answered("C++", program, [*self.interface.calls(), *self.interface.of_the_header()])
+
+    def in_rust(self):
+        """Every public function in Rust; and whether a library with another interface is told apart."""
+        folder = self.made("rust")
+        os.makedirs(folder, exist_ok=True)
+        for source in (os.path.join(HERE, "answers.rs"), self.source("ecc200.rs")):
+            shutil.copy(source, folder)
+        words = ["rustc", "--edition", "2021", "-D", "warnings", os.path.join(folder, "answers.rs")]
+        program, problem = self.compiled("answers_rs", [*words, "-L", f"native={self.built}", "-l", "static=ecc200"])
+        yield "Rust: compiled", problem
+        if program:
+            yield from self.answered("Rust", program, list(self.interface.of_rust()))
+        other, problem = self.compiled("answers_other", [*words, "-L", f"native={self.other()}", "-l", "static=ecc200"])
+        yield "Rust: compiled over another interface", problem
+        if other:
+            yield from self.answered("Rust over another interface", other, [("compatible", "0")])
+
+    def other(self):
+        """A folder with libraries of another interface."""
+        folder = self.made("other")
+        if not os.path.isdir(folder):
+            os.mkdir(folder)
+            source, made = os.path.join(HERE, "other_abi.c"), os.path.join(folder, "libecc200")
+            compiled, shared = ["cc", "-c", "-fPIC", source, "-o",
+                                f"{made}.o"], ["cc", "-shared", f"{made}.o", "-o", f"{made}.so"]
+            for words in (compiled, shared, ["ar", "rc", f"{made}.a", f"{made}.o"]):
+                status, output = said(words)
+                if status:
+                    sys.exit(output)
+        return folder
+
+    def in_python(self):
+        """The Python module, by python_module.py, which says a line for each test."""
+        own, other = (os.path.join(folder, "libecc200.so") for folder in (self.built, self.other()))
+        found = commands.environment(ECC200_LIBRARY=own, OTHER_LIBRARY=other, VERSION=self.interface.version)
+        words = [sys.executable, "-m", "tests.library.python_module", self.library]
+        done = commands.run(words, env=found, cwd=places.TOP, timeout=1800)
+        for line in done.output.decode().splitlines():
+            name, problem = json.loads(line)
+            yield f"Python: {name}", problem
+        yield "Python: its end", None if done.status == 0 else done.errors.decode(errors="replace")[-3000:]
+
+
+def copied(library, folder):
+    """A copy of the callers, in which one can be spoilt."""
+    os.makedirs(folder)
+    for name in os.listdir(library):
+        if name not in ("out", "__pycache__"):
+            path, to = os.path.join(library, name), os.path.join(folder, name)
+            if os.path.isdir(path):
+                shutil.copytree(path, to, symlinks=True, dirs_exist_ok=True)
+            else:
+                shutil.copy(path, to)

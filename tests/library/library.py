@@ -1,0 +1,62 @@
+"""What the tests of the library share: its interface, the module in Python, C files that are compiled over it, the
+worked symbol."""
+import functools
+import importlib.util
+import os
+import re
+
+from tests.library.cases import Interface
+from tests.library.callers import HERE, WARNINGS
+from tests.support import commands, needs, places
+from tests.support.places import LIBRARY
+
+EXAMPLES = os.path.join(LIBRARY, "examples")
+WORKED = ("1010101010 1100101101 1100000100 1100011101 1100001000 "
+          "1000001111 1110110000 1111011001 1001110100 1111111111").split()
+
+
+@functools.cache
+def interface():
+    """The interface of the header, and the version that is released."""
+    header = places.text_of("library", "ecc200.h")
+    abi = int(next(line.split()[2] for line in header.splitlines() if line.startswith("#define ECC200_ABI ")))
+    return Interface(abi, places.text_of("packaging", "version").strip())
+
+
+@functools.cache
+def module():
+    """library/ecc200.py over the shared library."""
+    os.environ["ECC200_LIBRARY"] = places.SHARED
+    spec = importlib.util.spec_from_file_location("ecc200_of_library", os.path.join(LIBRARY, "ecc200.py"))
+    made = importlib.util.module_from_spec(spec)
+    spec.loader.exec_module(made)
+    return made
+
+
+def bits_of(lines):
+    """The rows of a grid of characters."""
+    return [bytes(int(letter) for letter in line) for line in lines]
+
+
+def compiled(source, folder, *flags):
+    """Compiles a C file over the static library, and gives the program, or None and what the compiler says."""
+    made = os.path.join(folder, os.path.basename(source).removesuffix(".c"))
+    words = ["cc", "-std=c11", "-O2", *WARNINGS, f"-I{LIBRARY}", *flags, source, places.ARCHIVE, "-o", made]
+    status, output = commands.said(words)
+    return (made, None) if status == 0 else (None, output[-2000:])
+
+
+@functools.cache
+def lacking_rust():
+    """Says why there is no Rust compiler for library/ecc200.rs, whose head names the least version; nothing if there is
+    one."""
+    if not needs.has("rustc"):
+        return needs.lacking("rustc")
+    least = re.search(r"Rust (1\.\d+) or later", places.text_of("library", "ecc200.rs"))[1]
+    told = re.match(r"rustc (1\.\d+)", commands.said(["rustc", "--version"])[1])[1]
+    return "" if int(told[2:]) >= int(least[2:]) else f"rustc is {told}, older than {least}"
+
+
+def own(name):
+    """The path of a C file of these tests."""
+    return os.path.join(HERE, name)

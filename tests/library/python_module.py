@@ -1,0 +1,415 @@
+"""Tests the Python module: the requests of cases.py, and what only Python has: defaults, wrong types, numbers of any
+size, grids of many kinds, pictures, and which library is loaded. The argument is the folder with ecc200.py;
+ECC200_LIBRARY is the library, OTHER_LIBRARY one with another interface, VERSION the version of the library. It is a
+process of its own, since the module loads its library as it is imported, and prints a line of JSON for each test: its
+name, and what is wrong or null."""
+import ctypes
+import importlib.util
+import json
+import os
+import subprocess
+import sys
+
+from tests.library.answers import Answers
+from tests.library.cases import (FNC1, LARGEST, MOST_DATA, REFUSED, TEXTS, WIDENED, WORDS, Interface, grid_of, hurt,
+                                 with_bad_border)
+from tests.library.model import PLACES, SIZES, normal_symbol
+
+FOLDER = os.path.abspath(sys.argv[1])
+MODULE = os.path.join(FOLDER, "ecc200.py")
+
+
+def module(path=MODULE):
+    """The module over the library that the environment names."""
+    spec = importlib.util.spec_from_file_location("ecc200", path)
+    made = importlib.util.module_from_spec(spec)
+    spec.loader.exec_module(made)
+    return made
+
+
+ecc200 = module()
+INTERFACE = Interface(ecc200._library.ecc200_abi(), os.environ["VERSION"])
+
+
+def rows(grid):
+    side = round(len(grid) ** 0.5)
+    return [bytes(grid[at:at + side]) for at in range(0, len(grid), side)]
+
+
+def said_by(call):
+    """What a call raises, in a form that can be compared, or what it returns."""
+    try:
+        return call()
+    except ecc200.Refused as why:
+        return "refused", why.code.name, why.value, why.place
+    except Exception as why:  # what else is raised is compared too
+        return type(why).__name__
+
+
+def refused(code, value=0, place=0):
+    return "refused", code, value, place
+
+
+WORKED = [bytes(int(digit) for digit in row) for row in
+          ("1010101010 1100101101 1100000100 1100011101 1100001000 "
+           "1000001111 1110110000 1111011001 1001110100 1111111111").split()]
+LIGHT = [bytes(10)] * 10
+
+
+def requests():
+    """What all callers are asked."""
+    answers = Answers(ecc200, INTERFACE.abi >= 2)
+    for request, wanted in INTERFACE.calls():
+        got = answers.to(request)
+        if got is not None:
+            yield request[:80], got, wanted
+
+
+def names():
+    """What is public, and the numbers."""
+    public = {"ABI", "Code", "Extent", "FNC1", "Found", "Inspection", "Kind", "MOST_ITEMS", "Place", "Profile",
+              "Reading", "Refused",
+              "SamplerMissing", "Size", "decode", "find", "inspect", "normal", "places", "read", "sizes", "usual_limit",
+              "write"}
+    yield "public names", public - set(ecc200.__all__), set()
+    yield "names that are there", [name for name in ecc200.__all__ if not hasattr(ecc200, name)], []
+    yield "numbers", (ecc200.ABI, ecc200.FNC1, ecc200.MOST_ITEMS), (INTERFACE.abi, FNC1,
+                                                                    INTERFACE.constants["MOST_ITEMS"])
+    for kind, wanted in ((ecc200.Code, {name: code for name, code in INTERFACE.codes.items() if code}),
+                         (ecc200.Profile, {"ASCII": 0, "SHORTER": 1}),
+                         (ecc200.Extent, INTERFACE.extent_names),
+                         (ecc200.Kind,
+                          {"BIT": 1, "BORDER_LIGHT": 2, "BORDER_DARK": 3, "FIXED_LIGHT": 4, "FIXED_DARK": 5})):
+        yield f"numbers of {kind.__name__}", {it.name: int(it) for it in kind}, wanted
+    for kind, wanted in ((ecc200.Reading, "data gs1 items corrected border_faults side corners"),
+                         (ecc200.Inspection, "held mended corrected border_faults"),
+                         (ecc200.Place, "kind codeword bit"),
+                         (ecc200.Size, "side regions region_side mapping data_codewords check_codewords blocks limit")):
+        yield f"members of {kind.__name__}", " ".join(kind._fields), wanted
+
+
+def layout():
+    """Where the members of the structs stand."""
+    structs = {"fault": "_Fault", "reading": "_ReadingOut", "symbol": "_SymbolOut", "inspection": "_InspectionOut",
+               "place": "_PlaceOut",
+               "place_table": "_PlacesOut", "size": "_SizeOut", "size_table": "_SizesOut"}
+    for name, struct in structs.items():
+        kind, (size, members) = getattr(ecc200, struct), INTERFACE.layout[name]
+        yield f"the size of {struct}", ctypes.sizeof(kind), size
+        got = {member: (getattr(kind, member).offset, getattr(kind, member).size) for member, *_ in kind._fields_}
+        yield f"the members of {struct}", got, members
+
+
+def exceptions():
+    """A refusal tells its code, its numbers and its words."""
+    for code, words in WORDS.items():
+        if code and code in INTERFACE.codes.values():
+            why = ecc200.Refused(code, 7, 9)
+            shown = f"{words} ({why.code.name}, value 7, place 9)"
+            got = isinstance(why, ValueError), int(why.code), why.value, why.place, str(why)
+            yield f"code {code}", got, (True, code, 7, 9, shown)
+            yield f"code {code} by itself", (ecc200.Refused(code).value, ecc200.Refused(code).place), (0, 0)
+    for code in (0, 1, 2, 18, -1):
+        yield f"no code {code}", said_by(lambda: ecc200.Refused(code)), "ValueError"
+
+
+def texts():
+    """Bytes and whether FNC1 stands in front, out of items, and the other way round."""
+    for items, data, gs1 in TEXTS:
+        got = ecc200.read(ecc200.write(items))
+        yield f"the text of {items}", (got.data, got.gs1, got.items), (data, bool(gs1), tuple(items))
+        yield f"types for {items}", [type(part) for part in got], [bytes, bool, tuple, tuple, int, int, type(None)]
+    for data, items in ((b"", [FNC1]), (b"A", [FNC1, 65]), (b"A\x1dB\x1d", [FNC1, 65, FNC1, 66, FNC1]),
+                        (b"\x1d", [FNC1, FNC1])):
+        wanted = ecc200.write(items)
+        for given in (data, bytearray(data), list(data), tuple(data), iter(list(data)), memoryview(data)):
+            yield f"GS1 {data} as {type(given).__name__}", ecc200.write(given, gs1=True), wanted
+        yield f"GS1 {data} by its place", ecc200.write(data, True), wanted
+        yield f"GS1 {data} with FNC1", ecc200.write([FNC1 if byte == 29 else byte for byte in data], gs1=True), wanted
+        yield f"not GS1 {data}", ecc200.read(ecc200.write(data)).items, tuple(data)
+    for given in (bytearray(b"AB"), [65, 66], (65, 66), iter([65, 66]), memoryview(b"AB"), range(65, 67)):
+        yield f"a message as {type(given).__name__}", ecc200.write(given), ecc200.write(b"AB")
+
+
+def defaults():
+    """What holds if nothing is said: the usual limit, ASCII, the wide extent, no FNC1."""
+    for size in SIZES:
+        grid, usual = ecc200.write(b"A" * size.data), size.side // 4
+        flat = [module for row in grid for module in row]
+        for call in (ecc200.read, ecc200.normal):
+            at, past = (said_by(lambda: call(rows(with_bad_border(flat, wrong)))) for wrong in (usual, usual + 1))
+            yield f"the usual limit of {call.__name__} at side {size.side}", at[0] == "refused", False
+            yield f"past the usual limit of {call.__name__} at side {size.side}", past, refused("BORDER", usual + 1)
+    long, short = normal_symbol(b"\x80" * 3, 0)[1], normal_symbol(b"\x80" * 3, 1)[1]
+    yield "write", ecc200.write(b"\x80" * 3), rows(long)
+    yield "write, shorter", ecc200.write(b"\x80" * 3, profile=ecc200.Profile.SHORTER), rows(short)
+    yield "write, shorter by place", ecc200.write(b"\x80" * 3, False, ecc200.Profile.SHORTER), rows(short)
+    yield "normal", ecc200.normal(rows(short)), rows(long)
+    yield "normal, shorter", ecc200.normal(rows(long), profile=ecc200.Profile.SHORTER), rows(short)
+    yield "normal, shorter by place", ecc200.normal(rows(long), 0, ecc200.Profile.SHORTER), rows(short)
+    for data, code, value, place, items in WIDENED if INTERFACE.abi >= 2 else []:
+        grid = rows(grid_of(12, *data))
+        refusal = refused(ecc200.Code(code).name, value, place)
+        yield f"wide {value}", ecc200.read(grid).data, items
+        yield f"wide {value} by place", ecc200.read(grid, 0, ecc200.Extent.WIDE).data, items
+        yield f"usual {value}", said_by(lambda: ecc200.read(grid, extent=ecc200.Extent.USUAL)), refusal
+        yield f"wide normal of {value}", ecc200.normal(grid), ecc200.write(items)
+        yield f"usual normal of {value}", said_by(lambda: ecc200.normal(grid, extent=ecc200.Extent.USUAL)), refusal
+
+
+def limits():
+    """Border limits of any size."""
+    flat = [module for row in WORKED for module in row]
+    bad = rows(with_bad_border(flat, 3))
+    for call in (ecc200.read, ecc200.normal):
+        for limit in (-(10 ** 20), -1, 0, 2, 3, 4, 65535, 65536, 65537, 10 ** 20):
+            got = said_by(lambda: call(bad, limit))
+            yield f"{call.__name__} with the limit {limit}", got != refused("BORDER", 3), limit >= 3
+            yield f"{call.__name__} with border_limit={limit}", said_by(lambda: call(bad, border_limit=limit)), got
+        yield f"{call.__name__} with the limit 0", said_by(lambda: call(rows(with_bad_border(flat, 1)),
+                                                                        0)), refused("BORDER", 1)
+        is_same = said_by(lambda: call(WORKED, -1)) == said_by(lambda: call(WORKED))
+        yield f"{call.__name__} with no wrong module and the limit -1", is_same, True
+    yield "border faults", ecc200.read(bad, 3).border_faults, 3
+    yield "border faults that are inspected", ecc200.inspect(bad).border_faults, 3
+    yield "usual limits", [ecc200.usual_limit(side) for side in range(200)], [side // 4 for side in range(200)]
+
+
+# The same grid in other forms, and what isn't a grid with how it's refused.
+FORMS = {
+    "lists": [list(row) for row in WORKED],
+    "tuples": tuple(tuple(row) for row in WORKED),
+    "bytearrays": [bytearray(row) for row in WORKED],
+    "truth": [[bool(module) for module in row] for row in WORKED],
+    "255": [bytes(255 * module for module in row) for row in WORKED],
+    "2": [[2 * module for module in row] for row in WORKED],
+    "256": [[256 * module for module in row] for row in WORKED],
+    "-1": [[-module for module in row] for row in WORKED],
+    "1 and 255": [[module * (1 + 254 * (i % 2)) for i, module in enumerate(row)] for row in WORKED],
+}
+NO_GRIDS = [
+    ("a shorter row", [b"\1\0", b"\1"], refused("SHAPE")),
+    ("a longer row", [*WORKED[:-1], WORKED[-1] + b"\1"], refused("SHAPE")),
+    ("rows of other lengths and as many modules", [b"\1" * 9, b"\1" * 11, *WORKED[2:]], refused("SHAPE")),
+    ("a row too many", [*WORKED, WORKED[-1]], refused("SHAPE")),
+    ("a row too few", WORKED[1:], refused("SHAPE")),
+    ("no rows", [], refused("SIDE", 0)),
+    ("an empty row", [b""], refused("SHAPE")),
+    ("one module", [b"\1"], refused("SIDE", 1)),
+    ("side 11", [bytes(11)] * 11, refused("SIDE", 11)),
+    ("the next side", [bytes(LARGEST.side + 1)] * (LARGEST.side + 1), refused("SIDE", LARGEST.side + 1)),
+    ("side 144", [bytes(144)] * 144, refused("SIDE", 144)),
+    ("None", None, "TypeError"),
+    ("a number", 7, "TypeError"),
+    ("a row that is a number", [1], "TypeError"),
+    ("modules that are nothing", [None], "TypeError"),
+]
+
+
+def grids():
+    """Rows of any kind; anything but 0 is dark; rows of other lengths have no shape."""
+    wanted = ecc200.read(WORKED)
+    for name, given in FORMS.items():
+        yield f"a grid of {name}", ecc200.read(given), wanted
+        yield f"the normal grid of {name}", ecc200.normal(given), WORKED
+        yield f"the inspection of {name}", ecc200.inspect(given), ecc200.inspect(WORKED)
+    for name, given, refusal in NO_GRIDS:
+        for call in (ecc200.read, ecc200.normal, ecc200.inspect):
+            yield f"{call.__name__} of {name}", said_by(lambda: call(given)), refusal
+
+
+# What is written or asked for with numbers that the library can't be given, or with what isn't a number; of a refusal
+# its code, value and place, or its code and place where the number may be told as it is or as the largest.
+NUMBERS = [
+    ("-1", lambda: ecc200.write([-1]),
+    ("ITEM", 0)),
+    ("65536", lambda: ecc200.write([65, 65536]),
+    ("ITEM", 1)),
+    ("256 is FNC1", lambda: ecc200.write([256]) == ecc200.write([FNC1]), True),
+    ("257", lambda: ecc200.write([65, 257, -1]),
+    ("ITEM", 257, 1)),
+    ("65535", lambda: ecc200.write([65535]),
+    ("ITEM", 65535, 0)),
+    ("large", lambda: ecc200.write([65, 66, 10 ** 20]),
+    ("ITEM", 2)),
+    ("late", lambda: ecc200.write([55] * 70_000 + [300]),
+    ("ITEM", 300, 65535)),
+    ("late and negative", lambda: ecc200.write([55] * 70_000 + [-1]),
+    ("ITEM", 65535)),
+    ("behind FNC1", lambda: ecc200.write([65, 300], gs1=True),
+    ("ITEM", 300, 2)),
+    ("negative behind FNC1", lambda: ecc200.write([65, -300], gs1=True),
+    ("ITEM", 2)),
+    ("a letter", lambda: ecc200.write("A"), "TypeError"),
+    ("letters", lambda: ecc200.write(["A"]), "TypeError"),
+    ("a fraction", lambda: ecc200.write([65.5]), "TypeError"),
+    ("None", lambda: ecc200.write(None), "TypeError"),
+    ("None in it", lambda: ecc200.write([None]), "TypeError"),
+    ("a number", lambda: ecc200.write(65), "TypeError"),
+    ("profile 2", lambda: ecc200.write(b"A", profile=2),
+    ("PROFILE", 2, 0)),
+    ("profile -1", lambda: ecc200.write(b"A", profile=-1),
+    ("PROFILE", 0)),
+    ("profile 65535", lambda: ecc200.write(b"A", profile=65535),
+    ("PROFILE", 65535, 0)),
+    ("profile 65536", lambda: ecc200.write(b"A", profile=65536),
+    ("PROFILE", 0)),
+    ("profile 65537", lambda: ecc200.write(b"A", profile=65537),
+    ("PROFILE", 0)),
+    ("normal profile -1", lambda: ecc200.normal(WORKED, profile=-1),
+    ("PROFILE", 0)),
+    ("profile -65535", lambda: ecc200.write(b"A", profile=-65535), ("PROFILE", 0)),
+    ("normal profile -65536", lambda: ecc200.normal(WORKED, profile=-65536), ("PROFILE", 0)),
+    ("places -65526", lambda: ecc200.places(-65526), ("SIDE", 0)),
+    ("normal profile 2", lambda: ecc200.normal(WORKED, profile=2),
+    ("PROFILE", 2, 0)),
+    ("normal profile 65536", lambda: ecc200.normal(WORKED, profile=65536),
+    ("PROFILE", 0)),
+    ("places -1", lambda: ecc200.places(-1),
+    ("SIDE", 0)),
+    ("places 0", lambda: ecc200.places(0),
+    ("SIDE", 0, 0)),
+    ("places 65546", lambda: ecc200.places(65546),
+    ("SIDE", 0)),
+    ("places 10^20", lambda: ecc200.places(10 ** 20),
+    ("SIDE", 0)),
+    ("places ten", lambda: ecc200.places("ten"), "TypeError"),
+    ("limit of a text", lambda: ecc200.usual_limit("ten"), "TypeError"),
+    ("a limit that is a text", lambda: ecc200.read(WORKED, "2"), "TypeError"),
+    ("profile of a text", lambda: ecc200.write(b"A", profile="ascii"), "TypeError"),
+    ("too long", lambda: ecc200.write(b"A" * (MOST_DATA + 1)),
+    ("TOO_LONG", 0, 0)),
+    ("too long, shorter", lambda: ecc200.write(b"\xff" * (MOST_DATA - 2), profile=1),
+    ("TOO_LONG", 0, 0)),
+    ("longest", lambda: len(ecc200.write(b"7" * 2 * MOST_DATA)), LARGEST.side),
+]
+
+
+def numbers():
+    """Numbers of any size."""
+    for name, call, wanted in NUMBERS:
+        got = said_by(call)
+        if isinstance(wanted, tuple) and isinstance(got, tuple):
+            got = got[1::2] if len(wanted) == 2 else got[1:]
+        yield name, got, wanted
+    if INTERFACE.abi >= 2:
+        for extent in (2, -1, 65535, 65536, 65537, -65535, -65536):
+            for call in (ecc200.read, ecc200.normal):
+                got = said_by(lambda: call(WORKED, extent=extent))
+                got = got[1::2] if isinstance(got, tuple) else got
+                yield f"{call.__name__} with the extent {extent}", got, ("EXTENT", 0)
+
+
+def results():
+    """Types and forms of what is returned."""
+    for size in SIZES:
+        grid = ecc200.write(b"A" * size.data)
+        got = type(grid), {type(row) for row in grid}, {len(row) for row in grid}, len(grid)
+        yield f"rows at side {size.side}", got, (list, {bytes}, {size.side}, size.side)
+        places = ecc200.places(size.side)
+        yield f"places at side {size.side}", [tuple(at) for row in places for at in row], PLACES[size.side]
+        yield f"their rows at side {size.side}", [len(row) for row in places], [size.side] * size.side
+        each = [at for row in places for at in row]
+        yield f"their types at side {size.side}", {type(at)
+                                                   for at in each} | {type(at.kind)
+                                                                      for at in each}, {ecc200.Place, ecc200.Kind}
+    seen = ecc200.inspect(WORKED)
+    words = bytes([142, 164, 186, 114, 25, 5, 88, 102])
+    yield "an inspection", tuple(seen), (words, words, (0,), 0)
+    yield "its types", [type(part) for part in seen], [bytes, bytes, tuple, int]
+    flat = [module for row in WORKED for module in row]
+    yield "beyond correction", ecc200.inspect(rows(hurt(flat, 0, 5))).corrected, (None,)
+    yield "corrected", ecc200.read(rows(hurt(flat, 0, 2))).corrected, (2,)
+    yield "sizes", [tuple(size) for size in ecc200.sizes()], [tuple(size) for size in SIZES]
+    types = {type(size) for size in ecc200.sizes()} | {type(number) for size in ecc200.sizes() for number in size}
+    yield "their types", types, {ecc200.Size, int}
+    for data, code, value, place in REFUSED:
+        got = said_by(lambda: ecc200.read(rows(grid_of(12, *data))))
+        yield f"refused {data}", got, refused(ecc200.Code(code).name, value, place)
+
+
+class Array:
+    """What has the array interface and no buffer."""
+
+    def __init__(self, data, shape, typestr="|u1"):
+        self.__array_interface__ = {"version": 3, "shape": shape, "typestr": typestr, "data": data}
+
+
+def pictures():
+    """Which arrays are pictures, and what is said of others; and that nothing is found where the sampler isn't
+    installed, as is said."""
+    shades = bytes(range(0, 240, 40))
+    for name, given, wanted in [
+        ("a view of bytes", memoryview(shades).cast("B", (2, 3)), (shades, 3, 2)),
+        ("a view of booleans", memoryview(bytes([0, 1, 1, 1, 0, 0])).cast("?", (2, 3)), (b"\0\xff\xff\xff\0\0", 3, 2)),
+        ("steps", memoryview(shades).cast("B", (2, 3))[::2], (shades[:3], 3, 1)),
+        ("an array interface", Array(shades, (2, 3)), (shades, 3, 2)),
+        ("an array interface of booleans", Array(b"\0\1", (1, 2), "|b1"), (b"\0\xff", 2, 1)),
+        ("shorts", memoryview(shades * 2).cast("B").cast("H", (2, 3)), "TypeError"),
+        ("one dimension", memoryview(shades), "TypeError"),
+        ("five colours", memoryview(bytes(30)).cast("B", (2, 3, 5)), "TypeError"),
+        ("colours of shorts", memoryview(bytes(36)).cast("B").cast("H", (2, 3, 3)), "TypeError"),
+        ("four dimensions", memoryview(shades).cast("B", (1, 1, 2, 3)), "TypeError"),
+        ("rows", [shades], "TypeError"),
+        ("a text", "0101", "TypeError"),
+        ("None", None, "TypeError"),
+    ]:
+        yield f"luminances of {name}", said_by(lambda: ecc200.luminance(given)), wanted
+    os.environ["ECC200_SAMPLE_LIBRARY"] = "/nonexistent/libecc200_sample.so"
+    yield "no sampler", ecc200.has_sampler(), False
+    yield "SamplerMissing is an ImportError", issubclass(ecc200.SamplerMissing, ImportError), True
+    blank = Array(bytes(100), (10, 10))
+    for call in (ecc200.find, ecc200.decode):
+        yield f"{call.__name__} without the sampler", said_by(lambda: call(blank)), "SamplerMissing"
+    try:
+        ecc200.find(blank)
+    except ImportError as why:
+        yield "the sampler's path and variable", [word in str(why)
+                                                  for word in ("/nonexistent/", "ECC200_SAMPLE_LIBRARY")], [True, True]
+    yield "a grid without the sampler", [reading.data for reading in ecc200.decode(WORKED)], [b"123456"]
+    yield "no grid without the sampler", ecc200.decode(LIGHT), []
+
+
+def loading():
+    """Which library is loaded: the one that is named, else the one beside the module, and none of another interface."""
+    own, other = os.environ["ECC200_LIBRARY"], os.environ["OTHER_LIBRARY"]
+    beside = os.path.join(FOLDER, "libecc200.so")
+
+    def loads(**environment):
+        words = [sys.executable, "-B", "-c",
+                 "import ecc200; print(len(ecc200.write(b'123456')), ecc200._library._name)"]
+        clean = {name: value for name, value in os.environ.items() if name != "ECC200_LIBRARY"}
+        found = {**clean, "PYTHONPATH": FOLDER, **environment}
+        done = subprocess.run(words, env=found, capture_output=True, text=True, cwd="/", check=False)
+        return done.stdout.strip() or done.stderr.strip().split("\n")[-1]
+
+    wrong = f"has version 1 of the interface, but this module needs version {INTERFACE.abi}"
+    yield "the library that is named", loads(ECC200_LIBRARY=own), f"10 {own}"
+    yield "another interface", loads(ECC200_LIBRARY=other), f"ImportError: {other} {wrong}"
+    raised = loads(ECC200_LIBRARY="/nonexistent/libecc200.so").split(":")[0]
+    yield "no library", raised in ("ImportError", "OSError"), True
+    if os.path.lexists(beside):
+        return
+    os.symlink(other, beside)
+    try:
+        yield "the library beside the module", wrong in loads(), True
+        yield "the library that is named, and another beside the module", loads(ECC200_LIBRARY=own), f"10 {own}"
+    finally:
+        os.remove(beside)
+
+
+def tried():
+    """Each test's name, and what is wrong or None."""
+    for part in (names, layout, requests, exceptions, texts, defaults, limits, grids, numbers, results, pictures,
+                 loading):
+        try:
+            for name, got, wanted in part():
+                wrong = None if got == wanted else f"{str(got)[:300]}, and not {str(wanted)[:300]}"
+                yield f"{part.__name__}, {name}", wrong
+        except Exception as why:  # whatever a wrong module does is a failure
+            yield part.__name__, f"{type(why).__name__}: {why}"
+
+
+if __name__ == "__main__":
+    for row in tried():
+        print(json.dumps(row))

@@ -1,0 +1,46 @@
+"""Asks the library by each of its callers, in C, C++, Rust and Python. What they answer is compared with the requests
+and answers of cases.py."""
+import sys
+
+from tests.library.callers import Callers
+from tests.library.cases import check_codewords_are_known
+from tests.library.library import interface, lacking_rust
+from tests.support import commands, needs, places
+from tests.support.case import Case
+
+
+class Alike(Case):
+    """What is the same in several files stands in one."""
+
+    def test_the_callers_are_those_that_tools_callers_writes(self):
+        status, said = commands.said([sys.executable, places.path("tools", "callers"), "--check"])
+        self.assertEqual(status, 0, said)
+
+    def test_the_check_codewords_of_the_model_are_those_of_the_standards_example(self):
+        self.assertTrue(check_codewords_are_known())
+
+
+@needs.library
+class Answers(Case):
+    def setUp(self):
+        self.callers = Callers(places.LIBRARY, places.BUILT, self.folder(), interface())
+
+    def test_c(self):
+        self.all_sound(self.callers.in_c_with("C", "-O2"))
+
+    def test_c_with_the_sanitisers(self):
+        if not self.callers.has_sanitisers():
+            self.skipTest("cc has no sanitisers")
+        self.all_sound(self.callers.in_c_with_sanitisers())
+
+    @needs.programs("c++")
+    def test_cpp(self):
+        self.all_sound(self.callers.in_cpp())
+
+    def test_rust(self):
+        if reason := lacking_rust():
+            self.skipTest(reason)
+        self.all_sound(self.callers.in_rust())
+
+    def test_python(self):
+        self.all_sound(self.callers.in_python())

@@ -1,0 +1,123 @@
+"""Tries the bugs of bugs.txt on the page, one at a time: with each, the test has to fail. Or takes pictures of the page
+for docs/PAGE.md.
+
+    python3 -m tests.page [WORD]
+    python3 -m tests.page --pictures FOLDER
+
+Only the bugs whose name contains WORD are tried, if it is given."""
+import argparse
+import base64
+import pathlib
+import random
+import shutil
+import sys
+import tempfile
+import time
+
+from tests.page import browser
+from tests.page.parts import PARTS, fault_of, load
+from tests.page.stage import (By, Failed, acting, agree, cells, click, count, find, on, push, run, wait_for, webdriver,
+                              write)
+from tests.support import needs, places
+
+sys.path.insert(0, places.path("web"))
+import pack
+
+
+def tried(file, parts):
+    """Runs these parts over one page, in turn, until one fails."""
+    random.seed(1)
+    load(file)
+    for part in parts:
+        on.part = part.__name__
+        if fault := fault_of(part):  # a part that can't go on has failed
+            count.expect(f"{part.__name__}, which broke off with {type(fault).__name__}", str(fault), "no fault")
+    count.expect("console", [entry["message"] for entry in on.page.get_log("browser")], [])
+
+
+def planted(library, word):
+    """Each bug of bugs.txt, planted in a module of the page, which is packed anew: whether the test fails, and at
+    what."""
+    sound, passed, failed = pack.sources(), 0, 0
+    for block in places.text_of("tests", "page", "bugs.txt").split("\n\n"):
+        lines = [line for line in block.split("\n") if line and not line.startswith("#")]
+        if not lines or word not in lines[0]:
+            continue
+        name, first, spoilt = lines[0], lines[1].removeprefix("part: "), dict(sound)
+        for old, new in zip(lines[2::2], lines[3::2]):
+            old, new = (text.split(": ", 1)[1].replace("⏎", "\n") for text in (old, new))
+            found = [module for module, text in spoilt.items() for _ in range(text.count(old))]
+            assert len(found) == 1, f"{name}: {old} stands {len(found)} times in the modules"
+            spoilt[found[0]] = spoilt[found[0]].replace(old, new)
+        file = on.folder / "spoilt.html"
+        file.write_text(pack.packed(library.read_bytes(), spoilt), encoding="utf-8")
+        try:
+            tried(file, sorted(PARTS, key=lambda part: part.__name__ != first))
+            print(f"NOT CAUGHT: {name}", flush=True)
+            failed += 1
+        except Failed as where:
+            print(f"caught: {name}, in {on.part} by '{where}'", flush=True)
+            passed += 1
+    return passed, failed
+
+
+def in_pictures():
+    """Pictures of three states, for docs/PAGE.md."""
+    width = 1200
+
+    def shoot(name, element):
+        top, height = run("const b = arguments[0].getBoundingClientRect(); return [b.top + scrollY, b.height]", element)
+        begin = 0 if element.get_attribute("class") == "bench" else top - 16
+        clip = {"x": 0, "y": begin, "width": width, "height": top + height + 16 - begin, "scale": 1}
+        taken = on.page.execute_cdp_cmd("Page.captureScreenshot", {"captureBeyondViewport": True, "clip": clip})
+        (on.shots / name).write_bytes(base64.b64decode(taken["data"]))
+
+    on.page.set_window_size(width, 1500)
+    time.sleep(0.5)
+    on.page.refresh()
+    wait_for(lambda: run("return 'mitsubadoor' in globalThis"))
+    bench = on.page.find_element(By.CLASS_NAME, "bench")
+    shoot("page-compare.png", on.page.find_element(By.CLASS_NAME, "compare"))
+    write("\\F010123456789012810AB-42")
+    push("to-limit")
+    click(4, 90, side=18)
+    agree("the first picture")
+    damaged = [w for w, (_, _, kind) in enumerate(cells()) if kind == "corrected"]
+    acting().move_to_element(find(f"word-{damaged[1]}")).perform()
+    shoot("page-read.png", bench)
+    write("Bearing 7731-22-B of batch 0042 was looked at and found to be good; it is to be fitted by 2027, greased with"
+          " what the drawing names, and kept dry and below forty degrees until then, in the box in which it came.")
+    push("to-limit", "one-more")
+    agree("the second picture")
+    acting().move_to_element(find("state")).perform()
+    shoot("page-refused.png", bench)
+
+
+def main():
+    options = argparse.ArgumentParser(prog="python3 -m tests.page", description=__doc__.split("\n\n", maxsplit=1)[0])
+    options.add_argument("word", metavar="WORD", nargs="?", default="")
+    options.add_argument("--pictures", metavar="FOLDER", type=pathlib.Path)
+    given = options.parse_args()
+    if problem := needs.lacking("chromium", "chromedriver", "wasm-opt") or ("" if webdriver else "selenium isn't installed"):
+        sys.exit(problem)
+    if problem := needs.made("page"):
+        sys.exit(problem)
+    on.program, on.shots, on.folder = places.PROGRAM, given.pictures, pathlib.Path(tempfile.mkdtemp())
+    count.stops = not given.pictures
+    try:
+        browser.start()
+        if given.pictures:
+            given.pictures.mkdir(parents=True, exist_ok=True)
+            load(places.path("web", "out", "mitsubadoor.html"))
+            in_pictures()
+            return 0
+        passed, failed = planted(pathlib.Path(places.path("web", "out", "lowered.wasm")), given.word)
+    finally:
+        browser.end()
+        shutil.rmtree(on.folder, ignore_errors=True)
+    print(f"{passed} passed, {failed} failed")
+    return 1 if failed or not passed else 0
+
+
+if __name__ == "__main__":
+    sys.exit(main())

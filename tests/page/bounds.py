@@ -1,0 +1,334 @@
+"""What is too much is said and not let in, and what can't be drawn in bounded time isn't drawn; what is dropped is
+taken, or said not to be."""
+import base64
+import time
+
+from tests.page.pictures import chunks, opened, png
+from tests.page.stage import By, Keys, count, find, grid, on, push, run, settle, shown, text_of, write, written
+
+SOON = 6  # seconds that the page may be held up, on a busy machine
+MANY_LINES = "#\n" * 130000
+
+
+def area_of(slot):
+    return find(f"slot-{slot}").find_element(By.TAG_NAME, "textarea")
+
+
+def put_in(area, text):
+    script = "arguments[0].value = arguments[1]; arguments[0].dispatchEvent(new Event('input', { bubbles: true }))"
+    run(script, area, text)
+    settle()
+
+
+def head():
+    return run("return [...document.querySelectorAll('#same strong, #same p')].map((it) => it.textContent)")
+
+
+def seconds_of(act):
+    begun = time.monotonic()
+    act()
+    settle()
+    run("return document.body.getBoundingClientRect().height")
+    return time.monotonic() - begun
+
+
+def much_is_refused():
+    """130,000 lines, pasted by keys or put there otherwise, are said and not laid out."""
+    write("123456")
+    put_in(area_of("a"), "123456")
+    run("document.getElementById('sheet').open = true")
+    copied = on.page.execute_async_script(
+        "navigator.clipboard.writeText(arguments[0]).then(() => arguments[1](''), (why) => arguments[1](why.message))",
+        MANY_LINES,
+    )
+    count.expect("copied", copied, "")
+    for name, area, said in (
+        ("slot-a", area_of("a"), lambda: find("slot-a").text),
+        ("messages", find("messages"), lambda: text_of("sheet-hint")),
+        ("message", find("message"), lambda: text_of("message-hint")),
+    ):
+        before = area.get_attribute("value")
+        taken = seconds_of(lambda: area.send_keys(Keys.CONTROL, "v", Keys.NULL))
+        most = "200,000" if name == "messages" else "20,000"
+        wanted = f"Nothing was taken: {260000 + len(before):,} characters, and no more than {most} are taken."
+        count.expect(
+            f"130,000 lines pasted in {name}",
+            (area.get_attribute("value"), wanted in said(), taken < SOON),
+            (before, True, True),
+        )
+    push("tab-read", "example-c40")
+    before = find("grid").get_attribute("value")
+    taken = seconds_of(lambda: find("grid").send_keys(Keys.CONTROL, "a", Keys.NULL, Keys.CONTROL, "v", Keys.NULL))
+    count.expect(
+        "130,000 lines pasted in the grid",
+        (
+            find("grid").get_attribute("value"),
+            "Nothing was taken: 260,000 characters" in text_of("grid-hint"),
+            taken < SOON,
+        ),
+        (before, True, True),
+    )
+    for name, area in (("a slot", area_of("b")), ("the grid", find("grid"))):
+        taken = seconds_of(lambda: put_in(area, MANY_LINES))
+        count.expect(f"130,000 lines put in {name}", (area.get_attribute("value"), taken < SOON), ("", True))
+    count.expect(
+        "the slot says so",
+        (head(), "260,000 characters" in find("slot-b").text),
+        (["No answer", "Symbol B can’t be taken."], True),
+    )
+    taken = seconds_of(lambda: drop("#slot-a", text="\n" * 1500))
+    count.expect(
+        "1,501 lines dropped on a slot",
+        ("1,501 lines, and no more than 1,000 are taken." in find("slot-a").text, taken < SOON),
+        (True, True),
+    )
+    run("document.getElementById('sheet').open = false")
+    push("tab-write")
+    write("123456")
+
+
+# ---- Drawings
+
+
+NAMESPACES = 'xmlns="http://www.w3.org/2000/svg" xmlns:xlink="http://www.w3.org/1999/xlink"'
+
+
+def svg_of(text, inner=None, size=None, more=""):
+    """A drawing of a grid, a rectangle for each dark module; or of what is given."""
+    rows = text.split("\n")
+    all_of = len(rows) + 4
+    inner = inner or "".join(
+        f'<rect x="{c}" y="{r}" width="1" height="1"/>'
+        for r, row in enumerate(rows)
+        for c, module in enumerate(row)
+        if module == "1"
+    )
+    size = f'width="{all_of * 8}" height="{all_of * 8}"' if size is None else size
+    return (
+        f'<svg {NAMESPACES} viewBox="-2 -2 {all_of} {all_of}" {size} shape-rendering="crispEdges">{more}'
+        f'<path fill="#fff" d="M-2-2h{all_of}v{all_of}h-{all_of}z"/>{inner}</svg>'
+    ).encode()
+
+
+def nested(depth, kind="use"):
+    """Drawings within drawings: each holds the one before it ten times."""
+    uses = {
+        "use": '<use href="#d{k}"/>',
+        "xlink": '<use xlink:href="#d{k}"/>',
+        "pattern": '<rect width="9" height="9" fill="url(#d{k})"/>',
+    }[kind] * 10
+    around = ("pattern", ' width="1" height="1"') if kind == "pattern" else ("g", "")
+    layers = "".join(f'<{around[0]} id="d{k + 1}"{around[1]}>{uses.format(k=k)}</{around[0]}>' for k in range(depth))
+    return f'<defs><rect id="d0" width="1" height="1"/>{layers}</defs>' + (
+        f'<rect width="9" height="9" fill="url(#d{depth})"/>' if kind == "pattern" else f'<use href="#d{depth}"/>'
+    )
+
+
+USE_OF_TEXT = '<use href="#t"/>'
+
+
+def drawings():
+    """Drawings whose elements are many, as often as they are used, are refused by that; others are read, however they
+    draw a symbol."""
+    push("tab-read")
+    small, large = written("123456"), written("0" * 1632)
+    used = '<defs><rect id="m" width="1" height="1"/></defs>' + "".join(
+        f'<use href="#m" x="{c}" y="{r}"/>'
+        for r, row in enumerate(large.split("\n"))
+        for c, module in enumerate(row)
+        if module == "1"
+    )
+    paths = {
+        "rectangles": (svg_of(small), small),
+        "the largest": (svg_of(large), large),
+        "used modules": (svg_of(large, used), large),
+        "huge": (svg_of(small, size='width="90000" height="90000"'), small),
+        "tiny": (svg_of(small, size='width="14" height="14"'), small),
+        "without a size": (svg_of(small, size=" "), small),
+        "nested thrice": (svg_of(small, more=f'<g visibility="hidden">{nested(3)}</g>'), small),
+    }
+    for name, (body, text) in paths.items():
+        taken = seconds_of(lambda: opened("drawing.svg", body))
+        count.expect(
+            f"a drawing of {name}",
+            (text_of("picture-hint").startswith(f"drawing.svg: side {text.index(chr(10))}."), grid(), taken < 3 * SOON),
+            (True, text, True),
+        )
+    many = "The drawing has more than 60,000 elements, as often as they are used."
+    chain = (
+        "<defs>"
+        + "".join(f'<g id="d{k}"><use href="#d{k + 1}"/></g>' for k in range(9000))
+        + '</defs><use href="#d0"/>'
+    )
+    for name, inner, why in (
+        ("100,000 uses", nested(5), many),
+        ("nested uses", nested(9), many),
+        ("nested uses by xlink", nested(40, "xlink"), many),
+        ("nested patterns", nested(9, "pattern"), many),
+        ("itself", '<g id="a"><use href="#a"/></g>', many),
+        ("a chain", chain, many),
+        ("layers", '<g opacity=".5"><path d="M0 0h1v1z"/></g>' * 400, many),
+        ("texts", f'<defs><text id="t">{"word " * 1000}</text></defs>{USE_OF_TEXT * 20}', many),
+        (
+            "a filter",
+            "<filter id='f'/>",
+            "The drawing has an element ‘filter’, which isn’t drawn here. Save it as PNG, and open that.",
+        ),
+        (
+            "a picture",
+            '<image href="data:image/svg+xml,%3Csvg/%3E"/>',
+            "The drawing has an element ‘image’, which isn’t drawn here. Save it as PNG, and open that.",
+        ),
+        (
+            "styles",
+            "<style>path { filter: blur(9px) }</style>",
+            "The drawing has styles that aren’t drawn here. Save it as PNG, and open that.",
+        ),
+        ("no end", "<g>", "The file can’t be opened as a picture."),
+    ):
+        taken = seconds_of(lambda: opened("drawing.svg", svg_of(small, inner)))
+        count.expect(
+            f"a drawing of {name}",
+            (text_of("picture-hint"), shown()["state"], taken < SOON),
+            (f"drawing.svg: {why}", "Nothing is read", True),
+        )
+    taken = seconds_of(lambda: opened("drawing.svg", svg_of(small, '<circle r="99"/>' * 20000)))
+    told = text_of("picture-hint").removeprefix("drawing.svg: ")
+    # (a machine that draws them in time sees nothing but the last one)
+    whys = ("The drawing takes too long to draw. Save it as PNG, and open that.", "The picture has only one colour.")
+    count.expect(
+        "a drawing of large shapes",
+        (told if told not in whys else "", shown()["state"], taken < 2 * SOON),
+        ("", "Nothing is read", True),
+    )
+    entities = b'<!DOCTYPE svg [<!ENTITY a "a">]>' + svg_of(small)
+    count.expect(
+        "entities",
+        opened("drawing.svg", entities),
+        "drawing.svg: The drawing declares entities, which aren’t read here.",
+    )
+    count.expect(
+        "many bytes",
+        opened("drawing.svg", svg_of(small) + b" " * 4000000),
+        "drawing.svg: The drawing has more than 4 million bytes.",
+    )
+    (on.folder / "drawing.svg").write_bytes(svg_of(small, nested(9)))
+    find("picture-A").send_keys(str(on.folder / "drawing.svg"))
+    count.expect_soon("a slot says so too", lambda: many in find("slot-a").text, True)
+    push("tab-write")
+
+
+# ---- What is dropped
+
+
+def drop(where, files=(), text=None):
+    """Drops files, each with a name, a kind and a body, or a text."""
+    run(
+        """const [where, files, text] = arguments, data = new DataTransfer();
+           const bytes = (body) => Uint8Array.from(atob(body), (c) => c.charCodeAt(0));
+           for (const [name, type, body] of files) data.items.add(new File([bytes(body)], name, { type }));
+           if (text !== null) data.setData('text/plain', text);
+           const how = { dataTransfer: data, bubbles: true, cancelable: true };
+           document.querySelector(where).dispatchEvent(new DragEvent('drop', how))""",
+        where,
+        [(name, kind, base64.b64encode(body).decode()) for name, kind, body in files],
+        text,
+    )
+
+
+def many_files():
+    """Of many pictures one is read, and it is said that the others aren't; files of text are read as what they hold;
+    others are named."""
+    write("123456")
+    picture = png(written("the first").split("\n"), 3, 2)
+    some = [("notes.txt", "text/plain", b"notes")] + [(f"mark{k}.png", "image/png", picture) for k in range(200)]
+    drop("body", some)
+    note = "It is one of 201 files, and the others aren’t looked at."
+    count.expect_soon(
+        "the first of 200 pictures",
+        lambda: (text_of("picture-hint"), shown()["says"]),
+        (f"mark0.png: side 16. Read as it stands. {note}", "the first"),
+    )
+    settle()
+    drop("#slot-a", some)
+    count.expect_soon(
+        "the first of 200 pictures in a slot",
+        lambda: (note in find("slot-a").text, "the first" in find("slot-a").text),
+        (True, True),
+    )
+    settle()
+    drop("#slot-a", [("mark.txt", "text/plain", b"by a file\r\n")])
+    drop("#slot-b", [("grid.txt", "", (written("by a file") + "\n").encode())])
+    count.expect_soon(
+        "files of text in the slots", head, ["Yes, they say the same.", "Both have this one normal grid:"]
+    )
+    drop("#slot-a", [("mark.zip", "application/zip", b"PK")])
+    count.expect_soon(
+        "neither a picture nor a text",
+        lambda: (head(), "mark.zip is neither a picture nor a text." in find("slot-a").text),
+        (["No answer", "Symbol A isn’t there."], True),
+    )
+    drop("#slot-a", [("long.txt", "text/plain", b"1" * 100000)])
+    count.expect_soon(
+        "a long file of text",
+        lambda: "long.txt has 100,000 bytes, which are too many for a message or a grid." in find("slot-a").text,
+        True,
+    )
+    drop("body", [("grid.txt", "text/plain", written("a grid in a file").encode())])
+    count.expect_soon(
+        "a grid in a file", lambda: (find("pane-read").is_displayed(), shown()["says"]), (True, "a grid in a file")
+    )
+    drop("body", [("message.txt", "text/plain", b"a message in a file\n")])
+    count.expect_soon(
+        "a message in a file",
+        lambda: (find("pane-write").is_displayed(), shown()["says"]),
+        (True, "a message in a file"),
+    )
+    drop("body", [("mark.zip", "application/zip", b"PK")])
+    count.expect_soon("neither, above", lambda: text_of("picture-hint"), "mark.zip is neither a picture nor a text.")
+    run("document.getElementById('sheet').open = true; document.getElementById('messages').value = ''")
+    drop("#messages", text="one\ntwo")
+    count.expect("text dropped on the sheet's messages", find("messages").get_attribute("value"), "one\ntwo")
+    run("document.getElementById('sheet').open = false")
+    settle()
+    write("123456")
+
+
+# ---- Low contrast
+
+
+def low_contrast():
+    """A symbol whose greys differ little is read; what isn't is said by how much they differ, and only one colour is
+    called that."""
+    push("tab-read")
+    rows = written("faint").split("\n")
+    for light, dark in ((200, 180), (130, 124), (255, 251)):
+        said = opened("faint.png", png(rows, 6, 2, light, dark))
+        count.expect(
+            f"greys {dark} and {light}", (said, shown()["says"]), ("faint.png: side 12. Read as it stands.", "faint")
+        )
+    count.expect(
+        "greys 200 and 201",
+        opened("faint.png", png(rows, 6, 2, 201, 200)),
+        "faint.png: All of the picture is about equally bright: its greys differ by 1 of 255.",
+    )
+    count.expect(
+        "one colour", opened("one.png", png(rows, 6, 2, 200, 200)), "one.png: The picture has only one colour."
+    )
+    square = chunks(
+        60,
+        60,
+        (b"\0" + bytes([200]) * 60) * 20
+        + (b"\0" + bytes([200]) * 20 + bytes([190]) * 20 + bytes([200]) * 20) * 20
+        + (b"\0" + bytes([200]) * 60) * 20,
+    )
+    count.expect(
+        "a faint square",
+        opened("square.png", square),
+        "square.png: No symbol that can be read was found in the picture. "
+        "Its contrast is low: its greys differ by 10 of 255.",
+    )
+    push("tab-write")
+
+
+PARTS = [much_is_refused, drawings, many_files, low_contrast]

@@ -1,0 +1,177 @@
+"""GS1 element strings: what is taken, said and shown green, by hand and beside the rules of the Python library, which
+stand over the same table."""
+import random
+import shutil
+import sys
+import pathlib
+
+from tests.page.stage import By, count, find, grid, on, push, settle, shown, text_of, unseen, write, written
+
+LIBRARY = pathlib.Path(__file__).resolve().parents[2] / "library"
+NOTHING = "Nothing is read"
+
+
+def misjoined():
+    """What would be read otherwise than it is written, or begins no element, is said, and isn't taken; it can be
+    respelled as plain text."""
+    for text, why in (
+        ("(01)0950600013435(21)0ABC", "(01) GTIN takes 14 digits, and has 13."),
+        ("(17)2712311(10)A", "(17) USE BY OR EXPIRY takes 6 digits, and has 7."),
+        ("(01) 09506000134352", "(01) GTIN takes 14 digits, and has 15."),
+        ("(17)2712311", "(17) USE BY OR EXPIRY takes 6 digits, and has 7."),
+        ("(10)A\\F21B", "(10) BATCH/LOT has a separator in its value: FNC1 is put in where one is due."),
+    ):
+        write(text)
+        count.expect(
+            f"{text} isn't taken", (shown()["state"], text_of("message-hint").startswith(why)), (NOTHING, True)
+        )
+    for text, why, plain in (
+        ("(05)123", "Column 1 begins (05), which is no identifier of GS1’s table.", "\\x2805)123"),
+        ("[05]123", "Column 1 begins (05), which is no identifier of GS1’s table.", "\\x5B05]123"),
+        ("(5)a", "Column 1 begins (5), which is no identifier of GS1’s table.", "\\x285)a"),
+        (
+            "(O1)09506000134352",
+            "Column 1 opens a bracket that holds no identifier, such as (01).",
+            "\\x28O1)09506000134352",
+        ),
+        ("(", "Column 1 opens a bracket that holds no identifier, such as (01).", "\\x28"),
+        ("(01", "Column 1 opens a bracket that holds no identifier, such as (01).", "\\x2801"),
+        ("(10)AB(17", "Column 7 opens a bracket that holds no identifier, such as (01).", "(10)AB\\x2817"),
+        ("(10)A(B)", "Column 6 opens a bracket that holds no identifier, such as (01).", "(10)A\\x28B)"),
+    ):
+        write(text)
+        count.expect(f"{text} is said", (shown()["state"], text_of("message-hint").startswith(why)), (NOTHING, True))
+        find("message-hint").find_element(By.TAG_NAME, "button").click()
+        settle()
+        line = plain.replace("(10)", "\\F10")
+        count.expect(
+            f"{text} respelled",
+            (find("message").get_attribute("value"), grid(), shown()["state"].split(",")[0]),
+            (plain, written(line), "Read"),
+        )
+    for text, line in (
+        ("(10)A\\(B)", "\\F10A(B)"),
+        ("(10)A\\x28B)", "\\F10A(B)"),
+        ("\\x28a)5", "(a)5"),
+        ("a(01)", "a(01)"),
+        ("[01]09506000134352[10]A(B)", "\\F010950600013435210A(B)"),
+        ("[a]5", "[a]5"),
+    ):
+        write(text)
+        count.expect(f"{text} is taken", (grid(), shown()["state"].split(",")[0]), (written(line), "Read"))
+    write("123456")
+
+
+# ---- Beside the Python library
+
+
+def rules():
+    """The module gs1 of library/python over the common table, without the library below it."""
+    package = on.folder / "rules" / "ecc200"
+    if not package.exists():
+        package.mkdir(parents=True)
+        shutil.copy(LIBRARY / "python" / "ecc200" / "gs1.py", package)
+        shutil.copy(LIBRARY / "gs1" / "identifiers.txt", package)
+        (package / "core.py").write_text("FNC1 = 256\n")
+        (package / "__init__.py").write_text("")
+        sys.path.insert(0, str(package.parent))
+    from ecc200 import gs1
+
+    return gs1
+
+
+CHARACTERS = {"N": "0123456789", "X": "!\"%&')*+,-./0159:;<=>?AZ_az", "Y": "#-/0159AZ", "Z": "-059=AZ_az"}
+
+
+class Strings:
+    """Makes element strings at random, right ones and ones with a fault."""
+
+    def __init__(self, seed, gs1):
+        self.chance, self.gs1, self.table = random.Random(seed), gs1, gs1.identifiers()
+
+    def piece(self, part):
+        chance, least = self.chance, part.least + (2 if part.check == "pair" else 0)
+        days = f"{chance.randint(1, 12):02}{chance.randint(1, 28):02}"
+        made = {
+            "date": f"{chance.randrange(100):02}{days}",
+            "month-day": f"{chance.randrange(100):02}{days[:2]}{chance.choice(['00', days[2:]])}",
+            "full-date": f"20{chance.randrange(100):02}{days}",
+            "time": chance.choice(["9999", "2359", "0800"]),
+            "hour": "23",
+            "minute": "59",
+            "second": "00",
+            "minus": "-",
+        }
+        text = made.get(part.check) or "".join(
+            chance.choice(CHARACTERS[part.charset]) for _ in range(chance.randint(least, part.most))
+        )
+        if part.check == "check":
+            return text[:-1] + self.gs1.check_digit(text[:-1])
+        return text[:-2] + self.gs1.check_pair(text[:-2]) if part.check == "pair" else text
+
+    def value(self, identifier):
+        pieces = []
+        for part in self.table[identifier].parts:
+            if part.optional and self.chance.random() < 0.4:
+                break
+            pieces.append(self.piece(part))
+        return "".join(pieces)
+
+    def right(self):
+        identifiers = self.chance.choices(list(self.table), k=self.chance.randint(1, 3))
+        return self.gs1.text(self.gs1.Element(identifier, self.value(identifier)) for identifier in identifiers)
+
+    def faulty(self):
+        text, chance = self.right(), self.chance
+        at = chance.randrange(1, len(text))
+        return chance.choice(
+            [
+                text[:at] + text[at + 1 :],
+                text[:at] + chance.choice("09A(") + text[at:],
+                text[:at] + chance.choice("059A") + text[at + 1 :],
+                text[:-1],
+                text + "0",
+                f"({chance.choice(['05', '18', '999', '7'])}){text[4:]}",
+            ]
+        )
+
+
+# No check pair, one of nothing, no such year, a leap day and none, no such hour, no time at all.
+EDGES = ["(8013)2", "(8013)22", "(7250)00000101", "(7250)20240229", "(7250)20230229"]
+EDGES += ["(7251)202401012400", "(4324)2401019999", "[01]09506000134352[10]A(B)", "[10]A[21", "[10]A[05]1"]
+
+TAKEN = """
+    const [texts, done] = arguments, area = document.getElementById("message"), out = [];
+    (async () => {
+        for (const text of texts) {
+            area.value = text;
+            area.dispatchEvent(new Event("input", { bubbles: true }));
+            await mitsubadoor.idle();
+            const isGreen = document.getElementById("verdict").className.includes("good");
+            const state = document.getElementById("state").textContent;
+            out.push([isGreen, state, isGreen ? mitsubadoor.gridText(mitsubadoor.mark.modules).trim() : null]);
+        }
+        done(out);
+    })();"""
+
+
+def as_the_library_says():
+    gs1 = rules()
+    maker = Strings(3, gs1)
+    texts = [*EDGES, *(maker.right() for _ in range(150)), *(maker.faulty() for _ in range(250))]
+    with unseen():
+        taken = on.page.execute_async_script(TAKEN, texts)
+    accepted = 0
+    for text, (is_green, state, symbol) in zip(texts, taken):
+        try:
+            line = "".join("\\F" if item == 256 else chr(item) for item in gs1.items(gs1.parse(text)))
+            accepted += 1
+            count.expect(f"{text} is right", (is_green, state, symbol), (True, "Read, as GS1 data", written(line)))
+        except gs1.Faulty as why:
+            count.expect(f"{text} is wrong ({why})", is_green, False)
+    count.expect("some are right and some wrong", 150 <= accepted < 350, True)
+    push("tab-write")
+    write("123456")
+
+
+PARTS = [misjoined, as_the_library_says]

@@ -1,0 +1,148 @@
+"""What the address keeps: Back from the other pane, the skip link, limits that a link asks for, long links."""
+import urllib.parse
+
+from tests.page.conduct import linked, started
+from tests.page.stage import (Keys, agree, click, count, find, grid, on, push, put, run, shown, text_of, write,
+                              written)
+
+
+def afresh():
+    """The page as it begins, from an address without a fragment."""
+    address = on.page.current_url.partition("#")[0]
+    on.page.get("about:blank")
+    on.page.get(address)
+    started()
+
+
+def fields():
+    return {
+        name: values[0]
+        for name, values in urllib.parse.parse_qs(on.page.current_url.partition("#")[2], keep_blank_values=True).items()
+    }
+
+
+def skipped():
+    """The link to the symbol leads there by the keyboard, and leaves damage, undo and address as they are."""
+    write("123456")
+    click(33)
+    linked()
+    damaged, address, entries = grid(), on.page.current_url, run("return history.length")
+    # (until it has the focus it stands beside the page, where a driver may refuse to send it keys)
+    run("document.querySelector('.skip').focus()")
+    on.page.switch_to.active_element.send_keys(Keys.ENTER)
+    linked()
+    count.expect("the symbol by the link", on.page.switch_to.active_element.get_attribute("id"), "symbol")
+    now = (grid(), on.page.current_url, run("return history.length"))
+    count.expect("damage and history stay", now, (damaged, address, entries))
+    run("location.hash = '#elsewhere'")
+    linked()
+    count.expect("a fragment that isn't the page's", (grid(), fields().get("message")), (damaged, "123456"))
+    push("undo")
+    count.expect("and can be undone", grid(), written("123456"))
+
+
+def back():
+    """Back leads from the Read tab to the message, also at the very beginning, and right after something was typed."""
+    afresh()
+    begun = find("message").get_attribute("value")
+    push("tab-read")
+    linked()
+    on.page.back()
+    count.expect_soon(
+        "Back at the beginning",
+        lambda: (find("pane-write").is_displayed(), find("message").get_attribute("value"), shown()["state"]),
+        (True, begun, "Read, as GS1 data"),
+    )
+    linked()
+    on.page.forward()
+    count.expect_soon("Forward", lambda: find("pane-read").is_displayed(), True)
+    on.page.back()
+    linked()
+    run(
+        """const area = document.getElementById('message');
+           area.value = 'typed';
+           area.dispatchEvent(new Event('input', { bubbles: true }));
+           document.getElementById('tab-read').click(); document.getElementById('example-c40').click()"""
+    )
+    linked()
+    count.expect("the grid", shown()["says"], "Every answer is proved.")
+    on.page.back()
+    count.expect_soon(
+        "Back after typing",
+        lambda: (find("pane-write").is_displayed(), find("message").get_attribute("value"), shown()["says"]),
+        (True, "typed", "typed"),
+    )
+    linked()
+    afresh()
+    run("location.hash = '#message=another'")
+    linked()
+    count.expect("another link", shown()["says"], "another")
+    on.page.back()
+    count.expect_soon("Back to an address without a fragment", lambda: find("message").get_attribute("value"), begun)
+    linked()
+    write("123456")
+
+
+def limits():
+    """A limit that isn't one is said, whether it is linked or entered; the limit that is taken is said too."""
+    linked()
+    for asked in ("99999", "-1", "1.5", "x"):
+        run("location.hash = `#message=123456&border=${arguments[0]}`", asked)
+        linked()
+        count.expect(
+            f"a link's limit of {asked}",
+            (text_of("border-hint"), find("border-limit").get_attribute("value"), shown()["meters"][-1]),
+            (f"{asked} isn’t a whole number from 0 to 65535: the usual limit is taken.", "2", "0 wrong, 2"),
+        )
+    put("border-limit", "3")
+    count.expect("a right one takes that away", (text_of("border-hint"), shown()["meters"][-1]), ("", "0 wrong, 3"))
+    put("border-limit", "99999")
+    count.expect(
+        "an entered limit of 99999",
+        (text_of("border-hint"), find("border-limit").get_attribute("aria-invalid"), shown()["meters"][-1]),
+        ("99999 isn’t a whole number from 0 to 65535: 3 is taken.", "true", "0 wrong, 3"),
+    )
+    push("usual")
+    agree("the usual limit")
+    count.expect("the usual limit, said", (text_of("border-hint"), shown()["meters"][-1]), ("", "0 wrong, 2"))
+
+
+def long_links():
+    """What is entered is in the link, however long it is; a link that some programs cut says so; what is too much for
+    the page is said not to be kept."""
+    copying = "globalThis.copied = null; navigator.clipboard.writeText = async (text) => { globalThis.copied = text; }"
+    message = "\u00e9\u20ac" * 3500  # 7,000 characters, of 52,500 in the address
+    put("message", message)
+    linked()
+    count.expect("7,000 characters in the address", fields()["message"], message)
+    on.page.refresh()
+    started()
+    count.expect(
+        "and read from there", (find("message").get_attribute("value"), shown()["state"]), (message, "Nothing is read")
+    )
+    run(copying)
+    push("tab-read", "example-c40", "copy-link")
+    count.expect_soon(
+        "a long link says so",
+        lambda: text_of("toast"),
+        "Copied: a link that holds what is entered. "
+        f"It has {len(run('return copied')):,} characters, which not every program takes.",
+    )
+    write("short")
+    push("copy-link")
+    count.expect_soon("a short link", lambda: text_of("toast"), "Copied: a link that holds what is entered")
+    put("message", "~" * 20001)
+    count.expect(
+        "what isn't kept",
+        text_of("message-hint").startswith(
+            "20,001 characters, and no more than 20,000 are taken. The link doesn’t keep them."
+        ),
+        True,
+    )
+    linked()
+    count.expect("the address has no message then", "message" in fields(), False)
+    run("delete navigator.clipboard.writeText")
+    write("123456")
+
+
+PARTS = [skipped, back, limits, long_links]

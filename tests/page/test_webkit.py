@@ -1,0 +1,78 @@
+"""The page in WebKit, the engine of Safari, against the program: it opens, writes, reads, corrects and refuses. What is on
+the screen isn't compared, since the driver's pictures of a part of it are black in places."""
+import pathlib
+import random
+import subprocess
+
+from tests.page import browser, conduct, damage, everyone
+from tests.page.parts import load
+from tests.page.pictures import opened, png
+from tests.page.stage import agree, count, grid, on, push, put, write, written
+from tests.support import commands, needs, places
+from tests.support.case import Case
+
+PAGE = places.path("web", "out", "mitsubadoor.html")
+MESSAGES = ["123456", "\\F010123456789012810AB-42", "Grease what the drawing names, and keep it dry. " * 5]
+DAMAGE = {"corrected": (12, 57), "refused": range(11, 19)}  # modules of the symbol of 123456 that are turned over
+
+
+@needs.program
+@needs.module("selenium")
+@needs.programs("WebKitWebDriver", "Xvfb", "wasm-opt")
+class WebKit(Case):
+    @classmethod
+    def setUpClass(cls):
+        if problem := needs.made("page"):
+            raise AssertionError(problem)
+        on.program, on.folder = places.PROGRAM, pathlib.Path(cls.folder_of_class())
+        cls.addClassCleanup(browser.end)
+        screen = cls.enterClassContext(commands.started(
+            ["Xvfb", "-displayfd", "1", "-screen", "0", "1240x1500x24", "-nolisten", "tcp"],
+            stdout=subprocess.PIPE, stderr=subprocess.DEVNULL))
+        browser.start_webkit(f":{screen.stdout.readline().decode().strip()}")
+
+    def setUp(self):
+        count.rows = []
+        load(PAGE)
+
+    def told(self):
+        """Fails for each row that was compared and differs."""
+        self.rows(count.rows)
+
+    def test_messages_are_written(self):
+        for message in MESSAGES:
+            write(message)
+            count.expect(message, grid(), written(message))
+            agree(f"{message}, as it is read")
+        self.told()
+
+    def test_grids_are_read_corrected_and_refused(self):
+        push("tab-read")
+        sound = written(MESSAGES[0]).replace("\n", "")
+        for name, modules in DAMAGE.items():
+            turned = "".join(str(int(module) ^ (k in modules)) for k, module in enumerate(sound))
+            text = "\n".join(turned[k:k + 10] for k in range(0, 100, 10))
+            put("grid", text)
+            count.expect(name, grid(), text)
+            agree(f"{name}, as it is read")
+        self.told()
+
+    def test_a_picture_is_read(self):
+        push("tab-read")
+        text = written(MESSAGES[1])
+        opened("label.png", png(text.split("\n"), 5, 2))
+        count.expect("a picture", grid(), text)
+        agree("a picture, as it is read")
+        self.told()
+
+    def test_parts_that_need_nothing_of_chromium(self):
+        for part in (damage.by_keys, damage.fixed_square, conduct.a_picture_does_not_win):
+            random.seed(1)
+            load(PAGE)
+            part()
+        self.told()
+
+    def test_a_script_that_is_not_read(self):
+        everyone.open_unreadable()
+        everyone.says_so("with a script that it can't read")
+        self.told()

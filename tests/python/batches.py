@@ -1,0 +1,277 @@
+"""The command ecc200 over many messages and files, in any locale and at the ends of its input and output."""
+import json
+import os
+import signal
+import subprocess
+
+from tests.python.common import PACKAGE, PYTHON, SAMPLER, has, holds, run, same, wanted_module
+from tests.python.surface import WORDS, ecc, environment, hurt, says, text
+
+import ecc200
+
+FACE = os.path.join(PACKAGE, "bin", "ecc200")
+
+
+def symbols(*messages):
+    return "".join(text(ecc200.write(message)) for message in messages)
+
+
+def shell(line, folder=None, **more):
+    """Status, output and errors of a shell's line in which $E is the command."""
+    return run(["/bin/bash", "-c", line], env={**environment(), "E": f"{PYTHON} {FACE}", **more}, cwd=folder)
+
+
+def made(folder, name):
+    path = os.path.join(folder, name)
+    os.mkdir(path)
+    return path
+
+
+def saved(folder, name, data):
+    path = os.path.join(folder, name)
+    with open(path, "wb") as file:
+        file.write(data if isinstance(data, bytes) else data.encode())
+    return path
+
+
+# ---- Messages
+
+
+def numbered(folder):
+    """Files are numbered by message, whatever is refused."""
+    here = made(folder, "numbered")
+    lines = "(01)09521234543213(10)A\n(01)09521234543214(10)B\n(01)09521234543213(10)C\n"
+    yield says("a line is refused", ecc("write", "--gs1", "-o", "lot.svg", given=lines, folder=here), 1, "",
+               ["line 2: (01) GTIN: its check digit"])
+    yield same("files by line", sorted(os.listdir(here)), ["lot-1.svg", "lot-3.svg"])
+    yield says("a message is refused", ecc("write", "--hex", "x", "41", "-o", "one.txt", folder=here), 1, "",
+               ["message 1: "])
+    yield same("one grid", open(os.path.join(here, "one.txt")).read(), symbols(b"A"))
+    yield says("many lines", ecc("write", "-o", "many.svg", given="\n".join(map(str, range(10))), folder=here),
+               output="")
+    yield same("numbers of one length",
+               sorted(name for name in os.listdir(here) if name.startswith("many"))[::9],
+               ["many-01.svg", "many-10.svg"])
+    two = symbols(b"A") + text([bytes(10)] * 10) + symbols(b"C")
+    yield says("normal, a symbol is refused", ecc("normal", "-o", "again.svg", given=two, folder=here), 1, "",
+               ["symbol 2"])
+    yield same("files by symbol", sorted(name for name in os.listdir(here) if name.startswith("again")),
+               ["again-1.svg", "again-3.svg"])
+
+
+def bad_lines():
+    """A bad line is named, and the others are written."""
+    given = b"\xef\xbb\xbfA\r\nB\rC\r\n\xff\xe9\nD\r\n" + b"7" * 4000 + b"\nE"
+    got = ecc("write", given=given)
+    yield says("lines as Excel writes them", got, 1, symbols(b"A", b"D", b"E"),
+               ["line 2: it has a CR inside", "line 3: it isn't UTF-8", "byte FF", "line 5: the message is longer"])
+    yield same("each is named once", got[2].count("\n"), 3)
+    yield says("a charset that lacks a letter", ecc("write", "--charset", "iso-8859-1", given="\u00e9\n\u20ac\nA\n"), 1,
+               symbols(b"\xe9", b"A"), ["line 2: the charset iso-8859-1 has no '\u20ac'"])
+    yield says("UTF-16", ecc("write", given="A\n".encode("utf-16")), 2, "", ["UTF-16", "iconv"])
+    yield says("--gs1, CR LF", ecc("write", "--gs1", given="\ufeff(10)A\r\n"),
+               output=text(ecc200.write(b"10A", gs1=True)))
+    for end in ("\n", "\r\n", "\r"):
+        yield says(f"a pasted line end, {end!r}", ecc("write", "A" + end, "B\nC"), output=symbols(b"A", b"B\nC"))
+    yield says("a mark in an argument", ecc("write", "\ufeffA"), output=symbols(b"A"))
+    yield says("an argument that isn't UTF-8", ecc("write", b"A\xff", "B"), 1, symbols(b"B"),
+               ["message 1: it isn't UTF-8: its character 2", "--bytes"])
+
+
+# ---- Files
+
+
+def several(folder):
+    """Files are told apart by name, and one that can't be read keeps none from being read."""
+    here = made(folder, "several")
+    made(here, "folder")
+    saved(here, "label.txt", symbols(b"123456", b"A"))
+    saved(here, "other.txt", symbols(b"B"))
+    saved(here, "broken.png", b"\x89PNG\r\n\x1a\nrubbish")
+    saved(here, "empty.png", b"")
+    saved(here, "lines.txt", b"\n\r\n")
+    yield says("lines that are empty", ecc("read", "lines.txt", folder=here), 2, "",
+               ["ecc200: lines.txt: its lines are empty"])
+    names = ["nope.png", "folder", "broken.png", "empty.png", "label.txt", "other.txt"]
+    got = ecc("read", *names, folder=here)
+    yield says("read", got, 2, "label.txt:123456\nlabel.txt:A\nother.txt:B\n", [
+        "ecc200: nope.png: No such file", "ecc200: folder: it is a folder; -r", "ecc200: broken.png: ",
+        "ecc200: empty.png: it is empty"
+    ])
+    yield holds("no object of Python is named", "BytesIO" not in got[2] and got[2].count("\n") == 4, got[2])
+    yield same("check", [line[:17] for line in ecc("check", *names, folder=here)[1].splitlines()],
+               ["label.txt:side 10"] * 2 + ["other.txt:side 10"])
+    yield says("one file", ecc("read", "other.txt", folder=here), output="B\n")
+    yield says("one file, -H", ecc("read", "-H", "other.txt", folder=here), output="other.txt:B\n")
+    yield says("two files, --no-filename", ecc("read", "--no-filename", "other.txt", "other.txt", folder=here),
+               output="B\nB\n")
+    status, output, _ = ecc("read", "--json", *names, folder=here)
+    told = [json.loads(line) for line in output.splitlines()]
+    yield same("--json", (status, [line["file"] for line in told], ["error" in line for line in told]),
+               (2, names[:5] + names[4:], [True] * 4 + [False] * 3))
+    lost = saved(here, "lost.txt", text([bytes(10)] * 10))
+    yield says("refused", ecc("check", lost, "other.txt", folder=here), 1, None, ["lost.txt, symbol 1: 27 of the 36"])
+    yield same("normal", ecc("normal", *names, folder=here)[:2], (2, symbols(b"123456", b"A", b"B")))
+    yield holds("explain", "other.txt, symbol 1:\nplace" in ecc("explain", *names, folder=here)[1].replace("  ", ""))
+    strange = os.path.join(os.fsencode(here), b"\xe9.txt")
+    os.link(os.path.join(here, "other.txt"), strange)
+    raw = subprocess.run([*WORDS, "read", "-H", strange], env=environment(), stdout=subprocess.PIPE, timeout=60).stdout
+    yield same("a name that isn't UTF-8", raw, strange + b":B\n")
+    lost = subprocess.run([*WORDS, "read", strange + b"x"], env=environment(), stderr=subprocess.PIPE, timeout=60)
+    yield same("one that isn't there", (lost.returncode, lost.stderr),
+               (2, b"ecc200: " + strange + b"x: No such file or directory\n"))
+
+
+def walked(folder):
+    """Folders, with -r."""
+    here = made(folder, "walked")
+    os.makedirs(os.path.join(here, "a", "b"))
+    saved(here, "a/b/two.txt", symbols(b"2"))
+    saved(here, "a/one.txt", symbols(b"1"))
+    saved(here, "a/read me.txt", "10 of these\n")
+    saved(here, "a/label.pdf", b"%PDF-1.4\n")
+    for name, start in (("sound.wav", b"RIFF\x24\0\0\0WAVEfmt "), ("cars.txt", b"BMW and others of that kind\n"),
+                        ("first.txt", b"P1 is urgent\n")):
+        saved(here, f"a/{name}", start)
+    saved(here, "three.txt", symbols(b"3"))
+    os.symlink(os.path.join(here, "three.txt"), os.path.join(here, "a", "link.txt"))
+    yield says("-r", ecc("read", "-r", "a", "three.txt", folder=here),
+               output="a/one.txt:1\na/b/two.txt:2\nthree.txt:3\n")
+    yield says("-r without a file", ecc("read", "-r", folder=here), output="three.txt:3\na/one.txt:1\na/b/two.txt:2\n")
+    saved(here, "a/b/broken.png", b"\x89PNG\r\n\x1a\nrubbish")
+    yield says("-r, a broken picture", ecc("check", "-r", "--no-filename", "a", folder=here), 2, None,
+               ["ecc200: a/b/broken.png: "])
+    yield same("it keeps none from being read", ecc("read", "-r", "a", folder=here)[1], "a/one.txt:1\na/b/two.txt:2\n")
+
+
+def no_picture(folder):
+    """What is given in place of a picture is named as what it is."""
+    here = made(folder, "no_picture")
+    for kind in ("svg", "pdf"):
+        ecc("write", "A", "-o", f"label.{kind}", folder=here)
+        yield says(f"an own {kind}", ecc("read", f"label.{kind}", folder=here), 2, "",
+                   [f"label.{kind}: it is a", kind.upper(), "pixels"])
+    saved(here, "declared.svg", '<?xml version="1.0"?>\n<!-- a label -->\n<svg xmlns="http://www.w3.org/2000/svg"/>')
+    yield says("an svg with a declaration", ecc("read", "declared.svg", folder=here), 2, "", ["it is an SVG"])
+    saved(here, "archive.zip", b"PK\3\4" + bytes(40))
+    yield says("something else", ecc("read", "archive.zip", folder=here), 2, "", ["neither a picture"])
+    pillow = wanted_module("PIL.Image", "Pillow", "pictures of other codes")
+    if not pillow or not os.path.isfile(SAMPLER) or not has("zint", "pictures of other codes"):
+        return
+    for name, words in (("qr", ["-b", "58", "-d",
+                                "A QR code"]), ("rectangle", ["-b", "71", "--vers=26", "-d", "123456"])):
+        run(["zint", "-o", f"{name}.png", "--scale", "3", "--quietzones", *words], cwd=here)
+        got = ecc("read", f"{name}.png", folder=here)
+        yield says(f"another code, {name}", got, 1, "", ["ectangles", "other codes, as QR codes, aren't read"])
+        yield holds(f"no advice that doesn't help, {name}", "--border" not in got[2], got[2])
+    white = pillow.Image.new("L", (90, 90), 255)
+    white.save(os.path.join(here, "pages.tif"), save_all=True, append_images=[white])
+    with open(os.path.join(here, "pages.tif"), "r+b") as file:
+        file.truncate(os.path.getsize(file.name) - 50)
+    yield says("a page that is cut off", ecc("read", "pages.tif", folder=here), 2, "", ["ecc200: pages.tif: page 2"])
+    pillow.Image.new("1", (9600, 9500), 1).save(os.path.join(here, "large.png"))
+    got = ecc("read", "--time", "1", "large.png", folder=here)
+    yield holds("no warnings of Pillow", got[0] == 1 and "Warning" not in got[2] and got[2].count("\n") == 1, str(got))
+
+
+# ---- Text and locales
+
+
+def locales():
+    """JSON is the same in every locale."""
+    given = symbols(b"caf\xe9", "\u20ac\U0001f600".encode(), b"a\\b\n\x1d")
+    answers = [
+        run([*WORDS, "read", "--json"], given.encode(), env={
+            **environment(),
+            **more
+        }) for more in ({}, {
+            "PYTHONIOENCODING": "latin-1"
+        }, {
+            "PYTHONIOENCODING": "ascii"
+        }, {
+            "LC_ALL": "C",
+            "PYTHONUTF8": "0"
+        })
+    ]
+    yield same("the same in each", [answer == answers[0] for answer in answers], [True] * 4)
+    yield holds("ASCII", answers[0][1].isascii() and answers[0][0] == 0, answers[0][1])
+    yield same("its text", [json.loads(line)["text"] for line in answers[0][1].splitlines()],
+               ["caf\u00e9", "\u20ac\U0001f600", "a\\b\n\x1d"])
+    bare = {**environment(), "LC_ALL": "C", "PYTHONUTF8": "0"}
+    yield says("a word in a locale without its letters", run([*WORDS, "write", b"caf\xc3\xa9"], env=bare),
+               output=symbols("caf\u00e9".encode()))
+    yield says("one that isn't UTF-8", run([*WORDS, "write", b"A\xff"], env=bare), 1, "",
+               ["character 2 is the byte FF"])
+    said = run([*WORDS, "read"], symbols("\u00e9\u20ac\U0001f600".encode(), b"\x80").encode(), env=bare)
+    yield says("letters that the locale hasn't", said, output="\\u00e9\\u20ac\\U0001f600\n\\x80\n")
+    told = json.loads(ecc("read", "--json", "--charset", "ascii", given=symbols(b"\xe9"))[1])
+    yield same("no text in that charset", (told["text"], told["hex"]), (None, "e9"))
+
+
+def round_trips():
+    """Text is read as it was written."""
+    for message in ("\u00e9", "\u20ac", "\u00c3\u00a9", "na\u00efve \u65e5\u672c\u8a9e \U0001f600", "\u00ff\u00fe",
+                    "7\u00bd"):
+        grid = ecc("write", message)[1]
+        yield says(f"written and read, {message}", ecc("read", given=grid), output=message + "\n")
+        yield same(f"as JSON, {message}", json.loads(ecc("read", "--json", given=grid)[1])["text"], message)
+        yield same(f"by lines, {message}", ecc("write", given=message + "\n")[1], grid)
+    help_of_read = " ".join(ecc("read", "--help")[1].split())
+    yield holds("help says how a backslash is shown", "A backslash is printed as \\\\" in help_of_read, help_of_read)
+    for name in ("hex", "undefined"):
+        yield says(f"no charset of text, {name}", ecc("write", "--charset", name, "A"), 2, "", [f"no charset '{name}'"])
+    got = ecc("write", "--charset", "idna", "a..b")
+    yield holds("a charset of names", got[0] == 1 and "label empty" in got[2] and "hexadecimal" not in got[2], str(got))
+
+
+def blocks_of_json():
+    told = json.loads(ecc("read", "--json", given=text(hurt(5)))[1])
+    yield same("a block counts from 1 in JSON too", (told["code"], told["block"], "place" in told, told["refused"][:7]),
+               ("BLOCK", 1, False, "block 1"))
+
+
+# ---- Ends of input and output
+
+
+def streams(folder):
+    """Standard streams that are closed or full are said, without a traceback."""
+    here = made(folder, "streams")
+    saved(here, "label.txt", symbols(b"A"))
+    for name, line, status, part in [
+        ("no input", "$E read <&-", 2, "standard input is closed"),
+        ("no input to write", "$E write <&-", 2, "standard input is closed"),
+        ("no output", "$E read label.txt >&-", 2, "standard output is closed"),
+        ("a full device", "$E read label.txt >/dev/full", 2, "No space left"),
+        ("help, a full device", "$E --help >/dev/full", 2, "No space left"),
+        ("help, no output", "$E --help >&-", 2, "standard output is closed"),
+    ]:
+        got = shell(line, here)
+        yield holds(name, got[0] == status and part in got[2] and got[2].count("\n") == 1, str(got))
+    for words, status in (("read nope", 2), ("write --format none A", 2), ("read <&-", 2)):
+        yield says(f"full errors, {words}", shell(f"$E {words} 2>/dev/full", here), status, "")
+    yield says("no input, but a file", shell("$E read label.txt <&-", here), output="A\n")
+    yield says("no errors", shell("$E read nope label.txt 2>&-", here), 2, "label.txt:A\n")
+    saved(here, "many.txt", symbols(*([b"A"] * 20_000)))
+    got = shell("$E read many.txt | head -1; exit ${PIPESTATUS[0]}", here)
+    yield says("a closed pipe", got, 128 + signal.SIGPIPE, "A\n")
+    as_module = shell(f"{PYTHON} -m ecc200 read many.txt | head -1; exit ${{PIPESTATUS[0]}}", here)
+    yield says("a closed pipe, as a module", as_module, 128 + signal.SIGPIPE, "A\n")
+
+
+def interrupted(folder):
+    """Ctrl-C ends it as it ends other programs, also while modules are imported."""
+    here = made(folder, "interrupted")
+    saved(made(here, "ecc200"), "__init__.py", "import os, signal\nos.kill(os.getpid(), signal.SIGINT)\n")
+    copied = saved(here, "start", open(FACE).read())
+    started = subprocess.run([PYTHON, copied], env={
+        **environment(), "PYTHONPATH": ""
+    }, stdout=subprocess.PIPE, stderr=subprocess.PIPE, timeout=60)
+    yield same("in the start", (started.returncode, started.stderr), (-signal.SIGINT, b""))
+    waiting = subprocess.Popen([PYTHON, FACE, "read"], stdin=subprocess.PIPE, stdout=subprocess.PIPE,
+                               stderr=subprocess.PIPE, env=environment())
+    waiting.stdin.write(symbols(b"A").encode())
+    waiting.stdin.flush()
+    waiting.stdout.readline()
+    waiting.send_signal(signal.SIGINT)
+    waiting.stdin.close()
+    yield same("while it reads", (waiting.wait(timeout=60), waiting.stderr.read()), (-signal.SIGINT, b""))

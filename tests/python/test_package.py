@@ -1,0 +1,62 @@
+"""The Python package ecc200: the module, GS1 element strings, pictures, the command, the wheel. A class for each module
+beside this one, and a case for each of its functions named here, which tells rows: a name, and what is wrong or
+None."""
+import importlib
+import inspect
+import os
+
+from tests.support import needs, package
+from tests.support.case import Case
+
+PARTS = {
+    "module": "forms strange_grids readings messages refusals many shown by_threads loading",
+    "elements": "worked square faults table beside_zint beside_stdnum",
+    "drawings": "png rendered unloadable taken saved in_files paged sheets symbols oriented sampled",
+    "surface": "usage reading in_words otherwise writing files named_alike pages comparing explained spellings "
+               "at_a_terminal completion",
+    "batches": "numbered several walked no_picture streams interrupted bad_lines locales round_trips blocks_of_json",
+    "labels": "captions captions_on_sheets names output sizes first_symbols letters_of_dots terminal "
+              "no_picture_on_a_terminal",
+    "pages": "unlike margins",
+    "packaged": "typed from_system wheel",
+}
+
+
+class Package:
+    """What the cases of a module share."""
+
+    @classmethod
+    def setUpClass(cls):
+        package.imported()
+        cls.common = importlib.import_module("tests.python.common")
+        cls.module = importlib.import_module(f"tests.python.{cls.source}")
+        cls.room = cls.folder_of_class()
+        os.chmod(cls.room, 0o755)
+
+    def told(self, name):
+        """Fails for each row of a function with what is wrong, and skips what the function says is left out."""
+        part, left_out = getattr(self.module, name), self.common.left_out
+        left_out.clear()
+        rows = list(part(self.room) if inspect.signature(part).parameters else part())
+        for row in rows:
+            self.sound(*row)
+        for what in left_out:
+            with self.subTest(what):
+                self.skipTest(what)
+        self.assertTrue(rows or left_out, "there is no row")
+
+
+def case_of(name):
+    """Gives the case of a function."""
+    def test(self):
+        self.told(name)
+    return test
+
+
+def class_of(source, names):
+    """Gives the class of a module."""
+    cases = {f"test_{name}": case_of(name) for name in names.split()}
+    return needs.library(type(source.title(), (Package, Case), {"__module__": __name__, "source": source, **cases}))
+
+
+globals().update({source.title(): class_of(source, names) for source, names in PARTS.items()})

@@ -1,0 +1,107 @@
+"""Truncated and hostile files, large pictures and small ones, and the shared library from C and C++."""
+import os
+import random
+import shutil
+import time
+
+from tests.sampler.pictures import check, grid_of, left_out, pgm, pixels_of, record, run
+from tests.support import places
+
+EXPORTS = ["ecc200_sample_abi", "ecc200_sample_picture", "ecc200_sample_usual"]
+
+
+def hostile(folder, careful):
+    """Files cut short and with random bytes changed, and small pictures of noise: a status, and nothing from the
+    sanitisers."""
+    chance = random.Random(5)
+    seeds = sorted(name for name in os.listdir(folder) if name.endswith((".png", ".jpg", ".pgm")))
+    for round_of in range(2 * len(seeds)):
+        with open(os.path.join(folder, seeds[round_of % len(seeds)]), "rb") as file:
+            text = bytearray(file.read())
+        if round_of % 3 == 0:
+            del text[chance.randrange(len(text)):]
+        for _ in range(chance.randint(1, 6)):
+            if text:
+                text[chance.randrange(min(len(text),
+                                          400 if chance.random() < 0.5 else len(text)))] = chance.randrange(256)
+        tame(f"a spoilt {seeds[round_of % len(seeds)]}, round {round_of}",
+             run([careful, "--time=300", "--all"], bytes(text)))
+    for wide, high in ((1, 1), (1, 300), (300, 1), (2, 2), (7, 9), (23, 24), (48, 49), (90, 70)):
+        noise = [[chance.choice((0, 255)) for _ in range(wide)] for _ in range(high)]
+        tame(f"noise of {wide} by {high}", run([careful, "--time=300", "--all", "--unread"], pgm(noise)))
+
+
+def tame(name, done):
+    said = done.stderr.decode(errors="replace")
+    quiet = "Sanitizer" not in said and "runtime error" not in said
+    check(name, (done.returncode in (0, 1, 3), quiet or said[:1500]), (True, True))
+
+
+def large(sampler):
+    """Fifty megapixels with a symbol in them, and light or noisy all over."""
+    wide, high = 8192, 6200
+    grid = grid_of("FIFTY MEGAPIXELS")
+    light = bytearray(b"\xe6" * (wide * high))
+    header = f"P5 {wide} {high} 255\n".encode()
+    check("50 megapixels of nothing", run([sampler, "--time=3000"], header + light).returncode, 1)
+    for y, row in enumerate(pixels_of(grid, 12)):
+        light[(3000 + y) * wide + 4000:(3000 + y) * wide + 4000 + len(row)] = bytes(row)
+    done = run([sampler, "--time=20000"], header + light)
+    check("a symbol in 50 megapixels", (done.returncode, done.stdout.decode()), (0, record(grid)))
+    for most in (60000, 150000):  # kilobytes: too few to read the picture, and to search it
+        done = run(["sh", "-c", f'ulimit -v {most} && exec "$@"', "sh", sampler, "--time=20000"], header + light)
+        check(f"50 megapixels in {most} KB", (done.returncode, done.stderr), (3, b"dm_sample: -: no memory\n"))
+    noise = random.Random(1).randbytes(wide * high)
+    begun = time.time()
+    check("50 megapixels of noise", run([sampler, "--time=2000"], header + noise).returncode, 1)
+    check("the time for 50 megapixels of noise", time.time() - begun < 60, True)
+    begun = time.time()
+    check("a comb of many teeth", run([sampler, "--time=300"], comb(32767, 20)).returncode, 1)
+    check("the time for a comb", time.time() - begun < 8, True)
+
+
+def comb(wide, high):
+    """One outline that bends thousands of times."""
+    row, light = b"\xe6" * wide, b"\xe6" * wide * 8
+    teeth, back = (row[:8] + middle + row[-8:]
+                   for middle in (b"\x14\x14\xe6\xe6" * (wide // 4 - 4) + row[:wide % 4], b"\x14" * (wide - 16)))
+    return f"P5 {wide} {high + 19} 255\n".encode() + light + teeth * high + back * 3 + light
+
+
+def library(folder, built, base):
+    """From C and C++, and what the library exports."""
+    picture = pgm(pixels_of(grid_of("FROM C")))
+    for name, words in (("calls.c", ["cc", "-std=c11"]), ("calls.cpp", ["c++", "-std=c++17"])):
+        if not shutil.which(words[0]):
+            left_out.append(f"{name} ({words[0]} isn't installed)")
+            continue
+        shutil.copy(places.path("tests", "sampler", "calls.c"), os.path.join(folder, name))
+        made = os.path.join(folder, name + ".out")
+        paths = [f"-I{places.path('sampler')}", f"-I{places.path('library')}", "-Wall", "-Wextra", "-Werror"]
+        with_these = [os.path.join(built, "libecc200_sample.so"), os.path.join(base, "libecc200.so")]
+        done = run([*words, *paths, os.path.join(folder, name), "-o", made, *with_these])
+        check(f"{name} compiles", done.stderr.decode(), "")
+        done = run([made, "x"], picture, env=paths_for(folder, built, base))
+        check(name, (done.returncode, done.stdout), (0, b"14 FROM C 12.0"))
+    names = run(["nm", "-D", "--defined-only",
+                 os.path.join(built, "libecc200_sample.so")]).stdout.decode().split()[2::3]
+    check("what the library exports", sorted(names), EXPORTS)
+
+
+def paths_for(folder, built, base):
+    """The libraries under the names by which they are loaded."""
+    for name, where in (("libecc200_sample.so", built), ("libecc200.so", base)):
+        told = run(["readelf", "-d", os.path.join(where, name)]).stdout.decode()
+        link = os.path.join(folder, told.split("soname: [")[1].split("]")[0])
+        if not os.path.exists(link):
+            os.symlink(os.path.join(where, name), link)
+    return {**os.environ, "LD_LIBRARY_PATH": folder}
+
+
+def missing():
+    """What isn't installed without which nothing can be built."""
+    for header, package in (("dmtx.h", "libdmtx-dev"), ("png.h", "libpng-dev"), ("jpeglib.h", "libjpeg-dev")):
+        test = ["cc", "-fsyntax-only", "-include", "stdio.h", "-include", header, "-x", "c", os.devnull]
+        if not shutil.which("cc") or run(test).returncode:
+            return package if shutil.which("cc") else "cc"
+    return None

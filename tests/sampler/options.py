@@ -1,0 +1,172 @@
+"""The sampler's options, errors and statuses."""
+import json
+import os
+import random
+import re
+import shutil
+import subprocess
+
+from tests.sampler.pictures import CAREFUL, check, grid_of, left_out, pgm, pixels_of, record, run
+from tests.support import places
+
+
+def options(folder, sampler):
+    grid = grid_of("123456")
+    path = os.path.join(folder, "one.pgm")
+    two = os.path.join(folder, "two.pgm")
+    other = grid_of("SECOND")
+    pair = [a + b for a, b in zip(pixels_of(grid) + [[230] * 64] * 8, pixels_of(other))]
+    for name, rows in ((path, pixels_of(grid)), (two, pair)):
+        with open(name, "wb") as file:
+            file.write(pgm(rows))
+    check("--all", sorted(run([sampler, "--all", two]).stdout.decode().split("\n\n")[:-1]),
+          sorted([record(grid)[:-2], record(other)[:-2]]))
+    check("without --all", run([sampler, two]).stdout.decode() in (record(grid), record(other)), True)
+    said = run([sampler, "--corners", path])
+    check("--corners", (said.stdout.decode(), said.stderr.decode()),
+          (record(grid), f"{path}: 12.0,12.0 52.0,12.0 52.0,52.0 12.0,52.0\n"))
+    told = json.loads(run([sampler, "--json", path]).stdout)
+    check("--json", {name: told[name] for name in told if name != "corners"}, {
+        "file": path, "side": 10, "inverted": False, "mirrored": False, "message": "123456", "corrected": [0],
+        "border": 0,
+        "grid": ["".join(map(str, row)) for row in grid]})
+    check("corners in --json", [[round(c) for c in corner] for corner in told["corners"]],
+          [[12, 12], [52, 12], [52, 52], [12, 52]])
+    text = "\\F01\\x80\"\\\\"
+    check("--json spells messages as dm_tool does",
+          json.loads(run([sampler, "--json"], pgm(pixels_of(grid_of(text)))).stdout)["message"], text)
+    check("--min-modules", [run([sampler, f"--min-modules={least}", path]).returncode for least in (10, 11)], [0, 1])
+    spoilt = [row[:] for row in grid]
+    spoilt[4][4] ^= 1
+    damaged = pgm(pixels_of(spoilt))
+    check("--margin", [run([sampler, f"--margin={margin}"], damaged).returncode for margin in (0, 1, 2, 3)],
+          [0, 0, 1, 1])
+    for y, x in ((2, 2), (4, 6), (6, 3), (7, 7), (3, 5), (5, 1)):
+        spoilt[y][x] ^= 1
+    lost = pgm(pixels_of(spoilt))
+    check("a symbol beyond the limit", (run([sampler], lost).returncode, run([sampler], lost).stdout), (1, b""))
+    check("--unread", run([sampler, "--unread"], lost).stdout.decode(), record(spoilt))
+    check("--unread --json", "block" in json.loads(run([sampler, "--unread", "--json"], lost).stdout)["refused"], True)
+
+
+def unread_without_a_symbol(sampler):
+    """Where nothing has a symbol's border, nothing is found, --unread or not."""
+    chance = random.Random(3)
+    pictures = {"a dark square": [[1] * 14] * 14, "an elbow": [[1] + [0] * 13] * 13 + [[1] * 14],
+                "a frame": [[1] * 20] + [[1] + [0] * 18 + [1]] * 18 + [[1] * 20]}
+    pictures = {name: pixels_of(modules, 6, 4) for name, modules in pictures.items()}
+    pictures["noise"] = [[chance.randrange(256) for _ in range(200)] for _ in range(200)]
+    for name, rows in pictures.items():
+        for words in ([], ["--unread"]):
+            done = run([sampler, *words, "--time=30000"], pgm(rows))
+            check(f"{name} {words}", (done.returncode, done.stdout), (1, b""))
+
+
+def wide(folder, sampler):
+    """What is in EDIFACT is read too."""
+    path = os.path.join(folder, "edifact.png")
+    if not shutil.which("dmtxwrite"):
+        left_out.append("a symbol in EDIFACT (dmtxwrite isn't installed)")
+        return
+    run(["dmtxwrite", "-e", "e", "-o", path], b"AB.CD/12 34")
+    check("a symbol in EDIFACT", json.loads(run([sampler, "--json", path]).stdout or b"{}").get("message"),
+          "AB.CD/12 34")
+
+
+def usage(sampler):
+    for words in (["--what"], ["--time"], ["--time=x"], ["--time=-1"], ["--time="], ["--margin=1x"],
+                  ["--min-modules", "9" * 20], ["-q"]):
+        done = run([sampler, *words])
+        check(" ".join(words), (done.returncode, done.stdout, done.stderr.startswith(b"dm_sample: usage: dm_sample ")),
+              (2, b"", True))
+    done = run([sampler, "--help"])
+    check("--help", (done.returncode, done.stdout.startswith(b"usage: dm_sample "), done.stderr), (0, True, b""))
+    done = run([sampler, "--version"])
+    check("--version", (done.returncode, done.stdout.split()[0], done.stdout.count(b"\n")), (0, b"dm_sample", 1))
+
+
+def errors(folder, sampler):
+    """Each bad file is named with what is wrong, and the next goes on."""
+    good = os.path.join(folder, "good.pgm")
+    grid = grid_of("GOOD")
+    with open(good, "wb") as file:
+        file.write(pgm(pixels_of(grid)))
+    cases = {b"": "an empty file", b"hello": "neither PNG, JPEG nor PNM", b"P7\n": "neither", b"P5": "neither",
+             b"P5 ": "a faulty header",
+             b"P5 x 2 255\n": "a faulty header", b"P5 2 2 0\n....": "a faulty header",
+             b"P5 2 2 70000\n....": "a faulty header",
+             b"P5 2 2 255\n...": "cut short", b"P2 2 2 255\n1 2 3": "cut short",
+             b"P2 2 2 255\n1 2 3 x": "a faulty sample",
+             b"P2 2 2 9\n1 2 3 10": "a faulty sample",
+             b"P1 2 2\n012 1": "a faulty sample", b"P1 2 2\n0112": "a faulty sample", b"P1 2 2\n011 ": "cut short",
+             b"P5 0 5 255\n": "without pixels", b"P4 40000 1\n" + bytes(5000): "more than 32767",
+             b"\x89PNG\r\n\x1a\n": "PNG: ", b"\x89PNG\r\n\x1a\n" + b"junk" * 9: "PNG: ", b"\xff\xd8\xff": "JPEG: ",
+             b"\xff\xd8\xff\xe0" + b"junk" * 9: "JPEG: "}
+    for text, wanted in cases.items():
+        bad = os.path.join(folder, "bad")
+        with open(bad, "wb") as file:
+            file.write(text)
+        done = run([sampler, bad, good])
+        said = done.stderr.decode()
+        is_named = said.startswith(f"dm_sample: {bad}: ") and wanted in said
+        check(f"{text[:20]}", (done.returncode, done.stdout.decode(), is_named), (3, record(grid), True))
+    for bad, wanted in ((os.path.join(folder, "not there"), "No such file"), (folder, "Is a directory")):
+        done = run([sampler, bad, good])
+        check(wanted, (done.returncode, done.stdout.decode(), wanted in done.stderr.decode()), (3, record(grid), True))
+    for text, wanted in spoilt_jpegs(folder):
+        done = run([sampler], text)
+        check(wanted, (done.returncode, done.stdout, done.stderr.decode()), (3, b"", f"dm_sample: -: {wanted}\n"))
+    light = pgm([[255] * 40] * 40)
+    check("nothing in it", (run([sampler], light).returncode, run([sampler], light).stdout), (1, b""))
+    check("nothing in one of two", run([sampler, good, "-"], light).returncode, 1)
+    with open("/dev/full", "wb") as full:
+        done = subprocess.run([sampler, good], stdout=full, stderr=subprocess.PIPE)
+    check("a full device", (done.returncode, done.stderr), (3, b"dm_sample: write failed\n"))
+    taking, giving = os.pipe()
+    os.close(taking)
+    done = subprocess.run([sampler, good], stdout=giving, stderr=subprocess.PIPE)
+    os.close(giving)
+    check("a closed pipe", (done.returncode, done.stderr), (3, b"dm_sample: write failed\n"))
+
+
+def spoilt_jpegs(folder):
+    """A JPEG that goes over the picture two hundred times, and one that claims to be higher than any picture that is
+    read."""
+    path = os.path.join(folder, "progressive.jpg")
+    if not os.path.isfile(path):
+        return []
+    with open(path, "rb") as file:
+        text = file.read()
+    frame = text.index(b"\xff\xc2")
+    means = re.search(rb"\xff\xda.{8,10}?\x00\x00\x10(?:[^\xff]|\xff\x00)*", text,
+                      re.DOTALL)  # the scan with the last bits of means
+    return [(text[:means.end()] + means[0] * 200 + text[means.end():], "JPEG: more than 100 scans"),
+            (text[:frame + 5] + (40000).to_bytes(2, "big") + text[frame + 7:],
+             "a picture with more than 32767 pixels on a side")]
+
+
+def memory(folder, sampler):
+    """Whichever allocation fails, it is said, or the symbol is found all the same."""
+    made = os.path.join(folder, "memory.so")
+    done = run(["cc", "-shared", "-fPIC", "-o", made, places.path("tests", "sampler", "memory.c")])
+    check("memory.c compiles", done.stderr.decode(), "")
+    grid = grid_of("MEMORY")
+    told = 0
+    for number in range(1, 60):
+        done = run([sampler], pgm(pixels_of(grid)), env={**os.environ, "LD_PRELOAD": made, "FAIL_AT": str(number)})
+        said = done.stderr.decode()
+        is_told = done.returncode == 3 and not done.stdout and said.startswith("dm_sample: -: ") and "memory" in said
+        told += is_told
+        check(f"allocation {number} fails",
+              is_told or (done.returncode, done.stdout.decode(), said) == (0, record(grid), ""), True)
+    check("allocations that fail are told", told > 12, True)
+
+
+def parts(folder):
+    """Points far outside of a picture."""
+    made = os.path.join(folder, "parts.out")
+    words = ["cc", "-std=c17", "-Wall", "-Wextra", "-Werror", *CAREFUL, f"-I{places.path('sampler')}"]
+    done = run([*words, places.path("tests", "sampler", "parts.c"), "-o", made, "-lm"])
+    check("parts.c compiles", done.stderr.decode(), "")
+    done = run([made])
+    check("points far away", (done.returncode, done.stdout, done.stderr.decode()[:600]), (0, b"", ""))

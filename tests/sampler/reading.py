@@ -1,0 +1,190 @@
+"""Pictures of every size and format, turned, mirrored and inverted, and a part of the set of photographs with the least
+that must be read."""
+import json
+import math
+import os
+
+from tests.sampler.pictures import (CAREFUL, PYTHON, check, grid_of, left_out, message_of, pgm, pixels_of, record, run,
+                                    tool, turned)
+from tests.support import places
+from tests.support.places import PROGRAM
+
+LEAST_SHARE = 0.93           # of the symbols of fifty pictures
+
+
+def every_size(sampler):
+    """Each size, upright and turned, mirrored, inverted: the grid comes out as it was written."""
+    for at, size in enumerate(tool(["table"], "").splitlines()):
+        side, count = (int(size.split()[column]) for column in (0, 4))
+        grid = grid_of(message_of(count))
+        rows = pixels_of(grid, 3 + at % 4)
+        ways = {"upright": rows, "mirrored": [row[::-1] for row in rows],
+                "inverted": [[255 - level for level in row] for row in rows]}
+        for times in range(at % 3 + 1):
+            ways[f"turned {times + 1}"] = turned(list(ways.values())[-1])
+        for way, picture in ways.items():
+            check(f"side {side}, {way}", run([sampler, "--time=30000", "-"], pgm(picture)).stdout.decode(),
+                  record(grid))
+
+
+def without_quiet_zone(sampler, careful):
+    """A symbol that fills its picture, on all sides or on some, is found, with its corners where it stands: each size,
+    some at each scale."""
+    for at, size in enumerate(tool(["table"], "").splitlines()):
+        side, count = (int(size.split()[column]) for column in (0, 4))
+        grid = grid_of(message_of(count))
+        for scale in range(2, 10) if side < 20 else (3 + at % 4,):
+            rows = pixels_of(grid, scale, 0)
+            ways = {"as it is": rows, "turned": turned(rows), "mirrored": [row[::-1] for row in rows],
+                    "light on dark": [[255 - level for level in row] for row in rows],
+                    "on the left": [row + [230] * 20 for row in rows] + [[230] * (len(rows) + 20)] * 20}
+            for way, picture in ways.items():
+                done = run([careful if at == scale else sampler, "--corners", "--time=30000"], pgm(picture))
+                check(f"side {side} at {scale} without a quiet zone, {way}", (done.returncode, done.stdout.decode()),
+                      (0, record(grid)))
+                if way in ("as it is", "on the left"):
+                    near = corners_near(done.stderr.decode(),
+                                        [(0, 0), (len(rows), 0), (len(rows), len(rows)), (0, len(rows))], 0.15 * scale)
+                    check(f"side {side} at {scale} without a quiet zone, {way}: corners", near, True)
+
+
+def corners_near(said, wanted, apart):
+    """Whether the corners that --corners says are no farther from those wanted."""
+    got = [tuple(map(float, corner.split(","))) for corner in said.split()[1:]]
+    return len(got) == 4 and all(abs(one - other) <= apart for here, there in zip(got, wanted)
+                                 for one, other in zip(here, there))
+
+
+def hard_shadow(sampler):
+    """A symbol across which a hard shadow falls, with two fifths of the light or somewhat less left."""
+    for count, left, slope in ((8, 0.4, 0.15), (8, 0.4, 0.6), (8, 0.35, 1.5), (18, 0.4, 3), (18, 0.35, 0.15),
+                               (18, 0.35, 1.5)):
+        grid = grid_of(message_of(count))
+        rows = pixels_of(grid, 5, 4, 30, 210)
+        middle = len(rows) * (slope + 1) / 2
+        rows = [[int(level * left) if slope * x + y < middle else level for x, level in enumerate(row)]
+                for y, row in enumerate(rows)]
+        done = run([sampler, "--time=30000"], pgm(rows))
+        check(f"{count} codewords in a shadow of {left}, slope {slope}", (done.returncode, done.stdout.decode()),
+              (0, record(grid)))
+
+
+def glare(sampler):
+    """A symbol on a dim ground with a bright spot on it, in which dark modules are lighter than light ones elsewhere."""
+    for count in (18, 44):
+        grid = grid_of(message_of(count))
+        rows = pixels_of(grid, 5, 4, 30, 130)
+        reach = 2 * (0.15 * len(rows)) ** 2
+        for across, down in ((0.5, 0.5), (0.35, 0.6)):
+            away = lambda x, y: (x - across * len(rows)) ** 2 + (y - down * len(rows)) ** 2
+            lit = [[min(255, int(level + 140 * math.exp(-away(x, y) / reach))) for x, level in enumerate(row)]
+                   for y, row in enumerate(rows)]
+            done = run([sampler, "--time=30000"], pgm(lit))
+            check(f"{count} codewords with glare at {across}, {down}", (done.returncode, done.stdout.decode()),
+                  (0, record(grid)))
+
+
+def formats(folder, sampler):
+    """The same picture in every format that is read."""
+    grid = grid_of("FORMATS")
+    rows = pixels_of(grid)
+    wide, high = len(rows[0]), len(rows)
+    flat = [level for row in rows for level in row]
+    bits = [[level < 128 for level in row] for row in rows]
+    made = {
+        "P1": f"P1 {wide} {high}\n".encode() + b"".join(b"".join(b"01"[bit:bit + 1] for bit in row) + b"\n"
+                                                        for row in bits),
+        "P2": f"P2 {wide} {high} 255\n".encode() + b" ".join(b"%d" % level for level in flat),
+        "P3": f"P3 {wide} {high} 255\n".encode() + b"\n".join(b"%d %d %d" % (level, level, level) for level in flat),
+        "P4": f"P4 {wide} {high}\n".encode() + b"".join(
+            int("".join("01"[bit] for bit in row).ljust((wide + 7) // 8 * 8, "0"), 2).to_bytes((wide + 7) // 8, "big")
+                                                        for row in bits),
+        "P5": pgm(rows),
+        "P5 of two bytes": f"P5 {wide} {high} 1000\n".encode()
+                           + b"".join((level * 1000 // 255).to_bytes(2, "big") for level in flat),
+        "P6": f"P6 {wide} {high} 255\n".encode() + b"".join(bytes([level, level, level]) for level in flat),
+    }
+    for name, text in made.items():
+        done = run([sampler], text)
+        check(name, (done.returncode, done.stdout.decode()), (0, record(grid)))
+    with open(os.path.join(folder, "formats.pgm"), "wb") as file:
+        file.write(pgm(rows))
+    for file in coloured_formats(folder):
+        done = run([sampler, file])
+        check(os.path.basename(file), (done.returncode, done.stdout.decode()), (0, record(grid)))
+
+
+def coloured_formats(folder):
+    """The picture as PNG and JPEG in several forms, by Pillow."""
+    script = """
+import sys
+from PIL import Image
+folder = sys.argv[1]
+grey = Image.open(folder + "/formats.pgm").convert("L")
+clear = grey.convert("RGBA")
+clear.putalpha(grey.point(lambda level: 255 if level < 128 else 0))
+for name, image, more in (
+        ("grey.png", grey, {}), ("colour.png", grey.convert("RGB"), {}),
+        ("palette.png", grey.convert("RGB").quantize(7), {}),
+        ("clear.png", clear, {}),
+        ("bits.png", grey.convert("1"), {}),
+        ("deep.png", grey.convert("I").point(lambda level: level * 257).convert("I;16"), {}),
+        ("grey.jpg", grey, {}), ("colour.jpg", grey.convert("RGB"), {"quality": 90}),
+        ("progressive.jpg", grey.convert("RGB"), {"progressive": True}),
+        ("inks.jpg", grey.convert("RGB").convert("CMYK"), {})):
+    image.save(folder + "/" + name, **more)
+    print(folder + "/" + name)
+"""
+    done = run([PYTHON, "-c", script, folder])
+    if done.returncode:
+        left_out.append("PNG and JPEG in all their forms (python3-pil isn't installed)")
+        return []
+    return done.stdout.decode().split()
+
+
+def every_png(folder):
+    """PNG of every colour type, depth and gamma: the luminance is what was put in, and what Pillow and netpbm see."""
+    made = os.path.join(folder, "luminance.out")
+    sources = [places.path("sampler", "program", f"{name}.c") for name in ("picture", "png", "jpeg", "pnm")]
+    words = ["cc", "-std=c17", "-Wall", "-Wextra", "-Werror", *CAREFUL,
+             *(f"-I{places.path(name)}" for name in ("sampler", "library"))]
+    done = run([*words, places.path("tests", "sampler", "luminance.c"), *sources, "-o", made, "-lpng", "-ljpeg"])
+    check("luminance.c compiles", done.stderr.decode(), "")
+    forms = run([PYTHON, places.path("tests", "sampler", "pngs.py"), folder])
+    if forms.returncode:
+        left_out.append("PNG of every form (python3-pil isn't installed)")
+        return
+    for form in map(json.loads, forms.stdout.splitlines()):
+        done = run([made, form["file"]])
+        for by, wanted in form["luminance"].items():
+            if wanted is None:
+                continue
+            got = done.stdout[-len(wanted):]
+            most = 2.5 if by == "Pillow" else 1.5  # Pillow drops the lower eight of sixteen bits
+            is_near = len(got) == len(wanted) and all(abs(one - other) <= most for one, other in zip(got, wanted))
+            check(f"{os.path.basename(form['file'])}: {by}", (done.returncode, is_near, done.stderr[:600]),
+                  (0, True, b""))
+
+
+def the_set(folder, sampler):
+    """Fifty pictures and two with several symbols: none is read wrong, and at least LEAST_SHARE of the symbols are
+    read."""
+    made = os.path.join(folder, "set")
+    done = run([PYTHON, places.path("bench", "photographs"), "--program", PROGRAM, "--share", "13", made])
+    if done.returncode:
+        left_out.append("fifty photographs (python3-opencv and python3-numpy aren't installed)")
+        return
+    with open(os.path.join(made, "index.json"), encoding="utf-8") as file:
+        index = json.load(file)
+    symbols = right = 0
+    for picture in index:
+        words = ["--all"] if len(picture["messages"]) > 1 else []
+        said = run([sampler, "--json", "--time=30000", *words, os.path.join(made, picture["file"])]).stdout.decode()
+        messages = {json.loads(line)["message"] for line in said.splitlines()}
+        check(f"{picture['file']}: wrong messages", messages - set(picture["messages"]), set())
+        symbols, right = symbols + len(picture["messages"]), right + len(messages)
+    print(f"of {symbols} symbols in {len(index)} photographs {right} were read")
+    check("the symbols that are read", right >= LEAST_SHARE * symbols and len(index) >= 50, True)
+    through = run(["sh", "-c", f'"$1" "$2" | "{PROGRAM}" read', "sh", sampler,
+                   os.path.join(made, index[0]["file"])]).stdout.decode()
+    check("dm_sample | dm_tool read", through.rstrip("\n"), index[0]["messages"][0])

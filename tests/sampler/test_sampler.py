@@ -1,0 +1,108 @@
+"""The sampler, built once as it is and once with the sanitisers: pictures of every size and format, its options, errors
+and statuses, hostile files, and the shared library from C and C++. Nothing is proved here but what the library ecc200
+under it is."""
+import os
+
+from tests.sampler import limits, options, reading, timing
+from tests.sampler.pictures import CAREFUL, left_out, results
+from tests.support import commands, needs, places
+from tests.support.case import Case
+
+
+@needs.program
+@needs.library
+class Sampler(Case):
+    @classmethod
+    def setUpClass(cls):
+        cls.lacking = limits.missing()
+        if cls.lacking:
+            return
+        cls.room, cls.builds = cls.folder_of_class(), []
+        cls.plain = os.path.join(cls.room, "plain")
+        cls.sampler = cls.built(cls.plain, "-Werror")
+        cls.careful = cls.built(os.path.join(cls.room, "careful"), "-g1", "-O1", *CAREFUL)
+
+    @classmethod
+    def built(cls, folder, *flags):
+        """Builds the sampler with these flags of the compiler."""
+        os.makedirs(folder)
+        env = commands.environment(ECC200_FOLDER=places.BUILT)
+        done = commands.run([places.path("sampler", "build"), folder, *flags], env=env, timeout=600)
+        cls.builds.append((f"sampler/build {' '.join(flags)}", (done.status, done.errors.decode()), (0, "")))
+        return os.path.join(folder, "dm_sample")
+
+    def setUp(self):
+        if self.lacking:
+            self.skipTest(f"{self.lacking} isn't installed")
+
+    def told(self, compare, *given):
+        """Compares what a function compares, and skips what it leaves out."""
+        results.clear()
+        left_out.clear()
+        compare(*given)
+        for row in results:
+            self.row(*row)
+        for what in left_out:
+            with self.subTest(what):
+                self.skipTest(what)
+        self.assertTrue(results or left_out, "there is no row")
+
+    def test_it_is_built_without_a_warning(self):
+        self.rows(self.builds)
+
+    def test_every_size(self):
+        self.told(reading.every_size, self.sampler)
+
+    def test_without_quiet_zone(self):
+        self.told(reading.without_quiet_zone, self.sampler, self.careful)
+
+    def test_hard_shadow(self):
+        self.told(reading.hard_shadow, self.sampler)
+
+    def test_glare(self):
+        self.told(reading.glare, self.sampler)
+
+    def test_formats(self):
+        self.told(reading.formats, self.room, self.sampler)
+
+    def test_every_png(self):
+        self.told(reading.every_png, self.room)
+
+    def test_options(self):
+        self.told(options.options, self.room, self.sampler)
+
+    def test_unread_without_a_symbol(self):
+        self.told(options.unread_without_a_symbol, self.sampler)
+
+    def test_wide(self):
+        self.told(options.wide, self.room, self.sampler)
+
+    def test_usage(self):
+        self.told(options.usage, self.sampler)
+
+    def test_errors(self):
+        self.told(options.errors, self.room, self.sampler)
+
+    def test_memory(self):
+        self.told(options.memory, self.room, self.sampler)
+
+    def test_parts(self):
+        self.told(options.parts, self.room)
+
+    def test_the_set(self):
+        self.told(reading.the_set, self.room, self.sampler)
+
+    def test_a_label(self):
+        self.told(timing.a_label, self.room, self.sampler)
+
+    def test_deadline(self):
+        self.told(timing.deadline, self.room, self.sampler)
+
+    def test_hostile(self):
+        self.told(limits.hostile, self.room, self.careful)
+
+    def test_large(self):
+        self.told(limits.large, self.sampler)
+
+    def test_library(self):
+        self.told(limits.library, self.room, self.plain, places.BUILT)

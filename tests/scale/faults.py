@@ -1,0 +1,234 @@
+"""Faults of each kind, and runs of a recipe of docs/SCALE.md that they hit: a status below 3 may come only with all
+answers, and what is written before is a beginning of them. Texts are so long that a job which ends at once ends before
+its part is written."""
+import concurrent.futures
+import contextlib
+import functools
+import os
+import resource
+import subprocess
+import tempfile
+import time
+
+from tests.scale.runs import PATH, Scale, STANDARD_INPUT, environment, left_in, put, ran
+from tests.support import commands
+from tests.support.places import PROGRAM
+
+# What stands for dm_tool in the job that is hit. REAL is the program; `above` are the processes above it that belong to
+# its job, `parallel` is GNU parallel and `script` is dm_parts. Only processes of the run's own session are looked for.
+FAULTS = {
+    "ends with 0 before it has read": "exit 0",
+    "ends with 1 before it has read": "exit 1",
+    "ends with 2 before it has read": "exit 2",
+    "ends with 3 before it has read": "exit 3",
+    "isn't found": "exec /nowhere/dm_tool",
+    "is killed at once": "kill -s KILL $$",
+    "is ended by TERM": "kill -s TERM $$",
+    "is killed after 100,000 bytes": "head -c 100000 | REAL; kill -s KILL $$",
+    "ends with 0 after 100,000 bytes": "head -c 100000 | REAL; exit 0",
+    "reads its part and answers nothing": "cat > /dev/null; exit 0",
+    "loses its last answer": "REAL | head -n -$LINES_OF_LAST; exit 0",
+    "answers once more": "REAL; echo A; echo; exit 0",
+    "ends with 3 after its answers": "REAL; exit 3",
+    "is killed after its answers": "REAL; kill -s KILL $$",
+    "can't write": "REAL > /dev/full",
+    "is killed with its job": "kill -s KILL $above $$",
+    "sees GNU parallel killed": "kill -s KILL $parallel; cat > /dev/null",
+    "sees the joint killed": "pkill -KILL -P $script -f 'sub pass'; sleep 0.2; REAL",
+}
+# Faults of what is around the program, which is none on other machines or without dm_parts; and those in which the
+# program's own answers are wrong.
+AROUND = {"is killed with its job", "sees GNU parallel killed", "sees the joint killed"}
+LIES = {"is killed with its job", "is killed after 100,000 bytes", "ends with 0 after 100,000 bytes",
+        "answers once more"}
+FAKE = """#!/bin/sh
+# Stands for dm_tool. In the job that is hit, or in all if that is number 0, it has a fault. GNU parallel numbers its
+# jobs.
+number=${PARALLEL_SEQ:-1}
+if [ "$HIT" -ne 0 ] && [ "$HIT" -ne "$number" ]; then exec REAL; fi
+look() {
+  read -r comm < "/proc/$1/comm" && read -r stat < "/proc/$1/stat" && set -- ${stat##*) } && parent=$2 session=$4
+}
+look $$
+own=$session above='' process=$parent parallel='' script=''
+while [ "$process" -gt 1 ] && look "$process" && [ "$session" = "$own" ]; do
+  if [ "$comm" = parallel ]; then parallel=$process script=$parent; fi
+  [ -n "$parallel" ] || above="$above $process"
+  process=$parent
+done
+if [ "$AROUND" = yes ] && [ -z "$parallel" ]; then exit 3; fi
+FAULT
+"""
+
+WORDS = {"grids on standard input": ("grids.txt", ["read"]),
+         "a file of grids on all processors": ("grids.txt", ["read"]),
+         "messages on all processors": ("messages.txt", ["write"]),
+         "grids on several machines": ("grids.txt", ["read"])}
+# The recipes for one machine.
+ALONE = [name for name in WORDS if "machines" not in name]
+
+
+@functools.cache
+def texts():
+    """A text of grids and one of messages, of about 1.5 MB, no two records or lines the same. Most bytes of the
+    messages are in lines that are too long for a symbol, so that the answers are short."""
+    lines = b"".join(b"%08d\n" % (number * 10007 % 100000000) for number in range(9000))
+    grids = ran(["write"], lines)[1] + b"10\n01\n"
+    messages = b"".join(b"%05d\n" % number + b"%05d" % number * 400 + b"\n" for number in range(750)) + b"\\q\n"
+    return {"grids.txt": grids, "messages.txt": messages}
+
+
+def verdict(done, answers, wanted, left, sure=True, lies=False):
+    """What is wrong with a run that a fault has hit, or None. Where the fault is sure, the run can't have all answers;
+    where the program lies, what it wrote needn't be answers."""
+    status, said = done
+    complete = (status, answers) == wanted
+    if status < 3 and (sure or not complete):
+        return f"status {status} and {len(answers)} bytes of {len(wanted[1])}"
+    if status >= 3 and b"answers are missing" not in said:
+        return f"status {status}, and no line that says why: {said[-300:]!r}"
+    if status >= 3 and not lies and not wanted[1].startswith(answers):
+        return "what was written isn't a beginning of the answers"
+    return f"there are left {left}" if left else None
+
+
+def hit(block, given, wanted, *, path=PATH, env=None, sure=True, lies=False, ssh=None, is_first=False, **options):
+    """A recipe that a fault hits, in a folder of its own: what is wrong, or None. What a killed process leaves behind
+    may still write there."""
+    with tempfile.TemporaryDirectory(ignore_cleanup_errors=True) as folder:
+        put(folder, given)
+        settings = {**environment(folder, path, ssh, is_first), **(env or {})}
+        done = subprocess.run(["bash", "-c", block], cwd=folder, env=settings, stdin=subprocess.DEVNULL,
+                              stderr=subprocess.PIPE, timeout=300, start_new_session=True, **options)
+        answers = b""
+        if os.path.isfile(os.path.join(folder, "answers.txt")):
+            with open(os.path.join(folder, "answers.txt"), "rb") as file:
+                answers = file.read()
+        left = left_in(folder) + [name for name in os.listdir(folder) if name not in (*given, "scratch", "answers.txt")]
+        if "--output" in block and done.returncode > 1 and os.path.lexists(os.path.join(folder, "answers.txt")):
+            left.append("answers.txt")
+        return verdict((done.returncode % 256, done.stderr), answers, wanted, left, sure, lies)
+
+
+def made_fake(folder, body, words):
+    """A folder for the path, in which dm_tool has a fault; and its settings, but for the number of the job that is
+    hit."""
+    fake = os.path.join(folder, "fake")
+    os.makedirs(fake, exist_ok=True)
+    with open(os.path.join(folder, "made"), "w") as file:
+        file.write(FAKE.replace("FAULT", body).replace("REAL", f'{PROGRAM} "$@"'))
+    os.chmod(os.path.join(folder, "made"), 0o755)
+    os.replace(os.path.join(folder, "made"), os.path.join(fake, "dm_tool"))
+    return fake, {"LINES_OF_LAST": "1" if words[0] in ("read", "check") else "2"}
+
+
+def planted(fault, block, given, words, wanted, number):
+    """What is wrong with a recipe one of whose jobs has a fault, or None."""
+    with tempfile.TemporaryDirectory() as folder:
+        fake, env = made_fake(folder, FAULTS[fault], words)
+        env.update({"HIT": str(number), "AROUND": "yes" if fault in AROUND else "no"})
+        return hit(block, given, wanted, path=fake + os.pathsep + PATH, env=env, lies=fault in LIES)
+
+
+def tried(call):
+    """What a test says is wrong, or with which exception it ended."""
+    try:
+        return call()
+    except (OSError, subprocess.SubprocessError) as fault:
+        return f"{type(fault).__name__}: {fault}"
+
+
+def in_parts(block, size):
+    return block.replace("dm_parts ", f"dm_parts --jobs 3 --block {size} ")
+
+
+def without(folder, *names):
+    """A path on which these programs aren't."""
+    os.makedirs(folder, exist_ok=True)
+    for directory in reversed(PATH.split(os.pathsep)):
+        for name in os.listdir(directory) if os.path.isdir(directory) else []:
+            place = os.path.join(folder, name)
+            if os.path.lexists(place):
+                os.remove(place)
+            if name not in names:
+                os.symlink(os.path.join(directory, name), place)
+    return folder
+
+
+def to_output(block):
+    """A recipe that writes its answers to standard output."""
+    return block.rstrip("\n").replace("--output answers.txt ", "").replace("> answers.txt", "")
+
+
+def limited(name, kind, most):
+    """A run whose process gets a limit: of one recipe a first run, since what GNU parallel measures then is the same
+    for each."""
+    return {"is_first": name == "a file of grids on all processors",
+            "preexec_fn": lambda: resource.setrlimit(kind, (most, most))}
+
+
+def machines(folder):
+    """Paths on which a program is missing, or another one is called parallel."""
+    paths = {name: without(os.path.join(folder, name), name) for name in ("dm_tool", "parallel", "perl")}
+    other = os.path.join(without(os.path.join(folder, "other"), "parallel"), "parallel")
+    with open(other, "w") as file:
+        file.write("#!/bin/sh\nexit 0\n")
+    os.chmod(other, 0o755)
+    return {**paths, "GNU parallel": os.path.dirname(other)}
+
+
+def missing_text(block):
+    """A recipe without its text. Where the shell itself can't open standard input, nothing is run, and it says so with
+    a status of its own."""
+    with tempfile.TemporaryDirectory() as folder:
+        done = commands.run(["bash", "-c", block], cwd=folder, env=environment(folder), stdin=subprocess.DEVNULL)
+        by_shell = block == STANDARD_INPUT and done.status == 1 and b"No such file" in done.errors
+        return None if done.status >= 3 or by_shell else f"status {done.status}"
+
+
+def in_session(session):
+    """The processes of a session that haven't ended."""
+    listed = subprocess.run(["ps", "-eo", "sid=,stat=,args="], capture_output=True, text=True).stdout.splitlines()
+    return [line for line in listed if line.split()[0] == str(session) and not line.split()[1].startswith("Z")]
+
+
+def signalled(block, given, wanted, number, to_all, delay):
+    """A recipe that gets a signal after so many seconds, as from Ctrl-C if all its processes get it; delay None: once
+    an answer has come."""
+    with tempfile.TemporaryDirectory() as folder:
+        put(folder, given)
+        words = ["sh", "-c", "exec " + block.split("\n")[1]]
+        run = subprocess.Popen(words, cwd=folder, env=environment(folder, is_first=delay is not None),
+                               stdin=subprocess.DEVNULL,
+                               stdout=subprocess.PIPE, stderr=subprocess.PIPE, start_new_session=True)
+        answers = os.read(run.stdout.fileno(), 100) if delay is None else time.sleep(delay) or b""
+        (os.killpg if to_all else os.kill)(run.pid, number)
+        more, said = run.communicate(timeout=60)
+        time.sleep(0.2)
+        if "--output" in block:
+            with contextlib.suppress(FileNotFoundError), open(os.path.join(folder, "answers.txt"), "rb") as file:
+                more = file.read()
+        left = left_in(folder) + [name for name in os.listdir(folder) if name not in (*given, "scratch", "answers.txt")]
+        wrong = verdict((run.returncode % 256, said), answers + more, wanted, left, delay is None)
+        return wrong or (in_session(run.pid) or None)
+
+
+class Faults(Scale):
+    """A case with texts, and what the program answers to them in one run."""
+
+    @classmethod
+    def setUpClass(cls):
+        super().setUpClass()
+        cls.given = texts()
+        cls.wanted = {name: ran(words, cls.given[file]) for name, (file, words) in WORDS.items()}
+
+    def of(self, name):
+        """Gives the texts and the wanted answers of a recipe."""
+        file = WORDS[name][0]
+        return {file: self.given[file]}, self.wanted[name]
+
+    def all_tried(self, tests):
+        """Tries several at a time. Each is a name and a call that tells what is wrong, or nothing."""
+        with concurrent.futures.ThreadPoolExecutor(4) as pool:
+            self.all_sound((name, future.result())
+                           for name, future in [(name, pool.submit(tried, call)) for name, call in tests])

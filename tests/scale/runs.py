@@ -1,0 +1,163 @@
+"""What the tests of docs/SCALE.md share: the program, texts, the recipes of the page, runs of them, and two hosts."""
+import contextlib
+import functools
+import os
+import re
+import shutil
+import signal
+import socket
+import subprocess
+import tempfile
+import time
+
+from tests.support import commands, needs, places
+from tests.support.case import Case
+from tests.support.places import PROGRAM
+
+PATH = os.pathsep.join([os.path.dirname(PROGRAM), places.path("scripts"), os.environ["PATH"]])
+
+STANDARD_INPUT = "# grids on standard input\ndm_parts read < grids.txt > answers.txt\n"
+MESSAGES = b"123456\nA\n\n\\q\n\\F01\nab\\x4\n" + b"7" * 100 + b"\n\\xff\\xFE\nA B,C\n" + b"7" * 1633 + b"\n,\n\n\n"
+
+
+def ran(words, given):
+    """Status and output of one run of the program."""
+    return commands.run([PROGRAM, *words], given)[:2]
+
+
+def grids():
+    """Symbols of several sizes, damaged ones, and refused records of each kind, with empty lines before, between and
+    after."""
+    status, written = ran(["write"], b"123456\nA\n" + b"7" * 30 + b"\n" + b"\\x80" * 60 + b"\n")
+    good = written.rstrip(b"\n").split(b"\n\n")
+    first = good[0]
+    turned = first[:60] + (b"1" if first[60:61] == b"0" else b"0") + first[61:]
+    light = b"\n".join([b"1010101010"] + [b"1000000001"] * 8 + [b"1" * 10])
+    bad = [b"x", b"1", b"10\r\n01\r", b"10\n1", b"1010\n0101\n1010\n0101", b"1 0\n0 1", b"1,0\n0,1", b"\x00\xff",
+           b"0" * 105]
+    records = good + [turned, light, first.replace(b"1" * 10, b"0" * 10)] + bad
+    text = b"\n\n"
+    for count in range(len(records)):
+        text += records[count * 7 % len(records)] + b"\n" * (2 + count % 4)
+    return text + records[0]
+
+
+def blocks():
+    """The recipes of the page by the comment in their first line, in sh and in Python, and the one that it has in a
+    sentence."""
+    text = places.text_of("docs", "SCALE.md")
+    found = [block for language in ("sh", "python") for block in re.findall(rf"```{language}\n(.*?)```", text, re.S)]
+    assert "`dm_parts read < grids.txt`" in text
+    return {block.split("\n", 1)[0].removeprefix("# "): block for block in [*found, STANDARD_INPUT]}
+
+
+@functools.cache
+def measured():
+    """The folder of what GNU parallel measures of the machine, for all runs but those that look at how it does so, or
+    at what it leaves."""
+    return tempfile.TemporaryDirectory(prefix="parallel-")
+
+
+def environment(folder, path=PATH, ssh=None, is_first=False):
+    """HOME is an empty folder, so that GNU parallel finds no profile; SHELL is empty, as it may be in an automatic job.
+    A first run finds nothing measured."""
+    scratch = os.path.join(folder, "scratch")
+    os.makedirs(scratch, exist_ok=True)
+    hosts = {"PARALLEL_SSH": ssh} if ssh else {}
+    return commands.environment(PATH=path, HOME=scratch, TMPDIR=scratch, SHELL="",
+                                PARALLEL_HOME="" if is_first else measured().name, **hosts)
+
+
+def put(folder, texts):
+    for name, text in texts.items():
+        with open(os.path.join(folder, name), "wb") as file:
+            file.write(text)
+
+
+def left_in(folder):
+    """What a run left in its folder for temporary files."""
+    return sorted(os.listdir(os.path.join(folder, "scratch")))
+
+
+def recipe(block, folder, texts, ssh=None, is_first=False):
+    """The status of a recipe, and the answers that it leaves."""
+    put(folder, texts)
+    env = environment(folder, ssh=ssh, is_first=is_first)
+    done = subprocess.run(["bash", "-c", block], cwd=folder, env=env, stdin=subprocess.DEVNULL, stderr=subprocess.PIPE,
+                          timeout=300)
+    answers = os.path.join(folder, "answers.txt")
+    with open(answers, "rb") as file:
+        return done.returncode, file.read()
+
+
+def free_port():
+    with socket.socket() as listener:
+        listener.bind(("127.0.0.1", 0))
+        return listener.getsockname()[1]
+
+
+def hosts_of(folder, port, path):
+    """The settings of the hosts: a file for sshd, with the program on its path, and one for ssh. Nothing answers for
+    `nowhere`. The usual exchange of keys takes ten times the processor time of this one, and a shell of level 1 that
+    sshd starts would read what the user's own shells begin with."""
+    for key in ("host", "login"):
+        subprocess.run(["ssh-keygen", "-q", "-t", "ed25519", "-N", "", "-f", os.path.join(folder, key)], check=True)
+    server, client = os.path.join(folder, "sshd_config"), os.path.join(folder, "ssh_config")
+    with open(server, "w") as file:
+        file.write(f"ListenAddress 127.0.0.1:{port}\nHostKey {folder}/host\nAuthorizedKeysFile {folder}/login.pub\n"
+                   f"StrictModes no\nPidFile none\nPasswordAuthentication no\nMaxStartups 100\n"
+                   f"SetEnv PATH={path} SHLVL=1\n")
+    with open(client, "w") as file:
+        file.write(f"Host nowhere\nPort {free_port()}\nHost one two\nPort {port}\nHost *\nHostName 127.0.0.1\n"
+                   f"IdentityFile {folder}/login\nIdentitiesOnly yes\nBatchMode yes\nStrictHostKeyChecking no\n"
+                   f"UserKnownHostsFile {folder}/known\nLogLevel ERROR\n"
+                   f"KexAlgorithms curve25519-sha256\n")
+    return server, client
+
+
+@contextlib.contextmanager
+def two_hosts(path=PATH):
+    """The ssh command that reaches the hosts `one` and `two`, which are this machine, through an sshd on the loopback
+    address."""
+    with tempfile.TemporaryDirectory() as folder:
+        server, client = hosts_of(folder, free_port(), path)
+        if os.geteuid() == 0:
+            os.makedirs("/run/sshd", exist_ok=True)
+        with subprocess.Popen([shutil.which("sshd", path=needs.PATH), "-D", "-e", "-f", server],
+                              stdin=subprocess.DEVNULL, stderr=subprocess.DEVNULL) as daemon:
+            try:
+                ssh = ["ssh", "-F", client]
+                answered = any(time.sleep(0.1)
+                               or not subprocess.run([*ssh, "one", "true"], stdin=subprocess.DEVNULL).returncode
+                               for _ in range(50))
+                yield " ".join(ssh) if answered else None
+            finally:
+                daemon.terminate()
+
+
+def with_blocks(block, size):
+    """A recipe with parts of another size."""
+    smaller = block.replace("dm_parts ", f"dm_parts --block {size} ")
+    assert smaller != block
+    return smaller
+
+
+class Scale(Case):
+    """A case with the recipes. Its processes take signals: what a shell runs in the background ignores SIGINT, and
+    under nohup SIGHUP, and so would all that is run here."""
+
+    @classmethod
+    def setUpClass(cls):
+        for number, handler in ((signal.SIGINT, signal.default_int_handler), (signal.SIGHUP, signal.SIG_DFL)):
+            cls.addClassCleanup(signal.signal, number, signal.signal(number, handler))
+        cls.recipes = blocks()
+
+    def tried(self, name, block, texts, wanted, ssh=None):
+        """A recipe as it stands in the page, and with smaller parts. It leaves its answers and nothing else."""
+        for size in (None, "800") if ssh else (None, "1", "800"):
+            folder = self.folder()
+            which = f"{name}, {'as it stands' if size is None else 'in parts of ' + size}"
+            got = recipe(with_blocks(block, size) if size else block, folder, texts, ssh, is_first=size is None)
+            self.row(which, got, wanted)
+            left = sorted(os.listdir(folder)), left_in(folder)
+            self.row(f"{which}, what is left", left, (sorted([*texts, "answers.txt", "scratch"]), []))

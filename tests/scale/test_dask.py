@@ -1,0 +1,100 @@
+"""Runs the recipe for Dask of docs/SCALE.md as it stands there, with two workers on the loopback address, and compares
+answers, order and counts with one run of the program."""
+import os
+import re
+import subprocess
+import sys
+import time
+
+from tests.scale.runs import free_port
+from tests.support import commands, needs, package, places, spelling
+from tests.support.case import Case
+
+
+def recipe():
+    """The functions of the page."""
+    source = re.search(r"```python\n(# grids on Dask's workers\n.*?)```", places.text_of("docs", "SCALE.md"), re.S)[1]
+    space = {}
+    exec(source, space)
+    return space
+
+
+def grids():
+    """The marks of other encoders, again and again, some of them damaged, with more empty lines than are needed."""
+    marks = places.text_of("tests", "marks", "grids.txt").strip().split("\n\n")
+    texts = []
+    for turn in range(12):
+        for number, mark in enumerate(marks):
+            if (turn + number) % 5 == 0:  # a side is lost, and the grid is refused
+                side = len(mark.split("\n"))
+                mark = "\n".join(["0" * side] * side)
+            texts.append(mark + "\n" * (1 + number % 3))
+    return "\n".join(texts)
+
+
+@needs.program
+@needs.library
+@needs.module("distributed")
+class Dask(Case):
+    @classmethod
+    def setUpClass(cls):
+        cls.ecc200, cls.space, cls.text = package.imported(), recipe(), grids()
+        cls.room = cls.folder_of_class()
+        cls.path = os.path.join(cls.room, "grids.txt")
+        with open(cls.path, "w", encoding="ascii") as file:
+            file.write(cls.text)
+        with open(cls.path, encoding="ascii") as rows:
+            cls.records = [grid for part in cls.space["parts"](rows, 50) for grid in part]
+        cls.done = commands.run([places.PROGRAM, "read"], cls.text.encode())
+
+    def cluster(self):
+        """Starts a scheduler and two workers on the loopback address, each a process of its own, and gives a client."""
+        address = f"tcp://127.0.0.1:{(port := free_port())}"
+        env = commands.environment(**package.settings(), DASK_TEMPORARY_DIRECTORY=self.room)
+        quiet = {"stdin": subprocess.DEVNULL, "stdout": subprocess.DEVNULL, "stderr": subprocess.DEVNULL,
+                 "cwd": self.room, "env": env}
+        module, local = [sys.executable, "-m"], ["--host", "127.0.0.1", "--no-dashboard"]
+        self.process([*module, "distributed.cli.dask_scheduler", *local, "--port", str(port)], **quiet)
+        for _ in range(2):
+            self.process([*module, "distributed.cli.dask_worker", address, *local, "--nthreads", "1", "--no-nanny",
+                          "--local-directory", self.room], **quiet)
+        return self.enterContext(self.connected(address))
+
+    @staticmethod
+    def connected(address):
+        """Gives a client, once both workers have come."""
+        import distributed
+        until = time.monotonic() + 90
+        while True:
+            try:
+                client = distributed.Client(address, timeout=5)
+                client.wait_for_workers(2, timeout=60)
+                return client
+            except OSError:
+                if time.monotonic() > until:
+                    raise
+                time.sleep(0.5)
+
+    def test_answers_come_in_order_from_two_workers(self):
+        client, here = self.cluster(), self.ecc200.read_many(self.records)
+        for size in (50, 300):
+            with open(self.path, encoding="ascii") as rows:
+                answers = self.space["read_on"](client, rows, size)
+            self.row(f"answers in parts of {size}, in order", [str(answer) for answer in answers],
+                     [str(answer) for answer in here])
+        workers = client.run(os.getpid)
+        where = client.gather([client.submit(os.getpid, pure=False, workers=[worker]) for worker in workers])
+        self.row("two workers in processes of their own", (len(workers), len(set(where) - {os.getpid()})), (2, 2))
+        usual = self.ecc200.read_many(self.records, extent=self.ecc200.Extent.USUAL)
+        refused = sum(isinstance(answer, self.ecc200.Refused) for answer in answers)
+        left_out = sum(isinstance(answer, self.ecc200.Refused) and answer.value == 240 for answer in usual)
+        lines = self.done.output.decode().splitlines()
+        self.row("counts", (len(answers), refused + left_out, self.done.status),
+                 (len(lines), sum(line.startswith("\\no ") for line in lines), 1))
+
+    def test_one_run_of_the_program_at_the_usual_extent(self):
+        from ecc200.spelling import spelled
+        usual = self.ecc200.read_many(self.records, extent=self.ecc200.Extent.USUAL)
+        got = [spelling.refused(answer) if isinstance(answer, self.ecc200.Refused) else spelled(answer.items)
+               for answer in usual]
+        self.assertEqual(got, self.done.output.decode().splitlines())

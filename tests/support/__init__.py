@@ -1,0 +1,2 @@
+"""What the tests of all subjects share: where things lie, commands, what is installed, and the case that they are
+written with."""

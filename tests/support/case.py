@@ -1,0 +1,63 @@
+"""The case with which tests are written. Rows of a table are subtests, so that each failure names its row; temporary
+folders and processes are gone when the case ends."""
+import tempfile
+import unittest
+
+from tests.support import commands
+
+# So much of a value is shown where a row fails.
+SHOWN = 600
+
+
+def shown(value):
+    """Gives the beginning of a value's text."""
+    text = repr(value)
+    return text if len(text) <= SHOWN else f"{text[:SHOWN]} .. ({len(text)} characters)"
+
+
+class Case(unittest.TestCase):
+    """A case whose rows are subtests."""
+
+    def row(self, name, got, wanted):
+        """Compares one row, as a subtest with this name."""
+        with self.subTest(name):
+            if got != wanted:
+                self.fail(f"{name}: {shown(got)}, and not {shown(wanted)}")
+
+    def rows(self, rows):
+        """Compares rows, each a name, what came, and what is wanted. There has to be one."""
+        self.each(self.row, rows)
+
+    def sound(self, name, problem):
+        """Fails, as a subtest with this name, with what is wrong, if anything is."""
+        with self.subTest(name):
+            if problem is not None:
+                self.fail(f"{name}: {problem[:3000]}")
+
+    def all_sound(self, rows):
+        """Fails for each row with what is wrong; a row is a name and that, or None. There has to be one."""
+        self.each(self.sound, rows)
+
+    def there(self, rows):
+        """Fails for each row, a name and whether it is found, whose name isn't. There has to be one."""
+        self.all_sound((name, None if is_there else "not found") for name, is_there in rows)
+
+    def each(self, compare, rows):
+        """Puts each row to a comparison, of which there has to be one."""
+        count = 0
+        for count, row in enumerate(rows, 1):
+            compare(*row)
+        self.assertGreater(count, 0, "there is no row")
+
+    def folder(self):
+        """Gives a temporary folder, which is gone when the case ends."""
+        return self.enterContext(tempfile.TemporaryDirectory(ignore_cleanup_errors=True))
+
+    @classmethod
+    def folder_of_class(cls):
+        """Gives a temporary folder, which is gone when the last case of the class has ended."""
+        return cls.enterClassContext(tempfile.TemporaryDirectory(ignore_cleanup_errors=True))
+
+    def process(self, words, **how):
+        """Starts a process, which is ended when the case ends."""
+        return self.enterContext(commands.started(words, **how))

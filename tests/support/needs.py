@@ -1,0 +1,91 @@
+"""What is installed or built. A class or a case that needs something is skipped with its reason where that isn't
+there."""
+import fcntl
+import functools
+import importlib.util
+import os
+import shutil
+import unittest
+
+from tests.support import commands, places
+
+# The Debian packages of programs and modules that have another name than these.
+PACKAGES = {
+    "c++": "g++", "nm": "binutils", "sshd": "openssh-server", "ssh": "openssh-client", "pkg-config": "pkgconf",
+    "javac": "default-jdk-headless", "node": "nodejs", "wasm-opt": "binaryen", "WebKitWebDriver": "webkit2gtk-driver",
+    "Xvfb": "xvfb", "chromedriver": "chromium-driver",
+}
+PATH = os.pathsep.join([os.environ.get("PATH", os.defpath), "/usr/sbin"])
+
+
+def has(*programs):
+    """Whether all of these programs are installed."""
+    return all(shutil.which(program, path=PATH) for program in programs)
+
+
+def lacking(*programs):
+    """Says which of these programs aren't installed, with their Debian packages; nothing if all are."""
+    return ", ".join(f"{it} isn't installed (Debian package {PACKAGES.get(it, it)})" for it in programs if not has(it))
+
+
+def programs(*names):
+    """Skips a class or a case where one of these programs isn't installed."""
+    return unittest.skipUnless(has(*names), lacking(*names))
+
+
+def module(name):
+    """Skips a class or a case where this Python module isn't installed."""
+    package = PACKAGES.get(name, f"python3-{name}")
+    return unittest.skipUnless(importlib.util.find_spec(name), f"{name} isn't installed (Debian package {package})")
+
+
+def toolchain(kind):
+    """Skips a class or a case where the toolchain isn't installed."""
+    return unittest.skipUnless(has("rt"), "the Rattle toolchain (rt) isn't on the path")(kind)
+
+
+def program(kind):
+    """Marks a class whose cases run the program. Where it isn't built they fail, or are skipped if the toolchain isn't
+    there either."""
+    return built(kind, places.PROGRAM, "build", lambda why: None if os.path.isfile(places.PROGRAM) else why)
+
+
+def library(kind):
+    """Marks a class whose cases use the library, which `make library` brings up to date first, unless another one is
+    named."""
+    return built(kind, places.SHARED, "library", lambda _: None if is_library_built() else made("library"))
+
+
+@functools.cache
+def is_library_built():
+    """Whether another library is named, or nothing has changed since this one was built."""
+    return bool(places.OTHER_LIBRARY) or commands.said([places.path("library", "build"), "--is-built"])[0] == 0
+
+
+def built(kind, file, target, problem_of):
+    """Marks a class that needs a file of `make TARGET`. `problem_of` says, before its first case, why it can't be used,
+    if it can't."""
+    reason = f"{os.path.relpath(file, places.TOP)} isn't built (run `make {target}` first)"
+    if not os.path.isfile(file) and not has("rt"):
+        return unittest.skip(reason)(kind)
+    further = kind.setUpClass.__func__
+
+    def set_up(cls):
+        if problem := problem_of(reason):
+            raise AssertionError(problem)
+        further(cls)
+
+    kind.setUpClass = classmethod(set_up)
+    return kind
+
+
+@functools.cache
+def made(target):
+    """Runs `make TARGET`, one at a time in this checkout, and says what is wrong, if anything is. What is built already
+    stays."""
+    print(f"make {target}, which can take minutes", flush=True)
+    os.makedirs(places.path("out"), exist_ok=True)
+    with open(places.path("out", "making"), "w", encoding="ascii") as lock:
+        fcntl.flock(lock, fcntl.LOCK_EX)
+        status, output = commands.said(["make", "-C", places.TOP, target], timeout=7200)
+    return None if status == 0 else f"make {target}: status {status}: {output[-2000:]}"

@@ -1,0 +1,25 @@
+"""Where things lie. ECC200_FOLDER names another folder with libecc200.a and libecc200.so, which are then taken as they
+are."""
+import os
+
+TOP = os.path.dirname(os.path.dirname(os.path.dirname(os.path.abspath(__file__))))
+OTHER_LIBRARY = os.environ.get("ECC200_FOLDER")
+
+
+def path(*parts):
+    """Gives a path below the top of the repository."""
+    return os.path.join(TOP, *parts)
+
+
+PROGRAM = path("crates", "dm_tool", "out", "dm_tool")
+LIBRARY = path("library")
+BUILT = os.path.abspath(OTHER_LIBRARY) if OTHER_LIBRARY else path("library", "out")
+ARCHIVE = os.path.join(BUILT, "libecc200.a")
+SHARED = os.path.join(BUILT, "libecc200.so")
+MARKS = path("tests", "marks")
+
+
+def text_of(*parts):
+    """Gives what stands in a file of the repository."""
+    with open(path(*parts), encoding="utf-8") as file:
+        return file.read()
