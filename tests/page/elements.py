@@ -66,8 +66,9 @@ def misjoined():
 
 
 def rules():
-    """The module gs1 of library/python over the common table, without the library below it."""
-    package = on.folder / "rules" / "ecc200"
+    """The module gs1 of library/python over the common table, without the library below it, in a package of another
+    name: ecc200 is the one that the tests of the Python package import in this process."""
+    package = on.folder / "rules" / "rules_of_gs1"
     if not package.exists():
         package.mkdir(parents=True)
         shutil.copy(LIBRARY / "python" / "ecc200" / "gs1.py", package)
@@ -75,7 +76,7 @@ def rules():
         (package / "core.py").write_text("FNC1 = 256\n")
         (package / "__init__.py").write_text("")
         sys.path.insert(0, str(package.parent))
-    from ecc200 import gs1
+    from rules_of_gs1 import gs1
 
     return gs1
 

@@ -32,4 +32,7 @@ def imported():
     """Gives the package, imported here over the library."""
     os.environ["ECC200_LIBRARY"] = places.SHARED
     sys.path.insert(0, tree())
-    return importlib.import_module("ecc200")
+    module = importlib.import_module("ecc200")
+    if not module.__file__.startswith(tree() + os.sep):
+        raise ImportError(f"ecc200 was imported before, from {module.__file__}")
+    return module
