@@ -1,5 +1,5 @@
 // GS1 messages: element strings as people write them, with identifiers in parentheses, and as a symbol holds them. The identifiers are those
-// of library/gs1/identifiers.txt, which is packed into the page.
+// of library/python/ecc200/data/gs1_identifiers.txt, which is packed into the page.
 import { FNC1, plural } from "./common.mjs";
 import { parse, tooMuch } from "./messages.mjs";
 

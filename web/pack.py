@@ -12,7 +12,7 @@ import re
 import sys
 
 HERE = pathlib.Path(__file__).parent
-IDENTIFIERS = HERE.parent / "library" / "gs1" / "identifiers.txt"
+IDENTIFIERS = HERE.parent / "library" / "python" / "ecc200" / "data" / "gs1_identifiers.txt"
 LOOKS = '<link rel="stylesheet" href="style.css">'
 SCRIPT = '<script type="module" src="page.mjs"></script>'
 FALLBACK = '<script src="fallback.js"></script>'

@@ -1,6 +1,6 @@
 """One printed symbol, one damaged symbol, one refusal.
 
-    PYTHONPATH=library ECC200_LIBRARY=library/out/libecc200.so python3 library/examples/example.py
+    PYTHONPATH=library/python ECC200_LIBRARY=library/out/libecc200.so python3 library/examples/example.py
 """
 import ecc200
 

@@ -6,8 +6,6 @@ from setuptools.command.build_py import build_py
 from wheel.bdist_wheel import bdist_wheel
 
 TOP = os.path.join(os.path.dirname(os.path.abspath(__file__)), "..", "..")
-# What others of this repository use too, and how the package calls it.
-SHARED_FILES = {"library/ecc200.py": "core.py", "library/gs1/identifiers.txt": "identifiers.txt"}
 LIBRARIES = {"ECC200_LIBRARY": "library/out/libecc200.so", "ECC200_SAMPLE_LIBRARY": "sampler/out/libecc200_sample.so"}
 
 
@@ -20,8 +18,6 @@ def built():
 class WithLibraries(build_py):
     def run(self):
         super().run()
-        for path, name in SHARED_FILES.items():
-            self.copy_file(os.path.join(TOP, path), os.path.join(self.build_lib, "ecc200", name))
         for path, name in built().items():
             self.copy_file(path, os.path.join(self.build_lib, "ecc200", name))
 

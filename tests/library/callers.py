@@ -111,7 +111,7 @@ class Callers:
         """The Python module, by python_module.py, which says a line for each test."""
         own, other = (os.path.join(folder, "libecc200.so") for folder in (self.built, self.other()))
         found = commands.environment(ECC200_LIBRARY=own, OTHER_LIBRARY=other, VERSION=self.interface.version)
-        words = [sys.executable, "-m", "tests.library.python_module", self.library]
+        words = [sys.executable, "-m", "tests.library.python_module", self.source("python", "ecc200")]
         done = commands.run(words, env=found, cwd=places.TOP, timeout=1800)
         for line in done.output.decode().splitlines():
             name, problem = json.loads(line)
@@ -121,11 +121,4 @@ class Callers:
 
 def copied(library, folder):
     """A copy of the callers, in which one can be spoilt."""
-    os.makedirs(folder)
-    for name in os.listdir(library):
-        if name not in ("out", "__pycache__"):
-            path, to = os.path.join(library, name), os.path.join(folder, name)
-            if os.path.isdir(path):
-                shutil.copytree(path, to, symlinks=True, dirs_exist_ok=True)
-            else:
-                shutil.copy(path, to)
+    shutil.copytree(library, folder, symlinks=True, ignore=shutil.ignore_patterns("out", "__pycache__"))

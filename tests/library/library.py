@@ -25,9 +25,9 @@ def interface():
 
 @functools.cache
 def module():
-    """library/ecc200.py over the shared library."""
+    """The Python module, the file core.py by itself, over the shared library."""
     os.environ["ECC200_LIBRARY"] = places.SHARED
-    spec = importlib.util.spec_from_file_location("ecc200_of_library", os.path.join(LIBRARY, "ecc200.py"))
+    spec = importlib.util.spec_from_file_location("ecc200_of_library", places.MODULE)
     made = importlib.util.module_from_spec(spec)
     spec.loader.exec_module(made)
     return made

@@ -15,7 +15,7 @@ from tests.support.places import LIBRARY, TOP
 
 AT_ONCE = 3
 LANGUAGES = {"ecc200.h": [Callers.in_c, Callers.in_cpp], "ecc200.rs": [Callers.in_rust],
-             "ecc200.py": [Callers.in_python]}
+             "python/ecc200/core.py": [Callers.in_python]}
 # The crate that has the structs and all that the exports do.
 CALLS = "ecc200_calls"
 SOURCES = os.path.join("crates", CALLS)

@@ -1,5 +1,5 @@
 """Tests the Python module: the requests of cases.py, and what only Python has: defaults, wrong types, numbers of any
-size, grids of many kinds, pictures, and which library is loaded. The argument is the folder with ecc200.py;
+size, grids of many kinds, pictures, and which library is loaded. The argument is the folder with core.py;
 ECC200_LIBRARY is the library, OTHER_LIBRARY one with another interface, VERSION the version of the library. It is a
 process of its own, since the module loads its library as it is imported, and prints a line of JSON for each test: its
 name, and what is wrong or null."""
@@ -16,7 +16,7 @@ from tests.library.cases import (FNC1, LARGEST, MOST_DATA, REFUSED, TEXTS, WIDEN
 from tests.library.model import PLACES, SIZES, normal_symbol
 
 FOLDER = os.path.abspath(sys.argv[1])
-MODULE = os.path.join(FOLDER, "ecc200.py")
+MODULE = os.path.join(FOLDER, "core.py")
 
 
 def module(path=MODULE):

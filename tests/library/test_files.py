@@ -75,7 +75,7 @@ class Examples(Case):
         self.made_by(["c++", *flags, os.path.join(EXAMPLES, "example.cpp"), places.ARCHIVE])
 
     def test_python(self):
-        env = commands.environment(PYTHONPATH=places.LIBRARY, ECC200_LIBRARY=places.SHARED)
+        env = commands.environment(PYTHONPATH=places.PACKAGE, ECC200_LIBRARY=places.SHARED)
         self.shows([sys.executable, os.path.join(EXAMPLES, "example.py")], env=env)
 
     def test_rust(self):

@@ -72,7 +72,7 @@ def rules():
     if not package.exists():
         package.mkdir(parents=True)
         shutil.copy(LIBRARY / "python" / "ecc200" / "gs1.py", package)
-        shutil.copy(LIBRARY / "gs1" / "identifiers.txt", package)
+        shutil.copytree(LIBRARY / "python" / "ecc200" / "data", package / "data")
         (package / "core.py").write_text("FNC1 = 256\n")
         (package / "__init__.py").write_text("")
         sys.path.insert(0, str(package.parent))

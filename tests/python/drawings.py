@@ -5,7 +5,9 @@ import os
 import pathlib
 import zlib
 
-from tests.python.common import PACKAGE, PYTHON, SAMPLER, SHARED, TOP, clean, has, has_sampler, holds, left_out, raises, run, same, wanted_module
+from tests.python.common import (PACKAGE, PYTHON, SAMPLER, SHARED, clean, has, has_sampler, holds, left_out, raises, run,
+                                 same, wanted_module)
+from tests.support import places
 
 import ecc200
 from ecc200 import drawing, pictures
@@ -328,8 +330,8 @@ class Magnified:
 
 
 def by_one_file(image, numpy, array):
-    """The file ecc200.py by itself finds what the package finds; `array` is a picture of a symbol."""
-    spec = importlib.util.spec_from_file_location("one_file", os.path.join(TOP, "library", "ecc200.py"))
+    """The file core.py by itself finds what the package finds; `array` is a picture of a symbol."""
+    spec = importlib.util.spec_from_file_location("one_file", places.MODULE)
     one = importlib.util.module_from_spec(spec)
     spec.loader.exec_module(one)
     yield holds("the sampler by the file alone", one.has_sampler())

@@ -8,7 +8,9 @@ import zipfile
 
 import ecc200
 
-from tests.python.common import MARKS, PACKAGE, PYTHON, SAMPLER, SHARED, TOP, clean, has, holds, left_out, run, same, wanted_module
+from tests.python.common import (MARKS, PACKAGE, PYTHON, SAMPLER, SHARED, TOP, clean, has, holds, left_out, run, same,
+                                 wanted_module)
+from tests.support import places
 
 GS1 = "(01)09521234543213(17)251231(10)ABC123"
 USED = """
@@ -74,7 +76,7 @@ def typed(folder):
 def built(folder):
     """The wheel, built from a copy of what is needed, so that nothing of this tree changes."""
     copy = os.path.join(folder, "tree")
-    for part in ("library/ecc200.py", "library/gs1", "library/python", "packaging/version"):
+    for part in ("library/python", "packaging/version"):
         source, target = os.path.join(TOP, part), os.path.join(copy, part)
         os.makedirs(os.path.dirname(target), exist_ok=True)
         if os.path.isdir(source):
@@ -89,12 +91,12 @@ def built(folder):
 def contents(wheel):
     with zipfile.ZipFile(wheel) as archive:
         names = archive.namelist()
-        for name in ("ecc200/core.py", "ecc200/py.typed", "ecc200/identifiers.txt", "ecc200/command.py"):
+        for name in ("ecc200/core.py", "ecc200/py.typed", "ecc200/data/gs1_identifiers.txt", "ecc200/command.py"):
             yield holds(f"the wheel has {name}", name in names, str(names))
         with open(SHARED, "rb") as file:
             yield same("its library", archive.read("ecc200/libecc200.so"), file.read())
-        with open(os.path.join(TOP, "library", "ecc200.py"), "rb") as file:
-            yield same("its module is library/ecc200.py", archive.read("ecc200/core.py"), file.read())
+        with open(places.MODULE, "rb") as file:
+            yield same("its core is that of the sources", archive.read("ecc200/core.py"), file.read())
         described = archive.read(f"ecc200-{version()}.dist-info/METADATA").decode()
     for line in (f"Version: {version()}", "License: MIT OR Apache-2.0"):
         yield holds(f"the wheel says {line}", line + "\n" in described, described)
@@ -156,7 +158,7 @@ def from_system(folder):
     """One file, and a library where the system keeps its own: found without ECC200_LIBRARY, and without a compiler on the path."""
     place = os.path.join(folder, "one")
     os.makedirs(place)
-    shutil.copy(os.path.join(TOP, "library", "ecc200.py"), place)
+    shutil.copy(places.MODULE, os.path.join(place, "ecc200.py"))
     own = subprocess.run([PYTHON, "-c", "import re; print(re.search(r'^ABI = (\\d+)', open('ecc200.py').read(), re.M)[1])"], cwd=place,
                          stdout=subprocess.PIPE)
     library = os.path.join(folder, "lib")

@@ -2,7 +2,7 @@
 import functools
 import importlib
 import os
-import subprocess
+import shutil
 import sys
 import tempfile
 
@@ -11,9 +11,10 @@ from tests.support import places
 
 @functools.cache
 def room():
-    """A folder of this process, in which the package is laid out."""
+    """A folder of this process with a copy of the package, in which Python may leave its bytecode."""
     made = tempfile.TemporaryDirectory(prefix="package-")
-    subprocess.run([places.path("library", "python", "tree"), os.path.join(made.name, "tree")], check=True)
+    left = shutil.ignore_patterns("out", "__pycache__")
+    shutil.copytree(places.PACKAGE, os.path.join(made.name, "tree"), ignore=left)
     return made
 
 

@@ -13,6 +13,9 @@ def path(*parts):
 
 PROGRAM = path("crates", "dm_tool", "out", "dm_tool")
 LIBRARY = path("library")
+PACKAGE = path("library", "python")
+# The core of the package, which is also used as one file by itself.
+MODULE = os.path.join(PACKAGE, "ecc200", "core.py")
 BUILT = os.path.abspath(OTHER_LIBRARY) if OTHER_LIBRARY else path("library", "out")
 ARCHIVE = os.path.join(BUILT, "libecc200.a")
 SHARED = os.path.join(BUILT, "libecc200.so")

@@ -10,7 +10,7 @@
 A message is written with `write(gs1.message(elements), gs1=True)`, and what is read is split with `split(reading.data)`. Each value is checked:
 its length and characters, check digits, dates. What doesn't pass raises Faulty, which says what is wrong with which identifier. Identifiers
 that the table doesn't have are refused too; with `unknown=True` they pass. Which identifiers there are, and where they come from, is said in
-identifiers.txt beside this file.
+data/gs1_identifiers.txt.
 """
 import datetime
 import os
@@ -57,13 +57,14 @@ class Identifier(NamedTuple):
 
 # ---- The table
 
+_SOURCE = os.path.join(os.path.dirname(os.path.abspath(__file__)), "data", "gs1_identifiers.txt")
 _PART = re.compile(r"(\[?)([NXYZ])(\.\.)?(\d+)(?::([a-z-]+))?\]?$")
 
 
 def _part(word: str) -> Part:
     found = _PART.match(word)
     if not found:
-        raise ValueError(f"identifiers.txt: a part {word!r}")
+        raise ValueError(f"{_SOURCE}: a part {word!r}")
     bracket, charset, to, length, check = found.groups()
     return Part(charset, 1 if to else int(length), int(length), check or "", bool(bracket))
 
@@ -79,7 +80,7 @@ def _table(lines: Iterable[str]) -> Dict[str, Identifier]:
     return table
 
 
-with open(os.path.join(os.path.dirname(os.path.abspath(__file__)), "identifiers.txt"), encoding="utf-8") as _file:
+with open(_SOURCE, encoding="utf-8") as _file:
     _TABLE = _table(_file)
 
 # Lengths of the values that all scanners know by the first two digits of the identifier, and how many digits an identifier has, by the same.
