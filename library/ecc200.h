@@ -100,9 +100,7 @@ extern "C" {
 #endif
 
 /* The version of this interface. It changes when a program that was built with this file would no longer work with the library. */
-/* interface.toml: abi */
 #define ECC200_ABI 2
-/* interface.toml: end */
 
 /* The version of the library's interface, to be compared with ECC200_ABI if the library is loaded at run time. */
 uint16_t ecc200_abi(void);
@@ -113,7 +111,6 @@ uint16_t ecc200_abi(void);
 /* The same of the library that is linked or loaded. */
 const char *ecc200_version(void);
 
-/* interface.toml: constants */
 enum {
     ECC200_MOST_SIDE = 104,       /* modules */
     ECC200_MOST_MODULES = 10816,
@@ -126,30 +123,24 @@ enum {
     ECC200_BEYOND = 255,          /* in ecc200_inspection.corrected: this block is beyond correction */
     ECC200_STACK = 32768          /* bytes */
 };
-/* interface.toml: end */
 
 /* What is read. USUAL: ASCII, C40, Text, X12 and Base 256, as the program reads. WIDE: these, and EDIFACT (240); a macro 05 (236) or 06 (237) as the
  * first codeword, which stands for the header [)> RS 0 5 GS or [)> RS 0 6 GS and the trailer RS EOT; and runs of C40 and Text in which an Upper
  * Shift waits where they end. What USUAL reads WIDE reads as the same, with the same corrections. */
-/* interface.toml: extents */
 enum ECC200_SMALL ecc200_extent {
     ECC200_USUAL = 0,
     ECC200_WIDE = 1
 };
-/* interface.toml: end */
 
 /* The normal form of a message. */
-/* interface.toml: profiles */
 enum ECC200_SMALL ecc200_profile {
     ECC200_ASCII = 0,
     ECC200_SHORTER = 1
 };
-/* interface.toml: end */
 
 /* ---- Faults */
 
 /* What a call returns, and puts into fault.code. `value` and `place` are 0 unless they are mentioned. */
-/* interface.toml: codes */
 enum ECC200_SMALL ecc200_code {
     ECC200_OK = 0,
 
@@ -180,29 +171,24 @@ enum ECC200_SMALL ecc200_code {
     ECC200_PROFILE = 16, /* a profile above 1; value: the profile */
     ECC200_EXTENT = 17   /* an extent above 1; value: the extent */
 };
-/* interface.toml: end */
 
-/* interface.toml: struct_fault */
 typedef struct ecc200_fault {
     uint16_t code;
     uint16_t value;
     uint16_t place;
 } ecc200_fault;
-/* interface.toml: end */
 
 /* ---- Reading */
 
-/* interface.toml: struct_reading */
 typedef struct ecc200_reading {
     ecc200_fault fault;
     uint16_t side;
     uint16_t border_faults;                /* how many border modules have the wrong colour */
-    uint16_t block_count;                  /* 1 to 6 */
-    uint16_t item_count;                   /* 0 to 1639 */
+    uint16_t block_count;                  /* 1 to ECC200_MOST_BLOCKS */
+    uint16_t item_count;                   /* 0 to ECC200_MOST_ITEMS */
     uint16_t items[ECC200_MOST_ITEMS];     /* the message: the first item_count count */
     uint8_t corrected[ECC200_MOST_BLOCKS]; /* for each block, how many of its codewords were corrected */
 } ecc200_reading;
-/* interface.toml: end */
 
 /* Reads a symbol, as far as the extent goes. `border_limit`: how many border modules may have the wrong colour, usually ecc200_usual_limit(side). Each block
  * is corrected if it differs in at most `limit` codewords (ecc200_sizes) from a codeword of the error correcting code. Neither the
@@ -217,13 +203,11 @@ uint16_t ecc200_usual_limit(uint16_t side);
 
 /* ---- Writing and normalising */
 
-/* interface.toml: struct_symbol */
 typedef struct ecc200_symbol {
     ecc200_fault fault;
     uint16_t side;
     uint8_t modules[ECC200_MOST_MODULES]; /* the first side * side count */
 } ecc200_symbol;
-/* interface.toml: end */
 
 /* Writes the normal grid of a message. ecc200_read reads it as that message, with nothing corrected.
  * Returns the first fault that applies: PROFILE, ITEM, TOO_LONG. */
@@ -239,18 +223,16 @@ uint16_t ecc200_normal(const uint8_t *ECC200_RESTRICT modules, size_t count, uin
 
 /* ---- Showing and mending */
 
-/* interface.toml: struct_inspection */
 typedef struct ecc200_inspection {
     ecc200_fault fault;
     uint16_t side;
     uint16_t border_faults;                /* how many border modules have the wrong colour */
-    uint16_t block_count;                  /* 1 to 6 */
-    uint16_t codeword_count;               /* of the whole symbol, 8 to 1152: data codewords and then check codewords */
+    uint16_t block_count;                  /* 1 to ECC200_MOST_BLOCKS */
+    uint16_t codeword_count;               /* of the whole symbol, 8 to ECC200_MOST_CODEWORDS: data codewords and then check codewords */
     uint8_t held[ECC200_MOST_CODEWORDS];   /* the codewords as they stand in the symbol */
     uint8_t mended[ECC200_MOST_CODEWORDS]; /* the same with each block corrected; a block beyond correction is left as it is */
     uint8_t corrected[ECC200_MOST_BLOCKS]; /* for each block, in how many codewords the two differ, or ECC200_BEYOND */
 } ecc200_inspection;
-/* interface.toml: end */
 
 /* Gives the codewords of a symbol, corrected as far as they can be: unlike ecc200_read it goes on after a bad border, after a block
  * that is damaged beyond correction, and if the data codewords spell no message. Of B blocks, block b has the codewords b, b + B,
@@ -259,7 +241,6 @@ typedef struct ecc200_inspection {
 uint16_t ecc200_inspect(const uint8_t *ECC200_RESTRICT modules, size_t count, uint16_t side, ecc200_inspection *ECC200_RESTRICT out);
 
 /* What a module is. */
-/* interface.toml: kinds */
 enum ECC200_SMALL ecc200_kind {
     ECC200_NO_MODULE = 0,    /* past the modules of the symbol */
     ECC200_BIT = 1,          /* a bit of a codeword: dark if it is 1 */
@@ -268,30 +249,24 @@ enum ECC200_SMALL ecc200_kind {
     ECC200_FIXED_LIGHT = 4,  /* part of the fixed square at the lower right of some sizes, and should be light */
     ECC200_FIXED_DARK = 5
 };
-/* interface.toml: end */
 
-/* interface.toml: struct_place */
 typedef struct ecc200_place {
     uint16_t codeword; /* for a bit, its codeword, counted from 0 in the order of the symbol; else 0 */
     uint8_t bit;       /* for a bit, which one: 1 is the highest, 8 the lowest; else 0 */
     uint8_t kind;      /* an ecc200_kind */
 } ecc200_place;
-/* interface.toml: end */
 
-/* interface.toml: struct_place_table */
 typedef struct ecc200_place_table {
     ecc200_fault fault;
     uint16_t side;
     ecc200_place places[ECC200_MOST_MODULES]; /* for each module, row by row: the first side * side count */
 } ecc200_place_table;
-/* interface.toml: end */
 
 /* Says what each module of a symbol of this side is. SIDE is the only fault. */
 uint16_t ecc200_places(uint16_t side, ecc200_place_table *ECC200_RESTRICT out);
 
 /* ---- Sizes */
 
-/* interface.toml: struct_size */
 typedef struct ecc200_size {
     uint16_t side;            /* modules on a side of the symbol */
     uint16_t regions;         /* data regions */
@@ -302,13 +277,10 @@ typedef struct ecc200_size {
     uint16_t blocks;          /* into which the codewords are dealt */
     uint16_t limit;           /* how many wrong codewords can be corrected in each block */
 } ecc200_size;
-/* interface.toml: end */
 
-/* interface.toml: struct_size_table */
 typedef struct ecc200_size_table {
     ecc200_size sizes[ECC200_SIZE_COUNT];
 } ecc200_size_table;
-/* interface.toml: end */
 
 /* The table of sizes, by rising side. */
 void ecc200_sizes(ecc200_size_table *ECC200_RESTRICT out);
@@ -340,7 +312,6 @@ static inline size_t ecc200_items(const uint8_t *bytes, size_t count, int gs1, u
 /* A code in words, to show to people; ecc200_code_words is the same, for callers that can't use what C defines in a header. */
 static inline const char *ecc200_words(uint16_t code) {
     switch (code) {
-/* interface.toml: words */
     case ECC200_OK: return "no fault";
     case ECC200_SHAPE: return "the modules make no square of this side";
     case ECC200_SIDE: return "no size has this side";
@@ -357,7 +328,6 @@ static inline const char *ecc200_words(uint16_t code) {
     case ECC200_ITEM: return "an item above 256";
     case ECC200_PROFILE: return "no such profile";
     case ECC200_EXTENT: return "no such extent";
-/* interface.toml: end */
     default: return "not a code of this library";
     }
 }
@@ -367,7 +337,6 @@ const char *ecc200_code_words(uint16_t code);
 
 /* ---- The layout with which the library was built: nothing here is for callers. */
 
-/* interface.toml: layout */
 ECC200_ASSERT(sizeof(ecc200_fault) == 6);
 ECC200_ASSERT(offsetof(ecc200_fault, code) == 0 && ECC200_SIZE_OF(ecc200_fault, code) == 2);
 ECC200_ASSERT(offsetof(ecc200_fault, value) == 2 && ECC200_SIZE_OF(ecc200_fault, value) == 2);
@@ -412,7 +381,6 @@ ECC200_ASSERT(offsetof(ecc200_size, blocks) == 12 && ECC200_SIZE_OF(ecc200_size,
 ECC200_ASSERT(offsetof(ecc200_size, limit) == 14 && ECC200_SIZE_OF(ecc200_size, limit) == 2);
 ECC200_ASSERT(sizeof(ecc200_size_table) == 336);
 ECC200_ASSERT(offsetof(ecc200_size_table, sizes) == 0 && ECC200_SIZE_OF(ecc200_size_table, sizes) == 336);
-/* interface.toml: end */
 
 #if defined(__cplusplus)
 }

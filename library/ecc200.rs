@@ -11,15 +11,15 @@ use std::ffi::{CStr, c_char};
 use std::fmt;
 
 /// FNC1 among the items of a message.
-// interface.toml: fnc1
+// ecc200.h: fnc1
 pub const FNC1: u16 = 256;
-// interface.toml: end
+// ecc200.h: end
 /// A border limit that refuses nothing.
-// interface.toml: any_limit
+// ecc200.h: any_limit
 pub const ANY_LIMIT: u16 = 65535;
-// interface.toml: end
+// ecc200.h: end
 
-// interface.toml: constants
+// ecc200.h: constants
 const ABI: u16 = 2;
 const MOST_MODULES: usize = 10816;
 const MOST_ITEMS: usize = 1639;
@@ -27,31 +27,31 @@ const MOST_CODEWORDS: usize = 1152;
 const MOST_BLOCKS: usize = 6;
 const SIZE_COUNT: usize = 21;
 const BEYOND: u8 = 255;
-// interface.toml: end
+// ecc200.h: end
 
 /// What is read: ASCII, C40, Text, X12 and Base 256; or these, EDIFACT, a macro 05 or 06 in front, and an Upper Shift that waits at the end of
 /// a run. What `Usual` reads `Wide` reads as the same.
 #[derive(Clone, Copy, Debug, Default, PartialEq, Eq)]
 pub enum Extent {
-    // interface.toml: extents
+    // ecc200.h: extents
     Usual = 0,
     #[default]
     Wide = 1,
-    // interface.toml: end
+    // ecc200.h: end
 }
 
 /// The normal form of a message: ASCII encodation, or one Base 256 segment where that is shorter.
 #[derive(Clone, Copy, Debug, PartialEq, Eq)]
 pub enum Profile {
-    // interface.toml: profiles
+    // ecc200.h: profiles
     Ascii = 0,
     Shorter = 1,
-    // interface.toml: end
+    // ecc200.h: end
 }
 
 /// What `Fault::code` may be; `ecc200.h` explains `value` and `place` for each.
 pub mod code {
-    // interface.toml: codes
+    // ecc200.h: codes
     /// No fault.
     pub const OK: u16 = 0;
     /// The modules make no square of this side.
@@ -84,11 +84,11 @@ pub mod code {
     pub const PROFILE: u16 = 16;
     /// No such extent.
     pub const EXTENT: u16 = 17;
-    // interface.toml: end
+    // ecc200.h: end
 }
 
 /// Why a symbol or a message is refused: one of [`code`], and its numbers.
-// interface.toml: fault
+// ecc200.h: fault
 #[repr(C)]
 #[derive(Clone, Copy, Debug, Default, PartialEq, Eq)]
 pub struct Fault {
@@ -96,12 +96,12 @@ pub struct Fault {
     pub value: u16,
     pub place: u16,
 }
-// interface.toml: end
+// ecc200.h: end
 
 impl fmt::Display for Fault {
     fn fmt(&self, f: &mut fmt::Formatter<'_>) -> fmt::Result {
         f.write_str(match self.code {
-            // interface.toml: words
+            // ecc200.h: words
             code::OK => "no fault",
             code::SHAPE => "the modules make no square of this side",
             code::SIDE => "no size has this side",
@@ -118,7 +118,7 @@ impl fmt::Display for Fault {
             code::ITEM => "an item above 256",
             code::PROFILE => "no such profile",
             code::EXTENT => "no such extent",
-            // interface.toml: end
+            // ecc200.h: end
             _ => "not a code of this library",
         })
     }
@@ -178,7 +178,7 @@ pub enum Place {
 }
 
 /// A row of the table of sizes.
-// interface.toml: size
+// ecc200.h: size
 #[repr(C)]
 #[derive(Clone, Copy, Debug, Default, PartialEq, Eq)]
 pub struct Size {
@@ -191,13 +191,13 @@ pub struct Size {
     pub blocks: u16,
     pub limit: u16,
 }
-// interface.toml: end
+// ecc200.h: end
 
 mod sys {
     use super::*;
     use std::mem::offset_of;
 
-    // interface.toml: structs
+    // ecc200.h: structs
     #[repr(C)]
     pub struct ReadingOut {
         pub fault: Fault,
@@ -247,7 +247,7 @@ mod sys {
     pub struct SizesOut {
         pub sizes: [Size; SIZE_COUNT],
     }
-    // interface.toml: end
+    // ecc200.h: end
 
     unsafe extern "C" {
         pub safe fn ecc200_abi() -> u16;
@@ -262,7 +262,7 @@ mod sys {
         pub safe fn ecc200_sizes(out: &mut SizesOut);
     }
 
-    // interface.toml: layout
+    // ecc200.h: layout
     const _: () = assert!(size_of::<Fault>() == 6);
     const _: () = assert!(offset_of!(Fault, code) == 0);
     const _: () = assert!(offset_of!(Fault, value) == 2);
@@ -307,7 +307,7 @@ mod sys {
     const _: () = assert!(offset_of!(Size, limit) == 14);
     const _: () = assert!(size_of::<SizesOut>() == 336);
     const _: () = assert!(offset_of!(SizesOut, sizes) == 0);
-    // interface.toml: end
+    // ecc200.h: end
 }
 
 /// A struct of the library with all its bytes 0, on the heap.
@@ -417,13 +417,13 @@ pub fn places(side: u16) -> Result<Vec<Place>, Fault> {
     }
 }
 
-// interface.toml: kinds
+// ecc200.h: kinds
 const BIT: u8 = 1;
 const BORDER_LIGHT: u8 = 2;
 const BORDER_DARK: u8 = 3;
 const FIXED_LIGHT: u8 = 4;
 const FIXED_DARK: u8 = 5;
-// interface.toml: end
+// ecc200.h: end
 
 fn place(at: &sys::PlaceOut) -> Place {
     match at.kind {

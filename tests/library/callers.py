@@ -111,7 +111,7 @@ class Callers:
         """The Python module, by python_module.py, which says a line for each test."""
         own, other = (os.path.join(folder, "libecc200.so") for folder in (self.built, self.other()))
         found = commands.environment(ECC200_LIBRARY=own, OTHER_LIBRARY=other, VERSION=self.interface.version)
-        words = [sys.executable, "-m", "tests.library.python_module", self.source("python", "ecc200")]
+        words = [sys.executable, "-m", "tests.library.python_module", self.source("python", "ecc200", "core.py")]
         done = commands.run(words, env=found, cwd=places.TOP, timeout=1800)
         for line in done.output.decode().splitlines():
             name, problem = json.loads(line)

@@ -1,7 +1,6 @@
-"""Tries the wrong callers of bugs.txt, one at a time, in a copy of the callers: the tests of the language that is
-concerned have to fail. A wrong struct of the proved crate is built into another library, and the tests in C have to
-fail over it."""
-import filecmp
+"""Tries wrong callers, one at a time, in a copy of the callers: the tests of the language that is concerned have to
+fail. Those of conduct stand in bugs.txt; those of numbers, names, words and members are made by exchanged.py. A wrong
+struct of the proved crate is built into another library, and the tests in C have to fail over it."""
 import os
 import shutil
 import sys
@@ -9,9 +8,10 @@ import tempfile
 from concurrent.futures import ThreadPoolExecutor
 
 from tools import crates
+from tests.library import exchanged
 from tests.library.callers import HERE, Callers, copied
 from tests.support.commands import said
-from tests.support.places import LIBRARY, TOP
+from tests.support.places import LIBRARY, TOP, text_of
 
 AT_ONCE = 3
 LANGUAGES = {"ecc200.h": [Callers.in_c, Callers.in_cpp], "ecc200.rs": [Callers.in_rust],
@@ -22,28 +22,37 @@ SOURCES = os.path.join("crates", CALLS)
 
 
 def bugs(word):
-    """Name, file and replacements of each bug whose name and file contain the word."""
+    """Name, file, and the file's wrong text or why there is none, of each bug whose name and file contain the word."""
+    for name, file, text, problem in [*exchanges(), *by_hand()]:
+        if word in f"{name}, in {file}":
+            yield name, file, text, problem
+
+
+def exchanges():
+    """The bugs that are made from the header."""
+    return ((name, file, text, None) for name, file, text in exchanged.wrong_callers())
+
+
+def by_hand():
+    """The bugs of bugs.txt."""
     with open(os.path.join(HERE, "bugs.txt"), encoding="utf-8") as file:
         text = file.read()
     for block in text.split("\n\n"):
         lines = [line for line in block.split("\n") if line and not line.startswith("#")]
-        if lines and word in lines[0]:
+        if lines:
             name, _, file = lines[0].rpartition(" in ")
             changes = [line.split(": ", 1)[1].replace("⏎", "\n") for line in lines[1:]]
-            yield name, file, list(zip(changes[::2], changes[1::2]))
+            yield name, file, *spoilt(file, zip(changes[::2], changes[1::2]))
 
 
-def spoilt(path, changes):
-    """Plants a bug in a file, or says why it can't be planted."""
-    with open(path, encoding="utf-8") as file:
-        text = file.read()
+def spoilt(file, changes):
+    """The text of a file with a bug, and why it can't be planted, if it can't."""
+    text = text_of(file if file.startswith(SOURCES) else os.path.join("library", file))
     for old, new in changes:
         if text.count(old) != 1:
-            return f"{old!r} stands {text.count(old)} times in {os.path.basename(path)}"
+            return text, f"{old!r} stands {text.count(old)} times in {os.path.basename(file)}"
         text = text.replace(old, new)
-    with open(path, "w", encoding="utf-8") as file:
-        file.write(text)
-    return None
+    return text, None
 
 
 def first_failure(tests):
@@ -56,16 +65,6 @@ def add_sources(top):
         source = os.path.join("crates", crate, "src")
         if not os.path.exists(os.path.join(top, source)):
             shutil.copytree(os.path.join(TOP, source), os.path.join(top, source))
-
-
-def over_interface(top, callers):
-    """A spoilt interface is written into all callers: the tests of each of those that are changed by it have to
-    fail."""
-    add_sources(top)
-    said([sys.executable, os.path.join(TOP, "tools", "callers"), "--top", top])
-    changed = [file for file in LANGUAGES
-               if not filecmp.cmp(callers.source(file), os.path.join(LIBRARY, file), shallow=False)]
-    return [first_failure(tests(callers)) for file in changed for tests in LANGUAGES[file]]
 
 
 def over_crate(top, callers):
@@ -93,10 +92,8 @@ def over_crate(top, callers):
 
 
 def found_by(top, file, callers):
-    """What fails, an element for each language that has to find a bug in this file; None for one that doesn't find
-    it."""
-    if file == "interface.toml":
-        return over_interface(top, callers)
+    """What fails: for a caller the first test of its languages, for the crate both that have to; None for one that
+    doesn't fail."""
     if file.startswith(SOURCES):
         return over_crate(top, callers)
     return [next(filter(None, (first_failure(tests(callers)) for tests in LANGUAGES[file])), None)]
@@ -105,18 +102,20 @@ def found_by(top, file, callers):
 def tried(built, work, interface, word):
     """Each bug, with None if it's found."""
     def one(bug):
-        name, file, changes = bug
+        name, file, text, problem = bug
+        if problem:
+            return f"{name}, in {file}", problem
         with tempfile.TemporaryDirectory(dir=work) as top:
             copy, own = os.path.join(top, "library"), os.path.join(top, "work")
             os.mkdir(own)
             copied(LIBRARY, copy)
             if file.startswith(SOURCES):
                 shutil.copytree(os.path.join(TOP, SOURCES), os.path.join(top, SOURCES), symlinks=True)
-            problem = spoilt(os.path.join(top if file.startswith(SOURCES) else copy, file), changes)
-            if problem:
-                return f"{name}, in {file}", problem
+            path = os.path.join(top if file.startswith(SOURCES) else copy, file)
+            with open(path, "w", encoding="utf-8") as planted:
+                planted.write(text)
             by = found_by(top, file, Callers(copy, built, own, interface))
-            if by and all(by):
+            if all(by):
                 print(f"found: {name}, in {file}, by {' '.join(by[-1].split())[:150]}", flush=True)
                 return f"{name}, in {file}", None
             return f"{name}, in {file}", "NOT FOUND" if len(by) < 2 else f"found by {by} alone"

@@ -1,5 +1,5 @@
 """Tests the Python module: the requests of cases.py, and what only Python has: defaults, wrong types, numbers of any
-size, grids of many kinds, pictures, and which library is loaded. The argument is the folder with core.py;
+size, grids of many kinds, pictures, and which library is loaded. The argument is the path of core.py;
 ECC200_LIBRARY is the library, OTHER_LIBRARY one with another interface, VERSION the version of the library. It is a
 process of its own, since the module loads its library as it is imported, and prints a line of JSON for each test: its
 name, and what is wrong or null."""
@@ -7,16 +7,17 @@ import ctypes
 import importlib.util
 import json
 import os
+import shutil
 import subprocess
 import sys
+import tempfile
 
 from tests.library.answers import Answers
 from tests.library.cases import (FNC1, LARGEST, MOST_DATA, REFUSED, TEXTS, WIDENED, WORDS, Interface, grid_of, hurt,
                                  with_bad_border)
 from tests.library.model import PLACES, SIZES, normal_symbol
 
-FOLDER = os.path.abspath(sys.argv[1])
-MODULE = os.path.join(FOLDER, "core.py")
+MODULE = os.path.abspath(sys.argv[1])
 
 
 def module(path=MODULE):
@@ -371,15 +372,22 @@ def pictures():
 
 
 def loading():
-    """Which library is loaded: the one that is named, else the one beside the module, and none of another interface."""
+    """Which library is loaded: the one that is named, else the one beside the module, and none of another interface.
+    The module is copied to where a program finds it, as users copy it."""
+    with tempfile.TemporaryDirectory() as folder:
+        shutil.copy(MODULE, os.path.join(folder, "ecc200.py"))
+        yield from loading_from(folder)
+
+
+def loading_from(folder):
+    """The same of the module in a folder."""
     own, other = os.environ["ECC200_LIBRARY"], os.environ["OTHER_LIBRARY"]
-    beside = os.path.join(FOLDER, "libecc200.so")
 
     def loads(**environment):
         words = [sys.executable, "-B", "-c",
                  "import ecc200; print(len(ecc200.write(b'123456')), ecc200._library._name)"]
         clean = {name: value for name, value in os.environ.items() if name != "ECC200_LIBRARY"}
-        found = {**clean, "PYTHONPATH": FOLDER, **environment}
+        found = {**clean, "PYTHONPATH": folder, **environment}
         done = subprocess.run(words, env=found, capture_output=True, text=True, cwd="/", check=False)
         return done.stdout.strip() or done.stderr.strip().split("\n")[-1]
 
@@ -388,14 +396,9 @@ def loading():
     yield "another interface", loads(ECC200_LIBRARY=other), f"ImportError: {other} {wrong}"
     raised = loads(ECC200_LIBRARY="/nonexistent/libecc200.so").split(":")[0]
     yield "no library", raised in ("ImportError", "OSError"), True
-    if os.path.lexists(beside):
-        return
-    os.symlink(other, beside)
-    try:
-        yield "the library beside the module", wrong in loads(), True
-        yield "the library that is named, and another beside the module", loads(ECC200_LIBRARY=own), f"10 {own}"
-    finally:
-        os.remove(beside)
+    os.symlink(other, os.path.join(folder, "libecc200.so"))
+    yield "the library beside the module", wrong in loads(), True
+    yield "the library that is named, and another beside the module", loads(ECC200_LIBRARY=own), f"10 {own}"
 
 
 def tried():

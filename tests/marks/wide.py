@@ -7,16 +7,15 @@ has to answer what model.py, a plain reader of codewords, says. The lists of cod
 codewords that are computed here."""
 import ctypes
 import random
-import tomllib
 
 from tests.marks import model
-from tests.support import places
+from tests.support import header, places
 
 EXTENTS = {"usual": 0, "wide": 1}
 ANY_LIMIT, BIT = 65535, 1
-NUMBERS = tomllib.loads(places.text_of("library", "interface.toml"))["constants"]
 MOST_ITEMS, MOST_MODULES, MOST_CODEWORDS, MOST_BLOCKS, SIZE_COUNT = (
-    NUMBERS[name]["value"] for name in ("MOST_ITEMS", "MOST_MODULES", "MOST_CODEWORDS", "MOST_BLOCKS", "SIZE_COUNT"))
+    header.interface().constants[name]
+    for name in ("MOST_ITEMS", "MOST_MODULES", "MOST_CODEWORDS", "MOST_BLOCKS", "SIZE_COUNT"))
 u8, u16 = ctypes.c_uint8, ctypes.c_uint16
 
 

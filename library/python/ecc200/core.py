@@ -39,7 +39,7 @@ __all__ = ["ABI", "Code", "Corners", "Extent", "FNC1", "Found", "Grid", "Inspect
            "inspect", "luminance", "normal", "places", "read", "read_many", "sampler_fault", "sizes", "usual_limit",
            "version", "write"]
 
-# interface.toml: constants
+# ecc200.h: constants
 ABI = 2
 _MOST_MODULES = 10816
 MOST_ITEMS = 1639
@@ -48,7 +48,7 @@ _MOST_BLOCKS = 6
 _SIZE_COUNT = 21
 FNC1 = 256
 _BEYOND = 255
-# interface.toml: end
+# ecc200.h: end
 _GS = 0x1D
 
 
@@ -76,24 +76,24 @@ Corners = Tuple[Tuple[float, float], ...]
 
 class Profile(enum.IntEnum):
     """The normal form of a message: ASCII encodation, or one Base 256 segment where that is shorter."""
-    # interface.toml: profiles
+    # ecc200.h: profiles
     ASCII = 0
     SHORTER = 1
-    # interface.toml: end
+    # ecc200.h: end
 
 
 class Extent(enum.IntEnum):
     """What is read: ASCII, C40, Text, X12 and Base 256; or these, EDIFACT, a macro 05 or 06 in front, and an Upper Shift that waits at the end
     of a run. What USUAL reads WIDE reads as the same."""
-    # interface.toml: extents
+    # ecc200.h: extents
     USUAL = 0
     WIDE = 1
-    # interface.toml: end
+    # ecc200.h: end
 
 
 class Code(enum.IntEnum):
     """Why a symbol or a message is refused. ecc200.h explains `value` and `place` for each code."""
-    # interface.toml: codes
+    # ecc200.h: codes
     SHAPE = 3
     SIDE = 4
     BORDER = 5
@@ -109,7 +109,7 @@ class Code(enum.IntEnum):
     ITEM = 15
     PROFILE = 16
     EXTENT = 17
-    # interface.toml: end
+    # ecc200.h: end
 
 
 class Refused(ValueError):
@@ -152,13 +152,13 @@ class Inspection(NamedTuple):
 
 class Kind(enum.IntEnum):
     """What a module is: the bit of a codeword, or part of the border or the fixed square, and then its colour."""
-    # interface.toml: kinds
+    # ecc200.h: kinds
     BIT = 1
     BORDER_LIGHT = 2
     BORDER_DARK = 3
     FIXED_LIGHT = 4
     FIXED_DARK = 5
-    # interface.toml: end
+    # ecc200.h: end
 
 
 class Place(NamedTuple):
@@ -171,7 +171,7 @@ class Place(NamedTuple):
 class Size(NamedTuple):
     """A row of the table of sizes: modules on a side of the symbol, of a region, and of the mapping matrix, which is all regions together;
     codewords; the blocks into which they are dealt; and how many wrong codewords can be corrected in each block."""
-    # interface.toml: size
+    # ecc200.h: size
     side: int
     regions: int
     region_side: int
@@ -180,13 +180,13 @@ class Size(NamedTuple):
     check_codewords: int
     blocks: int
     limit: int
-    # interface.toml: end
+    # ecc200.h: end
 
 
 _u8, _u16 = ctypes.c_uint8, ctypes.c_uint16
 
 
-# interface.toml: structs
+# ecc200.h: structs
 class _Fault(ctypes.Structure):
     _fields_ = [("code", _u16), ("value", _u16), ("place", _u16)]
 
@@ -201,8 +201,9 @@ class _SymbolOut(ctypes.Structure):
 
 
 class _InspectionOut(ctypes.Structure):
-    _fields_ = [("fault", _Fault), ("side", _u16), ("border_faults", _u16), ("block_count", _u16), ("codeword_count", _u16),
-                ("held", _u8 * _MOST_CODEWORDS), ("mended", _u8 * _MOST_CODEWORDS), ("corrected", _u8 * _MOST_BLOCKS)]
+    _fields_ = [("fault", _Fault), ("side", _u16), ("border_faults", _u16), ("block_count", _u16),
+                ("codeword_count", _u16), ("held", _u8 * _MOST_CODEWORDS), ("mended", _u8 * _MOST_CODEWORDS),
+                ("corrected", _u8 * _MOST_BLOCKS)]
 
 
 class _PlaceOut(ctypes.Structure):
@@ -220,7 +221,7 @@ class _SizeOut(ctypes.Structure):
 
 class _SizesOut(ctypes.Structure):
     _fields_ = [("sizes", _SizeOut * _SIZE_COUNT)]
-# interface.toml: end
+# ecc200.h: end
 
 
 # The instructions of x86-64-v2, as Linux calls them: without one of these the library would end the process.
