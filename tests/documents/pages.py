@@ -1,11 +1,14 @@
-"""Reads the lists of docs/DEFINITIONS.md and docs/CLAUSES.md: what they say of functions, clauses and definitions."""
+"""Reads the lists of docs/DEFINITIONS.md and what tools/clauses prints: what they say of functions, clauses and
+definitions."""
+import collections
+import functools
 import re
 
 from tests.documents.tree import QUOTED, crates, is_declared, modules, text
-from tests.support import places
+from tests.support import commands, places
 
 DEFINITIONS = places.path("docs", "DEFINITIONS.md")
-CLAUSES = places.path("docs", "CLAUSES.md")
+CLAUSES = places.path("tools", "clauses")
 
 
 def items(path):
@@ -27,14 +30,52 @@ ITEM = re.compile(LINK + r" .*?((?:`[^`]+`(?:, |$))+)$")
 PROMISED = re.compile(r"\*(\w+)\*((?: `[^`]+`,?)*)")
 
 
-def promises(path):
-    """What a page says of clauses: crate, file, functions, and by each clause the definitions behind it."""
-    for item in items(path):
+class Promise(collections.namedtuple("Promise", "page crate file function clauses")):
+    """What is said of a function: where, its crate and file, its name, and for each clause the definitions behind
+    it."""
+
+
+def promises_of_definitions():
+    """What docs/DEFINITIONS.md says of functions."""
+    for item in items(DEFINITIONS):
         for found in CALL.finditer(item):
             if found[4] == "src":
                 clauses = [("" if name == "clause" else name, QUOTED.findall(cited))
                            for name, cited in PROMISED.findall(found[5])]
-                yield found[3], places.path(found[2]), QUOTED.findall(found[1]), clauses
+                for function in QUOTED.findall(found[1]):
+                    yield Promise("docs/DEFINITIONS.md", found[3], places.path(found[2]), function, clauses)
+
+
+@functools.cache
+def printed():
+    """What tools/clauses prints: by file, line and name, the lines that stand below."""
+    status, output = commands.said([CLAUSES])
+    if status:
+        raise AssertionError(output)
+    found = collections.defaultdict(list)
+    for line in output.splitlines():
+        if line.startswith("    "):
+            found[last].append(line.strip())
+        else:
+            last = tuple(re.fullmatch(r"(\S+?)(?::(\d+))?: (.+)", line).groups())
+            found[last] += []
+    return dict(found)
+
+
+def promises_of_clauses():
+    """What tools/clauses says of functions. Where a type promises what a trait does, no clause is named."""
+    for (path, line, function), below in printed().items():
+        if line:
+            named = [(clause.split(" ", 1) + [""])[:2] for clause in below if not clause.startswith("those of ")]
+            clauses = [("" if name == "clause" else name, cited.split(", ") if cited else []) for name, cited in named]
+            yield Promise("tools/clauses", path.split("/")[1], places.path(path), function, clauses)
+
+
+def lemmas_of_clauses():
+    """The lemmas that tools/clauses names, with their files."""
+    for (path, line, _), below in printed().items():
+        if not line:
+            yield from ((path, name.rstrip(",")) for name in " ".join(below).split())
 
 
 def bodies(file, function, clause):

@@ -1,37 +1,45 @@
-"""Compares docs/DEFINITIONS.md and docs/CLAUSES.md with the crates.
+"""Compares docs/DEFINITIONS.md and what tools/clauses prints with the crates.
 
-Their lists are what `tools/definitions` makes. Besides, by a reading of the tree that shares nothing with that script:
-what the pages name is there (each definition in that file of specs/, each function in that file of src/, each clause in
-its contract, and what is named behind a clause is cited by it), and what is there is named: each definition of specs/,
-each file of specs/inner, each public function, each of its clauses, what each crate uses of those below it, and each
-lemma that a crate passes on to those above it. Whether the words are right is for readers to judge."""
+The lists of the page are what `tools/definitions` makes. Besides, by a reading of the tree that shares nothing with
+these scripts: what they name is there (each definition in that file of specs/, each function in that file of src/ and,
+where a line is named, on that line, each clause in its contract, and what is named behind a clause is cited by it), and
+what is there is named: each definition of specs/, each file of specs/inner, each public function, each of its clauses,
+what each crate uses of those below it, and each lemma that a crate passes on to those above it. Whether the words are
+right is for readers to judge."""
 import collections
 import glob
 import os
 import re
 
-from tests.documents.pages import CLAUSES, DEFINITIONS, ITEM, bodies, is_part, items, promises
+from tests.documents.pages import (DEFINITIONS, ITEM, bodies, is_part, items, lemmas_of_clauses, printed,
+                                   promises_of_clauses, promises_of_definitions)
 from tests.documents.tree import (QUOTED, clauses_of, crates, definitions, is_declared, modules, public_functions,
-                                  sources,
-                                  text)
+                                  sources, text)
 from tests.support import commands, places
 from tests.support.case import Case
 
 
 def checks_of_promises():
-    for path in (DEFINITIONS, CLAUSES):
-        for crate, file, of, clauses in promises(path):
-            page = os.path.basename(path)
-            for function in of:
-                known = clauses_of(file, function) if os.path.exists(file) else None
-                yield f"{page}: {crate}, {function} in {os.path.basename(file)}", known is not None
-                for clause, cited in clauses:
-                    which = f"{page}: {crate}, {function}, clause {clause or 'without a name'}"
-                    yield which, clause in (known or set())
-                    for name in cited:
-                        own = name.split(".")[0].strip("◌")
-                        is_cited = any(own in body for body in bodies(file, function, clause))
-                        yield f"{which} cites {name}", is_cited and is_part(name)
+    for page, crate, file, function, clauses in [*promises_of_definitions(), *promises_of_clauses()]:
+        known = clauses_of(file, function) if os.path.exists(file) else None
+        yield f"{page}: {crate}, {function} in {os.path.basename(file)}", known is not None
+        for clause, cited in clauses:
+            which = f"{page}: {crate}, {function}, clause {clause or 'without a name'}"
+            yield which, clause in (known or set())
+            for name in cited:
+                own = name.split(".")[0].strip("◌")
+                is_cited = any(own in body for body in bodies(file, function, clause))
+                yield f"{which} cites {name}", is_cited and is_part(name)
+
+
+def checks_of_lines():
+    """Where tools/clauses says that a function stands."""
+    for path, line, function in printed():
+        if line:
+            there = text(places.path(path)).splitlines()[int(line) - 1]
+            last, _, trait = function.split("::")[-1].partition(" as ")
+            declared = rf"impl\b.* {trait} for {last}\b" if trait else rf"fn {last}\b"
+            yield f"tools/clauses, {path}:{line}, {function}", re.search(declared, there) is not None
 
 
 def checks_of_headline():
@@ -73,17 +81,16 @@ def checks_of_definitions():
 
 
 def checks_of_functions():
-    """Each public function is in docs/CLAUSES.md with all of its clauses."""
+    """tools/clauses prints each public function with all of its clauses."""
     listed = collections.defaultdict(set)
-    for crate, _, of, clauses in promises(CLAUSES):
-        for function in of:
-            for name in (function.split("::")[-1], "::".join(function.split("::")[-2:])):
-                listed[crate, name] |= {None, *(clause for clause, _ in clauses)}
+    for _, crate, _, function, clauses in promises_of_clauses():
+        for name in (function.split("::")[-1], "::".join(function.split("::")[-2:])):
+            listed[crate, name] |= {None, *(clause for clause, _ in clauses)}
     for crate in crates():
         for function, file in public_functions(crate):
-            yield f"docs/CLAUSES.md, {crate}, {function}", (crate, function) in listed
+            yield f"tools/clauses, {crate}, {function}", (crate, function) in listed
             for clause in clauses_of(file, function) or set():
-                name = f"docs/CLAUSES.md, {crate}, {function}, clause {clause or 'without a name'}"
+                name = f"tools/clauses, {crate}, {function}, clause {clause or 'without a name'}"
                 yield name, clause in listed[crate, function]
 
 
@@ -124,27 +131,23 @@ def checks_of_uses():
 
 
 def checks_of_lemmas():
-    """Each lemma that a crate passes on to those above it is in docs/CLAUSES.md, with the file that has it, and no
-    other is."""
-    listed = set()
-    for item in items(CLAUSES):
-        if item.startswith("Lemmas: "):
-            for path, names in re.findall(r"\]\(\.\./(crates/[^)]+)\)((?: `[^`]+`,?)+)", item):
-                listed |= {(path, name) for name in QUOTED.findall(names)}
+    """tools/clauses prints each lemma that a crate passes on to those above it, with the file that has it, and no
+    other."""
+    listed = set(lemmas_of_clauses())
     for path, name in sorted(listed):
         is_there = os.path.exists(places.path(path)) and name in text(places.path(path)).split()
-        yield f"docs/CLAUSES.md, {path}, {name}", is_there
+        yield f"tools/clauses, {path}, {name}", is_there
     for crate in crates():
         for exported in glob.glob(places.path("crates", crate, "proofs", "Exported.antt")):
             for module, names in re.findall(r"use Rattle\.(\S+)\.\{(.*?)\}", text(exported), re.S):
                 for name in re.split(r",\s*", names):
                     path = f"crates/{module.replace('.', '/')}.antt"
                     is_passed_on = module.endswith(".Exported") and any(name == other for _, other in listed)
-                    yield f"docs/CLAUSES.md, lemma {module}.{name}", (path, name) in listed or is_passed_on
+                    yield f"tools/clauses, lemma {module}.{name}", (path, name) in listed or is_passed_on
 
 
 class Definitions(Case):
-    """What docs/DEFINITIONS.md and docs/CLAUSES.md name is in the crates, and what is in the crates is named."""
+    """What docs/DEFINITIONS.md and tools/clauses name is in the crates, and what is in the crates is named."""
 
     def test_the_lists_are_those_that_tools_definitions_makes(self):
         status, said = commands.said([places.path("tools", "definitions"), "--check"])
@@ -153,8 +156,11 @@ class Definitions(Case):
     def test_each_definition(self):
         self.there(checks_of_definitions())
 
-    def test_each_promise_of_the_pages(self):
+    def test_each_promise(self):
         self.there(checks_of_promises())
+
+    def test_where_each_function_stands(self):
+        self.there(checks_of_lines())
 
     def test_the_promises_of_the_readme(self):
         self.there(checks_of_headline())
