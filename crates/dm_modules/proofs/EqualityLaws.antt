@@ -18,14 +18,14 @@ told_sizes s t h k e =
     same_size s t h k (eqb-true _ _ both.0) (eqb-true _ _ both.1)
 
 -- Modules that compare equal are the same.
-told_modules : (m n : ModulesView) → IsModules m → IsModules n → equal_modules m n ≡ true → m ≡ n
+pub told_modules : (m n : ModulesView) → IsModules m → IsModules n → equal_modules m n ≡ true → m ≡ n
 told_modules m n a b e =
     let both = and_parts (equal_sizes m.size n.size) (pointwise (pointwise beq) m.rows n.rows) e in
     same_parts m.size n.size m.rows n.rows (told_sizes m.size n.size a.size b.size both.0)
     (same_by_pointwise (pointwise beq) (same_by_pointwise beq (λ x y. (booleans_Decides x y).0)) m.rows n.rows both.1)
 
 -- Equal values compare equal by every equivalence.
-equal_itself : {A : Type 0} (E : A → A → Bool) → IsEquivalence E → (x y : A) → x ≡ y → E x y ≡ true
+pub equal_itself : {A : Type 0} (E : A → A → Bool) → IsEquivalence E → (x y : A) → x ≡ y → E x y ≡ true
 equal_itself E e x y p = ap (E x) (sym p) ∙ e.refl x
 
 -- The result of `==` is true exactly where the modules are the same.

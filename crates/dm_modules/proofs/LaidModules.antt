@@ -18,7 +18,7 @@ use Rattle.dm_modules.specs.Words.{WordsView, IsWords}
 use Rattle.dm_modules.specs.Border.{is_border, border_is_dark, mapped_cell}
 use Rattle.dm_modules.specs.Holding.{Holds, IsLaid}
 use Rattle.dm_modules.specs.inner.Drawing.{mapping_line, inner_colour, drawn_colour}
-use Rattle.dm_modules.proofs.TableEntries.{placed_size}
+use Rattle.dm_modules.proofs.Matrices.{placed_size}
 use Rattle.dm_modules.proofs.ModulesLemmas.{modules_by, module_by, same_modules, place_below}
 use Rattle.dm_modules.proofs.SymbolLines.{row_inside, column_inside, off_border}
 use Rattle.dm_modules.proofs.NoFaults.{no_faults, bordered_of_no_faults}

@@ -1,13 +1,15 @@
-pub mod TableEntries
-pub mod SmallestSize
-pub mod KeptWords
-pub mod BlockPlaces
-pub mod BlockLemmas
-pub mod DealtWords
-pub mod ModulesLemmas
-pub mod EqualityLaws
-pub mod SymbolLines
-pub mod NoFaults
-pub mod Drawn
-pub mod LaidModules
-pub mod FaultCounts
+mod TableEntries
+mod Matrices
+mod SmallestSize
+mod KeptWords
+mod BlockPlaces
+mod BlockLemmas
+mod DealtWords
+mod ModulesLemmas
+mod EqualityLaws
+mod SymbolLines
+mod NoFaults
+mod Drawn
+mod LaidModules
+mod FaultCounts
+pub mod Exported

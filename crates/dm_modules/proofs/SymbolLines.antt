@@ -33,6 +33,11 @@ symbol_line-div d r h =
 pub mapping_line-symbol_line : (d r : ℕ) → 6 ≤ d → mapping_line d (symbol_line d r) ≡ r
 mapping_line-symbol_line d r h = let e = symbol_line-div d r h in omega (arith, e)
 
+-- Two different lines of the mapping matrix lie in different lines of the symbol.
+pub symbol_line-one : (d r s : ℕ) → 6 ≤ d → symbol_line d r ≡ symbol_line d s → r ≡ s
+symbol_line-one d r s h e =
+    sym (mapping_line-symbol_line d r h) ∙ ap (mapping_line d) e ∙ mapping_line-symbol_line d s h
+
 -- A number is below another if its not being so is refuted.
 lt_cases : (a k : ℕ) (b : Bool) → nat_lt a k ≡ b → (k ≤ a → ⊥) → a < k
 lt_cases a k true e f = ltb-true a k e
@@ -42,12 +47,18 @@ lt_cases a k false e f = absurd (f (ltb-false a k e))
 below_by : (a k d m : ℕ) → a * d + m < k * d → a < k
 below_by a k d m l = lt_cases a k (nat_lt a k) refl (λ g. let h : k * d ≤ a * d = mul-le-mul_right d g in omega (arith, h))
 
+-- A line within k regions of d lines lies in one of these regions.
+pub region_below : (d r k : ℕ) → 6 ≤ d → r < k * d → r / d < k
+region_below d r k h l =
+    let p : 0 < d = omega arith in
+    let w : r / d * d + r % d < k * d = omega arith in
+    below_by (r / d) k d (r % d) w
+
 -- Each line of k regions of d lines lies within these regions with their borders.
 pub line_inside : (d k r : ℕ) → 6 ≤ d → r < k * d → symbol_line d r < k * (d + 2)
 line_inside d k r h l =
     let p : 0 < d = omega arith in
-    let w : r / d * d + r % d < k * d = omega arith in
-    let q : r / d < k = below_by (r / d) k d (r % d) w in
+    let q : r / d < k = region_below d r k h l in
     let f = symbol_line-form d r h in
     let m : (r / d + 1) * (d + 2) ≤ k * (d + 2) = mul-le-mul_right (d + 2) (omega arith) in
     omega (arith, f, m)
@@ -102,17 +113,25 @@ on_no_edge d e i j a b li lj f g =
     let s : nat_eq b (e + 1) ≡ false = ne_eqb b (e + 1) (λ h. omega arith) in
     rw (p, q, r, s) refl
 
--- A cell of the mapping matrix lies on no border of the symbol.
-pub no_border : (size : SizeEntry) (r c : ℕ) → IsSize size → is_border size (symbol_line size.region_rows r) (symbol_line size.region_columns c) ≡ false
-no_border size r c entry =
-    let facts = size_facts size entry in
+-- A cell of the mapping matrix lies on no border, if regions have so many rows and columns.
+pub off_edge : (size : SizeEntry) (r c : ℕ) → 6 ≤ size.region_rows → 6 ≤ size.region_columns →
+    is_border size (symbol_line size.region_rows r) (symbol_line size.region_columns c) ≡ false
+off_edge size r c rows columns =
     let d : ℕ = size.region_rows in
     let e : ℕ = size.region_columns in
-    let p : 0 < d = omega (arith, facts.least_rows) in
-    let q : 0 < e = omega (arith, facts.least_columns) in
+    let p : 0 < d = omega (arith, rows) in
+    let q : 0 < e = omega (arith, columns) in
     let lr : r % d < d = omega arith in
     let lc : c % e < e = omega arith in
-    on_no_edge d e (r % d) (c % e) (symbol_line d r % (d + 2)) (symbol_line e c % (e + 2)) lr lc (symbol_line-mod d r facts.least_rows) (symbol_line-mod e c facts.least_columns)
+    on_no_edge d e (r % d) (c % e) (symbol_line d r % (d + 2)) (symbol_line e c % (e + 2)) lr lc
+    (symbol_line-mod d r rows) (symbol_line-mod e c columns)
+
+-- So it lies on no border of a symbol.
+pub no_border : (size : SizeEntry) (r c : ℕ) → IsSize size →
+    is_border size (symbol_line size.region_rows r) (symbol_line size.region_columns c) ≡ false
+no_border size r c entry =
+    let facts = size_facts size entry in
+    off_edge size r c facts.least_rows facts.least_columns
 
 -- A module of the symbol that lies on no border is in a row and a column that hold lines of the mapping matrix.
 pub off_border : (size : SizeEntry) (row column : ℕ) → IsSize size → row < size.rows → column < size.columns → is_border size row column ≡ false →

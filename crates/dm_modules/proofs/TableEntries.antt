@@ -1,17 +1,16 @@
 -- What holds for each size of the table.
 use Rattle.std.proofs.Common.{◌≡◌, ℕ, ◌+◌, ◌*◌, ◌/◌, ◌%◌, ◌<◌, ◌≤◌, Bool, true, false, cond, ◌&&◌, nat_eq, nat_le, List}
-use Rattle.std.proofs.Common.{[], ◌∷◌, Option, Some, None, refl, sym, ◌∙◌, ap, subst, arith}
+use Rattle.std.proofs.Common.{[], ◌∷◌, Option, Some, refl, sym, ◌∙◌, ap, subst, arith}
 use Rattle.std.specs.Prelude.{All, find}
 use Rattle.std.specs.List.{AllByRecursion, list_all, list_any, range_with_len}
 use Rattle.std.proofs.lemmas.Bool.{and_parts, eqb-true, leb-true}
 use Rattle.std.proofs.lemmas.List.Elements.{recursion_from_All, All-weaker}
 use Rattle.std.proofs.lemmas.List.Folds.{Any-from_list_any}
 use Rattle.std.proofs.lemmas.List.Sums.{AllPass-from_list_all}
-use Rattle.dm_place.specs.Sides.{SidesRow, row_with_sides, sides_of, sides_table}
 use Rattle.dm_modules.specs.Sizes.{SizeEntry, size_table, IsSize, entry_with, area, mapping_rows, mapping_columns}
 use Rattle.dm_modules.specs.Sizes.{codeword_count, block_data, block_check, block_length, most_rows, most_columns}
 use Rattle.dm_modules.specs.Sizes.{most_modules, most_cells, most_data, most_codewords, most_blocks, most_block_check}
-use Rattle.dm_modules.specs.Sizes.{longest_block, IsGreatest, Agrees}
+use Rattle.dm_modules.specs.Sizes.{longest_block, IsGreatest, IsGreatestOf, Agrees}
 use Rattle.dm_place.proofs.Exported.{all_below}
 
 -- What holds of the first item, and of what is found among the others, holds of what is found among all.
@@ -151,48 +150,25 @@ block_parts s h b l =
     let f : SizeEntry → Bool = λ r. list_all (λ b. nat_eq (block_data r b + block_check r) (block_length r b)) (range_with_len 0 r.blocks) in
     eqb-true _ _ (all_below (λ b. nat_eq (block_data s b + block_check s) (block_length s b)) s.blocks b (passed_at_size f s refl h) l)
 
--- ---- the sizes of dm_place
-
--- Whether these are the rows, the columns and the number of codewords of a mapping matrix that `dm_place` has.
-is_placed : ℕ → ℕ → ℕ → Option SidesRow → Bool
-is_placed rows columns count None = false
-is_placed rows columns count (Some r) = nat_eq r.rows rows && nat_eq r.columns columns && nat_eq r.count count
-
--- A mapping matrix that passes this test is one that `dm_place` has.
-placed_row : (rows columns count : ℕ) (o : Option SidesRow) → is_placed rows columns count o ≡ true → o ≡ Some (sides_of rows columns count)
-unfolding is_placed
-placed_row rows columns count None h = cc
-placed_row rows columns count (Some r) h =
-    let both = and_parts (nat_eq r.rows rows && nat_eq r.columns columns) (nat_eq r.count count) h in
-    let two = and_parts (nat_eq r.rows rows) (nat_eq r.columns columns) both.0 in
-    let a = eqb-true _ _ two.0 in
-    let b = eqb-true _ _ two.1 in
-    let c = eqb-true _ _ both.1 in
-    ap (λ n. Some (sides_of n r.columns r.count)) a ∙ ap (λ n. Some (sides_of rows n r.count)) b ∙ ap (λ n. Some (sides_of rows columns n)) c
-
--- The mapping matrix of each size is one that `dm_place` has, with as many codewords.
-pub placed_size : (s : SizeEntry) → IsSize s → row_with_sides (mapping_rows s) (mapping_columns s) ≡ Some (sides_of (mapping_rows s) (mapping_columns s) (codeword_count s))
-unfolding size_table sides_table is_placed
-placed_size s h =
-    let f : SizeEntry → Bool = λ r. is_placed (mapping_rows r) (mapping_columns r) (codeword_count r) (row_with_sides (mapping_rows r) (mapping_columns r)) in
-    placed_row _ _ _ _ (passed_at_size f s refl h)
-
--- So is one with as many rows, columns and codewords.
-pub placed_as : (s : SizeEntry) (rows columns count : ℕ) → IsSize s → rows ≡ mapping_rows s → columns ≡ mapping_columns s → count ≡ codeword_count s → row_with_sides rows columns ≡ Some (sides_of rows columns count)
-placed_as s rows columns count h er ec en =
-    ap (λ r. row_with_sides r columns) er ∙ ap (row_with_sides (mapping_rows s)) ec ∙ placed_size s h
-    ∙ ap (λ r. Some (sides_of r (mapping_columns s) (codeword_count s))) (sym er) ∙ ap (λ c. Some (sides_of rows c (codeword_count s))) (sym ec) ∙ ap (λ n. Some (sides_of rows columns n)) (sym en)
-
 -- ---- the greatest numbers of the columns
 
--- A number that some size has in a column, and that none exceeds, is the greatest of the column.
-pub greatest : (column : SizeEntry → ℕ) (number : ℕ) → list_any (λ size. nat_eq (column size) number) size_table ≡ true → list_all (λ size. nat_le (column size) number) size_table ≡ true → IsGreatest column number
-greatest column number some none =
-    let met = Any-from_list_any (λ size. nat_eq (column size) number) size_table some in
+-- A number that some of these sizes has in a column, and that none exceeds, is the greatest of the column.
+pub greatest_of : {A : Type 0} (sizes : List A) (column : A → ℕ) (number : ℕ) →
+    list_any (λ size. nat_eq (column size) number) sizes ≡ true →
+    list_all (λ size. nat_le (column size) number) sizes ≡ true → IsGreatestOf sizes column number
+greatest_of sizes column number some none =
+    let met = Any-from_list_any (λ size. nat_eq (column size) number) sizes some in
     record {
       met = (met.0, met.1, met.2, met.3, eqb-true _ _ met.4);
-      most = All-weaker (λ size. nat_le (column size) number ≡ true) (λ size. column size ≤ number) (λ size h. leb-true _ _ h) size_table (AllPass-from_list_all (λ size. nat_le (column size) number) size_table none);
+      most =
+          All-weaker (λ size. nat_le (column size) number ≡ true) (λ size. column size ≤ number) (λ size h. leb-true _ _ h)
+          sizes (AllPass-from_list_all (λ size. nat_le (column size) number) sizes none);
     }
+
+-- So it is with a column of the table.
+pub greatest : (column : SizeEntry → ℕ) (number : ℕ) → list_any (λ size. nat_eq (column size) number) size_table ≡ true →
+    list_all (λ size. nat_le (column size) number) size_table ≡ true → IsGreatest column number
+greatest = greatest_of size_table
 
 -- ---- the numbers of each size agree
 

@@ -13,6 +13,30 @@ places_of_block B b count = filter (λ j. nat_eq (j % B) b) (range_with_len 0 co
 abbrev pub block_of : ℕ → ℕ → List ℕ → List ℕ
 block_of B b words = map (λ j. get_or words j 0) (places_of_block B b (length words))
 
+-- The lists can be B blocks: there is one for each block, as long as `long` says of it, of numbers of 0 to 255.
+abbrev pub AreLists : ℕ → (ℕ → ℕ) → (ℕ → List ℕ) → Type 0
+AreLists B long blocks = (b : ℕ) → b < B → (length (blocks b) ≡ long b) × All (λ word. word < 256) (blocks b)
+
+-- The lists can be blocks of the size, which has so many blocks of these lengths.
+abbrev pub AreBlocks : SizeEntry → (ℕ → List ℕ) → Type 0
+AreBlocks size = AreLists size.blocks (block_length size)
+
+-- The blocks of the codewords are these lists.
+abbrev pub HasBlocks : WordsView → (ℕ → List ℕ) → Type 0
+HasBlocks words blocks = (b : ℕ) → b < words.size.blocks → block_of words.size.blocks b words.list ≡ blocks b
+
+-- Each block of the codewords begins with as many codewords as `count` says of it, as that of other codewords does.
+abbrev pub BeginAlike : (ℕ → ℕ) → WordsView → WordsView → Type 0
+BeginAlike count v w =
+    (b : ℕ) → b < v.size.blocks →
+    take (count b) (block_of v.size.blocks b v.list) ≡ take (count b) (block_of v.size.blocks b w.list)
+
+-- The first codewords of a block, as many as `count` says of it, are those of the symbol's data codewords that are dealt
+-- to the block.
+abbrev pub BeginsWithData : (ℕ → ℕ) → WordsView → ℕ → Type 0
+BeginsWithData count w b =
+    take (count b) (block_of w.size.blocks b w.list) ≡ block_of w.size.blocks b (data_of w)
+
 -- ---- laws
 
 -- Each block is as long as the table says, and has its data codewords and as many check codewords as each other block.
@@ -29,27 +53,17 @@ BlocksHaveLengths = (words : WordsView) (b : ℕ) → IsWords words → b < word
 abbrev pub BlocksTellWords : Type 0
 BlocksTellWords =
     (v w : WordsView) → IsWords v → IsWords w → v.size ≡ w.size →
-    ((b : ℕ) → b < v.size.blocks → block_of v.size.blocks b v.list ≡ block_of v.size.blocks b w.list) → v.list ≡ w.list
+    HasBlocks v (λ b. block_of v.size.blocks b w.list) → v.list ≡ w.list
 
 -- The data codewords of all blocks determine the data codewords of the symbol.
 abbrev pub BlocksTellData : Type 0
 BlocksTellData =
     (v w : WordsView) → IsWords v → IsWords w → v.size ≡ w.size →
-    ((b : ℕ) → b < v.size.blocks →
-    take (block_data v.size b) (block_of v.size.blocks b v.list) ≡ take (block_data v.size b) (block_of v.size.blocks b w.list)) →
-    data_of v ≡ data_of w
+    BeginAlike (block_data v.size) v w → data_of v ≡ data_of w
 
--- Each block begins with its data codewords: those of the symbol's data codewords that are dealt to it.
+-- Each block begins with its data codewords.
 abbrev pub DataComesFirst : Type 0
-DataComesFirst =
-    (w : WordsView) (b : ℕ) → IsWords w → b < w.size.blocks →
-    take (block_data w.size b) (block_of w.size.blocks b w.list) ≡ block_of w.size.blocks b (data_of w)
-
--- The lists can be blocks of the size: there is one for each block, as long as that block of the size is, of numbers of
--- 0 to 255.
-abbrev pub AreBlocks : SizeEntry → (ℕ → List ℕ) → Type 0
-AreBlocks size blocks =
-    (b : ℕ) → b < size.blocks → (length (blocks b) ≡ block_length size b) × All (λ word. word < 256) (blocks b)
+DataComesFirst = (w : WordsView) (b : ℕ) → IsWords w → b < w.size.blocks → BeginsWithData (block_data w.size) w b
 
 -- Lists that can be the blocks of a size are the blocks of some codewords of that size.
 abbrev pub BlocksMakeWords : Type 0

@@ -1,10 +1,11 @@
 -- Borders (the finder pattern and the alignment patterns) of whole symbols, where a cell of the mapping matrix lies in
 -- the symbol, and the fixed square: ISO/IEC 16022, symbol structure.
-use Rattle.std.specs.Prelude.{◌≡◌, ℕ, ◌+◌, ◌%◌, ◌<◌, Bool, true, not, ◌&&◌, if◌then◌else◌, sum_by, count_by, Option}
+use Rattle.std.specs.Prelude.{ℕ, ◌+◌, ◌%◌, Bool, not, ◌&&◌, if◌then◌else◌, sum_by, count_by, Option}
 use Rattle.std.specs.Prelude.{Some, None}
 use Rattle.std.specs.Bool.{beq}
 use Rattle.std.specs.List.{range_with_len}
-use Rattle.dm_place.specs.Border.{is_on_edge, edge_is_dark, symbol_line, is_fixed, fixed_is_dark}
+use Rattle.dm_place.specs.Border as matrix
+use Rattle.dm_place.specs.Border.{is_on_edge, edge_is_dark, symbol_line}
 use Rattle.dm_modules.specs.Sizes.{SizeEntry, mapping_rows, mapping_columns}
 use Rattle.dm_modules.specs.Modules.{ModulesView, module_at}
 
@@ -46,9 +47,7 @@ border_fault_count modules =
 
 -- ---- the fixed square
 
--- Modules have the fixed square if, where their size has one, each cell of it has its colour.
+-- Modules have the fixed square if their mapping matrix has it.
 abbrev pub HasFixedSquare : ModulesView → Type 0
 HasFixedSquare modules =
-    (row column : ℕ) → row < mapping_rows modules.size → column < mapping_columns modules.size →
-    is_fixed (mapping_rows modules.size) (mapping_columns modules.size) row column ≡ true →
-    mapped_cell modules row column ≡ fixed_is_dark row column
+    matrix.HasFixedSquare (mapping_rows modules.size) (mapping_columns modules.size) (mapped_cell modules)

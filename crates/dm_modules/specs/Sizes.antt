@@ -2,6 +2,7 @@
 -- rectangles extend it.
 use Rattle.std.specs.Prelude.{◌≡◌, ℕ, ◌+◌, ◌-◌, ◌*◌, ◌/◌, ◌≤◌, Bool, true, false, not, ◌&&◌, List, [], ◌∷◌, nat_eq}
 use Rattle.std.specs.Prelude.{nat_le, Option, Some, find, All, Any}
+use Rattle.dm_place.specs.Sides.{SidesRow, sides_of, sides_table, row_with_sides}
 use Rattle.dm_modules.specs.declared.size.SizeChoice.{SizeChoice}
 use Rattle.dm_modules.specs.declared.size.SizeChoice.TheVariants.{Square, Rectangle, Extended, Any as AnySize, Exact}
 
@@ -116,7 +117,7 @@ mapping_columns size = size.regions_across * size.region_columns
 abbrev pub codeword_count : SizeEntry → ℕ
 codeword_count size = size.data_count + size.check_count
 
--- Of `count` things that are dealt in turn into B blocks, block b gets this many.
+-- Of `count` things that are dealt in turn into B blocks, block b, where b is below B, gets this many.
 abbrev pub share : ℕ → ℕ → ℕ → ℕ
 share count B b = (count + B - 1 - b) / B
 
@@ -198,17 +199,23 @@ most_blocks = 10
 abbrev pub most_block_check : ℕ
 most_block_check = 68
 
--- No block has more codewords than this: as many as the field has elements other than 0. The laws of codewords hold up
--- to this length.
+-- ---- the bound of a block
+
+-- No block may have more codewords than this: as many as the field has elements other than 0. The laws of codewords hold
+-- up to this length. The longest block of the table has 243.
 abbrev pub longest_block : ℕ
 longest_block = 255
 
 -- ---- laws
 
--- The number is the greatest of a column: some size of the table has it, and none has more.
-pub record IsGreatest (column : SizeEntry → ℕ) (number : ℕ) : Type 0 where
-  pub met : Any (λ size. column size ≡ number) size_table
-  pub most : All (λ size. column size ≤ number) size_table
+-- The number is the greatest of a column of these sizes: some of them has it, and none has more.
+pub record IsGreatestOf {A : Type 0} (sizes : List A) (column : A → ℕ) (number : ℕ) : Type 0 where
+  pub met : Any (λ size. column size ≡ number) sizes
+  pub most : All (λ size. column size ≤ number) sizes
+
+-- The number is the greatest of a column of the table.
+abbrev pub IsGreatest : (SizeEntry → ℕ) → ℕ → Type 0
+IsGreatest = IsGreatestOf size_table
 
 -- The numbers of a size agree: regions with their borders make the symbol, the mapping matrix has eight cells for each
 -- codeword and at most seven more, and each block has the same number of check codewords.
@@ -217,3 +224,12 @@ pub record Agrees (size : SizeEntry) : Type 0 where
   pub columns : size.columns ≡ size.regions_across * (size.region_columns + 2)
   pub codewords : codeword_count size ≡ mapping_rows size * mapping_columns size / 8
   pub checks : size.check_count ≡ size.blocks * block_check size
+
+-- A size has a mapping matrix of these rows, columns and codewords.
+abbrev pub matrix_of : SizeEntry → SidesRow
+matrix_of size = sides_of (mapping_rows size) (mapping_columns size) (codeword_count size)
+
+-- The matrices for which `dm_place` shows the laws of placement are the mapping matrices of the sizes, and no others.
+pub record MatricesAgree : Type 0 where
+  pub each : All (λ size. row_with_sides (mapping_rows size) (mapping_columns size) ≡ Some (matrix_of size)) size_table
+  pub no_other : All (λ matrix. Any (λ size. matrix_of size ≡ matrix) size_table) sides_table

@@ -1,6 +1,6 @@
 -- Borders (the finder pattern and the alignment patterns) of data regions of any rows and columns, the line of the
 -- symbol in which a row or a column of the mapping matrix lies, and the fixed square: ISO/IEC 16022, symbol structure.
-use Rattle.std.specs.Prelude.{ℕ, ◌+◌, ◌*◌, ◌/◌, ◌%◌, Bool, true, ◌&&◌, ◌||◌, nat_eq, nat_le, if◌then◌else◌}
+use Rattle.std.specs.Prelude.{◌≡◌, ℕ, ◌+◌, ◌*◌, ◌/◌, ◌%◌, ◌<◌, Bool, true, ◌&&◌, ◌||◌, nat_eq, nat_le, if◌then◌else◌}
 
 -- ---- one region with its border: two rows and two columns more than the region has
 
@@ -35,3 +35,10 @@ is_fixed rows columns row column = has_fixed_square rows columns && nat_le rows 
 -- table only squares have one, so that the dark cells lie on the diagonal.
 abbrev pub fixed_is_dark : ℕ → ℕ → Bool
 fixed_is_dark row column = nat_eq row column
+
+-- A mapping matrix, of which `look` says what cells are dark, has the fixed square if, where its rows and columns give
+-- it one, each cell of it has its colour.
+abbrev pub HasFixedSquare : ℕ → ℕ → (ℕ → ℕ → Bool) → Type 0
+HasFixedSquare rows columns look =
+    (row column : ℕ) → row < rows → column < columns → is_fixed rows columns row column ≡ true →
+    look row column ≡ fixed_is_dark row column

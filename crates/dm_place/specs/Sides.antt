@@ -12,7 +12,8 @@ pub record SidesRow : Type 0 where
 abbrev pub sides_of : ℕ → ℕ → ℕ → SidesRow
 sides_of rows columns count = record { rows = rows; columns = columns; count = count }
 
--- The 24 squares of ISO/IEC 16022 come first, then its 6 rectangles and the 18 of ISO/IEC 21471.
+-- The 24 squares of ISO/IEC 16022 come first, then its 6 rectangles and the 18 of ISO/IEC 21471. That these are the
+-- mapping matrices of the table of sizes is a law of `dm_modules`.
 unfoldable pub sides_table : List SidesRow
 sides_table =
     sides_of 8 8 8
@@ -69,7 +70,8 @@ sides_table =
 abbrev pub row_with_sides : ℕ → ℕ → Option SidesRow
 row_with_sides rows columns = find (λ row. nat_eq row.rows rows && nat_eq row.columns columns) sides_table
 
--- Rows and columns are neither fewer nor more than some matrix of the table has.
+-- There are 6 to 132 rows and 6 to 132 columns. No matrix of the table has fewer or more of either; not each number in
+-- between is one of the table.
 pub record SidesAreSafe (rows columns : ℕ) : Type 0 where
   pub rows_low : 6 ≤ rows
   pub columns_low : 6 ≤ columns

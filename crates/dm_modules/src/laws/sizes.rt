@@ -1,7 +1,7 @@
 //! Facts about the definitions of the sizes.
 
 ghost use Rattle.std.specs.Prelude.{◌≡◌, All, length};
-ghost use Rattle.dm_modules.specs.Sizes.{IsGreatest, Agrees, area, codeword_count, mapping_rows, mapping_columns};
+ghost use Rattle.dm_modules.specs.Sizes.{IsGreatest, Agrees, MatricesAgree, area, codeword_count, mapping_rows, mapping_columns};
 ghost use Rattle.dm_modules.specs.Sizes.{most_rows, most_columns, most_modules, most_cells, most_data, most_codewords};
 ghost use Rattle.dm_modules.specs.Sizes.{most_blocks, most_block_check, longest_block, block_check, size_table};
 ghost use Rattle.std.specs.Prelude.{◌*◌};
@@ -14,6 +14,11 @@ use crate::size::{
 /// The numbers of each size agree with one another.
 pub fn sizes_agree()
     ensures { All Agrees size_table }
+{}
+
+/// The mapping matrices of the sizes are those for which `dm_place` shows the laws of placement, and there are no others.
+pub fn matrices_are_those_of_placement()
+    ensures { MatricesAgree }
 {}
 
 /// The most rows, columns, modules, cells of a mapping matrix, data codewords, codewords, blocks and check codewords of

@@ -1,6 +1,6 @@
 use Rattle.std.proofs.Common.{ap, length, ◌∙◌}
 use Rattle.dm_modules.specs.Sizes.{mapping_rows, mapping_columns}
-use Rattle.dm_modules.proofs.TableEntries.{placed_as}
+use Rattle.dm_modules.proofs.Matrices.{placed_as}
 use Rattle.dm_modules.proofs.LaidModules.{laid_by}
 use Rattle.dm_modules.proofs.placing.lay_cells.Goals as goal
 

@@ -1,4 +1,4 @@
-use Rattle.dm_modules.proofs.TableEntries.{placed_as}
+use Rattle.dm_modules.proofs.Matrices.{placed_as}
 use Rattle.dm_modules.proofs.words.lift_list.Goals as goal
 
 pub lift-requires-clause-row : goal.lift-requires-clause-row
