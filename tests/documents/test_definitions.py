@@ -98,7 +98,11 @@ def home(crate, name):
     """The crate that declares what others have by this name of a crate: that crate, or another, from which it passes
     the name on; None if there is none."""
     public = re.compile(rf"^pub (?:const )?(?:fn|struct|enum|trait) {name}\b", re.M)
-    return next((it for it in [crate, *crates()] if any(map(public.search, sources(it).values()))), None)
+    if any(map(public.search, sources(crate).values())):
+        return crate
+    passes = [line for source in sources(crate).values() for line in re.findall(r"^pub use ([^;]+);", source, re.M)]
+    there = [line.split("::")[0] for line in passes if re.search(rf"\b{name}\b", line)]
+    return next((home(it, name) for it in there if it in crates()), None)
 
 
 def checks_of_uses():

@@ -1,5 +1,6 @@
 -- A grid into which the rows of the mapping square are put, and that it is the grid in which codewords are laid.
 use Rattle.std.proofs.Common.{◌≡◌, ◌≢◌, ◌⊎◌, inl, inr, ℕ, ◌+◌, ◌*◌, ◌%◌, ◌<◌, ◌≤◌, Bool, true, false, ◌&&◌, ◌||◌, nat_eq, nat_lt, refl, sym, ◌∙◌, ap, arith, subst, eq-eqb}
+use Rattle.std.specs.Prelude.{if◌then◌else◌}
 use Rattle.std.proofs.Math.Bool.{or-false, false-or}
 use Rattle.std.proofs.lemmas.Bool.{eqb-true, ne_eqb, cases_lt, le-ltb, lt-ltb}
 use Rattle.std.proofs.lemmas.Bool.Decides.{eqb_tells}
@@ -11,13 +12,27 @@ use Rattle.dm_layout.specs.Holds.{bit_of, IsLaid}
 use Rattle.dm_layout.specs.Placement.{IsPlace, EachCellOnce}
 use Rattle.dm_layout.specs.inner.Drawing.{IsDrawn, mapping_line, is_fixed_dark, empty_grid, empty_colour}
 use Rattle.dm_layout.specs.Words.{WordsView, IsWords}
-use Rattle.dm_layout.proofs.GridLemmas.{cell_of_square}
-use Rattle.dm_layout.proofs.Laid.{begun_empty, on_border, in_mapping}
+use Rattle.dm_layout.proofs.GridLemmas.{cell_of_square, grid_of_square}
 use Rattle.dm_layout.proofs.NoFaults.{no_faults}
 use Rattle.dm_place.proofs.Exported.{none_fixed}
 use Rattle.dm_layout.proofs.PlacementRows.{once_at_row}
 use Rattle.dm_layout.proofs.SymbolLines.{symbol_line-one, symbol_line-mod, mapping_line-symbol_line, lies_inside, no_border}
 use Rattle.dm_layout.proofs.TableRows.{row_facts, across_covers}
+
+-- In the empty grid a cell has its colour by whether it lies in a border.
+by_border : (s : SizeRow) (u v : ℕ) (b : Bool) → is_border s u v ≡ b →
+    empty_colour s u v ≡ (if b then border_is_dark s u v else is_fixed_dark s.mapping (mapping_line s.region_side u) (mapping_line s.region_side v))
+by_border s u v b h =
+    ap (λ (t : Bool). if t then border_is_dark s u v else is_fixed_dark s.mapping (mapping_line s.region_side u) (mapping_line s.region_side v)) h
+
+-- In the empty grid a border cell has its border colour.
+on_border : (s : SizeRow) (u v : ℕ) → is_border s u v ≡ true → empty_colour s u v ≡ border_is_dark s u v
+on_border s u v h = by_border s u v true h
+
+-- In the empty grid a cell of no border is dark exactly where it is a dark cell of the fixed square.
+in_mapping : (s : SizeRow) (u v : ℕ) → is_border s u v ≡ false →
+    empty_colour s u v ≡ is_fixed_dark s.mapping (mapping_line s.region_side u) (mapping_line s.region_side v)
+in_mapping s u v h = by_border s u v false h
 
 -- The empty grid is one in which no row of the mapping square is drawn.
 pub drawn_first : (size : SizeRow) (look : ℕ → ℕ → Bool) (grid : GridView) → IsRow size → grid ≡ empty_grid size → IsDrawn size look 0 grid
@@ -27,7 +42,7 @@ drawn_first size look grid row e =
     let least = (row_facts size row).least in
     record {
       same_size = ap (λ (g : GridView). g.size) e;
-      square = subst (λ (g : GridView). IsGrid g) (sym e) (begun_empty size row).square;
+      square = subst (λ (g : GridView). IsGrid g) (sym e) (grid_of_square size (empty_colour size) row);
       border = λ u v lu lv b. ap (λ (g : GridView). cell_at g u v) e ∙ cell_of_square size (empty_colour size) u v lu lv ∙ on_border size u v b;
       mapped = λ r c lr lc.
           ap (λ (g : GridView). cell_at g (symbol_line d r) (symbol_line d c)) e

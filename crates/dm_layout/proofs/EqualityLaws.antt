@@ -1,33 +1,23 @@
 -- That `==` on grids tells equal values.
-use Rattle.std.proofs.Common.{◌≡◌, ℕ, ◌^◌, ◌<◌, ◌↔◌, IsTrue, Bool, true, false, List, length, Some, nat_eq, refl, sym, ◌∙◌, ap, subst}
+use Rattle.std.proofs.Common.{◌≡◌, ℕ, ◌^◌, ◌<◌, ◌↔◌, IsTrue, Bool, true, false, List, length, nat_eq, refl, sym, ◌∙◌, ap}
+use Rattle.std.proofs.Common.{subst}
 use Rattle.std.specs.Prelude.{All}
-use Rattle.std.specs.Bool.{beq}
-use Rattle.std.specs.Cmp.{IsEquivalence, booleans_Decides, nat_eq_equiv}
+use Rattle.std.specs.Cmp.{nat_eq_equiv}
 use Rattle.std.specs.Cmp.Lexicographic.{pointwise, lists_equiv, same_text}
-use Rattle.std.proofs.lemmas.Bool.{and_parts, eqb-true}
-use Rattle.dm_layout.specs.Sizes.{SizeRow, IsRow, row_with_side}
-use Rattle.dm_layout.specs.Grid.{GridView, IsGrid, square_of_rows}
+use Rattle.dm_modules.specs.Modules.{ModulesView}
+use Rattle.dm_modules.proofs.Exported.{equal_itself, told_modules}
+use Rattle.dm_layout.specs.Grid.{GridView, IsGrid, symbol_modules, square_of_rows}
 use Rattle.dm_layout.specs.Equality.{equal_grids, grids_equiv}
-use Rattle.dm_layout.proofs.GridLemmas.{same_parts}
-use Rattle.dm_place.proofs.Exported.{same_by_pointwise}
 use Rattle.dm_layout.proofs.PackedRows.{same_packed}
-
--- Sizes of the table with the same side are the same.
-pub same_row : (s t : SizeRow) → IsRow s → IsRow t → s.side ≡ t.side → s ≡ t
-same_row s t h k e =
-    let g : Some s ≡ Some t = sym h ∙ ap row_with_side e ∙ k in
-    cc
+use Rattle.dm_layout.proofs.Squares.{is_modules, same_parts, same_row}
 
 -- Grids that compare equal are the same.
 pub told_grids : (g h : GridView) → IsGrid g → IsGrid h → equal_grids g h ≡ true → g ≡ h
 told_grids g h a b e =
-    let both = and_parts (nat_eq g.size.side h.size.side) (pointwise (pointwise beq) g.rows h.rows) e in
-    same_parts g.size h.size g.rows h.rows (same_row g.size h.size a.row b.row (eqb-true _ _ both.0))
-    (same_by_pointwise (pointwise beq) (same_by_pointwise beq (λ x y. (booleans_Decides x y).0)) g.rows h.rows both.1)
-
--- Equal values compare equal by every equivalence.
-pub equal_itself : {A : Type 0} (E : A → A → Bool) → IsEquivalence E → (x y : A) → x ≡ y → E x y ≡ true
-equal_itself E e x y p = ap (E x) (sym p) ∙ e.refl x
+    let same = told_modules (symbol_modules g) (symbol_modules h) (is_modules g a) (is_modules h b) e in
+    same_parts g.size h.size g.rows h.rows
+    (same_row g.size h.size a.row b.row (ap (λ (m : ModulesView). m.size.rows) same))
+    (ap (λ (m : ModulesView). m.rows) same)
 
 -- The result of `==` is true exactly where the two grids are the same.
 pub result_tells : (g h : GridView) (b : Bool) → IsGrid g → IsGrid h → b ≡ equal_grids g h → IsTrue b ↔ (g ≡ h)

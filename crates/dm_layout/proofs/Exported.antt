@@ -1,14 +1,10 @@
 -- What the crates above cite of the proofs of this one: facts of its definitions.
-pub use Rattle.dm_layout.proofs.BlockLemmas.{length_of_block, word_of_block}
+pub use Rattle.dm_modules.proofs.Exported.{summands_zero}
+pub use Rattle.dm_layout.proofs.BlockLemmas.{blocks_make_words, length_of_block, word_of_block}
 pub use Rattle.dm_layout.proofs.CellLanes.{cut_cell, sixteen_shown}
-pub use Rattle.dm_layout.proofs.DealtWords.{blocks_make_words}
-pub use Rattle.dm_layout.proofs.EqualityLaws.{same_row}
 pub use Rattle.dm_layout.proofs.GridLemmas.{same_squares}
-pub use Rattle.dm_layout.proofs.HeldWords.{every_grid_holds, laid_somewhere}
-pub use Rattle.dm_layout.proofs.Laid.{one_laid}
-pub use Rattle.dm_layout.proofs.NoFaults.{summands_zero}
 pub use Rattle.dm_layout.proofs.PackedRows.{square_of_prefix}
 pub use Rattle.dm_layout.proofs.PlacementRows.{count_at_row, once_at_row}
-pub use Rattle.dm_layout.proofs.Reading.{one_list}
+pub use Rattle.dm_layout.proofs.Squares.{every_grid_holds, laid_somewhere, one_laid, one_list, same_row}
 pub use Rattle.dm_layout.proofs.SymbolLines.{lies_inside, no_border, symbol_line-one}
 pub use Rattle.dm_layout.proofs.TableRows.{found_row, row_facts, side_fits}

@@ -1,55 +1,62 @@
 -- Codewords that are kept at the start of a list of bytes.
-use Rattle.std.proofs.Common.{◌≡◌, ℕ, ◌+◌, ◌-◌, ◌<◌, ◌≤◌, List, length, take, drop, replicate, ◌∙◌, arith, length-take, ap, ◌++◌}
+use Rattle.std.proofs.Common.{◌+◌, ◌<◌, ◌≤◌, ◌≡◌, ◌++◌, ℕ, List, length, set, take, drop, replicate}
 use Rattle.std.specs.Prelude.{All}
-use Rattle.std.proofs.Math.Seq.{take-append-add}
-use Rattle.std.proofs.lemmas.List.{drop-replicate, take-replicate, length-append, length-drop, length-replicate}
-use Rattle.std.proofs.lemmas.List.Elements.{All-append, All-drop, All-replicate, All-take}
-use borrow.Rule.Slice.PartMut.{put_mid, same_len_mid}
-use Rattle.dm_layout.specs.Sizes.{SizeRow, IsRow, codeword_count, most_codewords}
+use borrow.Rule.Slice.PartMut.{put_mid}
+use Rattle.dm_modules.proofs.Exported as symbols
+use Rattle.dm_layout.specs.Sizes.{SizeRow, IsRow, symbol_size, codeword_count, most_codewords}
 use Rattle.dm_layout.specs.Words.{IsWords}
 use Rattle.dm_layout.specs.inner.Keeping.{kept_words, AreKept}
+use Rattle.dm_layout.proofs.Squares.{is_size, are_words}
 
 -- The codewords that are kept for a size are well-formed codewords of that size.
 pub words_of_kept : (size : SizeRow) (kept : List ℕ) → AreKept size kept → IsWords (kept_words size kept)
-words_of_kept size kept h = record {
-  row = h.row;
-  count = let e = length-take (codeword_count size) kept in omega (arith, e, h.fits, h.count);
-  bytes = All-take (λ word. word < 256) (codeword_count size) kept h.bytes;
+words_of_kept size kept h =
+    are_words (kept_words size kept) h.row (symbols.words_of_kept (symbol_size size) kept h.words)
+
+-- Zeros are kept.
+pub zeros_kept : (size : SizeRow) → IsRow size → codeword_count size ≤ most_codewords →
+    AreKept size (replicate most_codewords 0)
+zeros_kept size row fits = record {
+  row = row;
+  words = symbols.zeros_kept most_codewords (symbol_size size) (is_size size row) fits;
+}
+
+-- What is kept for one size is kept for any other that fits.
+pub kept_for : (size other : SizeRow) (kept : List ℕ) → IsRow size → codeword_count size ≤ most_codewords →
+    AreKept other kept → AreKept size kept
+kept_for size other kept row fits h = record {
+  row = row;
+  words = symbols.kept_for (symbol_size size) (symbol_size other) kept (is_size size row) fits h.words;
 }
 
 -- Codewords, and zeros behind them, are kept.
-pub prefix_kept : (size : SizeRow) (prefix : List ℕ) → IsRow size → codeword_count size ≤ most_codewords → length prefix ≤ most_codewords → All (λ word. word < 256) prefix
-    → AreKept size (prefix ++ drop (length prefix) (replicate most_codewords 0))
-prefix_kept size prefix row fits room bytes =
-    let none : ℕ = 0 in
-    let zeros : List ℕ = drop (length prefix) (replicate most_codewords none) in
-    let long : length zeros ≡ most_codewords - length prefix = ap length (drop-replicate (length prefix) most_codewords none) ∙ length-replicate (most_codewords - length prefix) none in
-    record {
-      row = row;
-      fits = fits;
-      count = omega (arith, length-append prefix zeros, long, room);
-      bytes = All-append (λ (word : ℕ). word < 256) prefix zeros bytes (All-drop (λ (word : ℕ). word < 256) (length prefix) (replicate most_codewords none) (All-replicate (λ (word : ℕ). word < 256) most_codewords none (omega arith)));
-    }
+pub prefix_kept : (size : SizeRow) (prefix : List ℕ) → IsRow size → codeword_count size ≤ most_codewords →
+    length prefix ≤ most_codewords → All (λ word. word < 256) prefix →
+    AreKept size (prefix ++ drop (length prefix) (replicate most_codewords 0))
+prefix_kept size prefix row fits short bytes = record {
+  row = row;
+  words = symbols.prefix_kept most_codewords (symbol_size size) prefix (is_size size row) fits short bytes;
+}
 
 -- The codewords of the size are then these data codewords and zeros.
-pub zeros_behind : (size : SizeRow) (prefix : List ℕ) → codeword_count size ≤ most_codewords → length prefix ≡ size.data_count
-    → take (codeword_count size) (prefix ++ drop (length prefix) (replicate most_codewords 0)) ≡ prefix ++ replicate size.check_count 0
-zeros_behind size prefix fits count =
-    let all : codeword_count size ≡ length prefix + size.check_count = omega (arith, count) in
-    ap (λ n. take n (prefix ++ drop (length prefix) (replicate most_codewords 0))) all
-    ∙ take-append-add prefix (drop (length prefix) (replicate most_codewords 0)) size.check_count
-    ∙ ap (λ zeros. prefix ++ take size.check_count zeros) (drop-replicate (length prefix) most_codewords 0)
-    ∙ ap (λ zeros. prefix ++ zeros) (take-replicate size.check_count (most_codewords - length prefix) 0 (omega (arith, fits, count)))
+pub zeros_behind : (size : SizeRow) (prefix : List ℕ) → codeword_count size ≤ most_codewords →
+    length prefix ≡ size.data_count →
+    take (codeword_count size) (prefix ++ drop (length prefix) (replicate most_codewords 0)) ≡ prefix ++ replicate size.check_count 0
+zeros_behind size = symbols.zeros_behind most_codewords (symbol_size size)
 
 -- Codewords of the size that are put among what is kept are kept with it.
-pub part_kept : (size : SizeRow) (start count : ℕ) (kept part : List ℕ) → AreKept size kept → start + count ≤ most_codewords → length part ≡ count → All (λ word. word < 256) part
-    → AreKept size (put_mid start count kept part)
-part_kept size start count kept part h room long bytes =
-    let prefix : All (λ word. word < 256) (take start kept) = All-take (λ word. word < 256) start kept h.bytes in
-    let rest : All (λ word. word < 256) (drop count (drop start kept)) = All-drop (λ word. word < 256) count _ (All-drop (λ word. word < 256) start kept h.bytes) in
-    record {
-      row = h.row;
-      fits = h.fits;
-      count = same_len_mid start count kept part (omega (arith, long, h.count, length-take count (drop start kept), length-drop start kept)) ∙ h.count;
-      bytes = All-append (λ word. word < 256) (take start kept) _ prefix (All-append (λ word. word < 256) part _ bytes rest);
-    }
+pub part_kept : (size : SizeRow) (start count : ℕ) (kept part : List ℕ) → AreKept size kept →
+    start + count ≤ most_codewords → length part ≡ count → All (λ word. word < 256) part →
+    AreKept size (put_mid start count kept part)
+part_kept size start count kept part h short long bytes = record {
+  row = h.row;
+  words = symbols.part_kept (symbol_size size) start count kept part h.words short long bytes;
+}
+
+-- Where one codeword is put, codewords are kept as before.
+pub one_kept : (size : SizeRow) (kept : List ℕ) (place word : ℕ) → word < 256 → AreKept size kept →
+    AreKept size (set kept place word)
+one_kept size kept place word small h = record {
+  row = h.row;
+  words = symbols.one_kept (symbol_size size) kept place word small h.words;
+}

@@ -1,4 +1,5 @@
 mod TableRows
+mod Squares
 mod KeptWords
 mod PlacementRows
 mod BlockLemmas
@@ -7,8 +8,6 @@ mod PackedRows
 mod CellLanes
 mod SymbolLines
 mod OneKind
-mod Writing
-mod Laid
 mod NoFaults
 mod Reading
 mod InnerRows
@@ -30,6 +29,4 @@ mod BorderMasks
 mod BorderLemmas
 mod EmptyGrid
 mod EqualityLaws
-mod HeldWords
-mod DealtWords
 pub mod Exported

@@ -1,40 +1,18 @@
 -- What holds for each row of the size table.
-use Rattle.std.proofs.Common.{◌≡◌, ℕ, ◌+◌, ◌*◌, ◌%◌, ◌<◌, ◌≤◌, Bool, true, false, cond, ◌&&◌, nat_eq, nat_le, List, [], ◌∷◌, Option, Some, None, refl, sym, ◌∙◌, ap, subst, arith}
+use Rattle.std.proofs.Common.{◌≡◌, ℕ, ◌+◌, ◌*◌, ◌%◌, ◌<◌, ◌≤◌, Bool, true, false, cond, ◌&&◌, nat_eq, nat_le, List, [], ◌∷◌, map, Option, Some, None, refl, sym, ◌∙◌, ap, subst, arith}
 use Rattle.std.specs.Prelude.{All, IfSome, find}
 use Rattle.std.specs.List.{AllByRecursion, list_all, list_any}
 use Rattle.std.proofs.lemmas.Bool.{and_parts, eqb-true, leb-true, leb-false}
-use Rattle.std.proofs.lemmas.List.Elements.{recursion_from_All, All-from_recursion, All-weaker}
-use Rattle.std.proofs.lemmas.List.Folds.{Any-from_list_any}
+use Rattle.std.proofs.lemmas.List.Elements.{recursion_from_All, All-from_recursion}
 use Rattle.std.proofs.lemmas.List.Sums.{AllPass-from_list_all}
+use Rattle.dm_modules.proofs.Exported.{at_found, found_passes, greatest_of}
 use Rattle.dm_layout.specs.Sizes.{SizeRow, size_table, IsRow, row_with_side, row_for_words, regions_across, block_data, block_check, block_length, codeword_count, largest_side, largest_mapping, most_across, most_codewords, longest_block, IsGreatest}
-
--- What holds of the first item, and of what is found among the others, holds of what is found among all.
-found_case : {X : Type 0} (P : X → Type 0) (y x : X) (o : Option X) (b : Bool) → P y → (o ≡ Some x → P x) → cond b (Some y) o ≡ Some x → P x
-found_case P y x o true h k e =
-    let g : y ≡ x = cc in
-    subst P g h
-found_case P y x o false h k e = k e
-
--- What holds of each item of a list holds of the one that is found.
-pub at_found : {X : Type 0} (P : X → Type 0) (p : X → Bool) (xs : List X) (x : X) → AllByRecursion P xs → find p xs ≡ Some x → P x
-at_found P p [] x h e = cc
-at_found P p (y ∷ ys) x h e = found_case P y x (find p ys) (p y) h.0 (at_found P p ys x h.1) e
 
 -- The size that is found for a side has that side and stands in the table.
 pub found_row : (side : ℕ) (s : SizeRow) → row_with_side side ≡ Some s → (s.side ≡ side) × IsRow s
 found_row side s h =
-    let e : s.side ≡ side = found_passes side size_table s h in
+    let e : s.side ≡ side = eqb-true _ _ (found_passes (λ row. nat_eq row.side side) size_table s h) in
     (e, subst (λ (n : ℕ). row_with_side n ≡ Some s) (sym e) h)
-  where
-    passes_case : (side : ℕ) (y x : SizeRow) (o : Option SizeRow) (b : Bool) → nat_eq y.side side ≡ b → (o ≡ Some x → x.side ≡ side) → cond b (Some y) o ≡ Some x → x.side ≡ side
-    passes_case side y x o true t k e =
-        let g : y ≡ x = cc in
-        subst (λ (r : SizeRow). r.side ≡ side) g (eqb-true _ _ t)
-    passes_case side y x o false t k e = k e
-
-    found_passes : (side : ℕ) (rows : List SizeRow) (s : SizeRow) → find (λ row. nat_eq row.side side) rows ≡ Some s → s.side ≡ side
-    found_passes side [] s h = cc
-    found_passes side (r ∷ rows) s h = passes_case side r s (find (λ row. nat_eq row.side side) rows) (nat_eq r.side side) refl (found_passes side rows s) h
 
 -- ---- what the checker computes for each row of the table
 
@@ -45,12 +23,20 @@ passed_at_row test s h row =
     (recursion_from_All (λ r. test r ≡ true) size_table (AllPass-from_list_all test size_table h)) row
 
 -- Two numbers that are the same in each row of the table are the same for a size that stands in it.
-same_at_row : (x y : SizeRow → ℕ) (s : SizeRow) → IsRow s → list_all (λ r. nat_eq (x r) (y r)) size_table ≡ true → x s ≡ y s
+pub same_at_row : (x y : SizeRow → ℕ) (s : SizeRow) → IsRow s → list_all (λ r. nat_eq (x r) (y r)) size_table ≡ true → x s ≡ y s
 same_at_row x y s row h = eqb-true _ _ (passed_at_row (λ r. nat_eq (x r) (y r)) s h row)
 
 -- A number that is at most another one in each row of the table is so for a size that stands in it.
 most_at_row : (x y : SizeRow → ℕ) (s : SizeRow) → IsRow s → list_all (λ r. nat_le (x r) (y r)) size_table ≡ true → x s ≤ y s
 most_at_row x y s row h = leb-true _ _ (passed_at_row (λ r. nat_le (x r) (y r)) s h row)
+
+-- Two values that the checker finds to be the same in each row of a table are the same in each of its rows.
+pub same_in_each : {X Y : Type 0} (f g : X → Y) (rows : List X) → map f rows ≡ map g rows → AllByRecursion (λ r. f r ≡ g r) rows
+same_in_each f g [] h = tt
+same_in_each f g (r ∷ rows) h =
+    let first : f r ≡ g r = cc in
+    let rest : map f rows ≡ map g rows = cc in
+    (first, same_in_each f g rows rest)
 
 -- The numbers of a size are related in these ways.
 pub record RowFacts (s : SizeRow) : Type 0 where
@@ -160,10 +146,6 @@ smallest_for_words count (Some size) e =
 -- ---- the greatest numbers of the columns
 
 -- A number that some row has in a column, and that none exceeds, is the greatest of the column.
-pub greatest : (column : SizeRow → ℕ) (number : ℕ) → list_any (λ row. nat_eq (column row) number) size_table ≡ true → list_all (λ row. nat_le (column row) number) size_table ≡ true → IsGreatest column number
-greatest column number some none =
-    let met = Any-from_list_any (λ row. nat_eq (column row) number) size_table some in
-    record {
-      met = (met.0, met.1, met.2, met.3, eqb-true _ _ met.4);
-      most = All-weaker (λ row. nat_le (column row) number ≡ true) (λ row. column row ≤ number) (λ row h. leb-true _ _ h) size_table (AllPass-from_list_all (λ row. nat_le (column row) number) size_table none);
-    }
+pub greatest : (column : SizeRow → ℕ) (number : ℕ) → list_any (λ row. nat_eq (column row) number) size_table ≡ true →
+    list_all (λ row. nat_le (column row) number) size_table ≡ true → IsGreatest column number
+greatest = greatest_of size_table

@@ -1,44 +1,38 @@
--- The Reed-Solomon blocks into which the codewords of a symbol are dealt: ISO/IEC 16022, error correction.
-use Rattle.std.specs.Prelude.{◌≡◌, ℕ, ◌%◌, ◌<◌, List, map, filter, length, nat_eq, get_or, take, All}
-use Rattle.std.specs.List.{range_with_len}
+-- The Reed-Solomon blocks into which the codewords of a square are dealt, as those of a symbol of any size are. The
+-- blocks of a square of the table are all of one length.
+use Rattle.std.specs.Prelude.{◌≡◌, ℕ, ◌<◌, List}
+use Rattle.dm_modules.specs.Blocks as symbols
+pub use Rattle.dm_modules.specs.Blocks.{places_of_block, block_of}
 use Rattle.dm_layout.specs.Sizes.{SizeRow, IsRow, block_data, block_length}
-use Rattle.dm_layout.specs.Words.{WordsView, IsWords, data_of}
+use Rattle.dm_layout.specs.Words.{WordsView, IsWords, symbol_words, data_of}
 
--- The places of block b in a list of `count` codewords that is dealt into
--- B blocks are those that leave b when divided by B, in order.
-abbrev pub places_of_block : ℕ → ℕ → ℕ → List ℕ
-places_of_block B b count = filter (λ j. nat_eq (j % B) b) (range_with_len 0 count)
-
--- Block b of a list of codewords that is dealt into B blocks has the codewords at its places, in order.
-abbrev pub block_of : ℕ → ℕ → List ℕ → List ℕ
-block_of B b words = map (λ j. get_or words j 0) (places_of_block B b (length words))
+-- The lists can be blocks of the size.
+abbrev pub AreBlocks : SizeRow → (ℕ → List ℕ) → Type 0
+AreBlocks size = symbols.AreLists size.blocks (λ b. block_length size)
 
 -- ---- laws
 
--- The blocks of a symbol determine its codewords: codewords of one size that agree in all blocks are the same.
+-- The blocks of a square determine its codewords.
 abbrev pub BlocksTellWords : Type 0
 BlocksTellWords =
     (v w : WordsView) → IsWords v → IsWords w → v.size ≡ w.size →
-    ((b : ℕ) → b < v.size.blocks → block_of v.size.blocks b v.list ≡ block_of v.size.blocks b w.list) → v.list ≡ w.list
+    symbols.HasBlocks (symbol_words v) (λ b. block_of v.size.blocks b w.list) → v.list ≡ w.list
 
--- The data codewords of all blocks determine the data codewords of the symbol.
+-- The data codewords of all blocks determine the data codewords of the square.
 abbrev pub BlocksTellData : Type 0
 BlocksTellData =
     (v w : WordsView) → IsWords v → IsWords w → v.size ≡ w.size →
-    ((b : ℕ) → b < v.size.blocks → take (block_data v.size) (block_of v.size.blocks b v.list) ≡ take (block_data v.size) (block_of v.size.blocks b w.list)) → data_of v ≡ data_of w
+    symbols.BeginAlike (λ b. block_data v.size) (symbol_words v) (symbol_words w) → data_of v ≡ data_of w
 
--- Each block begins with its data codewords: those of the symbol's data codewords that are dealt to it.
+-- Each block begins with its data codewords.
 abbrev pub DataComesFirst : Type 0
 DataComesFirst =
-    (w : WordsView) (b : ℕ) → IsWords w → b < w.size.blocks → take (block_data w.size) (block_of w.size.blocks b w.list) ≡ block_of w.size.blocks b (data_of w)
-
--- The lists can be blocks of the size: there is one for each block, as
--- long as the blocks of the size are, of numbers of 0 to 255.
-abbrev pub AreBlocks : SizeRow → (ℕ → List ℕ) → Type 0
-AreBlocks size blocks = (b : ℕ) → b < size.blocks → (length (blocks b) ≡ block_length size) × All (λ word. word < 256) (blocks b)
+    (w : WordsView) (b : ℕ) → IsWords w → b < w.size.blocks →
+    symbols.BeginsWithData (λ b. block_data w.size) (symbol_words w) b
 
 -- Lists that can be the blocks of a size are the blocks of some codewords of that size.
 abbrev pub BlocksMakeWords : Type 0
 BlocksMakeWords =
     (size : SizeRow) (blocks : ℕ → List ℕ) → IsRow size → AreBlocks size blocks →
-    (w : WordsView) × IsWords w × (w.size ≡ size) × ((b : ℕ) → b < size.blocks → block_of size.blocks b w.list ≡ blocks b)
+    (w : WordsView) × IsWords w × (w.size ≡ size)
+    × ((b : ℕ) → b < size.blocks → block_of size.blocks b w.list ≡ blocks b)

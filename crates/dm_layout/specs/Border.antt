@@ -1,54 +1,40 @@
--- Borders (the finder pattern and the alignment patterns), where a cell of the mapping square lies in the symbol,
--- and the fixed square: ISO/IEC 16022, symbol structure.
-use Rattle.std.specs.Prelude.{◌≡◌, ℕ, ◌+◌, ◌%◌, ◌<◌, Bool, true, not, ◌&&◌, sum_by, count_by}
-use Rattle.std.specs.Bool.{beq}
-use Rattle.std.specs.List.{range_with_len}
-use Rattle.dm_place.specs.Border as border
+-- Borders (the finder pattern and the alignment patterns) of squares, where a cell of the mapping square lies in the
+-- symbol, and the fixed square: all as in symbols of any size.
+use Rattle.std.specs.Prelude.{ℕ, Bool}
+use Rattle.dm_place.specs.Border as matrix
+use Rattle.dm_modules.specs.Border as symbols
 pub use Rattle.dm_place.specs.Border.{edge_is_dark, symbol_line, fixed_is_dark}
-use Rattle.dm_layout.specs.Sizes.{SizeRow}
-use Rattle.dm_layout.specs.Grid.{GridView, cell_at}
+use Rattle.dm_layout.specs.Sizes.{SizeRow, symbol_size}
+use Rattle.dm_layout.specs.Grid.{GridView, symbol_modules}
 
--- ---- one region with its border: a square of side d + 2 around a region of side d
-
--- A cell of this square belongs to the border if it lies in the left or right column or in the top or bottom row.
+-- A cell belongs to the border of a region of side d.
 abbrev pub is_on_edge : ℕ → ℕ → ℕ → Bool
-is_on_edge d = border.is_on_edge d d
+is_on_edge d = matrix.is_on_edge d d
 
--- ---- the whole symbol, whose regions with their borders lie side by side
-
--- A cell of the symbol belongs to a border, that is, to the finder pattern or an alignment pattern, if it lies on the
--- edge of its region's square.
+-- A cell of the square belongs to a border.
 abbrev pub is_border : SizeRow → ℕ → ℕ → Bool
-is_border size row column = is_on_edge size.region_side (row % (size.region_side + 2)) (column % (size.region_side + 2))
+is_border size = symbols.is_border (symbol_size size)
 
--- A border cell of the symbol is dark if it is dark at its place in its region's square.
+-- A border cell of the square is dark.
 abbrev pub border_is_dark : SizeRow → ℕ → ℕ → Bool
-border_is_dark size row column = edge_is_dark size.region_side (row % (size.region_side + 2)) (column % (size.region_side + 2))
+border_is_dark size = symbols.border_is_dark (symbol_size size)
 
--- A cell of the mapping square has the colour of the symbol cell at which it lies.
+-- The colour of a cell of the mapping square is that of the symbol's.
 abbrev pub mapped_cell : GridView → ℕ → ℕ → Bool
-mapped_cell grid row column = cell_at grid (symbol_line grid.size.region_side row) (symbol_line grid.size.region_side column)
+mapped_cell grid = symbols.mapped_cell (symbol_modules grid)
 
--- ---- border faults
-
--- A border fault is a border cell that has the wrong colour.
+-- A cell of the grid is a border fault.
 abbrev pub is_fault : GridView → ℕ → ℕ → Bool
-is_fault grid row column = is_border grid.size row column && not (beq (cell_at grid row column) (border_is_dark grid.size row column))
+is_fault grid = symbols.is_fault (symbol_modules grid)
 
--- The border faults of a grid are counted over all its cells.
+-- The border faults of a grid are counted as those of its symbol.
 abbrev pub border_fault_count : GridView → ℕ
-border_fault_count grid =
-    sum_by (λ row. count_by (is_fault grid row) (range_with_len 0 grid.size.side)) (range_with_len 0 grid.size.side)
+border_fault_count grid = symbols.border_fault_count (symbol_modules grid)
 
--- ---- the fixed square
-
--- The fixed square is the lower right 2 by 2 cells of a mapping square whose side n leaves 2 when divided by 4; a
--- mapping square of another side has none.
+-- A cell of a mapping square of side n belongs to the fixed square.
 abbrev pub is_fixed : ℕ → ℕ → ℕ → Bool
-is_fixed n = border.is_fixed n n
+is_fixed n = matrix.is_fixed n n
 
--- A grid has the fixed square if, where its size has one, each cell of it has its colour.
+-- A grid has the fixed square if its mapping square has it.
 abbrev pub HasFixedSquare : GridView → Type 0
-HasFixedSquare grid =
-    (row column : ℕ) → row < grid.size.mapping → column < grid.size.mapping → is_fixed grid.size.mapping row column ≡ true →
-    mapped_cell grid row column ≡ fixed_is_dark row column
+HasFixedSquare grid = matrix.HasFixedSquare grid.size.mapping grid.size.mapping (mapped_cell grid)

@@ -1,4 +1,5 @@
--- Which codewords a grid holds, and the grid in which codewords are laid: ISO/IEC 16022, module placement and symbol structure.
+-- Which codewords a grid holds, and the grid in which codewords are laid: as modules hold codewords, and as these are
+-- laid in modules.
 use Rattle.std.specs.Prelude.{◌≡◌}
 use Rattle.dm_place.specs.Holding.{HoldsBits}
 pub use Rattle.dm_place.specs.Holding.{bit_of}
@@ -6,17 +7,15 @@ use Rattle.dm_layout.specs.Grid.{GridView, IsGrid}
 use Rattle.dm_layout.specs.Words.{WordsView, IsWords}
 use Rattle.dm_layout.specs.Border.{mapped_cell, border_fault_count, HasFixedSquare}
 
--- A grid holds codewords if both are of one size and, for every bit of every codeword, the cell at which the bit's
--- place lies in the symbol is dark exactly where the bit is 1. There are exactly as many codewords as the size has,
--- each of 0 to 255, and the grid has the size's side. The colours of the borders and of the fixed square don't matter
--- here, by a rule of this project.
+-- A grid holds codewords if both are of one size of the table of squares, and its modules hold the codewords. That this
+-- is what `dm_modules` says of modules is a law, in `Squares.antt`.
 pub record Holds (grid : GridView) (words : WordsView) : Type 0 where
   pub square : IsGrid grid
   pub codewords : IsWords words
   pub same_size : words.size ≡ grid.size
   pub bits : HoldsBits grid.size.mapping grid.size.mapping (mapped_cell grid) words.list
 
--- Codewords are laid in a grid if the grid holds them, has no border fault and has the fixed square.
+-- Codewords are laid in a grid if they are laid in its modules.
 pub record IsLaid (words : WordsView) (grid : GridView) : Type 0 where
   pub holds : Holds grid words
   pub border : border_fault_count grid ≡ 0

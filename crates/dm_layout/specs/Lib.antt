@@ -7,4 +7,5 @@ pub mod Blocks
 pub mod Placement
 pub mod Holds
 pub mod Equality
+pub mod Squares
 pub mod inner

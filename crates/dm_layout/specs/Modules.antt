@@ -1,13 +1,14 @@
 -- What single modules of a symbol are, by row and column: ISO/IEC 16022, symbol structure and module placement.
-use Rattle.std.specs.Prelude.{◌≡◌, ℕ, ◌<◌, Bool, true, if◌then◌else◌, Option, Some, None}
-use Rattle.dm_layout.specs.Sizes.{SizeRow, IsRow}
-use Rattle.dm_layout.specs.Border.{is_border, border_is_dark, is_fixed, symbol_line}
+use Rattle.std.specs.Prelude.{◌≡◌, ℕ, ◌<◌, Bool, true, Option}
+use Rattle.dm_modules.specs.Border as symbols
+use Rattle.dm_layout.specs.Sizes.{SizeRow, IsRow, symbol_size}
+use Rattle.dm_layout.specs.Border.{is_border, is_fixed, symbol_line}
 use Rattle.dm_layout.specs.Placement.{IsPlace}
 use Rattle.dm_place.specs.declared.shape.Cell.{Cell}
 
--- A module of a border has a prescribed colour. Any other module has none here, not even one of the fixed square.
+-- A module has the colour that a border prescribes, as in a symbol of any size.
 abbrev pub border_colour : SizeRow → ℕ → ℕ → Option Bool
-border_colour size row column = if is_border size row column then Some (border_is_dark size row column) else None
+border_colour size = symbols.border_colour (symbol_size size)
 
 -- A module is of a border, or of the fixed square, or it is a bit, 1 to 8, of a codeword, counted from 0.
 pub data Kind : Type 0 where

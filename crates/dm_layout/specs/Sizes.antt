@@ -1,5 +1,9 @@
 -- The square sizes of ECC 200, as one table: ISO/IEC 16022, symbol sizes and capacities.
-use Rattle.std.specs.Prelude.{◌≡◌, ℕ, ◌+◌, ◌/◌, ◌≤◌, List, [], ◌∷◌, nat_eq, nat_le, Option, Some, find, All, Any}
+use Rattle.std.specs.Prelude.{◌≡◌, ℕ, ◌*◌, ◌/◌, false, ◌&&◌, List, [], ◌∷◌, map, filter, nat_eq, nat_le, Option, Some}
+use Rattle.std.specs.Prelude.{find}
+use Rattle.dm_modules.specs.Sizes as symbols
+use Rattle.dm_modules.specs.Sizes.{SizeEntry, entry_of}
+pub use Rattle.dm_modules.specs.Sizes.{longest_block}
 
 -- A size is a row of the table.
 pub record SizeRow : Type 0 where
@@ -89,10 +93,6 @@ most_blocks = 6
 abbrev pub most_block_check : ℕ
 most_block_check = 68
 
--- No block has more codewords than this: as many as the field has elements other than 0. The laws of codewords hold up to this length.
-abbrev pub longest_block : ℕ
-longest_block = 255
-
 -- The size with a given side is the row of the table that has it, if there is one.
 abbrev pub row_with_side : ℕ → Option SizeRow
 row_with_side side = find (λ row. nat_eq row.side side) size_table
@@ -106,21 +106,31 @@ row_for_words count = find (λ row. nat_le count row.data_count) size_table
 abbrev pub IsRow : SizeRow → Type 0
 IsRow row = row_with_side row.side ≡ Some row
 
--- This many data regions stand side by side.
+-- ---- squares among all symbols
+
+-- This many data regions stand side by side, and as many one above the other.
 abbrev pub regions_across : SizeRow → ℕ
 regions_across row = row.mapping / row.region_side
 
+-- A size of a square is that of a symbol whose rows and columns are alike. What this crate says of a size and of
+-- squares of this size, it says of this size.
+abbrev pub symbol_size : SizeRow → SizeEntry
+symbol_size row =
+    entry_of row.side row.side row.region_side row.region_side (regions_across row) (regions_across row) row.data_count
+    row.check_count row.blocks false
+
 -- A symbol of this size has this many codewords, data and check codewords together.
 abbrev pub codeword_count : SizeRow → ℕ
-codeword_count row = row.data_count + row.check_count
-
--- Each block of this size has this many data codewords.
-abbrev pub block_data : SizeRow → ℕ
-block_data row = row.data_count / row.blocks
+codeword_count row = symbols.codeword_count (symbol_size row)
 
 -- Each block of this size has this many check codewords.
 abbrev pub block_check : SizeRow → ℕ
-block_check row = row.check_count / row.blocks
+block_check row = symbols.block_check (symbol_size row)
+
+-- Each block of this size has this many data codewords, since the blocks of a square of the table are all of one
+-- length.
+abbrev pub block_data : SizeRow → ℕ
+block_data row = row.data_count / row.blocks
 
 -- Each block of this size has this many codewords.
 abbrev pub block_length : SizeRow → ℕ
@@ -128,7 +138,17 @@ block_length row = codeword_count row / row.blocks
 
 -- ---- laws
 
--- The number is the greatest of a column: some row of the table has it, and none has more.
-pub record IsGreatest (column : SizeRow → ℕ) (number : ℕ) : Type 0 where
-  pub met : Any (λ row. column row ≡ number) size_table
-  pub most : All (λ row. column row ≤ number) size_table
+-- The number is the greatest of a column of the table.
+abbrev pub IsGreatest : (SizeRow → ℕ) → ℕ → Type 0
+IsGreatest = symbols.IsGreatestOf size_table
+
+-- A square of the table of all symbols is this row.
+abbrev pub row_of_entry : SizeEntry → SizeRow
+row_of_entry size =
+    row_of size.rows (size.regions_down * size.regions_across) size.region_rows (symbols.mapping_rows size) size.data_count
+    size.check_count size.blocks (symbols.limit size)
+
+-- The table has the squares of the table of all symbols whose sides are at most the largest, in the same order.
+abbrev pub TableIsOfSquares : Type 0
+TableIsOfSquares =
+    size_table ≡ map row_of_entry (filter (λ size. symbols.is_square size && nat_le size.rows largest_side) symbols.size_table)

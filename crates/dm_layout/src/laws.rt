@@ -4,3 +4,4 @@ pub mod blocks;
 pub mod holding;
 pub mod placement;
 pub mod sizes;
+pub mod squares;

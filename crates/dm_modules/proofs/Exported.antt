@@ -4,6 +4,8 @@ pub use Rattle.dm_modules.proofs.BlockLemmas.{put_gives, put_one, same_by_blocks
 pub use Rattle.dm_modules.proofs.BlockLemmas.{steps_of_block, walk_of_block, word_of_block}
 pub use Rattle.dm_modules.proofs.DealtWords.{blocks_make_words}
 pub use Rattle.dm_modules.proofs.EqualityLaws.{equal_itself, told_modules}
+pub use Rattle.dm_modules.proofs.KeptWords.{kept_for, one_kept, part_kept, prefix_kept, words_of_kept}
+pub use Rattle.dm_modules.proofs.KeptWords.{zeros_behind, zeros_kept}
 pub use Rattle.dm_modules.proofs.LaidModules.{one_held, one_laid, some_held, some_laid}
 pub use Rattle.dm_modules.proofs.Matrices.{placed_size}
 pub use Rattle.dm_modules.proofs.ModulesLemmas.{module_by, modules_by, same_modules, same_rows_by}

@@ -1,5 +1,6 @@
 -- How the grid of a symbol is drawn: light, then with correct borders and the fixed square, then with the rows of the mapping square put in between.
-use Rattle.std.specs.Prelude.{◌≡◌, ℕ, ◌+◌, ◌-◌, ◌*◌, ◌/◌, ◌<◌, Bool, true, false, ◌&&◌, ◌||◌, nat_lt, if◌then◌else◌}
+use Rattle.std.specs.Prelude.{◌≡◌, ℕ, ◌<◌, Bool, true, false, ◌&&◌, ◌||◌, nat_lt, if◌then◌else◌}
+pub use Rattle.dm_modules.specs.inner.Drawing.{mapping_line}
 use Rattle.dm_layout.specs.Sizes.{SizeRow}
 use Rattle.dm_layout.specs.Grid.{GridView, IsGrid, cell_at, square_by}
 use Rattle.dm_layout.specs.Border.{symbol_line, is_border, border_is_dark, is_fixed, fixed_is_dark}
@@ -9,11 +10,6 @@ abbrev pub IsLight : GridView → Type 0
 IsLight grid = (row column : ℕ) → row < grid.size.side → column < grid.size.side → cell_at grid row column ≡ false
 
 -- ---- the grid without codewords
-
--- A row of the symbol that is no border's is this row of the mapping
--- square, where the data regions have the side d; a column likewise.
-abbrev pub mapping_line : ℕ → ℕ → ℕ
-mapping_line d line = line - 2 * (line / (d + 2)) - 1
 
 -- A cell of the mapping square is a dark cell of the fixed square.
 abbrev pub is_fixed_dark : ℕ → ℕ → ℕ → Bool

@@ -1,12 +1,12 @@
 -- What the iterator over places has still to give, by its state.
-use Rattle.std.specs.Prelude.{◌≡◌, ℕ, ◌+◌, ◌-◌, ◌<◌, ◌≤◌, List, [], ◌∷◌, ◌++◌, drop, length}
+use Rattle.std.specs.Prelude.{ℕ, ◌+◌, ◌-◌, ◌<◌, ◌≤◌, List, ◌++◌, drop, length}
 use Rattle.dm_place.specs.declared.shape.Cell.{Cell}
 use Rattle.dm_place.specs.declared.shape.Shape.{Shape}
 use Rattle.dm_place.specs.declared.cells.Place.{Place}
 use Rattle.dm_place.specs.Placement as matrix
 use Rattle.dm_place.specs.Placement.{ShapesInside}
 use Rattle.dm_layout.specs.Sizes.{largest_mapping}
-use Rattle.dm_layout.specs.Placement.{cells_of, bits_from, places_from}
+use Rattle.dm_layout.specs.Placement.{bits_from, places_from}
 
 -- All of these cells lie in the square.
 abbrev pub CellsInside : ℕ → List Cell → Type 0

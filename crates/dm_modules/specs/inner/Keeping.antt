@@ -9,13 +9,16 @@ use Rattle.dm_modules.specs.Words.{WordsView}
 abbrev pub kept_words : SizeEntry → List ℕ → WordsView
 kept_words size kept = record { size = size; list = take (codeword_count size) kept }
 
--- Codewords of the size are kept in these bytes if the size stands in the table and there are as many bytes as a symbol
--- can have codewords at most.
-pub record AreKept (size : SizeEntry) (kept : List ℕ) : Type 0 where
+-- Codewords of the size are kept in so many bytes if the size stands in the table and has no more codewords.
+pub record AreKeptIn (room : ℕ) (size : SizeEntry) (kept : List ℕ) : Type 0 where
   pub entry : IsSize size
-  pub fits : codeword_count size ≤ most_codewords
-  pub count : length kept ≡ most_codewords
+  pub fits : codeword_count size ≤ room
+  pub count : length kept ≡ room
   pub bytes : All (λ word. word < 256) kept
+
+-- They are kept in as many bytes as a symbol can have codewords at most.
+abbrev pub AreKept : SizeEntry → List ℕ → Type 0
+AreKept = AreKeptIn most_codewords
 
 -- The modules of a size that are kept in a list have the first of it as their rows, one after the other.
 abbrev pub kept_modules : SizeEntry → List Bool → ModulesView

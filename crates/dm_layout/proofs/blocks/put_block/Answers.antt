@@ -7,7 +7,7 @@ use Rattle.dm_layout.proofs.blocks.put_block.Goals as goal
 pub put-requires : goal.put-requires
 put-requires c =
     let same : c.blocks-blocks.result ≡ c.args.words.now.size.blocks = c.blocks-blocks.ensures.value ∙ ap (λ (s : SizeRow). s.blocks) c.size.ensures.value in
-    next_inside c.args.words.now c.loop-i.words c.blocks-blocks.result c.args.b c.loop-i.i c.args.list.now c.loop-i.invariant.words c.loop-i.invariant.size
+    next_inside c.args.words.now c.loop-i.words c.blocks-blocks.result c.args.b c.loop-i.i c.args.list.now c.size.ensures.words c.loop-i.invariant.words c.loop-i.invariant.size
     same c.requires.block c.requires.length c.loop-i-test.true
 
 pub loop-i-preserved : goal.loop-i-preserved
@@ -15,7 +15,7 @@ loop-i-preserved c =
     let same : c.blocks-blocks.result ≡ c.args.words.now.size.blocks = c.blocks-blocks.ensures.value ∙ ap (λ (s : SizeRow). s.blocks) c.size.ensures.value in
     let below : c.args.b < c.blocks-blocks.result = omega (arith, same, c.requires.block) in
     let inside =
-    next_inside c.args.words.now c.loop-i.words c.blocks-blocks.result c.args.b c.loop-i.i c.args.list.now c.loop-i.invariant.words c.loop-i.invariant.size
+    next_inside c.args.words.now c.loop-i.words c.blocks-blocks.result c.args.b c.loop-i.i c.args.list.now c.size.ensures.words c.loop-i.invariant.words c.loop-i.invariant.size
     same c.requires.block c.requires.length c.loop-i-test.true in
     let list = ap (λ (w : WordsView). w.list) c.put.ensures.value in
     record {
@@ -30,7 +30,7 @@ loop-i-preserved c =
 pub returns-clause-put : goal.returns-clause-put
 returns-clause-put c =
     let same : c.blocks-blocks.result ≡ c.args.words.now.size.blocks = c.blocks-blocks.ensures.value ∙ ap (λ (s : SizeRow). s.blocks) c.size.ensures.value in
-    put_gives c.args.words.now c.loop-i.words c.args.b c.args.list.now c.loop-i.invariant.words c.loop-i.invariant.size c.requires.block c.requires.length
+    put_gives c.args.words.now c.loop-i.words c.args.b c.args.list.now c.size.ensures.words c.loop-i.invariant.words c.loop-i.invariant.size c.requires.block c.requires.length
     (λ k l. ap (λ n. get_or c.loop-i.words.list (k * n + c.args.b) 0) (sym same) ∙ c.loop-i.invariant.put k (omega arith))
 
 pub returns-clause-others : goal.returns-clause-others

@@ -1,8 +1,8 @@
 use Rattle.std.proofs.Common.{◌∙◌, ap, arith}
 use Rattle.dm_layout.specs.Sizes.{SizeRow}
-use Rattle.dm_layout.proofs.Laid.{one_laid}
+use Rattle.dm_layout.proofs.Squares.{one_laid}
 use Rattle.dm_layout.proofs.PlacementRows.{side_at_row}
-use Rattle.dm_layout.proofs.Reading.{one_list}
+use Rattle.dm_layout.proofs.Squares.{one_list}
 use Rattle.dm_layout.proofs.placing.lay_to.Goals as goal
 
 pub lay_rows-requires-else-mapping-le-NARROW_MAPPING : goal.lay_rows-requires-else-mapping-le-NARROW_MAPPING

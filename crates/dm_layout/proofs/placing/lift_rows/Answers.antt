@@ -11,7 +11,8 @@ use Rattle.dm_layout.proofs.LiftedWords.{slot_words, fits_test}
 use Rattle.dm_layout.proofs.PlacementRows.{side_at_row}
 use Rattle.dm_layout.proofs.SlotOrder.{order_at_row, slot_in_rows, slot_count, read_more}
 use Rattle.dm_place.specs.Holding.{word_at}
-use Rattle.dm_layout.proofs.Reading.{one_list, held}
+use Rattle.dm_layout.proofs.Reading.{held}
+use Rattle.dm_layout.proofs.Squares.{one_list}
 use Rattle.dm_layout.proofs.placing.lift_rows.Goals as goal
 
 -- The codeword in a slot.

@@ -1,4 +1,4 @@
-use Rattle.dm_layout.proofs.DealtWords.{blocks_make_words}
+use Rattle.dm_layout.proofs.BlockLemmas.{blocks_make_words}
 use Rattle.dm_layout.proofs.laws.blocks.blocks_make_codewords.Goals as goal
 
 pub returns : goal.returns

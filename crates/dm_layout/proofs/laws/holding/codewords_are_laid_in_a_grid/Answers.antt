@@ -1,5 +1,5 @@
-use Rattle.dm_layout.proofs.HeldWords.{laid_somewhere}
-use Rattle.dm_layout.proofs.Laid.{one_laid}
+use Rattle.dm_layout.proofs.Squares.{laid_somewhere}
+use Rattle.dm_layout.proofs.Squares.{one_laid}
 use Rattle.dm_layout.proofs.laws.holding.codewords_are_laid_in_a_grid.Goals as goal
 
 pub returns : goal.returns

@@ -1,5 +1,5 @@
-use Rattle.dm_layout.proofs.HeldWords.{every_grid_holds}
-use Rattle.dm_layout.proofs.Reading.{one_list}
+use Rattle.dm_layout.proofs.Squares.{every_grid_holds}
+use Rattle.dm_layout.proofs.Squares.{one_list}
 use Rattle.dm_layout.proofs.laws.holding.each_grid_holds_codewords.Goals as goal
 
 pub returns : goal.returns

@@ -1,20 +1,9 @@
-use Rattle.std.proofs.Common.{◌<◌, ◌∙◌, ℕ, List, length, set, ap, subst, sym, length-set, length-take, arith}
+use Rattle.std.proofs.Common.{◌<◌, ℕ, List, length, ap, subst, sym, length-take, arith}
 use Rattle.std.proofs.Math.Seq.{take-set-lt}
-use Rattle.std.proofs.lemmas.List.Elements.{All-set}
-use Rattle.dm_layout.specs.Sizes.{SizeRow, codeword_count}
+use Rattle.dm_layout.specs.Sizes.{codeword_count}
 use Rattle.dm_layout.specs.Words.{WordsView}
-use Rattle.dm_layout.specs.inner.Keeping.{AreKept}
-use Rattle.dm_layout.proofs.KeptWords.{words_of_kept}
+use Rattle.dm_layout.proofs.KeptWords.{one_kept, words_of_kept}
 use Rattle.dm_layout.proofs.words.Words.put.Goals as goal
-
--- Where one codeword is put, codewords are kept as before.
-one_kept : (size : SizeRow) (kept : List ℕ) (place word : ℕ) → word < 256 → AreKept size kept → AreKept size (set kept place word)
-one_kept size kept place word small h = record {
-  row = h.row;
-  fits = h.fits;
-  count = length-set kept place word ∙ h.count;
-  bytes = All-set (λ (w : ℕ). w < 256) kept place word small h.bytes;
-}
 
 pub invariant_of-self : goal.invariant_of-self
 invariant_of-self c = one_kept c.self.inside.size c.self.inside.kept c.args.place c.args.word (omega (arith, c.ranges.word)) c.self.invariant
