@@ -4,6 +4,7 @@ pub use Rattle.dm_symbol.proofs.CompletedWords.{normal_grid_is_there}
 pub use Rattle.dm_symbol.proofs.EachGrid.{read_result_is_there, fits_or_not, normal_result_is_there}
 pub use Rattle.dm_symbol.proofs.NormalGrids.{normal_grid_is_one}
 pub use Rattle.dm_symbol.proofs.NormalReadings.{normal_grid_fits, one_normal_result}
+pub use Rattle.dm_symbol.proofs.ReadItems.{no_more_items_are_read, read_is_message}
 pub use Rattle.dm_symbol.proofs.Readings.{one_given}
 pub use Rattle.dm_symbol.proofs.SizeFacts.{has_that_side}
 pub use Rattle.dm_symbol.proofs.WriteSteps.{too_long_fits_none}

@@ -4,6 +4,7 @@ mod Distances
 mod SymbolBlocks
 mod NormalGrids
 mod Readings
+mod ReadItems
 mod NormalReadings
 mod Completion
 mod Counts

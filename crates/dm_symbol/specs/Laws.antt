@@ -1,5 +1,5 @@
 -- What holds of all messages and grids. The bytes of a message are numbers of 0 to 255.
-use Rattle.std.specs.Prelude.{◌≡◌, ℕ, ◌≤◌, List, Result, Ok, not, replicate, ◌↔◌, sum_by, count_by}
+use Rattle.std.specs.Prelude.{◌≡◌, ℕ, ◌≤◌, List, Result, Ok, not, replicate, ◌↔◌, sum_by, count_by, length}
 use Rattle.std.specs.Bool.{beq}
 use Rattle.std.specs.List.{range_with_len}
 use Rattle.dm_words.specs.declared.extent.Extent.{Extent}
@@ -7,10 +7,11 @@ use Rattle.dm_words.specs.declared.extent.Extent.TheVariants.{Usual, Wide}
 use Rattle.dm_words.specs.declared.item.Item.{Item}
 use Rattle.dm_words.specs.declared.profile.Profile.{Profile}
 use Rattle.dm_layout.specs.Border.{border_fault_count}
+use Rattle.dm_layout.specs.Sizes.{most_data}
 use Rattle.dm_layout.specs.Grid.{GridView, IsGrid, cell_at}
 use Rattle.dm_words.specs.Laws.{AreMacro}
 use Rattle.dm_words.specs.Macros.{macro_text}
-use Rattle.dm_words.specs.Messages.{IsMessage}
+use Rattle.dm_words.specs.Messages.{IsMessage, most_spelled}
 use Rattle.dm_symbol.specs.declared.reading.Reading.{Reading}
 use Rattle.dm_symbol.specs.declared.reading.ReadFault.{ReadFault}
 use Rattle.dm_symbol.specs.declared.normalising.NormalFault.{NormalFault}
@@ -28,6 +29,17 @@ NormalGridsTellMessages = (profile : Profile) (message other_message : List Item
 abbrev pub OneMessageIsRead : Type 0
 OneMessageIsRead = (extent other_extent : Extent) (grid : GridView) (limit other_limit : ℕ) (message other : List Item) → Reads extent grid limit message
     → Reads other_extent grid other_limit other → message ≡ other
+
+-- What a grid is read as has no more items than so many data codewords as its size has can spell in that extent.
+abbrev pub FewItemsAreRead : Type 0
+FewItemsAreRead = (extent : Extent) (grid : GridView) (limit : ℕ) (message : List Item) → Reads extent grid limit message
+    → length message ≤ most_spelled extent grid.size.data_count
+
+-- What a grid is read as has no more items than the data codewords of the largest size can spell in that extent: 1,632
+-- in the extent `Usual`.
+abbrev pub NoMoreItemsAreRead : Type 0
+NoMoreItemsAreRead = (extent : Extent) (grid : GridView) (limit : ℕ) (message : List Item) → Reads extent grid limit message
+    → length message ≤ most_spelled extent most_data
 
 -- What is read in the extent `Usual` is read in `Wide` with the same result: the same message, corrections and border faults.
 abbrev pub WideReadsTheUsual : Type 0

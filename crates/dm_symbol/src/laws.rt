@@ -1,6 +1,6 @@
 //! Laws of the definitions in `specs/`. Each function has an empty body: its contract is the law.
 
-ghost use Rattle.dm_symbol.specs.Laws.{NormalGridsTellMessages, OneMessageIsRead, WideReadsTheUsual, WideNormalisesTheUsual, ReadResultIsOne, NormalResultIsOne, ReadResultIsThere, NormalResultIsThere, ANormalGridIsThere, NormalGridIsRead, TurnedCellsAreRead, NormalTwiceIsOnce, TheLastProfileDecides, EqualNormalGridsMeanEqualMessages, AMacroIsItsText};
+ghost use Rattle.dm_symbol.specs.Laws.{NormalGridsTellMessages, OneMessageIsRead, FewItemsAreRead, NoMoreItemsAreRead, WideReadsTheUsual, WideNormalisesTheUsual, ReadResultIsOne, NormalResultIsOne, ReadResultIsThere, NormalResultIsThere, ANormalGridIsThere, NormalGridIsRead, TurnedCellsAreRead, NormalTwiceIsOnce, TheLastProfileDecides, EqualNormalGridsMeanEqualMessages, AMacroIsItsText};
 
 /// Two normal grids under one profile are equal exactly where their messages are.
 pub fn normal_grids_tell_messages()
@@ -22,7 +22,16 @@ pub fn each_grid_has_a_result()
     ensures normal { NormalResultIsThere }
 {}
 
-/// What is read or normalised in the usual extent has the same result in the wide one.
+/// What a grid is read as has at most two items for each data codeword of its size, and in the wide extent at most seven
+/// more. So what is read in the usual extent has at most 1,632 items.
+pub fn few_items_are_read()
+    ensures by_size { FewItemsAreRead }
+    ensures by_largest { NoMoreItemsAreRead }
+{}
+
+/// A message that is read in the usual extent is read in the wide one, with the same corrections and border faults, and a
+/// grid that is normalised in the usual extent has the same normal grid in the wide one. What the usual extent refuses may
+/// be read in the wide one.
 pub fn wide_reads_the_usual()
     ensures read { WideReadsTheUsual }
     ensures normal { WideNormalisesTheUsual }

@@ -17,6 +17,7 @@ mod NormalForms
 mod ItemBytes
 mod Extents
 mod LawLemmas
+mod SpelledBounds
 mod Pieces
 mod SpellingCounts
 mod LowerBounds

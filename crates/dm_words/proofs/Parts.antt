@@ -143,7 +143,7 @@ unit_room words items (fnc1 w k e i) = rw (e, i) (omega arith)
 unit_room words items (raised s w b k l e i) = rw (e, i) (omega arith)
 
 -- A part has at most two items for each word.
-room_of : (extent : Extent) (place : ℕ) (words after : List ℕ) (items : List Item) → IsPart extent place words after items → length items ≤ 2 * length words
+pub room_of : (extent : Extent) (place : ℕ) (words after : List ℕ) (items : List Item) → IsPart extent place words after items → length items ≤ 2 * length words
 room_of extent place words after items (ascii u) = unit_room words items u
 room_of extent place words after items (segment s) = segment_room place words after items s
 room_of extent place words after items (run set r) = run_room extent set words after items r

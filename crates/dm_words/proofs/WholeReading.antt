@@ -235,14 +235,16 @@ no_digit digit e = cc
 pub few_behind_macro : {U : Type 0} (extent : Extent) (words : List ℕ) (digit : ℕ) (r : Result U WordFault) (m : List Item) → macro_digit extent words ≡ Some digit
     → OnOk r (length m ≤ 2 * length words + 7) → IfOk (outcome r m) (λ n. length n ≤ most_spelled extent (length words))
 few_behind_macro Usual words digit r m e few = absurd (no_digit digit e)
-few_behind_macro Wide words digit (Ok u) m e few = few
-few_behind_macro Wide words digit (Err f) m e few = tt
+few_behind_macro Wide [] digit r m e few = absurd (no_digit digit e)
+few_behind_macro Wide (w ∷ words) digit (Ok u) m e few = few
+few_behind_macro Wide (w ∷ words) digit (Err f) m e few = tt
 
 -- Without a macro, so are two for each codeword, where there was nothing before them.
 pub few_plain : {U : Type 0} (extent : Extent) (count : ℕ) (r : Result U WordFault) (before m : List Item) → before ≡ []
     → OnOk r (length m + 2 * 0 ≤ length before + 2 * count) → IfOk (outcome r m) (λ n. length n ≤ most_spelled extent count)
 few_plain Usual count (Ok u) before m none few = omega (arith, ap length none, few)
-few_plain Wide count (Ok u) before m none few = omega (arith, ap length none, few)
+few_plain Wide zero (Ok u) before m none few = omega (arith, ap length none, few)
+few_plain Wide (suc count) (Ok u) before m none few = omega (arith, ap length none, few)
 few_plain extent count (Err f) before m none few = tt
 
 -- Behind a macro, the message is read from the second codeword on and stands between the header and the trailer.

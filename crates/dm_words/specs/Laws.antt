@@ -1,5 +1,5 @@
 -- What holds of all lists of codewords. Codewords and bytes are numbers of 0 to 255.
-use Rattle.std.specs.Prelude.{◌≡◌, ℕ, ◌<◌, List, ◌∷◌, ◌++◌, ◌⊎◌, All, Some}
+use Rattle.std.specs.Prelude.{◌≡◌, ℕ, ◌<◌, List, ◌∷◌, ◌++◌, ◌⊎◌, All, Some, length}
 use Rattle.dm_words.specs.declared.extent.Extent.{Extent}
 use Rattle.dm_words.specs.declared.extent.Extent.TheVariants.{Wide}
 use Rattle.dm_words.specs.declared.item.Item.{Item}
@@ -45,6 +45,15 @@ pub record AreMacro (digit : ℕ) (words : List ℕ) (text : List Item) : Type 0
 -- Each of these codewords is 0 to 255.
 abbrev pub AreCodewords : List ℕ → Type 0
 AreCodewords words = All (λ word. word < 256) words
+
+-- In an extent, some list of this many codewords spells this many items.
+pub record SomeSpell (extent : Extent) (count items : ℕ) : Type 0 where
+  pub words : List ℕ
+  pub message : List Item
+  pub counted : length words ≡ count
+  pub codewords : AreCodewords words
+  pub spells : Spells extent words message
+  pub long : length message ≡ items
 
 -- Each of these values of a run is 0 to 39.
 abbrev pub AreRunValues : List ℕ → Type 0

@@ -1,5 +1,5 @@
 -- Messages: lists of items, and how many items there can be (ISO/IEC 16022, encodation schemes).
-use Rattle.std.specs.Prelude.{ℕ, ◌+◌, ◌*◌, ◌<◌, List, All}
+use Rattle.std.specs.Prelude.{ℕ, zero, suc, ◌+◌, ◌*◌, ◌<◌, List, All}
 use Rattle.dm_layout.specs.Sizes.{most_data}
 use Rattle.dm_words.specs.declared.extent.Extent.{Extent}
 use Rattle.dm_words.specs.declared.extent.Extent.TheVariants.{Usual, Wide}
@@ -23,7 +23,9 @@ IsMessage message = All IsItem message
 abbrev pub most_items : ℕ
 most_items = 2 * most_data
 
--- This many codewords spell at most this many items: two for each, and in the wide extent seven more, since a macro spells nine.
+-- This many codewords spell at most this many items, and some spell so many: two for each, and in the wide extent, where
+-- there are any, seven more, since the codeword of a macro spells nine.
 abbrev pub most_spelled : Extent → ℕ → ℕ
 most_spelled Usual count = 2 * count
-most_spelled Wide count = 2 * count + 7
+most_spelled Wide zero = 0
+most_spelled Wide (suc others) = 2 * suc others + 7

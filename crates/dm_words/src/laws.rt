@@ -20,7 +20,7 @@ ghost use Rattle.dm_words.specs.Values.{IsRest};
 ghost use Rattle.dm_words.specs.Macros.{macro_text};
 ghost use Rattle.dm_words.specs.Spells.{Spells};
 ghost use Rattle.dm_words.specs.Refused.{Refused};
-ghost use Rattle.dm_words.specs.Laws.{HasOneResult, AreCodewords, AreRunValues, BeginsNoSpelling, CanBeLeftOut, AreMacro};
+ghost use Rattle.dm_words.specs.Laws.{HasOneResult, AreCodewords, AreRunValues, BeginsNoSpelling, CanBeLeftOut, AreMacro, SomeSpell};
 
 use crate::limits::{MESSAGE_ROOM, MOST_ITEMS};
 use dm_layout::MOST_DATA;
@@ -36,6 +36,15 @@ pub fn one_result()
 pub fn spelled_is_message()
     ensures { (extent : Extent) (words : List ℕ) (m : List Item)
         → Spells extent words m → IsMessage m }
+{}
+
+/// What codewords spell in an extent has at most two items for each codeword, and in the wide extent at most seven more.
+/// This bound is met, for each number of codewords.
+pub fn spelled_is_few()
+    ensures most { (extent : Extent) (words : List ℕ) (m : List Item)
+        → Spells extent words m → length m ≤ most_spelled extent (length words) }
+    ensures met { (extent : Extent) (count : ℕ)
+        → SomeSpell extent count (most_spelled extent count) }
 {}
 
 /// What codewords spell in the usual extent they spell in the wide one.
