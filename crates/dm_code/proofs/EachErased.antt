@@ -1,8 +1,8 @@
 -- Several places of a word weighed away, one after another, and given back.
-use Rattle.std.proofs.Common.{◌≡◌, ℕ, zero, suc, ◌+◌, ◌-◌, ◌<◌, ◌≤◌, List, [], ◌∷◌, ◌++◌, length, get_or, take, take-suc, length-take, drop, drop-cons, length-drop, refl, sym, ap, subst, ◌∙◌, arith, Bool, true, false, if◌then◌else◌, append-nil}
+use Rattle.std.proofs.Common.{◌≡◌, ℕ, zero, suc, ◌+◌, ◌-◌, ◌<◌, ◌≤◌, List, [], ◌∷◌, ◌++◌, length, get_or, take, take-suc, length-take, drop, drop-cons, refl, sym, ap, subst, ◌∙◌, arith, Bool, true, false, if◌then◌else◌, append-nil}
 use Rattle.gf301.specs.Field.{power}
 use Rattle.gf301.specs.Polynomial.{Bytes, value}
-use Rattle.std.proofs.lemmas.List.{get_or-drop, drop_all}
+use Rattle.std.proofs.lemmas.List.{drop_all}
 use Rattle.dm_code.specs.Erased.{IsNearBut, distance_but, erased_from, erased_places}
 use Rattle.dm_code.specs.inner.Lessened.{IsLess, IsLessEach, AreWeighedAway}
 use Rattle.dm_code.proofs.ErrorPlaces.{locator_at}
@@ -82,10 +82,6 @@ bytes_each places w v (suc i) b a h (u, e, l) =
 drop_one : (places : List ℕ) (i : ℕ) → i < length places → drop i places ≡ get_or places i 0 ∷ drop (suc i) places
 drop_one places i h = drop-cons places i 0 h
 
--- The later places of a word are places of it.
-places_after : (m : ℕ) (places : List ℕ) (i : ℕ) → ArePlaces m places → ArePlaces m (drop i places)
-places_after m places i a j h = subst (λ q. q < m) (sym (get_or-drop i places j 0)) (a (i + j) (omega (arith, length-drop i places)))
-
 -- Where a codeword is near to the word but for all places, some is near to what is left but for those that are not weighed away yet.
 pub near_each : (k : ℕ) (places w v c : List ℕ) (i : ℕ) → k < 255 → Bytes w → length w ≤ 255 → k ≤ length w → ArePlaces (length w) places → length places ≤ k → i ≤ length places
     → IsLessEach places w v i → IsNearBut k w places c → (d : List ℕ) × IsNearBut (k - i) v (drop i places) d
@@ -157,7 +153,7 @@ given_nothing k places w u n d c i r h g nz nc =
     let e : drop i places ≡ p ∷ drop (suc i) places = drop_one places i h in
     let (x, nx) = near_each k places w before c i small r.bytes short room (λ j b. r.within j 0 b) few (omega arith) each nc in
     near_nothing (k - suc i) (k - i) (drop (suc i) places) before g.before x d p (omega arith) (omega arith) (bytes_each places w before i r.bytes (λ j b. r.within j 0 b) (omega arith) each) (omega arith) (omega arith)
-    (subst (λ y. p < y) (sym m) (r.within i 0 h)) (subst (λ y. ArePlaces y (drop (suc i) places)) (sym m) (places_after (length w) places (suc i) (λ j b. r.within j 0 b))) l g.is_near nz
+    (subst (λ y. p < y) (sym m) (r.within i 0 h)) l g.is_near nz
     (subst (λ q. IsNearBut (k - i) before q x) e nx)
 
 -- With all given back, a codeword is near to the word.

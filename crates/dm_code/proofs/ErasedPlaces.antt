@@ -10,7 +10,7 @@ use Rattle.gf301.proofs.Exported.{product_assoc, product_comm, product_zero_righ
 use Rattle.dm_code.specs.Codeword.{IsCodeword, IsNear, differs, differing, distance}
 use Rattle.dm_code.specs.Erased.{blank, distance_but, IsNearBut}
 use Rattle.dm_code.proofs.Codewords.{codeword_bytes, codeword_values, codeword_from_values}
-use Rattle.dm_code.proofs.Distance.{codewords_one, differs_apart, differs_le, differs_same, differing_none, near_one}
+use Rattle.dm_code.proofs.Distance.{codewords_one, differs_apart, differs_le, differs_same, differing_triangle}
 use Rattle.dm_code.proofs.ErrorPlaces.{locator_at}
 use Rattle.dm_code.proofs.CleanWords.{distance_self}
 use Rattle.dm_code.proofs.Corrections.{value_set}
@@ -128,19 +128,23 @@ differing_same t u v w (suc n) h =
     let i : differing t u n ≡ differing v w n = differing_same t u v w n (λ j l. h j (omega arith)) in
     omega (arith, h n (omega arith))
 
--- Words that agree at the first n places but one differ at one place at most.
-differing_one : (v w : List ℕ) (p n : ℕ) → ((i : ℕ) → i < n → i ≢ p → get_or v i 0 ≡ get_or w i 0) → differing v w n ≤ 1
+-- Words that have 0 at one place differ at one place less at most.
+differing_set : (v w : List ℕ) (p n : ℕ) → differing v w n ≤ differing (slice_set v p 0) (slice_set w p 0) n + 1
 unfolding differing
-differing_one v w p zero h = omega arith
-differing_one v w p (suc n) h =
+differing_set v w p zero = omega arith
+differing_set v w p (suc n) =
     elim (cases_eq n p) [
       | inl e ↦
-          let z : differing v w n ≡ 0 = differing_none v w n (λ i l. h i (omega arith) (let ne : i ≢ p = omega arith in ne)) in
+          let same : differing v w n ≡ differing (slice_set v p 0) (slice_set w p 0) n =
+          differing_same v w (slice_set v p 0) (slice_set w p 0) n (λ i l. sym (set_elsewhere v w p i (omega arith))) in
           omega (arith, differs_le (get_or v n 0) (get_or w n 0))
-      | inr ne ↦
-          let i : differing v w n ≤ 1 = differing_one v w p n (λ i l o. h i (omega arith) o) in
-          omega (arith, differs_same (get_or v n 0) (get_or w n 0) (h n (omega arith) ne))
-    ]
+      | inr ne ↦ omega (arith, differing_set v w p n, set_elsewhere v w p n ne)
+    ] where
+      set_elsewhere : (v w : List ℕ) (p i : ℕ) → i ≢ p
+          → differs (get_or (slice_set v p 0) i 0) (get_or (slice_set w p 0) i 0) ≡ differs (get_or v i 0) (get_or w i 0)
+      set_elsewhere v w p i ne =
+          ap (λ y. differs y (get_or (slice_set w p 0) i 0)) (get_or-set_other v p i 0 0 ne)
+          ∙ ap (differs (get_or v i 0)) (get_or-set_other w p i 0 0 ne)
 
 -- A word is as long with 0 at the erased places.
 pub length-blank : (q w : List ℕ) → length (blank q w) ≡ length w
@@ -246,14 +250,6 @@ near_but_back k q w c p small wb cb l s room h z n =
       close = omega (arith, n.close, e);
     }
 
--- Codewords that are the same once they are lessened are the same.
-lessened_one : (k : ℕ) (c d : List ℕ) (p : ℕ) → IsCodeword (suc k) c → IsCodeword (suc k) d → length d ≡ length c → length c ≤ 255 → p < length c
-    → lessened (locator_at (length c) p) c ≡ lessened (locator_at (length c) p) d → c ≡ d
-lessened_one k c d p cc cd l s h e =
-    codewords_one (suc k) c d cc cd (sym l) s
-    (let m : differing c d (length c) ≤ 1 =
-    differing_one c d p (length c) (λ i b n. lessened_apart c d p i (codeword_bytes (suc k) c cc) (codeword_bytes (suc k) d cd) l s h b n (ap (λ t. get_or t i 0) e)) in omega arith)
-
 -- With no place erased, a codeword is near where it is near but for none.
 pub near_but_none : (k : ℕ) (w c : List ℕ) → IsNearBut k w [] c → IsNear k w c
 unfolding blank
@@ -268,21 +264,22 @@ near_none_but k w c n = record { codeword = n.codeword; long = n.long; close = o
 abbrev pub ArePlaces : ℕ → List ℕ → Type 0
 ArePlaces n q = (i : ℕ) → i < length q → get_or q i 0 < n
 
--- At most one codeword is near to a word but for erased places.
-pub near_but_one : (k : ℕ) (w q c d : List ℕ) → k < 255 → Bytes w → k ≤ length w → length w ≤ 255 → ArePlaces (length w) q → IsNearBut k w q c → IsNearBut k w q d → c ≡ d
-near_but_one k w [] c d small b room s h m n = near_one k w c d s (near_but_none k w c m) (near_but_none k w d n)
-near_but_one zero w (p ∷ q) c d small b room s h m n = absurd (omega (arith, m.close))
-near_but_one (suc k) w (p ∷ q) c d small b room s h m n =
-    let r = locator_at (length w) p in
-    let v = lessened r w in
-    let lv : length v ≡ length w = length-lessened r w in
-    let hp : p < length w = h 0 (omega arith) in
-    let e : lessened r c ≡ lessened r d =
-    near_but_one k v q (lessened r c) (lessened r d) (omega arith) (bytes_lessened r w) (omega arith) (omega arith)
-    (λ i l. subst (λ x. get_or q i 0 < x) (sym lv) (h (suc i) (omega arith)))
-    (near_but_lessened k q w c p small b s room hp m) (near_but_lessened k q w d p small b s room hp n) in
-    lessened_one k c d p m.codeword n.codeword (n.long ∙ sym m.long) (omega (arith, m.long)) (omega (arith, m.long))
-    (subst (λ x. lessened (locator_at x p) c ≡ lessened (locator_at x p) d) (sym m.long) e)
+-- Words that have 0 at some places differ at no more places less than these are.
+differing_blank : (q v w : List ℕ) (n : ℕ) → differing v w n ≤ differing (blank q v) (blank q w) n + length q
+unfolding blank
+differing_blank [] v w n = omega arith
+differing_blank (p ∷ q) v w n = omega (arith, differing_blank q v w n, differing_set (blank q v) (blank q w) p n)
+
+-- At most one codeword is near to a word but for erased places: two would differ in at most k places.
+pub near_but_one : (k : ℕ) (w q c d : List ℕ) → length w ≤ 255 → IsNearBut k w q c → IsNearBut k w q d → c ≡ d
+near_but_one k w q c d s m n =
+    let all : length (blank q w) ≡ length w = length-blank q w in
+    let t = differing_triangle (blank q w) (blank q c) (blank q d) (length w) in
+    let b = differing_blank q c d (length w) in
+    let of_c : distance_but q w c ≡ differing (blank q w) (blank q c) (length w) = ap (differing (blank q w) (blank q c)) all in
+    let of_d : distance_but q w d ≡ differing (blank q w) (blank q d) (length w) = ap (differing (blank q w) (blank q d)) all in
+    let long : distance c d ≡ differing c d (length w) = ap (differing c d) m.long in
+    codewords_one k c d m.codeword n.codeword (m.long ∙ sym n.long) (omega (arith, m.long)) (omega (arith, t, b, of_c, of_d, long, m.close, n.close))
 
 -- ---- without erased places, and without checks
 -- With no place erased, the distance is that of the words.
@@ -329,14 +326,13 @@ near_restored k m q w v c d p e small wb cb s room h l o z n =
     )
 
 -- What is near to the lessened word, but not 0 at the place, comes from no codeword.
-pub near_nothing : (k m : ℕ) (q w v c d : List ℕ) (p : ℕ) → suc k ≡ m → m < 255 → Bytes w → length w ≤ 255 → m ≤ length w → p < length w → ArePlaces (length w) q → IsLess p w v
+pub near_nothing : (k m : ℕ) (q w v c d : List ℕ) (p : ℕ) → suc k ≡ m → m < 255 → Bytes w → length w ≤ 255 → m ≤ length w → p < length w → IsLess p w v
     → IsNearBut k v q d → (get_or d p 0 ≡ 0 → ⊥) → IsNearBut m w (p ∷ q) c → ⊥
-near_nothing k m q w v c d p e small wb s room h a l nd nz n =
+near_nothing k m q w v c d p e small wb s room h l nd nz n =
     let r = locator_at (length w) p in
     let ve : v ≡ lessened r w = less_lessened p w v h l in
     let same : d ≡ lessened r c =
-    near_but_one k v q d (lessened r c) (omega arith) (subst Bytes (sym ve) (bytes_lessened r w)) (omega (arith, l.long)) (omega (arith, l.long))
-    (λ i b. omega (arith, a i b, l.long)) nd (near_less k m q w v c p e small wb s room h l n) in
+    near_but_one k v q d (lessened r c) (omega (arith, l.long)) nd (near_less k m q w v c p e small wb s room h l n) in
     nz (ap (λ t. get_or t p 0) same ∙ ap (λ x. get_or (lessened (locator_at x p) c) p 0) (sym n.long) ∙ lessened_same c p (omega (arith, n.long)))
 
 -- ---- a place given back

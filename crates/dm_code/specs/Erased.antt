@@ -1,8 +1,6 @@
 -- How near a word of one Reed-Solomon block of ISO/IEC 16022, ECC 200, is to a codeword, where some of its places are erased: what
 -- stands there isn't known.
-use Rattle.std.specs.Prelude.{◌≡◌, ◌↔◌, Bool, ℕ, suc, ◌+◌, ◌*◌, ◌<◌, ◌≤◌, if◌then◌else◌, List, [], ◌∷◌, length, slice_set}
-use Rattle.std.specs.List.{All}
-use Rattle.gf301.specs.Polynomial.{Bytes}
+use Rattle.std.specs.Prelude.{◌≡◌, ◌↔◌, Bool, ℕ, suc, ◌+◌, ◌*◌, ◌≤◌, if◌then◌else◌, List, [], ◌∷◌, length, slice_set}
 use Rattle.dm_code.specs.Codeword.{IsCodeword, IsNear, distance}
 
 -- A list says of each place, from this one on, whether it is erased: these are the erased places, in ascending order.
@@ -30,11 +28,9 @@ pub record IsNearBut (k : ℕ) (word places other : List ℕ) : Type 0 where
   pub long : length other ≡ length word
   pub close : 2 * distance_but places word other + length places ≤ k
 
--- At most one codeword of less than 255 checks is near to a word of bytes but for places of it.
+-- At most one codeword is near to a word of at most 255 numbers but for erased places.
 abbrev pub NearButIsOne : Type 0
-NearButIsOne =
-    (k : ℕ) (word places first second : List ℕ) → k < 255 → Bytes word → k ≤ length word → length word ≤ 255 → All (λ p. p < length word) places
-    → IsNearBut k word places first → IsNearBut k word places second → first ≡ second
+NearButIsOne = (k : ℕ) (word places first second : List ℕ) → length word ≤ 255 → IsNearBut k word places first → IsNearBut k word places second → first ≡ second
 
 -- With no place erased, those codewords are near to a word that are near to it but for none.
 abbrev pub NearButNoneIsNear : Type 0

@@ -17,7 +17,7 @@ use Rattle.dm_words.specs.declared.smallest.row.Row.{Row}
 use Rattle.dm_words.specs.declared.smallest.plan.Begin.{Begin}
 use Rattle.dm_words.specs.declared.smallest.plan.Begin.TheVariants.{One, Two, Run, Edifact, Segment, Rest}
 use Rattle.dm_words.specs.Ascii.{is_digit}
-use Rattle.dm_words.specs.Base256.{byte_items}
+use Rattle.dm_words.specs.Messages.{byte_items}
 use Rattle.dm_words.specs.Spells.{AreParts, Spells, plain, by_macro}
 use Rattle.dm_words.specs.inner.Costs.{never, owed, owed_group, unit_cost, set_values, value_before, values_before, stay, leave, or_leave, byte_before, has_edifact, stay_edifact, or_leave_edifact, is_digit_item, digit_first, segment_cost, going_over, cost_of, least, row_before, row, parts_cost}
 use Rattle.dm_words.specs.inner.Ways.{IsLeastCost}

@@ -6,7 +6,7 @@ use Rattle.std.proofs.lemmas.List.{length-append}
 use Rattle.dm_words.specs.declared.item.Item.{Item}
 use Rattle.dm_words.specs.declared.item.Item.TheVariants.{Byte}
 use Rattle.dm_words.specs.Joined.{spelled, gathered}
-use Rattle.dm_words.specs.Base256.{byte_items}
+use Rattle.dm_words.specs.Messages.{byte_items}
 use Rattle.dm_words.specs.Edifact.{edifact_byte, IsEdifactEnd, few_left, first, second, third, fourth, IsEdifactRun}
 use Rattle.dm_words.specs.inner.Costs.{leave}
 use Rattle.dm_words.proofs.Groups.{groups_room}

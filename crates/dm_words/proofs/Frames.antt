@@ -4,7 +4,7 @@ use Rattle.std.proofs.lemmas.List.{length-append, take-append-drop, drop-drop}
 use Rattle.std.proofs.Math.Seq.{take-suc, drop-append_seam}
 use Rattle.dm_words.specs.declared.item.Item.{Item}
 use Rattle.dm_words.specs.declared.item.Item.TheVariants.{Byte}
-use Rattle.dm_words.specs.Base256.{byte_items}
+use Rattle.dm_words.specs.Messages.{byte_items}
 use Rattle.dm_words.specs.Macros.{macro_header, macro_trailer, macro_text}
 use Rattle.dm_words.specs.inner.Ways.{inner_text}
 use Rattle.dm_words.proofs.SegmentLoops.{byte_items-append}

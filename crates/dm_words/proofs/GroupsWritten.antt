@@ -10,11 +10,10 @@ use Rattle.dm_words.specs.declared.item.Item.TheVariants.{Byte}
 use Rattle.dm_words.specs.declared.smallest.edifact.Group.{Group}
 use Rattle.dm_words.specs.declared.smallest.edifact.Group.TheVariants.{Empty, One, Two, Three}
 use Rattle.dm_words.specs.Joined.{Piece, spelled, gathered}
-use Rattle.dm_words.specs.Base256.{byte_items}
 use Rattle.dm_words.specs.Edifact.{IsGroup, edifact_byte, IsEdifactEnd, few_left, first, fourth}
 use Rattle.dm_words.specs.Spells.{edifact}
 use Rattle.dm_words.specs.inner.Written.{waiting_values, IsSmallGroup, IsGroupPushed, IsEdifactEnded, IsPartWritten}
-use Rattle.dm_words.specs.Messages.{byte_of}
+use Rattle.dm_words.specs.Messages.{byte_of, byte_items}
 use Rattle.dm_words.proofs.SegmentLoops.{byte_items-append}
 use Rattle.dm_words.proofs.Pieces.{all-append, spelled-last, gathered-last}
 use Rattle.dm_words.proofs.RunBudget.{one_more}

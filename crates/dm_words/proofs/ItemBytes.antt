@@ -13,13 +13,13 @@ use Rattle.dm_words.specs.declared.c40.set.Basic.TheVariants as basic
 use Rattle.dm_words.specs.declared.c40.set.Shifted.TheVariants as shifted
 use Rattle.dm_words.specs.CodeSets.{basic_of, shifted_of}
 use Rattle.dm_words.specs.Joined.{Piece, spelled, gathered, whats, AreJoined}
-use Rattle.dm_words.specs.Messages.{IsItem, IsMessage}
+use Rattle.dm_words.specs.Messages.{IsItem, IsMessage, byte_items}
 use Rattle.dm_words.specs.Ascii.{IsAsciiUnit, character, digits, fnc1, raised}
 use Rattle.dm_words.specs.Values.{IsCharacter, plain, by_shift, IsSpelling}
 use Rattle.dm_words.specs.Values as values
 use Rattle.dm_words.specs.declared.codeword.Codeword.TheVariants as codeword
 use Rattle.dm_words.specs.Codewords.{codeword_of}
-use Rattle.dm_words.specs.Base256.{AreBytes, byte_items}
+use Rattle.dm_words.specs.Base256.{AreBytes}
 use Rattle.dm_words.specs.Edifact.{IsGroup, edifact_byte, IsEdifactEnd, few_left, first, second, third, fourth}
 use Rattle.dm_words.specs.Macros.{macro_header, macro_trailer, macro_text}
 use Rattle.dm_words.specs.Spells.{IsPart, ascii, run, segment, edifact, AreParts, plain as plain_parts, by_macro, Spells}

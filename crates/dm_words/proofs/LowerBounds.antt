@@ -15,14 +15,15 @@ use Rattle.dm_words.specs.Joined.{Piece, spelled, gathered, whats, AreJoined}
 use Rattle.dm_words.specs.Ascii.{IsAsciiUnit, character, digits, fnc1, raised}
 use Rattle.dm_words.specs.Values.{IsSpelling, IsFiller, nothing, lone_shift, IsDropped, filler, waiting, AreValues}
 use Rattle.dm_words.specs.Runs.{IsRunEnd, unlatch, symbol_end, last_word, IsRun}
-use Rattle.dm_words.specs.Base256.{byte_items, IsLengthField, to_the_end, short, long, IsSegment}
+use Rattle.dm_words.specs.Base256.{IsLengthField, to_the_end, short, long, IsSegment}
+use Rattle.dm_words.specs.Messages.{byte_items}
 use Rattle.dm_words.specs.Edifact.{IsEdifactRun}
 use Rattle.dm_words.specs.Spells.{IsPart, ascii, run, segment, edifact, AreParts}
 use Rattle.dm_words.specs.inner.Costs.{set_values, unit_cost, leave}
 use Rattle.dm_words.proofs.AsciiWords.{character_is, digits_are}
 use Rattle.dm_words.proofs.Runs.{pairs_room}
 use Rattle.dm_words.proofs.Segments.{length-written}
-use Rattle.dm_words.proofs.SpellingCounts.{spelling_count, held, Ascii, one, two, three, four}
+use Rattle.dm_words.proofs.SpellingCounts.{unit_few, spelling_count, held, Ascii, one, two, three, four}
 
 -- These are costs: `least` in ASCII; `owed`, in a run where some values stand whose codewords are owed too.
 pub record AreCosts (least : List Item → ℕ) (owed : CodeSet → ℕ → List Item → ℕ) : Type 0 where
@@ -49,18 +50,11 @@ module _ (least : List Item → ℕ) (owed : CodeSet → ℕ → List Item → �
   unit_low : (b : ℕ) (m : List Item) → b < 128 → least (Byte b ∷ m) ≤ 1 + least m
   unit_low b m lt = let t : ltb b 128 ≡ true = grind (arith, nat_tests) in rw t at (costs.unit (Byte b) m)
 
-  unit_any : (x : Item) → unit_cost x ≤ 2
-  unit_any Fnc1 = omega arith
-  unit_any (Byte b) = by_test (ltb b 128) where
-    by_test : (t : Bool) → cond t 1 2 ≤ 2
-    by_test true = omega arith
-    by_test false = omega arith
-
   unit_lower : (words : List ℕ) (items m : List Item) → IsAsciiUnit words items → least (items ++ m) ≤ length words + least m
   unit_lower words items m (character w b k e i) = rw (e, i) (unit_low b m (character_is w b k).1)
   unit_lower words items m (digits w n k e i) = rw (e, i) (costs.pair n m (digits_are w n k).1)
   unit_lower words items m (fnc1 w k e i) = rw (e, i) (costs.unit Fnc1 m)
-  unit_lower words items m (raised s w b k l e i) = rw (e, i) (omega (arith, costs.unit (Byte (b + 128)) m, unit_any (Byte (b + 128))))
+  unit_lower words items m (raised s w b k l e i) = rw (e, i) (omega (arith, costs.unit (Byte (b + 128)) m, unit_few (Byte (b + 128))))
 
   -- ---- a run
 

@@ -14,10 +14,10 @@ use Rattle.dm_words.specs.declared.item.Item.TheVariants.{Byte, Fnc1}
 use Rattle.dm_words.specs.declared.profile.Profile.{Profile}
 use Rattle.dm_words.specs.declared.profile.Profile.TheVariants.{Ascii, Shorter}
 use Rattle.dm_words.specs.Joined.{Piece}
-use Rattle.dm_words.specs.Messages.{byte_of, IsItem, IsMessage}
+use Rattle.dm_words.specs.Messages.{byte_of, IsItem, IsMessage, byte_items}
 use Rattle.dm_words.specs.Ascii.{is_digit, digit_pair, single, ascii}
 use Rattle.dm_words.specs.Pads.{pads, padded}
-use Rattle.dm_words.specs.Base256.{written, randomised, AreBytes, byte_items, IsLengthField, short, long, IsSegment}
+use Rattle.dm_words.specs.Base256.{written, randomised, AreBytes, IsLengthField, short, long, IsSegment}
 use Rattle.dm_words.specs.NormalForm.{has_fnc1, length_numbers, one_segment, shorter, normal_form}
 use Rattle.dm_words.specs.Spells.{segment, plain, Spells}
 use Rattle.dm_words.specs.Laws.{AreCodewords}

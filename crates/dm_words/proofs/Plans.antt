@@ -15,8 +15,9 @@ use Rattle.dm_words.specs.declared.smallest.row.Row.{Row}
 use Rattle.dm_words.specs.declared.smallest.plan.Begin.{Begin}
 use Rattle.dm_words.specs.declared.smallest.plan.Begin.TheVariants.{One}
 use Rattle.dm_words.specs.declared.smallest.plan.Step.{Step}
-use Rattle.dm_words.specs.inner.Costs.{never, unit_cost, least, cost_of, going_over, with_ascii, none_going, row, parts_cost, pair_first, IsWithin, IsRightStep, step_of}
+use Rattle.dm_words.specs.inner.Costs.{never, least, cost_of, going_over, with_ascii, none_going, row, parts_cost, pair_first, IsWithin, IsRightStep, step_of}
 use Rattle.dm_words.proofs.CostsMet.{least_is}
+use Rattle.dm_words.proofs.SpellingCounts.{unit_few}
 
 -- A choice between two ways costs what the chosen way costs.
 pub or_right : (f : Begin → ℕ) (old new chosen : Begin) (n k cost : ℕ) → f old ≡ n → k ≡ f new → cost ≡ min n k → chosen ≡ cond (ltb k n) new old → f chosen ≡ cost
@@ -24,14 +25,6 @@ or_right f old new chosen n k cost is_old is_new least taken = by_test (ltb k n)
   by_test : (t : Bool) → ltb k n ≡ t → f chosen ≡ cost
   by_test true e = let lt : k < n = grind (arith, nat_tests) in let c : chosen ≡ new = taken ∙ (rw e refl) in ap f c ∙ sym is_new ∙ (omega (arith, least, lt))
   by_test false e = let le : n ≤ k = grind (arith, nat_tests) in let c : chosen ≡ old = taken ∙ (rw e refl) in ap f c ∙ is_old ∙ (omega (arith, least, le))
-
--- An item by itself has at most two codewords.
-unit_few : (x : Item) → unit_cost x ≤ 2
-unit_few Fnc1 = omega arith
-unit_few (Byte b) = by_test (ltb b 128) where
-  by_test : (t : Bool) → cond t 1 2 ≤ 2
-  by_test true = omega arith
-  by_test false = omega arith
 
 -- No cost is too great.
 pub row_within : (extent : Extent) (m : List Item) → length m ≤ 2000 → IsWithin (length m) (row extent m)

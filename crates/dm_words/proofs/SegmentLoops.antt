@@ -6,7 +6,8 @@ use Rattle.dm_words.specs.declared.item.Item.{Item}
 use Rattle.dm_words.specs.declared.item.Item.TheVariants.{Byte}
 use Rattle.dm_words.specs.declared.fault.WordFault.{WordFault}
 use Rattle.dm_words.specs.declared.fault.WordFault.TheVariants as fault
-use Rattle.dm_words.specs.Base256.{byte_items, long_count, IsLengthField, short, long, missing, past_short, no_second, wrong_second, past_long}
+use Rattle.dm_words.specs.Base256.{long_count, IsLengthField, short, long, missing, past_short, no_second, wrong_second, past_long}
+use Rattle.dm_words.specs.Messages.{byte_items}
 use Rattle.dm_words.specs.inner.Scan.Walk.{Step, Takes, Stops}
 use Rattle.dm_words.specs.inner.Scan.Prefixes.{plain_at, plain, segment_behind}
 use Rattle.dm_words.proofs.Segments.{segment_again, bad_again}

@@ -8,7 +8,8 @@ use Rattle.dm_words.specs.declared.item.Item.{Item}
 use Rattle.dm_words.specs.declared.fault.WordFault.{WordFault}
 use Rattle.dm_words.specs.declared.fault.WordFault.TheVariants as fault
 use Rattle.dm_words.specs.Codewords.{codeword_of}
-use Rattle.dm_words.specs.Base256.{random_at, written, AreBytes, byte_items, long_count, IsLengthField, to_the_end, short, long, IsSegment, IsBadLength, missing, past_short, no_second, wrong_second, past_long, IsFaultySegment}
+use Rattle.dm_words.specs.Base256.{random_at, written, AreBytes, long_count, IsLengthField, to_the_end, short, long, IsSegment, IsBadLength, missing, past_short, no_second, wrong_second, past_long, IsFaultySegment}
+use Rattle.dm_words.specs.Messages.{byte_items}
 use Rattle.dm_words.specs.inner.Scan.Walk.{Step, Takes, Stops}
 use Rattle.dm_words.specs.inner.Scan.Prefixes.{plain, segment_by, long_segment, segment_behind}
 use Rattle.dm_words.proofs.Pairs.{IsBytes}

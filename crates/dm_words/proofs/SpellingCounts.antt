@@ -19,6 +19,14 @@ use Rattle.dm_words.specs.Values.{IsRunValue, IsShifted, IsCharacter, plain, by_
 use Rattle.dm_words.specs.inner.Costs.{is_basic, low_values, shift_values, set_values, unit_cost}
 use Rattle.dm_words.proofs.ItemBytes.{character_byte}
 
+-- An item by itself has at most two codewords.
+pub unit_few : (x : Item) → unit_cost x ≤ 2
+unit_few Fnc1 = omega arith
+unit_few (Byte b) = by_test (ltb b 128) where
+  by_test : (t : Bool) → cond t 1 2 ≤ 2
+  by_test true = omega arith
+  by_test false = omega arith
+
 -- A byte with a value of a basic set is basic.
 basic_is : (set : CodeSet) (v b : ℕ) → basic_of set v ≡ Some (basic.Character b) → is_basic set b ≡ true
 basic_is C40 v b e = grind (arith, nat_tests)

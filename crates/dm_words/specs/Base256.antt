@@ -2,9 +2,9 @@
 use Rattle.std.specs.Prelude.{◌≡◌, ℕ, ◌+◌, ◌-◌, ◌*◌, ◌%◌, ◌<◌, ◌≤◌, List, [], ◌∷◌, ◌++◌, length, Some}
 use Rattle.std.specs.List.{AllByRecursion}
 use Rattle.dm_words.specs.declared.item.Item.{Item}
-use Rattle.dm_words.specs.declared.item.Item.TheVariants.{Byte}
 use Rattle.dm_words.specs.declared.codeword.Codeword.TheVariants as codeword
 use Rattle.dm_words.specs.Codewords.{codeword_of}
+use Rattle.dm_words.specs.Messages.{byte_items}
 
 -- A place of the symbol, which counts all data codewords from 1, has this pseudo-random number.
 abbrev pub random_at : ℕ → ℕ
@@ -22,11 +22,6 @@ written place (value ∷ values) = randomised place value ∷ written (place + 1
 -- Each number is 0 to 255.
 abbrev pub AreBytes : List ℕ → Type 0
 AreBytes numbers = AllByRecursion (λ number. number < 256) numbers
-
--- The items of bytes are these bytes, in order.
-abbrev pub byte_items : List ℕ → List Item
-byte_items [] = []
-byte_items (byte ∷ bytes) = Byte byte ∷ byte_items bytes
 
 -- A length field of one number says that there are up to this many bytes.
 abbrev pub most_short : ℕ

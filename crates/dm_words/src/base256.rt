@@ -1,8 +1,8 @@
 //! Base 256 encodation (ISO/IEC 16022, Base 256 encodation and its 255-state randomising): a latch, a length field and as many bytes as that says.
 
 ghost use Rattle.std.specs.Prelude.{◌≡◌, ℕ, ◌+◌, ◌≤◌, ◌<◌, ◌*◌, ◌∷◌, [], ◌++◌, length, drop, take, map, slice_index};
-ghost use Rattle.dm_words.specs.Messages.{byte_of};
-ghost use Rattle.dm_words.specs.Base256.{byte_items, random_at, randomised, written};
+ghost use Rattle.dm_words.specs.Messages.{byte_of, byte_items};
+ghost use Rattle.dm_words.specs.Base256.{random_at, randomised, written};
 ghost use Rattle.dm_words.specs.NormalForm.{length_numbers, one_segment};
 ghost use Rattle.dm_words.specs.inner.Scan.Prefixes.{plain_at, plain, segment_behind};
 ghost use Rattle.dm_words.specs.inner.Scan.Results.{HasRoomAt, IsPartTaken};

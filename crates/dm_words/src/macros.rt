@@ -2,7 +2,7 @@
 
 ghost use Rattle.std.specs.Prelude.{◌≡◌, ◌+◌, ◌≤◌, ◌++◌, List, length, IsTrue, IfSome, IfNone};
 ghost use Rattle.dm_words.specs.declared.item.Item.{Item};
-ghost use Rattle.dm_words.specs.Base256.{byte_items};
+ghost use Rattle.dm_words.specs.Messages.{byte_items};
 ghost use Rattle.dm_words.specs.Macros.{macro_header, macro_trailer, macro_text};
 ghost use Rattle.dm_words.specs.inner.Ways.{inner_text, IsMacroOf, HasNoMacro};
 ghost use Rattle.dm_words.specs.Codewords.{codeword_of};

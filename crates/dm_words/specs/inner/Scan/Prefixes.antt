@@ -20,7 +20,8 @@ use Rattle.dm_words.specs.declared.c40.value.Rest.TheVariants as rest
 use Rattle.dm_words.specs.Codewords.{codeword_of, unlatch_word}
 use Rattle.dm_words.specs.CodeSets.{basic_of, shifted_of}
 use Rattle.dm_words.specs.RunFaults.{pair_place}
-use Rattle.dm_words.specs.Base256.{random_at, byte_items, most_short, long_count}
+use Rattle.dm_words.specs.Base256.{random_at, most_short, long_count}
+use Rattle.dm_words.specs.Messages.{byte_items}
 use Rattle.dm_words.specs.Edifact.{unlatch_value, edifact_byte}
 use Rattle.dm_words.specs.Macros.{macro_header, macro_trailer}
 use Rattle.dm_words.specs.inner.Scan.Walk.{Step, Takes, Stops, Walked, walk, walk_all, flat}
