@@ -1,13 +1,14 @@
 //! The smallest symbol of a message: data codewords that spell it, of the smallest size that has any.
 
-ghost use Rattle.std.specs.Prelude.{◌≡◌, ◌+◌, ◌≤◌, OnErr, length};
+ghost use Rattle.std.specs.Prelude.{◌≡◌, ◌<◌, ◌≤◌, OnErr, length};
+ghost use Rattle.dm_words.specs.declared.extent.Extent.TheVariants.{Wide};
+ghost use Rattle.dm_words.specs.Ascii.{ascii};
 ghost use Rattle.dm_words.specs.Messages.{IsMessage};
 ghost use Rattle.dm_words.specs.Outcomes.{outcome};
 ghost use Rattle.dm_words.specs.Pads.{padded};
 ghost use Rattle.dm_words.specs.Smallest.{IsPlainest, IsSmallestResult, SpellsThenPads};
-ghost use Rattle.dm_words.specs.inner.Costs.{parts_cost};
-ghost use Rattle.dm_words.specs.inner.Ways.{IsLeastCost, IsWay, inner_text};
-ghost use Rattle.dm_words.specs.inner.Written.{ArePartsWritten};
+ghost use Rattle.dm_words.specs.inner.Costs.{parts_cost, IsRightPlan};
+ghost use Rattle.dm_words.specs.inner.Ways.{IsLeastCost, IsMacroOf, IsWay, inner_text, text_of};
 
 mod edifact;
 mod parts;
@@ -55,11 +56,12 @@ pub fn smallest_words_to(
     ensures same { OnErr result (words.new.items ≡ words.old.items) }
 {
     let items = message.items();
-    let way = least_way(extent, items);
+    let mut plan = [Step::NONE; PLAN_ROOM];
+    let way = least_way(extent, items, &mut plan);
     match Size::for_words(way.cost) {
         None => Err(TooLong),
         Some(size) => {
-            write_plainest(extent, items, way, words, size.data_count());
+            write_plainest(extent, items, way, &plan, words, size.data_count());
             add_pads(words, size);
             Ok(())
         }
@@ -75,31 +77,53 @@ struct Way {
     cost: u16,
 }
 
-/// Gives a way to write these items than which none takes fewer codewords.
-fn least_way(extent: Extent, items: &[Item]) -> Way
+/// Gives a way to write these items than which none takes fewer codewords, and leaves a plan for what is written that way:
+/// the text of the macro, or else the items.
+fn least_way(extent: Extent, items: &[Item], plan: &mut [Step; PLAN_ROOM]) -> Way
     requires { length items.now ≤ MESSAGE_ROOM }
     ensures way { IsWay extent items.now result.macro_word result.cost }
     ensures least { IsLeastCost extent items.now result.cost }
+    ensures plan { IsRightPlan extent (text_of result.macro_word items.now) plan.new }
 {
-    let plain = least_cost(extent, items);
+    let cost = plan_to(extent, items, plan);
     match macro_of(extent, items) {
         None => Way {
             macro_word: None,
-            cost: plain,
+            cost,
         },
-        Some(word) => {
-            let by_macro = 1 + least_cost(extent, inner(items));
-            if by_macro <= plain {
-                Way {
-                    macro_word: Some(word),
-                    cost: by_macro,
-                }
-            } else {
-                Way {
-                    macro_word: None,
-                    cost: plain,
-                }
-            }
+        Some(word) => with_macro(extent, items, word, cost, plan),
+    }
+}
+
+/// Gives the way of the macro that stands for the header and the trailer of the items, where it takes no more codewords
+/// than their parts, and else that of the parts, whose cost and plan are known.
+fn with_macro(
+    extent: Extent,
+    items: &[Item],
+    word: u8,
+    cost: u16,
+    plan: &mut [Step; PLAN_ROOM],
+) -> Way
+    requires few { length items.now ≤ MESSAGE_ROOM }
+    requires framed { IsMacroOf extent items.now word }
+    requires cost { cost ≡ parts_cost extent items.now }
+    requires plan { IsRightPlan extent items.now plan.old }
+    ensures way { IsWay extent items.now result.macro_word result.cost }
+    ensures least { IsLeastCost extent items.now result.cost }
+    ensures plan { IsRightPlan extent (text_of result.macro_word items.now) plan.new }
+{
+    let mut of_text = [Step::NONE; PLAN_ROOM];
+    let by_macro = 1 + plan_to(extent, inner(items), &mut of_text);
+    if by_macro <= cost {
+        *plan = of_text;
+        Way {
+            macro_word: Some(word),
+            cost: by_macro,
+        }
+    } else {
+        Way {
+            macro_word: None,
+            cost,
         }
     }
 }
@@ -112,28 +136,20 @@ fn inner(items: &[Item]) -> &[Item]
     &items[HEADER_LENGTH..items.len() - TRAILER_LENGTH]
 }
 
-/// Gives the least number of codewords of parts that have these items.
-fn least_cost(extent: Extent, items: &[Item]) -> u16
-    requires { length items.now ≤ MESSAGE_ROOM }
-    ensures cost { result ≡ parts_cost extent items.now }
-    ensures most { result ≤ 4000 }
-{
-    let mut plan = [Step::NONE; PLAN_ROOM];
-    plan_to(extent, items, &mut plan)
-}
-
 /// Writes the items, without pads, for a symbol of `count` data codewords: in ASCII where there is room for that;
-/// else as the usual extent has it, where there is room for that; else in this way.
+/// else as the usual extent has it, where there is room for that; else in this way, by its plan.
 fn write_plainest(
     extent: Extent,
     items: &[Item],
     way: Way,
+    plan: &[Step; PLAN_ROOM],
     words: &mut ArrayVec<u8, MOST_DATA>,
     count: u16,
 )
     requires few { length items.now ≤ MESSAGE_ROOM }
     requires message { IsMessage items.now }
     requires way { IsWay extent items.now way.macro_word way.cost }
+    requires plan { IsRightPlan extent (text_of way.macro_word items.now) plan.now }
     requires room { way.cost ≤ count }
     requires count { count ≤ MOST_DATA }
     ensures spells { SpellsThenPads extent (padded words.new.items count) items.now }
@@ -144,63 +160,83 @@ fn write_plainest(
         let _form = write_ascii(items, words);
         return;
     }
-    if least_cost(Extent::Usual, items) <= count {
-        write_plain(Extent::Usual, items, words, count);
-        return;
+    match extent {
+        Extent::Usual => write_way(extent, items, way, plan, words, count),
+        Extent::Wide => write_wide(items, way, plan, words, count),
     }
-    write_way(extent, items, way, words, count);
 }
 
-/// Writes the items in this way, without pads, for a symbol of `count` data codewords.
+/// Writes the items as the usual extent has it, where there is room for that, and else in this way, by its plan.
+fn write_wide(
+    items: &[Item],
+    way: Way,
+    plan: &[Step; PLAN_ROOM],
+    words: &mut ArrayVec<u8, MOST_DATA>,
+    count: u16,
+)
+    requires few { length items.now ≤ MESSAGE_ROOM }
+    requires message { IsMessage items.now }
+    requires way { IsWay Wide items.now way.macro_word way.cost }
+    requires plan { IsRightPlan Wide (text_of way.macro_word items.now) plan.now }
+    requires room { way.cost ≤ count }
+    requires count { count ≤ MOST_DATA }
+    requires no_ascii { count < length (ascii items.now) }
+    ensures spells { SpellsThenPads Wide (padded words.new.items count) items.now }
+    ensures fits { length words.new.items ≤ count }
+    ensures plainest { IsPlainest (padded words.new.items count) items.now }
+{
+    let mut usual = [Step::NONE; PLAN_ROOM];
+    if plan_to(Extent::Usual, items, &mut usual) <= count {
+        write_plain(Extent::Usual, items, &usual, words, count);
+    } else {
+        write_way(Extent::Wide, items, way, plan, words, count);
+    }
+}
+
+/// Writes the items in this way, by its plan, without pads, for a symbol of `count` data codewords.
 fn write_way(
     extent: Extent,
     items: &[Item],
     way: Way,
+    plan: &[Step; PLAN_ROOM],
     words: &mut ArrayVec<u8, MOST_DATA>,
     count: u16,
 )
     requires few { length items.now ≤ MESSAGE_ROOM }
     requires message { IsMessage items.now }
     requires way { IsWay extent items.now way.macro_word way.cost }
+    requires plan { IsRightPlan extent (text_of way.macro_word items.now) plan.now }
     requires room { way.cost ≤ count }
     requires count { count ≤ MOST_DATA }
     ensures spells { SpellsThenPads extent (padded words.new.items count) items.now }
     ensures fits { length words.new.items ≤ count }
 {
     match way.macro_word {
-        None => write_plain(extent, items, words, count),
+        None => write_plain(extent, items, plan, words, count),
         Some(word) => {
             words.clear();
             words.push(word);
-            write_least(extent, inner(items), words, count);
+            write_parts(extent, inner(items), plan, words, usize::from(count));
         }
     }
 }
 
-/// Writes the items by no macro, without pads, for a symbol of `count` data codewords.
-fn write_plain(extent: Extent, items: &[Item], words: &mut ArrayVec<u8, MOST_DATA>, count: u16)
+/// Writes the items by no macro, by their plan, without pads, for a symbol of `count` data codewords.
+fn write_plain(
+    extent: Extent,
+    items: &[Item],
+    plan: &[Step; PLAN_ROOM],
+    words: &mut ArrayVec<u8, MOST_DATA>,
+    count: u16,
+)
     requires few { length items.now ≤ MESSAGE_ROOM }
     requires message { IsMessage items.now }
+    requires plan { IsRightPlan extent items.now plan.now }
     requires room { parts_cost extent items.now ≤ count }
     requires count { count ≤ MOST_DATA }
     ensures spells { SpellsThenPads extent (padded words.new.items count) items.now }
     ensures fits { length words.new.items ≤ count }
 {
     words.clear();
-    write_least(extent, items, words, count);
-}
-
-/// Writes the fewest parts that have these items behind the words that stand there, for a symbol of `count` data
-/// codewords.
-fn write_least(extent: Extent, items: &[Item], words: &mut ArrayVec<u8, MOST_DATA>, count: u16)
-    requires few { length items.now ≤ MESSAGE_ROOM }
-    requires message { IsMessage items.now }
-    requires room { length words.old.items + parts_cost extent items.now ≤ count }
-    requires count { count ≤ MOST_DATA }
-    ensures parts { ArePartsWritten extent count words.old.items words.new.items items.now }
-    ensures fits { length words.new.items ≤ count }
-{
-    let mut plan = [Step::NONE; PLAN_ROOM];
-    let _cost = plan_to(extent, items, &mut plan);
-    write_parts(extent, items, &plan, words, usize::from(count));
+    write_parts(extent, items, plan, words, usize::from(count));
 }

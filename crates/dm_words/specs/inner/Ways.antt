@@ -35,3 +35,8 @@ HasNoMacro extent items = (word digit : ℕ) (text : List Item) → extent ≡ W
 abbrev pub IsWay : Extent → List Item → Option ℕ → ℕ → Type 0
 IsWay extent items None cost = parts_cost extent items ≤ cost
 IsWay extent items (Some word) cost = IsMacroOf extent items word × (1 + parts_cost extent (inner_text items) ≤ cost)
+
+-- By a macro the text between the header and the trailer is written, and else all items.
+abbrev pub text_of : Option ℕ → List Item → List Item
+text_of None items = items
+text_of (Some word) items = inner_text items

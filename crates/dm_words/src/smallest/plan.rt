@@ -163,6 +163,7 @@ pub const PLAN_ROOM: usize = MESSAGE_ROOM + 1;
 pub(crate) fn plan_to(extent: Extent, items: &[Item], plan: &mut [Step; PLAN_ROOM]) -> u16
     requires { length items.now ≤ MESSAGE_ROOM }
     ensures cost { result ≡ parts_cost extent items.now }
+    ensures most { result ≤ 4000 }
     ensures plan { IsRightPlan extent items.now plan.new }
 {
     let none = none_going();

@@ -1,6 +1,11 @@
+use Rattle.std.proofs.Common.{ℕ, arith, subst}
+use Rattle.dm_words.specs.inner.Written.{ArePartsWritten}
 use Rattle.dm_words.proofs.SmallestSymbols.{plain_spells}
 use Rattle.dm_words.proofs.smallest.write_plain.Goals as goal
 
 pub returns-clause-spells : goal.returns-clause-spells
 returns-clause-spells c =
-    plain_spells c.args.extent c.args.count c.clear.new.self.items c.write_least.new.words.items c.args.items.now c.clear.ensures c.write_least.ensures.parts c.write_least.ensures.fits
+    let new = c.write_parts.new.words.items in
+    plain_spells c.args.extent c.args.count c.clear.new.self.items new c.args.items.now c.clear.ensures
+    (subst (λ (n : ℕ). ArePartsWritten c.args.extent n c.clear.new.self.items new c.args.items.now) c.from.ensures c.write_parts.ensures.parts)
+    (omega (arith, c.write_parts.ensures.fits, c.from.ensures))

@@ -1,8 +1,9 @@
 use Rattle.std.proofs.Common.{ℕ, List, ap, sym, subst, arith, length}
+use Rattle.dm_words.specs.declared.extent.Extent.{Extent}
 use Rattle.dm_words.specs.Pads.{padded}
 use Rattle.dm_words.specs.Smallest.{SpellsThenPads}
 use Rattle.dm_words.proofs.LawLemmas.{ascii_padded}
-use Rattle.dm_words.proofs.SmallestSymbols.{wider, ascii_plainest, usual_plainest, any_plainest}
+use Rattle.dm_words.proofs.SmallestSymbols.{ascii_plainest, usual_plainest}
 use Rattle.dm_words.proofs.smallest.write_plainest.Goals as goal
 
 pub returns-then-ascii_form-from-clause-spells : goal.returns-then-ascii_form-from-clause-spells
@@ -15,14 +16,14 @@ returns-then-ascii_form-from-clause-plainest c =
     ascii_plainest c.args.items.now c.write_ascii-form.new.words.items c.args.count c.requires.message c.write_ascii-form.ensures.words
     (omega (arith, ap length c.write_ascii-form.ensures.words, c.ascii_form.ensures.length, c.from.ensures, c.if-ascii_form-from.true))
 
-pub returns-then-least_cost-count-clause-spells : goal.returns-then-least_cost-count-clause-spells
-returns-then-least_cost-count-clause-spells c = wider c.args.extent (padded c.write_plain.new.words.items c.args.count) c.args.items.now c.write_plain.ensures.spells
+pub returns-in-Usual-clause-plainest : goal.returns-in-Usual-clause-plainest
+returns-in-Usual-clause-plainest c =
+    usual_plainest c.args.items.now c.write_way.new.words.items c.args.count c.write_way.ensures.fits
+    (omega (arith, c.ascii_form.ensures.length, c.from.ensures, c.if-ascii_form-from.false))
+    (subst (λ (e : Extent). SpellsThenPads e (padded c.write_way.new.words.items c.args.count) c.args.items.now) c.in-Usual.is
+    c.write_way.ensures.spells)
 
-pub returns-then-least_cost-count-clause-plainest : goal.returns-then-least_cost-count-clause-plainest
-returns-then-least_cost-count-clause-plainest c =
-    usual_plainest c.args.items.now c.write_plain.new.words.items c.args.count c.write_plain.ensures.fits (omega (arith, c.ascii_form.ensures.length, c.from.ensures, c.if-ascii_form-from.false)) c.write_plain.ensures.spells
-
-pub returns-clause-plainest : goal.returns-clause-plainest
-returns-clause-plainest c =
-    any_plainest c.args.items.now c.write_way.new.words.items c.args.count c.least_cost.result c.write_way.ensures.fits (omega (arith, c.ascii_form.ensures.length, c.from.ensures, c.if-ascii_form-from.false))
-    c.least_cost.ensures.cost c.if-least_cost-count.false
+pub returns-in-Wide-clause-spells : goal.returns-in-Wide-clause-spells
+returns-in-Wide-clause-spells c =
+    subst (λ (e : Extent). SpellsThenPads e (padded c.write_wide.new.words.items c.args.count) c.args.items.now) (sym c.in-Wide.is)
+    c.write_wide.ensures.spells

@@ -1,8 +1,10 @@
-use Rattle.std.proofs.Common.{rules, arith, refl}
+use Rattle.std.proofs.Common.{◌≡◌, ◌∙◌, ℕ, drop, rules, ap, arith, refl}
 use Rattle.std.proofs.lemmas.List.{length-drop}
 use Rattle.dm_words.specs.declared.smallest.plan.Begin.TheVariants.{One}
 use Rattle.dm_words.specs.declared.item.Item.TheVariants.{Byte}
-use Rattle.dm_words.proofs.Plans.{within, turn, plan_more, plan_first}
+use Rattle.dm_words.specs.declared.smallest.row.Row.{Row}
+use Rattle.dm_words.specs.inner.Costs.{row}
+use Rattle.dm_words.proofs.Plans.{within, turn, plan_more, plan_first, row_within}
 use Rattle.dm_words.proofs.smallest.plan.plan_to.Goals as goal
 
 pub loop-at-init : goal.loop-at-init
@@ -27,3 +29,10 @@ loop-at-preserved c =
       row = t.0;
       plan = plan_more c.args.extent c.args.items.now c.loop-at.at c.loop-at.plan c.step_of-in-loop-at.result (omega (arith, c.loop-at-test.true)) v.in_range (omega (arith, v.room, c.requires)) t.1 v.plan;
     }
+
+pub returns-clause-most : goal.returns-clause-most
+returns-clause-most c =
+    let all : drop c.loop-at.at c.args.items.now ≡ c.args.items.now =
+    ap (λ (i : ℕ). drop i c.args.items.now) (let none : c.loop-at.at ≡ 0 = omega (arith, c.loop-at-test.false) in none) in
+    let is = c.loop-at.invariant.row ∙ ap (row c.args.extent) all in
+    omega (arith, ap (λ (r : Row). r.ascii) is, (row_within c.args.extent c.args.items.now (omega (arith, c.requires))).ascii, c.requires)
