@@ -1,7 +1,7 @@
 //! The smallest symbol of a message: data codewords that spell it, of the smallest size that has any.
 
-ghost use Rattle.std.specs.Prelude.{◌≡◌, ◌<◌, ◌≤◌, OnErr, length};
-ghost use Rattle.dm_words.specs.declared.extent.Extent.TheVariants.{Wide};
+ghost use Rattle.std.specs.Prelude.{◌≡◌, ◌<◌, ◌≤◌, OnErr, IsTrue, length};
+ghost use Rattle.dm_words.specs.declared.extent.Extent.TheVariants.{Usual};
 ghost use Rattle.dm_words.specs.Ascii.{ascii};
 ghost use Rattle.dm_words.specs.Messages.{IsMessage};
 ghost use Rattle.dm_words.specs.Outcomes.{outcome};
@@ -160,40 +160,38 @@ fn write_plainest(
         let _form = write_ascii(items, words);
         return;
     }
-    match extent {
-        Extent::Usual => write_way(extent, items, way, plan, words, count),
-        Extent::Wide => write_wide(items, way, plan, words, count),
+    let is_usual = write_way(extent, items, way, plan, words, count);
+    if !is_usual {
+        write_usual_if_fits(extent, items, words, count);
     }
 }
 
-/// Writes the items as the usual extent has it, where there is room for that, and else in this way, by its plan.
-fn write_wide(
+/// Writes the items, without pads, as the usual extent has it, in place of the words that stand there, where a symbol of
+/// `count` data codewords has room for that.
+fn write_usual_if_fits(
+    extent: Extent,
     items: &[Item],
-    way: Way,
-    plan: &[Step; PLAN_ROOM],
     words: &mut ArrayVec<u8, MOST_DATA>,
     count: u16,
 )
     requires few { length items.now ≤ MESSAGE_ROOM }
     requires message { IsMessage items.now }
-    requires way { IsWay Wide items.now way.macro_word way.cost }
-    requires plan { IsRightPlan Wide (text_of way.macro_word items.now) plan.now }
-    requires room { way.cost ≤ count }
     requires count { count ≤ MOST_DATA }
     requires no_ascii { count < length (ascii items.now) }
-    ensures spells { SpellsThenPads Wide (padded words.new.items count) items.now }
+    requires spells { SpellsThenPads extent (padded words.old.items count) items.now }
+    requires fits { length words.old.items ≤ count }
+    ensures spells { SpellsThenPads extent (padded words.new.items count) items.now }
     ensures fits { length words.new.items ≤ count }
     ensures plainest { IsPlainest (padded words.new.items count) items.now }
 {
-    let mut usual = [Step::NONE; PLAN_ROOM];
-    if plan_to(Extent::Usual, items, &mut usual) <= count {
-        write_plain(Extent::Usual, items, &usual, words, count);
-    } else {
-        write_way(Extent::Wide, items, way, plan, words, count);
+    let mut plan = [Step::NONE; PLAN_ROOM];
+    if plan_to(Extent::Usual, items, &mut plan) <= count {
+        let _usual = write_plain(Extent::Usual, items, &plan, words, count);
     }
 }
 
-/// Writes the items in this way, by its plan, without pads, for a symbol of `count` data codewords.
+/// Writes the items in this way, by its plan, without pads, for a symbol of `count` data codewords, and says whether the
+/// usual extent surely reads them.
 fn write_way(
     extent: Extent,
     items: &[Item],
@@ -201,7 +199,7 @@ fn write_way(
     plan: &[Step; PLAN_ROOM],
     words: &mut ArrayVec<u8, MOST_DATA>,
     count: u16,
-)
+) -> bool
     requires few { length items.now ≤ MESSAGE_ROOM }
     requires message { IsMessage items.now }
     requires way { IsWay extent items.now way.macro_word way.cost }
@@ -209,6 +207,7 @@ fn write_way(
     requires room { way.cost ≤ count }
     requires count { count ≤ MOST_DATA }
     ensures spells { SpellsThenPads extent (padded words.new.items count) items.now }
+    ensures usual { IsTrue result → SpellsThenPads Usual (padded words.new.items count) items.now }
     ensures fits { length words.new.items ≤ count }
 {
     match way.macro_word {
@@ -216,27 +215,30 @@ fn write_way(
         Some(word) => {
             words.clear();
             words.push(word);
-            write_parts(extent, inner(items), plan, words, usize::from(count));
+            let _usual = write_parts(extent, inner(items), plan, words, usize::from(count));
+            false
         }
     }
 }
 
-/// Writes the items by no macro, by their plan, without pads, for a symbol of `count` data codewords.
+/// Writes the items by no macro, by their plan, without pads, for a symbol of `count` data codewords, and says whether
+/// the usual extent surely reads them.
 fn write_plain(
     extent: Extent,
     items: &[Item],
     plan: &[Step; PLAN_ROOM],
     words: &mut ArrayVec<u8, MOST_DATA>,
     count: u16,
-)
+) -> bool
     requires few { length items.now ≤ MESSAGE_ROOM }
     requires message { IsMessage items.now }
     requires plan { IsRightPlan extent items.now plan.now }
     requires room { parts_cost extent items.now ≤ count }
     requires count { count ≤ MOST_DATA }
     ensures spells { SpellsThenPads extent (padded words.new.items count) items.now }
+    ensures usual { IsTrue result → SpellsThenPads Usual (padded words.new.items count) items.now }
     ensures fits { length words.new.items ≤ count }
 {
     words.clear();
-    write_parts(extent, items, plan, words, usize::from(count));
+    write_parts(extent, items, plan, words, usize::from(count))
 }

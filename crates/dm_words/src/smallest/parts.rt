@@ -1,6 +1,7 @@
 //! The codewords of a plan, part by part.
 
-ghost use Rattle.std.specs.Prelude.{◌≡◌, ◌+◌, ◌-◌, ◌≤◌, ◌<◌, length, take, drop};
+ghost use Rattle.std.specs.Prelude.{◌≡◌, ◌+◌, ◌-◌, ◌≤◌, ◌<◌, IsTrue, length, take, drop};
+ghost use Rattle.dm_words.specs.declared.extent.Extent.TheVariants.{Usual};
 ghost use Rattle.dm_words.specs.Messages.{IsMessage};
 ghost use Rattle.dm_words.specs.inner.Costs.{parts_cost, IsRightPlan};
 ghost use Rattle.dm_words.specs.inner.Written.{IsPartWritten, ArePartsWritten};
@@ -16,7 +17,16 @@ use crate::smallest::segment::{segment_end, write_segment};
 use arrayvec::ArrayVec;
 use dm_layout::MOST_DATA;
 
-/// Writes the part that begins at an item, and gives the index behind it.
+/// What is known of a part that was written.
+#[derive(Clone, Copy)]
+struct Written {
+    /// The index behind its items.
+    next: usize,
+    /// Whether the usual extent has it too.
+    is_usual: bool,
+}
+
+/// Writes the part that begins at an item.
 fn write_part(
     extent: Extent,
     items: &[Item],
@@ -24,60 +34,88 @@ fn write_part(
     plan: &[Step; PLAN_ROOM],
     words: &mut ArrayVec<u8, MOST_DATA>,
     total: usize,
-) -> usize
+) -> Written
     requires at { at < length items.now }
     requires few { length items.now ≤ MESSAGE_ROOM }
     requires message { IsMessage items.now }
     requires plan { IsRightPlan extent items.now plan.now }
     requires budget { length words.old.items + parts_cost extent (drop at items.now) ≤ total }
     requires total { total ≤ MOST_DATA }
-    ensures further { at < result }
-    ensures within { result ≤ length items.now }
-    ensures budget { length words.new.items + parts_cost extent (drop result items.now) ≤ total }
+    ensures further { at < result.next }
+    ensures within { result.next ≤ length items.now }
+    ensures budget { length words.new.items + parts_cost extent (drop result.next items.now)
+        ≤ total }
     ensures part { IsPartWritten extent total words.old.items words.new.items
-        (take (result - at) (drop at items.now)) }
+        (take (result.next - at) (drop at items.now)) }
+    ensures usual { IsTrue result.is_usual
+        → IsPartWritten Usual total words.old.items words.new.items
+        (take (result.next - at) (drop at items.now)) }
 {
     match plan[at].begins {
         Begin::One => {
             let _one = write_unit(unit_of(items[at]), words);
-            at + 1
+            Written {
+                next: at + 1,
+                is_usual: true,
+            }
         }
         Begin::Two => {
             words.push(digit_pair(byte(items[at]), byte(items[at + 1])));
-            at + 2
+            Written {
+                next: at + 2,
+                is_usual: true,
+            }
         }
-        Begin::Run(set) => write_run(extent, items, at, set, plan, words, total),
-        Begin::Edifact => write_edifact(extent, items, at, plan, words, total),
+        Begin::Run(set) => Written {
+            next: write_run(extent, items, at, set, plan, words, total),
+            is_usual: true,
+        },
+        Begin::Edifact => Written {
+            next: write_edifact(extent, items, at, plan, words, total),
+            is_usual: false,
+        },
         Begin::Segment => {
             let end = segment_end(extent, items, at, plan);
             write_segment(&items[at..end], words, total);
-            end
+            Written {
+                next: end,
+                is_usual: true,
+            }
         }
         Begin::Rest => {
             write_segment(&items[at..], words, total);
-            items.len()
+            Written {
+                next: items.len(),
+                is_usual: true,
+            }
         }
     }
 }
 
-/// Writes the parts of a plan behind the words that stand there.
+/// Writes the parts of a plan behind the words that stand there, and says whether the usual extent has them all.
 pub(crate) fn write_parts(
     extent: Extent,
     items: &[Item],
     plan: &[Step; PLAN_ROOM],
     words: &mut ArrayVec<u8, MOST_DATA>,
     total: usize,
-)
+) -> bool
     requires few { length items.now ≤ MESSAGE_ROOM }
     requires message { IsMessage items.now }
     requires plan { IsRightPlan extent items.now plan.now }
     requires budget { length words.old.items + parts_cost extent items.now ≤ total }
     requires total { total ≤ MOST_DATA }
     ensures parts { ArePartsWritten extent total words.old.items words.new.items items.now }
+    ensures usual { IsTrue result
+        → ArePartsWritten Usual total words.old.items words.new.items items.now }
     ensures fits { length words.new.items ≤ total }
 {
+    let mut are_usual = true;
     let mut at = 0;
     while at < items.len() {
-        at = write_part(extent, items, at, plan, words, total);
+        let part = write_part(extent, items, at, plan, words, total);
+        are_usual &= part.is_usual;
+        at = part.next;
     }
+    are_usual
 }

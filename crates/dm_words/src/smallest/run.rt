@@ -1,6 +1,7 @@
 //! Runs of C40, Text and X12 that follow the plan.
 
 ghost use Rattle.std.specs.Prelude.{◌≡◌, ◌+◌, ◌-◌, ◌*◌, ◌/◌, ◌≤◌, ◌<◌, ◌&&◌, not, Some, length, All, ℕ, take, drop};
+ghost use Rattle.dm_words.specs.declared.extent.Extent.{Extent};
 ghost use Rattle.dm_words.specs.declared.smallest.plan.Step.{Step};
 ghost use Rattle.dm_words.specs.declared.codeword.Codeword.TheVariants as Codeword;
 ghost use Rattle.dm_words.specs.Codewords.{codeword_of};
@@ -127,7 +128,7 @@ pub(crate) fn write_run(
     ensures further { at < result }
     ensures within { result ≤ length items.now }
     ensures budget { length words.new.items + parts_cost extent (drop result items.now) ≤ total }
-    ensures part { IsPartWritten extent total words.old.items words.new.items
+    ensures part { (any : Extent) → IsPartWritten any total words.old.items words.new.items
         (take (result - at) (drop at items.now)) }
 {
     words.push(latch(set));

@@ -1,4 +1,5 @@
 use Rattle.std.proofs.Common.{ℕ, arith, subst}
+use Rattle.dm_words.specs.declared.extent.Extent.TheVariants.{Usual}
 use Rattle.dm_words.specs.inner.Written.{ArePartsWritten}
 use Rattle.dm_words.proofs.SmallestSymbols.{plain_spells}
 use Rattle.dm_words.proofs.smallest.write_plain.Goals as goal
@@ -8,4 +9,11 @@ returns-clause-spells c =
     let new = c.write_parts.new.words.items in
     plain_spells c.args.extent c.args.count c.clear.new.self.items new c.args.items.now c.clear.ensures
     (subst (λ (n : ℕ). ArePartsWritten c.args.extent n c.clear.new.self.items new c.args.items.now) c.from.ensures c.write_parts.ensures.parts)
+    (omega (arith, c.write_parts.ensures.fits, c.from.ensures))
+
+pub returns-clause-usual : goal.returns-clause-usual
+returns-clause-usual c all =
+    let new = c.write_parts.new.words.items in
+    plain_spells Usual c.args.count c.clear.new.self.items new c.args.items.now c.clear.ensures
+    (subst (λ (n : ℕ). ArePartsWritten Usual n c.clear.new.self.items new c.args.items.now) c.from.ensures (c.write_parts.ensures.usual all))
     (omega (arith, c.write_parts.ensures.fits, c.from.ensures))

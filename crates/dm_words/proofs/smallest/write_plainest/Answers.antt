@@ -1,5 +1,4 @@
-use Rattle.std.proofs.Common.{ℕ, List, ap, sym, subst, arith, length}
-use Rattle.dm_words.specs.declared.extent.Extent.{Extent}
+use Rattle.std.proofs.Common.{rules, ℕ, List, ap, sym, subst, arith, length}
 use Rattle.dm_words.specs.Pads.{padded}
 use Rattle.dm_words.specs.Smallest.{SpellsThenPads}
 use Rattle.dm_words.proofs.LawLemmas.{ascii_padded}
@@ -16,14 +15,8 @@ returns-then-ascii_form-from-clause-plainest c =
     ascii_plainest c.args.items.now c.write_ascii-form.new.words.items c.args.count c.requires.message c.write_ascii-form.ensures.words
     (omega (arith, ap length c.write_ascii-form.ensures.words, c.ascii_form.ensures.length, c.from.ensures, c.if-ascii_form-from.true))
 
-pub returns-in-Usual-clause-plainest : goal.returns-in-Usual-clause-plainest
-returns-in-Usual-clause-plainest c =
-    usual_plainest c.args.items.now c.write_way.new.words.items c.args.count c.write_way.ensures.fits
+pub returns-else-not-is_usual-clause-plainest : goal.returns-else-not-is_usual-clause-plainest
+returns-else-not-is_usual-clause-plainest c =
+    usual_plainest c.args.items.now c.write_way-is_usual.new.words.items c.args.count c.write_way-is_usual.ensures.fits
     (omega (arith, c.ascii_form.ensures.length, c.from.ensures, c.if-ascii_form-from.false))
-    (subst (λ (e : Extent). SpellsThenPads e (padded c.write_way.new.words.items c.args.count) c.args.items.now) c.in-Usual.is
-    c.write_way.ensures.spells)
-
-pub returns-in-Wide-clause-spells : goal.returns-in-Wide-clause-spells
-returns-in-Wide-clause-spells c =
-    subst (λ (e : Extent). SpellsThenPads e (padded c.write_wide.new.words.items c.args.count) c.args.items.now) (sym c.in-Wide.is)
-    c.write_wide.ensures.spells
+    (c.write_way-is_usual.ensures.usual (search rules))

@@ -1,5 +1,6 @@
 use Rattle.std.proofs.Common.{◌≡◌, ◌∙◌, ℕ, ◌+◌, List, length, drop, get_or, ap, sym, subst, arith, false}
 use Rattle.std.proofs.lemmas.List.{length-append, take_rest, drop_all}
+use Rattle.dm_words.specs.declared.extent.Extent.TheVariants.{Usual}
 use Rattle.dm_words.specs.declared.item.Item.{Item}
 use Rattle.dm_words.specs.declared.item.Item.TheVariants.{Byte}
 use Rattle.dm_words.specs.Messages.{byte_of}
@@ -26,6 +27,11 @@ returns-in-One-clause-budget c =
 pub returns-in-One-clause-part : goal.returns-in-One-clause-part
 returns-in-One-clause-part c =
     one_written c.args.extent c.args.total c.args.words.now.items c.write_unit-one.new.words.items (unit_words c.unit_of.result) c.args.items.now c.args.at (Byte 0)
+    c.requires.at c.requires.message c.unit_of.ensures.words c.write_unit-one.ensures.words
+
+pub returns-in-One-clause-usual : goal.returns-in-One-clause-usual
+returns-in-One-clause-usual c =
+    λ usual. one_written Usual c.args.total c.args.words.now.items c.write_unit-one.new.words.items (unit_words c.unit_of.result) c.args.items.now c.args.at (Byte 0)
     c.requires.at c.requires.message c.unit_of.ensures.words c.write_unit-one.ensures.words
 
 pub bounds-items-at-in-Two-2 : goal.bounds-items-at-in-Two-2
@@ -63,6 +69,13 @@ returns-in-Two-clause-part c =
     let word : c.digit_pair.result ≡ digit_pair (byte_of (get_or c.args.items.now c.args.at (Byte 0))) (byte_of (get_or c.args.items.now (c.args.at + 1) (Byte 0))) =
     c.digit_pair.ensures ∙ ap (λ (b : ℕ). digit_pair b c.byte-in-Two.result) c.byte.ensures ∙ ap (λ (b : ℕ). digit_pair (byte_of (get_or c.args.items.now c.args.at (Byte 0))) b) c.byte-in-Two.ensures in
     two_written c.args.extent c.args.total c.args.words.now.items c.push.new.self.items c.digit_pair.result c.args.items.now c.args.at (Byte 0) q.second_there q.first q.second word c.push.ensures.items
+
+pub returns-in-Two-clause-usual : goal.returns-in-Two-clause-usual
+returns-in-Two-clause-usual c = λ usual.
+    let q = pair_paid c.args.extent c.args.items.now c.args.at (Byte 0) _ c.requires.at (c.requires.plan c.args.at _ (omega (arith, c.requires.at))) (length c.args.words.now.items) c.args.total c.requires.budget (omega (arith, c.requires.total)) c.in-Two.is in
+    let word : c.digit_pair.result ≡ digit_pair (byte_of (get_or c.args.items.now c.args.at (Byte 0))) (byte_of (get_or c.args.items.now (c.args.at + 1) (Byte 0))) =
+    c.digit_pair.ensures ∙ ap (λ (b : ℕ). digit_pair b c.byte-in-Two.result) c.byte.ensures ∙ ap (λ (b : ℕ). digit_pair (byte_of (get_or c.args.items.now c.args.at (Byte 0))) b) c.byte-in-Two.ensures in
+    two_written Usual c.args.total c.args.words.now.items c.push.new.self.items c.digit_pair.result c.args.items.now c.args.at (Byte 0) q.second_there q.first q.second word c.push.ensures.items
 
 pub write_run-requires-clause-budget : goal.write_run-requires-clause-budget
 write_run-requires-clause-budget c =

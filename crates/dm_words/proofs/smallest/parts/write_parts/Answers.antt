@@ -1,24 +1,40 @@
 use Rattle.std.proofs.Common.{◌≡◌, ◌∙◌, ℕ, ◌+◌, ◌-◌, ◌++◌, List, take, drop, ap, sym, subst, arith}
 use Rattle.std.proofs.Math.Seq.{take-add}
+use Rattle.std.proofs.lemmas.Bool.{and_parts}
+use Rattle.dm_words.specs.declared.extent.Extent.{Extent}
+use Rattle.dm_words.specs.declared.extent.Extent.TheVariants.{Usual}
 use Rattle.dm_words.specs.declared.item.Item.{Item}
-use Rattle.dm_words.specs.inner.Written.{ArePartsWritten}
+use Rattle.dm_words.specs.inner.Written.{IsPartWritten, ArePartsWritten}
 use Rattle.dm_words.proofs.PartsWritten.{no_parts, parts_more}
 use Rattle.dm_words.proofs.smallest.parts.write_parts.Goals as goal
 
 pub loop-at-init : goal.loop-at-init
-loop-at-init c = record { within = omega arith; budget = c.requires.budget; parts = no_parts c.args.extent c.args.total c.args.words.now.items }
+loop-at-init c = record {
+  within = omega arith;
+  budget = c.requires.budget;
+  parts = no_parts c.args.extent c.args.total c.args.words.now.items;
+  usual = λ all. no_parts Usual c.args.total c.args.words.now.items;
+}
 
 pub loop-at-preserved : goal.loop-at-preserved
 loop-at-preserved c =
     let m = c.args.items.now in
     let at = c.loop-at.at in
-    let next = c.write_part-at.result in
-    let w = c.write_part-at.ensures in
+    let next = c.write_part-part.result.next in
+    let w = c.write_part-part.ensures in
+    let base = c.args.words.now.items in
+    let old = c.loop-at.words.items in
+    let new = c.write_part-part.new.words.items in
     let sum : at + (next - at) ≡ next = omega (arith, w.further) in
     let more : take at m ++ take (next - at) (drop at m) ≡ take next m = sym (take-add at (next - at) m) ∙ ap (λ (k : ℕ). take k m) sum in
+    let joined = λ (e : Extent) (before : ArePartsWritten e c.args.total base old (take at m)) (part : IsPartWritten e c.args.total old new (take (next - at) (drop at m))).
+    subst (λ (l : List Item). ArePartsWritten e c.args.total base new l) more
+    (parts_more e c.args.total base old new (take at m) (take (next - at) (drop at m)) before part) in
     record {
       within = w.within;
       budget = w.budget;
-      parts = subst (λ (l : List Item). ArePartsWritten c.args.extent c.args.total c.args.words.now.items c.write_part-at.new.words.items l) more
-          (parts_more c.args.extent c.args.total c.args.words.now.items c.loop-at.words.items c.write_part-at.new.words.items (take at m) (take (next - at) (drop at m)) c.loop-at.invariant.parts w.part);
+      parts = joined c.args.extent c.loop-at.invariant.parts w.part;
+      usual = λ all.
+          (let each = and_parts c.loop-at.are_usual c.write_part-part.result.is_usual all in
+          joined Usual (c.loop-at.invariant.usual each.0) (w.usual each.1));
     }

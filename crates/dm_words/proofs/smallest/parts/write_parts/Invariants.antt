@@ -1,4 +1,6 @@
 use Rattle.std.proofs.Common.{◌+◌, ◌-◌, ◌≤◌, length, drop, take}
+use Rattle.std.specs.Prelude.{IsTrue}
+use Rattle.dm_words.specs.declared.extent.Extent.TheVariants.{Usual}
 use Rattle.dm_words.specs.inner.Costs.{parts_cost}
 use Rattle.dm_words.specs.inner.Written.{ArePartsWritten}
 use Rattle.dm_words.proofs.smallest.parts.write_parts.Given as goal
@@ -8,6 +10,7 @@ invariant-loop-at l = record {
   within : l.at ≤ length l.items;
   budget : length l.words.items + parts_cost l.extent (drop l.at l.items) ≤ l.total;
   parts : ArePartsWritten l.extent l.total l.fn.words.items l.words.items (take l.at l.items);
+  usual : IsTrue l.are_usual → ArePartsWritten Usual l.total l.fn.words.items l.words.items (take l.at l.items);
 }
 
 abbrev pub decreases-loop-at : goal.decreases-loop-at

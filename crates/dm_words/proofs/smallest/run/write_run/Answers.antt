@@ -61,11 +61,11 @@ returns-then-total-len-gt1-clause-budget c =
 
 pub returns-then-total-len-gt1-clause-part : goal.returns-then-total-len-gt1-clause-part
 returns-then-total-len-gt1-clause-part c =
-    written_unlatch c.args.extent c.args.set c.args.total c.args.words.now.items c.loop-set.words.items c.push-then-total-len-gt1.new.self.items (take (c.loop-set.next - c.args.at) (drop c.args.at c.args.items.now)) c.loop-set.part (leave_at c.args.extent c.args.set (drop c.loop-set.next c.args.items.now) _ c.loop-set.part (length c.loop-set.words.items) c.args.total c.goes_on.result (c.requires.plan c.loop-set.next _ c.loop-set.invariant.within) c.loop-set.invariant.budget c.goes_on.ensures c.loop-set-test.false).0 c.loop-set.invariant.so_far c.push-then-total-len-gt1.ensures.items
+    λ any. written_unlatch any c.args.set c.args.total c.args.words.now.items c.loop-set.words.items c.push-then-total-len-gt1.new.self.items (take (c.loop-set.next - c.args.at) (drop c.args.at c.args.items.now)) c.loop-set.part (leave_at c.args.extent c.args.set (drop c.loop-set.next c.args.items.now) _ c.loop-set.part (length c.loop-set.words.items) c.args.total c.goes_on.result (c.requires.plan c.loop-set.next _ c.loop-set.invariant.within) c.loop-set.invariant.budget c.goes_on.ensures c.loop-set-test.false).0 c.loop-set.invariant.so_far c.push-then-total-len-gt1.ensures.items
 
 pub returns-else-total-len-gt1-clause-budget : goal.returns-else-total-len-gt1-clause-budget
 returns-else-total-len-gt1-clause-budget c = omega (arith, (leave_at c.args.extent c.args.set (drop c.loop-set.next c.args.items.now) _ c.loop-set.part (length c.loop-set.words.items) c.args.total c.goes_on.result (c.requires.plan c.loop-set.next _ c.loop-set.invariant.within) c.loop-set.invariant.budget c.goes_on.ensures c.loop-set-test.false).1, (leave_bounds 1 (parts_cost c.args.extent (drop c.loop-set.next c.args.items.now))).0)
 
 pub returns-else-total-len-gt1-clause-part : goal.returns-else-total-len-gt1-clause-part
 returns-else-total-len-gt1-clause-part c =
-    written_bare c.args.extent c.args.set c.args.total c.args.words.now.items c.loop-set.words.items (take (c.loop-set.next - c.args.at) (drop c.args.at c.args.items.now)) c.loop-set.part (leave_at c.args.extent c.args.set (drop c.loop-set.next c.args.items.now) _ c.loop-set.part (length c.loop-set.words.items) c.args.total c.goes_on.result (c.requires.plan c.loop-set.next _ c.loop-set.invariant.within) c.loop-set.invariant.budget c.goes_on.ensures c.loop-set-test.false).0 (omega (arith, c.if-total-len-gt1.false, c.len.ensures.value)) c.loop-set.invariant.so_far
+    λ any. written_bare any c.args.set c.args.total c.args.words.now.items c.loop-set.words.items (take (c.loop-set.next - c.args.at) (drop c.args.at c.args.items.now)) c.loop-set.part (leave_at c.args.extent c.args.set (drop c.loop-set.next c.args.items.now) _ c.loop-set.part (length c.loop-set.words.items) c.args.total c.goes_on.result (c.requires.plan c.loop-set.next _ c.loop-set.invariant.within) c.loop-set.invariant.budget c.goes_on.ensures c.loop-set-test.false).0 (omega (arith, c.if-total-len-gt1.false, c.len.ensures.value)) c.loop-set.invariant.so_far

@@ -1,18 +1,17 @@
-use Rattle.dm_words.specs.declared.extent.Extent.TheVariants.{Wide}
 use Rattle.dm_words.specs.Pads.{padded}
 use Rattle.dm_words.proofs.SmallestSymbols.{wider, usual_plainest, any_plainest}
-use Rattle.dm_words.proofs.smallest.write_wide.Goals as goal
+use Rattle.dm_words.proofs.smallest.write_usual_if_fits.Goals as goal
 
 pub returns-then-plan_to-count-clause-spells : goal.returns-then-plan_to-count-clause-spells
 returns-then-plan_to-count-clause-spells c =
-    wider Wide (padded c.write_plain.new.words.items c.args.count) c.args.items.now c.write_plain.ensures.spells
+    wider c.args.extent (padded c.write_plain-usual.new.words.items c.args.count) c.args.items.now c.write_plain-usual.ensures.spells
 
 pub returns-then-plan_to-count-clause-plainest : goal.returns-then-plan_to-count-clause-plainest
 returns-then-plan_to-count-clause-plainest c =
-    usual_plainest c.args.items.now c.write_plain.new.words.items c.args.count c.write_plain.ensures.fits
-    c.requires.no_ascii c.write_plain.ensures.spells
+    usual_plainest c.args.items.now c.write_plain-usual.new.words.items c.args.count c.write_plain-usual.ensures.fits
+    c.requires.no_ascii c.write_plain-usual.ensures.spells
 
 pub returns-else-plan_to-count-clause-plainest : goal.returns-else-plan_to-count-clause-plainest
 returns-else-plan_to-count-clause-plainest c =
-    any_plainest c.args.items.now c.write_way.new.words.items c.args.count c.plan_to.result c.write_way.ensures.fits
+    any_plainest c.args.items.now c.args.words.now.items c.args.count c.plan_to.result c.requires.fits
     c.requires.no_ascii c.plan_to.ensures.cost c.if-plan_to-count.false
