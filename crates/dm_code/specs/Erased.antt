@@ -8,7 +8,8 @@ unfoldable pub erased_from : ℕ → List Bool → List ℕ
 erased_from place [] = []
 erased_from place (is_erased ∷ rest) = if is_erased then place ∷ erased_from (suc place) rest else erased_from (suc place) rest
 
--- A list says of each place of a word, from the first on, whether it is erased.
+-- The erased places of a word, in ascending order, of which a list says, from the first place on, whether they are
+-- erased.
 abbrev pub erased_places : List Bool → List ℕ
 erased_places erased = erased_from 0 erased
 
@@ -32,6 +33,6 @@ pub record IsNearBut (k : ℕ) (word places other : List ℕ) : Type 0 where
 abbrev pub NearButIsOne : Type 0
 NearButIsOne = (k : ℕ) (word places first second : List ℕ) → length word ≤ 255 → IsNearBut k word places first → IsNearBut k word places second → first ≡ second
 
--- With no place erased, those codewords are near to a word that are near to it but for none.
+-- With no place erased, a codeword is near to a word but for its erased places exactly where it is near to the word.
 abbrev pub NearButNoneIsNear : Type 0
 NearButNoneIsNear = (k : ℕ) (word other : List ℕ) → IsNearBut k word [] other ↔ IsNear k word other

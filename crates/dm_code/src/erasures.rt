@@ -34,7 +34,8 @@ pub struct Restored {
 /// at. The word has k + 1 to [`LONGEST_WORD`] codewords, the data codewords first, and k is at most [`MOST_CHECKS`] (ISO/IEC 16022,
 /// error checking and correction).
 ///
-/// No such word is near to two codewords, so there is no choice. With no place erased this is what [`correct`] gives.
+/// No such word is near to two codewords, so there is no choice. With no place erased, and a k of 1 or more, this is what [`correct`]
+/// gives.
 ///
 /// For a word of n codewords and s erased places the work is that of [`correct`], about 4 n s products, and n s inversions.
 pub fn correct_erased<S: KeySolver>(

@@ -62,7 +62,8 @@ pub fn least_pair_is_there()
     ensures { LeastPairIsThere }
 {}
 
-/// At most one codeword is near to a word but for erased places, and with none erased it is the one that is near to the word.
+/// At most one codeword is near to a word of at most 255 bytes but for erased places, and with none erased it is the one
+/// that is near to the word.
 pub fn near_but_is_one()
     ensures one { NearButIsOne }
     ensures none { NearButNoneIsNear }

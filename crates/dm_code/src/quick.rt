@@ -26,9 +26,9 @@ impl Quick {
     /// made for it: for k syndromes at most 4 k^2 products and k inversions. There are at most [`MOST_CHECKS`] syndromes, and 2 t
     /// is at most their number.
     ///
-    /// The [`Meter`] counts every product and every inversion, but no product with a zero that only fills lanes. So a pair takes
-    /// a product for each syndrome or more, even a None takes one where there are syndromes, and a locator of more than one
-    /// coefficient takes an inversion.
+    /// The [`Meter`] is meant to count every product and every inversion, but no product with a zero that only fills lanes:
+    /// tests show that it does, and the clauses bound its counts. So a pair takes a product for each syndrome or more, even
+    /// a None takes one where there are syndromes, and a locator of more than one coefficient takes an inversion.
     pub fn solve_counted(&self, s: &[u8], t: usize) -> (Option<Key>, Meter)
         requires few { length s.now ≤ MOST_CHECKS }
         requires half { 2 * t ≤ length s.now }

@@ -9,7 +9,7 @@ use std::marker::Model;
 /// How many sizes there are.
 pub const SIZE_COUNT: usize = 21;
 
-/// The largest side of a symbol, in cells.
+/// The largest side of a size of the table, in cells.
 pub const LARGEST_SIDE: usize = 104;
 
 /// The side of the largest mapping square, in cells.
@@ -18,13 +18,13 @@ pub(crate) const LARGEST_MAPPING: usize = 96;
 /// The most regions of a symbol that stand side by side.
 pub(crate) const MOST_ACROSS: usize = 4;
 
-/// The most data codewords of a symbol.
+/// The most data codewords of a size of the table.
 pub const MOST_DATA: usize = 816;
 
-/// The most codewords of a symbol, data and check together.
+/// The most codewords of a size of the table, data and check together.
 pub const MOST_CODEWORDS: usize = 1152;
 
-/// The most blocks of a symbol.
+/// The most blocks of a size of the table.
 pub const MOST_BLOCKS: usize = 6;
 
 /// No block has more codewords than this: as many as the field has elements other than 0. `dm_code` has the same number as

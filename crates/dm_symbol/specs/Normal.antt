@@ -37,8 +37,8 @@ pub record IsNormalised (extent : Extent) (profile : Profile) (grid : GridView) 
   pub too_long : (result ≡ Err TooLong) ↔ HasNoNormal extent profile grid limit
   pub fault : (why : ReadFault) → (result ≡ Err (Read why)) ↔ ReadResult extent grid limit (Err why)
 
--- What normalising a grid leaves in its two targets: `reading` is held by that of the reading, and the target of the normal grid held `before` and
--- holds `after`. The outcome is what normalising the grid gives. `reading` is what the grid says, where there is a normal grid and where the message
+-- What normalising a grid leaves in its two targets: that of the reading then holds `reading`; that of the normal grid
+-- held `before`, and then holds `after`. The outcome is what normalising the grid gives. `reading` is what the grid says, where there is a normal grid and where the message
 -- fits no size. After a fault the target of the normal grid is as it was.
 pub record IsNormalisedTo {U : Type 0} (extent : Extent) (profile : Profile) (grid : GridView) (limit : ℕ) (done : Result U NormalFault)
     (reading : Reading) (before after : GridView) : Type 0 where

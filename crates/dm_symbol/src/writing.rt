@@ -21,8 +21,8 @@ pub fn write(message: &Message) -> Result<Grid, TooLong>
 }
 
 /// Gives the normal grid of a message under a profile: the codewords that the profile chooses, pads and check codewords, laid in the smallest
-/// symbol that holds them (ISO/IEC 16022, symbol construction). The fault is `TooLong` exactly where no symbol holds them: where
-/// they are, without pads, more than the data codewords of the largest size.
+/// symbol that holds them (ISO/IEC 16022, symbol construction). The fault is `TooLong` exactly where no size of the table
+/// holds them: where they are, without pads, more than the data codewords of the largest size.
 pub fn write_as(profile: Profile, message: &Message) -> Result<Grid, TooLong>
     ensures { IsWritten profile message.now result }
 {

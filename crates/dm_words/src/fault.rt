@@ -21,6 +21,7 @@ pub enum WordFault {
     Unfinished(u16),
 }
 
-/// The codewords of the message, under the profile that is asked for, are more than `MOST_DATA`.
+/// No size has room for the codewords: those of the profile that is asked for, or, where the smallest are asked for, any
+/// that spell the message in the extent.
 #[derive(Clone, Copy, Debug, PartialEq, Eq)]
 pub struct TooLong;

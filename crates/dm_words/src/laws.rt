@@ -87,7 +87,7 @@ pub fn ascii_is_greedy()
         → IsMessage m → IsAscii m words ↔ (words ≡ ascii m) }
 {}
 
-/// The normal form of a message under each profile, with pads up to any number of codewords that holds it and that a symbol can have, has that many
+/// The normal form of a message under each profile, with pads up to any number of codewords that holds it and that a size of the table has, has that many
 /// codewords, and they spell the message in each extent.
 pub fn normal_form_spells()
     ensures message { (extent : Extent) (profile : Profile) (m : List Item) (count : ℕ)
@@ -101,7 +101,7 @@ pub fn normal_form_spells()
 {}
 
 /// The shorter form of a message is never longer than its ASCII form, nor, where it is bytes alone, than one segment of these bytes.
-pub fn shorter_is_shortest()
+pub fn shorter_is_no_longer()
     ensures ascii { (m : List Item) → length (shorter m) ≤ length (ascii m) }
     ensures segment { (bytes : List ℕ)
         → length (shorter (byte_items bytes)) ≤ length (one_segment bytes) }

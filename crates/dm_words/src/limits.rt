@@ -2,7 +2,7 @@
 
 use dm_layout::MOST_DATA;
 
-/// The most items that are read in the usual extent, and that can be written: two for each data codeword.
+/// The most items that are read in the usual extent, and that a profile writes: two for each data codeword.
 pub const MOST_ITEMS: usize = 2 * MOST_DATA;
 
 /// How many more items than two for each codeword the message of a macro can have: its header and its trailer are nine items, for one codeword.

@@ -50,7 +50,7 @@ abbrev pub normal_fault : NormalFault → Fault
 normal_fault (normal.Read why) = read_fault why
 normal_fault normal.TooLong = too_long
 
--- This number, at this place, stands for no item.
+-- This number, at this index, counted from 0, stands for no item.
 abbrev pub foreign : ℕ → ℕ → Fault
 foreign number place = fault 15 number place
 

@@ -12,7 +12,7 @@ number_of Fnc1 = 256
 abbrev pub numbers_of : List Item → List ℕ
 numbers_of message = map number_of message
 
--- The first of the numbers that stands for no item is at this place.
+-- The first of the numbers that stands for no item has this index, counted from 0.
 pub record IsFirstForeign (numbers : List ℕ) (place : ℕ) : Type 0 where
   pub inside : place < length numbers
   pub foreign : 256 < get_or numbers place 0

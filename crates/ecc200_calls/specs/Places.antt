@@ -14,7 +14,7 @@ use Rattle.ecc200_calls.specs.Faults.{no_fault, no_such_side}
 abbrev pub nothing : PlaceOut
 nothing = record { codeword = 0; bit = 0; kind = 0 }
 
--- This is a bit of a codeword.
+-- This is a bit, 1 for the highest to 8, of a codeword, counted from 0.
 abbrev pub bit_place : ℕ → ℕ → PlaceOut
 bit_place codeword bit = record { codeword = codeword; bit = bit; kind = 1 }
 

@@ -34,8 +34,8 @@ result_shown (Err why) = no_symbol why
 abbrev pub profile_of : ℕ → Option Profile
 profile_of number = if nat_eq number 0 then Some Ascii else (if nat_eq number 1 then Some Shorter else None)
 
--- The result for the numbers of a message under a profile is the first number that stands for no item, with its place, or with 65535 if the place is
--- more; or that the message fits no size; or its normal grid.
+-- The result for the numbers of a message under a profile is the first number that stands for no item, with its index, counted from
+-- 0, or with 65535 if the index is more; or that the message fits no size; or its normal grid.
 pub data WrittenResult (profile : Profile) (numbers : List ℕ) (result : Result GridView Fault) : Type 0 where
   no_message : (place : ℕ) → IsFirstForeign numbers place → result ≡ Err (foreign (get_or numbers place 0) (min place 65535)) → WrittenResult profile numbers result
   no_grid : (message : List Item) → IsMessage message → numbers_of message ≡ numbers → (FitsSomeSize profile message → ⊥) → result ≡ Err too_long → WrittenResult profile numbers result

@@ -8,7 +8,7 @@ use crate::field::Gf;
 use crate::polynomial::{Poly, times};
 use crate::tap_rows::TAP_ROWS;
 
-/// The most check codewords of a block, which the square symbols of sides 48 and 96 have.
+/// The most check codewords of a block of any size; the squares of sides 48, 96 and 120 have as many.
 pub const MOST_CHECKS: usize = 68;
 
 /// Room for the most check codewords, or as many other numbers, in whole groups of sixteen.

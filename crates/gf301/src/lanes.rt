@@ -12,8 +12,8 @@ use crate::power_rows::POWER_ROWS;
 use crate::product_rows::{HIGH, LOW};
 use std::simd::prelude::*;
 
-/// Gives the sixteen powers of 2 with exponents of `first` to `first` + 15, in this order, for any `first`. [`power_row`] gives
-/// the same from a table where `first` is at most 240.
+/// Gives the sixteen powers of 2 with exponents of `first` to `first` + 15, in this order, for any `first`. With the exponent 1
+/// [`power_row`] gives the same from a table, where `first` is at most 240.
 pub fn powers(first: u16) -> [u8; 16]
     ensures { result ≡ values_from power first 16 }
 {

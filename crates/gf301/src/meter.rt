@@ -41,8 +41,8 @@ impl Meter {
         a.inverse()
     }
 
-    /// Does what [`add_scaled`] does, which counts as `count` products: those with the numbers of the other list before the zeros
-    /// at its end. There is room for as many in `u32`.
+    /// Does what [`add_scaled`] does, which counts as `count` products: at least as many as the other list has numbers before the
+    /// zeros at its end. There is room for as many in `u32`.
     #[inline]
     pub fn add_scaled(&mut self, sum: &mut [u8], c: Gf, list: &[u8], count: u32)
         requires enough { length sum.old ≤ length list.now }
