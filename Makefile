@@ -12,14 +12,17 @@ help:
 	@echo "make build     proves the program and everything below it: ten minutes on four processors"
 	@echo "make library   proves the library for C and builds it, static and shared: a minute after make build"
 	@echo "make page      builds the page, one file for a browser: a minute after make build; binaryen is needed"
-	@echo "make sampler   builds what finds symbols in pictures, over the library: seconds; libdmtx-dev, libpng-dev and libjpeg-dev are needed"
+	@echo "make sampler   builds what finds symbols in pictures, over the library: seconds; \
+	libdmtx-dev, libpng-dev and libjpeg-dev are needed"
 	@echo "make wheel     builds the Python package's wheel, with the libraries that are built: seconds"
 	@echo "make try       shows the program at work, unproved if it isn't built yet: half a minute"
 	@echo "make test      the merge gate, every proof from scratch and all tests: over 50 minutes of processor time"
-	@echo "make install   installs program, library, callers, man pages and docs below PREFIX=/usr/local; DESTDIR, LIBDIR and PYTHONDIR as usual"
+	@echo "make install   installs program, library, callers, man pages and docs below PREFIX=/usr/local; \
+	DESTDIR, LIBDIR and PYTHONDIR as usual"
 	@echo "make install-library, make uninstall   the library alone; removes what make install put there"
 	@echo "make deb       builds Debian packages into out/deb: ten seconds after make build library sampler"
-	@echo "make dist      makes an archive of the sources and a prebuilt one in out/dist: seconds after make build library page"
+	@echo "make dist      makes an archive of the sources and a prebuilt one in out/dist: seconds \
+	after make build library page"
 	@echo "make bench     times the program and the library beside others that are installed: minutes"
 	@echo
 	@echo "The program is $(TOOL), the library is in library/out. README.md begins with what to do without the toolchain."
@@ -40,11 +43,13 @@ library:
 page:
 	web/build
 
-# Builds the sampler, from pictures to grids, over the library that `make library` left: sampler/out/dm_sample and libecc200_sample.so.
+# Builds the sampler, from pictures to grids, over the library that `make library` left: sampler/out/dm_sample and
+# libecc200_sample.so.
 sampler: library
 	sampler/build
 
-# Builds the Python package's wheel over the libraries that are built: library/python/out/ecc200-VERSION-py3-none-PLATFORM.whl.
+# Builds the Python package's wheel over the libraries that are built:
+# library/python/out/ecc200-VERSION-py3-none-PLATFORM.whl.
 wheel: library
 	library/python/build
 
@@ -78,4 +83,5 @@ dist: build library page sampler
 # Times the program that `make build` left, and the library that `make library` left, beside others that are installed.
 bench:
 	bench/run
-	@if [ -f library/out/libecc200.a ]; then bench/library; else echo "left out: the library (not built: run \`make library\` first)"; fi
+	@if [ -f library/out/libecc200.a ]; then bench/library; \
+	else echo "left out: the library (not built: run \`make library\` first)"; fi

@@ -14,9 +14,9 @@ import java.util.List;
 /**
  * Times ZXing's decoder on grids that are already bit matrices, and compares its answers with the lines written.
  *
- * <p>It is called with the file of grids, the file of lines, and the number of rounds. It warms up, then times the rounds,
- * and prints the largest number of wrong answers in a round and the best round's nanoseconds of this thread's processor
- * time, so that compilation and garbage collection, which have threads of their own, don't count.
+ * <p>It is called with the file of grids, the file of lines, and the number of rounds. It warms up, then times the
+ * rounds, and prints the largest number of wrong answers in a round and the best round's nanoseconds of this thread's
+ * processor time, so that compilation and garbage collection, which have threads of their own, don't count.
  */
 public final class ZxingReads {
     private static final ThreadMXBean THREADS = ManagementFactory.getThreadMXBean();

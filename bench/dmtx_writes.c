@@ -1,5 +1,5 @@
-/* Times libdmtx's encoder: square symbols in ASCII encodation, drawn at one pixel a module without a margin, which is the
- * least work that its call can be asked for. */
+/* Times libdmtx's encoder: square symbols in ASCII encodation, drawn at one pixel a module without a margin, which is
+ * the least work that its call can be asked for. */
 #include <dmtx.h>
 
 #include "timing.h"

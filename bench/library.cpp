@@ -1,6 +1,7 @@
-// Times the calls of the library ecc200 in process, beside libdmtx, zint and zxing-cpp if they are compiled in (WITH_DMTX, WITH_ZINT,
-// WITH_ZXING), on the same symbols: microseconds of processor time a call, the best of some rounds. Each answer is compared with what
-// was written. Prints a line for each kind of work: side, work, library, microseconds.
+// Times the calls of the library ecc200 in process, beside libdmtx, zint and zxing-cpp if they are compiled in
+// (WITH_DMTX, WITH_ZINT, WITH_ZXING), on the same symbols: microseconds of processor time a call, the best of some
+// rounds. Each answer is compared with what was written. Prints a line for each kind of work: side, work, library,
+// microseconds.
 #include <ecc200.h>
 
 #include <algorithm>
@@ -42,12 +43,14 @@ static int rounds = 30;
     std::exit(1);
 }
 
-// A mark of letters and digits. In its damaged copy as many codewords of each block are wrong as can be corrected, each by one module.
+// A mark of letters and digits. In its damaged copy as many codewords of each block are wrong as can be corrected, each
+// by one module.
 static Mark made(const ecc200_size &size, size_t length) {
     Mark mark;
     do {
         mark.text.clear();
-        for (size_t i = 0; i < length; i++) mark.text += (char)(chance() % 3 ? 'A' + chance() % 26 : '0' + chance() % 10);
+        for (size_t i = 0; i < length; i++)
+            mark.text += (char)(chance() % 3 ? 'A' + chance() % 26 : '0' + chance() % 10);
         mark.items.assign(mark.text.begin(), mark.text.end());
     } while (ecc200_write(mark.items.data(), mark.items.size(), ECC200_ASCII, &symbol) || symbol.side != size.side);
     mark.side = size.side;
@@ -82,8 +85,8 @@ template <class Work> static void timed(const char *work, const char *who, const
 }
 
 static void read(const std::vector<uint8_t> &modules, const Mark &mark) {
-    if (ecc200_read(modules.data(), modules.size(), mark.side, ecc200_usual_limit(mark.side), ECC200_USUAL, &reading) || reading.item_count != mark.items.size()
-        || !std::equal(mark.items.begin(), mark.items.end(), reading.items))
+    if (ecc200_read(modules.data(), modules.size(), mark.side, ecc200_usual_limit(mark.side), ECC200_USUAL, &reading) ||
+        reading.item_count != mark.items.size() || !std::equal(mark.items.begin(), mark.items.end(), reading.items))
         die("ecc200 reads something else");
 }
 
@@ -91,14 +94,18 @@ static void time_ours(const std::vector<Mark> &marks) {
     timed("read", "ecc200", marks, [](const Mark &mark) { read(mark.clean, mark); });
     timed("read, damaged", "ecc200", marks, [](const Mark &mark) { read(mark.damaged, mark); });
     timed("normal, damaged", "ecc200", marks, [](const Mark &mark) {
-        if (ecc200_normal(mark.damaged.data(), mark.damaged.size(), mark.side, 0, ECC200_USUAL, ECC200_ASCII, &symbol) || std::memcmp(symbol.modules, mark.clean.data(), mark.clean.size()))
+        if (ecc200_normal(mark.damaged.data(), mark.damaged.size(), mark.side, 0, ECC200_USUAL, ECC200_ASCII,
+                          &symbol) ||
+            std::memcmp(symbol.modules, mark.clean.data(), mark.clean.size()))
             die("ecc200 normalises to something else");
     });
     timed("inspect, damaged", "ecc200", marks, [](const Mark &mark) {
-        if (ecc200_inspect(mark.damaged.data(), mark.damaged.size(), mark.side, &inspection)) die("ecc200 refuses to inspect");
+        if (ecc200_inspect(mark.damaged.data(), mark.damaged.size(), mark.side, &inspection))
+            die("ecc200 refuses to inspect");
     });
     timed("write", "ecc200", marks, [](const Mark &mark) {
-        if (ecc200_write(mark.items.data(), mark.items.size(), ECC200_ASCII, &symbol) || std::memcmp(symbol.modules, mark.clean.data(), mark.clean.size()))
+        if (ecc200_write(mark.items.data(), mark.items.size(), ECC200_ASCII, &symbol) ||
+            std::memcmp(symbol.modules, mark.clean.data(), mark.clean.size()))
             die("ecc200 writes something else");
     });
 }
@@ -118,7 +125,8 @@ static void time_zxing(const std::vector<Mark> &marks) {
         return [&](const Mark &mark) {
             auto result = ZXing::DataMatrix::Decode(list[&mark - marks.data()]);
             const auto &bytes = bytes_of(result);
-            if (bytes.size() != mark.text.size() || std::memcmp(bytes.data(), mark.text.data(), bytes.size())) die("zxing-cpp reads something else");
+            if (bytes.size() != mark.text.size() || std::memcmp(bytes.data(), mark.text.data(), bytes.size()))
+                die("zxing-cpp reads something else");
         };
     };
     timed("read", "zxing-cpp", marks, decode(clean));
@@ -147,13 +155,15 @@ static void time_dmtx_reading(const char *work, const std::vector<Mark> &marks, 
         pictures[i].assign(across * across, 255);
         for (int r = 0; r < side * scale; r++)
             for (int c = 0; c < side * scale; c++)
-                if ((marks[i].*modules)[r / scale * side + c / scale]) pictures[i][(r + quiet * scale) * across + c + quiet * scale] = 0;
+                if ((marks[i].*modules)[r / scale * side + c / scale])
+                    pictures[i][(r + quiet * scale) * across + c + quiet * scale] = 0;
         Found f;
         f.decode = dmtxDecodeCreate(dmtxImageCreate(pictures[i].data(), across, across, DmtxPack8bppK), 1);
         DmtxTime end = dmtxTimeAdd(dmtxTimeNow(), 500);
         f.region = dmtxRegionFindNext(f.decode, &end);
         DmtxMessage *message = f.region ? dmtxDecodeMatrixRegion(f.decode, f.region, -1) : nullptr;
-        if (message && !std::memcmp(message->output, marks[i].text.data(), marks[i].text.size())) found.push_back(f), seen.push_back(marks[i]);
+        if (message && !std::memcmp(message->output, marks[i].text.data(), marks[i].text.size()))
+            found.push_back(f), seen.push_back(marks[i]);
         if (message) dmtxMessageDestroy(&message);
     }
     if (seen.empty()) return;
@@ -174,7 +184,8 @@ static void time_dmtx(const std::vector<Mark> &marks) {
         dmtxEncodeSetProp(encode, DmtxPropScheme, DmtxSchemeAscii);
         dmtxEncodeSetProp(encode, DmtxPropModuleSize, 1);
         dmtxEncodeSetProp(encode, DmtxPropMarginSize, 1);
-        if (!dmtxEncodeDataMatrix(encode, (int)mark.text.size(), (unsigned char *)mark.text.data())) die("libdmtx writes nothing");
+        if (!dmtxEncodeDataMatrix(encode, (int)mark.text.size(), (unsigned char *)mark.text.data()))
+            die("libdmtx writes nothing");
         dmtxEncodeDestroy(&encode);
     });
 }
@@ -186,7 +197,8 @@ static void time_zint(const std::vector<Mark> &marks) {
         zint_symbol *made = ZBarcode_Create();
         made->symbology = BARCODE_DATAMATRIX;
         made->option_3 = DM_SQUARE;
-        if (ZBarcode_Encode(made, (unsigned char *)mark.text.data(), (int)mark.text.size()) >= ZINT_ERROR) die("zint writes nothing");
+        if (ZBarcode_Encode(made, (unsigned char *)mark.text.data(), (int)mark.text.size()) >= ZINT_ERROR)
+            die("zint writes nothing");
         ZBarcode_Delete(made);
     });
 }
@@ -198,7 +210,8 @@ int main(int argc, char **argv) {
     ecc200_sizes(&table);
     const struct { uint16_t side; size_t length, count; } sets[] = {{52, 180, 200}, {14, 8, 1000}};
     for (const auto &set : sets) {
-        const ecc200_size *size = std::find_if(table.sizes, table.sizes + ECC200_SIZE_COUNT, [&](const ecc200_size &s) { return s.side == set.side; });
+        const ecc200_size *size = std::find_if(table.sizes, table.sizes + ECC200_SIZE_COUNT,
+                                               [&](const ecc200_size &s) { return s.side == set.side; });
         std::vector<Mark> marks;
         while (marks.size() < set.count) marks.push_back(made(*size, set.length));
         time_ours(marks);

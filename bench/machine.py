@@ -16,7 +16,8 @@ def described():
 
 
 def ticks():
-    """How long all processors have worked, and how long they have been there, since the machine started; or nothing where the system doesn't say."""
+    """How long all processors have worked, and how long they have been there, since the machine started; or nothing
+    where the system doesn't say."""
     if not os.path.exists("/proc/stat"):
         return None
     with open("/proc/stat", encoding="utf-8") as file:
@@ -38,7 +39,8 @@ def warn_if_shared():
     """Says so where other work takes more than a twentieth of a processor: times are then no figures."""
     share = others()
     if share > 0.05:
-        print(f"The machine isn't idle: other work takes {share:.1f} of its {os.cpu_count()} processors. These times are too long, some more than others.")
+        print(f"The machine isn't idle: other work takes {share:.1f} of its {os.cpu_count()} processors. "
+              "These times are too long, some more than others.")
 
 
 def summed(values, shown, unit=""):

@@ -1,4 +1,5 @@
-"""The programs that are timed beside ours: each is built from a small source in this folder, if its package is installed."""
+"""The programs that are timed beside ours: each is built from a small source in this folder, if its package is
+installed."""
 import os
 import re
 import shutil
@@ -86,8 +87,8 @@ class ZxingCpp:
             printed_by(["c++", "-std=c++17", "-O2", "-o", self.built, os.path.join(HERE, "zxing_cpp.cpp"), "-lZXing"])
 
     def timed(self, given, other, rounds):
-        """As a decoder, given grids and lines: how many grids it doesn't read as the lines written, and the best round's seconds. As an
-        encoder, given lines and the file for grids: the best round's seconds."""
+        """As a decoder, given grids and lines: how many grids it doesn't read as the lines written, and the best
+        round's seconds. As an encoder, given lines and the file for grids: the best round's seconds."""
         wrong, seconds = printed_by([self.built, "read" if self.reads else "write", given, other, str(rounds)]).split()
         return (int(wrong), float(seconds)) if self.reads else float(seconds)
 
@@ -98,8 +99,8 @@ def decoders(jar, folder):
 
 
 class Encoder:
-    """An encoder of a C library, in a program that hands it lines. `same` is whether it is told to use ASCII encodation,
-    so that its symbols have to be the same as ours; `rest` is the note on the symbols that may differ."""
+    """An encoder of a C library, in a program that hands it lines. `same` is whether it is told to use ASCII
+    encodation, so that its symbols have to be the same as ours; `rest` is the note on the symbols that may differ."""
 
     def __init__(self, library, way, folder):
         self.library = library

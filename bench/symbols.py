@@ -1,11 +1,11 @@
 """Lines to write, and damage to the symbols made from them.
 
-Nothing here is taken from the program: codewords and their places are computed independently, so that what the program writes can
-be compared with them."""
+Nothing here is taken from the program: codewords and their places are computed independently, so that what the program
+writes can be compared with them."""
 import random
 
-# A large symbol: four regions of 24 by 24 modules make a mapping square of 48 by 48, in which 204 data
-# codewords and 84 check codewords lie, dealt alternately into two blocks. In each block 21 wrong codewords can be corrected.
+# A large symbol: four regions of 24 by 24 modules make a mapping square of 48 by 48, in which 204 data codewords and 84
+# check codewords lie, dealt alternately into two blocks. In each block 21 wrong codewords can be corrected.
 SIDE = 52
 REGION = 24
 MAPPING = 48
@@ -14,7 +14,8 @@ CODEWORDS = 288
 BLOCKS = 2
 LIMIT = 21
 
-# How the program refuses a symbol in which EDIFACT encodation was chosen, and a rectangular one, which zxing-cpp chooses at times.
+# How the program refuses a symbol in which EDIFACT encodation was chosen, and a rectangular one, which zxing-cpp
+# chooses at times.
 LEFT_OUT = "\\no 8 left-out 240 ", "\\no 3 shape"
 
 DIGITS = "0123456789"
@@ -74,8 +75,8 @@ def padded(codewords):
 def places():
     """For each codeword of the symbol of side 52 the cells of its bits, the highest first, as pairs of row and column.
 
-    At this size there is no corner shape. The last cells of the shapes are those with (5 row + column) mod 8 = 4, taken by
-    diagonals upwards and downwards in turn; what leaves the square at one edge comes in at the opposite one."""
+    At this size there is no corner shape. The last cells of the shapes are those with (5 row + column) mod 8 = 4, taken
+    by diagonals upwards and downwards in turn; what leaves the square at one edge comes in at the opposite one."""
     lasts = [(row, column) for row in range(MAPPING) for column in range(MAPPING) if (5 * row + column) % 8 == 4]
     lasts.sort(key=lambda cell: (sum(cell), cell[1] if cell[0] % 2 == 0 else cell[0]))
     shape = [(-2, -2), (-2, -1), (-1, -2), (-1, -1), (-1, 0), (0, -2), (0, -1), (0, 0)]

@@ -1,7 +1,8 @@
 /* What the programs of the two encoders share: the lines of a file, and the best time of writing them all.
  *
  * Each program is called with the file of lines, the file for its grids, and the number of rounds. It writes the grids
- * once, which also warms it up, then times the rounds without printing, and prints the best round's processor time in seconds. */
+ * once, which also warms it up, then times the rounds without printing, and prints the best round's processor time in
+ * seconds. */
 #ifndef TIMING_H
 #define TIMING_H
 

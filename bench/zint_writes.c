@@ -1,5 +1,5 @@
-/* Times zint's encoder: square symbols, in the encodation that zint chooses, since it can't be told to use ASCII. A fourth
- * argument `fast` asks for its faster choice, which isn't always the shortest. */
+/* Times zint's encoder: square symbols, in the encodation that zint chooses, since it can't be told to use ASCII. A
+ * fourth argument `fast` asks for its faster choice, which isn't always the shortest. */
 #include <zint.h>
 
 #include "timing.h"

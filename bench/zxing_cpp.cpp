@@ -1,6 +1,7 @@
-// Times zxing-cpp: with `read GRIDS LINES ROUNDS` its decoder of a bit matrix, with `write LINES GRIDS ROUNDS` its encoder, which chooses
-// among all encodations. Before the timing starts, the grids are made into bit matrices and the lines into strings, and a first pass warms
-// it up. Prints how many answers are wrong, and the best round's seconds of processor time.
+// Times zxing-cpp: with `read GRIDS LINES ROUNDS` its decoder of a bit matrix, with `write LINES GRIDS ROUNDS` its
+// encoder, which chooses among all encodations. Before the timing starts, the grids are made into bit matrices and the
+// lines into strings, and a first pass warms it up. Prints how many answers are wrong, and the best round's seconds of
+// processor time.
 #include <ZXing/MultiFormatWriter.h>
 
 #include <algorithm>

@@ -1,5 +1,6 @@
-// zxing-cpp 1.4 exports its decoder of a bit matrix, but installs no header for it. What it returns is in memory of the caller, and its first
-// members are the vectors of the codewords and of the bytes read. It is dropped without being destroyed, since its real destructor isn't known.
+// zxing-cpp 1.4 exports its decoder of a bit matrix, but installs no header for it. What it returns is in memory of the
+// caller, and its first members are the vectors of the codewords and of the bytes read. It is dropped without being
+// destroyed, since its real destructor isn't known.
 #ifndef ZXING_DECODER_H
 #define ZXING_DECODER_H
 

@@ -34,39 +34,44 @@
  *
  *     cc example.c $(pkg-config --cflags --libs ecc200)
  *
- * MODULES are bytes, row by row from the top and each row from the left, `side` rows of `side` bytes, without a quiet zone. On
- * input 0 is light and anything else is dark; on output a module is 0 or 1. A symbol stands upright: the solid column is on the left,
- * the solid row at the bottom. The module in row r and column c, both counted from 0, is modules[r * side + c].
+ * MODULES are bytes, row by row from the top and each row from the left, `side` rows of `side` bytes, without a quiet
+ * zone. On input 0 is light and anything else is dark; on output a module is 0 or 1. A symbol stands upright: the solid
+ * column is on the left, the solid row at the bottom. The module in row r and column c, both counted from 0, is
+ * modules[r * side + c].
  *
- * ITEMS make up a message: 0 to 255 is that byte, ECC200_FNC1 is the function character FNC1. None is interpreted. A GS1
- * message has ECC200_FNC1 first and another, or more rarely the byte 0x1D, between its fields. ecc200_text and ecc200_items, below,
- * turn items into bytes and back.
+ * ITEMS make up a message: 0 to 255 is that byte, ECC200_FNC1 is the function character FNC1. None is interpreted. A
+ * GS1 message has ECC200_FNC1 first and another, or more rarely the byte 0x1D, between its fields. ecc200_text and
+ * ecc200_items, below, turn items into bytes and back.
  *
  * A PROFILE chooses the normal form of a message, and so its normal grid, the one symbol by which it is compared: under
- * ECC200_ASCII its codewords are those of ASCII encodation; under ECC200_SHORTER they are those of one Base 256 segment where the
- * message has no FNC1 and the segment is shorter, which serves binary messages. Either way they stand in the smallest symbol that
- * holds them, followed by pads; a message that no symbol holds in this form has no normal grid. Symbols that have normal grids
- * under one profile say the same exactly if these are equal, byte by byte; and a normal grid is its own normal grid.
+ * ECC200_ASCII its codewords are those of ASCII encodation; under ECC200_SHORTER they are those of one Base 256 segment
+ * where the message has no FNC1 and the segment is shorter, which serves binary messages. Either way they stand in the
+ * smallest symbol that holds them, followed by pads; a message that no symbol holds in this form has no normal grid.
+ * Symbols that have normal grids under one profile say the same exactly if these are equal, byte by byte; and a normal
+ * grid is its own normal grid.
  *
- * EACH CALL returns, whatever it is given, and touches only what it was given. It allocates nothing and uses less than ECC200_STACK bytes of stack,
- * keeps nothing, waits for nothing, and calls nothing but memcpy, memmove and memset: any number of threads may call at once, each with an `out` of
- * its own.
+ * EACH CALL returns, whatever it is given, and touches only what it was given. It allocates nothing and uses less than
+ * ECC200_STACK bytes of stack, keeps nothing, waits for nothing, and calls nothing but memcpy, memmove and memset: any
+ * number of threads may call at once, each with an `out` of its own.
  *
- * WHAT IS WRITTEN: a call writes all of `out`, whatever it held before. If there is a fault, everything in `out` but `fault` is 0; if
- * there is none, `fault` is 0, and so are the elements of an array past those that count. A call whose `out` has a
- * member `fault` returns its code.
+ * WHAT IS WRITTEN: a call writes all of `out`, whatever it held before. If there is a fault, everything in `out` but
+ * `fault` is 0; if there is none, `fault` is 0, and so are the elements of an array past those that count. A call whose
+ * `out` has a member `fault` returns its code.
  *
- * PROCESSORS: the library runs on x86-64 processors of the level x86-64-v2, which have SSSE3 and SSE4.2 among others, as those made since 2009
- * mostly do. On an older one glibc's loader, from 2.33 on, refuses the shared library and programs that are linked with it ("CPU ISA level is
- * lower than required"); without such a loader an illegal instruction ends the program.
+ * PROCESSORS: the library runs on x86-64 processors of the level x86-64-v2, which have SSSE3 and SSE4.2 among others,
+ * as those made since 2009 mostly do. On an older one glibc's loader, from 2.33 on, refuses the shared library and
+ * programs that are linked with it ("CPU ISA level is lower than required"); without such a loader an illegal
+ * instruction ends the program.
  *
  * WHAT A CALLER OWES, since C can't check it:
- *  - a pointer points to as many elements as the call says, aligned for their type. It may be NULL if the count is 0; `out` may not;
+ *  - a pointer points to as many elements as the call says, aligned for their type. It may be NULL if the count is 0;
+ *    `out` may not;
  *  - `out` overlaps no input, and during the call nobody else writes either of them or reads `out`.
  *
- * WHAT IS PROVED, for every call whose caller does what is owed: that it returns, that it touches nothing but its arguments and its stack, and all
- * that comes out, in `out` and as the value returned, as "What is written" and the declarations below say it. It is proved of the functions as they are
- * written in crates/ecc200, and of nothing in this list:
+ * WHAT IS PROVED, for every call whose caller does what is owed: that it returns, that it touches nothing but its
+ * arguments and its stack, and all that comes out, in `out` and as the value returned, as "What is written" and the
+ * declarations below say it. It is proved of the functions as they are written in crates/ecc200, and of nothing in this
+ * list:
  *  - that this file declares what was proved, and that a compiler makes of both what they say: tested;
  *  - the bound on the stack, and which functions are called: tested, on the library as it is built;
  *  - that threads may call at once: it follows from what is proved and from nothing being kept, and is tested;
@@ -92,14 +97,16 @@ extern "C" {
 #define ECC200_SIZE_OF(type, member) sizeof(((type *)0)->member)
 #endif
 
-/* One byte, so that a value of the type is passed as an argument of 16 bits, or kept in a member of 8, without a warning. */
+/* One byte, so that a value of the type is passed as an argument of 16 bits, or kept in a member of 8, without a
+ * warning. */
 #if defined(__GNUC__)
 #define ECC200_SMALL __attribute__((__packed__))
 #else
 #define ECC200_SMALL
 #endif
 
-/* The version of this interface. It changes when a program that was built with this file would no longer work with the library. */
+/* The version of this interface. It changes when a program that was built with this file would no longer work with the
+ * library. */
 #define ECC200_ABI 2
 
 /* The version of the library's interface, to be compared with ECC200_ABI if the library is loaded at run time. */
@@ -124,9 +131,10 @@ enum {
     ECC200_STACK = 32768          /* bytes */
 };
 
-/* What is read. USUAL: ASCII, C40, Text, X12 and Base 256, as the program reads. WIDE: these, and EDIFACT (240); a macro 05 (236) or 06 (237) as the
- * first codeword, which stands for the header [)> RS 0 5 GS or [)> RS 0 6 GS and the trailer RS EOT; and runs of C40 and Text in which an Upper
- * Shift waits where they end. What USUAL reads WIDE reads as the same, with the same corrections. */
+/* What is read. USUAL: ASCII, C40, Text, X12 and Base 256, as the program reads. WIDE: these, and EDIFACT (240); a
+ * macro 05 (236) or 06 (237) as the first codeword, which stands for the header [)> RS 0 5 GS or [)> RS 0 6 GS and the
+ * trailer RS EOT; and runs of C40 and Text in which an Upper Shift waits where they end. What USUAL reads WIDE reads as
+ * the same, with the same corrections. */
 enum ECC200_SMALL ecc200_extent {
     ECC200_USUAL = 0,
     ECC200_WIDE = 1
@@ -152,16 +160,18 @@ enum ECC200_SMALL ecc200_code {
     ECC200_BORDER = 5,      /* more border modules have the wrong colour than the limit allows; value: how many have */
     ECC200_BLOCK = 6,       /* a block is damaged beyond correction; place: the first such block, from 0 */
     ECC200_RESERVED = 7,    /* a codeword that ASCII encodation doesn't use: 0, or 242 to 255; place: where it stands */
-    ECC200_LEFT_OUT = 8,    /* value: a codeword that begins something that isn't read: structured append (233), reader programming
-                               (234) or ECI (241); USUAL: macro 05 (236), macro 06 (237) or EDIFACT (240) too; WIDE: a macro that
-                               isn't the first codeword of the symbol too; place: where it stands */
-    ECC200_UPPER_SHIFT = 9, /* something other than a character follows an Upper Shift; place: that of the Upper Shift, or, in a run of
-                               C40 or Text, that of the pair that holds it */
-    ECC200_TRIPLET = 10,    /* two codewords of C40, Text or X12 that don't stand for three values; place: that of the first */
+    ECC200_LEFT_OUT = 8,    /* value: a codeword that begins something that isn't read: structured append (233), reader
+                               programming (234) or ECI (241); USUAL: macro 05 (236), macro 06 (237) or EDIFACT (240)
+                               too; WIDE: a macro that isn't the first codeword of the symbol too; place: where it
+                               stands */
+    ECC200_UPPER_SHIFT = 9, /* something other than a character follows an Upper Shift; place: that of the Upper Shift,
+                               or, in a run of C40 or Text, that of the pair that holds it */
+    ECC200_TRIPLET = 10,    /* two codewords of C40, Text or X12 that don't stand for three values; place: that of the
+                               first */
     ECC200_VALUE = 11,      /* a value of C40 or Text that has no meaning after a shift; place: that of its codewords */
     ECC200_LENGTH = 12,     /* a Base 256 length that is missing, ill-formed, or too large; place: that of the latch */
-    ECC200_UNFINISHED = 13, /* the symbol ends before the character of an Upper Shift, or, USUAL, the run does; place: as for
-                               UPPER_SHIFT */
+    ECC200_UNFINISHED = 13, /* the symbol ends before the character of an Upper Shift, or, USUAL, the run does; place:
+                               as for UPPER_SHIFT */
 
     /* The message isn't written. */
     ECC200_TOO_LONG = 14, /* no size holds the message in its normal form */
@@ -190,13 +200,15 @@ typedef struct ecc200_reading {
     uint8_t corrected[ECC200_MOST_BLOCKS]; /* for each block, how many of its codewords were corrected */
 } ecc200_reading;
 
-/* Reads a symbol, as far as the extent goes. `border_limit`: how many border modules may have the wrong colour, usually ecc200_usual_limit(side). Each block
- * is corrected if it differs in at most `limit` codewords (ecc200_sizes) from a codeword of the error correcting code. Neither the
- * fixed square nor what follows the first pad is looked at.
- * A symbol with more damage than that is refused, unless it has come near the codewords of another message, and is then read as
- * that message: if a wrong message is worse than none, refuse a symbol whose `corrected` comes close to the limit.
+/* Reads a symbol, as far as the extent goes. `border_limit`: how many border modules may have the wrong colour, usually
+ * ecc200_usual_limit(side). Each block is corrected if it differs in at most `limit` codewords (ecc200_sizes) from a
+ * codeword of the error correcting code. Neither the fixed square nor what follows the first pad is looked at.
+ * A symbol with more damage than that is refused, unless it has come near the codewords of another message, and is then
+ * read as that message: if a wrong message is worse than none, refuse a symbol whose `corrected` comes close to the
+ * limit.
  * Returns the first fault that applies: EXTENT, SHAPE, SIDE, BORDER, BLOCK, RESERVED to UNFINISHED. */
-uint16_t ecc200_read(const uint8_t *ECC200_RESTRICT modules, size_t count, uint16_t side, uint16_t border_limit, uint16_t extent, ecc200_reading *ECC200_RESTRICT out);
+uint16_t ecc200_read(const uint8_t *ECC200_RESTRICT modules, size_t count, uint16_t side, uint16_t border_limit,
+                     uint16_t extent, ecc200_reading *ECC200_RESTRICT out);
 
 /* A quarter of the side, rounded down. */
 uint16_t ecc200_usual_limit(uint16_t side);
@@ -211,15 +223,19 @@ typedef struct ecc200_symbol {
 
 /* Writes the normal grid of a message. ecc200_read reads it as that message, with nothing corrected.
  * Returns the first fault that applies: PROFILE, ITEM, TOO_LONG. */
-uint16_t ecc200_write(const uint16_t *ECC200_RESTRICT items, size_t count, uint16_t profile, ecc200_symbol *ECC200_RESTRICT out);
+uint16_t ecc200_write(const uint16_t *ECC200_RESTRICT items, size_t count, uint16_t profile,
+                      ecc200_symbol *ECC200_RESTRICT out);
 
 /* Writes the normal grid of bytes, each of which is an item: what ecc200_write does for the same numbers.
  * Returns the first fault that applies: PROFILE, TOO_LONG. */
-uint16_t ecc200_write_bytes(const uint8_t *ECC200_RESTRICT bytes, size_t count, uint16_t profile, ecc200_symbol *ECC200_RESTRICT out);
+uint16_t ecc200_write_bytes(const uint8_t *ECC200_RESTRICT bytes, size_t count, uint16_t profile,
+                            ecc200_symbol *ECC200_RESTRICT out);
 
-/* Writes the normal grid of what a symbol says in an extent, whatever its size and encodation, and whatever damage was corrected.
+/* Writes the normal grid of what a symbol says in an extent, whatever its size and encodation, and whatever damage was
+ * corrected.
  * Returns the first fault that applies: EXTENT, PROFILE, those of ecc200_read, TOO_LONG. */
-uint16_t ecc200_normal(const uint8_t *ECC200_RESTRICT modules, size_t count, uint16_t side, uint16_t border_limit, uint16_t extent, uint16_t profile, ecc200_symbol *ECC200_RESTRICT out);
+uint16_t ecc200_normal(const uint8_t *ECC200_RESTRICT modules, size_t count, uint16_t side, uint16_t border_limit,
+                       uint16_t extent, uint16_t profile, ecc200_symbol *ECC200_RESTRICT out);
 
 /* ---- Showing and mending */
 
@@ -228,17 +244,20 @@ typedef struct ecc200_inspection {
     uint16_t side;
     uint16_t border_faults;                /* how many border modules have the wrong colour */
     uint16_t block_count;                  /* 1 to ECC200_MOST_BLOCKS */
-    uint16_t codeword_count;               /* of the whole symbol, 8 to ECC200_MOST_CODEWORDS: data codewords and then check codewords */
+    uint16_t codeword_count;               /* of the whole symbol, 8 to ECC200_MOST_CODEWORDS: data codewords and then
+                                              check codewords */
     uint8_t held[ECC200_MOST_CODEWORDS];   /* the codewords as they stand in the symbol */
-    uint8_t mended[ECC200_MOST_CODEWORDS]; /* the same with each block corrected; a block beyond correction is left as it is */
+    uint8_t mended[ECC200_MOST_CODEWORDS]; /* the same with each block corrected; a block beyond correction is left as
+                                              it is */
     uint8_t corrected[ECC200_MOST_BLOCKS]; /* for each block, in how many codewords the two differ, or ECC200_BEYOND */
 } ecc200_inspection;
 
-/* Gives the codewords of a symbol, corrected as far as they can be: unlike ecc200_read it goes on after a bad border, after a block
- * that is damaged beyond correction, and if the data codewords spell no message. Of B blocks, block b has the codewords b, b + B,
- * b + 2 B, ..
+/* Gives the codewords of a symbol, corrected as far as they can be: unlike ecc200_read it goes on after a bad border,
+ * after a block that is damaged beyond correction, and if the data codewords spell no message. Of B blocks, block b has
+ * the codewords b, b + B, b + 2 B, ..
  * Returns the first fault that applies: SHAPE, SIDE. */
-uint16_t ecc200_inspect(const uint8_t *ECC200_RESTRICT modules, size_t count, uint16_t side, ecc200_inspection *ECC200_RESTRICT out);
+uint16_t ecc200_inspect(const uint8_t *ECC200_RESTRICT modules, size_t count, uint16_t side,
+                        ecc200_inspection *ECC200_RESTRICT out);
 
 /* What a module is. */
 enum ECC200_SMALL ecc200_kind {
@@ -271,7 +290,8 @@ typedef struct ecc200_size {
     uint16_t side;            /* modules on a side of the symbol */
     uint16_t regions;         /* data regions */
     uint16_t region_side;     /* modules on a side of a region, without its border */
-    uint16_t mapping;         /* modules on a side of the mapping matrix, which is all regions together, without their borders */
+    uint16_t mapping;         /* modules on a side of the mapping matrix, which is all regions together, without their
+                                 borders */
     uint16_t data_codewords;
     uint16_t check_codewords; /* the standard's error correction codewords */
     uint16_t blocks;          /* into which the codewords are dealt */
@@ -287,8 +307,9 @@ void ecc200_sizes(ecc200_size_table *ECC200_RESTRICT out);
 
 /* ---- Conveniences: C, and not proved */
 
-/* The bytes of a reading as most decoders give them: an FNC1 in front is left out and reported in *gs1 (which may be NULL); any other
- * becomes the byte 0x1D. Returns how many bytes there are, at most ECC200_MOST_ITEMS, and writes the first `room` of them. */
+/* The bytes of a reading as most decoders give them: an FNC1 in front is left out and reported in *gs1 (which may be
+ * NULL); any other becomes the byte 0x1D. Returns how many bytes there are, at most ECC200_MOST_ITEMS, and writes the
+ * first `room` of them. */
 static inline size_t ecc200_text(const ecc200_reading *reading, uint8_t *bytes, size_t room, int *gs1) {
     size_t first = reading->item_count > 0 && reading->items[0] == ECC200_FNC1, k;
     if (gs1)
@@ -298,8 +319,8 @@ static inline size_t ecc200_text(const ecc200_reading *reading, uint8_t *bytes, 
     return reading->item_count - first;
 }
 
-/* The items of bytes; with gs1, FNC1 in front and in place of each byte 0x1D. Returns how many items there are, and writes the first
- * `room` of them. */
+/* The items of bytes; with gs1, FNC1 in front and in place of each byte 0x1D. Returns how many items there are, and
+ * writes the first `room` of them. */
 static inline size_t ecc200_items(const uint8_t *bytes, size_t count, int gs1, uint16_t *items, size_t room) {
     size_t first = gs1 != 0, k;
     if (gs1 && room > 0)
@@ -309,7 +330,8 @@ static inline size_t ecc200_items(const uint8_t *bytes, size_t count, int gs1, u
     return count + first;
 }
 
-/* A code in words, to show to people; ecc200_code_words is the same, for callers that can't use what C defines in a header. */
+/* A code in words, to show to people; ecc200_code_words is the same, for callers that can't use what C defines in a
+ * header. */
 static inline const char *ecc200_words(uint16_t code) {
     switch (code) {
     case ECC200_OK: return "no fault";
@@ -358,7 +380,8 @@ ECC200_ASSERT(offsetof(ecc200_inspection, fault) == 0 && ECC200_SIZE_OF(ecc200_i
 ECC200_ASSERT(offsetof(ecc200_inspection, side) == 6 && ECC200_SIZE_OF(ecc200_inspection, side) == 2);
 ECC200_ASSERT(offsetof(ecc200_inspection, border_faults) == 8 && ECC200_SIZE_OF(ecc200_inspection, border_faults) == 2);
 ECC200_ASSERT(offsetof(ecc200_inspection, block_count) == 10 && ECC200_SIZE_OF(ecc200_inspection, block_count) == 2);
-ECC200_ASSERT(offsetof(ecc200_inspection, codeword_count) == 12 && ECC200_SIZE_OF(ecc200_inspection, codeword_count) == 2);
+ECC200_ASSERT(offsetof(ecc200_inspection, codeword_count) == 12 &&
+              ECC200_SIZE_OF(ecc200_inspection, codeword_count) == 2);
 ECC200_ASSERT(offsetof(ecc200_inspection, held) == 14 && ECC200_SIZE_OF(ecc200_inspection, held) == 1152);
 ECC200_ASSERT(offsetof(ecc200_inspection, mended) == 1166 && ECC200_SIZE_OF(ecc200_inspection, mended) == 1152);
 ECC200_ASSERT(offsetof(ecc200_inspection, corrected) == 2318 && ECC200_SIZE_OF(ecc200_inspection, corrected) == 6);

@@ -1,8 +1,9 @@
-//! Data Matrix ECC 200 (ISO/IEC 16022), the square symbols, by the C library ecc200: a safe interface over `ecc200.h`, whose conventions
-//! hold here too. Put this file beside yours, write `mod ecc200;`, and link the library: `rustc -l ecc200`, with `-L` for its folder.
-//! It needs Rust 1.82 or later.
+//! Data Matrix ECC 200 (ISO/IEC 16022), the square symbols, by the C library ecc200: a safe interface over `ecc200.h`,
+//! whose conventions hold here too. Put this file beside yours, write `mod ecc200;`, and link the library: `rustc -l
+//! ecc200`, with `-L` for its folder. It needs Rust 1.82 or later.
 //!
-//! What `ecc200.h` asks of callers holds here for any arguments: slices point to all of their elements, and a `&mut` overlaps nothing.
+//! What `ecc200.h` asks of callers holds here for any arguments: slices point to all of their elements, and a `&mut`
+//! overlaps nothing.
 #![deny(unsafe_op_in_unsafe_fn)]
 #![allow(dead_code)]
 
@@ -29,8 +30,8 @@ const SIZE_COUNT: usize = 21;
 const BEYOND: u8 = 255;
 // ecc200.h: end
 
-/// What is read: ASCII, C40, Text, X12 and Base 256; or these, EDIFACT, a macro 05 or 06 in front, and an Upper Shift that waits at the end of
-/// a run. What `Usual` reads `Wide` reads as the same.
+/// What is read: ASCII, C40, Text, X12 and Base 256; or these, EDIFACT, a macro 05 or 06 in front, and an Upper Shift
+/// that waits at the end of a run. What `Usual` reads `Wide` reads as the same.
 #[derive(Clone, Copy, Debug, Default, PartialEq, Eq)]
 pub enum Extent {
     // ecc200.h: extents
@@ -145,7 +146,8 @@ pub struct Reading {
 }
 
 impl Reading {
-    /// The bytes of the message without an FNC1 in front, and whether there was one; any other FNC1 becomes the byte 0x1D.
+    /// The bytes of the message without an FNC1 in front, and whether there was one; any other FNC1 becomes the byte
+    /// 0x1D.
     pub fn text(&self) -> (Vec<u8>, bool) {
         let gs1 = self.items.first() == Some(&FNC1);
         let rest = self.items[usize::from(gs1)..].iter();
@@ -252,11 +254,26 @@ mod sys {
     unsafe extern "C" {
         pub safe fn ecc200_abi() -> u16;
         pub safe fn ecc200_usual_limit(side: u16) -> u16;
-        pub fn ecc200_read(modules: *const u8, count: usize, side: u16, border_limit: u16, extent: u16, out: *mut ReadingOut) -> u16;
+        pub fn ecc200_read(
+            modules: *const u8,
+            count: usize,
+            side: u16,
+            border_limit: u16,
+            extent: u16,
+            out: *mut ReadingOut,
+        ) -> u16;
         pub safe fn ecc200_version() -> *const c_char;
         pub fn ecc200_write_bytes(bytes: *const u8, count: usize, profile: u16, out: *mut SymbolOut) -> u16;
         pub fn ecc200_write(items: *const u16, count: usize, profile: u16, out: *mut SymbolOut) -> u16;
-        pub fn ecc200_normal(modules: *const u8, count: usize, side: u16, border_limit: u16, extent: u16, profile: u16, out: *mut SymbolOut) -> u16;
+        pub fn ecc200_normal(
+            modules: *const u8,
+            count: usize,
+            side: u16,
+            border_limit: u16,
+            extent: u16,
+            profile: u16,
+            out: *mut SymbolOut,
+        ) -> u16;
         pub fn ecc200_inspect(modules: *const u8, count: usize, side: u16, out: *mut InspectionOut) -> u16;
         pub safe fn ecc200_places(side: u16, out: &mut PlacesOut) -> u16;
         pub safe fn ecc200_sizes(out: &mut SizesOut);
@@ -384,9 +401,16 @@ pub fn normal(modules: &[u8], side: u16, border_limit: u16, profile: Profile) ->
 }
 
 /// The normal grid of what a symbol says, read in an extent.
-pub fn normal_as(extent: Extent, modules: &[u8], side: u16, border_limit: u16, profile: Profile) -> Result<Symbol, Fault> {
+pub fn normal_as(
+    extent: Extent,
+    modules: &[u8],
+    side: u16,
+    border_limit: u16,
+    profile: Profile,
+) -> Result<Symbol, Fault> {
     let mut out = unsafe { zeros::<sys::SymbolOut>() };
-    let code = unsafe { sys::ecc200_normal(modules.as_ptr(), modules.len(), side, border_limit, extent as u16, profile as u16, &mut *out) };
+    let (first, count, form) = (modules.as_ptr(), modules.len(), profile as u16);
+    let code = unsafe { sys::ecc200_normal(first, count, side, border_limit, extent as u16, form, &mut *out) };
     symbol(code, &out)
 }
 

@@ -28,9 +28,10 @@ def sample_abi():
 
 
 def last_change():
-    """When the tree was last worked on, in seconds, so that the same tree gives the same packages and archives: the time of its last commit, or
-    without a repository that of CHANGELOG.md."""
-    known = subprocess.run(["git", "-C", TOP, "log", "-1", "--format=%ct"], stdout=subprocess.PIPE, stderr=subprocess.DEVNULL, text=True)
+    """When the tree was last worked on, in seconds, so that the same tree gives the same packages and archives: the
+    time of its last commit, or without a repository that of CHANGELOG.md."""
+    known = subprocess.run(["git", "-C", TOP, "log", "-1", "--format=%ct"], stdout=subprocess.PIPE,
+                           stderr=subprocess.DEVNULL, text=True)
     return int(known.stdout.strip() or os.path.getmtime(os.path.join(TOP, "CHANGELOG.md")))
 
 
@@ -54,7 +55,8 @@ class Part(NamedTuple):
 
 def parts() -> Iterator[Part]:
     """The lines of files.txt, each folder as the files in it."""
-    lines = "".join(line for line in text("packaging", "files.txt").splitlines(keepends=True) if not line.startswith("#"))
+    lines = "".join(line for line in text("packaging", "files.txt").splitlines(keepends=True)
+                    if not line.startswith("#"))
     for line in filled(lines, numbers()).splitlines():
         if not line.strip():
             continue
@@ -64,7 +66,8 @@ def parts() -> Iterator[Part]:
             continue
         source = words[0]
         for file in files_below(source) if source.endswith("/") else [source]:
-            ending = file[len(source):] if source.endswith("/") else os.path.basename(file) if place.endswith("/") else ""
+            ending = os.path.basename(file) if place.endswith("/") else ""
+            ending = file[len(source):] if source.endswith("/") else ending
             yield Part(package, file, (place + ending).removesuffix(".in"), False)
 
 
@@ -103,7 +106,8 @@ def relinked(source, path, places):
 
 
 class Folders:
-    """Where the parts go: below a prefix, with folders for libraries and for Python that may lie elsewhere; all absolute."""
+    """Where the parts go: below a prefix, with folders for libraries and for Python that may lie elsewhere; all
+    absolute."""
 
     def __init__(self, prefix, library="", python=""):
         prefix = os.path.abspath(prefix)
@@ -125,12 +129,15 @@ class Folders:
         return placed
 
     def values(self):
-        """What is filled into files that end in .in: folders below the prefix by way of it, as pkg-config moves them."""
+        """What is filled into files that end in .in: folders below the prefix by way of it, as pkg-config moves
+        them."""
         def below(folder):
             return re.sub(f"^{re.escape(self.prefix)}(?=/)", "${prefix}", folder) if self.prefix != "/" else folder
 
         def between(folder, start):
             return os.path.relpath(self.of[folder], self.of[start])
 
-        return {**numbers(), "PREFIX": self.prefix, "LIBDIR": below(self.of["lib"]), "INCLUDEDIR": below(self.of["include"]),
-                "INCLUDE_FROM_LIB": between("include", "lib"), "LIB_FROM_BIN": between("lib", "bin"), "PYTHON_FROM_BIN": between("python", "bin")}
+        return {**numbers(), "PREFIX": self.prefix, "LIBDIR": below(self.of["lib"]),
+                "INCLUDEDIR": below(self.of["include"]),
+                "INCLUDE_FROM_LIB": between("include", "lib"), "LIB_FROM_BIN": between("lib", "bin"),
+                "PYTHON_FROM_BIN": between("python", "bin")}

@@ -35,9 +35,11 @@ def name_of(path):
 
 
 def in_order(top, crate, found):
-    """The modules of a folder in the order in which its list names them, which goes from what is cited to what cites it."""
+    """The modules of a folder in the order in which its list names them, which goes from what is cited to what cites
+    it."""
     listed = re.findall(r"^pub mod (\w+)", text(top, os.path.join("crates", crate, "specs", "Lib.antt")), re.M)
-    return sorted(found, key=lambda path: (listed.index(name_of(path)) if name_of(path) in listed else len(listed), path))
+    return sorted(found, key=lambda path: (listed.index(name_of(path)) if name_of(path) in listed else len(listed),
+                                           path))
 
 
 @functools.cache
@@ -59,14 +61,16 @@ def comment_above(lines, at, mark):
 
 @functools.cache
 def definitions(top, crate):
-    """The public definitions of specs/: what a public name with a word for its kind defines. A public name without one is a lemma's."""
+    """The public definitions of specs/: what a public name with a word for its kind defines. A public name without one
+    is a lemma's."""
     found = []
     for path in modules(top, crate):
         lines = text(top, path).splitlines()
         for at, line in enumerate(lines):
             declared = re.match(rf"\s*((?:(?:{'|'.join(KINDS)}) )+)(\S+)", line)
             if declared and "pub" in declared[1].split() and len(declared[1].split()) > 1:
-                found.append(Definition(crate, name_of(path), declared[2], path, at + 1, comment_above(lines, at, "--")))
+                found.append(Definition(crate, name_of(path), declared[2], path, at + 1,
+                                        comment_above(lines, at, "--")))
     return found
 
 
@@ -74,13 +78,16 @@ def definitions(top, crate):
 
 def sources(top, crate):
     """The files of a crate's code; tests have none that others call."""
-    return [path for path in paths(top, "crates", crate, "src", "**", "*.rt") if "tests" not in path.split(os.sep)[3:4] and name_of(path) != "tests"]
+    return [path for path in paths(top, "crates", crate, "src", "**", "*.rt") if "tests" not in path.split(os.sep)[3:4]
+            and name_of(path) != "tests"]
 
 
 def passed_on(top, crate):
-    """The names that the crate's first file gives to others, those of its own functions among them, and the modules that it opens."""
+    """The names that the crate's first file gives to others, those of its own functions among them, and the modules
+    that it opens."""
     first = next(path for path in sources(top, crate) if name_of(path) in ("lib", "main") and path.count(os.sep) == 3)
-    own = {os.path.relpath(path, os.path.join("crates", crate, "src")).split(os.sep)[0].removesuffix(".rt") for path in sources(top, crate)}
+    own = {os.path.relpath(path, os.path.join("crates", crate, "src")).split(os.sep)[0].removesuffix(".rt")
+           for path in sources(top, crate)}
     names = set(re.findall(r"^pub (?:const )?(?:extern \"C\" )?fn (\w+)", text(top, first), re.M))
     for module, many, one in re.findall(r"^pub use (\w+)(?:::\w+)*::(?:\{([^}]*)\}|(\w+));", text(top, first), re.M):
         if module in own:
@@ -100,13 +107,15 @@ def braces(source, start):
 
 def clauses_of(source):
     """The clauses of a contract, by the text from the function's name to its body."""
-    return [Clause(found[1] or "", braces(source, found.end() - 1)) for found in re.finditer(r"^\s*ensures\*? ?(\w*) ?\{", source, re.M)]
+    return [Clause(found[1] or "", braces(source, found.end() - 1))
+            for found in re.finditer(r"^\s*ensures\*? ?(\w*) ?\{", source, re.M)]
 
 
 def names_cited(source):
     """By the names that a file uses in its clauses or its definitions: the crate and the module of each definition."""
     found = {}
-    for crate, module, names in re.findall(r"^\s*(?:ghost )?use Rattle\.(\w+)\.specs\.(\w+)\.\{([^}]*)\};?", source, re.M):
+    for crate, module, names in re.findall(r"^\s*(?:ghost )?use Rattle\.(\w+)\.specs\.(\w+)\.\{([^}]*)\};?", source,
+                                           re.M):
         for name in names.split(","):
             of, _, here = name.strip().partition(" as ")
             found[here or of] = (crate, module, of)
@@ -114,7 +123,8 @@ def names_cited(source):
 
 
 def blocks(lines):
-    """The lines of a file at its left margin that open an impl or a trait, each with the lines that it holds; what stands outside has no opening."""
+    """The lines of a file at its left margin that open an impl or a trait, each with the lines that it holds; what
+    stands outside has no opening."""
     opening, body = "", []
     for at, line in enumerate(lines):
         if not line.startswith((" ", "}", ")")) and line.strip():
@@ -139,22 +149,27 @@ def owner_of(opening):
 
 
 def contract(lines, at):
-    """The lines of a function from its name to its body, which begins on a line of its own if there is a clause, or to the end of its declaration."""
+    """The lines of a function from its name to its body, which begins on a line of its own if there is a clause, or to
+    the end of its declaration."""
     margin = re.match(r" *", lines[at])[0]
     has_clause = False
     for end in range(at, len(lines)):
         has_clause = has_clause or re.match(r"\s*(?:requires|ensures)\b", lines[end]) is not None
-        if lines[end] in (margin + "{", margin + "{}") or lines[end].endswith(";") or lines[end].endswith("{") and not has_clause:
+        if lines[end] in (margin + "{",
+                          margin + "{}") or lines[end].endswith(";") or lines[end].endswith("{") and not has_clause:
             return "\n".join(lines[at:end + 1])
     return ""
 
 
 def kept_by(lines, body, trait, given):
-    """What a type promises where it implements a trait: all that a trait of this repository promises, and of another the clauses written here."""
+    """What a type promises where it implements a trait: all that a trait of this repository promises, and of another
+    the clauses written here."""
     if trait in given:
         return [Clause(f"those of `{trait}`", "")]
-    ghosts = [Clause(found[1], "") for at in body if (found := re.match(r"\s*ghost (next_gives|remaining) =", lines[at]))]
-    return ghosts + [clause for at in body if re.match(r"\s*fn ", lines[at]) for clause in clauses_of(contract(lines, at))]
+    ghosts = [Clause(found[1], "") for at in body
+              if (found := re.match(r"\s*ghost (next_gives|remaining) =", lines[at]))]
+    return ghosts + [clause for at in body if re.match(r"\s*fn ", lines[at])
+                     for clause in clauses_of(contract(lines, at))]
 
 
 def functions_in(top, crate, path):
@@ -168,14 +183,19 @@ def functions_in(top, crate, path):
             continue
         if trait:
             if kept := kept_by(lines, body, trait, given):
-                yield Function(crate, f"{owner} as {trait}", path, body[0] + 1, comment_above(lines, body[0], "///"), kept, cites)
+                yield Function(crate, f"{owner} as {trait}", path, body[0] + 1, comment_above(lines, body[0], "///"),
+                               kept, cites)
             continue
         for at in body:
             declared = re.match(r"\s*(pub )?(?:const )?(?:extern \"C\" )?fn (\w+)", lines[at])
-            if not declared or not (declared[1] or opening.startswith("pub trait")) or not (owner or within[0] in opened or declared[2] in given):
+            if not declared or not (declared[1] or opening.startswith("pub trait")):
                 continue
-            shown = "::".join([owner, declared[2]] if owner else [*(within if within[0] in opened else []), declared[2]])
-            yield Function(crate, shown, path, at + 1, comment_above(lines, at, "///"), clauses_of(contract(lines, at)), cites)
+            if not (owner or within[0] in opened or declared[2] in given):
+                continue
+            shown = "::".join([owner, declared[2]] if owner else [*(within if within[0] in opened else []),
+                                                                  declared[2]])
+            yield Function(crate, shown, path, at + 1, comment_above(lines, at, "///"), clauses_of(contract(lines, at)),
+                           cites)
 
 
 @functools.cache
@@ -190,7 +210,8 @@ def cited(function, clause):
     words = re.findall(r"[^\s(){}\[\],;]+", clause.text)
     operators = {name.strip("◌"): name for name in function.cited if name.startswith("◌")}
     names = [operators.get(word, word) for word in words]
-    return list(dict.fromkeys(function.cited[name] for name in names if name in function.cited and function.cited[name][0] not in ("std", "clap")))
+    return list(dict.fromkeys(function.cited[name] for name in names if name in function.cited
+                              and function.cited[name][0] not in ("std", "clap")))
 
 
 def shown_clause(function, clause):
@@ -199,7 +220,8 @@ def shown_clause(function, clause):
 
 
 def exported(top, path):
-    """What a file passes on, each with the module that has it; a file that passes on what another one does has it from there."""
+    """What a file passes on, each with the module that has it; a file that passes on what another one does has it from
+    there."""
     for module, names in re.findall(r"^(?:unfoldable )?pub use Rattle\.(\S+)\.\{([^}]*)\}", text(top, path), re.M):
         below = dict(exported(top, f"crates/{module.replace('.', '/')}.antt")) if module.endswith(".Exported") else {}
         for name in (name.strip() for name in names.split(",")):

@@ -1,7 +1,8 @@
 """What crates.txt says: the crates of this repository, what each stands on, and where their proofs lie.
 
-`rt ci`, `rt lib` and `make build` leave a crate that they have proved in crates/NAME/out/rlib. Here are the words by which the toolchain's `rattle`
-checks a crate over those below it as they were left there, so that what has just been proved isn't proved once more.
+`rt ci`, `rt lib` and `make build` leave a crate that they have proved in crates/NAME/out/rlib. Here are the words by
+which the toolchain's `rattle` checks a crate over those below it as they were left there, so that what has just been
+proved isn't proved once more.
 """
 import functools
 import os
@@ -28,7 +29,8 @@ def kit():
 
 @functools.cache
 def declared():
-    """What stands in the file, lowest crate first: for each crate the words after its name, and the names of what it stands on."""
+    """What stands in the file, lowest crate first: for each crate the words after its name, and the names of what it
+    stands on."""
     found = {}
     with open(os.path.join(TOP, "crates.txt"), encoding="utf-8") as lines:
         for line in lines:
@@ -81,15 +83,18 @@ def are_proved(crates):
 def command(step, crate):
     """The words by which rattle checks or builds a crate, in its folder or in a copy of it."""
     main = "src/main.rt" if os.path.exists(folder(crate, "src", "main.rt")) else "src/lib.rt"
-    return command_over(step, crate, main, uses(crate), ["--crate-type", "staticlib"] if "staticlib" in declared()[crate][0] else [])
+    return command_over(step, crate, main, uses(crate),
+                        ["--crate-type", "staticlib"] if "staticlib" in declared()[crate][0] else [])
 
 
 def command_over(step, name, main, stands_on, more=()):
-    """The words by which rattle checks or builds what stands on these crates, as they were proved last, or on the toolchain's."""
+    """The words by which rattle checks or builds what stands on these crates, as they were proved last, or on the
+    toolchain's."""
     found = [f"{kit()}/bin/rattle", step, "--crate-name", name, main, *more]
     for it in ["std", *stands_on]:
         found += ["--extern", f"{it}={rlib_of(it) if it in declared() else f'{kit()}/rlibs/{it}.rlib'}"]
     lower = [it for crate in stands_on if crate in declared() for it in (*below(crate), crate)]
     for place in [f"{kit()}/rlibs", *[os.path.dirname(rlib_of(it)) for it in dict.fromkeys(lower)]]:
         found += ["-L", f"dependency={place}"]
-    return [*found, "--antt-project", f"{kit()}/rattle/logic/antt-project.json", "--logic-built", f"{kit()}/logic_built"]
+    return [*found, "--antt-project", f"{kit()}/rattle/logic/antt-project.json",
+            "--logic-built", f"{kit()}/logic_built"]

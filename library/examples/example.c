@@ -34,14 +34,17 @@ int main(void) {
     uint16_t side = symbol.side;
     for (int at = 1; at < 5; at++)
         symbol.modules[at * side + at] ^= 1;
-    if (ecc200_read(symbol.modules, (size_t)side * side, side, ecc200_usual_limit(side), ECC200_WIDE, &reading) != ECC200_OK)
+    if (ecc200_read(symbol.modules, (size_t)side * side, side, ecc200_usual_limit(side), ECC200_WIDE, &reading) !=
+        ECC200_OK)
         return 2;
     count = ecc200_text(&reading, bytes, sizeof bytes, NULL);
-    printf("%.*s: %d codewords corrected, %d border modules wrong\n", (int)count, bytes, reading.corrected[0], reading.border_faults);
+    printf("%.*s: %d codewords corrected, %d border modules wrong\n", (int)count, bytes, reading.corrected[0],
+           reading.border_faults);
 
     /* a refusal: a symbol that is cut off below */
     memset(symbol.modules + (side - 1) * side, 0, side);
-    if (ecc200_read(symbol.modules, (size_t)side * side, side, ecc200_usual_limit(side), ECC200_WIDE, &reading) == ECC200_OK)
+    if (ecc200_read(symbol.modules, (size_t)side * side, side, ecc200_usual_limit(side), ECC200_WIDE, &reading) ==
+        ECC200_OK)
         return 3;
     printf("refused with %d: %s (%d)\n", reading.fault.code, ecc200_words(reading.fault.code), reading.fault.value);
     return 0;

@@ -29,7 +29,9 @@ static Symbol write(std::string_view text) {
 static Reading read(const ecc200_symbol &symbol) {
     size_t count = size_t{symbol.side} * symbol.side;
     auto reading = std::make_unique<ecc200_reading>();
-    if (ecc200_read(symbol.modules, count, symbol.side, ecc200_usual_limit(symbol.side), ECC200_WIDE, reading.get()) != ECC200_OK) throw Refused(reading->fault);
+    if (ecc200_read(symbol.modules, count, symbol.side, ecc200_usual_limit(symbol.side), ECC200_WIDE, reading.get()) !=
+        ECC200_OK)
+        throw Refused(reading->fault);
     return reading;
 }
 
@@ -58,7 +60,8 @@ int main() {
     int side = symbol->side;
     for (int at = 1; at < 5; at++) symbol->modules[at * side + at] ^= 1;
     Reading reading = read(*symbol);
-    std::cout << text_of(*reading) << ": " << int{reading->corrected[0]} << " codewords corrected, " << reading->border_faults << " border modules wrong\n";
+    std::cout << text_of(*reading) << ": " << int{reading->corrected[0]} << " codewords corrected, "
+              << reading->border_faults << " border modules wrong\n";
 
     // a refusal: a symbol that is cut off below
     for (int column = 0; column < side; column++) symbol->modules[(side - 1) * side + column] = 0;

@@ -21,7 +21,8 @@ grid = [bytearray(row) for row in rows]
 for at in range(1, 5):
     grid[at][at] ^= 1
 reading = ecc200.read(grid)
-print(f"{reading.data.decode()}: {reading.corrected[0]} codewords corrected, {reading.border_faults} border modules wrong")
+print(f"{reading.data.decode()}: {reading.corrected[0]} codewords corrected, "
+      f"{reading.border_faults} border modules wrong")
 
 # a refusal: a symbol that is cut off below
 grid[-1] = bytearray(len(grid))

@@ -1,4 +1,5 @@
-"""The version of packaging/version, and a wheel that carries the shared libraries that are built: library/python/build calls this."""
+"""The version of packaging/version, and a wheel that carries the shared libraries that are built: library/python/build
+calls this."""
 import os
 
 import setuptools
@@ -11,7 +12,8 @@ LIBRARIES = {"ECC200_LIBRARY": "library/out/libecc200.so", "ECC200_SAMPLE_LIBRAR
 
 def built():
     """The shared libraries that go into the wheel, and how they are called there: the sampler's only if it is built."""
-    found = {os.environ.get(name) or os.path.join(TOP, path): os.path.basename(path) for name, path in LIBRARIES.items()}
+    found = {os.environ.get(name) or os.path.join(TOP, path): os.path.basename(path)
+             for name, path in LIBRARIES.items()}
     return {path: name for path, name in found.items() if name == "libecc200.so" or os.path.isfile(path)}
 
 
@@ -41,4 +43,5 @@ class Binary(setuptools.Distribution):
 
 
 with open(os.path.join(TOP, "packaging", "version"), encoding="ascii") as file:
-    setuptools.setup(version=file.read().strip(), distclass=Binary, cmdclass={"build_py": WithLibraries, "bdist_wheel": ForThisMachine})
+    setuptools.setup(version=file.read().strip(), distclass=Binary,
+                     cmdclass={"build_py": WithLibraries, "bdist_wheel": ForThisMachine})

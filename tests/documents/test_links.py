@@ -1,7 +1,7 @@
 """Compares the other documents with the tree: each link leads to a file and a heading that are there, and so are the
-files that they name; names of functions and types in the pages about the tree are words of it; lines have at most 120
-columns; the passages of code in docs/NOTATION.md stand in the files to which it links; docs/MAP.md names what each
-crate stands on; and docs/GATE.md counts the edits and tests that there are."""
+files that they name; names of functions and types in the pages about the tree are words of it; the passages of code in
+docs/NOTATION.md stand in the files to which it links; docs/MAP.md names what each crate stands on; and docs/GATE.md
+counts the edits and tests that there are. In these, and in all that people write, lines have at most 120 columns."""
 import functools
 import glob
 import os
@@ -15,6 +15,11 @@ from tests.support.case import Case
 # What stands in code marks and is the path of a file.
 PATH = re.compile(r"(?:crates|tests|tools|docs|library|packaging|bench|sampler|web|scripts|demo)/[\w./-]+"
                   r"|[\w/]+\.(?:rt|antt|mjs)")
+# How the files end that people write, besides documents and scripts: code, proofs, pages, manual pages, settings.
+WRITTEN = (".py", ".c", ".h", ".cpp", ".rs", ".java", ".rt", ".antt", ".mjs", ".js", ".css", ".html", ".toml", ".in",
+           ".1", ".3", ".edit", "CMakeLists.txt", ".editorconfig", "command_line")
+# The folders in which lines aren't all within 120 columns yet.
+NOT_YET = ("crates", "sampler", "tests/page", "web")
 
 
 def documents():
@@ -54,13 +59,33 @@ def is_file(name):
     return name in file_names() or any(os.path.exists(os.path.join(folder, name)) for folder in folders + within)
 
 
+def is_written(path):
+    """Whether a file is one of those that people write, by its name or its first line: neither data nor a picture."""
+    if os.path.basename(path) in ("Makefile", "rules", "files.txt", "gs1_identifiers.txt", "crates.txt"):
+        return True
+    if path.endswith(WRITTEN):
+        return True
+    with open(path, "rb") as file:
+        return file.read(2) == b"#!"
+
+
+def written():
+    """The files that people write, but in the folders whose lines aren't all within the columns yet."""
+    left = {places.path(folder) for folder in NOT_YET}
+    for at, folders, names in os.walk(places.TOP):
+        folders[:] = sorted(it for it in folders if it not in (".git", "out", "__pycache__")
+                            and os.path.join(at, it) not in left)
+        yield from (os.path.join(at, name) for name in sorted(names) if is_written(os.path.join(at, name)))
+
+
 def checks_of_width():
-    """Lines of the documents have at most 120 columns, but in tables and blocks of code, and README has at most 140
+    """Lines have at most 120 columns, those of documents but in tables and blocks of code; README has at most 140
     lines."""
-    for path in documents():
-        plain = re.sub(r"^```.*?^```$", "", text(path), flags=re.M | re.S)
-        wide = [line for line in plain.splitlines() if len(line) > 120 and not line.startswith("|")]
-        yield f"{os.path.basename(path)}, lines of more than 120 columns: {wide[:1]}", not wide
+    for path in [*documents(), *written()]:
+        plain = re.sub(r"^```.*?^```$", "", text(path), flags=re.M | re.S) if path.endswith(".md") else text(path)
+        wide = [line for line in plain.splitlines()
+                if len(line) > 120 and not (path.endswith(".md") and line.startswith("|"))]
+        yield f"{os.path.relpath(path, places.TOP)}, lines of more than 120 columns: {wide[:1]}", not wide
     yield "README.md, at most 140 lines", len(text(places.path("README.md")).splitlines()) <= 140
 
 

@@ -1,5 +1,5 @@
-"""Tries wrong callers, those of bugs.txt and those that are made from the header, one at a time: each has to be found by
-the tests of the language that is concerned.
+"""Tries wrong callers, those of bugs.txt and those that are made from the header, one at a time: each has to be found
+by the tests of the language that is concerned.
 
     python3 -m tests.library [WORD]
 

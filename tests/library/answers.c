@@ -1,6 +1,6 @@
-/* Answers requests, one on each line of the standard input, by the calls and conveniences of ecc200.h, with a line for each: C and C++
- * alike. What is given to a call and what it writes stand directly before an inaccessible page. tests/library/cases.py has the requests
- * and the answers that are wanted. */
+/* Answers requests, one on each line of the standard input, by the calls and conveniences of ecc200.h, with a line for
+ * each: C and C++ alike. What is given to a call and what it writes stand directly before an inaccessible page.
+ * tests/library/cases.py has the requests and the answers that are wanted. */
 #ifndef _GNU_SOURCE
 #define _GNU_SOURCE
 #endif
@@ -12,7 +12,8 @@
 
 #define NAMED(name) printf("%s=%ld ", #name, (long)ECC200_##name)
 #define SIZED(type) printf("%s=%zu ", #type, sizeof(ecc200_##type))
-#define LAID(type, member) printf("%s.%s=%zu+%zu ", #type, #member, offsetof(ecc200_##type, member), sizeof(((ecc200_##type *)0)->member))
+#define LAID(type, member)                                                                                             \
+    printf("%s.%s=%zu+%zu ", #type, #member, offsetof(ecc200_##type, member), sizeof(((ecc200_##type *)0)->member))
 
 enum { PAGE = 4096, AREA = 1 << 19 };
 
@@ -261,11 +262,13 @@ static void answer_items(void) {
 }
 
 static void answer_constants(void) {
-    NAMED(ABI), NAMED(MOST_SIDE), NAMED(MOST_MODULES), NAMED(MOST_ITEMS), NAMED(MOST_CODEWORDS), NAMED(MOST_BLOCKS), NAMED(SIZE_COUNT);
+    NAMED(ABI), NAMED(MOST_SIDE), NAMED(MOST_MODULES), NAMED(MOST_ITEMS), NAMED(MOST_CODEWORDS), NAMED(MOST_BLOCKS),
+        NAMED(SIZE_COUNT);
     NAMED(FNC1), NAMED(ANY_LIMIT), NAMED(BEYOND), NAMED(STACK);
     NAMED(USUAL), NAMED(WIDE);
     NAMED(ASCII), NAMED(SHORTER);
-    NAMED(OK), NAMED(SHAPE), NAMED(SIDE), NAMED(BORDER), NAMED(BLOCK), NAMED(RESERVED), NAMED(LEFT_OUT), NAMED(UPPER_SHIFT), NAMED(TRIPLET);
+    NAMED(OK), NAMED(SHAPE), NAMED(SIDE), NAMED(BORDER), NAMED(BLOCK), NAMED(RESERVED), NAMED(LEFT_OUT),
+        NAMED(UPPER_SHIFT), NAMED(TRIPLET);
     NAMED(VALUE), NAMED(LENGTH), NAMED(UNFINISHED), NAMED(TOO_LONG), NAMED(ITEM), NAMED(PROFILE);
     NAMED(EXTENT);
     NAMED(NO_MODULE), NAMED(BIT), NAMED(BORDER_LIGHT), NAMED(BORDER_DARK), NAMED(FIXED_LIGHT), NAMED(FIXED_DARK);
@@ -277,11 +280,13 @@ static void answer_layout(void) {
     SIZED(reading), LAID(reading, fault), LAID(reading, side), LAID(reading, border_faults), LAID(reading, block_count);
     LAID(reading, item_count), LAID(reading, items), LAID(reading, corrected);
     SIZED(symbol), LAID(symbol, fault), LAID(symbol, side), LAID(symbol, modules);
-    SIZED(inspection), LAID(inspection, fault), LAID(inspection, side), LAID(inspection, border_faults), LAID(inspection, block_count);
+    SIZED(inspection), LAID(inspection, fault), LAID(inspection, side), LAID(inspection, border_faults),
+        LAID(inspection, block_count);
     LAID(inspection, codeword_count), LAID(inspection, held), LAID(inspection, mended), LAID(inspection, corrected);
     SIZED(place), LAID(place, codeword), LAID(place, bit), LAID(place, kind);
     SIZED(place_table), LAID(place_table, fault), LAID(place_table, side), LAID(place_table, places);
-    SIZED(size), LAID(size, side), LAID(size, regions), LAID(size, region_side), LAID(size, mapping), LAID(size, data_codewords);
+    SIZED(size), LAID(size, side), LAID(size, regions), LAID(size, region_side), LAID(size, mapping),
+        LAID(size, data_codewords);
     LAID(size, check_codewords), LAID(size, blocks), LAID(size, limit);
     SIZED(size_table), LAID(size_table, sizes);
 }
@@ -298,10 +303,22 @@ typedef struct {
 } request;
 
 static const request requests[] = {
-    {"read", answer_read}, {"normal", answer_normal}, {"write", answer_write}, {"inspect", answer_inspect}, {"places", answer_places},
-    {"sizes", answer_sizes}, {"text", answer_text}, {"items", answer_items}, {"constants", answer_constants}, {"layout", answer_layout},
-    {"compatible", answer_compatible}, {"limit", answer_limit}, {"words", answer_words},
-    {"write_bytes", answer_write_bytes}, {"code_words", answer_code_words}, {"version", answer_version},
+    {"read", answer_read},
+    {"normal", answer_normal},
+    {"write", answer_write},
+    {"inspect", answer_inspect},
+    {"places", answer_places},
+    {"sizes", answer_sizes},
+    {"text", answer_text},
+    {"items", answer_items},
+    {"constants", answer_constants},
+    {"layout", answer_layout},
+    {"compatible", answer_compatible},
+    {"limit", answer_limit},
+    {"words", answer_words},
+    {"write_bytes", answer_write_bytes},
+    {"code_words", answer_code_words},
+    {"version", answer_version},
 };
 
 int main(void) {

@@ -1,5 +1,5 @@
-//! Answers requests, one on each line of the standard input, by every public function of `ecc200.rs`, with a line for each.
-//! `tests/library/cases.py` has the requests and the answers that are wanted.
+//! Answers requests, one on each line of the standard input, by every public function of `ecc200.rs`, with a line for
+//! each. `tests/library/cases.py` has the requests and the answers that are wanted.
 mod ecc200;
 
 use ecc200::{Extent, Fault, Inspection, Place, Profile, Reading, Size, Symbol};
@@ -62,7 +62,8 @@ fn refused(why: Fault) -> String {
 fn reading(side: u16, got: Result<Reading, Fault>) -> String {
     match got {
         Ok(Reading { items, corrected, border_faults }) => {
-            format!("side {side} border {border_faults} blocks {} items {} corrected {}", corrected.len(), numbers(&items), numbers(&corrected))
+            let counts = format!("border {border_faults} blocks {}", corrected.len());
+            format!("side {side} {counts} items {} corrected {}", numbers(&items), numbers(&corrected))
         }
         Err(why) => refused(why),
     }
@@ -80,7 +81,8 @@ fn symbol(got: Result<Symbol, Fault>) -> String {
 fn inspection(side: u16, got: Result<Inspection, Fault>) -> String {
     match got {
         Ok(Inspection { held, mended, corrected, border_faults }) => {
-            let counts: Vec<_> = corrected.iter().map(|count| count.map_or("beyond".to_string(), |it| it.to_string())).collect();
+            let shown = |count: &Option<u8>| count.map_or("beyond".to_string(), |it| it.to_string());
+            let counts: Vec<_> = corrected.iter().map(shown).collect();
             let words = format!("held {} mended {}", numbers(&held), numbers(&mended));
             format!("side {side} border {border_faults} blocks {} {words} corrected {}", counts.len(), counts.join(","))
         }
@@ -108,8 +110,9 @@ fn constants() -> String {
     shown.extend(extents.map(|(name, extent)| format!("{name}={} ", extent as u16)));
     let profiles = [("ASCII", Profile::Ascii), ("SHORTER", Profile::Shorter)];
     shown.extend(profiles.map(|(name, profile)| format!("{name}={} ", profile as u16)));
-    shown += &format!("OK={OK} SHAPE={SHAPE} SIDE={SIDE} BORDER={BORDER} BLOCK={BLOCK} RESERVED={RESERVED} LEFT_OUT={LEFT_OUT} ");
-    shown += &format!("UPPER_SHIFT={UPPER_SHIFT} TRIPLET={TRIPLET} VALUE={VALUE} LENGTH={LENGTH} UNFINISHED={UNFINISHED} ");
+    shown += &format!("OK={OK} SHAPE={SHAPE} SIDE={SIDE} BORDER={BORDER} BLOCK={BLOCK} RESERVED={RESERVED} ");
+    shown += &format!("LEFT_OUT={LEFT_OUT} UPPER_SHIFT={UPPER_SHIFT} TRIPLET={TRIPLET} VALUE={VALUE} ");
+    shown += &format!("LENGTH={LENGTH} UNFINISHED={UNFINISHED} ");
     shown + &format!("TOO_LONG={TOO_LONG} ITEM={ITEM} PROFILE={PROFILE} EXTENT={EXTENT} ")
 }
 

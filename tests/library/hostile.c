@@ -1,6 +1,6 @@
-/* Random calls, with an inaccessible page directly behind each input and each output: nothing outside is touched, each call returns,
- * all of the output is written whatever was in it, and the answers of the calls agree with one another. The first argument is the number
- * of rounds, the second the extent: 0 or 1. */
+/* Random calls, with an inaccessible page directly behind each input and each output: nothing outside is touched, each
+ * call returns, all of the output is written whatever was in it, and the answers of the calls agree with one another.
+ * The first argument is the number of rounds, the second the extent: 0 or 1. */
 #define _GNU_SOURCE
 #include <ecc200.h>
 #include <stdio.h>
@@ -10,7 +10,8 @@
 
 enum { AREA = 1 << 17 };
 
-static const uint16_t others[] = {0, 1, 11, 28, ECC200_MOST_SIDE + 1, ECC200_MOST_SIDE + 16, 65535}; /* sides of no size */
+/* sides of no size */
+static const uint16_t others[] = {0, 1, 11, 28, ECC200_MOST_SIDE + 1, ECC200_MOST_SIDE + 16, 65535};
 static uint16_t extent;
 static long reads, both;
 static uint8_t *area;
@@ -26,7 +27,8 @@ static int fail(const char *what) {
     return 1;
 }
 
-/* a random number below 2^31: the upper bits of Knuth's generator for MMIX, since half of the time went into the lock of C's own */
+/* a random number below 2^31: the upper bits of Knuth's generator for MMIX, since half of the time went into the lock
+ * of C's own */
 static int chance(void) {
     static uint64_t state = 3;
     state = state * 6364136223846793005 + 1442695040888963407;
@@ -100,14 +102,16 @@ static void add_checks(uint8_t *words, const ecc200_size *size) {
     }
 }
 
-/* a symbol whose data codewords are random, but often begin or end something: an encodation, a shift, a macro, the message */
+/* a symbol whose data codewords are random, but often begin or end something: an encodation, a shift, a macro, the
+ * message */
 static uint8_t *spelled(uint16_t *side, size_t *count) {
     static const uint8_t turns[] = {129, 230, 231, 232, 233, 234, 235, 236, 237, 238, 239, 240, 241, 254, 0, 124, 31};
     const ecc200_size *size = &sizes.sizes[(size_t)chance() % (chance() % 2 ? 8 : ECC200_SIZE_COUNT)];
     uint8_t words[ECC200_MOST_CODEWORDS];
     int often = 2 + chance() % 40;
     for (int i = 0; i < size->data_codewords; i++)
-        words[i] = chance() % often ? (uint8_t)(1 + chance() % (often % 2 ? 229 : 128)) : turns[(size_t)chance() % sizeof turns];
+        words[i] = chance() % often ? (uint8_t)(1 + chance() % (often % 2 ? 229 : 128))
+                                    : turns[(size_t)chance() % sizeof turns];
     if (chance() % 3 == 0)
         words[0] = turns[(size_t)chance() % sizeof turns];
     add_checks(words, size);
@@ -128,7 +132,8 @@ static int check_normal(uint16_t profile) {
     size_t count = (size_t)symbol->side * symbol->side;
     memcpy(items, reading->items, sizeof items);
     uint16_t item_count = reading->item_count;
-    if (ecc200_normal(symbol->modules, count, symbol->side, 0, extent, profile, again) || memcmp(symbol, again, sizeof *symbol))
+    if (ecc200_normal(symbol->modules, count, symbol->side, 0, extent, profile, again) ||
+        memcmp(symbol, again, sizeof *symbol))
         return fail("normalising twice isn't once");
     uint16_t code = ecc200_read(symbol->modules, count, symbol->side, 0, extent, reading);
     if (code || reading->item_count != item_count || memcmp(reading->items, items, sizeof items))
@@ -154,7 +159,8 @@ static int round_of(void) {
     ecc200_read(modules, count, side, limit, extent, &second);
     if (memcmp(reading, &second, sizeof second) || code != reading->fault.code)
         return fail("a reading isn't a function of its input");
-    uint16_t other = ecc200_read(modules, count, side, limit, extent == ECC200_WIDE ? ECC200_USUAL : ECC200_WIDE, &second);
+    uint16_t other =
+        ecc200_read(modules, count, side, limit, extent == ECC200_WIDE ? ECC200_USUAL : ECC200_WIDE, &second);
     reads += code == ECC200_OK, both += code == ECC200_OK && other == ECC200_OK;
     if ((extent == ECC200_WIDE ? other : code) == ECC200_OK && memcmp(reading, &second, sizeof second))
         return fail("what the usual extent reads the wide one reads otherwise");
@@ -170,7 +176,8 @@ static int round_of(void) {
     if (normal && normal != ECC200_TOO_LONG && memcmp(&symbol->fault, &reading->fault, sizeof symbol->fault))
         return fail("a reading and a normal grid are refused differently");
     memset(table, 0xEE, sizeof *table);
-    if (ecc200_places(side, table) != (code == ECC200_SIDE || (code == ECC200_SHAPE && table->fault.code) ? ECC200_SIDE : 0))
+    if (ecc200_places(side, table) !=
+        (code == ECC200_SIDE || (code == ECC200_SHAPE && table->fault.code) ? ECC200_SIDE : 0))
         return fail("places are refused");
     return normal ? 0 : check_normal(profile);
 }
@@ -178,11 +185,13 @@ static int round_of(void) {
 int main(int argc, char **argv) {
     long rounds = argc > 1 ? atol(argv[1]) : 20000;
     extent = argc > 2 ? (uint16_t)atoi(argv[2]) : ECC200_WIDE;
-    area = guarded(AREA), reading = guarded(sizeof *reading), symbol = guarded(sizeof *symbol), again = guarded(sizeof *again);
+    area = guarded(AREA), reading = guarded(sizeof *reading), symbol = guarded(sizeof *symbol),
+    again = guarded(sizeof *again);
     inspection = guarded(sizeof *inspection), table = guarded(sizeof *table);
     if (ecc200_write(NULL, 0, 0, symbol) || symbol->side != 10)
         return fail("the empty message isn't written");
-    if (ecc200_read(NULL, 0, 0, 0, extent, reading) != ECC200_SIDE || ecc200_read(NULL, 0, 10, 0, extent, reading) != ECC200_SHAPE)
+    if (ecc200_read(NULL, 0, 0, 0, extent, reading) != ECC200_SIDE ||
+        ecc200_read(NULL, 0, 10, 0, extent, reading) != ECC200_SHAPE)
         return fail("no modules are read");
     if (ecc200_inspect(NULL, 0, 0, inspection) != ECC200_SIDE)
         return fail("no modules make a symbol");

@@ -1,5 +1,6 @@
-/* Eight threads, each with a stack of as many KiB as the first argument says, read, normalise and inspect at the same time: each answer
- * must be that of one thread alone. Then prints how many bytes of stack each call uses, a line for each call. */
+/* Eight threads, each with a stack of as many KiB as the first argument says, read, normalise and inspect at the same
+ * time: each answer must be that of one thread alone. Then prints how many bytes of stack each call uses, a line for
+ * each call. */
 #define _GNU_SOURCE
 #include <ecc200.h>
 #include <pthread.h>
@@ -33,8 +34,10 @@ static size_t most_data; /* codewords of the largest size */
 
 static void answer(const example *e, ecc200_reading *reading, ecc200_symbol *normal, ecc200_inspection *inspection) {
     size_t count = (size_t)e->side * e->side;
-    ecc200_read(e->modules, count, e->side, ecc200_usual_limit(e->side), e->side % 3 ? ECC200_WIDE : ECC200_USUAL, reading);
-    ecc200_normal(e->modules, count, e->side, ecc200_usual_limit(e->side), e->side % 3 ? ECC200_WIDE : ECC200_USUAL, e->side % 4 == 0, normal);
+    ecc200_read(e->modules, count, e->side, ecc200_usual_limit(e->side), e->side % 3 ? ECC200_WIDE : ECC200_USUAL,
+                reading);
+    ecc200_normal(e->modules, count, e->side, ecc200_usual_limit(e->side), e->side % 3 ? ECC200_WIDE : ECC200_USUAL,
+                  e->side % 4 == 0, normal);
     ecc200_inspect(e->modules, count, e->side, inspection);
 }
 
@@ -43,8 +46,9 @@ static void *work(void *at) {
     for (unsigned i = 0; i < ROUNDS; i++) {
         example *e = &examples[(i * 7 + j->first) % CASES];
         answer(e, &j->reading, &j->normal, &j->inspection);
-        j->wrong += memcmp(&j->reading, &e->reading, sizeof j->reading) || memcmp(&j->normal, &e->normal, sizeof j->normal)
-            || memcmp(&j->inspection, &e->inspection, sizeof j->inspection);
+        j->wrong += memcmp(&j->reading, &e->reading, sizeof j->reading) ||
+                    memcmp(&j->normal, &e->normal, sizeof j->normal) ||
+                    memcmp(&j->inspection, &e->inspection, sizeof j->inspection);
     }
     return 0;
 }
@@ -82,17 +86,31 @@ static int threads_agree(size_t kib) {
 }
 
 static void *do_nothing(void *at) { return at; }
-static void *do_read(void *at) { return ecc200_read(largest.modules, ECC200_MOST_MODULES, ECC200_MOST_SIDE, ECC200_ANY_LIMIT, ECC200_WIDE, &largest.reading), at; }
-static void *do_inspect(void *at) { return ecc200_inspect(largest.modules, ECC200_MOST_MODULES, ECC200_MOST_SIDE, &largest.inspection), at; }
+static void *do_read(void *at) {
+    return ecc200_read(largest.modules, ECC200_MOST_MODULES, ECC200_MOST_SIDE, ECC200_ANY_LIMIT, ECC200_WIDE,
+                       &largest.reading),
+           at;
+}
+static void *do_inspect(void *at) {
+    return ecc200_inspect(largest.modules, ECC200_MOST_MODULES, ECC200_MOST_SIDE, &largest.inspection), at;
+}
 static void normal_of_largest(uint16_t profile) {
-    ecc200_normal(largest.modules, ECC200_MOST_MODULES, ECC200_MOST_SIDE, ECC200_ANY_LIMIT, ECC200_WIDE, profile, &largest.normal);
+    ecc200_normal(largest.modules, ECC200_MOST_MODULES, ECC200_MOST_SIDE, ECC200_ANY_LIMIT, ECC200_WIDE, profile,
+                  &largest.normal);
 }
 static void *do_normal(void *at) { return normal_of_largest(ECC200_ASCII), at; }
 static void *do_normal_shorter(void *at) { return normal_of_largest(ECC200_SHORTER), at; }
 static void *do_write(void *at) { return ecc200_write(items, 2 * most_data, ECC200_ASCII, &largest.normal), at; }
-static void *do_write_shorter(void *at) { return ecc200_write(items, most_data - 3, ECC200_SHORTER, &largest.normal), at; }
-static void *do_write_bytes(void *at) { return ecc200_write_bytes(many, most_data - 3, ECC200_SHORTER, &largest.normal), at; }
-static void *do_places(void *at) { static ecc200_place_table table; return ecc200_places(ECC200_MOST_SIDE, &table), at; }
+static void *do_write_shorter(void *at) {
+    return ecc200_write(items, most_data - 3, ECC200_SHORTER, &largest.normal), at;
+}
+static void *do_write_bytes(void *at) {
+    return ecc200_write_bytes(many, most_data - 3, ECC200_SHORTER, &largest.normal), at;
+}
+static void *do_places(void *at) {
+    static ecc200_place_table table;
+    return ecc200_places(ECC200_MOST_SIDE, &table), at;
+}
 static void *do_sizes(void *at) { static ecc200_size_table table; return ecc200_sizes(&table), at; }
 
 /* how many bytes of a stack that was filled with a pattern a call overwrites */
@@ -129,10 +147,19 @@ int main(int argc, char **argv) {
     memcpy(largest.modules, largest.normal.modules, sizeof largest.modules);
     for (int turns = 60; turns > 0; turns--)
         largest.modules[rand() % ECC200_MOST_MODULES] ^= 1;
-    static const struct { const char *name; void *(*call)(void *); } calls[] = {
-        {"ecc200_read", do_read}, {"ecc200_inspect", do_inspect}, {"ecc200_normal", do_normal}, {"ecc200_normal, shorter", do_normal_shorter},
-        {"ecc200_write", do_write}, {"ecc200_write, shorter", do_write_shorter},
-        {"ecc200_write_bytes", do_write_bytes}, {"ecc200_places", do_places}, {"ecc200_sizes", do_sizes},
+    static const struct {
+        const char *name;
+        void *(*call)(void *);
+    } calls[] = {
+        {"ecc200_read", do_read},
+        {"ecc200_inspect", do_inspect},
+        {"ecc200_normal", do_normal},
+        {"ecc200_normal, shorter", do_normal_shorter},
+        {"ecc200_write", do_write},
+        {"ecc200_write, shorter", do_write_shorter},
+        {"ecc200_write_bytes", do_write_bytes},
+        {"ecc200_places", do_places},
+        {"ecc200_sizes", do_sizes},
     };
     size_t alone = touched(do_nothing);
     for (size_t i = 0; i < sizeof calls / sizeof *calls; i++) {

@@ -1,6 +1,6 @@
-// Writes and reads marks by ZXing, one a line of standard input. With `write`, a line is a side and the bytes of a message in hexadecimal digits,
-// and the answer the rows of the mark in that size, joined by commas, or `-`. With `read`, a line is such rows, and the answer the bytes in
-// hexadecimal digits, or `-`.
+// Writes and reads marks by ZXing, one a line of standard input. With `write`, a line is a side and the bytes of a
+// message in hexadecimal digits, and the answer the rows of the mark in that size, joined by commas, or `-`. With
+// `read`, a line is such rows, and the answer the bytes in hexadecimal digits, or `-`.
 import com.google.zxing.BarcodeFormat;
 import com.google.zxing.Dimension;
 import com.google.zxing.EncodeHintType;

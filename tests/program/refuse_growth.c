@@ -1,5 +1,6 @@
-/* Loaded before the C library. Refuses one growth of memory, whose number, counted from 1, is in the environment variable REFUSED_GROWTH, and
-   writes how many were asked for to the file named in GROWTHS. */
+/* Loaded before the C library. Refuses one growth of memory, whose number, counted from 1, is in the environment
+ * variable REFUSED_GROWTH, and
+ *    writes how many were asked for to the file named in GROWTHS. */
 #define _GNU_SOURCE
 #include <dlfcn.h>
 #include <stdio.h>

@@ -14,8 +14,8 @@ PYTHON = "/usr/bin/python3"  # Debian's, for which numpy, Pillow and mypy are in
 left_out = []
 # Each of some hundreds of interpreters would compile the package anew otherwise.
 subprocess.run([PYTHON, "-m", "compileall", "-q", PACKAGE], check=True)
-if os.path.isfile(SAMPLER):
-    os.environ["ECC200_SAMPLE_LIBRARY"] = SAMPLER
+# By which variables the package finds the libraries.
+LIBRARIES = {"ECC200_LIBRARY": SHARED, **({"ECC200_SAMPLE_LIBRARY": SAMPLER} if os.path.isfile(SAMPLER) else {})}
 
 
 def same(name, got, wanted):

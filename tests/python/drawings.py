@@ -5,8 +5,8 @@ import os
 import pathlib
 import zlib
 
-from tests.python.common import (PACKAGE, PYTHON, SAMPLER, SHARED, clean, has, has_sampler, holds, left_out, raises, run,
-                                 same, wanted_module)
+from tests.python.common import (PACKAGE, PYTHON, SAMPLER, SHARED, clean, has, has_sampler, holds, left_out, raises,
+                                 run, same, wanted_module)
 from tests.support import places
 
 import ecc200
@@ -27,7 +27,8 @@ def pixels(data):
         at += 12 + length
     width, height = int.from_bytes(chunks[b"IHDR"][:4], "big"), int.from_bytes(chunks[b"IHDR"][4:8], "big")
     raw, step = zlib.decompress(chunks[b"IDAT"]), (width + 7) // 8 + 1
-    rows = [bytes(int(bit) for byte in raw[row * step + 1:row * step + step] for bit in f"{byte:08b}")[:width] for row in range(height)]
+    rows = [bytes(int(bit) for byte in raw[row * step + 1:row * step + step] for bit in f"{byte:08b}")[:width]
+            for row in range(height)]
     return width, height, rows, int.from_bytes(chunks[b"pHYs"][:4], "big")
 
 
@@ -41,7 +42,8 @@ def png():
             modules = [bytes(1 - row[x * dots + dots // 2] for x in range(quiet, quiet + len(rows)))
                        for row in found[quiet * dots + dots // 2:(quiet + len(rows)) * dots:dots]]
             yield same(f"its modules, {len(rows)} at {dots}", modules, rows)
-            yield same(f"its dark pixels, {len(rows)} at {dots}", sum(row.count(0) for row in found), dots * dots * sum(map(sum, rows)))
+            yield same(f"its dark pixels, {len(rows)} at {dots}", sum(row.count(0) for row in found),
+                       dots * dots * sum(map(sum, rows)))
     width, *_ = pixels(drawing.png(drawing.alone(ecc200.write(b"123456"), 0.5, 2), 300))
     yield same("half a millimetre at 300 dots an inch is six dots", width, 14 * 6)
 
@@ -54,7 +56,8 @@ def rendered(folder):
     rows = ecc200.write(b"Mitsubadoor")
     page = drawing.alone(rows, 0.5, 2)
     tools = {"pdf": (drawing.pdf([page]), "pdftoppm", ["pdftoppm", "-r", "508", "-png", "-singlefile", "FILE", "STEM"]),
-             "svg": (drawing.svg(page), "rsvg-convert", ["rsvg-convert", "-d", "508", "-p", "508", "-o", "PNG", "FILE"])}
+             "svg": (drawing.svg(page), "rsvg-convert", ["rsvg-convert", "-d", "508", "-p", "508", "-o", "PNG",
+                                                         "FILE"])}
     for kind, (data, program, words) in tools.items():
         if not has(program, f"{kind} as {program} draws it"):
             continue
@@ -74,9 +77,10 @@ def sheets():
     cells = [cell for page in pages for cell in page.cells]
     yield same("each symbol is on a sheet", [cell.rows for cell in cells], symbols)
     for page in pages:
-        boxes = [(cell.left - 1, cell.top - 1, cell.left + len(cell.rows) / 2 + 1, cell.top + len(cell.rows) / 2 + 1) for cell in page.cells]
-        yield holds("on the page", all(left >= 10 - 1e-6 and top >= 10 - 1e-6 and right <= 200 + 1e-6 and bottom <= 287 + 1e-6 for left, top, right,
-                                       bottom in boxes))
+        boxes = [(cell.left - 1, cell.top - 1, cell.left + len(cell.rows) / 2 + 1, cell.top + len(cell.rows) / 2 + 1)
+                 for cell in page.cells]
+        yield holds("on the page", all(left >= 10 - 1e-6 and top >= 10 - 1e-6 and right <= 200 + 1e-6
+                                       and bottom <= 287 + 1e-6 for left, top, right, bottom in boxes))
         apart = all(a[2] <= b[0] + 1e-6 or b[2] <= a[0] + 1e-6 or a[3] <= b[1] + 1e-6 or b[3] <= a[1] + 1e-6 for i,
                     a in enumerate(boxes) for b in boxes[:i])
         yield holds("no quiet zone is overlapped", apart)
@@ -87,7 +91,8 @@ def sheets():
 def symbols():
     symbol = ecc200.encode(b"123456")
     yield same("a symbol as text", str(symbol).split(), ["".join(map(str, row)) for row in symbol.rows])
-    yield same("equal symbols", (symbol == ecc200.encode(b"123456"), symbol == ecc200.encode(b"12345"), len({symbol, ecc200.encode(b"123456")})),
+    yield same("equal symbols", (symbol == ecc200.encode(b"123456"), symbol == ecc200.encode(b"12345"),
+                                 len({symbol, ecc200.encode(b"123456")})),
                (True, False, 1))
     yield raises("text needs a charset", TypeError, "charset", lambda: ecc200.encode("A"))
     yield same("decode a grid", ecc200.decode(symbol.rows)[0].data, b"123456")
@@ -96,7 +101,8 @@ def symbols():
     numpy = wanted_module("numpy", "numpy", "symbols as arrays")
     if numpy:
         array = numpy.asarray(symbol)
-        yield same("a symbol as an array", (array.shape, array.dtype, array[2, 2], array[0, 0]), ((14, 14), numpy.uint8, 0, 255))
+        yield same("a symbol as an array", (array.shape, array.dtype, array[2, 2], array[0, 0]),
+                   ((14, 14), numpy.uint8, 0, 255))
     pillow = wanted_module("PIL.Image", "Pillow", "symbols in Pillow's pictures")
     if pillow and numpy:
         picture = pillow.Image.fromarray(numpy.asarray(symbol))
@@ -294,20 +300,26 @@ def sampled():
                            lambda: pictures.find(memoryview(bytes(100)).cast("B", (10, 10))))
         yield with_none if not pictures.is_there() else same("", 0, 0)
         return
-    pillow, numpy = wanted_module("PIL.Image", "Pillow", "symbols in pictures"), wanted_module("numpy", "numpy", "symbols in arrays")
+    pillow, numpy = wanted_module("PIL.Image", "Pillow",
+                                  "symbols in pictures"), wanted_module("numpy", "numpy", "symbols in arrays")
     yield holds("the sampler's library can be loaded", pictures.is_there())
     if not pillow or not numpy or not pictures.is_there():
         return
     picture = pillow.Image.open(io.BytesIO(ecc200.encode(b"Mitsubadoor", quiet=4, module=1).png(dpi=203)))
     array = numpy.asarray(picture.convert("L"))
-    for name, given in {"Pillow's": picture, "grey": picture.convert("L"), "colours": picture.convert("RGB"), "clear": picture.convert("RGBA"),
-                        "an array": array,
-                        "an array of colours": numpy.asarray(picture.convert("RGB")), "steps": numpy.repeat(array, 2, 1)[:, ::2], "bool": array > 100,
-                        "16 bits": pillow.Image.fromarray(array.astype(numpy.uint16) * 257), "32 bits": picture.convert("I"),
-                        "turned": picture.convert("L").rotate(30, expand=True, fillcolor=255), "a quarter": picture.convert("L").rotate(90),
-                        "light on dark": pillow.Image.fromarray(255 - array), "mirrored": pillow.Image.fromarray(array[:, ::-1].copy())}.items():
+    for name, given in {"Pillow's": picture, "grey": picture.convert("L"), "colours": picture.convert("RGB"),
+                        "clear": picture.convert("RGBA"), "an array": array,
+                        "an array of colours": numpy.asarray(picture.convert("RGB")),
+                        "steps": numpy.repeat(array, 2, 1)[:, ::2], "bool": array > 100,
+                        "16 bits": pillow.Image.fromarray(array.astype(numpy.uint16) * 257),
+                        "32 bits": picture.convert("I"),
+                        "turned": picture.convert("L").rotate(30, expand=True, fillcolor=255),
+                        "a quarter": picture.convert("L").rotate(90),
+                        "light on dark": pillow.Image.fromarray(255 - array),
+                        "mirrored": pillow.Image.fromarray(array[:, ::-1].copy())}.items():
         found = pictures.find(given, most=1)
-        yield same(f"in a picture, {name}", [symbol.answer.data for symbol in found if isinstance(symbol.answer, ecc200.Reading)], [b"Mitsubadoor"])
+        yield same(f"in a picture, {name}", [symbol.answer.data for symbol in found
+                                             if isinstance(symbol.answer, ecc200.Reading)], [b"Mitsubadoor"])
         yield same(f"decoded, {name}", [reading.data for reading in ecc200.decode(given, most=1)], [b"Mitsubadoor"])
     corners = pictures.find(picture, most=1)[0].corners
     yield holds("the corners", all(abs(x - wanted_x) < 8 and abs(y - wanted_y) < 8 for (x, y), (wanted_x, wanted_y) in
@@ -315,7 +327,8 @@ def sampled():
     yield same("nothing in a picture", pictures.find(pillow.Image.new("L", (200, 200), 255), milliseconds=50), [])
     yield raises("an array of floats", TypeError, "rows of bytes", lambda: pictures.find(array.astype(float)))
     symbol = ecc200.encode(b"A" * 9, quiet=4)
-    yield same("a symbol, an array by its interface alone", [reading.data for reading in ecc200.decode(Magnified(symbol, 5), most=1)], [b"A" * 9])
+    yield same("a symbol, an array by its interface alone",
+               [reading.data for reading in ecc200.decode(Magnified(symbol, 5), most=1)], [b"A" * 9])
     yield from by_one_file(pillow.Image, numpy, array)
 
 
@@ -325,7 +338,8 @@ class Magnified:
     def __init__(self, symbol, times):
         array = symbol.__array_interface__
         side, data = array["shape"][0], array["data"]
-        rows = [bytes(shade for shade in data[at:at + side] for _ in range(times)) * times for at in range(0, side * side, side)]
+        rows = [bytes(shade for shade in data[at:at + side] for _ in range(times)) * times
+                for at in range(0, side * side, side)]
         self.__array_interface__ = {**array, "shape": (side * times, side * times), "data": b"".join(rows)}
 
 
@@ -336,13 +350,19 @@ def by_one_file(image, numpy, array):
     spec.loader.exec_module(one)
     yield holds("the sampler by the file alone", one.has_sampler())
     rows, colours = ecc200.write(b"Mitsubadoor"), numpy.stack([array] * 3, axis=2)
-    for name, given, is_inverted in [("upright", array, False), ("inverted", 255 - array, True), ("colours", colours, False),
-                                     ("turned colours", numpy.rot90(colours), False), ("transparent", numpy.insert(colours, 3, 255, axis=2), False),
-                                     ("Pillow's", image.fromarray(array), False), ("a buffer", memoryview(array), False),
+    for name, given, is_inverted in [("upright", array, False), ("inverted", 255 - array, True),
+                                     ("colours", colours, False),
+                                     ("turned colours", numpy.rot90(colours), False),
+                                     ("transparent", numpy.insert(colours, 3, 255, axis=2), False),
+                                     ("Pillow's", image.fromarray(array), False),
+                                     ("a buffer", memoryview(array), False),
                                      ("a buffer of colours", memoryview(colours), False)]:
         got = [(symbol.answer.data, symbol.rows, symbol.inverted) for symbol in one.find(given, most=1)]
         yield same(f"found by the file alone, {name}", got, [(b"Mitsubadoor", rows, is_inverted)])
     for name, given in [("an array", array), ("Pillow's", image.fromarray(array)), ("rows", rows)]:
-        yield same(f"decoded by the file alone, {name}", [reading.data for reading in one.decode(given, most=1)], [b"Mitsubadoor"])
-    for name, given in [("shorts", array.astype(numpy.uint16)), ("floats", colours.astype(numpy.float32)), ("a line", array[0])]:
-        yield raises(f"no picture for the file alone, {name}", TypeError, "rows of bytes", lambda given=given: one.find(given))
+        yield same(f"decoded by the file alone, {name}", [reading.data for reading in one.decode(given, most=1)],
+                   [b"Mitsubadoor"])
+    for name, given in [("shorts", array.astype(numpy.uint16)), ("floats", colours.astype(numpy.float32)),
+                        ("a line", array[0])]:
+        yield raises(f"no picture for the file alone, {name}", TypeError, "rows of bytes",
+                     lambda given=given: one.find(given))

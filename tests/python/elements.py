@@ -1,4 +1,5 @@
-"""GS1 element strings: the rules one by one, the table against zint's and python-stdnum's, and what is written and read."""
+"""GS1 element strings: the rules one by one, the table against zint's and python-stdnum's, and what is written and
+read."""
 import random
 import re
 import subprocess
@@ -9,7 +10,8 @@ import ecc200
 from ecc200 import gs1
 
 WORKED = "(01)09521234543213(17)251231(10)ABC123"
-# Of the values of these zint accepts fewer: it looks into countries, currencies, company prefixes and the like, which the table leaves alone.
+# Of the values of these zint accepts fewer: it looks into countries, currencies, company prefixes and the like, which
+# the table leaves alone.
 STRICTER = ("391", "393", "394", "401", "42", "43", "253", "255", "70", "723", "80", "811")
 
 
@@ -27,14 +29,17 @@ def worked():
     yield same("their items", gs1.items(elements), [256, *b"01095212345432131725123110ABC123"])
     reading = ecc200.read(ecc200.write(gs1.message(elements), gs1=True))
     yield same("what is read", (reading.gs1, reading.items), (True, tuple(gs1.items(elements))))
-    yield same("split from bytes and items", [gs1.split(some) for some in (reading.data, reading.items, gs1.message(elements))], [elements] * 3)
+    yield same("split from bytes and items",
+               [gs1.split(some) for some in (reading.data, reading.items, gs1.message(elements))], [elements] * 3)
     yield same("as text again", gs1.text(gs1.split(reading.data)), WORKED)
     turned = gs1.parse("(10)ABC123(21)X(01)09521234543213(37)12(17)251231")
-    yield same("FNC1 behind variable lengths", gs1.items(turned), [256, *b"10ABC123", 256, *b"21X", 256, *b"0109521234543213", *b"3712", 256,
-                                                                   *b"17251231"])
-    yield same("FNC1 behind a fixed length that scanners don't know", gs1.message(gs1.parse("(402)12345678901234560(10)A")),
-               b"40212345678901234560\x1d10A")
-    yield same("a needless separator", gs1.split(b"0109521234543213\x1d10A\x1d"), [("01", "09521234543213"), ("10", "A")])
+    yield same("FNC1 behind variable lengths", gs1.items(turned),
+               [256, *b"10ABC123", 256, *b"21X", 256, *b"0109521234543213", *b"3712", 256,
+                *b"17251231"])
+    yield same("FNC1 behind a fixed length that scanners don't know",
+               gs1.message(gs1.parse("(402)12345678901234560(10)A")), b"40212345678901234560\x1d10A")
+    yield same("a needless separator", gs1.split(b"0109521234543213\x1d10A\x1d"),
+               [("01", "09521234543213"), ("10", "A")])
     yield same("brackets in a value", accepted("(10)A\\(01)B"), "(10)A\\(01)B")
     yield same("their bytes", gs1.message(gs1.parse("(10)A\\(01)B")), b"10A(01)B")
     yield same("encode", ecc200.encode(WORKED, gs1=True).rows, ecc200.write(gs1.message(elements), gs1=True))
@@ -52,25 +57,35 @@ def square():
 
 def faults():
     for text, part in [
-        ("(01)09521234543214", "(01) GTIN: its check digit is 4, and should be 3"), ("(01)0952123454321", "it takes 14 characters, and has 13"),
-        ("(01)095212345432130", "has 15"), ("(01)0952123454321A", "digits, and not 'A' in place 14"), ("(10)", "1 to 20 characters, and has 0"),
-        ("(10)" + "A" * 21, "has 21"), ("(10)a b", "not ' ' in place 2"), ("(10)caf\u00e9", "'\u00e9' in place 4"), ("(17)251301", "no month 13"),
+        ("(01)09521234543214", "(01) GTIN: its check digit is 4, and should be 3"),
+        ("(01)0952123454321", "it takes 14 characters, and has 13"),
+        ("(01)095212345432130", "has 15"), ("(01)0952123454321A", "digits, and not 'A' in place 14"),
+        ("(10)", "1 to 20 characters, and has 0"),
+        ("(10)" + "A" * 21, "has 21"), ("(10)a b", "not ' ' in place 2"), ("(10)caf\u00e9", "'\u00e9' in place 4"),
+        ("(17)251301", "no month 13"),
         ("(17)250001", "no month 00"),
-        ("(17)250431", "month 04 has no day 31"), ("(17)250229", "month 02 has no day 29"), ("(7006)250200", "has no day 00"),
+        ("(17)250431", "month 04 has no day 31"), ("(17)250229", "month 02 has no day 29"),
+        ("(7006)250200", "has no day 00"),
         ("(999)1", "(999) isn't an application identifier"),
-        ("(05)1", "(05) isn't"), ("(1)1", "(1) isn't"), ("(12345)1", "(12345) isn't"), ("", "character 1"), ("01", "character 1"),
+        ("(05)1", "(05) isn't"), ("(1)1", "(1) isn't"), ("(12345)1", "(12345) isn't"), ("", "character 1"),
+        ("01", "character 1"),
         ("(01", "character 1"),
-        ("(21)A(xx)1", "character 6"), ("(7003)2512312460", "no hour 24"), ("(7003)2512312360", "no minute 60"), ("(8008)2512312359", None),
+        ("(21)A(xx)1", "character 6"), ("(7003)2512312460", "no hour 24"), ("(7003)2512312360", "no minute 60"),
+        ("(8008)2512312359", None),
         ("(8008)251231235960", "no second 60"),
         ("(8008)25123123595", "8 to 12 characters"), ("(7007)251231", None), ("(7007)251231251232", "has no day 32"),
         ("(8013)1987654Ad4X4bL5ttr2310c2K", None),
-        ("(8013)1987654Ad4X4bL5ttr2310c2L", "should be 2K"), ("(8013)2K", "check pair is missing"), ("(17)240229", None), ("(17)250200", None),
+        ("(8013)1987654Ad4X4bL5ttr2310c2L", "should be 2K"), ("(8013)2K", "check pair is missing"),
+        ("(17)240229", None), ("(17)250200", None),
         ("(3103)001750", None), ("(310)1", "(310) isn't"),
-        ("(3106)001750", "(3106) isn't"), ("(253)9521234543213", None), ("(253)9521234543213ABC", None), ("(253)9521234543212", "should be 3"),
+        ("(3106)001750", "(3106) isn't"), ("(253)9521234543213", None), ("(253)9521234543213ABC", None),
+        ("(253)9521234543212", "should be 3"),
         ("(4330)001234-", None),
-        ("(4330)001234+", "can only be -"), ("(8010)AB#-/9", None), ("(8010)ab", "capitals, digits"), ("(8030)aZ_-=", None), ("(8030)a+", "Base 64"),
+        ("(4330)001234+", "can only be -"), ("(8010)AB#-/9", None), ("(8010)ab", "capitals, digits"),
+        ("(8030)aZ_-=", None), ("(8030)a+", "Base 64"),
         ("(7251)202502301200", "no day 30"),
-        ("(00)095212345678901235", None), ("(00)095212345678901234", "should be 5"), ("(414)9521234543213", None), ("(03)09521234543213", None),
+        ("(00)095212345678901235", None), ("(00)095212345678901234", "should be 5"), ("(414)9521234543213", None),
+        ("(03)09521234543213", None),
         ("(10)A\\", "character 6"),
     ]:
         yield same(text, accepted(text), text) if part is None else holds(text, part in accepted(text), accepted(text))
@@ -103,15 +118,17 @@ def sample(identifier, shortest, chance):
             continue
         charset = {"N": "0123456789", "X": gs1._X, "Y": gs1._Y, "Z": gs1._Z}[part.charset]
         letters = "".join(chance.choice(charset) for _ in range(length))
-        letters = {"check": lambda: letters[:-1] + gs1.check_digit(letters[:-1]), "pair": lambda: letters[:-2] + gs1.check_pair(letters[:-2]),
-                   "minus": lambda: "-",
-                   "hour": lambda: "23", "minute": lambda: "59", "second": lambda: "00"}.get(part.check, lambda: letters)()
+        letters = {"check": lambda: letters[:-1] + gs1.check_digit(letters[:-1]),
+                   "pair": lambda: letters[:-2] + gs1.check_pair(letters[:-2]), "minus": lambda: "-",
+                   "hour": lambda: "23", "minute": lambda: "59",
+                   "second": lambda: "00"}.get(part.check, lambda: letters)()
         value += letters
     return value
 
 
 def table():
-    """Each identifier: values of the least and the greatest length pass, shorter and longer ones don't, and what is written is read."""
+    """Each identifier: values of the least and the greatest length pass, shorter and longer ones don't, and what is
+    written is read."""
     chance = random.Random(1)
     for identifier, known in gs1.identifiers().items():
         for shortest in (True, False):
@@ -120,21 +137,25 @@ def table():
             yield same(f"{text!r} passes", accepted(text), text)
             other = gs1.parse(text) + gs1.parse("(21)X") + gs1.parse(text)
             yield same(f"({identifier}) with others", gs1.split(gs1.items(other)), other)
-        yield holds(f"({identifier}) longer", "characters, and has" in accepted(gs1.text([gs1.Element(identifier, value + "0")])),
+        yield holds(f"({identifier}) longer",
+                    "characters, and has" in accepted(gs1.text([gs1.Element(identifier, value + "0")])),
                     gs1.text([(identifier, value + "0")]))
         yield holds(f"({identifier}) empty", "has 0" in accepted(f"({identifier})"))
         yield same(f"({identifier}) is fixed as scanners know it", known.fixed, identifier[:2] in gs1._LENGTHS)
         if known.fixed:
-            yield same(f"the length of ({identifier})", sum(part.most for part in known.parts), gs1._LENGTHS[identifier[:2]])
-    for digits, wanted in (("629104150021", "3"), ("0952123454321", "3"), ("9521234543213"[:12], "3"), ("00000000000000000", "0")):
+            yield same(f"the length of ({identifier})", sum(part.most for part in known.parts),
+                       gs1._LENGTHS[identifier[:2]])
+    for digits, wanted in (("629104150021", "3"), ("0952123454321", "3"), ("9521234543213"[:12], "3"),
+                           ("00000000000000000", "0")):
         yield same(f"the check digit of {digits}", gs1.check_digit(digits), wanted)
 
 
 def by_zint(text):
-    """What zint says of an element string: whether it knows the identifiers, and what it complains of, if of anything."""
+    """What zint says of an element string: whether it knows the identifiers, and what it complains of, if of
+    anything."""
     data = re.sub(r"(?<!\\)\((\d+)\)", r"[\1]", text).replace("\\(", "(")
-    done = subprocess.run(["zint", "-b", "71", "--gs1", "--square", "-d", data, "--direct", "--filetype=txt"], stdout=subprocess.DEVNULL,
-                          stderr=subprocess.PIPE, timeout=60)
+    done = subprocess.run(["zint", "-b", "71", "--gs1", "--square", "-d", data, "--direct", "--filetype=txt"],
+                          stdout=subprocess.DEVNULL, stderr=subprocess.PIPE, timeout=60)
     said = done.stderr.decode(errors="replace")
     return "Invalid AI" not in said, said or (f"status {done.returncode}" if done.returncode else "")
 

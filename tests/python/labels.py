@@ -8,10 +8,10 @@ import subprocess
 import termios
 import time
 
-from tests.python.batches import made, saved, symbols
-from tests.python.common import PYTHON, SAMPLER, has, has_sampler, holds, raises, run, same, wanted_module
+from tests.python.batches import made, symbols
+from tests.python.common import SAMPLER, has, has_sampler, holds, raises, run, same, wanted_module
 from tests.python.drawings import pixels
-from tests.python.surface import WORDS, ecc, environment, says, text
+from tests.python.surface import WORDS, ecc, environment, says
 
 import ecc200
 from ecc200 import drawing, font

@@ -30,14 +30,16 @@ def plain_forms(lines):
     return {
         "rows of bytes": rows, "rows in a tuple": tuple(rows), "rows from an iterator's list": list(iter(rows)),
         "bytearrays": list(map(bytearray, rows)),
-        "rows of numbers": [list(row) for row in rows], "rows of booleans": [[bool(module) for module in row] for row in rows],
+        "rows of numbers": [list(row) for row in rows],
+        "rows of booleans": [[bool(module) for module in row] for row in rows],
         "rows of larger numbers": [[module * 1000 for module in row] for row in rows], "rows of text": lines,
         "rows of digits": [line.encode() for line in lines],
         "a text": "\n".join(lines) + "\n", "a text in bytes": "\n".join(lines).encode() + b"\n", "flat bytes": flat,
         "a flat bytearray": bytearray(flat),
         "flat digits": "".join(lines).encode(), "a flat memoryview": memoryview(flat),
         "a square memoryview": memoryview(flat).cast("B", (side, side)),
-        "rows of arrays": [array.array("H", list(row)) for row in rows], "rows of 255": [bytes(255 * module for module in row) for row in rows],
+        "rows of arrays": [array.array("H", list(row)) for row in rows],
+        "rows of 255": [bytes(255 * module for module in row) for row in rows],
     }
 
 
@@ -45,9 +47,10 @@ def numpy_forms(numpy, lines):
     grid = numpy.array([[int(module) for module in line] for line in lines], dtype=numpy.uint8)
     wide = numpy.zeros((2 * len(lines), 3 * len(lines)), dtype=numpy.uint8)
     wide[::2, ::3] = grid
-    return {"uint8": grid, "bool": grid.astype(bool), "int64": grid.astype(numpy.int64) * -7, "float": grid.astype(float) / 2,
-            "steps": wide[::2, ::3],
-            "fortran": numpy.asfortranarray(grid), "flat": grid.ravel(), "rows of": list(grid), "flat bool": grid.ravel().astype(bool)}
+    return {"uint8": grid, "bool": grid.astype(bool), "int64": grid.astype(numpy.int64) * -7,
+            "float": grid.astype(float) / 2, "steps": wide[::2, ::3],
+            "fortran": numpy.asfortranarray(grid), "flat": grid.ravel(), "rows of": list(grid),
+            "flat bool": grid.ravel().astype(bool)}
 
 
 def pictures(image, lines):
@@ -58,7 +61,8 @@ def pictures(image, lines):
     roomy.paste(dark, (2, 4))
     clear = image.new("RGBA", (side + 2, side + 2), (0, 0, 0, 0))
     clear.paste((10, 20, 30, 255), (1, 1, side + 1, side + 1), dark.point(lambda shade: 255 - shade))
-    return {"L": dark, "1": dark.convert("1"), "RGB": dark.convert("RGB"), "P": dark.convert("P"), "with a margin": roomy, "transparent": clear}
+    return {"L": dark, "1": dark.convert("1"), "RGB": dark.convert("RGB"), "P": dark.convert("P"),
+            "with a margin": roomy, "transparent": clear}
 
 
 def forms():
@@ -80,7 +84,8 @@ def forms():
         if isinstance(usual, ecc200.Reading):
             yield same(f"mark {number + 1}, usual", (usual == wanted, spelled(usual.items)), (True, program[number]))
         else:
-            yield holds(f"mark {number + 1}, refused", program[number].startswith(f"\\no {usual[0].value} "), f"{usual}, and not {program[number]}")
+            yield holds(f"mark {number + 1}, refused", program[number].startswith(f"\\no {usual[0].value} "),
+                        f"{usual}, and not {program[number]}")
 
 
 def strange_grids():
@@ -92,9 +97,11 @@ def strange_grids():
     yield same("no rows", code([]), (side, 0))
     yield same("no bytes", code(b""), (side, 0))
     yield same("no text", code(""), (side, 0))
-    for name, grid in [("a short row", [*rows[:-1], rows[-1][:-1]]), ("two wrong rows", [rows[0] + b"\1", rows[1][:-1], *rows[2:]]),
+    for name, grid in [("a short row", [*rows[:-1], rows[-1][:-1]]),
+                       ("two wrong rows", [rows[0] + b"\1", rows[1][:-1], *rows[2:]]),
                        ("99 bytes", bytes(99)),
-                       ("a short text", ["1" * 10] * 9), ("an oblong view", memoryview(bytes(200)).cast("B", (10, 20)))]:
+                       ("a short text", ["1" * 10] * 9),
+                       ("an oblong view", memoryview(bytes(200)).cast("B", (10, 20)))]:
         yield same(name, code(grid), (shape, 0))
     yield same("a side that no size has", code(bytes(121)), (side, 11))
     yield same("a side too large for the library", code([bytes(65_536)] * 65_536)[0],
@@ -116,19 +123,22 @@ def readings():
 
 def messages():
     rows = ecc200.write(b"caf\xe9")
-    for name, message in [("a bytearray", bytearray(b"caf\xe9")), ("a view", memoryview(b"caf\xe9")), ("items", [99, 97, 102, 233]),
+    for name, message in [("a bytearray", bytearray(b"caf\xe9")), ("a view", memoryview(b"caf\xe9")),
+                          ("items", [99, 97, 102, 233]),
                           ("an iterator", iter(b"caf\xe9")),
                           ("a tuple", (99, 97, 102, 233)), ("an array", array.array("B", b"caf\xe9"))]:
         yield same(f"a message as {name}", ecc200.write(message), rows)
     yield same("text with its charset", ecc200.write("caf\u00e9", charset="latin-1"), rows)
     yield same("text in UTF-8", ecc200.read(ecc200.write("caf\u00e9", charset="utf-8")).data, b"caf\xc3\xa9")
     yield raises("text without a charset", TypeError, "charset", lambda: ecc200.write("caf"))
-    yield raises("text that the charset hasn't", UnicodeEncodeError, "", lambda: ecc200.write("\u20ac", charset="latin-1"))
+    yield raises("text that the charset hasn't", UnicodeEncodeError, "",
+                 lambda: ecc200.write("\u20ac", charset="latin-1"))
     yield raises("items that are text", TypeError, "", lambda: ecc200.write(["a"]))
     yield same("no items", ecc200.write([]), ecc200.write(b""))
     yield same("FNC1 in front", ecc200.write(b"01\x1d2", gs1=True), ecc200.write([256, 48, 49, 256, 50]))
     for item in (-1, 65536, 1 << 40):
-        yield raises(f"the item {item}", ecc200.Refused, f"value {item}, place 2", lambda item=item: ecc200.write([65, 66, item]))
+        yield raises(f"the item {item}", ecc200.Refused, f"value {item}, place 2",
+                     lambda item=item: ecc200.write([65, 66, item]))
     yield raises("an item of GS1 data", ecc200.Refused, "value -5, place 1", lambda: ecc200.write([-5], gs1=True))
     for profile in (-1, 2, 65535, 65536, 1 << 33):
         yield raises(f"the profile {profile}", ecc200.Refused, f"PROFILE, value {profile},",
@@ -136,8 +146,10 @@ def messages():
         yield raises(f"normal by {profile}", ecc200.Refused, f"PROFILE, value {profile},",
                      lambda profile=profile: ecc200.normal(rows, profile=profile))
     for extent in (-1, 2, 65535, 65536):
-        yield raises(f"the extent {extent}", ecc200.Refused, f"EXTENT, value {extent},", lambda extent=extent: ecc200.read(rows, extent=extent))
-        yield raises(f"normal at {extent}", ecc200.Refused, f"EXTENT, value {extent},", lambda extent=extent: ecc200.normal(rows, extent=extent))
+        yield raises(f"the extent {extent}", ecc200.Refused, f"EXTENT, value {extent},",
+                     lambda extent=extent: ecc200.read(rows, extent=extent))
+        yield raises(f"normal at {extent}", ecc200.Refused, f"EXTENT, value {extent},",
+                     lambda extent=extent: ecc200.normal(rows, extent=extent))
     for side in (-1, 100_000, 11):
         yield raises(f"places of {side}", ecc200.Refused, f"SIDE, value {side},", lambda side=side: ecc200.places(side))
     for limit, refused in ((-5, True), (None, True), (27, False), (1 << 40, False)):
@@ -148,12 +160,15 @@ def messages():
 def refusals():
     for code in ecc200.Code:
         why = ecc200.Refused(code, 7, 9)
-        for name, other in (("pickled", pickle.loads(pickle.dumps(why))), ("copied", copy.copy(why)), ("copied deeply", copy.deepcopy(why))):
-            yield same(f"{code.name}, {name}", (type(other), other.code, other.value, other.place, str(other)), (type(why), code, 7, 9, str(why)))
-        yield holds(f"the words of {code.name}", str(why).endswith(f" ({code.name}, value 7, place 9)") and not str(why).startswith("not a code"),
-                    str(why))
+        for name, other in (("pickled", pickle.loads(pickle.dumps(why))), ("copied", copy.copy(why)),
+                            ("copied deeply", copy.deepcopy(why))):
+            yield same(f"{code.name}, {name}", (type(other), other.code, other.value, other.place, str(other)),
+                       (type(why), code, 7, 9, str(why)))
+        yield holds(f"the words of {code.name}", str(why).endswith(f" ({code.name}, value 7, place 9)")
+                    and not str(why).startswith("not a code"), str(why))
     codes = [core._library.ecc200_code_words(code) for code in range(64)]
-    yield same("no code is missing", {number for number, words in enumerate(codes) if not words.startswith(b"not a code")},
+    yield same("no code is missing",
+               {number for number, words in enumerate(codes) if not words.startswith(b"not a code")},
                {0, *map(int, ecc200.Code)})
 
 
@@ -183,7 +198,8 @@ def many():
     yield raises("a refusal that a process raises", ecc200.Refused, "SIDE, value 11", raised_in_pool)
     numpy = wanted_module("numpy", "numpy", "many grids in an array")
     if numpy:
-        block = numpy.array([[list(row) for row in ecc200.write(b"%06d" % number)] for number in range(200)], dtype=numpy.uint8)
+        block = numpy.array([[list(row) for row in ecc200.write(b"%06d" % number)] for number in range(200)],
+                            dtype=numpy.uint8)
         block[7] = 0
         wanted = [answer([bytes(row) for row in grid]) for grid in block]
         for name, some in (("bytes", block), ("booleans", block.astype(bool)), ("numbers", block.astype(numpy.int32)),
@@ -192,15 +208,19 @@ def many():
 
 
 def shown():
-    """Inspections and places are those of the marks' symbols; the answer's room is each time a fresh one to the caller."""
+    """Inspections and places are those of the marks' symbols; the answer's room is each time a fresh one to the
+    caller."""
     for size in ecc200.sizes():
         places = ecc200.places(size.side)
         bits = sorted((place.codeword, place.bit) for row in places for place in row if place.kind == ecc200.Kind.BIT)
-        yield same(f"the bits of side {size.side}", bits, [(word, bit) for word in range(size.data_codewords + size.check_codewords)
-                                                           for bit in range(1, 9)])
-        yield same(f"the kinds of side {size.side}", {type(place.kind) for row in places for place in row}, {ecc200.Kind})
+        yield same(f"the bits of side {size.side}", bits,
+                   [(word, bit) for word in range(size.data_codewords + size.check_codewords)
+                    for bit in range(1, 9)])
+        yield same(f"the kinds of side {size.side}", {type(place.kind) for row in places for place in row},
+                   {ecc200.Kind})
         rows = ecc200.write(b"A" * size.data_codewords)
-        yield same(f"the codewords of side {size.side}", ecc200.inspect(rows).held[:size.data_codewords], b"B" * size.data_codewords)
+        yield same(f"the codewords of side {size.side}", ecc200.inspect(rows).held[:size.data_codewords],
+                   b"B" * size.data_codewords)
         yield same(f"its normal grid, {size.side}", ecc200.normal(rows), rows)
     first = ecc200.write(b"123456")
     kept = list(first)
@@ -232,8 +252,10 @@ def by_threads():
         right = right and [answer(grid) for grid in grids[100:]] == wanted[100:]
     signal.setitimer(signal.ITIMER_REAL, 0)
     signal.signal(signal.SIGALRM, before)
-    yield same("calls in a signal handler", (right, len(interrupted) > 50, set(interrupted) == {wanted[0]}), (True, True, True))
-    yield same("calls let others run", core._library.ecc200_read._flags_ & 4, 0)  # ctypes' flag for functions that keep the interpreter's lock
+    yield same("calls in a signal handler", (right, len(interrupted) > 50, set(interrupted) == {wanted[0]}),
+               (True, True, True))
+    # ctypes' flag for functions that keep the interpreter's lock
+    yield same("calls let others run", core._library.ecc200_read._flags_ & 4, 0)
 
 
 def loading(folder):
@@ -247,7 +269,8 @@ def loading(folder):
             file.write(text)
         yield same(f"a processor that {name}", core._lacking(path), lacking)
         if lacking:
-            yield raises(f"the module on one that {name}", ImportError, "x86-64-v2; this one lacks " + lacking[0], lambda path=path: core._load(path))
+            yield raises(f"the module on one that {name}", ImportError, "x86-64-v2; this one lacks " + lacking[0],
+                         lambda path=path: core._load(path))
     yield same("a processor that isn't described", core._lacking(os.path.join(folder, "none")), [])
     with setting(ECC200_LIBRARY=os.path.join(folder, "none.so")):
         yield raises("no library", ImportError, "ECC200_LIBRARY", core._load)

@@ -8,8 +8,8 @@ import zipfile
 
 import ecc200
 
-from tests.python.common import (MARKS, PACKAGE, PYTHON, SAMPLER, SHARED, TOP, clean, has, holds, left_out, run, same,
-                                 wanted_module)
+from tests.python.common import (LIBRARIES, MARKS, PACKAGE, PYTHON, SAMPLER, SHARED, TOP, clean, has, holds, left_out,
+                                 run, same, wanted_module)
 from tests.support import places
 
 GS1 = "(01)09521234543213(17)251231(10)ABC123"
@@ -17,7 +17,8 @@ USED = """
 import ecc200, ecc200.core, sys
 assert ecc200.read(ecc200.write(b'123456')).data == b'123456'
 assert ecc200.gs1.parse('(01)09521234543213')
-assert not [name for name in sys.modules if name in ('subprocess', 'numpy', 'PIL', 'ctypes.util')], 'modules that need not be loaded'
+needless = ('subprocess', 'numpy', 'PIL', 'ctypes.util')
+assert not [name for name in sys.modules if name in needless], 'modules that need not be loaded'
 print(ecc200.core._library._name)
 """
 
@@ -83,8 +84,8 @@ def built(folder):
             shutil.copytree(source, target, symlinks=True, ignore=shutil.ignore_patterns("out", "__pycache__"))
         else:
             shutil.copy(source, target)
-    libraries = {"ECC200_LIBRARY": SHARED, **({"ECC200_SAMPLE_LIBRARY": SAMPLER} if os.path.isfile(SAMPLER) else {})}
-    status, output, errors = run([os.path.join(copy, "library", "python", "build")], env=clean(HOME=folder, **libraries))
+    status, output, errors = run([os.path.join(copy, "library", "python", "build")],
+                                 env=clean(HOME=folder, **LIBRARIES))
     return os.path.join(copy, "library", "python", output.strip()) if status == 0 else None, output + errors
 
 
@@ -121,7 +122,8 @@ def installed(folder, wheel):
         left_out.append("the installed wheel (python3-venv isn't installed)")
         return
     alone = ["unshare", "-n"] if os.geteuid() == 0 and has("unshare", "installing with no network at all") else []
-    status, output, errors = run([*alone, *pip, "install", "--no-index", "--no-cache-dir", wheel], env=clean(HOME=folder))
+    status, output, errors = run([*alone, *pip, "install", "--no-index", "--no-cache-dir", wheel],
+                                 env=clean(HOME=folder))
     yield holds("pip install without network", status == 0, output + errors)
     command, python = os.path.join(place, "bin", "ecc200"), os.path.join(place, "bin", "python3")
     yield from used("in a clean environment", [], command, python, place)
@@ -155,15 +157,14 @@ def used(name, before, command, python, place):
 
 
 def from_system(folder):
-    """One file, and a library where the system keeps its own: found without ECC200_LIBRARY, and without a compiler on the path."""
+    """One file, and a library where the system keeps its own: found without ECC200_LIBRARY, and without a compiler on
+    the path."""
     place = os.path.join(folder, "one")
     os.makedirs(place)
     shutil.copy(places.MODULE, os.path.join(place, "ecc200.py"))
-    own = subprocess.run([PYTHON, "-c", "import re; print(re.search(r'^ABI = (\\d+)', open('ecc200.py').read(), re.M)[1])"], cwd=place,
-                         stdout=subprocess.PIPE)
     library = os.path.join(folder, "lib")
     os.makedirs(library)
-    shutil.copy(SHARED, os.path.join(library, f"libecc200.so.{own.stdout.decode().strip()}"))
+    shutil.copy(SHARED, os.path.join(library, f"libecc200.so.{ecc200.ABI}"))
     words = [PYTHON, "-c", "import ecc200; print(ecc200.read(ecc200.write(b'A')).data)"]
     env = {"PATH": os.path.join(folder, "none"), "LD_LIBRARY_PATH": library, "PYTHONDONTWRITEBYTECODE": "1"}
     yield same("the module alone, with the system's library", run(words, env=env, cwd=place), (0, "b'A'\n", ""))
@@ -174,7 +175,8 @@ def from_system(folder):
 
 def wheel(folder):
     """The wheel, where what builds it is installed: what it has, and what it gives where it is installed."""
-    if not all([wanted_module("setuptools", "python3-setuptools", "the wheel"), wanted_module("wheel.bdist_wheel", "python3-wheel", "the wheel")]):
+    if not all([wanted_module("setuptools", "python3-setuptools", "the wheel"),
+                wanted_module("wheel.bdist_wheel", "python3-wheel", "the wheel")]):
         return
     made, said = built(folder)
     yield holds("library/python/build", made is not None, said)

@@ -7,7 +7,8 @@ import re
 import subprocess
 import tempfile
 
-from tests.python.common import MARKS, PACKAGE, PYTHON, SAMPLER, SHARED, TOP, clean, has, has_sampler, holds, marks, raises, run, same, wanted_module
+from tests.python.common import (LIBRARIES, MARKS, PACKAGE, PYTHON, SAMPLER, TOP, clean, has, has_sampler, holds, marks,
+                                 raises, run, same, wanted_module)
 
 import ecc200
 from ecc200 import advice, explaining
@@ -17,8 +18,7 @@ WORDS = [PYTHON, "-m", "ecc200"]
 
 
 def environment():
-    sampler = {"ECC200_SAMPLE_LIBRARY": SAMPLER} if os.path.isfile(SAMPLER) else {}
-    return clean(PYTHONPATH=PACKAGE, ECC200_LIBRARY=SHARED, **sampler)
+    return clean(PYTHONPATH=PACKAGE, **LIBRARIES)
 
 
 def ecc(*words, given=b"", folder=None):
@@ -32,19 +32,22 @@ def text(rows):
 def says(name, got, status=0, output=None, errors=None):
     """That a run has this status, this output, and errors that have each of these parts."""
     wrong = got[0] != status or (output is not None
-                                 and got[1] != output) or any(part not in got[2] for part in errors or []) or (errors is None and got[2])
+                                 and got[1] != output) or any(part not in got[2] for part in errors
+                                                              or []) or (errors is None and got[2])
     return name, f"{got!r}" if wrong else None
 
 
 def usage():
     status, output, _ = ecc("--help")
-    yield holds("--help", status == 0 and all(command in output for command in ("read", "write", "check", "normal", "compare", "explain")), output)
+    commands = ("read", "write", "check", "normal", "compare", "explain")
+    yield holds("--help", status == 0 and all(command in output for command in commands), output)
     with open(os.path.join(TOP, "packaging", "version"), encoding="ascii") as file:
         yield says("--version", ecc("--version"), output=f"ecc200 {file.read().strip()}\n")
     for command in ("read", "write", "check", "normal", "compare", "explain"):
         status, output, _ = ecc(command, "--help")
         yield holds(f"{command} --help", status == 0 and "Status: 0" in output, output)
-    for words in ((), ("quite",), ("read", "--border", "x"), ("read", "--border", "70000"), ("write", "--gs1", "--hex", "A"), ("compare", "a"),
+    for words in ((), ("quite",), ("read", "--border", "x"), ("read", "--border", "70000"),
+                  ("write", "--gs1", "--hex", "A"), ("compare", "a"),
                   ("write", "--quiet-zone", "-1", "A")):
         status, _, errors = ecc(*words)
         yield holds(f"the words {words}", status == 2 and "usage: ecc200" in errors, f"{status}, {errors}")
@@ -58,32 +61,40 @@ def reading():
     yield says("--hex", ecc("read", "--hex", given=other), output="4120625c\n")
     yield says("Latin-1", ecc("read", given=text(ecc200.write(b"caf\xe9"))), output="caf\u00e9\n")
     yield says("UTF-8", ecc("read", given=text(ecc200.write("\u20ac".encode()))), output="\u20ac\n")
-    narrow = run([*WORDS, "read"], text(ecc200.write("\u20ac".encode())).encode(), env={**environment(), "PYTHONIOENCODING": "ascii"})
+    narrow = run([*WORDS, "read"], text(ecc200.write("\u20ac".encode())).encode(),
+                 env={**environment(), "PYTHONIOENCODING": "ascii"})
     yield says("an output that hasn't the character", narrow, output="\\u20ac\n")
-    yield says("a stated charset", ecc("read", "--charset", "cp437", given=text(ecc200.write(b"\x82"))), output="\u00e9\n")
+    yield says("a stated charset", ecc("read", "--charset", "cp437", given=text(ecc200.write(b"\x82"))),
+               output="\u00e9\n")
     yield says("no such charset", ecc("read", "--charset", "x", given=good), status=2, errors=["no charset 'x'"])
     yield says("control characters", ecc("read", given=text(ecc200.write(b"A\n\x1b"))), output="A\\x0A\\x1B\n")
-    yield says("--escapes", ecc("read", "--escapes", given=text(ecc200.write([256, 65, 256, 233]))), output="\\FA\\F\\xE9\n")
+    yield says("--escapes", ecc("read", "--escapes", given=text(ecc200.write([256, 65, 256, 233]))),
+               output="\\FA\\F\\xE9\n")
     element = text(ecc200.write(b"0109521234543213", gs1=True))
     yield says("GS1", ecc("read", given=element), output="(01)09521234543213\n")
-    yield says("faulty GS1", ecc("read", given=text(ecc200.write(b"0109521234543214", gs1=True))), output="\\F0109521234543214\n",
-               errors=["check digit is 4"])
+    yield says("faulty GS1", ecc("read", given=text(ecc200.write(b"0109521234543214", gs1=True))),
+               output="\\F0109521234543214\n", errors=["check digit is 4"])
     unknown = text(ecc200.write(b"4327A", gs1=True))
     yield says("unknown GS1", ecc("read", given=unknown), output="\\F4327A\n", errors=["(4327) isn't"])
     yield says("unknown GS1 passes", ecc("read", "--unknown", given=unknown), output="(4327)A\n")
     status, output, _ = ecc("read", "--json", given=element + text([bytes(10)] * 10))
     first, second = map(json.loads, output.splitlines())
-    yield same("--json", (status, first["elements"][0]["title"], first["side"], first["corrected"], first["symbol"]), (1, "GTIN", 16, [0], 1))
-    yield same("--json of a refusal", (second["symbol"], second["code"], second["value"], "text" in second), (2, "BORDER", 27, False))
-    yield says("check", ecc("check", given=good), output="side 10, 0 border modules wrong, codewords corrected in each block: 0 (at most 2)\n")
+    yield same("--json", (status, first["elements"][0]["title"], first["side"], first["corrected"], first["symbol"]),
+               (1, "GTIN", 16, [0], 1))
+    yield same("--json of a refusal", (second["symbol"], second["code"], second["value"], "text" in second),
+               (2, "BORDER", 27, False))
+    yield says("check", ecc("check", given=good),
+               output="side 10, 0 border modules wrong, codewords corrected in each block: 0 (at most 2)\n")
     yield same("check --json", json.loads(ecc("check", "--json", given=good)[1])["corrected"], [0])
     yield says("normal", ecc("normal", given=good + other), output=good + other)
     binary = text(ecc200.write(b"\x80" * 3))
-    yield says("normal --shorter", ecc("normal", "--shorter", given=binary), output=text(ecc200.write(b"\x80" * 3, profile=1)))
+    yield says("normal --shorter", ecc("normal", "--shorter", given=binary),
+               output=text(ecc200.write(b"\x80" * 3, profile=1)))
     with open(os.path.join(MARKS, "grids.txt")) as file:
         status, output, _ = ecc("read", "--escapes", "--basic", given=file.read())
     with open(os.path.join(MARKS, "read.txt")) as file:
-        yield same("marks of others, --basic", output.splitlines(), [line for line in file.read().splitlines() if not line.startswith("\\no")])
+        yield same("marks of others, --basic", output.splitlines(),
+                   [line for line in file.read().splitlines() if not line.startswith("\\no")])
     yield says("a file that isn't there", ecc("read", "none.txt"), status=2, errors=["none.txt: No such file"])
 
 
@@ -114,11 +125,13 @@ def in_words():
     yield says("EDIFACT, --basic", ecc("read", "--basic", given=grid), 1, "", ["EDIFACT", "leave out --basic"])
     good = text(ecc200.write(b"123456"))
     for name, given, parts in [
-        ("CR", good.replace("\n", "\r\n"), ["CR and LF", "tr -d"]), ("other characters", "10x0\n", ["the character 'x'"]),
+        ("CR", good.replace("\n", "\r\n"), ["CR and LF", "tr -d"]),
+        ("other characters", "10x0\n", ["the character 'x'"]),
         ("a ragged grid", "10\n1\n", ["from 1 to 2 characters"]),
         ("no square", "10\n10\n10\n", ["isn't square"]), ("no side", "1" * 11 + "\n" + ("1" * 11 + "\n") * 10,
                                                           ["no symbol has the side 11", "10, 12, 14"]),
-        ("a large side", ("1" * 132 + "\n") * 132, [f"and {ecc200.sizes()[-1].side}; the standard's larger sides, up to 144"]),
+        ("a large side", ("1" * 132 + "\n") * 132,
+         [f"and {ecc200.sizes()[-1].side}; the standard's larger sides, up to 144"]),
         ("a wrong border", text([*ecc200.write(b"123456")[:-1], bytes(10)]),
          ["10 of the 36", "--border 10 accepts them"]),
         ("damage", text(hurt(5)), ["block 1 of its 1", "2 wrong codewords", "scan it again"]),
@@ -132,11 +145,15 @@ def in_words():
                     and "codeword 3" in advice.in_words(ecc200.Refused(8, word, 3), []))
     for code in (7, 9, 10, 11, 12, 13):
         yield holds(f"code {code} in words",
-                    "codeword 4: a codeword that no encoder writes" in advice.in_words(ecc200.Refused(code, 0, 4), [bytes(10)] * 10))
-    yield says("too long", ecc("write", "7" * (2 * ecc200.sizes()[-1].data_codewords + 1)), 1, "", ["longer than any symbol"])
+                    "codeword 4: a codeword that no encoder writes"
+                    in advice.in_words(ecc200.Refused(code, 0, 4), [bytes(10)] * 10))
+    yield says("too long", ecc("write", "7" * (2 * ecc200.sizes()[-1].data_codewords + 1)), 1, "",
+               ["longer than any symbol"])
     yield says("damage within the limit", ecc("read", given=text(hurt(2))), output="123456\n")
-    yield says("--border", ecc("read", "--border", "9", given=text([*ecc200.write(b"123456")[:-1], bytes(10)])), 1, "", ["10 of the 36"])
-    yield says("--border is enough", ecc("read", "--border", "10", given=text([*ecc200.write(b"123456")[:-1], bytes(10)])), output="123456\n")
+    yield says("--border", ecc("read", "--border", "9", given=text([*ecc200.write(b"123456")[:-1], bytes(10)])), 1, "",
+               ["10 of the 36"])
+    yield says("--border is enough", ecc("read", "--border", "10",
+                                         given=text([*ecc200.write(b"123456")[:-1], bytes(10)])), output="123456\n")
 
 
 def turned(rows):
@@ -154,40 +171,53 @@ def otherwise():
             ("right", turned(over), "is turned to the right by a quarter"),
             ("mirrored", [row[::-1] for row in rows], "is mirrored"),
             ("inverted", [bytes(1 - module for module in row) for row in rows], "is light on dark"),
-            ("twice as large", [bytes(module for module in row for _ in "ab") for row in rows for _ in "ab"], "has 2 by 2 characters"),
+            ("twice as large", [bytes(module for module in row for _ in "ab") for row in rows for _ in "ab"],
+             "has 2 by 2 characters"),
             ("wide", [bytes(module for module in row for _ in "abc") for row in rows], "has 3 by 1 characters"),
-            ("a margin", [bytes(side + 3), *(b"\0" + row + b"\0\0" for row in rows), bytes(side + 3)], "has a light margin"),
-            ("large, with a margin, mirrored", [bytes(2 * side + 2)] + [b"\0" + bytes(module for module in row[::-1] for _ in "ab") + b"\0"
-                                                                        for row in rows for _ in "ab"],
+            ("a margin", [bytes(side + 3), *(b"\0" + row + b"\0\0" for row in rows), bytes(side + 3)],
+             "has a light margin"),
+            ("large, with a margin, mirrored",
+             [bytes(2 * side + 2)] + [b"\0" + bytes(module for module in row[::-1] for _ in "ab") + b"\0"
+                                      for row in rows for _ in "ab"],
              "has 2 by 2 characters or pixels for each module and has a light margin and is mirrored"),
         ]:
             yield says(f"{name}, {side}", ecc("read", given=text(grid)), 1, "", [part, "--upright"])
-            yield says(f"{name}, {side}, --upright", ecc("read", "--upright", given=text(grid)), output=message.decode() + "\n")
+            yield says(f"{name}, {side}, --upright", ecc("read", "--upright", given=text(grid)),
+                       output=message.decode() + "\n")
     yield says("nothing helps", ecc("read", "--upright", given=text([bytes(10)] * 10)), 1, "", ["27 of the 36"])
 
 
 def writing(folder):
     good = ecc200.write(b"123456")
     yield says("write", ecc("write", "123456"), output=text(good))
-    yield says("write lines", ecc("write", given="123456\n\nA\n"), output=text(good) + text(ecc200.write(b"")) + text(ecc200.write(b"A")))
-    yield says("write GS1", ecc("write", "--gs1", "(01)09521234543213(10)A(21)B"), output=text(ecc200.write(b"010952123454321310A\x1d21B", gs1=True)))
-    yield says("write faulty GS1", ecc("write", "--gs1", "(01)09521234543214"), 1, "", ["message 1: (01) GTIN: its check digit"])
-    yield says("write unknown GS1", ecc("write", "--gs1", "--unknown", "(4327)A"), output=text(ecc200.write(b"4327A", gs1=True)))
+    yield says("write lines", ecc("write", given="123456\n\nA\n"),
+               output=text(good) + text(ecc200.write(b"")) + text(ecc200.write(b"A")))
+    yield says("write GS1", ecc("write", "--gs1", "(01)09521234543213(10)A(21)B"),
+               output=text(ecc200.write(b"010952123454321310A\x1d21B", gs1=True)))
+    yield says("write faulty GS1", ecc("write", "--gs1", "(01)09521234543214"), 1, "",
+               ["message 1: (01) GTIN: its check digit"])
+    yield says("write unknown GS1", ecc("write", "--gs1", "--unknown", "(4327)A"),
+               output=text(ecc200.write(b"4327A", gs1=True)))
     yield says("write --hex", ecc("write", "--hex", "00ff"), output=text(ecc200.write(b"\0\xff")))
     yield says("write wrong --hex", ecc("write", "--hex", "0f0"), 1, "", ["hexadecimal"])
-    yield says("write --escapes", ecc("write", "--escapes", "\\FA\\x80\\\\"), output=text(ecc200.write([256, 65, 128, 92])))
+    yield says("write --escapes", ecc("write", "--escapes", "\\FA\\x80\\\\"),
+               output=text(ecc200.write([256, 65, 128, 92])))
     yield says("write wrong --escapes", ecc("write", "--escapes", "\\q"), 1, "", ["'q'"])
-    yield says("write --shorter", ecc("write", "--shorter", "--hex", "80" * 3), output=text(ecc200.write(b"\x80" * 3, profile=1)))
+    yield says("write --shorter", ecc("write", "--shorter", "--hex", "80" * 3),
+               output=text(ecc200.write(b"\x80" * 3, profile=1)))
     yield says("write Latin-1", ecc("write", "--charset", "iso-8859-1", "caf\u00e9"),
                output=text(ecc200.write(b"caf\xe9")))
     yield says("write UTF-8", ecc("write", "caf\u00e9"), output=text(ecc200.write("caf\u00e9".encode())))
     yield says("write bytes", ecc("write", "--bytes", "-", given=b"\xff\n"), output=text(ecc200.write(b"\xff\n")))
     yield says("bytes and a message", ecc("write", "--bytes", os.devnull, "A"), 2, "",
                ["--bytes", "'A' would be another"])
-    yield says("one is refused", ecc("write", "--hex", "41", "x", "42"), 1, text(ecc200.write(b"A")) + text(ecc200.write(b"B")), ["message 2"])
-    for name, words, part in [("no size", ("--module", "x"), "--module x"), ("half a dot", ("--module", "1.5"), "whole number"),
+    yield says("one is refused", ecc("write", "--hex", "41", "x", "42"), 1,
+               text(ecc200.write(b"A")) + text(ecc200.write(b"B")), ["message 2"])
+    for name, words, part in [("no size", ("--module", "x"), "--module x"),
+                              ("half a dot", ("--module", "1.5"), "whole number"),
                               ("no kind", ("-o", "a.gif"), ".png, .svg"),
-                              ("no sheet", ("--sheet", "A4"), "--sheet A4"), ("a small sheet", ("--sheet", "30x20"), "doesn't fit"),
+                              ("no sheet", ("--sheet", "A4"), "--sheet A4"),
+                              ("a small sheet", ("--sheet", "30x20"), "doesn't fit"),
                               ("no resolution", ("--dpi", "0"), "--dpi")]:
         yield says(name, ecc("write", "A", "-o", "a.png", *words, folder=folder), 2, "", [part])
 
@@ -205,11 +235,13 @@ def files(folder):
             yield says(f"read label.png {' '.join(words)}", ecc("read", path), output="123456\n")
     for scale in (1, 2, 7):
         path = os.path.join(folder, f"small{scale}.png")
-        yield says(f"{scale} dots a module", ecc("write", "Mitsubadoor", "-o", path, "--module", str(scale), "--quiet-zone", str(scale % 3)),
+        yield says(f"{scale} dots a module", ecc("write", "Mitsubadoor", "-o", path, "--module", str(scale),
+                                                 "--quiet-zone", str(scale % 3)),
                    output="")
         if pillow:
             yield says(f"{scale} dots a module are read", ecc("read", path), output="Mitsubadoor\n")
-            without = run([*WORDS, "read", path], env={**environment(), "ECC200_SAMPLE_LIBRARY": os.path.join(folder, "none.so")})
+            without = run([*WORDS, "read", path],
+                          env={**environment(), "ECC200_SAMPLE_LIBRARY": os.path.join(folder, "none.so")})
             yield says(f"{scale} dots a module are read without the sampler", without, output="Mitsubadoor\n")
     if pillow:
         path = os.path.join(folder, "blank.png")
@@ -219,7 +251,8 @@ def files(folder):
                     else "nothing in the picture is dark"])
         picture = pillow.Image.open(os.path.join(folder, "small7.png")).convert("L")
         picture.resize((picture.width * 3 // 2, picture.height * 3 // 2)).save(path)
-        without = run([*WORDS, "read", path], env={**environment(), "ECC200_SAMPLE_LIBRARY": os.path.join(folder, "none.so")})
+        without = run([*WORDS, "read", path],
+                      env={**environment(), "ECC200_SAMPLE_LIBRARY": os.path.join(folder, "none.so")})
         yield holds("pixels that aren't whole modules, without the sampler",
                     without[0] == 1 and "ecc200_sample isn't installed" in without[2], str(without))
     for kind, start in (("svg", b"<svg "), ("pdf", b"%PDF-"), ("txt", b"1010")):
@@ -234,28 +267,36 @@ def files(folder):
         yield says("numbered files are read", ecc("read", *names),
                    output="".join(map("{}:{}".format, names, lines.splitlines(True))))
     yield says("a sheet", ecc("write", "--sheet", "-o", os.path.join(folder, "sheet.pdf"), given=lines), output="")
-    yield says("a sheet of labels", ecc("write", "--sheet", "100x50", "-o", os.path.join(folder, "sheet.png"), given=lines), output="")
-    yield same("its name", sorted(name for name in os.listdir(folder) if name.startswith("sheet")), ["sheet.pdf", "sheet.png"])
+    yield says("a sheet of labels", ecc("write", "--sheet", "100x50", "-o", os.path.join(folder, "sheet.png"),
+                                        given=lines), output="")
+    yield same("its name", sorted(name for name in os.listdir(folder) if name.startswith("sheet")),
+               ["sheet.pdf", "sheet.png"])
     if pillow and os.path.isfile(SAMPLER):
         status, output, _ = ecc("read", "--all", "--time", "20000", os.path.join(folder, "sheet.png"))
         yield same("a sheet is read", (status, sorted(output.splitlines())), (0, sorted(lines.splitlines())))
     if pillow and has("zint", "a mark of zint from a PNG"):
         path = os.path.join(folder, "zint.png")
         run(["zint", "-b", "71", "--square", "--gs1", "-d", "[01]09521234543213[17]251231[10]ABC123", "-o", path])
-        yield says("a GS1 mark of zint from a PNG", ecc("read", path), output="(01)09521234543213(17)251231(10)ABC123\n")
+        yield says("a GS1 mark of zint from a PNG", ecc("read", path),
+                   output="(01)09521234543213(17)251231(10)ABC123\n")
         yield says("normal of it, drawn", ecc("normal", path, "-o", os.path.join(folder, "again.png")), output="")
         yield says("the two say the same", ecc("compare", path, os.path.join(folder, "again.png")), errors=None)
     if pillow and has("zint", "what zint writes and isn't read"):
-        for words, basic, part in [(["--eci=3", "-d", "A"], [], "an ECI"), (["--structapp=1,2", "-d", "A"], [], "structured append"),
-                                   (["--init", "-d", "A"], [], "reader programming"), (["-d", "[)>\x1e05\x1dA\x1e\x04"], ["--basic"], "a macro 05"),
-                                   (["-d", "[)>\x1e06\x1dA\x1e\x04"], ["--basic"], "a macro 06"), (["-d", "A.B-C/D*E"], ["--basic"], "EDIFACT")]:
+        for words, basic, part in [(["--eci=3", "-d", "A"], [], "an ECI"),
+                                   (["--structapp=1,2", "-d", "A"], [], "structured append"),
+                                   (["--init", "-d", "A"], [], "reader programming"),
+                                   (["-d", "[)>\x1e05\x1dA\x1e\x04"], ["--basic"], "a macro 05"),
+                                   (["-d", "[)>\x1e06\x1dA\x1e\x04"], ["--basic"], "a macro 06"),
+                                   (["-d", "A.B-C/D*E"], ["--basic"], "EDIFACT")]:
             path = os.path.join(folder, "other.png")
             run(["zint", "-b", "71", "--square", "-o", path, *words])
             yield says(f"zint's {part}", ecc("read", *basic, path), 1, "", [part])
     with open(os.path.join(folder, "broken.png"), "wb") as file:
         file.write(b"\x89PNG\r\n\x1a\nrubbish")
-    yield says("a broken picture", ecc("read", os.path.join(folder, "broken.png")), 2, "", ["broken.png", "can't be opened" if pillow else "Pillow"])
-    yield says("a folder that isn't there", ecc("write", "A", "-o", os.path.join(folder, "none", "a.png")), 2, "", ["No such file"])
+    yield says("a broken picture", ecc("read", os.path.join(folder, "broken.png")), 2, "",
+               ["broken.png", "can't be opened" if pillow else "Pillow"])
+    yield says("a folder that isn't there", ecc("write", "A", "-o", os.path.join(folder, "none", "a.png")), 2, "",
+               ["No such file"])
 
 
 def named_alike(folder):
@@ -310,15 +351,18 @@ def comparing(folder):
     shorter = saved("shorter", text(ecc200.write(b"\x80" * 3, profile=1)))
     other = saved("other", text(ecc200.write(b"\x80" * 4)))
     lost = saved("lost", text([bytes(10)] * 10))
-    gs, fnc1 = saved("gs", text(ecc200.write([256, 65, 0x1D, 66]))), saved("fnc1", text(ecc200.write([256, 65, 256, 66])))
+    gs, fnc1 = saved("gs", text(ecc200.write([256, 65, 0x1D,
+                                              66]))), saved("fnc1", text(ecc200.write([256, 65, 256, 66])))
     plain = saved("plain", text(ecc200.write(b"A")))
     marked = saved("marked", text(ecc200.write(b"A", gs1=True)))
     for name, pair, status, end in [("the same", (ascii_, shorter), 0, "the same\n"),
                                     ("different", (ascii_, other), 1, "different: they differ from item 4 on\n"),
-                                    ("separators", (gs, fnc1), 1, "has the byte 0x1D\n"), ("marked", (plain, marked), 1, "and the other isn't\n")]:
+                                    ("separators", (gs, fnc1), 1, "has the byte 0x1D\n"),
+                                    ("marked", (plain, marked), 1, "and the other isn't\n")]:
         got = ecc("compare", *pair)
         yield holds(name, got[0] == status and got[1].endswith(end) and not got[2], str(got))
-    for name, pair, part in [("one isn't read", (ascii_, lost), "27 of the 36"), ("one isn't there", (ascii_, lost + "x"), "No such file"),
+    for name, pair, part in [("one isn't read", (ascii_, lost), "27 of the 36"),
+                             ("one isn't there", (ascii_, lost + "x"), "No such file"),
                              ("two in one", (ascii_, saved("two", text(ecc200.write(b"A")) * 2)), "there are 2"),
                              ("none in one", (saved("empty", ""), ascii_), "there are no grids")]:
         got = ecc("compare", *pair)
@@ -334,19 +378,21 @@ def explained():
         told = explaining.explain(rows)
         size = next(size for size in ecc200.sizes() if size.side == len(rows))
         yield same(f"codewords {number}", bytes(word.value for word in told.codewords), ecc200.inspect(rows).mended)
-        yield holds(f"meanings {number}", told.refused is not None or (told.items is not None
-                                                                       and all(word.meaning for word in told.codewords[:size.data_codewords])))
+        has_meanings = all(word.meaning for word in told.codewords[:size.data_codewords])
+        yield holds(f"meanings {number}", told.refused is not None or told.items is not None and has_meanings)
     status, output, _ = ecc("explain", given=text(ecc200.write(b"12A\xe9")))
-    for part in ("1    142  ASCII       the digits 12", "2     66  ASCII       the character A", "Upper Shift", "the byte 233",
-                 "a check codeword of block 1", "It says 12A\u00e9"):
+    for part in ("1    142  ASCII       the digits 12", "2     66  ASCII       the character A", "Upper Shift",
+                 "the byte 233", "a check codeword of block 1", "It says 12A\u00e9"):
         yield holds(f"explain: {part}", status == 0 and part in output, output)
     status, output, _ = ecc("explain", given=text(hurt(1)))
     yield holds("explain a correction", "corrected; the symbol has" in output and "It says 123456" in output, output)
     status, output, errors = ecc("explain", given=text(hurt(5)))
-    yield holds("explain beyond correction", status == 1 and "beyond correction" in output and "block 1 of its 1" in errors, output + errors)
+    yield holds("explain beyond correction", status == 1 and "beyond correction" in output
+                and "block 1 of its 1" in errors, output + errors)
     words = json.loads(ecc("explain", "--json", given=text(ecc200.write(b"12")))[1])["codewords"]
-    yield same("explain --json", (words[0], len(words)), ({"place": 1, "value": 142, "held": 142, "encodation": "ASCII", "meaning": "the digits 12"},
-                                                          8))
+    yield same("explain --json", (words[0], len(words)),
+               ({"place": 1, "value": 142, "held": 142, "encodation": "ASCII", "meaning": "the digits 12"},
+                8))
     status, output, _ = ecc("explain", "--basic", given=edifact())
     yield holds("explain --basic", status == 1 and "what can't be read begins here" in output, output)
 
@@ -355,8 +401,10 @@ def spellings():
     everything = [*range(256), 256]
     yield same("spelled and back", of_spelling(spelled(everything), "latin-1"), everything)
     for wrong in ("\\", "\\q", "\\x1", "\\xg0"):
-        yield raises(f"the spelling {wrong}", Misspelled, "backslash", lambda wrong=wrong: of_spelling(wrong, "latin-1"))
-    yield same("shown", [shown(b"A\\"), shown(b"\xe9"), shown("\u00e9".encode()), shown(b"\xe9", "cp1252"), shown([256, 233])],
+        yield raises(f"the spelling {wrong}", Misspelled, "backslash",
+                     lambda wrong=wrong: of_spelling(wrong, "latin-1"))
+    yield same("shown", [shown(b"A\\"), shown(b"\xe9"), shown("\u00e9".encode()), shown(b"\xe9", "cp1252"),
+                         shown([256, 233])],
                ["A\\\\", "\u00e9", "\u00e9", "\u00e9", "\\F\\xE9"])
 
 
@@ -364,7 +412,8 @@ def at_a_terminal():
     """Long work tells on a terminal how far it is, and only there."""
     given = text(ecc200.write(b"123456")).encode() * 60_000
     leader, follower = pty.openpty()
-    process = subprocess.Popen([*WORDS, "check"], stdin=subprocess.PIPE, stdout=subprocess.PIPE, stderr=follower, env=environment())
+    process = subprocess.Popen([*WORDS, "check"], stdin=subprocess.PIPE, stdout=subprocess.PIPE, stderr=follower,
+                               env=environment())
     output, _ = process.communicate(given, timeout=300)
     os.close(follower)
     said = b""
@@ -373,9 +422,11 @@ def at_a_terminal():
             said += os.read(leader, 65536)
     except OSError:  # the end, as Linux tells it
         os.close(leader)
-    yield holds("progress", re.search(rb"[\d,]+ symbols read, [\d,]+ a second", said) is not None and process.returncode == 0, repr(said[-200:]))
+    yield holds("progress", re.search(rb"[\d,]+ symbols read, [\d,]+ a second", said) is not None
+                and process.returncode == 0, repr(said[-200:]))
     yield same("its answers", output.count(b"\n"), 60_000)
-    first = subprocess.Popen([*WORDS, "read"], stdin=subprocess.PIPE, stdout=subprocess.PIPE, stderr=subprocess.PIPE, env=environment())
+    first = subprocess.Popen([*WORDS, "read"], stdin=subprocess.PIPE, stdout=subprocess.PIPE, stderr=subprocess.PIPE,
+                             env=environment())
     first.stdin.write(text(ecc200.write(b"123456")).encode())
     first.stdin.flush()
     yield same("an answer comes at once", first.stdout.readline(), b"123456\n")
@@ -391,8 +442,10 @@ def completion():
     if not wanted_module("argcomplete", "python3-argcomplete", "completion by the shell"):
         return
     line = "ecc200 co"
-    told = {**environment(), "_ARGCOMPLETE": "1", "COMP_LINE": line, "COMP_POINT": str(len(line)), "_ARGCOMPLETE_IFS": "\n"}
+    told = {**environment(), "_ARGCOMPLETE": "1", "COMP_LINE": line, "COMP_POINT": str(len(line)),
+            "_ARGCOMPLETE_IFS": "\n"}
     with tempfile.NamedTemporaryFile() as file:
         told["_ARGCOMPLETE_STDOUT_FILENAME"] = file.name
-        done = subprocess.run([PYTHON, os.path.join(PACKAGE, "bin", "ecc200")], env=told, stdout=subprocess.PIPE, stderr=subprocess.PIPE, timeout=60)
+        done = subprocess.run([PYTHON, os.path.join(PACKAGE, "bin", "ecc200")], env=told, stdout=subprocess.PIPE,
+                              stderr=subprocess.PIPE, timeout=60)
         yield same("completion", (done.returncode, file.read().decode().split()), (0, ["compare"]))

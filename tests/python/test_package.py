@@ -4,6 +4,7 @@ None."""
 import importlib
 import inspect
 import os
+from unittest import mock
 
 from tests.support import needs, package
 from tests.support.case import Case
@@ -30,6 +31,7 @@ class Package:
         package.imported()
         cls.common = importlib.import_module("tests.python.common")
         cls.module = importlib.import_module(f"tests.python.{cls.source}")
+        cls.enterClassContext(mock.patch.dict(os.environ, cls.common.LIBRARIES))
         cls.room = cls.folder_of_class()
         os.chmod(cls.room, 0o755)
 

@@ -7,7 +7,8 @@ import com.google.zxing.datamatrix.encoder.SymbolShapeHint;
 import java.util.EnumMap;
 import java.util.Map;
 
-/** Prints the grid that ZXing makes of a text. It is called with the text, and with `square` where no rectangle is wanted. */
+/** Prints the grid that ZXing makes of a text. It is called with the text, and with `square` where no rectangle is
+ * wanted. */
 public final class ZxingWrites {
     private ZxingWrites() {}
 

@@ -1,4 +1,5 @@
-/* Calls the sampler's library with wrong arguments and right ones, on a picture from standard input; for tests/sampler. */
+/* Calls the sampler's library with wrong arguments and right ones, on a picture from standard input;
+ * for tests/sampler. */
 #include <ecc200_sample.h>
 #include <stdio.h>
 #include <string.h>
@@ -6,7 +7,8 @@ static ecc200_sample symbols[2];
 int main(int count, char **words) {
     static uint8_t pixels[400 * 400];
     size_t width, height, found = 9;
-    if (count < 2 || words[1][0] != 'x' || scanf("P5\n# made for a test\n%zu %zu\n255", &width, &height) != 2 || getchar() != '\n')
+    if (count < 2 || words[1][0] != 'x' || scanf("P5\n# made for a test\n%zu %zu\n255", &width, &height) != 2 ||
+        getchar() != '\n')
         return 9;
     for (size_t y = 0; y < height; y++)
         if (fread(pixels + y * 400, 1, width, stdin) != width)

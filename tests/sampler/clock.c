@@ -1,4 +1,5 @@
-/* Gives a program that asks for the clock its processor's time, so that a busy machine doesn't matter; for tests/sampler, by LD_PRELOAD. */
+/* Gives a program that asks for the clock its processor's time, so that a busy machine doesn't matter; for
+ * tests/sampler, by LD_PRELOAD. */
 #define _GNU_SOURCE
 #include <sys/syscall.h>
 #include <time.h>

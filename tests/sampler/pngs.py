@@ -81,7 +81,8 @@ def forms():
                 for is_clear in (False, True)[:1 if kind in (GREY_AND_OPACITY, COLOUR_AND_OPACITY) else 2]:
                     gamma = list(GAMMAS)[(depth + is_interlaced + is_clear + kind) % 4] if depth < 16 else None
                     for one in GAMMAS if gamma is None else (gamma,):
-                        yield f"{kind}-{depth}-{'ni'[is_interlaced]}-{'oc'[is_clear]}-{one}", (kind, depth, is_interlaced, one, is_clear)
+                        name = f"{kind}-{depth}-{'ni'[is_interlaced]}-{'oc'[is_clear]}-{one}"
+                        yield name, (kind, depth, is_interlaced, one, is_clear)
 
 
 def by_pillow(path):

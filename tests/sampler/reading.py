@@ -70,7 +70,8 @@ def hard_shadow(sampler):
 
 
 def glare(sampler):
-    """A symbol on a dim ground with a bright spot on it, in which dark modules are lighter than light ones elsewhere."""
+    """A symbol on a dim ground with a bright spot on it, in which dark modules are lighter than light ones
+    elsewhere."""
     for count in (18, 44):
         grid = grid_of(message_of(count))
         rows = pixels_of(grid, 5, 4, 30, 130)

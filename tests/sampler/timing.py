@@ -38,7 +38,8 @@ def label_of(grids, chance):
 
 
 def a_label(folder, sampler):
-    """Twelve symbols beside frames and text are read within half of the usual second, dark on light or light on dark."""
+    """Twelve symbols beside frames and text are read within half of the usual second, dark on light or light on
+    dark."""
     chance = random.Random(7)
     grids = [grid_of("".join(chance.choice("ABCDEFGHIJ") for _ in range(10))) for _ in range(12)]
     label = label_of(grids, chance)

@@ -7,8 +7,9 @@
     >>> ecc200.decode(symbol)[0].text
     'caf\\u00e9'
 
-`encode` and `decode` are for most; below them `read`, `write`, `normal`, `inspect` and `places` (ecc200.core) work on grids of modules, one call
-of the library each. `ecc200.gs1` has GS1 element strings, `ecc200.pictures` finds symbols in pictures, and `ecc200.drawing` draws them.
+`encode` and `decode` are for most; below them `read`, `write`, `normal`, `inspect` and `places` (ecc200.core) work on
+grids of modules, one call of the library each. `ecc200.gs1` has GS1 element strings, `ecc200.pictures` finds symbols in
+pictures, and `ecc200.drawing` draws them.
 """
 from . import core, drawing, gs1, pictures
 from .codec import Symbol, encode

@@ -9,18 +9,22 @@ from .core import Code, Extent, Reading, Refused, Rows
 __all__ = ["Righted", "in_words", "reduced", "righted", "why_not_written"]
 
 _BEGINS = {
-    233: "a part of a message that several symbols hold (structured append), which isn't read here; print each part as a message of its own",
+    233: "a part of a message that several symbols hold (structured append), which isn't read here; print each part as "
+         "a message of its own",
     234: "an instruction to the reader that scanned it (reader programming), and no message",
     236: "a macro 05, which isn't read with --basic: leave out --basic",
     237: "a macro 06, which isn't read with --basic: leave out --basic",
     240: "EDIFACT, which isn't read with --basic: leave out --basic, or let the encoder use another encodation",
-    241: "an ECI, which says how the bytes behind it are to be understood, and isn't read here; let the encoder write without one",
+    241: "an ECI, which says how the bytes behind it are to be understood, and isn't read here; let the encoder write "
+         "without one",
 }
-_DAMAGE = "a codeword that no encoder writes there, so the symbol comes from a faulty encoder or was damaged into the codewords of another message"
+_DAMAGE = ("a codeword that no encoder writes there, so the symbol comes from a faulty encoder or was damaged into the "
+           "codewords of another message")
 
 
 def _border(why: Refused, rows: Rows, extent: Extent) -> str:
-    count = sum(place.kind in (core.Kind.BORDER_DARK, core.Kind.BORDER_LIGHT) for row in core.places(len(rows)) for place in row)
+    count = sum(place.kind in (core.Kind.BORDER_DARK, core.Kind.BORDER_LIGHT) for row in core.places(len(rows))
+                for place in row)
     accept = f"; --border {why.value} accepts them" if _reading(rows, why.value, extent) is not None else ""
     return (f"{why.value} of the {count} modules of its border have the wrong colour{accept}. The left "
             "column and the bottom row must be dark, the top row and the right column alternate")
@@ -30,18 +34,20 @@ def in_words(why: Refused, rows: Rows, extent: Extent = Extent.WIDE) -> str:
     """Why a grid isn't read at this extent, and what to do."""
     side, code, place = len(rows), why.code, why.place
     if code == Code.SHAPE:
-        return f"it has {side} rows of {len(rows[0])} modules, and isn't square: rectangles aren't read, and a square must be cut out exactly"
+        return (f"it has {side} rows of {len(rows[0])} modules, and isn't square: rectangles aren't read, and a square "
+                "must be cut out exactly")
     if code == Code.SIDE:
         *others, largest = [size.side for size in core.sizes()]
         larger = "; the standard's larger sides, up to 144, aren't read here" if side > largest else ""
         sides = f"{', '.join(map(str, others))} and {largest}{larger}"
-        return f"no symbol has the side {side}; there are {sides}. Is it cut out exactly, with one character or pixel for each module?"
+        return (f"no symbol has the side {side}; there are {sides}. Is it cut out exactly, with one character or pixel "
+                "for each module?")
     if code == Code.BORDER:
         return _border(why, rows, extent)
     if code == Code.BLOCK:
         size = next(size for size in core.sizes() if size.side == side)
-        return (f"block {place + 1} of its {size.blocks} has more than {size.limit} wrong codewords, the most that can be corrected: scan "
-                "it again, or print it anew")
+        return (f"block {place + 1} of its {size.blocks} has more than {size.limit} wrong codewords, the most that can "
+                "be corrected: scan it again, or print it anew")
     if code == Code.LEFT_OUT:
         return f"codeword {place} begins {_BEGINS.get(why.value, 'something that is not read')}"
     return f"{core._library.ecc200_code_words(int(code)).decode()}, codeword {place}: {_DAMAGE}"
@@ -51,8 +57,8 @@ def why_not_written(why: Refused) -> str:
     """Why a message isn't written, and what to do."""
     if why.code == Code.TOO_LONG:
         most = core.sizes()[-1].data_codewords
-        return (f"the message is longer than any symbol holds: {2 * most} digits, {most} other characters of ASCII, or with --shorter {most - 3} bytes "
-                "of any kind")
+        return (f"the message is longer than any symbol holds: {2 * most} digits, {most} other characters of ASCII, or "
+                f"with --shorter {most - 3} bytes of any kind")
     return str(why)
 
 
@@ -124,7 +130,8 @@ def _stands(rows: Rows, read: Callable[[Rows], Optional[Reading]]) -> Optional[R
 
 
 def righted(rows: Rows, border_limit: Optional[int] = None, extent: Extent = Extent.WIDE) -> Optional[Righted]:
-    """How a grid that isn't read as it stands is read: without its margin, with one character a module, inverted, turned or mirrored."""
+    """How a grid that isn't read as it stands is read: without its margin, with one character a module, inverted,
+    turned or mirrored."""
     if not rows or len({len(row) for row in rows}) != 1:
         return None
     inverse = [bytes(1 - module for module in row) for row in rows]

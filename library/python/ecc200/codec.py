@@ -10,8 +10,9 @@ __all__ = ["Symbol", "encode"]
 
 
 class Symbol:
-    """A symbol: its rows, and how it is drawn. `module` is the side of a module in millimetres, `quiet` the width of the quiet zone in
-    modules. As an array it is a picture with one pixel a module, 0 dark and 255 light, with its quiet zone."""
+    """A symbol: its rows, and how it is drawn. `module` is the side of a module in millimetres, `quiet` the width of
+    the quiet zone in modules. As an array it is a picture with one pixel a module, 0 dark and 255 light, with its quiet
+    zone."""
 
     def __init__(self, rows: Rows, module: float = 0.5, quiet: int = 2) -> None:
         drawing.check(module, quiet)
@@ -70,10 +71,10 @@ class Symbol:
         return self.svg().decode()
 
 
-def encode(message: Message, gs1: bool = False, profile: Profile = Profile.ASCII, charset: Optional[str] = None, unknown: bool = False,
-           module: float = 0.5, quiet: int = 2) -> Symbol:
-    """The normal grid of a message. With `gs1` a text is an element string with its identifiers in brackets, which is checked (with `unknown`
-    those that aren't in the table pass); other text needs the name of its charset."""
+def encode(message: Message, gs1: bool = False, profile: Profile = Profile.ASCII, charset: Optional[str] = None,
+           unknown: bool = False, module: float = 0.5, quiet: int = 2) -> Symbol:
+    """The normal grid of a message. With `gs1` a text is an element string with its identifiers in brackets, which is
+    checked (with `unknown` those that aren't in the table pass); other text needs the name of its charset."""
     if gs1 and isinstance(message, str):
         message = element_strings.message(element_strings.parse(message, unknown))
     return Symbol(core.write(message, gs1, profile, charset), module, quiet)

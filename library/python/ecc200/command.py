@@ -1,5 +1,6 @@
 # PYTHON_ARGCOMPLETE_OK
-"""The command ecc200: reads, writes, checks, normalises, compares and explains Data Matrix symbols. `ecc200 --help` says how."""
+"""The command ecc200: reads, writes, checks, normalises, compares and explains Data Matrix symbols. `ecc200 --help`
+says how."""
 import argparse
 import codecs
 import io
@@ -18,11 +19,11 @@ from .writing import write
 
 __all__ = ["main"]
 
-_STATUSES = """Status: 0 if all went well; 1 if a symbol or a message was refused (compare: if the two differ); 2 or more if something can't be done
-as it was asked for, as where a file can't be read (compare: also if one of the two isn't read). What can't be read
-or written is named on standard error, and doesn't keep the rest from being read or written. FILE may be - for
-standard input, as when none is given. A grid is lines of 0 and 1, one for each row of modules, with empty lines
-between grids. Pictures are told from grids by their first bytes."""
+_STATUSES = """Status: 0 if all went well; 1 if a symbol or a message was refused (compare: if the two differ); 2 or
+more if something can't be done as it was asked for, as where a file can't be read (compare: also if one of the two
+isn't read). What can't be read or written is named on standard error, and doesn't keep the rest from being read or
+written. FILE may be - for standard input, as when none is given. A grid is lines of 0 and 1, one for each row of
+modules, with empty lines between grids. Pictures are told from grids by their first bytes."""
 _ALL = 1000  # symbols of a picture
 _PICTURES = "Symbols in pictures may stand anywhere, turned, mirrored or light on dark. "
 _NO_SAMPLER = "Only upright symbols with a whole number of pixels a module are read: "
@@ -53,10 +54,13 @@ def _takes(parser: argparse.ArgumentParser) -> None:
 def _reads(parser: argparse.ArgumentParser, most: int = 1) -> None:
     """What is read, and how; and at most how many symbols of a picture, if nothing else is asked for."""
     parser.add_argument("--basic", dest="extent", action="store_const", const=Extent.USUAL, default=Extent.WIDE,
-                        help="read ASCII, C40, Text, X12 and Base 256 only, and refuse EDIFACT, macros and shifts that wait")
-    parser.add_argument("--border", type=_number(0, 65535), metavar="N", help="accept N border modules of the wrong colour (a quarter of the side)")
+                        help="read ASCII, C40, Text, X12 and Base 256 only, and refuse EDIFACT, macros and shifts that "
+                        "wait")
+    parser.add_argument("--border", type=_number(0, 65535), metavar="N",
+                        help="accept N border modules of the wrong colour (a quarter of the side)")
     parser.add_argument("--upright", action="store_true",
-                        help="read grids that are turned, mirrored, light on dark, have a margin or several characters a module")
+                        help="read grids that are turned, mirrored, light on dark, have a margin or several characters "
+                        "a module")
     fault = core.sampler_fault()
     looks = parser.add_argument_group("pictures", _PICTURES if fault is None else f"{_NO_SAMPLER}{fault}.")
     many = looks.add_mutually_exclusive_group()
@@ -92,7 +96,8 @@ def _draws(parser: argparse.ArgumentParser) -> None:
                        help="the side of a module: as 0.5mm, or as 8, in dots of the resolution (0.5mm); in a .png it "
                        "is a whole number of dots")
     draws.add_argument("--dpi", type=float, default=300, metavar="N", help="the resolution, in dots an inch (300)")
-    draws.add_argument("--quiet-zone", type=_number(0, 100), default=2, metavar="N", help="its width in modules; the standard wants at least 1 (2)")
+    draws.add_argument("--quiet-zone", type=_number(0, 100), default=2, metavar="N",
+                       help="its width in modules; the standard wants at least 1 (2)")
     draws.add_argument("--caption", action="store_true",
                        help="what the symbol says as text below it, GS1 data with its identifiers in brackets")
     draws.add_argument("--sheet", nargs="?", const="210x297", metavar="WIDTHxHEIGHT",
@@ -102,8 +107,10 @@ def _draws(parser: argparse.ArgumentParser) -> None:
 def _shows(parser: argparse.ArgumentParser) -> None:
     form = parser.add_mutually_exclusive_group()
     _json(form)
-    form.add_argument("--hex", action="store_true", help="the message's bytes in hexadecimal, FNC1 in front left out, others as 1d")
-    form.add_argument("--escapes", action="store_true", help="the message as dm_tool spells it, with \\F, \\xHH and \\\\")
+    form.add_argument("--hex", action="store_true",
+                      help="the message's bytes in hexadecimal, FNC1 in front left out, others as 1d")
+    form.add_argument("--escapes", action="store_true",
+                      help="the message as dm_tool spells it, with \\F, \\xHH and \\\\")
     parser.add_argument("--charset", metavar="NAME",
                         help="the charset of the bytes (utf-8, as write has it; where they aren't that, iso-8859-1)")
     parser.add_argument("--unknown", action="store_true", help="let identifiers of GS1 pass that aren't in the table")
@@ -120,7 +127,8 @@ class _Commands:
     def __init__(self, whole: argparse.ArgumentParser) -> None:
         self.all = whole.add_subparsers(dest="command", metavar="COMMAND", required=True)
 
-    def add(self, name: str, run: Callable[[argparse.Namespace], int], brief: str, description: str) -> argparse.ArgumentParser:
+    def add(self, name: str, run: Callable[[argparse.Namespace], int], brief: str,
+            description: str) -> argparse.ArgumentParser:
         made = self.all.add_parser(name, help=brief, description=description, epilog=_STATUSES)
         made.set_defaults(run=run)
         return made
@@ -137,7 +145,8 @@ def _add_writing(commands: _Commands) -> None:
                       help="messages are element strings, as (01)09521234543213(17)251231(10)ABC or "
                       "[01]09521234543213[17]251231[10]ABC, which are checked")
     form.add_argument("--hex", action="store_true", help="messages are bytes in hexadecimal")
-    form.add_argument("--escapes", action="store_true", help="messages are spelled with \\F, \\xHH and \\\\, as dm_tool has it")
+    form.add_argument("--escapes", action="store_true",
+                      help="messages are spelled with \\F, \\xHH and \\\\, as dm_tool has it")
     form.add_argument("--bytes", metavar="FILE", help="the bytes of a file are the message")
     one.add_argument("--charset", default="utf-8", metavar="NAME",
                      help="the charset in which text becomes bytes (utf-8, as read takes it; scanners that take bytes "
@@ -157,22 +166,26 @@ def _add_reading(commands: _Commands) -> None:
     _shows(one)
     _reads(one)
     one = commands.add("check", check, "how much of symbols is wrong",
-                       "Prints for each symbol its side, how much of its border is wrong, and how many codewords were corrected.")
+                       "Prints for each symbol its side, how much of its border is wrong, and how many codewords were "
+                       "corrected.")
     _takes(one)
     _json(one)
     _reads(one)
-    one = commands.add("normal", normal, "normal grids of what symbols say", "Writes the normal grid of what each symbol says.")
+    one = commands.add("normal", normal, "normal grids of what symbols say",
+                       "Writes the normal grid of what each symbol says.")
     _takes(one)
     _profile(one)
     _reads(one)
     _draws(one)
     one = commands.add("compare", compare, "whether two symbols say the same",
-                       "Compares what two symbols say, item by item. Status 0: the same; 1: different; 2 or more: a fault.")
+                       "Compares what two symbols say, item by item. Status 0: the same; 1: different; 2 or more: a "
+                       "fault.")
     one.add_argument("files", nargs=2, metavar="FILE")
     one.set_defaults(recursive=False)
     _reads(one, 64)
     one = commands.add("explain", explain, "what each codeword means",
-                       "Prints each codeword of a symbol: its place, its value, the encodation in which it stands, and what it means.")
+                       "Prints each codeword of a symbol: its place, its value, the encodation in which it stands, and "
+                       "what it means.")
     _takes(one)
     _json(one)
     _reads(one)
@@ -182,7 +195,8 @@ def parser() -> argparse.ArgumentParser:
     """The command line."""
     first, *_, last = core.sizes()
     squares = f"the squares of sides {first.side} to {last.side}"
-    whole = argparse.ArgumentParser(prog="ecc200", epilog=_STATUSES, description=f"Reads, writes and compares Data Matrix ECC 200 symbols, {squares}.")
+    whole = argparse.ArgumentParser(prog="ecc200", epilog=_STATUSES,
+                                    description=f"Reads, writes and compares Data Matrix ECC 200 symbols, {squares}.")
     whole.add_argument("--version", action="version", version=f"ecc200 {core.version()}")
     commands = _Commands(whole)
     _add_reading(commands)

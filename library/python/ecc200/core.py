@@ -1,27 +1,29 @@
-"""Data Matrix ECC 200 (ISO/IEC 16022), the square symbols: read, write, normalise and inspect, by the shared library ecc200; found in
-pictures by the library ecc200_sample, where that is installed.
+"""Data Matrix ECC 200 (ISO/IEC 16022), the square symbols: read, write, normalise and inspect, by the shared library
+ecc200; found in pictures by the library ecc200_sample, where that is installed.
 
     >>> rows = write(b"123456")
     >>> read(rows).data
     b'123456'
 
-A grid is the rows of a symbol from the top, each with its modules from the left, without a quiet zone: true or 1 is dark, false or 0
-is light. A row is bytes, a list of numbers, or text of the characters 0 and 1. Taken as well are all modules in one
-bytes, a text with a row on each line, a square array, what has `rows`, such as an encoded symbol, and a Pillow picture
-with one pixel a module, whose light margin is left out. Functions return rows as bytes, whose items are 1 and 0. A
-symbol stands upright: the solid column is on the left, the solid row at the bottom.
+A grid is the rows of a symbol from the top, each with its modules from the left, without a quiet zone: true or 1 is
+dark, false or 0 is light. A row is bytes, a list of numbers, or text of the characters 0 and 1. Taken as well are all
+modules in one bytes, a text with a row on each line, a square array, what has `rows`, such as an encoded symbol, and a
+Pillow picture with one pixel a module, whose light margin is left out. Functions return rows as bytes, whose items are
+1 and 0. A symbol stands upright: the solid column is on the left, the solid row at the bottom.
 
-A message is its bytes, and whether FNC1 stands in front, which marks GS1 messages; further FNC1s are the byte 0x1D, GS. To tell FNC1 from
-GS, use the items: 0 to 255, and FNC1. Text is a message only with the name of its charset.
+A message is its bytes, and whether FNC1 stands in front, which marks GS1 messages; further FNC1s are the byte 0x1D, GS.
+To tell FNC1 from GS, use the items: 0 to 255, and FNC1. Text is a message only with the name of its charset.
 
-What can't be read or written raises Refused. All functions may be called from any number of threads, and let others run meanwhile.
+What can't be read or written raises Refused. All functions may be called from any number of threads, and let others run
+meanwhile.
 
 A picture, for `decode` and `find`, is Pillow's, or anything with a buffer or the array interface (numpy, OpenCV):
 luminances, a byte each with 0 black, or booleans, true being light, or colours, for which Pillow is needed. Or it is
 the file of a picture, given by its path, open, or as its bytes: Pillow opens it, and every page of it is looked at.
 
-The shared library is looked for at the path in the environment variable ECC200_LIBRARY; if that isn't set, beside this file, then where
-the system keeps its libraries. The sampler's, ECC200_SAMPLE_LIBRARY, is looked for in the same way when it is first needed.
+The shared library is looked for at the path in the environment variable ECC200_LIBRARY; if that isn't set, beside this
+file, then where the system keeps its libraries. The sampler's, ECC200_SAMPLE_LIBRARY, is looked for in the same way
+when it is first needed.
 """
 import array
 import ctypes
@@ -83,8 +85,8 @@ class Profile(enum.IntEnum):
 
 
 class Extent(enum.IntEnum):
-    """What is read: ASCII, C40, Text, X12 and Base 256; or these, EDIFACT, a macro 05 or 06 in front, and an Upper Shift that waits at the end
-    of a run. What USUAL reads WIDE reads as the same."""
+    """What is read: ASCII, C40, Text, X12 and Base 256; or these, EDIFACT, a macro 05 or 06 in front, and an Upper
+    Shift that waits at the end of a run. What USUAL reads WIDE reads as the same."""
     # ecc200.h: extents
     USUAL = 0
     WIDE = 1
@@ -117,7 +119,8 @@ class Refused(ValueError):
 
     def __init__(self, code: int, value: int = 0, place: int = 0) -> None:
         self.code, self.value, self.place = Code(code), value, place
-        super().__init__(f"{_library.ecc200_code_words(code).decode()} ({self.code.name}, value {value}, place {place})")
+        words = _library.ecc200_code_words(code).decode()
+        super().__init__(f"{words} ({self.code.name}, value {value}, place {place})")
 
     def __reduce__(self) -> Tuple[Type["Refused"], Tuple[Code, int, int]]:
         return type(self), (self.code, self.value, self.place)
@@ -146,7 +149,8 @@ class Inspection(NamedTuple):
     """The codewords of a symbol: of B blocks, block b has the codewords b, b + B, b + 2 B, .."""
     held: bytes                           # as they stand in the symbol, data codewords and then check codewords
     mended: bytes                         # with each block corrected; a block beyond correction is left as it is
-    corrected: Tuple[Optional[int], ...]  # for each block, in how many codewords the two differ, or None beyond correction
+    # for each block, in how many codewords the two differ, or None beyond correction
+    corrected: Tuple[Optional[int], ...]
     border_faults: int                    # how many border modules have the wrong colour
 
 
@@ -169,8 +173,9 @@ class Place(NamedTuple):
 
 
 class Size(NamedTuple):
-    """A row of the table of sizes: modules on a side of the symbol, of a region, and of the mapping matrix, which is all regions together;
-    codewords; the blocks into which they are dealt; and how many wrong codewords can be corrected in each block."""
+    """A row of the table of sizes: modules on a side of the symbol, of a region, and of the mapping matrix, which is
+    all regions together; codewords; the blocks into which they are dealt; and how many wrong codewords can be corrected
+    in each block."""
     # ecc200.h: size
     side: int
     regions: int
@@ -229,7 +234,8 @@ _INSTRUCTIONS = {"cx16", "lahf_lm", "popcnt", "sse4_1", "sse4_2", "ssse3"}
 
 
 def _lacking(path: str) -> List[str]:
-    """The instructions that the library needs and a processor hasn't, by a file like /proc/cpuinfo; none if that doesn't say."""
+    """The instructions that the library needs and a processor hasn't, by a file like /proc/cpuinfo; none if that
+    doesn't say."""
     try:
         with open(path) as file:
             flags = next((line.split(":")[1] for line in file if line.startswith("flags")), None)
@@ -270,12 +276,15 @@ def _opened(name: str, needed: int, missing: Type[ImportError]) -> ctypes.CDLL:
 
 def _load(processor: str = "/proc/cpuinfo") -> ctypes.CDLL:
     if _lacking(processor):
-        raise ImportError(f"libecc200.so needs the processor's instructions of x86-64-v2; this one lacks {', '.join(_lacking(processor))}")
+        raise ImportError("libecc200.so needs the processor's instructions of x86-64-v2; this one lacks "
+                          f"{', '.join(_lacking(processor))}")
     library = _opened("ecc200", ABI, ImportError)
     modules, count, out, words = ctypes.c_char_p, ctypes.c_size_t, ctypes.c_void_p, ctypes.c_char_p
     for name, result, given in (
-        ("version", words, []), ("code_words", words, [_u16]), ("abi", _u16, []), ("usual_limit", _u16, [_u16]), ("sizes", None, [out]),
-        ("read", _u16, [modules, count, _u16, _u16, _u16, out]), ("normal", _u16, [modules, count, _u16, _u16, _u16, _u16, out]),
+        ("version", words, []), ("code_words", words, [_u16]), ("abi", _u16, []), ("usual_limit", _u16, [_u16]),
+        ("sizes", None, [out]),
+        ("read", _u16, [modules, count, _u16, _u16, _u16, out]),
+        ("normal", _u16, [modules, count, _u16, _u16, _u16, _u16, out]),
         ("write", _u16, [out, count, _u16, out]), ("write_bytes", _u16, [modules, count, _u16, out]),
         ("inspect", _u16, [modules, count, _u16, out]), ("places", _u16, [_u16, out]),
     ):
@@ -289,8 +298,8 @@ _ASCII, _WIDE = Profile.ASCII, Extent.WIDE
 _call_read, _call_write_bytes = _library.ecc200_read, _library.ecc200_write_bytes
 
 
-# Room for answers: a view of its bytes, and their address. Making it takes as long as a call, so it is kept. `pop` and `append` are atomic: each
-# room serves one call at a time, whatever threads and signal handlers do.
+# Room for answers: a view of its bytes, and their address. Making it takes as long as a call, so it is kept. `pop` and
+# `append` are atomic: each room serves one call at a time, whatever threads and signal handlers do.
 _Room = Tuple[memoryview, int]
 _readings: List[_Room] = []
 _symbols: List[_Room] = []
@@ -427,10 +436,11 @@ def usual_limit(side: int) -> int:
 
 
 def read(grid: Grid, border_limit: Optional[int] = None, extent: Extent = Extent.WIDE) -> Reading:
-    """What a symbol says. `border_limit`: how many border modules may have the wrong colour, by default the usual limit.
+    """What a symbol says. `border_limit`: how many border modules may have the wrong colour, by default the usual
+    limit.
 
-    A symbol with more damage than can be corrected is refused, unless it has come near the codewords of another message, and is then
-    read as that message: if that is worse than a refusal, look at `corrected`."""
+    A symbol with more damage than can be corrected is refused, unless it has come near the codewords of another
+    message, and is then read as that message: if that is worse than a refusal, look at `corrected`."""
     modules, side = _modules(grid)
     extent = extent if extent is _WIDE else _number(Code.EXTENT, extent)
     answer, address = room = _room(_readings, _ReadingOut)
@@ -441,7 +451,8 @@ def read(grid: Grid, border_limit: Optional[int] = None, extent: Extent = Extent
         _readings.append(room)
 
 
-def read_many(grids: Iterable[Grid], border_limit: Optional[int] = None, extent: Extent = Extent.WIDE) -> List[Union[Reading, Refused]]:
+def read_many(grids: Iterable[Grid], border_limit: Optional[int] = None,
+              extent: Extent = Extent.WIDE) -> List[Union[Reading, Refused]]:
     """For each grid, in order, what it says or its refusal. An array of three dimensions is taken grid by grid."""
     answers: List[Union[Reading, Refused]] = []
     for grid in grids:
@@ -462,11 +473,12 @@ def _items(message: Iterable[int], gs1: bool) -> "array.array[int]":
 
 
 def write(message: Message, gs1: bool = False, profile: Profile = Profile.ASCII, charset: Optional[str] = None) -> Rows:
-    """The normal grid of a message, given as bytes, as items, which are 0 to 255 or FNC1, or as text with the charset that makes it bytes.
-    With `gs1`, FNC1 stands in front and in place of each 0x1D."""
+    """The normal grid of a message, given as bytes, as items, which are 0 to 255 or FNC1, or as text with the charset
+    that makes it bytes. With `gs1`, FNC1 stands in front and in place of each 0x1D."""
     if isinstance(message, str):
         if charset is None:
-            raise TypeError("a message is bytes or items; for text name its charset, as in write(text, charset='iso-8859-1')")
+            raise TypeError("a message is bytes or items; for text name its charset, as in write(text, "
+                            "charset='iso-8859-1')")
         message = message.encode(charset)
     profile = profile if profile is _ASCII else _number(Code.PROFILE, profile)
     answer, address = room = _room(_symbols, _SymbolOut)
@@ -481,9 +493,10 @@ def write(message: Message, gs1: bool = False, profile: Profile = Profile.ASCII,
         _symbols.append(room)
 
 
-def normal(grid: Grid, border_limit: Optional[int] = None, profile: Profile = Profile.ASCII, extent: Extent = Extent.WIDE) -> Rows:
-    """The normal grid of what a symbol says. Symbols that have normal grids under one profile say the same exactly if these are
-    equal."""
+def normal(grid: Grid, border_limit: Optional[int] = None, profile: Profile = Profile.ASCII,
+           extent: Extent = Extent.WIDE) -> Rows:
+    """The normal grid of what a symbol says. Symbols that have normal grids under one profile say the same exactly if
+    these are equal."""
     modules, side = _modules(grid)
     wanted, form = _number(Code.EXTENT, extent), _number(Code.PROFILE, profile)
     answer, address = room = _room(_symbols, _SymbolOut)
@@ -502,7 +515,8 @@ def inspect(grid: Grid) -> Inspection:
     if code:
         raise Refused(code, out.fault.value, out.fault.place)
     corrected = tuple(None if count == _BEYOND else count for count in out.corrected[:out.block_count])
-    return Inspection(bytes(out.held)[:out.codeword_count], bytes(out.mended)[:out.codeword_count], corrected, out.border_faults)
+    return Inspection(bytes(out.held)[:out.codeword_count], bytes(out.mended)[:out.codeword_count], corrected,
+                      out.border_faults)
 
 
 def places(side: int) -> List[List[Place]]:
@@ -511,7 +525,8 @@ def places(side: int) -> List[List[Place]]:
     code = _library.ecc200_places(_number(Code.SIDE, side), ctypes.byref(out))
     if code:
         raise Refused(code, out.fault.value, out.fault.place)
-    each = [Place(kinds[kind], word, bit) for word, bit, kind in struct.iter_unpack("=HBB", bytes(out)[8:8 + 4 * side * side])]
+    each = [Place(kinds[kind], word, bit)
+            for word, bit, kind in struct.iter_unpack("=HBB", bytes(out)[8:8 + 4 * side * side])]
     return [each[at:at + side] for at in range(0, side * side, side)]
 
 
@@ -548,7 +563,8 @@ class _Options(ctypes.Structure):
 
 
 class _Sample(ctypes.Structure):
-    _fields_ = [("corners", ctypes.c_double * 8), ("side", _u16), ("inverted", _u8), ("mirrored", _u8), ("modules", _u8 * _MOST_MODULES),
+    _fields_ = [("corners", ctypes.c_double * 8), ("side", _u16), ("inverted", _u8), ("mirrored", _u8),
+                ("modules", _u8 * _MOST_MODULES),
                 ("reading", _ReadingOut)]
 
 
@@ -589,7 +605,8 @@ def _of_pillow(picture: Any) -> Any:
 
 
 def _elements(picture: Any) -> memoryview:
-    """What an array has: its buffer; or, where it has none, what its array interface names, which needs numpy unless that is whole bytes."""
+    """What an array has: its buffer; or, where it has none, what its array interface names, which needs numpy unless
+    that is whole bytes."""
     try:
         return memoryview(picture)
     except TypeError:
@@ -612,7 +629,8 @@ def luminance(picture: Any) -> Tuple[bytes, int, int]:
             pixels = view.tobytes()
             return pixels.replace(b"\1", b"\xff") if view.format == "?" else pixels, shape[1], shape[0]
         if len(shape) != 3 or view.format != "B" or shape[2] not in _COLOURS:
-            raise TypeError(f"a picture is an array of rows of bytes, or of rows of colours, unlike one of {shape} of {view.format}")
+            raise TypeError("a picture is an array of rows of bytes, or of rows of colours, unlike one of "
+                            f"{shape} of {view.format}")
         from PIL import Image
         picture = Image.frombytes(_COLOURS[shape[2]], (shape[1], shape[0]), view.tobytes())
     grey = _of_pillow(picture)

@@ -152,7 +152,8 @@ def _number(value: float) -> str:
 def svg(page: Page) -> bytes:
     """A page as SVG, in millimetres. Each symbol is one path, so that no seams show between modules."""
     width, height = _number(page.width), _number(page.height)
-    parts = [f'<svg xmlns="http://www.w3.org/2000/svg" width="{width}mm" height="{height}mm" viewBox="0 0 {width} {height}">\n',
+    parts = [f'<svg xmlns="http://www.w3.org/2000/svg" width="{width}mm" height="{height}mm" '
+             f'viewBox="0 0 {width} {height}">\n',
              f'<rect width="{width}" height="{height}" fill="#fff"/>\n']
     for rows, left, top in page.cells:
         path = "".join(f"M{x} {y}h{run}v1h-{run}z" for y, row in enumerate(rows) for x, run in _runs(row))
@@ -204,13 +205,14 @@ def pdf(pages: Sequence[Page]) -> bytes:
         places.append(len(out))
         out += b"%d 0 obj\n%s\nendobj\n" % (number, body)
     table = len(out)
-    out += b"xref\n0 %d\n0000000000 65535 f \n" % (len(objects) + 1) + b"".join(b"%010d 00000 n \n" % place for place in places)
+    out += b"xref\n0 %d\n0000000000 65535 f \n" % (len(objects) + 1)
+    out += b"".join(b"%010d 00000 n \n" % place for place in places)
     return bytes(out + b"trailer\n<< /Size %d /Root 1 0 R >>\nstartxref\n%d\n%%%%EOF\n" % (len(objects) + 1, table))
 
 
 def png(page: Page, dpi: float) -> bytes:
-    """A page as PNG with one bit a pixel at this resolution, in dots an inch, which the file states. A module is a whole number of dots, and at
-    least one."""
+    """A page as PNG with one bit a pixel at this resolution, in dots an inch, which the file states. A module is a
+    whole number of dots, and at least one."""
     many = dots(page.module, dpi)
     scale = many / page.module
     width, height = round(page.width * scale), round(page.height * scale)
@@ -226,7 +228,8 @@ def png(page: Page, dpi: float) -> bytes:
     packed = b"".join(b"\0" + _packed(line) for line in lines)
     metre = round(dpi / _INCH * 1000)
     return (b"\x89PNG\r\n\x1a\n" + _chunk(b"IHDR", struct.pack(">IIBBBBB", width, height, 1, 0, 0, 0, 0))
-            + _chunk(b"pHYs", struct.pack(">IIB", metre, metre, 1)) + _chunk(b"IDAT", zlib.compress(packed, 9)) + _chunk(b"IEND", b""))
+            + _chunk(b"pHYs", struct.pack(">IIB", metre, metre,
+                                          1)) + _chunk(b"IDAT", zlib.compress(packed, 9)) + _chunk(b"IEND", b""))
 
 
 def _set(lines: Sequence[bytearray], text: str, left: int, top: int, many: int) -> None:

@@ -1,4 +1,5 @@
-"""What each codeword of a symbol stands for. What the symbol says is read by the library; the meanings told here are compared with that."""
+"""What each codeword of a symbol stands for. What the symbol says is read by the library; the meanings told here are
+compared with that."""
 from typing import Iterator, List, NamedTuple, Optional, Sequence, Tuple
 
 from . import core
@@ -14,8 +15,8 @@ _MACROS = {236: b"05", 237: b"06"}
 
 
 class Codeword(NamedTuple):
-    """A codeword: its place, which counts from 1; its value, corrected if it can be; its value in the symbol; the encodation in which it stands; and
-    what it means."""
+    """A codeword: its place, which counts from 1; its value, corrected if it can be; its value in the symbol; the
+    encodation in which it stands; and what it means."""
     place: int
     value: int
     held: int
@@ -52,7 +53,9 @@ class _Told:
 
 
 def _character(item: int) -> str:
-    return "a space" if item == 32 else f"the character {spelled((item,))}" if 33 <= item <= 126 else "FNC1" if item == FNC1 else f"the byte {item}"
+    if 33 <= item <= 126:
+        return f"the character {spelled((item,))}"
+    return {32: "a space", FNC1: "FNC1"}.get(item, f"the byte {item}")
 
 
 def _listed(items: Sequence[int]) -> str:
@@ -168,7 +171,8 @@ def _tell_groups(told: _Told) -> None:
         if end is not None:
             words = (words + ", " if words else "") + "and an unlatch, back to ASCII"
         count = 3 if end is None else min(end + 1, 3)
-        told.say("EDIFACT", f"the values {', '.join(map(str, four[:None if end is None else end + 1]))}: {words}", items)
+        told.say("EDIFACT", f"the values {', '.join(map(str, four[:None if end is None else end + 1]))}: {words}",
+                 items)
         for _ in range(count - 1):
             told.say("EDIFACT", "more of these values")
         if end is not None:
@@ -181,8 +185,8 @@ def _tell(data: bytes) -> _Told:
     told = _Told(data)
     macro = _MACROS.get(data[0])
     if macro:
-        told.say("ASCII", f"macro {macro.decode()}: [)>, RS, {macro.decode()} and GS in front of the message, RS and EOT behind it",
-                 b"[)>\x1e" + macro + b"\x1d")
+        told.say("ASCII", f"macro {macro.decode()}: [)>, RS, {macro.decode()} and GS in front of the message, RS and "
+                 "EOT behind it", b"[)>\x1e" + macro + b"\x1d")
     while told.left and data[told.at] != _PAD:
         _tell_ascii(told)
     told.items += b"\x1e\x04" if macro else b""
@@ -207,7 +211,8 @@ def _meanings(data: bytes, items: Optional[Tuple[int, ...]], refused: Optional[R
 
 
 def explain(grid: Grid, border_limit: Optional[int] = None, extent: Extent = Extent.WIDE) -> Explanation:
-    """The codewords of a grid with what each means: the data codewords, and then the check codewords. Beyond correction none has a meaning."""
+    """The codewords of a grid with what each means: the data codewords, and then the check codewords. Beyond correction
+    none has a meaning."""
     seen = core.inspect(grid)
     items, refused = None, None
     try:
@@ -218,12 +223,15 @@ def explain(grid: Grid, border_limit: Optional[int] = None, extent: Extent = Ext
     size = next(size for size in core.sizes() if size.side * size.side == side)
     data = seen.mended[:size.data_codewords]
     if None in seen.corrected:
-        meanings = [("", "unknown: its block is beyond correction" if seen.corrected[place % size.blocks] is None else "not read")
+        meanings = [("", "unknown: its block is beyond correction" if seen.corrected[place % size.blocks] is None
+                     else "not read")
                     for place in range(len(data))]
     elif refused is not None and refused.code == core.Code.BORDER:
         meanings = [("", "not read, since the border is wrong")] * len(data)
     else:
         meanings = list(_meanings(data, items, refused))
-    meanings += [("", f"a check codeword of block {place % size.blocks + 1}") for place in range(len(data), len(seen.mended))]
-    return Explanation([Codeword(place + 1, seen.mended[place], seen.held[place], *meanings[place]) for place in range(len(seen.mended))], items,
+    meanings += [("", f"a check codeword of block {place % size.blocks + 1}")
+                 for place in range(len(data), len(seen.mended))]
+    return Explanation([Codeword(place + 1, seen.mended[place], seen.held[place], *meanings[place])
+                        for place in range(len(seen.mended))], items,
                        refused)

@@ -7,10 +7,10 @@
     >>> gs1.text(gs1.split(b"010952123454321310ABC\\x1d17251231"))
     '(01)09521234543213(10)ABC(17)251231'
 
-A message is written with `write(gs1.message(elements), gs1=True)`, and what is read is split with `split(reading.data)`. Each value is checked:
-its length and characters, check digits, dates. What doesn't pass raises Faulty, which says what is wrong with which identifier. Identifiers
-that the table doesn't have are refused too; with `unknown=True` they pass. Which identifiers there are, and where they come from, is said in
-data/gs1_identifiers.txt.
+A message is written with `write(gs1.message(elements), gs1=True)`, and what is read is split with
+`split(reading.data)`. Each value is checked: its length and characters, check digits, dates. What doesn't pass raises
+Faulty, which says what is wrong with which identifier. Identifiers that the table doesn't have are refused too; with
+`unknown=True` they pass. Which identifiers there are, and where they come from, is said in data/gs1_identifiers.txt.
 """
 import datetime
 import os
@@ -25,8 +25,8 @@ _GS = 0x1D
 _X = "!\"%&'()*+,-./0123456789:;<=>?ABCDEFGHIJKLMNOPQRSTUVWXYZ_abcdefghijklmnopqrstuvwxyz"
 _Y = "#-/0123456789ABCDEFGHIJKLMNOPQRSTUVWXYZ"
 _Z = "-0123456789=ABCDEFGHIJKLMNOPQRSTUVWXYZ_abcdefghijklmnopqrstuvwxyz"
-_CHARSETS = {"N": ("digits", "0123456789"), "X": ("the characters of GS1", _X), "Y": ("capitals, digits, #, - and /", _Y),
-             "Z": ("the characters of file-safe Base 64", _Z)}
+_CHARSETS = {"N": ("digits", "0123456789"), "X": ("the characters of GS1", _X),
+             "Y": ("capitals, digits, #, - and /", _Y), "Z": ("the characters of file-safe Base 64", _Z)}
 
 
 class Faulty(ValueError):
@@ -40,7 +40,8 @@ class Element(NamedTuple):
 
 
 class Part(NamedTuple):
-    """A part of a value: a charset, its least and greatest length, the name of a check or an empty one, and whether it may be missing."""
+    """A part of a value: a charset, its least and greatest length, the name of a check or an empty one, and whether it
+    may be missing."""
     charset: str
     least: int
     most: int
@@ -49,7 +50,8 @@ class Part(NamedTuple):
 
 
 class Identifier(NamedTuple):
-    """An identifier of the table: whether its length is known to all scanners, so that no FNC1 ends it; its parts; its title."""
+    """An identifier of the table: whether its length is known to all scanners, so that no FNC1 ends it; its parts; its
+    title."""
     fixed: bool
     parts: Tuple[Part, ...]
     title: str
@@ -76,15 +78,18 @@ def _table(lines: Iterable[str]) -> Dict[str, Identifier]:
             numbers, kind, _, parts, *title = line.split(None, 4)
             first, last = (numbers.split("-") * 2)[:2]
             for number in range(int(first), int(last) + 1):
-                table[f"{number:0{len(first)}}"] = Identifier(kind == "fixed", tuple(map(_part, parts.split("+"))), "".join(title).strip())
+                table[f"{number:0{len(first)}}"] = Identifier(kind == "fixed", tuple(map(_part, parts.split("+"))),
+                                                              "".join(title).strip())
     return table
 
 
 with open(_SOURCE, encoding="utf-8") as _file:
     _TABLE = _table(_file)
 
-# Lengths of the values that all scanners know by the first two digits of the identifier, and how many digits an identifier has, by the same.
-_LENGTHS = {"00": 18, "01": 14, "02": 14, "03": 14, "04": 16, **{str(two): 6 for two in (*range(11, 20), *range(31, 37))}, "20": 2, "41": 13}
+# Lengths of the values that all scanners know by the first two digits of the identifier, and how many digits an
+# identifier has, by the same.
+_LENGTHS = {"00": 18, "01": 14, "02": 14, "03": 14, "04": 16,
+            **{str(two): 6 for two in (*range(11, 20), *range(31, 37))}, "20": 2, "41": 13}
 _DIGITS = {**{number[:2]: len(number) for number in _TABLE}, **{two: 2 for two in ("04", "14", "18", "19")}}
 _DIGITS.update({"31": 4, "32": 4, "33": 4, "34": 4, "35": 4, "36": 4, "41": 3})
 
@@ -122,7 +127,9 @@ def _check(value: str) -> str:
 
 def _check_pair(value: str) -> str:
     wanted = check_pair(value[:-2]) if len(value) > 2 else ""
-    return "" if value[-2:] == wanted else f"its check pair is {value[-2:]}, and should be {wanted}" if wanted else "its check pair is missing"
+    if not wanted:
+        return "its check pair is missing"
+    return "" if value[-2:] == wanted else f"its check pair is {value[-2:]}, and should be {wanted}"
 
 
 def _day(year: int, month: str, day: str) -> str:
@@ -134,7 +141,8 @@ def _day(year: int, month: str, day: str) -> str:
 
 
 def _date(value: str) -> str:
-    return _day(2000 + int(value[:2]), value[2:4], value[4:6])  # 2000 is a leap year, as each year of two digits that four divides may be
+    # 2000 is a leap year, as each year of two digits that four divides may be
+    return _day(2000 + int(value[:2]), value[2:4], value[4:6])
 
 
 def _month_day(value: str) -> str:
@@ -154,7 +162,8 @@ def _below(bound: int, what: str) -> Callable[[str], str]:
 
 
 _CHECKS: Dict[str, Callable[[str], str]] = {
-    "": lambda value: "", "check": _check, "pair": _check_pair, "date": _date, "month-day": _month_day, "full-date": _full_date, "time": _time,
+    "": lambda value: "", "check": _check, "pair": _check_pair, "date": _date, "month-day": _month_day,
+    "full-date": _full_date, "time": _time,
     "hour": _below(24, "hour"), "minute": _below(60, "minute"), "second": _below(60, "second"),
     "minus": lambda value: "" if value == "-" else f"its sign is {value}, and can only be -",
 }
@@ -178,7 +187,8 @@ def _fault(value: str, parts: Sequence[Part]) -> str:
         name, charset = _CHARSETS[part.charset]
         strange = piece.strip(charset)
         if strange:
-            return f"it takes {name}, and not {strange[0]!r}" + (f" in place {at + piece.index(strange[0]) + 1}" if len(value) > 1 else "")
+            return f"it takes {name}, and not {strange[0]!r}" + (f" in place {at + piece.index(strange[0]) + 1}"
+                                                                 if len(value) > 1 else "")
         wrong = _CHECKS[part.check](piece)
         if wrong:
             return str(wrong)
@@ -210,9 +220,10 @@ _SQUARE = re.compile(r"\[(\d*)\]([^\[\\]*)", re.DOTALL)
 
 
 def parse(text: str, unknown: bool = False) -> List[Element]:
-    """The elements of a text as it is printed: each identifier in brackets, and its value behind it. An opening bracket that is part of a
-    value is written \\( there, and a backslash can't be part of one. Identifiers may instead all stand in square
-    brackets, as zint has them, which are part of no value; round ones in a value are then written as they are."""
+    """The elements of a text as it is printed: each identifier in brackets, and its value behind it. An opening bracket
+    that is part of a value is written \\( there, and a backslash can't be part of one. Identifiers may instead all
+    stand in square brackets, as zint has them, which are part of no value; round ones in a value are then written as
+    they are."""
     elements, at = [], 0
     bracketed = _SQUARE if text.startswith("[") else _BRACKETED
     while at < len(text) or not text:
@@ -230,14 +241,16 @@ def text(elements: Iterable[Element]) -> str:
 
 
 def message(elements: Sequence[Element]) -> bytes:
-    """The bytes of elements, without the FNC1 in front: the byte 0x1D ends each value of variable length that another element follows."""
+    """The bytes of elements, without the FNC1 in front: the byte 0x1D ends each value of variable length that another
+    element follows."""
     last = len(elements) - 1
     return "".join(identifier + value + ("" if place == last or _is_fixed(identifier) else "\x1d")
                    for place, (identifier, value) in enumerate(elements)).encode("ascii")
 
 
 def items(elements: Sequence[Element]) -> List[int]:
-    """The items of elements: FNC1 in front, and at the end of each value of variable length that another element follows."""
+    """The items of elements: FNC1 in front, and at the end of each value of variable length that another element
+    follows."""
     return [FNC1, *(FNC1 if byte == _GS else byte for byte in message(elements))]
 
 
@@ -248,17 +261,19 @@ def _identifier(data: str, at: int, unknown: bool) -> str:
             return data[at:at + digits]
     digits = _DIGITS.get(data[at:at + 2], 0)
     if not digits:
-        raise Faulty(f"no identifier begins with {data[at:at + 2]!r}, so it can't be said where its value begins (character {at + 1})")
+        raise Faulty(f"no identifier begins with {data[at:at + 2]!r}, so it can't be said where its value begins "
+                     f"(character {at + 1})")
     if not unknown:
         raise Faulty(f"({data[at:at + digits]}) isn't an application identifier of the table")
     return data[at:at + digits]
 
 
 def split(data: Union[bytes, Iterable[int]], unknown: bool = False) -> List[Element]:
-    """The elements of a message, without the FNC1 in front: as bytes with 0x1D between elements, or as items with FNC1 or 0x1D. A separator
-    where none is needed is passed over."""
+    """The elements of a message, without the FNC1 in front: as bytes with 0x1D between elements, or as items with FNC1
+    or 0x1D. A separator where none is needed is passed over."""
     numbers = list(data)
-    letters = "".join(chr(_GS if number == FNC1 else number) for number in (numbers[1:] if numbers[:1] == [FNC1] else numbers))
+    letters = "".join(chr(_GS if number == FNC1 else number)
+                      for number in (numbers[1:] if numbers[:1] == [FNC1] else numbers))
     if not letters:
         raise Faulty("there is no identifier")
     elements, at = [], 0

@@ -6,7 +6,8 @@ __all__ = ["Progress"]
 
 
 class Progress:
-    """Counts what is done. After a second a line says so, and is written over twice a second; it is removed at the end."""
+    """Counts what is done. After a second a line says so, and is written over twice a second; it is removed at the
+    end."""
 
     def __init__(self, what: str, every: float = 0.5, begin: float = 1.0) -> None:
         self.what, self.every, self.done, self.width = what, every, 0, 0

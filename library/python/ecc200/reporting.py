@@ -16,7 +16,8 @@ __all__ = ["Answer", "answers", "check", "compare", "explain", "normal", "read"]
 
 
 class Answer(NamedTuple):
-    """What a symbol says, or why it isn't read, in words, with the refusal if the library refused; the grid; how it was changed to be read."""
+    """What a symbol says, or why it isn't read, in words, with the refusal if the library refused; the grid; how it was
+    changed to be read."""
     source: Source
     reading: Optional[Reading]
     rows: Rows
@@ -129,7 +130,8 @@ def _read_json(answer: Answer, given: argparse.Namespace) -> str:
             told["gs1_fault"] = elements
         elif elements is not None:
             table = gs1.identifiers()
-            told["elements"] = [{"identifier": identifier, "value": value, "title": table[identifier].title if identifier in table else None}
+            told["elements"] = [{"identifier": identifier, "value": value,
+                                 "title": table[identifier].title if identifier in table else None}
                                 for identifier, value in elements]
     return _json(told)
 
@@ -219,7 +221,8 @@ def _difference(first: Reading, second: Reading) -> str:
         return "they differ in their separators alone: where one has FNC1, the other has the byte 0x1D"
     if first.gs1 != second.gs1 and first.data == second.data:
         return "one is marked as GS1 data by FNC1 in front, and the other isn't"
-    place = next((place for place, (x, y) in enumerate(zip(first.items, second.items)) if x != y), min(len(first.items), len(second.items)))
+    place = next((place for place, (x, y) in enumerate(zip(first.items, second.items)) if x != y),
+                 min(len(first.items), len(second.items)))
     return f"they differ from item {place + 1} on"
 
 
@@ -230,7 +233,8 @@ def compare(given: argparse.Namespace) -> int:
     same = first.reading.items == second.reading.items
     for name, answer in zip(given.files, (first, second)):
         assert answer.reading is not None
-        print(f"{name}: {shown(answer.reading.items)} (side {len(answer.rows)}, {sum(answer.reading.corrected)} codewords corrected)")
+        print(f"{name}: {shown(answer.reading.items)} (side {len(answer.rows)}, "
+              f"{sum(answer.reading.corrected)} codewords corrected)")
     print("the same" if same else f"different: {_difference(first.reading, second.reading)}")
     return 0 if same else 1
 

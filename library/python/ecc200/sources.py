@@ -44,7 +44,8 @@ class Source(NamedTuple):
     file: str
     number: int                            # counts the grids of a file from 1; 0 where the file can't be read
     rows: Optional[Rows]
-    fault: str = ""                        # why there are no rows; or, if these aren't read, what else may be the reason
+    # why there are no rows; or, if these aren't read, what else may be the reason
+    fault: str = ""
     found: Optional[pictures.Found] = None
 
 
@@ -59,7 +60,8 @@ def _line_fault(line: bytes) -> str:
     if line.endswith(b"\r"):
         return "its lines end with CR and LF: take the CR out first, as in  tr -d '\\r' < FILE"
     strange = line.strip(b"01")[:1]
-    return f"it has the character {strange.decode('latin-1')!r}; a grid consists of 0 and 1, a line for each row of modules"
+    return (f"it has the character {strange.decode('latin-1')!r}; a grid consists of 0 and 1, a line for each row of "
+            "modules")
 
 
 def _of_record(file: str, number: int, lines: List[bytes]) -> Source:
@@ -68,7 +70,9 @@ def _of_record(file: str, number: int, lines: List[bytes]) -> Source:
             return Source(file, number, None, _line_fault(line))
     if len({len(line) for line in lines}) > 1:
         shortest, longest = min(map(len, lines)), max(map(len, lines))
-        return Source(file, number, None, f"its lines have from {shortest} to {longest} characters; a grid has as many in each line as it has lines")
+        return Source(file, number, None,
+                      f"its lines have from {shortest} to {longest} characters; a grid has as many in each line as it "
+                      "has lines")
     return Source(file, number, [bytes(byte - 48 for byte in line) for line in lines])
 
 

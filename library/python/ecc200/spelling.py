@@ -14,8 +14,10 @@ class Misspelled(ValueError):
 
 
 def spelled(items: Iterable[int]) -> str:
-    """Items as dm_tool spells them: \\F is FNC1, \\\\ a backslash, \\xHH a byte that isn't a printable character of ASCII."""
-    return "".join("\\F" if item == FNC1 else "\\\\" if item == 92 else chr(item) if 32 <= item < 127 else f"\\x{item:02X}" for item in items)
+    """Items as dm_tool spells them: \\F is FNC1, \\\\ a backslash, \\xHH a byte that isn't a printable character of
+    ASCII."""
+    return "".join("\\F" if item == FNC1 else "\\\\" if item == 92 else chr(item) if 32 <= item < 127
+                   else f"\\x{item:02X}" for item in items)
 
 
 def _decoded(data: bytes, charset: Optional[str]) -> Optional[Tuple[str, str]]:
@@ -43,7 +45,8 @@ def shown(items: Iterable[int], charset: Optional[str] = None) -> str:
         found = _decoded(bytes(items), charset)
         if found:
             text, name = found
-            return "".join(letter if letter.isprintable() and letter != "\\" else spelled(letter.encode(name)) for letter in text)
+            return "".join(letter if letter.isprintable() and letter != "\\" else spelled(letter.encode(name))
+                           for letter in text)
     return spelled(items)
 
 

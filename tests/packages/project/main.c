@@ -1,4 +1,5 @@
-/* Writes a symbol, hurts it, and reads it: what is printed is the version, the message, and how many codewords were corrected. */
+/* Writes a symbol, hurts it, and reads it: what is printed is the version, the message, and how many codewords were
+ * corrected. */
 #include <ecc200.h>
 #include <stdio.h>
 #include <string.h>
@@ -16,7 +17,8 @@ int main(void) {
     }
     symbol.modules[symbol.side + 1] ^= 1;
     size_t modules = (size_t)symbol.side * symbol.side;
-    if (ecc200_read(symbol.modules, modules, symbol.side, ecc200_usual_limit(symbol.side), ECC200_USUAL, &reading) != ECC200_OK)
+    if (ecc200_read(symbol.modules, modules, symbol.side, ecc200_usual_limit(symbol.side), ECC200_USUAL, &reading) !=
+        ECC200_OK)
         return 2;
     size_t count = ecc200_text(&reading, bytes, sizeof bytes, NULL);
     printf("%s %.*s %d\n", ecc200_version(), (int)count, (const char *)bytes, reading.corrected[0]);
