@@ -4,6 +4,7 @@ import functools
 import importlib.util
 import os
 import re
+from unittest import mock
 
 from tests.library.cases import Interface
 from tests.library.callers import HERE, WARNINGS
@@ -26,10 +27,10 @@ def interface():
 @functools.cache
 def module():
     """The Python module, the file core.py by itself, over the shared library."""
-    os.environ["ECC200_LIBRARY"] = places.SHARED
     spec = importlib.util.spec_from_file_location("ecc200_of_library", places.MODULE)
     made = importlib.util.module_from_spec(spec)
-    spec.loader.exec_module(made)
+    with mock.patch.dict(os.environ, ECC200_LIBRARY=places.SHARED):
+        spec.loader.exec_module(made)
     return made
 
 

@@ -12,6 +12,7 @@ from tests.support import places
 
 sys.path.insert(0, places.path("packaging"))
 import package
+sys.path.remove(places.path("packaging"))
 
 VERSION, ABI = package.version(), package.abi()
 PARTS = places.path("tests", "packages")

@@ -259,16 +259,15 @@ def streams(folder):
 
 
 def interrupted(folder):
-    """Ctrl-C ends it as it ends other programs, also while modules are imported."""
-    here = made(folder, "interrupted")
+    """Ctrl-C ends it as it ends other programs, also while modules are imported, whatever becomes of it where these
+    tests run: a shell lets what it starts in the background ignore it."""
+    here, how = made(folder, "interrupted"), {"stderr": subprocess.PIPE, "stdout": subprocess.PIPE}
+    how["preexec_fn"] = lambda: signal.signal(signal.SIGINT, signal.SIG_DFL)
     saved(made(here, "ecc200"), "__init__.py", "import os, signal\nos.kill(os.getpid(), signal.SIGINT)\n")
     copied = saved(here, "start", open(FACE).read())
-    started = subprocess.run([PYTHON, copied], env={
-        **environment(), "PYTHONPATH": ""
-    }, stdout=subprocess.PIPE, stderr=subprocess.PIPE, timeout=60)
+    started = subprocess.run([PYTHON, copied], env={**environment(), "PYTHONPATH": ""}, timeout=60, **how)
     yield same("in the start", (started.returncode, started.stderr), (-signal.SIGINT, b""))
-    waiting = subprocess.Popen([PYTHON, FACE, "read"], stdin=subprocess.PIPE, stdout=subprocess.PIPE,
-                               stderr=subprocess.PIPE, env=environment())
+    waiting = subprocess.Popen([PYTHON, FACE, "read"], stdin=subprocess.PIPE, env=environment(), **how)
     waiting.stdin.write(symbols(b"A").encode())
     waiting.stdin.flush()
     waiting.stdout.readline()

@@ -5,6 +5,7 @@ import os
 import shutil
 import sys
 import tempfile
+from unittest import mock
 
 from tests.support import places
 
@@ -31,9 +32,9 @@ def settings():
 @functools.cache
 def imported():
     """Gives the package, imported here over the library."""
-    os.environ["ECC200_LIBRARY"] = places.SHARED
     sys.path.insert(0, tree())
-    module = importlib.import_module("ecc200")
+    with mock.patch.dict(os.environ, ECC200_LIBRARY=places.SHARED):
+        module = importlib.import_module("ecc200")
     if not module.__file__.startswith(tree() + os.sep):
         raise ImportError(f"ecc200 was imported before, from {module.__file__}")
     return module
