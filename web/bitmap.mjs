@@ -4,10 +4,12 @@ const PNG_START = [137, 80, 78, 71], PNG_END = [73, 69, 78, 68];
 const hasAt = (bytes, at, some) => some.every((byte, k) => bytes[at + k] === byte);
 
 // Whether a file begins as a PNG or a JPEG and lacks its end.
+/** @type {(file: Blob) => Promise<boolean>} */
 async function isCutOff(file) {
   const bytes = new Uint8Array(await file.arrayBuffer());
   if (hasAt(bytes, 0, PNG_START)) {
-    for (let at = bytes.length - 8; at >= Math.max(0, bytes.length - 4096); at--) if (hasAt(bytes, at, PNG_END)) return false;
+    const first = Math.max(0, bytes.length - 4096);
+    for (let at = bytes.length - 8; at >= first; at--) if (hasAt(bytes, at, PNG_END)) return false;
     return true;
   }
   if (bytes[0] !== 0xff || bytes[1] !== 0xd8) return false;
@@ -16,6 +18,7 @@ async function isCutOff(file) {
 }
 
 // The picture in a file as an ImageBitmap, or why there is none: { bitmap } or { why }.
+/** @type {(file: Blob) => Promise<{ bitmap?: ImageBitmap, why?: string }>} */
 export async function bitmapOf(file) {
   if (await isCutOff(file)) return { why: "The file is cut off: the end of the picture is missing." };
   try {

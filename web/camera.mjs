@@ -1,14 +1,16 @@
 // The camera, where the browser allows one: a picture each half second, until a symbol in one is read, or something
 // else is entered or shown.
+import { $, hint } from "./dom.mjs";
 import { whenShown } from "./flow.mjs";
 import { whenEntered } from "./order.mjs";
 import { lookAt, showFound } from "./source.mjs";
-import { $, hint, panes } from "./state.mjs";
+import { panes } from "./state.mjs";
 
 const EACH = 500; // milliseconds
 const LENGTH = 1280; // pixels of the longer side that are asked for
 const WANTED = { video: { facingMode: "environment", width: { ideal: LENGTH } }, audio: false };
-let session = null; // the one that is on: its stream, once the browser has allowed one
+/** @type {{ stream: MediaStream | null } | null} the one that is on, with its stream once the browser allows one */
+let session = null;
 
 async function frame() {
   const { videoWidth: width, videoHeight: height } = $("video");
@@ -49,7 +51,8 @@ async function startCamera() {
     if (session !== own) return;
     session = null;
     const isForbidden = why?.name === "NotAllowedError";
-    hint("picture-hint", isForbidden ? "The browser doesn’t allow the camera here." : "There is no camera that this page can use.", true);
+    const words = "The browser doesn’t allow the camera here.", none = "There is no camera that this page can use.";
+    hint("picture-hint", isForbidden ? words : none, true);
     return;
   }
   $("video").srcObject = own.stream;
@@ -63,7 +66,7 @@ export function wireCamera() {
   $("camera").addEventListener("click", startCamera);
   $("camera-off").addEventListener("click", () => { stopCamera("The camera is off."); $("camera").focus(); });
   whenEntered((it) => { if (it === panes.read) stopCamera("The camera is off, since something else was entered."); });
-  whenShown((pane) => { if (pane !== "read") stopCamera("The camera is off, since the other pane was opened."); });
+  whenShown((task) => { if (task !== "read") stopCamera("The camera is off, since another task was opened."); });
   document.addEventListener("visibilitychange", () => {
     if (document.hidden) stopCamera("The camera is off, since the page was out of sight.");
   });

@@ -1,26 +1,31 @@
 // Drawing codewords, and telling about the one that is pointed at.
 import { BIT, BORDER_DARK, BORDER_LIGHT } from "./common.mjs";
-import { $, made, mapOf, mark } from "./state.mjs";
+import { $, made } from "./dom.mjs";
+import { mapOf, mark } from "./state.mjs";
 import { isWrong } from "./symbol.mjs";
 
+/** @typedef {import("./examine.mjs").Seen} Seen */
 const CELLS_WITH_MEANINGS = 72;
 const STATES = ["", "corrected", "beyond"];
 
 // What a screen reader says of a codeword.
+/** @type {(seen: Seen, w: number) => string} */
 function cellName(seen, w) {
   const { size, held, mended, states, told } = seen, what = told?.[w] ? `, ${told[w].text}` : "";
-  const state = states[w] === 1 ? `, corrected to ${mended[w]}` : states[w] === 2 ? ", in a block beyond correction" : "";
+  const corrected = states[w] === 1 ? `, corrected to ${mended[w]}` : "";
+  const state = states[w] === 2 ? ", in a block beyond correction" : corrected;
   return `${w < size.data ? "data" : "check"} codeword ${w + 1}: ${held[w]}${state}${what}`;
 }
+/** @type {(node: Element, seen: Seen, w: number) => void} */
 function drawCell(node, seen, w) {
-  const { size, held, mended, states, told } = seen, all = held.length;
-  const className = [w >= size.data && "check", STATES[states[w]]].filter(Boolean).join(" "), name = cellName(seen, w);
-  const below = all > CELLS_WITH_MEANINGS ? null : states[w] === 1 ? `→${mended[w]}` : (told?.[w]?.brief ?? "");
+  const { size, held, mended, states, told } = seen, all = held.length, name = cellName(seen, w);
+  const className = [w >= size.data && "check", STATES[states[w]]].filter(Boolean).join(" ");
+  const meaning = states[w] === 1 ? `→${mended[w]}` : (told?.[w]?.brief ?? "");
+  const below = all > CELLS_WITH_MEANINGS ? null : meaning;
   if (node.className !== className) node.className = className;
   if (node.getAttribute("aria-label") === name && node.firstChild) return;
   node.setAttribute("aria-label", name);
-  node.textContent = "";
-  node.append(made(states[w] === 1 ? "s" : "span", { textContent: held[w] }));
+  node.replaceChildren(made(states[w] === 1 ? "s" : "span", { textContent: held[w] }));
   if (below !== null) node.append(made("small", { textContent: below }));
 }
 export function drawWords() {
@@ -42,36 +47,45 @@ export function drawWords() {
 
 // ---- What is told of the module or codeword pointed at
 
+/** @type {(value: number) => string} */
 export const bitsOf = (value) => value.toString(2).padStart(8, "0");
-const bitsAgainst = (value, other) => Array.from(bitsOf(value), (bit, k) => (bit === bitsOf(other)[k] ? bit : `<u>${bit}</u>`)).join("");
+// The bits of a value, of which those that differ from another's are marked.
+const bitsAgainst = (value, other) => Array.from(bitsOf(value), (bit, k) =>
+  (bit === bitsOf(other)[k] ? bit : made("u", { textContent: bit })));
 const isBorder = (kind) => kind === BORDER_LIGHT || kind === BORDER_DARK;
+/** @type {(k: number, side: number) => string} */
 export const placeOf = (k, side) => `Row ${Math.floor(k / side) + 1}, column ${(k % side) + 1}`;
+export const bold = (text) => made("b", { textContent: text });
 
+/** @type {(seen: Seen, k: number) => (Node | string)[]} */
 function aboutModule(seen, k) {
   const { kind } = mapOf(seen.side), what = isBorder(kind[k]) ? "the border, which shows where the modules lie"
     : "the fixed square in the corner, which holds no codeword and isn’t looked at";
   const wrong = isWrong(seen, seen.modules, k) ? ` It should be ${kind[k] === BORDER_DARK ? "dark" : "light"}.` : "";
-  return `<b>${placeOf(k, seen.side)}</b> belongs to ${what}.${wrong}`;
+  return [bold(placeOf(k, seen.side)), ` belongs to ${what}.${wrong}`];
 }
-function aboutWord({ size, held, mended, states }, w) {
+/** @type {(seen: Seen, w: number) => (Node | string)[]} */
+function aboutWord({ size, held, mended, states, told }, w) {
   const block = size.blocks > 1 ? `, block ${(w % size.blocks) + 1}` : "", what = w < size.data ? "data" : "check";
-  const told = (value, other) => `<b>${value}</b>, <span class="bits">${bitsAgainst(value, other)}</span>`;
-  let text = `<b>Codeword ${w + 1}</b> of ${held.length}: ${what}${block}. It is ${told(held[w], mended[w])}`;
-  if (states[w] === 1) text += `, and is corrected to ${told(mended[w], held[w])}`;
-  if (states[w] === 2) text += "; its block is beyond correction";
-  return `${text}.`;
+  const value = (one, other) =>
+    [bold(one), ", ", made("span", { className: "bits" }, ...bitsAgainst(one, other))];
+  const mending = states[w] === 1 ? [", and is corrected to ", ...value(mended[w], held[w])] : [];
+  const beyond = states[w] === 2 ? "; its block is beyond correction" : "";
+  const meaning = w < size.data && told ? ` It stands for ${told[w].text}.` : "";
+  return [bold(`Codeword ${w + 1}`), ` of ${held.length}: ${what}${block}. It is `, ...value(held[w], mended[w]),
+    ...mending, `${beyond}.${meaning}`];
 }
+const POINT = "Point at a codeword, or in Learn at a module: its eight modules are shown in the symbol, with bit 1, "
+  + "the highest, to bit 8.";
 export function drawAbout() {
-  const { seen, module: k, word: w } = mark(), node = $("about");
-  if (!seen) node.textContent = "";
-  else if (w !== null) {
-    node.innerHTML = aboutWord(seen, w);
-    if (w < seen.size.data && seen.told) node.append(` It stands for ${seen.told[w].text}.`);
-  } else if (k !== null) node.innerHTML = aboutModule(seen, k);
-  else node.textContent = "Point at a module or at a codeword: its eight modules are shown in the symbol, with bit 1, the highest, to bit 8.";
+  const { seen, module: k, word: w } = mark();
+  const about = !seen ? [] : w !== null ? aboutWord(seen, w) : k !== null ? aboutModule(seen, k) : [POINT];
+  $("about").replaceChildren(...about);
 }
+/** @type {(seen: Seen, k: number) => string} */
 export function spokenModule(seen, k) {
-  const map = mapOf(seen.side), kind = map.kind[k];
-  const what = kind === BIT ? `codeword ${map.word[k] + 1}, bit ${map.bit[k]}` : isBorder(kind) ? "border" : "fixed square";
-  return `${placeOf(k, seen.side)}: ${seen.modules[k] ? "dark" : "light"}, ${what}${isWrong(seen, seen.modules, k) ? ", wrong" : ""}`;
+  const map = mapOf(seen.side), kind = map.kind[k], fixed = isBorder(kind) ? "border" : "fixed square";
+  const what = kind === BIT ? `codeword ${map.word[k] + 1}, bit ${map.bit[k]}` : fixed;
+  const wrong = isWrong(seen, seen.modules, k) ? ", wrong" : "";
+  return `${placeOf(k, seen.side)}: ${seen.modules[k] ? "dark" : "light"}, ${what}${wrong}`;
 }

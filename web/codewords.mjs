@@ -13,18 +13,26 @@ function character(item) {
   return isPlain(item) || item === 92 ? `the character ${String.fromCharCode(item)}` : `the byte ${item}`;
 }
 const shown = (items) => items.map((item) => (item === 32 ? "␣" : spelledItem(item))).join("");
-const macroFront = (number) => [...Array.from("[)>", (c) => c.charCodeAt(0)), 30, ...Array.from(number, (c) => c.charCodeAt(0)), 29];
+const codes = (text) => Array.from(text, (c) => c.charCodeAt(0));
+const macroFront = (number) => [...codes("[)>"), 30, ...codes(number), 29];
 
-// A list of { items, text, brief } for codewords that spell a message.
+/** @typedef {{ items: number[], text: string, brief: string }} Meaning of a codeword */
+/** @typedef {{ data: Uint8Array, told: Meaning[], say: (text: string, brief?: string, items?: number[]) => void }}
+    Reading */
+// For codewords that spell a message what each stands for.
+/** @type {(data: Uint8Array) => Meaning[]} */
 export function meanings(data) {
-  const told = [], reading = { data, told, say: (text, brief = "", items = []) => told.push({ text, brief, items }) };
+  /** @type {Meaning[]} */
+  const told = [];
+  const reading = { data, told, say: (text, brief = "", items = []) => { told.push({ text, brief, items }); } };
   const macro = MACROS[data[0]];
   const aboutMacro = `macro ${macro}: the characters [)> RS ${macro} GS in front of the message, and RS EOT after it`;
   if (macro) reading.say(aboutMacro, `M${macro}`, macroFront(macro));
   while (told.length < data.length && data[told.length] !== PAD) sayOne(reading);
   if (macro) {
     const last = told[told.length - 1];
-    Object.assign(last, { items: [...last.items, ...TRAILER], text: `${last.text}; RS EOT of the macro ${told.length > 1 ? "follow" : "end it"}` });
+    last.items = [...last.items, ...TRAILER];
+    last.text = `${last.text}; RS EOT of the macro ${told.length > 1 ? "follow" : "end it"}`;
   }
   if (told.length < data.length) reading.say("the end of the message, and the first pad", "end");
   while (told.length < data.length) reading.say("a pad, which fills up the symbol", "pad");
@@ -32,12 +40,13 @@ export function meanings(data) {
 }
 
 // One codeword in ASCII, or a latch and its whole run.
+/** @type {(reading: Reading) => void} */
 function sayOne(reading) {
   const { data, told, say } = reading, value = data[told.length];
   if (value >= 1 && value <= 128) say(character(value - 1), shown([value - 1]), [value - 1]);
   else if (value >= 130 && value <= 229) {
     const digits = String(value - 130).padStart(2, "0");
-    say(`the digits ${digits}`, digits, [...digits].map((c) => c.charCodeAt(0)));
+    say(`the digits ${digits}`, digits, codes(digits));
   } else if (value === 232) say("FNC1", "\\F", [FNC1]);
   else if (value === UPPER_SHIFT) {
     say("an Upper Shift: 128 more for the next", "+128");
@@ -51,11 +60,14 @@ function sayOne(reading) {
   } else say("nothing that is read here");
 }
 
-// A Base 256 segment: a length of one or two codewords, then bytes; a number that depends on the place is added to each.
+// A Base 256 segment: a length of one or two codewords, then bytes; a number that depends on the place is added to
+// each.
+/** @type {(reading: Reading) => void} */
 function sayBytes({ data, told, say }) {
   const plain = (at) => (data[at] - (((149 * (at + 1)) % 255) + 1) + 256) % 256, most = () => data.length - told.length;
   let length = plain(told.length);
-  if (length < 250) say(length ? `the length, ${plural(length, "byte", "bytes")}` : "the length: to the end of the symbol", String(length));
+  const toEnd = "the length: to the end of the symbol";
+  if (length < 250) say(length ? `the length, ${plural(length, "byte", "bytes")}` : toEnd, String(length));
   else {
     length = 250 * (length - 249) + plain(told.length + 1);
     say(`the length, ${length} bytes, together with the next`, String(length));
@@ -63,30 +75,41 @@ function sayBytes({ data, told, say }) {
   }
   for (let left = length ? Math.min(length, most()) : most(); left; left--) {
     const item = plain(told.length);
-    say(item >= 32 && item <= 126 ? `the byte ${item}, ${character(item)}` : `the byte ${item}`, shown([item]), [item]);
+    const isLetter = item >= 32 && item <= 126;
+    say(isLetter ? `the byte ${item}, ${character(item)}` : `the byte ${item}`, shown([item]), [item]);
   }
 }
 
 const edifactItem = (value) => (value < 32 ? value + 64 : value);
 
-// EDIFACT: groups of three codewords with four values of six bits, up to an unlatch, or until no more than two codewords are left.
+const edifactName = (value) =>
+  (value === EDIFACT_UNLATCH ? "an unlatch, back to ASCII" : shown([edifactItem(value)]));
+const NEXT = ["", "", ", together with the next", ", together with the next two"]; // by how many share the values
+
+// EDIFACT: groups of three codewords with four values of six bits, up to an unlatch, or until no more than two
+// codewords are left.
+/** @type {(reading: Reading) => void} */
 function sayGroups({ data, told, say }) {
   while (data.length - told.length > 2) {
-    const [a, b, c] = data.subarray(told.length, told.length + 3), values = [a >> 2, ((a & 3) << 4) | (b >> 4), ((b & 15) << 2) | (c >> 6), c & 63];
+    const [a, b, c] = data.subarray(told.length, told.length + 3);
+    const values = [a >> 2, ((a & 3) << 4) | (b >> 4), ((b & 15) << 2) | (c >> 6), c & 63];
     const end = values.indexOf(EDIFACT_UNLATCH), read = end < 0 ? values : values.slice(0, end + 1);
     const items = read.filter((value) => value !== EDIFACT_UNLATCH).map(edifactItem);
-    const names = read.map((value) => (value === EDIFACT_UNLATCH ? "an unlatch, back to ASCII" : shown([edifactItem(value)]))).join(", ");
-    const count = end < 0 ? 3 : Math.min(end + 1, 3), what = `the EDIFACT ${read.length === 1 ? "value" : "values"} ${read.join(", ")}`;
-    say(`${what}${count > 1 ? `, together with the next${count > 2 ? " two" : ""}` : ""}: ${names}`, shown(items) || "ASC", items);
-    for (let k = 1; k < count; k++) say(`${what}, together with ${count > 2 ? "its two neighbours" : "the one before"}: ${names}`, "↲");
+    const names = read.map(edifactName).join(", "), count = end < 0 ? 3 : Math.min(end + 1, 3);
+    const what = `the EDIFACT ${read.length === 1 ? "value" : "values"} ${read.join(", ")}`;
+    const others = count > 2 ? "its two neighbours" : "the one before";
+    say(`${what}${NEXT[count]}: ${names}`, shown(items) || "ASC", items);
+    for (let k = 1; k < count; k++) say(`${what}, together with ${others}: ${names}`, "↲");
     if (end >= 0) return;
   }
 }
 
 // Pairs of C40, Text or X12, each of three values, up to an unlatch or until no pair is left.
+/** @type {(mode: string, reading: Reading) => void} */
 function sayTriplets(mode, { data, told, say }) {
   let shift = 0, upper = 0;
-  const valueOf = (value) => { // [what it is called, its items]
+  /** @type {(value: number) => [string, number[]]} what it is called, and its items */
+  const valueOf = (value) => {
     const set = shift;
     shift = 0;
     if (mode !== "X12" && !set && value < 3) { shift = value + 1; return [SHIFTS[value], []]; }
@@ -96,8 +119,9 @@ function sayTriplets(mode, { data, told, say }) {
     return [shown([item]), [item]];
   };
   while (data.length - told.length >= 2 && data[told.length] !== UNLATCH) {
-    const pair = data[told.length] * 256 + data[told.length + 1] - 1, values = [Math.floor(pair / 1600), Math.floor(pair / 40) % 40, pair % 40];
-    const parts = values.map(valueOf), names = parts.map(([name]) => name).join(", "), items = parts.flatMap(([, some]) => some);
+    const pair = data[told.length] * 256 + data[told.length + 1] - 1;
+    const values = [Math.floor(pair / 1600), Math.floor(pair / 40) % 40, pair % 40], parts = values.map(valueOf);
+    const names = parts.map(([name]) => name).join(", "), items = parts.flatMap(([, some]) => some);
     say(`the ${mode} values ${values.join(", ")}, together with the next: ${names}`, shown(items), items);
     say(`the ${mode} values ${values.join(", ")}, together with the one before: ${names}`, "↲");
   }

@@ -1,19 +1,25 @@
-// Pointing at modules and codewords, and turning modules over: with the mouse, a finger, or keys.
-import { BIT, limitIn, sideOf } from "./common.mjs";
+// Pointing at modules and codewords, and turning modules over: with the mouse, a finger, or keys. Only where one
+// learns; elsewhere the symbol is a picture.
 import { drawAbout, drawWords, spokenModule } from "./cells.mjs";
+import { BIT, limitIn, sideOf } from "./common.mjs";
+import { $, hint, setUsable, whenUsed } from "./dom.mjs";
 import { begin, damage, look, redo, setLimit, undo, undoAll } from "./flow.mjs";
 import { afterThat, inTurn, settled } from "./order.mjs";
-import { $, hint, mapOf, mark, setUsable, whenUsed } from "./state.mjs";
+import { mapOf, mark, store } from "./state.mjs";
 import { QUIET, drawSymbol } from "./symbol.mjs";
 import { noLimit } from "./words.mjs";
 
+/** @typedef {import("./state.mjs").Mark} Mark */
+const isLearning = () => store.task === "learn";
+/** @type {(module: number | null, word?: number | null) => void} */
 function point(module, word = null) {
   const it = mark();
   if (!it.seen) return;
   const map = mapOf(it.seen.side);
   if (module !== null && map.kind[module] === BIT) word = map.word[module];
   if (module === it.module && word === it.word) return;
-  Object.assign(it, { module, word });
+  it.module = module;
+  it.word = word;
   drawSymbol(); drawWords(); drawAbout();
 }
 // Where an event is, as shares of the symbol's width and height.
@@ -23,6 +29,7 @@ function placeOfEvent({ clientX, clientY }) {
   return { x: share(clientX - box.left, box.width), y: share(clientY - box.top, box.height) };
 }
 // The module of a symbol of this side that is there, if one is.
+/** @type {(place: { x: number, y: number }, side: number) => number | null} */
 function moduleAt({ x, y }, side) {
   const line = (share) => Math.floor(share * (side + 2 * QUIET)) - QUIET, r = line(y), c = line(x);
   return r >= 0 && c >= 0 && r < side && c < side ? r * side + c : null;
@@ -31,10 +38,12 @@ const moduleUnder = (event) => (mark().seen ? moduleAt(placeOfEvent(event), mark
 
 // The modules on the line from one to another, so that a quick drag leaves none out.
 function between(from, to, side) {
-  const [r, c, R, C] = [Math.floor(from / side), from % side, Math.floor(to / side), to % side], steps = Math.max(Math.abs(R - r), Math.abs(C - c));
-  const at = (k) => Math.round(r + ((R - r) * k) / (steps || 1)) * side + Math.round(c + ((C - c) * k) / (steps || 1));
+  const [r, c, R, C] = [Math.floor(from / side), from % side, Math.floor(to / side), to % side];
+  const steps = Math.max(Math.abs(R - r), Math.abs(C - c)), share = (k) => k / (steps || 1);
+  const at = (k) => Math.round(r + (R - r) * share(k)) * side + Math.round(c + (C - c) * share(k));
   return Array.from({ length: steps + 1 }, (_, k) => at(k));
 }
+/** @type {(it: Mark, cells: number[]) => void} */
 function turn(it, cells) {
   it.modules = it.modules.slice();
   for (const cell of cells) it.modules[cell] ^= 1;
@@ -43,13 +52,22 @@ function turn(it, cells) {
 
 // A click or a drag: one step, in which each module is turned over once.
 class Stroke {
-  constructor(it) { Object.assign(this, { it, entry: null, turned: new Set(), last: null }); }
+  /** @type {number | null} the stamp of what the symbol was entered by */
+  entered = null;
+  /** @type {Set<number>} */
+  turned = new Set();
+  /** @type {number | null} the module that was reached last */
+  last = null;
+  /** @param {Mark} it */
+  constructor(it) { this.it = it; }
+  /** @type {(place: { x: number, y: number }) => void} */
   to(place) { inTurn(this.it, (it) => this.reach(it, moduleAt(place, sideOf(it.modules)))); }
+  /** @type {(it: Mark, k: number | null) => void} */
   reach(it, k) {
     if (k === null) return;
-    if (this.entry !== it.entry) {
-      Object.assign(this, { entry: it.entry, turned: new Set(), last: k });
-      Object.assign(it, { byKeys: false, module: null, word: null });
+    if (this.entered !== it.entered) {
+      [this.entered, this.turned, this.last] = [it.entered, new Set(), k];
+      [it.byKeys, it.module, it.word] = [false, null, null];
       begin(it);
     }
     const fresh = between(this.last, k, sideOf(it.modules)).filter((cell) => !this.turned.has(cell));
@@ -60,23 +78,26 @@ class Stroke {
   }
 }
 
-// The mouse draws. A finger or pen scrolls and zooms, as the browser does, and turns a module over by a tap: that is a click.
+// The mouse draws. A finger or pen scrolls and zooms, as the browser does, and turns a module over by a tap: that is a
+// click.
 function wirePointer() {
   const svg = $("symbol");
   let stroke = null;
   svg.addEventListener("pointerdown", (event) => {
+    if (!isLearning()) return;
     if (event.pointerType !== "mouse" || event.button !== 0 || moduleUnder(event) === null) return;
     svg.setPointerCapture(event.pointerId);
     stroke = new Stroke(mark());
     stroke.to(placeOfEvent(event));
   });
   svg.addEventListener("pointermove", (event) => {
-    if (event.pointerType !== "mouse") return;
+    if (event.pointerType !== "mouse" || !isLearning()) return;
     if (stroke) stroke.to(placeOfEvent(event)); else point(moduleUnder(event));
   });
   for (const name of ["pointerup", "pointercancel"]) svg.addEventListener(name, () => { stroke = null; });
   svg.addEventListener("click", (event) => {
-    if (event.pointerType && event.pointerType !== "mouse") new Stroke(mark()).to(placeOfEvent(event));
+    const isTap = event.pointerType && event.pointerType !== "mouse";
+    if (isTap && isLearning()) new Stroke(mark()).to(placeOfEvent(event));
   });
   svg.addEventListener("pointerleave", () => { if (!stroke) point(null); });
 }
@@ -85,7 +106,8 @@ function wirePointer() {
 
 const speakCursor = () => { $("spoken").textContent = spokenModule(mark().seen, mark().cursor); };
 const STEPS = {
-  ArrowUp: (r, c) => [r - 1, c], ArrowDown: (r, c) => [r + 1, c], ArrowLeft: (r, c) => [r, c - 1], ArrowRight: (r, c) => [r, c + 1],
+  ArrowUp: (r, c) => [r - 1, c], ArrowDown: (r, c) => [r + 1, c],
+  ArrowLeft: (r, c) => [r, c - 1], ArrowRight: (r, c) => [r, c + 1],
   Home: (r) => [r, 0], End: (r) => [r, -1], PageUp: (_r, c) => [0, c], PageDown: (_r, c) => [-1, c],
 };
 function moveCursor(it, key) {
@@ -99,9 +121,10 @@ function actOf({ key, shiftKey, ctrlKey, metaKey }) {
   if (key.toLowerCase() === "z" && isCommand) return shiftKey ? redo : undo;
   return key === "y" && isCommand ? redo : null;
 }
+/** @type {(event: KeyboardEvent) => Promise<void>} */
 async function keyOnSymbol(event) {
   const it = mark(), isMove = event.key in STEPS, act = actOf(event);
-  if (!it.seen) return;
+  if (!it.seen || !isLearning()) return;
   if (event.key === "Escape") { $("symbol").blur(); return; }
   if (!isMove && !act) return;
   event.preventDefault();
@@ -120,7 +143,7 @@ function wireKeys() {
     svg.focus();
   });
   svg.addEventListener("focus", () => {
-    if (!svg.matches(":focus-visible") || !mark().seen) return;
+    if (!svg.matches(":focus-visible") || !mark().seen || !isLearning()) return;
     mark().byKeys = true;
     point(mark().cursor); drawSymbol(); speakCursor();
   });
@@ -129,13 +152,17 @@ function wireKeys() {
 }
 function wireWords() {
   const box = $("words");
-  box.addEventListener("pointerover", (event) => { const node = event.target.closest("#words > b"); if (node) point(null, +node.id.slice(5)); });
+  box.addEventListener("pointerover", (event) => {
+    const node = event.target.closest("#words > b");
+    if (node) point(null, Number(node.id.slice(5)));
+  });
   box.addEventListener("pointerleave", () => point(null));
   box.addEventListener("blur", () => point(null));
   box.addEventListener("keydown", (event) => {
     const cells = [...box.children], across = cells.findIndex((cell) => cell.offsetTop > cells[0].offsetTop);
-    const row = across < 0 ? cells.length : across, w = mark().word ?? -1;
-    const to = { ArrowRight: w + 1, ArrowLeft: w - 1, ArrowDown: w + row, ArrowUp: w - row, Home: 0, End: cells.length - 1 }[event.key];
+    const row = across < 0 ? cells.length : across, w = mark().word ?? -1, last = cells.length - 1;
+    const steps = { ArrowRight: w + 1, ArrowLeft: w - 1, ArrowDown: w + row, ArrowUp: w - row, Home: 0, End: last };
+    const to = steps[event.key];
     if (to === undefined || !cells.length) return;
     event.preventDefault();
     const at = Math.max(0, Math.min(cells.length - 1, to));

@@ -1,28 +1,50 @@
-// Where the page asks its workers. Each desk has one, which answers one question at a time; a question that waits is replaced by a newer
-// one of its lane. An answer never throws: it is what the worker says, { failed: why }, { stopped: true }, or undefined if replaced.
+// Where the page asks its workers. Each desk has one, which answers one question at a time; a question that waits is
+// replaced by a newer one of its lane. An answer never throws: it is what the worker says, { failed: why },
+// { stopped: true }, or undefined if replaced.
 
+/** @typedef {{ number: number, kind: string, given: any, lane: string, transfer: Transferable[], since: number,
+    tell: ((progress: string) => void) | null, resolve: (answer: any) => void }} Question */
+/** @type {Desk[]} */
 const allDesks = [];
+/** @type {(() => void)[]} */
 const listeners = [];
 const wake = () => { for (const listener of listeners) listener(); };
-export const whenChanged = (listener) => listeners.push(listener);
+/** @type {(listener: () => void) => void} */
+export const whenChanged = (listener) => { listeners.push(listener); };
 export const isWorking = () => allDesks.some((desk) => desk.running || desk.waiting.length);
 export const stopAll = () => { for (const desk of allDesks) desk.stop(); };
-export const workingSince = () => allDesks.reduce((first, { running }) => Math.min(first, running?.since ?? Infinity), Infinity);
+export const workingSince = () => Math.min(...allDesks.map(({ running }) => running?.since ?? Infinity));
 
 export class Desk {
+  /** @type {Worker | null} */
+  worker = null;
+  /** @type {Promise<any> | null} what the worker says of the library */
+  ready = null;
+  /** @type {Question | null} */
+  running = null;
+  /** @type {Question[]} */
+  waiting = [];
+  count = 0; // of all questions
+
+  /** @param {string} script @param {Uint8Array} library */
   constructor(script, library) {
-    Object.assign(this, { script, library, worker: null, ready: null, running: null, waiting: [], count: 0 });
+    this.script = script;
+    this.library = library;
     allDesks.push(this);
   }
   // Starts a worker with the library; what it says of the library, or { failed }.
   start() {
     this.worker = new Worker(this.script);
     this.worker.onmessage = ({ data }) => this.hear(data);
-    this.worker.onerror = (event) => { event.preventDefault(); this.end({ failed: event.message || "the worker broke off" }); };
+    this.worker.onerror = (event) => {
+      event.preventDefault();
+      this.end({ failed: event.message || "the worker broke off" });
+    };
     this.ready = this.ask("load", this.library, "load");
     return this.ready;
   }
   // `tell` is given what the worker says of this question meanwhile.
+  /** @type {(kind: string, given: any, lane: string, more?: { transfer?: any[], tell?: any }) => Promise<any>} */
   ask(kind, given, lane, { transfer = [], tell = null } = {}) {
     if (!this.worker && kind !== "load") this.start();
     return new Promise((resolve) => {
@@ -30,18 +52,23 @@ export class Desk {
         if (question.lane === lane) question.resolve(undefined);
         return question.lane !== lane;
       });
-      this.waiting.push({ number: ++this.count, kind, given, lane, transfer, tell, resolve });
+      this.waiting.push({ number: ++this.count, kind, given, lane, transfer, tell, resolve, since: Infinity });
       this.next();
     });
   }
   next() {
     if (!this.running && this.waiting.length) {
-      this.running = Object.assign(this.waiting.shift(), { since: performance.now() });
+      this.running = this.waiting.shift();
+      this.running.since = performance.now();
       const { number, kind, given, transfer } = this.running;
-      try { this.worker.postMessage({ number, kind, given }, transfer); } catch (why) { this.hear({ number, failed: why.message }); return; }
+      try { this.worker.postMessage({ number, kind, given }, transfer); } catch (why) {
+        this.hear({ number, failed: why.message });
+        return;
+      }
     }
     wake();
   }
+  /** @type {(said: { number?: number, answer?: any, failed?: string, progress?: string }) => void} */
   hear({ number, answer, failed, progress }) {
     if (progress) { this.running?.tell?.(progress); return; }
     if (number !== this.running?.number) return;

@@ -1,24 +1,29 @@
 // Drawing what is read: the stage, facts, the verdict and the meters.
-import { BEYOND, FNC1, plural } from "./common.mjs";
 import { drawAbout, drawWords } from "./cells.mjs";
+import { BEYOND, FNC1, plural } from "./common.mjs";
+import { $, hint, made, setUsable, shape } from "./dom.mjs";
 import { drawElements, elementsOf, faultsOf } from "./elements.mjs";
+import { elementString } from "./gs1.mjs";
 import { drawLesson } from "./lesson.mjs";
-import { isPlain, spelled, spelledItem } from "./messages.mjs";
-import { $, BAD, EMPTY, VALID, WORKING, hint, isDamaged, made, mark, setUsable } from "./state.mjs";
+import { isPlain, spelled, spelledItem, utf8Of } from "./messages.mjs";
+import { BAD, EMPTY, VALID, WORKING, isDamaged, mark } from "./state.mjs";
 import { drawSymbol } from "./symbol.mjs";
 import { drawPrintSize } from "./taking.mjs";
 import { borne, refusal } from "./words.mjs";
 
 export function drawAll() {
-  drawStage(); drawFacts(); drawSymbol(); drawVerdict(); drawMeters(); drawWords(); drawAbout(); drawElements(); drawLesson();
+  drawStage(); drawFacts(); drawSymbol(); drawVerdict(); drawMeters();
+  drawWords(); drawAbout(); drawElements(); drawLesson();
 }
 
+const GIVING = ["copy", "save-svg", "save-png", "print", "copy-link"];
 // What can be done with the mark now.
 export function drawStage() {
   const it = mark(), isValid = it.stage === VALID, canAct = isValid || (it.stage === WORKING && it.modules !== null);
   document.body.dataset.stage = it.stage;
   document.body.toggleAttribute("data-entering", it.isEntering);
-  for (const id of ["copy", "save-svg", "save-png", "print", "copy-link"]) setUsable(id, isValid);
+  for (const id of GIVING) setUsable(id, isValid);
+  setUsable("copy-message", isValid && !it.seen.answer.fault);
   for (const id of ["to-limit", "one-more", "scratch"]) setUsable(id, canAct);
   setUsable("undo", canAct && it.past.length > 0);
   setUsable("redo", canAct && it.future.length > 0);
@@ -28,51 +33,68 @@ export function drawStage() {
   if ($("which").hidden && !wasHidden) $("which-undamaged").checked = true;
   $("which-first").textContent = it.items ? "take the undamaged symbol" : "take the symbol as it was opened";
 }
+const fact = (number, what) =>
+  made("div", {}, made("dt", { textContent: what }), made("dd", { textContent: number }));
 function drawFacts() {
-  const { seen } = mark(), fact = (number, what) => `<div><dt>${what}</dt><dd>${number}</dd></div>`;
-  const { side, size } = seen ?? {};
-  $("facts").innerHTML = !seen ? "" : fact(`${side} × ${side}`, "modules") + fact(size.data, "data codewords") + fact(size.check, "check codewords")
-    + fact(size.limit, size.blocks > 1 ? `wrong codewords can be corrected in each of ${size.blocks} blocks` : "wrong codewords can be corrected");
+  const { seen } = mark(), { side, size } = seen ?? {};
+  const each = size?.blocks > 1 ? ` in each of ${size.blocks} blocks` : "";
+  const facts = !seen ? [] : [fact(`${side} × ${side}`, "modules"), fact(size.data, "data codewords"),
+    fact(size.check, "check codewords"), fact(size.limit, `wrong codewords can be corrected${each}`)];
+  $("facts").replaceChildren(...facts);
   drawPrintSize();
 }
 
 // ---- The verdict
 
-const icon = (shape, sign) => '<svg viewBox="0 0 24 24" aria-hidden="true">'
-  + `<path d="${shape}" fill="currentColor"/><path d="${sign}" fill="none" stroke="var(--card)" stroke-width="2.6"/></svg>`;
 const CIRCLE = "M12 1a11 11 0 1 0 .001 0z";
+/** @type {Record<string, [string, string]>} of each kind a shape and the sign on it */
 const ICONS = {
-  good: icon(CIRCLE, "M6.5 12.5l3.7 3.7L17.5 8.6"),
-  refused: icon("M7.5 1h9L23 7.5v9L16.5 23h-9L1 16.5v-9z", "M8 8l8 8m0-8l-8 8"),
-  other: icon("M12 1.5L23.5 22H.5z", "M12 8.5v6.5m0 2v2.5"),
-  none: icon(CIRCLE, "M6.5 12h11"),
+  good: [CIRCLE, "M6.5 12.5l3.7 3.7L17.5 8.6"],
+  refused: ["M7.5 1h9L23 7.5v9L16.5 23h-9L1 16.5v-9z", "M8 8l8 8m0-8l-8 8"],
+  other: ["M12 1.5L23.5 22H.5z", "M12 8.5v6.5m0 2v2.5"],
+  none: [CIRCLE, "M6.5 12h11"],
 };
-function showItems(node, items) {
-  node.textContent = "";
-  if (!items.length) node.append(made("span", { className: "none", textContent: "the empty message" }));
-  for (const item of items) node.append(isPlain(item) ? String.fromCharCode(item) : made("i", { textContent: spelledItem(item) }));
+const iconOf = ([around, sign]) => shape("svg", { viewBox: "0 0 24 24", "aria-hidden": "true" },
+  shape("path", { d: around, fill: "currentColor" }),
+  shape("path", { d: sign, fill: "none", stroke: "var(--card)", "stroke-width": 2.6 }));
+
+// A message as people read it: GS1 data by its identifiers in brackets, all else as it is spelled.
+/** @type {(items: number[]) => (Node | string)[]} */
+function shownItems(items) {
+  if (!items.length) return [made("span", { className: "none", textContent: "the empty message" })];
+  const text = elementString(items);
+  if (text) return text.split(/(\(\d+\))/).map((part, k) => (k % 2 ? made("i", { textContent: part }) : part));
+  const isOdd = (item) => !isPlain(item);
+  return items.map((item) => (isOdd(item) ? made("i", { textContent: spelledItem(item) }) : spelledItem(item)));
 }
+/** @type {(kind: string, state: string, why: string, items?: number[] | null) => void} */
 function say(kind, state, why, items = null) {
+  const none = kind === "refused" ? [made("span", { className: "none", textContent: "no message" })] : [];
   if ($("verdict").className !== `card verdict ${kind}`) $("verdict").className = `card verdict ${kind}`;
-  $("state").innerHTML = `${ICONS[kind]}<span>${state}</span>`;
-  if (items) showItems($("says"), items); else $("says").innerHTML = kind === "refused" ? '<span class="none">no message</span>' : "";
+  $("state").replaceChildren(iconOf(ICONS[kind]), made("span", { textContent: state }));
+  $("says").replaceChildren(...(items ? shownItems(items) : none));
   $("why").textContent = why;
 }
-const NONE = { [EMPTY]: ["Nothing is entered yet", ""], [WORKING]: ["Working…", ""] };
+const NONE = { [EMPTY]: "Nothing is entered yet", [WORKING]: "Working…" };
 const OTHER = "The damage is beyond the limit, and what is left is within the limit of another message’s codewords. "
   + "No reader can notice that: only damage within the limit leaves the message certain.";
 
 function drawVerdict() {
   const it = mark();
   if (it.stage === BAD) say("none", "Nothing is read", it.why);
-  else if (it.stage !== VALID) say("none", ...NONE[it.stage]);
+  else if (it.stage !== VALID) say("none", NONE[it.stage], "");
   else if (it.seen.answer.fault) say("refused", "Refused", refusal(it.seen.answer.fault, it.seen.size, it.seen.limit));
   else sayRead(it, it.seen.answer);
 }
 function sayRead(it, { items, corrected, border }) {
   const words = borne(corrected, border), isGs1 = items[0] === FNC1, faults = isGs1 ? faultsOf(elementsOf(items)) : 0;
-  if (it.items && spelled(it.items) !== spelled(items)) { say("other", "Read as another message", OTHER, items); return; }
-  const why = !words ? "Nothing had to be corrected." : `${words}.${it.items ? " Damage within the limits never changes the message." : ""}`;
+  if (it.items && spelled(it.items) !== spelled(items)) {
+    say("other", "Read as another message", OTHER, items);
+    return;
+  }
+  const text = utf8Of(items), asText = text ? ` In UTF-8 it is “${text}”.` : "";
+  const within = it.items ? " Damage within the limits never changes the message." : "";
+  const why = `${words ? `${words}.${within}` : "Nothing had to be corrected."}${asText}`;
   const wrong = `${plural(faults, "element is", "elements are")} wrong, as the table says.`;
   if (faults) say("other", "Read, but it isn’t right as GS1 data", `${wrong} ${why}`, items);
   else say("good", isGs1 ? "Read, as GS1 data" : "Read", why, items);
@@ -80,22 +102,27 @@ function sayRead(it, { items, corrected, border }) {
 
 // ---- Meters
 
+/** @type {(name: string, count: number, limit: number, isOver: boolean, allowed: string) => Node} */
 function meter(name, count, limit, isOver, allowed) {
-  const segments = Math.min(Math.max(limit, 1), 60), wrong = isOver && count === BEYOND ? `more than ${limit}` : String(count);
-  const bar = Array.from({ length: segments }, (_, k) => (isOver || k < count ? '<i class="on"></i>' : "<i></i>")).join("");
-  const now = count === BEYOND ? limit + 1 : count, spoken = `${name}: ${wrong} wrong, ${limit} ${allowed}`;
-  const values = `aria-valuemin="0" aria-valuemax="${Math.max(limit, now)}" aria-valuenow="${now}" aria-valuetext="${spoken}"`;
-  return `<div class="meter${isOver ? " over" : ""}"><span>${name}</span>`
-    + `<span class="bar${segments > 24 ? " fine" : ""}" role="meter" aria-label="${name}" ${values}>${bar}</span>`
-    + `<span class="count"><b>${wrong}</b> wrong, ${limit} ${allowed}</span></div>`;
+  const segments = Math.min(Math.max(limit, 1), 60), isBeyond = isOver && count === BEYOND;
+  const wrong = isBeyond ? `more than ${limit}` : String(count), now = count === BEYOND ? limit + 1 : count;
+  const bar = made("span", { className: `bar${segments > 24 ? " fine" : ""}`, role: "meter", ariaLabel: name });
+  bar.setAttribute("aria-valuemin", "0");
+  bar.setAttribute("aria-valuemax", Math.max(limit, now));
+  bar.setAttribute("aria-valuenow", now);
+  bar.setAttribute("aria-valuetext", `${name}: ${wrong} wrong, ${limit} ${allowed}`);
+  for (let k = 0; k < segments; k++) bar.append(made("i", { className: isOver || k < count ? "on" : "" }));
+  const counted = made("span", { className: "count" });
+  counted.append(made("b", { textContent: wrong }), ` wrong, ${limit} ${allowed}`);
+  return made("div", { className: `meter${isOver ? " over" : ""}` }, made("span", { textContent: name }), bar, counted);
 }
 function drawMeters() {
   const it = mark();
   setUsable("usual", it.limit !== null);
-  if (!it.seen) { $("meters").innerHTML = ""; return; }
+  if (!it.seen) { $("meters").replaceChildren(); return; }
   const { size, corrected, border, limit } = it.seen, name = (b) => (size.blocks > 1 ? `Block ${b + 1}` : "Codewords");
-  $("meters").innerHTML = corrected.map((count, b) => meter(name(b), count, size.limit, count === BEYOND, "can be corrected")).join("")
-    + meter("Border", border, limit, border > limit, "accepted");
+  const blocks = corrected.map((count, b) => meter(name(b), count, size.limit, count === BEYOND, "can be corrected"));
+  $("meters").replaceChildren(...blocks, meter("Border", border, limit, border > limit, "accepted"));
   hint("border-hint", it.limitWhy, Boolean(it.limitWhy));
   if (document.activeElement !== $("border-limit")) {
     $("border-limit").value = limit;

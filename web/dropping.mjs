@@ -1,19 +1,23 @@
 // Pasting and dropping: pictures, files of text, and text. What is too much for a field isn't let into it, since even
 // to lay it out takes long.
 import { MOST_OF_SHEET, MOST_TEXT } from "./common.mjs";
+import { $, hint } from "./dom.mjs";
+import { showTask } from "./flow.mjs";
 import { isGrid } from "./grids.mjs";
 import { beginEntry } from "./link.mjs";
 import { tooMuch } from "./messages.mjs";
-import { showPane } from "./flow.mjs";
 import { readGrid, readPicture, writeMessage } from "./source.mjs";
-import { $, hint } from "./state.mjs";
+import { panes } from "./state.mjs";
+import { toast } from "./taking.mjs";
 
-const MOST_BYTES = 4 * MOST_TEXT; // of a file of text
+/** @typedef {{ picture?: File, file?: File, text?: string, note?: string, why?: string }} Brought */
+const BYTES = 4; // of a character, at most
 const isPicture = ({ type }) => type.startsWith("image/");
 const isText = ({ type, name }) => type.startsWith("text/") || (!type && /\.(txt|csv|grid)$/i.test(name));
 
 // What is dropped or pasted: the first picture, or else the first file of text, or else the text; and a note on what
 // isn't looked at.
+/** @type {(list: DataTransfer | null) => Brought} */
 export function broughtBy(list) {
   const files = [...(list?.files ?? [])], picture = files.find(isPicture), file = picture ?? files.find(isText);
   const text = list?.getData("text") ?? "", count = files.length.toLocaleString("en");
@@ -24,15 +28,16 @@ export function broughtBy(list) {
   return { text };
 }
 // The text of a file, or why it isn't taken.
-export async function textOfFile(file) {
-  const bytes = file.size.toLocaleString("en");
-  const why = `${file.name} has ${bytes} bytes, which are too many for a message or a grid.`;
-  if (file.size > MOST_BYTES) return { why };
-  const text = (await file.text()).replace(/\r?\n$/, ""), much = tooMuch(text);
+/** @type {(file: File, most?: number) => Promise<{ text?: string, why?: string }>} */
+export async function textOfFile(file, most = MOST_TEXT) {
+  const bytes = file.size.toLocaleString("en"), what = most === MOST_TEXT ? "a message or a grid" : "a sheet";
+  if (file.size > BYTES * most) return { why: `${file.name} has ${bytes} bytes, which are too many for ${what}.` };
+  const text = (await file.text()).replace(/\r?\n$/, ""), much = tooMuch(text, most);
   return much ? { why: `${file.name}: ${much}` } : { text };
 }
 
 // Lets no more into a field than it takes, where that comes from outside; `refuse` says so.
+/** @type {(area: HTMLTextAreaElement, refuse: (why: string) => void, most?: number) => void} */
 export function bound(area, refuse, most = MOST_TEXT) {
   area.addEventListener("beforeinput", (event) => {
     const { value, selectionStart: from, selectionEnd: to } = area;
@@ -46,37 +51,52 @@ export function bound(area, refuse, most = MOST_TEXT) {
 
 // ---- In the page as a whole
 
+/** @type {(text: string) => void} */
 function takeGridText(text) {
   beginEntry();
   $("grid").value = text;
-  showPane("read");
+  showTask("read");
   readGrid();
 }
+/** @type {(text: string) => void} */
 function takeText(text) {
   if (isGrid(text)) { takeGridText(text); return; }
-  showPane("write");
+  showTask("make");
   $("message").value = text;
   writeMessage();
 }
+/** @type {(area: HTMLTextAreaElement, text: string) => void} */
 function insert(area, text) {
   area.setRangeText(text, area.selectionStart, area.selectionEnd, "end");
   area.dispatchEvent(new Event("input", { bubbles: true }));
 }
+/** @type {(why: string) => void} */
 function refuseBrought(why) {
-  showPane("read");
+  showTask("read");
   hint("picture-hint", why, true);
 }
-async function takeFile(file, note) {
-  const { text, why } = await textOfFile(file);
-  if (why) { refuseBrought(why); return; }
-  takeText(text);
-  if (note) hint("picture-hint", `${file.name}:${note}`);
+// What is entered now: another text as soon as something else is.
+const entered = () => [panes.write.entered, panes.read.entered, $("messages").value].join();
+/** @type {(file: File, note: string, isSheet?: boolean) => Promise<void>} */
+async function takeFile(file, note, isSheet = false) {
+  const before = entered(), { text, why } = await textOfFile(file, isSheet ? MOST_OF_SHEET : MOST_TEXT);
+  if (entered() !== before) toast(`${file.name} was given up, since something else was entered meanwhile.`);
+  else if (isSheet) takeLines(file.name, text, why, note);
+  else if (why) refuseBrought(why);
+  else takeText(text);
+  if (note && !isSheet && !why) hint("picture-hint", `${file.name}:${note}`);
+}
+// The lines of a file take the place of those that stand on the sheet.
+/** @type {(name: string, text: string, why: string, note: string) => void} */
+function takeLines(name, text, why, note) {
+  if (!why) $("messages").value = text;
+  hint("sheet-hint", why || `The lines of ${name}.${note}`, Boolean(why), "messages");
 }
 function pasted(event) {
   if (event.defaultPrevented) return;
   const { picture, file, text, note } = broughtBy(event.clipboardData), isMessage = event.target === $("message");
   if (picture) { event.preventDefault(); readPicture(picture, note); return; }
-  if (file) { event.preventDefault(); takeFile(file, note); return; }
+  if (file) { event.preventDefault(); takeFile(file, note, event.target === $("messages")); return; }
   if (!isMessage || !text || !isGrid(text) || text.trim().length < 100) return;
   event.preventDefault(); // a grid that is pasted as a message is taken as a grid
   takeGridText(text);
@@ -89,7 +109,7 @@ function dropped(event) {
   const { target } = event, isSheet = target === $("messages");
   const much = text && tooMuch(text, isSheet ? MOST_OF_SHEET : MOST_TEXT);
   if (picture) readPicture(picture, note);
-  else if (file) takeFile(file, note);
+  else if (file) takeFile(file, note, isSheet);
   else if (why) refuseBrought(why);
   else if (much) hint(isSheet ? "sheet-hint" : "message-hint", `Nothing was taken: ${much}`, true);
   else if (isSheet || (target === $("message") && !isGrid(text))) insert(target, text);
@@ -102,4 +122,8 @@ export function wireDropping() {
   addEventListener("drop", dropped);
   for (const name of ["message", "grid"]) bound($(name), (why) => hint(`${name}-hint`, why, true));
   bound($("messages"), (why) => hint("sheet-hint", why, true), MOST_OF_SHEET);
+  $("lines").addEventListener("change", ({ target }) => {
+    if (target.files[0]) takeFile(target.files[0], "", true);
+    target.value = "";
+  });
 }

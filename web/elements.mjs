@@ -2,20 +2,25 @@
 import { FNC1 } from "./common.mjs";
 import { elementsIn } from "./gs1.mjs";
 import { spelled } from "./messages.mjs";
-import { $, VALID, made, mark } from "./state.mjs";
+import { $, made } from "./dom.mjs";
+import { VALID, mark } from "./state.mjs";
 
+/** @type {(items: number[]) => import("./gs1.mjs").Element[]} */
 export const elementsOf = (items) => elementsIn(items.slice(1));
 export const faultsOf = (elements) => elements.filter(({ fault }) => fault).length;
 
+/** @type {(element: import("./gs1.mjs").Element) => Node} */
 function rowOf({ identifier, name, items, note, fault }) {
   const row = made("tr", { className: fault ? "wrong" : "" }), value = made("td");
   value.append(made("code", { textContent: spelled(items) }));
-  for (const [text, className] of [[note, "note"], [fault, "fault"]]) if (text) value.append(made("span", { className, textContent: text }));
-  row.append(made("td", { textContent: identifier ? `(${identifier})` : "–" }), made("td", { textContent: name }), value);
+  for (const [text, className] of [[note, "note"], [fault, "fault"]])
+    if (text) value.append(made("span", { className, textContent: text }));
+  const identified = made("td", { textContent: identifier ? `(${identifier})` : "–" });
+  row.append(identified, made("td", { textContent: name }), value);
   return row;
 }
 export function drawElements() {
-  const it = mark(), { items } = it.seen?.answer ?? {}, isShown = it.stage === VALID && items?.[0] === FNC1;
+  const it = mark(), items = it.seen?.answer.items, isShown = it.stage === VALID && items?.[0] === FNC1;
   $("elements").hidden = !isShown;
   $("elements").querySelector("tbody").replaceChildren(...(isShown ? elementsOf(items).map(rowOf) : []));
 }

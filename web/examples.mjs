@@ -1,5 +1,5 @@
-// Examples: libdmtx wrote the first, in C40, which is also shown turned and inverted; zint the second, in EDIFACT. The last is the normal
-// symbol of what the first says, with six modules turned over.
+// Examples: libdmtx wrote the first, in C40, which is also shown turned and inverted; zint the second, in EDIFACT. The
+// last is the normal symbol of what the first says, with six modules turned over.
 
 export const C40 = `1010101010101010101010
 1011110010010100110101

@@ -1,13 +1,16 @@
-// How a mark changes: by what is entered, and by damage. What is shown is always about what is entered: from the moment of a change the mark
-// isn't valid, until the worker has answered about that very state.
+// How a mark changes: by what is entered, and by damage. What is shown is always about what is entered: from the moment
+// of a change the mark isn't valid, until the worker has answered about that very state.
 import { Desk } from "./desk.mjs";
-import { $, VALID, WORKING, here, keepMap, mark, panes } from "./state.mjs";
+import { $, allOf } from "./dom.mjs";
 import { drawAll } from "./draw.mjs";
 import { tellLink } from "./link.mjs";
 import { brokenWords, inTurn, isBroken, refuse, validate, work } from "./order.mjs";
+import { PANE_OF, TASKS, VALID, WORKING, keepMap, mark, store } from "./state.mjs";
 
+/** @typedef {import("./state.mjs").Mark} Mark */
 const MOST_ACTS = 500; // that can be undone
 
+/** @type {{ quick: Desk | null, pictures: Desk | null, readsFiles: boolean }} */
 export const desks = { quick: null, pictures: null, readsFiles: true }; // the workers do
 export function openDesks(script, library) {
   desks.quick = new Desk(script, library);
@@ -16,26 +19,28 @@ export function openDesks(script, library) {
 }
 
 // Another symbol was written or opened.
+/** @type {(it: Mark, symbol: { modules: Uint8Array, items?: number[] | null, seen: any }) => void} */
 export function take(it, { modules, items = null, seen }) {
-  if (it.modules?.length !== modules.length) Object.assign(it, { limit: null, limitWhy: "", cursor: 0 });
-  Object.assign(it, { modules: modules.slice(), original: modules.slice(), items, past: [], future: [], module: null, word: null });
+  it.hold(modules, items);
   keepMap(seen.side, seen.map);
   if (it.limit !== null) { it.seen = seen; look(it); return; }
-  validate(it).seen = seen;
+  validate(it, seen);
   if (it === mark()) { $("which-undamaged").checked = true; drawAll(); }
   tellLink();
 }
 
 // Asks what is read of the modules as they are now. During a drag older answers are drawn too, but aren't valid.
+/** @type {(it: Mark) => void} */
 export function look(it) {
   it.looking = looked(it);
 }
+/** @type {(it: Mark) => Promise<void>} */
 async function looked(it) {
-  const version = work(it), { entry } = it;
+  const own = work(it), { entered } = it;
   const seen = await desks.quick.ask("look", { modules: it.modules, limit: it.limit }, `look ${it.name}`);
-  if (!seen || it.entry !== entry) return;
-  if (isBroken(seen)) { if (it.version === version) refuse(it, brokenWords(seen)); return; }
-  if (it.version === version) validate(it); else if (it.stage !== WORKING) return;
+  if (!seen || it.entered !== entered) return;
+  if (isBroken(seen)) { if (it.changed === own) refuse(it, brokenWords(seen)); return; }
+  if (it.changed === own) validate(it, seen); else if (it.stage !== WORKING) return;
   it.seen = seen;
   if (it === mark()) drawAll();
   if (it.stage === VALID) tellLink();
@@ -43,6 +48,7 @@ async function looked(it) {
 
 // ---- Acts: each is one step that can be undone
 
+/** @type {(it: Mark) => void} */
 export function begin(it) {
   it.past.push(it.modules.slice());
   if (it.past.length > MOST_ACTS) it.past.shift();
@@ -65,31 +71,54 @@ export const undoAll = () => inTurn(mark(), (it) => {
 });
 
 // Damage by the buttons, which the worker chooses.
+/** @type {(what: string) => void} */
 export const damage = (what) => inTurn(mark(), (it) => damageNow(it, what));
+/** @type {(it: Mark, what: string) => Promise<void>} */
 async function damageNow(it, what) {
   work(it);
-  const { entry, modules, limit } = it, original = it.items ? it.original : null;
+  const { entered, modules, limit } = it, original = it.items ? it.original : null;
   const seen = await desks.quick.ask("damage", { act: what, modules, original, limit }, `damage ${it.name}`);
-  if (it.entry !== entry) return;
+  if (it.entered !== entered) return;
   if (isBroken(seen)) { refuse(it, brokenWords(seen)); return; }
   if (differ(seen.modules, it.modules)) begin(it);
-  Object.assign(validate(it), { modules: seen.modules.slice(), seen });
+  validate(it, seen);
+  it.modules = seen.modules.slice();
   if (it === mark()) drawAll();
   tellLink();
 }
+/** @type {(it: Mark, limit: number | null, limitWhy?: string) => void} */
 export function setLimit(it, limit, limitWhy = "") {
-  Object.assign(it, { limit, limitWhy });
+  it.limit = limit;
+  it.limitWhy = limitWhy;
   look(it);
 }
+
+// ---- The task that is open
+
+/** @type {((task: string) => void)[]} */
 const showing = [];
-export const whenShown = (listener) => showing.push(listener);
-export function showPane(name) {
-  here.pane = name;
-  for (const each of Object.keys(panes)) {
-    $(`tab-${each}`).setAttribute("aria-selected", each === name);
-    $(`tab-${each}`).tabIndex = each === name ? 0 : -1;
-    $(`pane-${each}`).hidden = each !== name;
+/** @type {(listener: (task: string) => void) => void} */
+export const whenShown = (listener) => { showing.push(listener); };
+const areDetailsOpen = { read: false, make: false, learn: true }; // as they were left in each task
+
+// Opens a task; what is learnt is about the symbol that was at hand, unless another is named.
+/** @type {(task: string, pane?: "write" | "read") => void} */
+export function showTask(task, pane = PANE_OF[task] ?? store.pane) {
+  store.task = task;
+  store.pane = pane;
+  document.body.dataset.task = task;
+  for (const each of TASKS) {
+    $(`tab-${each}`).setAttribute("aria-selected", each === task);
+    $(`tab-${each}`).tabIndex = each === task ? 0 : -1;
   }
-  for (const listener of showing) listener(name);
+  for (const node of allOf("[data-for]")) node.hidden = node.dataset.for !== task;
+  $(`learn-${pane}`).checked = true;
+  $("details").open = areDetailsOpen[task];
+  $("symbol").setAttribute("role", task === "learn" ? "application" : "img");
+  $("symbol").tabIndex = task === "learn" ? 0 : -1;
+  for (const listener of showing) listener(task);
   drawAll();
+}
+export function wireDetails() {
+  $("details").addEventListener("toggle", () => { areDetailsOpen[store.task] = $("details").open; });
 }

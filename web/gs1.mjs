@@ -1,9 +1,14 @@
-// GS1 messages: element strings as people write them, with identifiers in parentheses, and as a symbol holds them. The identifiers are those
-// of library/python/ecc200/data/gs1_identifiers.txt, which is packed into the page.
-import { FNC1, plural } from "./common.mjs";
-import { parse, tooMuch } from "./messages.mjs";
+// GS1 messages: element strings as people write them, with identifiers in parentheses, and as a symbol holds them. The
+// identifiers are those of the library's table, which is packed into the page.
+import { FNC1, isSame, plural } from "./common.mjs";
+import { parse, spelledItem, tooMuch } from "./messages.mjs";
 
+/** @typedef {{ charset: string, least: number, most: number, check?: string, mayLack: boolean }} Part of a value */
+/** @typedef {{ isFixed: boolean, parts: Part[], name: string }} Entry of the table */
+/** @typedef {{ identifier: string, name: string, items: number[], note?: string, fault?: string }} Element */
+/** @typedef {import("./messages.mjs").Taken} Taken */
 const SEPARATOR = 29; // GS, which may stand in place of an FNC1 between elements
+/** @type {Map<string, Entry>} */
 const known = new Map();
 
 // ---- What a value must be
@@ -14,19 +19,28 @@ const CHARSETS = {
   Y: { all: /^[#\-/0-9A-Z]*$/, words: ["character", "characters"] },
   Z: { all: /^[-0-9A-Z_a-z=]*$/, words: ["character", "characters"] },
 };
-const lengthWords = ({ charset, least, most }) => `${least < most ? `${least} to ` : ""}${plural(most, ...CHARSETS[charset].words)}`;
+/** @type {(part: Part) => string} */
+const lengthWords = ({ charset, least, most }) => {
+  const [one, many] = CHARSETS[charset].words;
+  return `${least < most ? `${least} to ` : ""}${plural(most, one, many)}`;
+};
 
 // The check digit of the digits before it: weights of 3 and 1 from the right.
-const checkDigit = (digits) => (10 - ([...digits].reverse().reduce((sum, digit, k) => sum + digit * (k % 2 ? 1 : 3), 0) % 10)) % 10;
+/** @type {(digits: string) => number} */
+const checkDigit = (digits) =>
+  (10 - ([...digits].reverse().reduce((sum, digit, k) => sum + Number(digit) * (k % 2 ? 1 : 3), 0) % 10)) % 10;
 
-// The check pair of the characters before it: each by its place among the 82, weighted with primes from the right, modulo 1021.
-const OF_PAIRS = "!\"%&'()*+,-./0123456789:;<=>?ABCDEFGHIJKLMNOPQRSTUVWXYZ_abcdefghijklmnopqrstuvwxyz", PAIR = "23456789ABCDEFGHJKLMNPQRSTUVWXYZ";
+// The check pair of the characters before it: each by its place among the 82, weighted with primes from the right,
+// modulo 1021.
+const OF_PAIRS = "!\"%&'()*+,-./0123456789:;<=>?ABCDEFGHIJKLMNOPQRSTUVWXYZ_abcdefghijklmnopqrstuvwxyz";
+const PAIR = "23456789ABCDEFGHJKLMNPQRSTUVWXYZ";
 const PRIMES = [2, 3, 5, 7, 11, 13, 17, 19, 23, 29, 31, 37, 41, 43, 47, 53, 59, 61, 67, 71, 73, 79, 83];
 function checkPair(text) {
   const sum = [...text].reverse().reduce((all, c, k) => all + OF_PAIRS.indexOf(c) * PRIMES[k], 0) % 1021;
   return PAIR[Math.floor(sum / 32)] + PAIR[sum % 32];
 }
-const MONTHS = ["January", "February", "March", "April", "May", "June", "July", "August", "September", "October", "November", "December"];
+const MONTHS = ["January", "February", "March", "April", "May", "June", "July", "August", "September", "October",
+  "November", "December"];
 const numberAt = (text, at) => Number(text.slice(at, at + 2));
 
 // A day: { words } or { fault }. Day 00 is the end of the month, where that may stand.
@@ -34,24 +48,30 @@ function dayOf(year, text, mayLackDay) {
   const month = numberAt(text, 0), day = numberAt(text, 2);
   if (month < 1 || month > 12) return { fault: `${text.slice(0, 2)} is no month` };
   if (day === 0 && mayLackDay) return { words: `the end of ${MONTHS[month - 1]} ${year}` };
-  if (day < 1 || day > new Date(year, month, 0).getDate()) return { fault: `${text.slice(2, 4)} is no day of that month` };
+  if (day < 1 || day > new Date(year, month, 0).getDate())
+    return { fault: `${text.slice(2, 4)} is no day of that month` };
   return { words: `${day} ${MONTHS[month - 1]} ${year}` };
 }
 // Of a year of two digits the century is the one that puts it at most 49 years back or 50 ahead.
 function fullYear(year) {
   const now = new Date().getFullYear();
-  return [-100, 0, 100].map((more) => Math.floor(now / 100) * 100 + more + year).find((each) => each >= now - 49 && each <= now + 50);
+  const years = [-100, 0, 100].map((more) => Math.floor(now / 100) * 100 + more + year);
+  return years.find((each) => each >= now - 49 && each <= now + 50);
 }
+/** @type {(most: number, what: string) => (text: string) => { words?: string, fault?: string }} */
 const below = (most, what) => (text) => (Number(text) < most ? {} : { fault: `${text} is no ${what}` });
+/** @type {Record<string, (text: string) => { words?: string, fault?: string }>} */
 const CHECKS = {
   check(text) {
     const right = checkDigit(text.slice(0, -1));
-    return Number(text.at(-1)) === right ? { words: "the check digit is right" } : { fault: `the check digit ${text.at(-1)} should be ${right}` };
+    if (Number(text.at(-1)) === right) return { words: "the check digit is right" };
+    return { fault: `the check digit ${text.at(-1)} should be ${right}` };
   },
   pair(text) {
     if (text.length < 3) return { fault: "the check pair is missing" };
     const right = checkPair(text.slice(0, -2));
-    return text.slice(-2) === right ? { words: "the check pair is right" } : { fault: `the check pair ${text.slice(-2)} should be ${right}` };
+    if (text.slice(-2) === right) return { words: "the check pair is right" };
+    return { fault: `the check pair ${text.slice(-2)} should be ${right}` };
   },
   date: (text) => dayOf(fullYear(numberAt(text, 0)), text.slice(2), false),
   "month-day": (text) => dayOf(fullYear(numberAt(text, 0)), text.slice(2), true),
@@ -59,7 +79,10 @@ const CHECKS = {
     const year = Number(text.slice(0, 4));
     return year ? dayOf(year, text.slice(4), false) : { fault: "there is no year 0000" };
   },
-  time: (text) => (text === "9999" || (numberAt(text, 0) < 24 && numberAt(text, 2) < 60) ? {} : { fault: `${text} is no time of day` }),
+  time(text) {
+    const isTime = numberAt(text, 0) < 24 && numberAt(text, 2) < 60;
+    return text === "9999" || isTime ? {} : { fault: `${text} is no time of day` };
+  },
   hour: below(24, "hour"),
   minute: below(60, "minute"),
   second: below(60, "second"),
@@ -69,20 +92,23 @@ const CHECKS = {
 // A value of decimals: the last digit of the identifiers 3100 to 3699 and 3900 to 3959 says how many.
 function decimalOf(identifier, text) {
   if (!/^3[1-6]\d\d$|^39[0-5]\d$/.test(identifier) || !/^\d+$/.test(text)) return "";
-  const places = Number(identifier[3]), currency = /^39[13]/.test(identifier) ? 3 : 0, digits = text.slice(currency).padStart(places + 1, "0");
+  const places = Number(identifier[3]), currency = /^39[13]/.test(identifier) ? 3 : 0;
+  const digits = text.slice(currency).padStart(places + 1, "0");
   return places ? `${digits.slice(0, -places)}.${digits.slice(-places)}`.replace(/^0+(?=\d)/, "") : "";
 }
 
 const NO_DIGITS = "it has something other than digits", NO_CHARACTERS = "it has a character that isn’t allowed here";
 
 // What is wrong with a value, or what it means.
+/** @type {(identifier: string, entry: Entry, text: string) => { note?: string, fault?: string }} */
 function judgedValue(identifier, { parts }, text) {
   const notes = [decimalOf(identifier, text)];
   let at = 0;
   for (const part of parts) {
     const own = text.slice(at, at + part.most);
     if (!own && part.mayLack) break;
-    if (own.length < part.least) return { fault: `too short: ${lengthWords(part)} ${parts.length > 1 ? "are due in a part" : "are due"}` };
+    const due = parts.length > 1 ? "are due in a part" : "are due";
+    if (own.length < part.least) return { fault: `too short: ${lengthWords(part)} ${due}` };
     if (!CHARSETS[part.charset].all.test(own)) return { fault: part.charset === "N" ? NO_DIGITS : NO_CHARACTERS };
     const { words, fault } = CHECKS[part.check]?.(own) ?? {};
     if (fault) return { fault };
@@ -95,19 +121,25 @@ function judgedValue(identifier, { parts }, text) {
 
 // ---- The identifiers
 
+/** @type {(words: string) => Part} */
 function partOf(words) {
   const [, open, charset, range, count, check] = /^(\[?)([NXYZ])(\.\.)?(\d+)(?::([a-z-]+))?\]?$/.exec(words);
   return { charset, least: range ? 1 : Number(count), most: Number(count), check, mayLack: open === "[" };
 }
-// Each line has: the identifier, or the first and the last of several; `fixed` or `fnc1`; since when; the parts of the value; the title.
+// Each line has: the identifier, or the first and the last of several; `fixed` or `fnc1`; since when; the parts of the
+// value; the title.
+const ENTRY = /^(\d{2,4})(?:-(\d{2,4}))?\s+(fixed|fnc1)\s+\S+\s+(\S+)\s+(.*)$/;
+/** @type {(text: string) => void} */
 export function readIdentifiers(text) {
   for (const line of text.split("\n")) {
-    const [, first, last, ending, parts, name] = /^(\d{2,4})(?:-(\d{2,4}))?\s+(fixed|fnc1)\s+\S+\s+(\S+)\s+(.*)$/.exec(line) ?? [];
+    const [, first, last, ending, parts, name] = ENTRY.exec(line) ?? [];
     if (!first) continue;
+    const entry = { isFixed: ending === "fixed", parts: parts.split("+").map(partOf), name };
     for (let number = Number(first); number <= Number(last ?? first); number++)
-      known.set(String(number).padStart(first.length, "0"), { isFixed: ending === "fixed", parts: parts.split("+").map(partOf), name });
+      known.set(String(number).padStart(first.length, "0"), entry);
   }
 }
+/** @type {(entry: Entry) => number} */
 const mostOf = ({ parts }) => parts.reduce((sum, { most }) => sum + most, 0);
 // The identifier at the beginning of a text.
 const identifierAt = (text) => [2, 3, 4].map((length) => text.slice(0, length)).find((some) => known.has(some));
@@ -115,10 +147,12 @@ const identifierAt = (text) => [2, 3, 4].map((length) => text.slice(0, length)).
 // ---- As a symbol holds them
 
 const textOf = (items) => items.map((item) => (item === FNC1 ? "\u001D" : String.fromCharCode(item))).join("");
+/** @type {(items: number[]) => Element[]} */
 export function elementsIn(items) {
   const elements = [];
   for (let at = 0; at < items.length;) {
-    const rest = items.slice(at), gap = rest.findIndex((item) => item === FNC1 || item === SEPARATOR), whole = gap < 0 ? rest : rest.slice(0, gap);
+    const rest = items.slice(at), gap = rest.findIndex((item) => item === FNC1 || item === SEPARATOR);
+    const whole = gap < 0 ? rest : rest.slice(0, gap);
     const identifier = identifierAt(textOf(whole.slice(0, 4))), entry = known.get(identifier);
     if (!entry) {
       elements.push({ identifier: "", name: "no identifier begins here", items: whole, fault: "unknown" });
@@ -130,7 +164,8 @@ export function elementsIn(items) {
     at += identifier.length + value.length;
     if (items[at] === FNC1 || items[at] === SEPARATOR) at++;
   }
-  return elements.length ? elements : [{ identifier: "", name: "no element follows the FNC1", items: [], fault: "empty" }];
+  if (elements.length) return elements;
+  return [{ identifier: "", name: "no element follows the FNC1", items: [], fault: "empty" }];
 }
 
 // ---- As people write them
@@ -139,15 +174,18 @@ export function elementsIn(items) {
 // for those that are spelled \x28 or \(. Square brackets may stand in place of all round ones, as zint has them.
 const isElements = (text) => text.startsWith("(") || /^\[\d{2,4}\]/.test(text);
 const ELEMENTS = { "(": /\((\d*)(\)?)((?:\\[^]?|[^(\\])*)/y, "[": /\[(\d*)(\]?)([^[]*)/y };
+/** @type {(text: string, at: number, why: string) => Taken} */
 function noElement(text, at, why) {
   const name = at ? "as part of the value" : "as plain text", bracket = text[at] === "(" ? "\\x28" : "\\x5B";
   return { column: at + 1, why, ways: [{ name, text: `${text.slice(0, at)}${bracket}${text.slice(at + 1)}` }] };
 }
 
 // Why a text has no items, in words.
+/** @type {(taken: Taken) => string} */
 export const whyNot = ({ column, why }) => (column ? `Column ${column} ${why}.` : why);
 
 // The element that is written at this place: { identifier, items, end }, or what is wrong.
+/** @type {(text: string, at: number) => Taken & { identifier?: string, end?: number }} */
 function elementAt(text, at) {
   const element = ELEMENTS[text[0]];
   element.lastIndex = at;
@@ -173,6 +211,15 @@ function joinedItems(elements) {
   });
   return items;
 }
+// A message as an element string, or "" if it isn't what that would stand for.
+/** @type {(items: number[]) => string} */
+export function elementString(items) {
+  if (items[0] !== FNC1) return "";
+  const elements = elementsIn(items.slice(1));
+  if (elements.some(({ identifier }) => !identifier) || !isSame(joinedItems(elements), items)) return "";
+  const valueOf = (value) => value.map((item) => (item === 40 ? "\\(" : spelledItem(item))).join("");
+  return elements.map(({ identifier, items: value }) => `(${identifier})${valueOf(value)}`).join("");
+}
 // What a reader would take apart otherwise than it was written, in words, or "": a value of fixed length runs into what
 // follows it if it has another.
 function misread(elements, items) {
@@ -181,9 +228,11 @@ function misread(elements, items) {
     read[k]?.identifier !== identifier || read[k].items.length !== value.length;
   const odd = elements.find(isOdd);
   if (!odd) return "";
-  const entry = known.get(odd.identifier), due = plural(mostOf(entry), ...CHARSETS[entry.parts[0].charset].words);
+  const entry = known.get(odd.identifier), [one, many] = CHARSETS[entry.parts[0].charset].words;
+  const due = plural(mostOf(entry), one, many);
   return `(${odd.identifier}) ${entry.name} takes ${due}, and has ${odd.items.length}.`;
 }
+/** @type {(text: string) => Taken} */
 function elementsOfText(text) {
   const elements = [];
   for (let at = 0; at < text.length;) {
@@ -197,6 +246,7 @@ function elementsOfText(text) {
 }
 
 // The items of what is entered: of element strings, or of a spelled message. { items, isElements }, or what is wrong.
+/** @type {(text: string) => Taken} */
 export function itemsOf(text) {
   const much = tooMuch(text);
   if (much) return { why: much, isTooMuch: true };

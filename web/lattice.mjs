@@ -1,33 +1,45 @@
-// A symbol's modules in a photograph: a homography, how well a side's border agrees with the picture there, and the modules by their medians.
+// A symbol's modules in a photograph: a homography, how well a side's border agrees with the picture there, and the
+// modules by their medians.
 import { sumsOf } from "./regions.mjs";
 
 // The picture, with the means of its windows at hand.
 export class Photograph {
-  constructor(grey, width, height) { Object.assign(this, { grey, width, height, sums: sumsOf(grey, width, height) }); }
+  /** @param {Float32Array} grey @param {number} width @param {number} height */
+  constructor(grey, width, height) {
+    this.grey = grey;
+    this.width = width;
+    this.height = height;
+    this.sums = sumsOf(grey, width, height);
+  }
   // The mean of a square window around a point; outside of the picture that of its edge.
   mean(x, y, radius) {
     const { width, height, sums } = this, across = width + 1;
-    const left = Math.min(width - 1, Math.max(0, Math.round(x - radius))), top = Math.min(height - 1, Math.max(0, Math.round(y - radius)));
-    const right = Math.min(width, Math.max(left + 1, Math.round(x + radius))), bottom = Math.min(height, Math.max(top + 1, Math.round(y + radius)));
-    const sum = sums[bottom * across + right] - sums[top * across + right] - sums[bottom * across + left] + sums[top * across + left];
+    const left = Math.min(width - 1, Math.max(0, Math.round(x - radius)));
+    const top = Math.min(height - 1, Math.max(0, Math.round(y - radius)));
+    const right = Math.min(width, Math.max(left + 1, Math.round(x + radius)));
+    const bottom = Math.min(height, Math.max(top + 1, Math.round(y + radius)));
+    const below = sums[bottom * across + right] - sums[bottom * across + left];
+    const sum = below - sums[top * across + right] + sums[top * across + left];
     return sum / ((right - left) * (bottom - top));
   }
   // The pixel at a point, between its four neighbours.
   at(x, y) {
-    const { width, height, grey } = this, px = Math.min(width - 1.001, Math.max(0, x - 0.5)), py = Math.min(height - 1.001, Math.max(0, y - 0.5));
+    const { width, height, grey } = this, within = (place, most) => Math.min(most - 1.001, Math.max(0, place - 0.5));
+    const px = within(x, width), py = within(y, height);
     const c = Math.floor(px), r = Math.floor(py), a = px - c, b = py - r, k = r * width + c;
     const under = r + 1 < height ? k + width : k, next = c + 1 < width ? 1 : 0;
     return (1 - b) * ((1 - a) * grey[k] + a * grey[k + next]) + b * ((1 - a) * grey[under] + a * grey[under + next]);
   }
 }
 
-// The homography that takes the unit square to four corners: lower left, lower right, upper right, upper left of a symbol, as (u, v) with
-// v upwards; as eight numbers.
+// The homography that takes the unit square to four corners: lower left, lower right, upper right, upper left of a
+// symbol, as (u, v) with v upwards; as eight numbers.
 export function homography([a, b, c, d]) {
   const [dx1, dy1, dx2, dy2] = [b[0] - c[0], b[1] - c[1], d[0] - c[0], d[1] - c[1]];
   const [sx, sy] = [a[0] - b[0] + c[0] - d[0], a[1] - b[1] + c[1] - d[1]];
   const turn = dx1 * dy2 - dx2 * dy1, g = (sx * dy2 - dx2 * sy) / turn, h = (dx1 * sy - sx * dy1) / turn;
-  return [b[0] - a[0] + g * b[0], d[0] - a[0] + h * d[0], a[0], b[1] - a[1] + g * b[1], d[1] - a[1] + h * d[1], a[1], g, h];
+  const row = (at) => [b[at] - a[at] + g * b[at], d[at] - a[at] + h * d[at], a[at]];
+  return [...row(0), ...row(1), g, h];
 }
 const reach = ([a, b, c, d]) => Math.sqrt(Math.abs((c[0] - a[0]) * (d[1] - b[1]) - (c[1] - a[1]) * (d[0] - b[0])) / 2);
 
@@ -59,14 +71,19 @@ export function borderScore(photo, corners, size) {
     squares += value * value;
     if (isDark) { dark += value; darks++; } else { light += value; lights++; }
   }
-  const [meanDark, meanLight] = [dark / darks, light / lights], spread = squares - darks * meanDark ** 2 - lights * meanLight ** 2;
+  const [meanDark, meanLight] = [dark / darks, light / lights];
+  const spread = squares - darks * meanDark ** 2 - lights * meanLight ** 2;
   return (meanLight - meanDark) / (Math.sqrt(Math.max(0, spread) / (darks + lights)) + 3);
 }
 // The corners moved a little, as long as that brings the score up. Steps are in modules.
 export function climbed(score, corners, side, steps, rounds = 3) {
   let best = corners.map((corner) => corner.slice()), top = score(best);
   const module = reach(corners) / side;
-  const tried = (moved) => { const value = score(moved); if (value > top + 1e-6) { top = value; best = moved; return true; } return false; };
+  const tried = (moved) => {
+    const value = score(moved), isBetter = value > top + 1e-6;
+    if (isBetter) [top, best] = [value, moved];
+    return isBetter;
+  };
   for (const step of steps) {
     for (let round = 0, isBetter = true; isBetter && round < rounds; round++) {
       isBetter = false;
@@ -86,12 +103,14 @@ const MOVES = MOVED.flatMap((which) => [[...which].map((on) => [+on, 0]), [...wh
 const LOOKS = [-0.26, -0.13, 0, 0.13, 0.26];
 // The median of each module, row by row.
 export function medians(photo, corners, side) {
-  const [p, q, x0, r, s, y0, g, h] = homography(corners), out = new Float32Array(side * side), some = new Float32Array(LOOKS.length ** 2);
+  const [p, q, x0, r, s, y0, g, h] = homography(corners), out = new Float32Array(side * side);
+  const some = new Float32Array(LOOKS.length ** 2);
   for (let k = 0; k < out.length; k++) {
     let count = 0;
     for (const dy of LOOKS) {
       for (const dx of LOOKS) {
-        const u = ((k % side) + 0.5 + dx) / side, v = 1 - (Math.floor(k / side) + 0.5 + dy) / side, w = g * u + h * v + 1;
+        const u = ((k % side) + 0.5 + dx) / side, v = 1 - (Math.floor(k / side) + 0.5 + dy) / side;
+        const w = g * u + h * v + 1;
         some[count++] = photo.at((p * u + q * v + x0) / w, (r * u + s * v + y0) / w);
       }
     }
@@ -101,8 +120,10 @@ export function medians(photo, corners, side) {
 }
 // Sums over all entries above and to the left, and the sum over a window of the side.
 class Sums {
+  /** @param {number} side @param {(k: number) => number} valueOf */
   constructor(side, valueOf) {
-    Object.assign(this, { side, sums: new Float64Array((side + 1) ** 2) });
+    this.side = side;
+    this.sums = new Float64Array((side + 1) ** 2);
     for (let k = 0; k < side * side; k++) {
       const at = (Math.floor(k / side) + 1) * (side + 1) + (k % side) + 1;
       this.sums[at] = valueOf(k) + this.sums[at - 1] + this.sums[at - side - 1] - this.sums[at - side - 2];
@@ -110,19 +131,23 @@ class Sums {
   }
   around(k, far) {
     const { side, sums } = this, r = Math.floor(k / side), c = k % side, across = side + 1;
-    const top = Math.max(0, r - far), bottom = Math.min(side, r + far + 1), left = Math.max(0, c - far), right = Math.min(side, c + far + 1);
-    return sums[bottom * across + right] - sums[top * across + right] - sums[bottom * across + left] + sums[top * across + left];
+    const top = Math.max(0, r - far), bottom = Math.min(side, r + far + 1);
+    const left = Math.max(0, c - far), right = Math.min(side, c + far + 1);
+    const below = sums[bottom * across + right] - sums[bottom * across + left];
+    return below - sums[top * across + right] + sums[top * across + left];
   }
 }
 const NEIGHBOURS = 6; // modules on each side by which a level is told
 
 // The level between dark and light around each module: of the means of what is darker and lighter than the middle.
 function middles(values, side) {
-  const sorted = Float32Array.from(values).sort(), middle = (sorted[sorted.length >> 3] + sorted[(7 * sorted.length) >> 3]) / 2;
+  const sorted = Float32Array.from(values).sort(), { length } = sorted;
+  const middle = (sorted[length >> 3] + sorted[(7 * length) >> 3]) / 2;
   const halves = [(k) => values[k] <= middle, (k) => values[k] > middle].map((isIn) =>
     ({ sums: new Sums(side, (k) => (isIn(k) ? values[k] : 0)), counts: new Sums(side, (k) => (isIn(k) ? 1 : 0)) }));
   return Float32Array.from(values, (_, k) => {
-    const [dark, light] = halves.map(({ sums, counts }) => sums.around(k, NEIGHBOURS) / Math.max(1, counts.around(k, NEIGHBOURS)));
+    const [dark, light] = halves.map(({ sums, counts }) =>
+      sums.around(k, NEIGHBOURS) / Math.max(1, counts.around(k, NEIGHBOURS)));
     return dark && light ? (dark + light) / 2 : middle;
   });
 }

@@ -1,14 +1,18 @@
-// The link: the fragment of the address holds what is entered in both panes, so that reload, Back and a bookmark keep it. The browser sends
-// fragments to no server. Its fields: message, profile, damage; grid, grid-damage; border and grid-border; and pane.
-import { MOST_TEXT, limitIn, sideOf } from "./common.mjs";
-import { $, VALID, WORKING, damageOf, here, isDamaged, panes } from "./state.mjs";
+// The link: the fragment of the address holds the task and what is entered, so that reload, Back and a bookmark keep
+// it. The browser sends fragments to no server. It begins with the task: read, make or learn. Its fields: message, as,
+// profile, damage; grid, grid-damage; border and grid-border; and pane, which says whose symbol is learnt about.
+import { MOST_SIDE, MOST_TEXT, limitIn, sideOf } from "./common.mjs";
+import { $ } from "./dom.mjs";
+import { PANE_OF, TASKS, VALID, WORKING, damageOf, isDamaged, panes, store } from "./state.mjs";
 import { noLimit } from "./words.mjs";
 
 const LONGEST = 300000; // characters of a fragment that is looked at: more than all that can be entered takes
-const LINK_AFTER = 150; // milliseconds: browsers bound how often an address may change
+const LINK_AFTER = 150, LINK_AGAIN = 2000; // milliseconds: browsers bound how often an address may change
 
 // A set of places in a symbol, as the gaps between them in base 36.
+/** @type {(places: number[]) => string} */
 const gapsOf = (places) => places.map((place, k) => (place - (k ? places[k - 1] : -1) - 1).toString(36)).join(".");
+/** @type {(gaps: string | null, count: number) => number[]} */
 function placesOf(gaps, count) {
   const places = [];
   let at = -1;
@@ -21,15 +25,19 @@ function placesOf(gaps, count) {
 }
 // Modules of 0 and 1 as letters for six each, row by row.
 const LETTERS = "ABCDEFGHIJKLMNOPQRSTUVWXYZabcdefghijklmnopqrstuvwxyz0123456789-_";
+/** @type {(modules: Uint8Array) => string} */
 export function lettersOf(modules) {
+  const six = (at) => [0, 1, 2, 3, 4, 5].reduce((sum, bit) => 2 * sum + (modules[at + bit] ?? 0), 0);
   let text = "";
-  for (let k = 0; k < modules.length; k += 6) text += LETTERS[[0, 1, 2, 3, 4, 5].reduce((sum, bit) => 2 * sum + (modules[k + bit] ?? 0), 0)];
+  for (let k = 0; k < modules.length; k += 6) text += LETTERS[six(k)];
   return `${sideOf(modules)}${text}`;
 }
+/** @type {(text: string) => Uint8Array | null} */
 export function fromLetters(text) {
-  const [, side, letters] = /^(\d{2,3})([\w-]*)$/.exec(text) ?? [], count = side ** 2;
-  if (!side || letters.length !== Math.ceil(count / 6)) return null;
-  return Uint8Array.from({ length: count }, (_, k) => (LETTERS.indexOf(letters[Math.floor(k / 6)]) >> (5 - (k % 6))) & 1);
+  const [, side, letters] = /^(\d{2,3})([\w-]*)$/.exec(text) ?? [], count = Number(side) ** 2;
+  if (!side || Number(side) > MOST_SIDE || letters.length !== Math.ceil(count / 6)) return null;
+  const sixOf = (k) => LETTERS.indexOf(letters[Math.floor(k / 6)]);
+  return Uint8Array.from({ length: count }, (_, k) => (sixOf(k) >> (5 - (k % 6))) & 1);
 }
 
 // Whether there is a symbol of what is entered.
@@ -37,16 +45,17 @@ const isThere = ({ stage, isEntering }) => stage === VALID || (stage === WORKING
 function fragment() {
   const { write, read } = panes, fields = new URLSearchParams();
   if ($("message").value.length <= MOST_TEXT) fields.set("message", $("message").value);
+  if ($("kind-text").checked) fields.set("as", "text");
   if ($("profile-1").checked) fields.set("profile", "shorter");
   if (isThere(write) && isDamaged(write)) fields.set("damage", gapsOf(damageOf(write)));
-  if (write.limit !== null) fields.set("border", write.limit);
+  if (write.limit !== null) fields.set("border", String(write.limit));
   if (isThere(read)) {
     fields.set("grid", lettersOf(read.original));
     if (isDamaged(read)) fields.set("grid-damage", gapsOf(damageOf(read)));
-    if (read.limit !== null) fields.set("grid-border", read.limit);
+    if (read.limit !== null) fields.set("grid-border", String(read.limit));
   }
-  if (here.pane === "read") fields.set("pane", "read");
-  return `#${fields}`;
+  if (store.task === "learn" && store.pane === "read") fields.set("pane", "read");
+  return `#${[store.task, String(fields)].filter(Boolean).join("&")}`;
 }
 // The address that was written or followed last, and how many links are being followed; the page's start counts as one.
 let timer = null, isNewEntry = false, own = "", followed = 1;
@@ -65,37 +74,56 @@ function writeLink() {
   clearTimeout(timer);
   timer = null;
   const text = fragment();
-  if (text === own) { isNewEntry = false; return; }
-  own = text;
-  try { if (isNewEntry) history.pushState(null, "", text); else history.replaceState(null, "", text); } catch { /* the browser bounds changes */ }
+  if (text !== own || text !== location.hash) {
+    own = text;
+    try {
+      if (isNewEntry) history.pushState(null, "", text); else history.replaceState(null, "", text);
+    } catch { /* as below */ }
+    if (location.hash !== text) { // too many changes for the browser
+      timer = setTimeout(writeLink, LINK_AGAIN);
+      return;
+    }
+  }
   isNewEntry = false;
 }
 // Whether the address says what is entered, or what is entered is what it says: for the tests.
 export const isLinked = () => !timer && !followed && own === location.hash;
 export function linkNow() { writeLink(); return location.href.split("#")[0] + fragment(); }
 
-// What a fragment holds, or null.
+// Which task a fragment is about. One that names none is of an earlier page, which showed damage with all else.
+/** @type {(fields: URLSearchParams) => string} */
+function taskOf(fields) {
+  const isRead = fields.get("pane") === "read", shown = isRead ? ["grid-damage", "grid-border"] : ["damage", "border"];
+  const named = TASKS.find((task) => fields.get(task) === "");
+  return named ?? (shown.some((name) => fields.has(name)) ? "learn" : isRead ? "read" : "make");
+}
+// What a fragment holds, or null. If it names a task alone, that is all.
+/** @type {(text: string) => any} */
 export function fromFragment(text) {
   if (text.length < 2 || text.length > LONGEST) return null;
-  const fields = new URLSearchParams(text.slice(1));
-  if (!["message", "grid", "pane"].some((name) => fields.has(name))) return null;
+  const fields = new URLSearchParams(text.slice(1)), task = taskOf(fields);
+  if (TASKS.includes(text.slice(1))) return { isBare: true, task, pane: PANE_OF[task] };
+  if (!["message", "grid", "pane", ...TASKS].some((name) => fields.has(name))) return null;
   const limit = (name) => {
     const text = fields.get(name) ?? "", value = limitIn(text);
     return { limit: value, why: text && value === null ? noLimit(text, null) : "" };
   };
   return {
     message: fields.get("message") ?? "",
+    isText: fields.get("as") === "text",
     isShorter: fields.get("profile") === "shorter",
     damage: (count) => placesOf(fields.get("damage"), count),
     limit: limit("border"),
     grid: fromLetters(fields.get("grid") ?? ""),
     gridDamage: (count) => placesOf(fields.get("grid-damage"), count),
     gridLimit: limit("grid-border"),
-    pane: fields.get("pane") === "read" ? "read" : "write",
+    task,
+    pane: PANE_OF[task] ?? (fields.get("pane") === "read" ? "read" : "write"),
   };
 }
 // Restores from the address now and whenever it changes by Back, Forward, or another link. `restore` is given what the
-// fragment holds, or null for what the page begins with.
+// fragment holds, or null for what the page begins with, and whether this is the page's start.
+/** @type {(restore: (held: any, isFirst: boolean) => Promise<any>, say: (text: string) => void) => Promise<void>} */
 export async function wireLink(restore, say) {
   let isFirst = true;
   const follow = async () => {
@@ -108,10 +136,12 @@ export async function wireLink(restore, say) {
     const count = own.length.toLocaleString("en");
     if (!held && own.length > LONGEST) say(`The link has ${count} characters: it isn’t read.`);
     if (!held && own && !isFirst) { writeLink(); return; } // nothing that this page has written
+    const wasFirst = isFirst;
     isFirst = false;
     followed++;
-    await restore(held);
+    await restore(held, wasFirst);
     followed--;
+    if (held?.isBare && !wasFirst) writeLink(); // what is entered stays, and so it is linked
   };
   addEventListener("popstate", follow);
   addEventListener("hashchange", follow);

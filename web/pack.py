@@ -1,9 +1,10 @@
 #!/usr/bin/env python3
-"""Packs the page, its styles, its modules and the library into one HTML file that opens from disk: pack.py LIBRARY.wasm PAGE.html
+"""Packs the page, its styles, its modules and the library into one HTML file that opens from disk:
+pack.py LIBRARY.wasm PAGE.html
 
-The file fetches nothing: its policy, which the browser enforces, lets it run its own scripts and workers made of them, and make no connection.
-The modules of the page become one script, those of its worker another, which the page starts from its own text. Before them stands fallback.js,
-which any browser can read.
+The file fetches nothing: its policy, which the browser enforces, lets it run its own scripts and workers made of them,
+and make no connection. The modules of the page become one script, those of its worker another, which the page starts
+from its own text. Before them stands fallback.js, which any browser can read.
 """
 import base64
 import hashlib
@@ -73,11 +74,13 @@ def hash_of(script):
 
 
 def packed(library, modules):
-    page, looks, fallback = ((HERE / name).read_text(encoding="utf-8") for name in ("index.html", "style.css", "fallback.js"))
+    page, looks, fallback = ((HERE / name).read_text(encoding="utf-8")
+                             for name in ("index.html", "style.css", "fallback.js"))
     assert all(page.count(line) == 1 for line in (LOOKS, SCRIPT, FALLBACK, CHARSET))
     script = joined(modules, "page.mjs")
-    policy = (f"default-src 'none'; script-src {hash_of(fallback)} {hash_of(script)} 'wasm-unsafe-eval'; worker-src blob:; style-src 'unsafe-inline'; "
-              "img-src data: blob:; media-src blob:; base-uri 'none'; form-action 'none'")
+    policy = (f"default-src 'none'; script-src {hash_of(fallback)} {hash_of(script)} 'wasm-unsafe-eval'; "
+              "worker-src blob:; style-src 'unsafe-inline'; img-src data: blob:; media-src blob:; base-uri 'none'; "
+              "form-action 'none'")
     page = page.replace(CHARSET, f'{CHARSET}\n<meta http-equiv="Content-Security-Policy" content="{policy}">')
     page = page.replace(LOOKS, f"<style>\n{looks}</style>").replace(FALLBACK, f"<script>{fallback}</script>")
     plain = {"library": base64.b64encode(library).decode(), "worker": joined(modules, "worker.mjs"),

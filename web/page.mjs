@@ -1,11 +1,13 @@
-// The page of Mitsubadoor: its start. What it knows of symbols it asks the proved library in its workers; here and in the modules beside this
-// one are only the glue to it, words and drawing, and how symbols are found in pictures: none of that is proved.
+// The page of Mitsubadoor: its start. What it knows of symbols it asks the proved library in its workers; here and in
+// the modules beside this one are only the glue to it, words and drawing, and how symbols are found in pictures: none
+// of that is proved.
 import { wireCamera } from "./camera.mjs";
 import { wireCompare } from "./compare.mjs";
 import { wireDamage } from "./damage.mjs";
 import { isWorking, stopAll, whenChanged, workingSince } from "./desk.mjs";
+import { $ } from "./dom.mjs";
 import { wireDropping } from "./dropping.mjs";
-import { desks, openDesks } from "./flow.mjs";
+import { desks, openDesks, wireDetails } from "./flow.mjs";
 import { readIdentifiers } from "./gs1.mjs";
 import { gridText } from "./grids.mjs";
 import { wireLesson } from "./lesson.mjs";
@@ -13,7 +15,7 @@ import { isLinked, wireLink } from "./link.mjs";
 import { spelled } from "./messages.mjs";
 import { wirePrinting } from "./printing.mjs";
 import { pending, restore, wireSource } from "./source.mjs";
-import { $, mark, panes } from "./state.mjs";
+import { mark, panes, store } from "./state.mjs";
 import { drawSmall } from "./symbol.mjs";
 import { toast, wireTaking } from "./taking.mjs";
 
@@ -42,21 +44,27 @@ async function idle() {
 async function startPage() {
   readIdentifiers($("identifiers").textContent);
   const library = Uint8Array.from(atob($("library").textContent.trim()), (c) => c.charCodeAt(0));
-  const loaded = await openDesks(URL.createObjectURL(new Blob([$("worker").textContent], { type: "text/javascript" })), library);
+  const script = new Blob([$("worker").textContent], { type: "text/javascript" });
+  const loaded = await openDesks(URL.createObjectURL(script), library);
   if (loaded.failed !== undefined) throw new Error(loaded.failed);
   desks.readsFiles = loaded.readsFiles;
-  wireBusy(); wireDamage(); wireSource(); wireDropping(); wireTaking(); wirePrinting(); wireLesson(); wireCamera();
-  const logo = await desks.quick.ask("write", { items: Array.from("Mitsubadoor", (c) => c.charCodeAt(0)), profile: 0, hasLook: false }, "logo");
+  wireBusy(); wireDetails(); wireDamage(); wireSource(); wireDropping();
+  wireTaking(); wirePrinting(); wireLesson(); wireCamera();
+  const items = Array.from("Mitsubadoor", (c) => c.charCodeAt(0));
+  const logo = await desks.quick.ask("write", { items, profile: 0, hasLook: false }, "logo");
   drawSmall($("logo"), logo.modules);
   await wireLink(restore, toast);
   wireCompare();
-  globalThis.mitsubadoor = { get mark() { return mark(); }, panes, desks, idle, isLinked, spelled, gridText }; // for the tests
+  const forTests = { get mark() { return mark(); }, panes, store, desks, idle, isLinked, spelled, gridText };
+  Object.defineProperty(globalThis, "mitsubadoor", { value: forTests });
 }
-removeEventListener("error", showFallback); // that was for a script that can't be read or begun
+/** @type {() => void} of fallback.js */
+const showInstead = globalThis["showFallback"];
+removeEventListener("error", showInstead); // that was for a script that can't be read or begun
 try {
-  if (hasVectors()) await startPage(); else showFallback();
+  if (hasVectors()) await startPage(); else showInstead();
 } catch (why) {
-  showFallback();
+  showInstead();
   $("broken").textContent = `The library couldn’t be loaded: ${why.message}`;
   throw why;
 }

@@ -1,6 +1,6 @@
 // The paper: sheets with a margin, on which nothing may be wider than there is room, since browsers would print it
 // smaller; or labels, each as large as its symbol.
-import { $, made } from "./state.mjs";
+import { $, made } from "./dom.mjs";
 
 const MARGIN = 15; // millimetres on each side of a sheet
 const PAPERS = { a4: { name: "A4", width: 210, height: 297 }, letter: { name: "Letter", width: 215.9, height: 279.4 } };
@@ -12,16 +12,20 @@ export function paperNow() {
   return paper ? { ...paper, across: paper.width - 2 * MARGIN, down: paper.height - 2 * MARGIN } : null;
 }
 // Why a symbol of so many millimetres can't be printed at its size, or "".
+/** @type {(millimetres: number) => string} */
 export function tooWide(millimetres) {
   const paper = paperNow();
   if (!paper || millimetres <= paper.across) return "";
   return `${paper.name} has room for ${paper.across} mm within its margins. Take narrower modules, or a label.`;
 }
 // Sets the page for symbols of at most so many millimetres.
+/** @type {(millimetres: number) => void} */
 export function setPage(millimetres) {
-  const paper = paperNow(), size = paper ? `${paper.width}mm ${paper.height}mm` : `${millimetres}mm ${millimetres}mm`;
+  const paper = paperNow();
+  const size = paper ? `${paper.width}mm ${paper.height}mm` : `${millimetres}mm ${millimetres}mm`;
   rule.textContent = `@page { size: ${size}; margin: ${paper ? MARGIN : 0}mm; }`;
 }
+/** @type {(changed: () => void) => void} */
 export function wirePaper(changed) {
   document.head.append(rule);
   setPage(0);

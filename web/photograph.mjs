@@ -1,34 +1,48 @@
-// A symbol in a photograph: every quadrilateral that may be one is a hypothesis, in four turns and 21 sizes, and the proved reader judges.
+// A symbol in a photograph: every quadrilateral that may be one is a hypothesis, in four turns and 21 sizes, and the
+// proved reader judges.
 import { standsHow, upright } from "./grids.mjs";
 import { Photograph, borderScore, climbed, contrast, modulesAt } from "./lattice.mjs";
 import { areaOf, quadrilaterals } from "./regions.mjs";
 
 const BEST = 4; // sizes and turns of a quadrilateral that are pursued
-const FAIR = 0.55, GOOD = 1.1; // border scores from which a hypothesis is pursued, and from which it is refined by all its modules
+// Border scores from which a hypothesis is pursued, and from which it is refined by all its modules.
+const FAIR = 0.55, GOOD = 1.1;
 const MOST_TIME = 6000; // milliseconds
 const MIRROR = { quarters: 1, mirrored: true, inverted: false };
 
 const turned = (corners, by) => corners.map((_, k) => corners[(k + by) % 4]);
-// The corners so that they run counterclockwise, as y grows downwards: lower left, lower right, upper right, upper left.
+// The corners so that they run counterclockwise, as y grows downwards: lower left, lower right, upper right, upper
+// left.
 function ordered(corners) {
-  const sum = corners.reduce((all, [x, y], k) => { const [X, Y] = corners[(k + 1) % 4]; return all + x * Y - X * y; }, 0);
+  const sum = corners.reduce((all, [x, y], k) => {
+    const [X, Y] = corners[(k + 1) % 4];
+    return all + x * Y - X * y;
+  }, 0);
   return sum > 0 ? [...corners].reverse() : corners;
 }
 const isNear = (a, b) => {
-  const reach = Math.sqrt(areaOf(a)), far = (p) => b.reduce((least, q) => Math.min(least, Math.hypot(p[0] - q[0], p[1] - q[1])), Infinity);
+  const reach = Math.sqrt(areaOf(a)), apart = (p, q) => Math.hypot(p[0] - q[0], p[1] - q[1]);
+  const far = (p) => b.reduce((least, q) => Math.min(least, apart(p, q)), Infinity);
   return a.every((corner) => far(corner) < 0.012 * reach + 1);
 };
 
 class Search {
+  begun = performance.now();
+  /** @type {number[][][]} corners */
+  tried = [];
+  /** @param {import("./library.mjs").Library} lib @param {Photograph} photo @param {boolean} isInverted */
   constructor(lib, photo, isInverted) {
-    Object.assign(this, { lib, photo, isInverted, begun: performance.now(), tried: [] });
+    this.lib = lib;
+    this.photo = photo;
+    this.isInverted = isInverted;
     this.sign = isInverted ? -1 : 1;
   }
   isLate() { return performance.now() - this.begun > MOST_TIME; }
   score(corners, size) { return this.sign * borderScore(this.photo, corners, size); }
   // What the reader says of the modules here, also if they are mirrored.
   judged(corners, size) {
-    const { lib, isInverted } = this, modules = modulesAt(this.photo, corners, size.side), limit = lib.usualLimit(size.side);
+    const { lib, isInverted } = this, limit = lib.usualLimit(size.side);
+    const modules = modulesAt(this.photo, corners, size.side);
     const straight = isInverted ? modules.map((module) => 1 - module) : modules;
     for (const mirrored of [false, true]) {
       const stand = mirrored ? upright(straight, MIRROR) : straight;

@@ -31,8 +31,10 @@ function alike({ contrast, isOneColour: isOne }) {
 }
 
 // The symbol in a picture: { modules, isRead, how, isPhotograph }, or { why }.
+/** @type {(lib: import("./library.mjs").Library, given: { file?: Blob, bitmap?: ImageBitmap }, tell: any) =>
+    Promise<any>} */
 export async function symbolInPicture(lib, { file, bitmap: given }, tell) {
-  const { bitmap, why } = given ? { bitmap: given } : await bitmapOf(file);
+  const { bitmap, why = "" } = given ? { bitmap: given } : await bitmapOf(file);
   if (!bitmap) return { why };
   if (bitmap.width * bitmap.height > MOST_PIXELS) return { why: "The picture has more than 40 million pixels." };
   let unread = null, little = "";

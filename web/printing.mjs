@@ -1,16 +1,17 @@
 // Printing: the symbol at its size with its text, on one page; or a sheet of many messages; or each on a label as large
 // as itself.
 import { FNC1, SHORTER, plural, sideOf } from "./common.mjs";
+import { $, hint, made } from "./dom.mjs";
 import { elementsOf } from "./elements.mjs";
 import { desks } from "./flow.mjs";
-import { itemsOf } from "./gs1.mjs";
+import { elementString } from "./gs1.mjs";
 import { spelled } from "./messages.mjs";
 import { brokenWords, isBroken } from "./order.mjs";
 import { paperNow, setPage, tooWide } from "./paper.mjs";
-import { profileNow } from "./source.mjs";
-import { $, VALID, WORKING, hint, made, mark } from "./state.mjs";
+import { itemsNow, profileNow } from "./source.mjs";
+import { VALID, WORKING, mark } from "./state.mjs";
 import { QUIET } from "./symbol.mjs";
-import { given, giving, lengthNow, millimetres, plainSvg, toast } from "./taking.mjs";
+import { drawingOf, given, giving, lengthNow, millimetres, toast } from "./taking.mjs";
 
 const MOST_ON_SHEET = 500;
 const LINE = 5.5, CHARACTER = 2.5; // millimetres of the text below a symbol, a little more than they are
@@ -18,12 +19,11 @@ let isSheet = false;
 
 const lengthOf = (modules) => lengthNow(sideOf(modules));
 // A symbol with what stands below it; on a label nothing does.
+/** @type {(modules: Uint8Array, texts: Node[]) => HTMLElement} */
 function figure(modules, texts) {
-  const node = made("figure");
-  node.innerHTML = plainSvg(modules);
-  if (paperNow()) node.append(...texts);
-  return node;
+  return made("figure", {}, drawingOf(modules), ...(paperNow() ? texts : []));
 }
+/** @type {(className: string, figures: Node[], length: number) => void} */
 function layOut(className, figures, length) {
   $("paper").className = paperNow() ? className : "labels";
   setPage(length);
@@ -33,6 +33,7 @@ const captionOf = (textContent) => made("figcaption", { textContent });
 const noteOf = (textContent) => made("p", { textContent });
 
 // What is wrong with GS1 data, in words, or "".
+/** @type {(items: number[] | null) => string} */
 function wrongGs1(items) {
   const wrong = items?.[0] === FNC1 ? elementsOf(items).find(({ fault }) => fault) : null;
   if (!wrong) return "";
@@ -43,6 +44,7 @@ function wrongGs1(items) {
 // ---- One symbol
 
 // A text cut to what has room below a symbol of so many millimetres.
+/** @type {(text: string, length: number) => string} */
 function fitted(text, length) {
   const { across, down } = paperNow() ?? { across: 0, down: 0 };
   const lines = Math.floor((down - length - 4 * LINE) / LINE), most = lines * Math.floor(across / CHARACTER);
@@ -63,7 +65,8 @@ function fillPaper() {
   const { modules, isDamagedOne, items } = given(), length = lengthOf(modules), side = sideOf(modules);
   const damage = isDamagedOne ? "; damaged" : "", wrong = wrongGs1(items);
   const size = `${side} × ${side} modules of ${millimetres()} mm, ${QUIET} of quiet zone${damage}`;
-  const text = items ? fitted(spelled(items), length) || "the empty message" : "not read";
+  const says = items && (elementString(items) || spelled(items));
+  const text = items ? fitted(says, length) || "the empty message" : "not read";
   layOut("one", [figure(modules, [captionOf(text), noteOf(size), ...(wrong ? [noteOf(wrong)] : [])])], length);
 }
 function printOne() {
@@ -74,12 +77,14 @@ function printOne() {
 // ---- A sheet
 
 // Why a message of a sheet isn't printed, or "".
+/** @type {(read: import("./messages.mjs").Taken) => string} */
 function whyNotOnSheet({ items, column, why }) {
   return items ? wrongGs1(items) : column ? `column ${column} ${why}` : why;
 }
+/** @type {(profile: number) => Promise<string>} */
 async function fillSheet(profile) {
   const lines = $("messages").value.split("\n").filter((line) => line.trim());
-  const reads = lines.slice(0, MOST_ON_SHEET).map(itemsOf), faults = reads.map(whyNotOnSheet);
+  const reads = lines.slice(0, MOST_ON_SHEET).map(itemsNow), faults = reads.map(whyNotOnSheet);
   const bad = faults.findIndex(Boolean), count = plural(lines.length, "message", "messages");
   if (!lines.length) return "Enter a message on each line.";
   if (lines.length > MOST_ON_SHEET) return `${count}, and a sheet takes no more than ${MOST_ON_SHEET}.`;
@@ -90,7 +95,8 @@ async function fillSheet(profile) {
   if (long >= 0) return `Message ${long + 1} fits no size.`;
   const lengths = symbols.map(lengthOf), wide = lengths.findIndex(tooWide);
   if (wide >= 0) return `Message ${wide + 1} makes a symbol of ${lengths[wide]} mm: ${tooWide(lengths[wide])}`;
-  layOut("sheet", symbols.map((modules, k) => figure(modules, [captionOf(lines[k])])), Math.max(...lengths));
+  const figures = symbols.map((modules, k) => figure(modules, [captionOf(lines[k])]));
+  layOut("sheet", figures, Math.max(...lengths));
   return "";
 }
 async function printSheet() {

@@ -1,4 +1,5 @@
-// Where symbols may lie in a photograph: an adaptive threshold, gaps closed, components, their hulls, and the quadrilateral around each.
+// Where symbols may lie in a photograph: an adaptive threshold, gaps closed, components, their hulls, and the
+// quadrilateral around each.
 
 const COARSE = 640; // pixels of the longer side in which regions are looked for
 const MOST_REGIONS = 14, LEAST_LENGTH = 16;
@@ -22,7 +23,8 @@ function windowed(grey, width, height, radius, make) {
     const top = Math.max(0, y - radius), bottom = Math.min(height, y + radius + 1);
     for (let x = 0; x < width; x++) {
       const left = Math.max(0, x - radius), right = Math.min(width, x + radius + 1);
-      const sum = sums[bottom * across + right] - sums[top * across + right] - sums[bottom * across + left] + sums[top * across + left];
+      const below = sums[bottom * across + right] - sums[bottom * across + left];
+      const sum = below - sums[top * across + right] + sums[top * across + left];
       out[y * width + x] = make(sum, (bottom - top) * (right - left), y * width + x);
     }
   }
@@ -32,7 +34,8 @@ const smoothed = (grey, width, height, radius) => windowed(grey, width, height, 
 
 // The picture reduced by a whole number, so that its longer side has at most COARSE pixels, and smoothed against noise.
 function reduced(grey, width, height) {
-  const by = Math.max(1, Math.ceil(Math.max(width, height) / COARSE)), w = Math.floor(width / by), h = Math.floor(height / by);
+  const by = Math.max(1, Math.ceil(Math.max(width, height) / COARSE));
+  const w = Math.floor(width / by), h = Math.floor(height / by);
   const out = new Uint8Array(w * h);
   for (let y = 0; y < h; y++) {
     for (let x = 0; x < w; x++) {
@@ -47,7 +50,11 @@ function reduced(grey, width, height) {
 function levels(grey) {
   const counts = new Uint32Array(256);
   for (const value of grey) counts[value]++;
-  const at = (share) => { let sum = 0, k = 0; while (k < 255 && (sum += counts[k]) < share * grey.length) k++; return k; };
+  const at = (share) => {
+    let sum = 0, k = 0;
+    while (k < 255 && (sum += counts[k]) < share * grey.length) k++;
+    return k;
+  };
   return [at(0.01), at(0.99)];
 }
 const darker = (grey, width, height, radius, by) =>
@@ -85,7 +92,8 @@ function components(mask, width, height) {
 
 // The convex hull of the pixels' corners, counterclockwise as y grows downwards.
 function hullOf(rows) {
-  const points = [...rows].flatMap(([y, [left, right]]) => [[left, y], [left, y + 1], [right + 1, y], [right + 1, y + 1]]);
+  const ends = ([y, [left, right]]) => [[left, y], [left, y + 1], [right + 1, y], [right + 1, y + 1]];
+  const points = [...rows].flatMap(ends);
   points.sort((a, b) => a[0] - b[0] || a[1] - b[1]);
   const half = (list) => {
     const out = [];
@@ -110,7 +118,8 @@ export function meeting(a, b, c, d) {
   const t = ((c[0] - a[0]) * vy - (c[1] - a[1]) * vx) / turn;
   return [a[0] + t * ux, a[1] + t * uy];
 }
-// The quadrilateral around a hull: edge after edge is left out and its neighbours prolonged, the one that adds the least area first.
+// The quadrilateral around a hull: edge after edge is left out and its neighbours prolonged, the one that adds the
+// least area first.
 function quadrilateral(hull) {
   const corners = hull.slice();
   while (corners.length > 4) {
@@ -132,19 +141,22 @@ function quadrilateral(hull) {
 const lengthOf = (a, b) => Math.hypot(a[0] - b[0], a[1] - b[1]);
 function isLikely(corners, area) {
   const sides = corners.map((corner, k) => lengthOf(corner, corners[(k + 1) % 4])), whole = areaOf(corners);
-  return Math.min(...sides) >= LEAST_LENGTH && Math.max(...sides) < 2.2 * Math.min(...sides) && area > 0.35 * whole && whole > 200;
+  const least = Math.min(...sides), most = Math.max(...sides);
+  return least >= LEAST_LENGTH && most < 2.2 * least && area > 0.35 * whole && whole > 200;
 }
 
 // The quadrilaterals around what may be symbols, larger first, in pixels of the picture: for each way to look, a list.
 export function* quadrilaterals(grey, width, height, isInverted) {
-  const small = reduced(grey, width, height), [least, most] = levels(small.grey), longer = Math.max(small.width, small.height);
+  const small = reduced(grey, width, height), [least, most] = levels(small.grey);
+  const longer = Math.max(small.width, small.height);
   if (most - least < 24) return;
   const ink = isInverted ? small.grey.map((value) => 255 - value) : small.grey;
   for (const [smooth, window, share] of [[1, 10, 0.14], [0, 10, 0.1], [2, 6, 0.12], [1, 4, 0.2]]) {
     const soft = smoothed(ink, small.width, small.height, smooth), radius = Math.round(longer / window);
     const mask = darker(soft, small.width, small.height, radius, share * (most - least));
     for (const gap of [2, 4, 1, 7, 11]) {
-      const parts = components(closed(mask, small.width, small.height, gap), small.width, small.height).sort((a, b) => b.area - a.area);
+      const whole = closed(mask, small.width, small.height, gap);
+      const parts = components(whole, small.width, small.height).sort((a, b) => b.area - a.area);
       for (const { area, rows } of parts.slice(0, MOST_REGIONS)) {
         const corners = quadrilateral(hullOf(rows));
         if (corners && isLikely(corners, area)) yield corners.map(([x, y]) => [x * small.by, y * small.by]);

@@ -1,51 +1,67 @@
 // Where the symbol comes from: a message, a grid, or a picture.
 import { bitmapOf } from "./bitmap.mjs";
 import { ASCII, MOST_TEXT, SHORTER, plural } from "./common.mjs";
+import { $, allOf, hint, made, withCode } from "./dom.mjs";
 import { C40, EDIFACT, TURNED } from "./examples.mjs";
-import { desks, setLimit, showPane, take } from "./flow.mjs";
+import { desks, setLimit, showTask, take } from "./flow.mjs";
 import { gridText } from "./grids.mjs";
 import { itemsOf, whyNot } from "./gs1.mjs";
 import { beginEntry, tellLink } from "./link.mjs";
-import { tooMuch } from "./messages.mjs";
+import { itemsOfText, tooMuch } from "./messages.mjs";
 import { brokenWords, clear, enter, inTurn, isBroken, refuse, settled } from "./order.mjs";
-import { $, VALID, hint, made, panes } from "./state.mjs";
+import { TASKS, VALID, panes } from "./state.mjs";
 import { drawnSvg } from "./svg.mjs";
 import { refusal, stood } from "./words.mjs";
 
+/** @typedef {import("./state.mjs").Mark} Mark */
 export const profileNow = () => ($("profile-1").checked ? SHORTER : ASCII);
-const STILL = "The symbol below is the one before, and isn’t read.";
+// What a text that is entered as a message stands for, as it is to be taken.
+/** @type {(text: string) => any} */
+export const itemsNow = (text) => ($("kind-text").checked ? itemsOfText(text) : itemsOf(text));
+const STILL = "The symbol that is shown is the one before, and isn’t read.";
 
 // ---- The message
 
+/** @type {(area: HTMLTextAreaElement) => void} */
 function fitHeight(area) {
   area.style.height = "auto";
   area.style.height = `${Math.min(200, area.value.length > MOST_TEXT ? 200 : area.scrollHeight + 2)}px`;
 }
-function offer(ways) {
-  for (const { name, text } of ways) {
-    const button = made("button", { textContent: `Spell it ${name}` });
-    button.addEventListener("click", () => { $("message").value = text; $("message").focus(); writeMessage(); });
-    $("message-hint").append(" ", button);
-  }
+function offerOne(words, act) {
+  const button = made("button", { textContent: words });
+  button.addEventListener("click", () => { act(); $("message").focus(); writeMessage(); });
+  $("message-hint").append(" ", button);
 }
+/** @type {(ways: { name: string, text: string }[]) => void} */
+function offer(ways) {
+  for (const { name, text } of ways) offerOne(`Spell it ${name}`, () => { $("message").value = text; });
+  if (ways.length && !$("kind-text").checked) offerOne("Take it as text", () => { $("kind-text").checked = true; });
+}
+/** @type {(words: string, ways?: { name: string, text: string }[]) => void} */
 function refuseMessage(words, ways = []) {
-  for (const profile of [ASCII, SHORTER]) $(`side-${profile}`).textContent = "";
+  for (const each of [ASCII, SHORTER, "now"]) $(`side-${each}`).textContent = "";
   hint("message-hint", `${words} ${panes.write.modules ? STILL : ""}`, true, "message");
   offer(ways);
   refuse(panes.write, words);
 }
 function showSides(sides) {
-  for (const profile of [ASCII, SHORTER]) $(`side-${profile}`).textContent = sides[profile] ? `${sides[profile]} × ${sides[profile]}` : "fits no size";
+  for (const profile of [ASCII, SHORTER])
+    $(`side-${profile}`).textContent = sides[profile] ? `${sides[profile]} × ${sides[profile]}` : "fits no size";
+  $("side-now").textContent = $(`side-${profileNow()}`).textContent;
 }
-const SPELLINGS = "<code>\\\\</code> is the backslash, <code>\\F</code> FNC1, <code>\\xHH</code> a byte. "
-  + "GS1 data can be entered as <code>(01)09506000134352(10)AB-42</code>.";
-
-const AS_ELEMENTS = "Taken as GS1 data. To take it as plain text, spell the first bracket as a byte: <code>\\x28</code> "
-  + "is ( and <code>\\x5B</code> is [.";
+const SPELLINGS = "`\\\\` is the backslash, `\\xHH` a byte, `\\F` FNC1.";
+const AS_ELEMENTS = "Taken as GS1 data. To take it as plain text, spell the first bracket as a byte: `\\x28` is ( and "
+  + "`\\x5B` is [.";
+// What there is to know about a message that is taken.
+function hintOn(text, { isElements }) {
+  if (isElements) return AS_ELEMENTS;
+  if (!$("kind-text").checked && text.includes("\\")) return SPELLINGS;
+  return "";
+}
 
 // Writes the message that is entered.
 export function writeMessage() {
-  const it = panes.write, text = $("message").value, read = itemsOf(text);
+  const it = panes.write, text = $("message").value, read = itemsNow(text);
   fitHeight($("message"));
   if (!read.items) {
     refuseMessage(`${whyNot(read)}${read.isTooMuch ? " The link doesn’t keep them." : ""}`, read.ways);
@@ -58,16 +74,22 @@ export function writeMessage() {
       const over = items.length - written.fits;
       refuseMessage(`${refusal(written.fault)} It is ${plural(over, "character", "characters")} too long.`);
     } else {
-      hint("message-hint", "", false, "message");
-      $("message-hint").innerHTML = read.isElements ? AS_ELEMENTS : SPELLINGS;
+      hint("message-hint", withCode(hintOn(text, read)), false, "message");
       take(it, { modules: written.modules, items, seen: written.seen });
     }
     showSides(written.sides);
   });
 }
+/** @type {(text: string, isText?: boolean) => void} */
+export function enterMessage(text, isText = false) {
+  $("message").value = text;
+  $(isText ? "kind-text" : "kind-message").checked = true;
+  writeMessage();
+}
 
 // ---- The grid
 
+/** @type {(symbol: any) => void} */
 function takeGrid(symbol) {
   const it = panes.read, why = isBroken(symbol) ? brokenWords(symbol) : symbol.why;
   if (!symbol.modules) {
@@ -80,7 +102,11 @@ function takeGrid(symbol) {
 }
 export function readGrid(text = $("grid").value) {
   const it = panes.read;
-  if (!text.trim()) { clear(it); hint("grid-hint", "Paste the rows of a grid here.", false, "grid"); return; }
+  if (!text.trim()) {
+    clear(it);
+    hint("grid-hint", "Paste the rows of a grid here.", false, "grid");
+    return;
+  }
   enter(it, () => desks.quick.ask("grid", text, "grid"), takeGrid);
 }
 function enterGrid() {
@@ -91,7 +117,7 @@ function enterGrid() {
   takeGrid({ why: much });
 }
 // Reads the symbol of the message, as it stands now.
-function readWritten() {
+export function readWritten() {
   const { write, read } = panes;
   enter(read, async () => {
     await settled(write);
@@ -106,20 +132,24 @@ function readWritten() {
 
 // ---- A picture. While it is looked at the pane goes on as it is; what is entered meanwhile wins.
 
+/** @type {(file: Blob) => boolean} */
 const isSvg = (file) => file.type === "image/svg+xml";
+/** @type {(file: Blob) => any} */
 function questionOf(file) {
   if (isSvg(file)) return drawnSvg(file);
   return desks.readsFiles ? { file } : bitmapOf(file);
 }
+/** @type {(file: Blob, lane: string, how?: { kind?: string, more?: any, tell?: any }) => Promise<any>} */
 export async function lookAt(file, lane, { kind = "picture", more = (question) => question, tell = null } = {}) {
   const question = await questionOf(file), { why, bitmap } = question;
   return why ? { why } : desks.pictures.ask(kind, more(question), lane, { transfer: bitmap ? [bitmap] : [], tell });
 }
 export const pending = { pictures: 0, last: null };
+/** @type {(file: File, note?: string) => Promise<void>} */
 export async function readPicture(file, note = "") {
   const it = panes.read, name = file.name || "The picture";
   beginEntry();
-  showPane("read");
+  showTask("read");
   pending.last = file;
   pending.pictures++;
   const tell = (progress) => { if (pending.last === file) hint("picture-hint", `Looking at ${name}: ${progress}…`); };
@@ -132,6 +162,7 @@ export async function readPicture(file, note = "") {
 }
 // What the camera has found.
 export const showFound = (symbol, name) => enter(panes.read, () => symbol, () => takePicture(symbol, name));
+/** @type {(symbol: any, name: string, note?: string) => void} */
 function takePicture(symbol, name, note = "") {
   const it = panes.read;
   if (!symbol.modules) {
@@ -151,6 +182,7 @@ function takePicture(symbol, name, note = "") {
 // ---- From a link
 
 // Turns these modules over, in one step, and sets the limit.
+/** @type {(it: Mark, places: number[], limit: { limit: number | null, why: string }) => void} */
 function spoil(it, places, { limit, why }) {
   if (!places.length && limit === null && !why) return;
   if (places.length) it.past.push(it.modules.slice());
@@ -159,17 +191,21 @@ function spoil(it, places, { limit, why }) {
 }
 // What an address without a fragment holds.
 const begun = () => ({
-  message: $("message").defaultValue, isShorter: false, grid: null, pane: "write",
-  damage: () => [], limit: { limit: null, why: "" },
+  message: $("message").defaultValue, isText: false, isShorter: false, grid: null, task: "make", pane: "write",
+  damage: () => [], gridDamage: () => [], limit: { limit: null, why: "" }, gridLimit: { limit: null, why: "" },
 });
-export async function restore(linked) {
-  const { write, read } = panes, held = linked ?? begun();
+// Shows what a link holds. One that names a task alone keeps what is entered.
+/** @type {(linked: any, isFirst: boolean) => Promise<any>} */
+export async function restore(linked, isFirst) {
+  const { write, read } = panes, held = linked?.isBare ? { ...begun(), ...linked } : linked ?? begun();
+  if (linked?.isBare && !isFirst) { showTask(linked.task); return; }
   $("message").value = held.message;
+  $(held.isText ? "kind-text" : "kind-message").checked = true;
   $(held.isShorter ? "profile-1" : "profile-0").checked = true;
   $("grid").value = held.grid ? gridText(held.grid) : "";
   readGrid();
   inTurn(read, () => spoil(read, held.gridDamage(read.modules.length), held.gridLimit));
-  showPane(held.pane);
+  showTask(held.task, held.pane);
   writeMessage();
   inTurn(write, () => spoil(write, held.damage(write.modules.length), held.limit));
   await Promise.all([read.turn, write.turn]);
@@ -177,26 +213,48 @@ export async function restore(linked) {
 
 // ---- Wiring
 
-function choosePane(name) {
+/** @type {(task: string, pane?: "write" | "read") => void} */
+function chooseTask(task, pane = undefined) {
   beginEntry();
-  showPane(name);
+  showTask(task, pane);
   tellLink();
 }
-export function wireSource() {
-  $("message").addEventListener("input", () => writeMessage());
-  $("message").addEventListener("keydown", (event) => { if (event.key === "Enter") event.preventDefault(); });
-  for (const profile of [ASCII, SHORTER]) $(`profile-${profile}`).addEventListener("change", () => writeMessage());
-  $("grid").addEventListener("input", enterGrid);
-  for (const [name, other] of [["write", "read"], ["read", "write"]]) {
-    $(`tab-${name}`).addEventListener("click", () => choosePane(name));
-    $(`tab-${name}`).addEventListener("keydown", (event) => {
-      if (event.key === "ArrowLeft" || event.key === "ArrowRight") { choosePane(other); $(`tab-${other}`).focus(); }
+const KEY_STEPS = { ArrowLeft: -1, ArrowRight: 1 };
+function wireTabs() {
+  for (const [k, task] of TASKS.entries()) {
+    $(`tab-${task}`).addEventListener("click", () => chooseTask(task));
+    $(`tab-${task}`).addEventListener("keydown", (event) => {
+      const step = KEY_STEPS[event.key];
+      if (!step) return;
+      const other = TASKS[(k + step + TASKS.length) % TASKS.length];
+      chooseTask(other);
+      $(`tab-${other}`).focus();
     });
   }
-  const example = (name, text) => $(name).addEventListener("click", () => { $("grid").value = text; readGrid(); });
-  example("example-c40", C40);
-  example("example-turned", TURNED);
-  example("example-edifact", EDIFACT);
+  $("learn-write").addEventListener("change", () => chooseTask("learn", "write"));
+  $("learn-read").addEventListener("change", () => chooseTask("learn", "read"));
+}
+function wireMessage() {
+  $("message").addEventListener("input", () => writeMessage());
+  $("message").addEventListener("keydown", (event) => {
+    if (event.key === "Enter" && !$("kind-text").checked) event.preventDefault();
+  });
+  for (const id of ["profile-0", "profile-1", "kind-message", "kind-text"])
+    $(id).addEventListener("change", () => writeMessage());
+  for (const button of allOf("[data-message]")) {
+    const { message, kind } = button.dataset;
+    button.addEventListener("click", () => enterMessage(message, kind === "text"));
+  }
+}
+export function wireSource() {
+  wireTabs();
+  wireMessage();
+  $("grid").addEventListener("input", enterGrid);
+  for (const [id, text] of Object.entries({ c40: C40, turned: TURNED, edifact: EDIFACT }))
+    $(`example-${id}`).addEventListener("click", () => { $("grid").value = text; readGrid(); });
   $("take-written").addEventListener("click", readWritten);
-  $("picture").addEventListener("change", (event) => { if (event.target.files[0]) readPicture(event.target.files[0]); event.target.value = ""; });
+  $("picture").addEventListener("change", (event) => {
+    if (event.target.files[0]) readPicture(event.target.files[0]);
+    event.target.value = "";
+  });
 }

@@ -28,13 +28,15 @@ function frame(isInk, width, height) {
 
 // The grid of a side in a frame, and the share of sampled pixels that differ from most of their module.
 function sampled(isInk, pictureWidth, at, side) {
-  const each = [at.width / side, at.height / side], looks = Math.min(5, Math.floor(Math.min(...each))), modules = new Uint8Array(side * side);
+  const each = [at.width / side, at.height / side], looks = Math.min(5, Math.floor(Math.min(...each)));
+  const modules = new Uint8Array(side * side);
   let odd = 0;
   for (let k = 0; k < modules.length; k++) {
     let ink = 0;
     for (let look = 0; look < looks * looks; look++) {
       const [dx, dy] = [look % looks, Math.floor(look / looks)].map((step) => 0.2 + (0.6 * (step + 0.5)) / looks);
-      const x = at.left + Math.floor(((k % side) + dx) * each[0]), y = at.top + Math.floor((Math.floor(k / side) + dy) * each[1]);
+      const x = at.left + Math.floor(((k % side) + dx) * each[0]);
+      const y = at.top + Math.floor((Math.floor(k / side) + dy) * each[1]);
       ink += isInk(y * pictureWidth + x) ? 1 : 0;
     }
     modules[k] = 2 * ink > looks * looks ? 1 : 0;
@@ -51,8 +53,9 @@ export function extent(grey) {
   return [least, most];
 }
 
-// The symbol within the frame of what is darker than the middle grey or of what is lighter. Among sides that fit about equally well the
-// smallest comes first, since one module can also be seen as four. One that isn't read is given too if it has the border of a symbol.
+// The symbol within the frame of what is darker than the middle grey or of what is lighter. Among sides that fit about
+// equally well the smallest comes first, since one module can also be seen as four. One that isn't read is given too if
+// it has the border of a symbol.
 export function squareSymbol(lib, grey, width, height) {
   const [least, most] = extent(grey), middle = (least + most) / 2;
   const isDark = (k) => grey[k] < middle, likely = [];

@@ -1,45 +1,77 @@
-// What the page has at hand: for each of its two panes a symbol, with its damage and what is read of it.
-import { BIT, sideOf } from "./common.mjs";
+// What the page has at hand: the task that is open, and for messages and for what is read a symbol each, with its
+// damage and what is read of it.
+import { BIT } from "./common.mjs";
 
-export const $ = (id) => document.getElementById(id);
-export const made = (tag, properties) => Object.assign(document.createElement(tag), properties);
-
-// Only a valid mark has a verdict, and is saved, copied or damaged. EMPTY: nothing was entered; WORKING: the worker is asked;
-// BAD: what is entered makes no symbol, or the worker was stopped or broke off.
+// Only a valid mark has a verdict, and is saved, copied or damaged. EMPTY: nothing was entered; WORKING: the worker is
+// asked; BAD: what is entered makes no symbol, or the worker was stopped or broke off.
 export const EMPTY = "empty", WORKING = "working", VALID = "valid", BAD = "bad";
 
 export class Mark {
-  constructor(name) {
-    Object.assign(this, {
-      name,
-      stage: EMPTY,
-      why: "", // why there is no verdict, in a bad mark
-      version: 0, // grows with each change, so that an answer about an older state is known as such
-      entry: 0, // grows with each thing that is entered
-      isEntering: false, // whether there is no answer yet about what is entered, and the verdict is about what was before
-      turn: Promise.resolve(), // ends when what was entered, and what has been done to it, has its effect
-      looking: Promise.resolve(), // ends when the modules, as they were last, are looked at
-      modules: null, // as they are now
-      original: null, // as they were written or opened
-      items: null, // the message that was written, if one was
-      limit: null, // of wrong border modules, if it isn't the usual one
-      limitWhy: "", // why another limit, which was entered or linked, isn't taken
-      past: [], // the modules before each act, to be undone
-      future: [], // the modules after each act that was undone
-      seen: null, // what the library says of modules: with them it is drawn
-      cursor: 0, // the module that the keys act on
-      byKeys: false,
-      module: null, // pointed at
-      word: null,
-    });
+  stage = EMPTY;
+  why = ""; // why there is no verdict, in a bad mark
+  isEntering = false; // whether there is no answer yet about what is entered, and the verdict is about what was before
+  entered = 0; // the stamp of what was entered last
+  changed = 0; // the stamp of the last change, so that an answer about an older state is known as such
+  /** @type {Promise<any>} ends when what was entered, and what has been done to it, has its effect */
+  turn = Promise.resolve();
+  /** @type {Promise<any>} ends when the modules, as they were last, are looked at */
+  looking = Promise.resolve();
+  /** @type {Uint8Array | null} as they are now */
+  modules = null;
+  /** @type {Uint8Array | null} as they were written or opened */
+  original = null;
+  /** @type {number[] | null} the message that was written, if one was */
+  items = null;
+  /** @type {number | null} how many border modules may be wrong, if not as many as usual */
+  limit = null;
+  limitWhy = ""; // why another limit, which was entered or linked, isn't taken
+  /** @type {Uint8Array[]} the modules before each act, to be undone */
+  past = [];
+  /** @type {Uint8Array[]} the modules after each act that was undone */
+  future = [];
+  /** @type {import("./examine.mjs").Seen | null} what the library says of modules: with them it is drawn */
+  seen = null;
+  cursor = 0; // the module that the keys act on
+  byKeys = false;
+  /** @type {number | null} pointed at */
+  module = null;
+  /** @type {number | null} pointed at */
+  word = null;
+
+  /** @param {"write" | "read"} name */
+  constructor(name) { this.name = name; }
+  // The symbol goes, with all that was done to it.
+  empty() {
+    [this.modules, this.original, this.items, this.seen] = [null, null, null, null];
+    [this.limit, this.limitWhy, this.past, this.future] = [null, "", [], []];
+    [this.cursor, this.byKeys, this.module, this.word] = [0, false, null, null];
+    [this.stage, this.why] = [EMPTY, ""];
+  }
+  // Another symbol takes its place.
+  /** @type {(modules: Uint8Array, items: number[] | null) => void} */
+  hold(modules, items) {
+    if (this.modules?.length !== modules.length) [this.limit, this.limitWhy, this.cursor] = [null, "", 0];
+    [this.modules, this.original, this.items] = [modules.slice(), modules.slice(), items];
+    [this.past, this.future, this.module, this.word] = [[], [], null, null];
   }
 }
-export const panes = { write: new Mark("write"), read: new Mark("read") };
-export const here = { pane: "write" };
-export const mark = () => panes[here.pane];
+
+// The three tasks. What is read and what is made have a symbol each, and what is learnt is about one of these.
+export const TASKS = ["read", "make", "learn"];
+/** @type {Record<string, "write" | "read">} */
+export const PANE_OF = { read: "read", make: "write" };
+/** @type {{ version: number, task: string, pane: "write" | "read", panes: Record<string, Mark> }} */
+export const store = {
+  version: 0, task: "make", pane: "write", panes: { write: new Mark("write"), read: new Mark("read") },
+};
+export const { panes } = store;
+// A number larger than all before it: whatever is entered, changed or asked has one of its own.
+export const stamp = () => ++store.version;
+export const mark = () => panes[store.pane];
 
 // What each module of a symbol is, for each side that was met; with the modules of each codeword, by their bits.
 const maps = new Map();
+/** @type {(side: number, map: { kind: Uint8Array, word: Uint16Array, bit: Uint8Array }) => void} */
 export function keepMap(side, { kind, word, bit }) {
   if (maps.has(side)) return;
   const modules = [];
@@ -48,18 +80,8 @@ export function keepMap(side, { kind, word, bit }) {
 }
 export const mapOf = (side) => maps.get(side);
 
-export const isDamaged = ({ modules, original }) => Boolean(modules) && modules.some((module, k) => module !== original[k]);
+/** @type {(it: { modules: Uint8Array | null, original: Uint8Array | null }) => boolean} */
+export const isDamaged = ({ modules, original }) =>
+  Boolean(modules) && modules.some((module, k) => module !== original[k]);
+/** @type {(it: { modules: Uint8Array, original: Uint8Array }) => number[]} */
 export const damageOf = ({ modules, original }) => [...modules.keys()].filter((k) => modules[k] !== original[k]);
-export const sideNow = () => sideOf(mark().modules);
-
-// Buttons that can't be used now stay in reach of the keyboard, so that focus isn't lost; `whenUsed` acts only if they can be.
-export function setUsable(id, isUsable) { $(id).setAttribute("aria-disabled", !isUsable); }
-export function whenUsed(id, action) {
-  $(id).addEventListener("click", () => { if ($(id).getAttribute("aria-disabled") !== "true") action(); });
-}
-export function hint(id, text, isBad = false, field = null) {
-  $(id).textContent = text;
-  $(id).classList.toggle("bad", isBad);
-  if (!field) return;
-  if (isBad) $(field).setAttribute("aria-invalid", "true"); else $(field).removeAttribute("aria-invalid");
-}

@@ -1,6 +1,7 @@
 // Pictures that are drawings, in SVG. A browser draws them only where there is a document, and can't be stopped at it.
 // So it is bounded before how much there is to draw, also by elements that are used many times, what takes long
-// whatever its size is refused by name, and it is drawn small first, to see how long it takes.
+// whatever its size is refused by name, and it is drawn small first, to see how long it takes. What is drawn is what
+// was counted, written anew, whatever encoding or styles the file declares beside it.
 
 const MOST_OF_SVG = 4e6;
 const MOST_DRAWN = 60000; // elements; some count as many
@@ -19,10 +20,11 @@ function referencesOf(element) {
   return [...element.attributes].flatMap((attribute) => (isReference(attribute) ? [attribute.value.slice(1)]
     : [...attribute.value.matchAll(/url\(\s*["']?#([^"')]+)["']?\s*\)/g)].map(([, name]) => name)));
 }
+/** @type {(element: Element) => number} */
 function ownCost(element) {
   let cost = 1;
-  for (const { nodeType, data } of element.childNodes)
-    if (nodeType === Node.TEXT_NODE || nodeType === Node.CDATA_SECTION_NODE) cost += data.trim().length;
+  for (const { nodeType, nodeValue } of element.childNodes)
+    if (nodeType === Node.TEXT_NODE || nodeType === Node.CDATA_SECTION_NODE) cost += nodeValue.trim().length;
   for (const { localName, value } of element.attributes) {
     cost += value.length / PER_ELEMENT;
     if (LAYER.test(localName === "style" ? value : localName)) cost += COSTLY;
@@ -31,6 +33,7 @@ function ownCost(element) {
 }
 // How many elements are drawn for this one: itself, the letters and elements that it holds, and what it refers to, as
 // often as it does.
+/** @type {(element: Element, named: Map<string, Element>, known: Map<Element, number>) => number} */
 function costOf(element, named, known) {
   if (known.has(element)) return known.get(element);
   known.set(element, Infinity); // if it comes back to itself
@@ -41,15 +44,17 @@ function costOf(element, named, known) {
   return cost;
 }
 // Why a drawing isn't drawn, in words, or "".
-export function whyNotDrawn(text) {
-  if (/<!ENTITY/i.test(text)) return "The drawing declares entities, which aren’t read here.";
-  const drawing = new DOMParser().parseFromString(text, "image/svg+xml"), all = [...drawing.querySelectorAll("*")];
+/** @type {(drawing: Document) => string} */
+function whyNotDrawn(drawing) {
+  const all = [...drawing.querySelectorAll("*")];
   if (drawing.querySelector("parsererror")) return "The file can’t be opened as a picture.";
   const refused = all.find(({ localName }) => REFUSED.test(localName));
   if (refused) return `The drawing has an element ‘${refused.localName}’, which isn’t drawn here. ${INSTEAD}`;
   const isOdd = ({ localName, textContent }) => localName === "style" && STYLES.test(textContent);
   if (all.some(isOdd)) return `The drawing has styles that aren’t drawn here. ${INSTEAD}`;
-  const named = new Map(all.filter(({ id }) => id).map((element) => [element.id, element]));
+  /** @type {Map<string, Element>} of two elements with one name the first is used */
+  const named = new Map();
+  for (const element of all) if (element.id && !named.has(element.id)) named.set(element.id, element);
   let cost = Infinity;
   try { cost = costOf(drawing.documentElement, named, new Map()); } catch { /* nested too deeply */ }
   const most = MOST_DRAWN.toLocaleString("en");
@@ -78,12 +83,16 @@ function drawnInTime(image) {
 }
 
 // A drawing as an ImageBitmap, or why it isn't drawn: { bitmap } or { why }.
+/** @type {(file: Blob) => Promise<{ why?: string, bitmap?: ImageBitmap }>} */
 export async function drawnSvg(file) {
   if (file.size > MOST_OF_SVG) return { why: `The drawing has more than ${MOST_OF_SVG / 1e6} million bytes.` };
-  const image = new Image(), url = URL.createObjectURL(file);
+  const text = await file.text();
+  if (/<!ENTITY/i.test(text)) return { why: "The drawing declares entities, which aren’t read here." };
+  const drawing = new DOMParser().parseFromString(text, "image/svg+xml"), why = whyNotDrawn(drawing);
+  if (why) return { why };
+  const counted = new XMLSerializer().serializeToString(drawing.documentElement);
+  const image = new Image(), url = URL.createObjectURL(new Blob([counted], { type: "image/svg+xml" }));
   try {
-    const why = whyNotDrawn(await file.text());
-    if (why) return { why };
     image.src = url;
     await image.decode();
     const canvas = drawnInTime(image);

@@ -1,27 +1,35 @@
-// Taking a symbol away: copied, or saved as SVG or PNG. By default it is the undamaged one.
+// Taking a symbol away: copied, or saved as SVG or PNG. By default it is the undamaged one. And what it says.
 import { sideOf } from "./common.mjs";
+import { $, hint, made, shape } from "./dom.mjs";
 import { gridText } from "./grids.mjs";
+import { elementString } from "./gs1.mjs";
 import { linkNow } from "./link.mjs";
+import { spelled, utf8Of } from "./messages.mjs";
 import { settled } from "./order.mjs";
 import { tooWide, wirePaper } from "./paper.mjs";
-import { $, VALID, hint, isDamaged, made, mark } from "./state.mjs";
+import { VALID, isDamaged, mark } from "./state.mjs";
 import { QUIET, runs, viewBox } from "./symbol.mjs";
 
+/** @typedef {{ modules: Uint8Array, isDamagedOne: boolean, items: number[] | null }} Given */
+let toasted = null; // the timer that ends it
+/** @type {(text: string) => void} */
 export function toast(text) {
   $("toast").textContent = text;
   $("toast").classList.add("on");
-  clearTimeout(toast.timer);
-  toast.timer = setTimeout(() => $("toast").classList.remove("on"), 2500);
+  clearTimeout(toasted);
+  toasted = setTimeout(() => $("toast").classList.remove("on"), 2500);
 }
 
 // What is given: the modules, and how they are called.
 const isDamagedChosen = () => !$("which").hidden && $("which-damaged").checked;
+/** @type {(it?: import("./state.mjs").Mark, isChosen?: boolean) => Given} */
 export function given(it = mark(), isChosen = isDamagedChosen()) {
   const isDamagedOne = isChosen && isDamaged(it);
   const modules = isDamagedOne ? it.modules : it.original;
   return { modules, isDamagedOne, items: it.items ?? it.seen.answer.items ?? null };
 }
 // Gives the symbol that is entered now, once there is an answer about it.
+/** @type {(give: (what: Given) => any) => () => Promise<void>} */
 export const giving = (give) => async () => {
   const it = mark(), isChosen = isDamagedChosen();
   await settled(it);
@@ -36,7 +44,7 @@ async function isCopied(text) {
     await navigator.clipboard.writeText(text);
     return true;
   } catch {
-    const area = made("textarea", { value: text }), had = document.activeElement;
+    const area = made("textarea", { value: text }), had = /** @type {HTMLElement} */ (document.activeElement);
     document.body.append(area);
     area.select();
     try { return document.execCommand("copy"); } catch { return false; } finally { area.remove(); had?.focus?.(); }
@@ -46,6 +54,13 @@ const NOT_COPIED = "This browser doesn’t let the page copy. Save the symbol in
 async function copySymbol({ modules, isDamagedOne }) {
   const isDone = await isCopied(gridText(modules));
   toast(isDone ? `Copied: ${isDamagedOne ? "the damaged symbol" : "the symbol"}, a line for each row` : NOT_COPIED);
+}
+// The message as a person would type it, if it is text; else as it is spelled.
+async function copyMessage() {
+  const { fault, items } = mark().seen.answer;
+  if (fault) return;
+  const isDone = await isCopied(elementString(items) || utf8Of(items) || spelled(items));
+  toast(isDone ? "Copied: the message" : "This browser doesn’t let the page copy. Select the message instead.");
 }
 const LONG = 8000; // characters of a link that some programs don't take whole
 const LINK_NOT_COPIED = "This browser doesn’t let the page copy. The link is in the address bar.";
@@ -64,27 +79,38 @@ export function save(blob, name) {
 // ---- Sizes
 
 const LEAST = 0.05, MOST = 20, USUAL_WIDTH = 0.5; // millimetres of a module
-const isMillimetres = () => { const { value } = $("millimetres"); return value !== "" && +value >= LEAST && +value <= MOST; };
+const isMillimetres = () => {
+  const { value } = $("millimetres");
+  return value !== "" && +value >= LEAST && +value <= MOST;
+};
 export const millimetres = () => (isMillimetres() ? +$("millimetres").value : USUAL_WIDTH);
 const rounded = (value) => String(+value.toFixed(2));
 // The millimetres of a symbol of this side, with its quiet zone.
+/** @type {(side: number) => number} */
 export const lengthNow = (side) => +rounded((side + 2 * QUIET) * millimetres());
 export function drawPrintSize() {
   const { seen } = mark();
-  if (!isMillimetres()) { hint("print-size", `Enter ${LEAST} to ${MOST} mm. ${USUAL_WIDTH} mm is taken.`, true, "millimetres"); return; }
+  if (!isMillimetres()) {
+    hint("print-size", `Enter ${LEAST} to ${MOST} mm. ${USUAL_WIDTH} mm is taken.`, true, "millimetres");
+    return;
+  }
   const all = seen ? lengthNow(seen.side) : 0, why = tooWide(all);
   const words = `${all} × ${all} mm with ${QUIET} modules of quiet zone`;
   hint("print-size", seen ? `${words}${why && `. It can’t be printed: ${why}`}` : "", false, "millimetres");
   $("print-size").classList.toggle("bad", Boolean(why));
 }
-export function plainSvg(modules) {
+// The symbol at its size, as a drawing.
+/** @type {(modules: Uint8Array) => SVGElement} */
+export function drawingOf(modules) {
   const side = sideOf(modules), all = side + 2 * QUIET, length = `${lengthNow(side)}mm`;
-  return `<svg xmlns="http://www.w3.org/2000/svg" width="${length}" height="${length}" viewBox="${viewBox(side)}" shape-rendering="crispEdges">`
-    + `<path fill="#fff" d="M${-QUIET} ${-QUIET}h${all}v${all}h${-all}z"/><path d="${runs(side, (k) => modules[k])}"/></svg>\n`;
+  return shape("svg", { width: length, height: length, viewBox: viewBox(side), "shape-rendering": "crispEdges" },
+    shape("path", { fill: "#fff", d: `M${-QUIET} ${-QUIET}h${all}v${all}h${-all}z` }),
+    shape("path", { d: runs(side, (k) => modules[k]) }));
 }
 
 // ---- PNG
 
+/** @type {(bytes: Uint8Array) => number} */
 function crcOf(bytes) {
   let crc = -1;
   for (const byte of bytes) {
@@ -94,6 +120,7 @@ function crcOf(bytes) {
   return ~crc >>> 0;
 }
 // A PNG with its pixels per metre, in a chunk after the first.
+/** @type {(png: Uint8Array, perMetre: number) => Uint8Array[]} */
 function withResolution(png, perMetre) {
   const chunk = new Uint8Array(21), view = new DataView(chunk.buffer);
   view.setUint32(0, 9);
@@ -102,22 +129,28 @@ function withResolution(png, perMetre) {
   view.setUint32(17, crcOf(chunk.subarray(4, 17)));
   return [png.subarray(0, 33), chunk, png.subarray(33)];
 }
+/** @param {Given} what */
 function savePng(what) {
   const side = sideOf(what.modules), millimetre = millimetres();
-  const each = Math.min(32, Math.max(8, Math.round(24 * millimetre))), all = (side + 2 * QUIET) * each; // about 600 an inch
+  const each = Math.min(32, Math.max(8, Math.round(24 * millimetre))); // about 600 an inch
+  const all = (side + 2 * QUIET) * each;
   const canvas = made("canvas", { width: all, height: all }), pen = canvas.getContext("2d");
   pen.fillStyle = "#fff"; pen.fillRect(0, 0, all, all); pen.fillStyle = "#000";
-  what.modules.forEach((dark, k) => { if (dark) pen.fillRect(((k % side) + QUIET) * each, (Math.floor(k / side) + QUIET) * each, each, each); });
+  const at = (line) => (line + QUIET) * each;
+  what.modules.forEach((dark, k) => { if (dark) pen.fillRect(at(k % side), at(Math.floor(k / side)), each, each); });
   canvas.toBlob(async (blob) => {
     const png = new Uint8Array(await blob.arrayBuffer());
-    save(new Blob(withResolution(png, Math.round((1000 * each) / millimetre)), { type: "image/png" }), nameOf(what, "png"));
+    const parts = withResolution(png, Math.round((1000 * each) / millimetre));
+    save(new Blob(parts, { type: "image/png" }), nameOf(what, "png"));
   }, "image/png");
 }
 function saveSvg(what) {
-  save(new Blob([plainSvg(what.modules)], { type: "image/svg+xml" }), nameOf(what, "svg"));
+  const text = `${new XMLSerializer().serializeToString(drawingOf(what.modules))}\n`;
+  save(new Blob([text], { type: "image/svg+xml" }), nameOf(what, "svg"));
 }
 export function wireTaking() {
-  const actions = { copy: copySymbol, "copy-link": copyLink, "save-svg": saveSvg, "save-png": savePng };
+  const actions = { copy: copySymbol, "copy-link": copyLink, "copy-message": copyMessage, "save-svg": saveSvg,
+    "save-png": savePng };
   for (const [id, action] of Object.entries(actions)) $(id).addEventListener("click", giving(action));
   $("millimetres").addEventListener("input", drawPrintSize);
   wirePaper(drawPrintSize);

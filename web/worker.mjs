@@ -1,5 +1,5 @@
-// The worker: it has the library, and answers the page's questions, one at a time. A question is { number, kind, given }, its answer
-// { number, answer } or, if something went wrong, { number, failed }.
+// The worker: it has the library, and answers the page's questions, one at a time. A question is { number, kind, given
+// }, its answer { number, answer } or, if something went wrong, { number, failed }.
 import { readsFiles } from "./bitmap.mjs";
 import { ASCII, SHORTER, TOO_LONG, sideOf } from "./common.mjs";
 import { damaged, examine, mostThatFit, plainMap } from "./examine.mjs";
@@ -7,6 +7,7 @@ import { found, gridFrom } from "./grids.mjs";
 import { Library } from "./library.mjs";
 import { symbolInPicture } from "./pictures.mjs";
 
+/** @type {Library} */
 let lib;
 const PROFILES = [ASCII, SHORTER];
 const sideUnder = (items, profile) => lib.write(items, profile).side ?? null;
@@ -19,7 +20,8 @@ const shownOf = (symbol) => (symbol.modules ? { ...symbol, seen: seen(symbol.mod
 function judged(symbol) {
   if (!symbol.modules) return symbol;
   const shown = shownOf(symbol), { limit, answer } = shown.seen;
-  return { ...shown, normals: PROFILES.map((profile) => (answer.fault ? null : lib.normal(symbol.modules, limit, profile).modules ?? null)) };
+  const normal = (profile) => (answer.fault ? null : lib.normal(symbol.modules, limit, profile).modules ?? null);
+  return { ...shown, normals: PROFILES.map(normal) };
 }
 const gridGiven = (text) => {
   const grid = gridFrom(text, lib.sizes);
@@ -35,7 +37,8 @@ const ANSWERS = {
   // The symbol of items, the sides that both profiles take, and if no size holds them how many would fit.
   write({ items, profile, hasLook = true }) {
     const symbol = lib.write(items, profile), sides = PROFILES.map((each) => sideUnder(items, each));
-    if (symbol.fault) return { fault: symbol.fault, sides, fits: symbol.fault.code === TOO_LONG ? mostThatFit(lib, items, profile) : null };
+    const isTooLong = symbol.fault?.code === TOO_LONG, fits = isTooLong ? mostThatFit(lib, items, profile) : null;
+    if (symbol.fault) return { fault: symbol.fault, sides, fits };
     return { ...symbol, sides, seen: hasLook ? seen(symbol.modules) : null };
   },
   look: ({ modules, limit }) => seen(modules, limit),
@@ -50,7 +53,8 @@ const ANSWERS = {
     if (image) return judged(await picture(image));
     if (grid !== undefined) return judged(gridGiven(grid));
     const symbol = PROFILES.map((profile) => lib.write(items, profile)).find(({ fault }) => !fault);
-    return judged(symbol ? { modules: symbol.modules, isRead: true, how: "" } : { fault: lib.write(items, ASCII).fault });
+    if (!symbol) return { fault: lib.write(items, ASCII).fault };
+    return judged({ modules: symbol.modules, isRead: true, how: "" });
   },
   // The symbols of many messages: modules, or null for one that fits no size.
   sheet: ({ messages, profile }) => messages.map((items) => lib.write(items, profile).modules ?? null),

@@ -16,8 +16,8 @@ import time
 
 from tests.page import browser
 from tests.page.parts import PARTS, fault_of, load
-from tests.page.stage import (By, Failed, acting, agree, cells, click, count, find, on, push, run, wait_for, webdriver,
-                              write)
+from tests.page.stage import (By, Failed, acting, agree, cells, click, count, find, learn, on, push, run, unfold, wait_for,
+                              webdriver, write)
 from tests.support import needs, places
 
 sys.path.insert(0, places.path("web"))
@@ -77,17 +77,20 @@ def in_pictures():
     on.page.refresh()
     wait_for(lambda: run("return 'mitsubadoor' in globalThis"))
     bench = on.page.find_element(By.CLASS_NAME, "bench")
+    push("tab-read")
+    unfold("comparison")
     shoot("page-compare.png", on.page.find_element(By.CLASS_NAME, "compare"))
     write("\\F010123456789012810AB-42")
     push("to-limit")
     click(4, 90, side=18)
+    learn()
     agree("the first picture")
     damaged = [w for w, (_, _, kind) in enumerate(cells()) if kind == "corrected"]
     acting().move_to_element(find(f"word-{damaged[1]}")).perform()
     shoot("page-read.png", bench)
     write("Bearing 7731-22-B of batch 0042 was looked at and found to be good; it is to be fitted by 2027, greased with"
           " what the drawing names, and kept dry and below forty degrees until then, in the box in which it came.")
-    push("to-limit", "one-more")
+    push("tab-learn", "to-limit", "one-more")
     agree("the second picture")
     acting().move_to_element(find("state")).perform()
     shoot("page-refused.png", bench)

@@ -4,7 +4,8 @@ import base64
 import time
 
 from tests.page.pictures import chunks, opened, png
-from tests.page.stage import By, Keys, count, find, grid, on, push, run, settle, shown, text_of, write, written
+from tests.page.stage import (By, Keys, count, find, grid, on, push, put, run, settle, shown, text_of, unfold, wait_for,
+                              write, written)
 
 SOON = 6  # seconds that the page may be held up, on a busy machine
 MANY_LINES = "#\n" * 130000
@@ -36,17 +37,18 @@ def much_is_refused():
     """130,000 lines, pasted by keys or put there otherwise, are said and not laid out."""
     write("123456")
     put_in(area_of("a"), "123456")
-    run("document.getElementById('sheet').open = true")
+    unfold("sheet", "comparison", "as-text")
     copied = on.page.execute_async_script(
         "navigator.clipboard.writeText(arguments[0]).then(() => arguments[1](''), (why) => arguments[1](why.message))",
         MANY_LINES,
     )
     count.expect("copied", copied, "")
-    for name, area, said in (
-        ("slot-a", area_of("a"), lambda: find("slot-a").text),
-        ("messages", find("messages"), lambda: text_of("sheet-hint")),
-        ("message", find("message"), lambda: text_of("message-hint")),
+    for name, tab, area, said in (
+        ("slot-a", "tab-read", area_of("a"), lambda: text_of("slot-a")),
+        ("messages", "tab-make", find("messages"), lambda: text_of("sheet-hint")),
+        ("message", "tab-make", find("message"), lambda: text_of("message-hint")),
     ):
+        push(tab)
         before = area.get_attribute("value")
         taken = seconds_of(lambda: area.send_keys(Keys.CONTROL, "v", Keys.NULL))
         most = "200,000" if name == "messages" else "20,000"
@@ -73,17 +75,17 @@ def much_is_refused():
         count.expect(f"130,000 lines put in {name}", (area.get_attribute("value"), taken < SOON), ("", True))
     count.expect(
         "the slot says so",
-        (head(), "260,000 characters" in find("slot-b").text),
+        (head(), "260,000 characters" in text_of("slot-b")),
         (["No answer", "Symbol B can’t be taken."], True),
     )
     taken = seconds_of(lambda: drop("#slot-a", text="\n" * 1500))
     count.expect(
         "1,501 lines dropped on a slot",
-        ("1,501 lines, and no more than 1,000 are taken." in find("slot-a").text, taken < SOON),
+        ("1,501 lines, and no more than 1,000 are taken." in text_of("slot-a"), taken < SOON),
         (True, True),
     )
     run("document.getElementById('sheet').open = false")
-    push("tab-write")
+    push("tab-make")
     write("123456")
 
 
@@ -162,6 +164,7 @@ def drawings():
     )
     for name, inner, why in (
         ("100,000 uses", nested(5), many),
+        ("100,000 uses of the first of a name", nested(5) + '<g id="d5"/>', many),
         ("nested uses", nested(9), many),
         ("nested uses by xlink", nested(40, "xlink"), many),
         ("nested patterns", nested(9, "pattern"), many),
@@ -201,6 +204,10 @@ def drawings():
         (told if told not in whys else "", shown()["state"], taken < 2 * SOON),
         ("", "Nothing is read", True),
     )
+    # (as UTF-8 two names in Shift_JIS are the same one, of which the second has little to draw)
+    declared, body = b'<?xml version="1.0" encoding="Shift_JIS"?>', svg_of(small, nested(5) + '<g id="other"/>')
+    hidden = declared + body.replace(b"d5", b"\x83\x41").replace(b"other", b"\x84\x41")
+    count.expect("names in another encoding", opened("drawing.svg", hidden), f"drawing.svg: {many}")
     entities = b'<!DOCTYPE svg [<!ENTITY a "a">]>' + svg_of(small)
     count.expect(
         "entities",
@@ -214,8 +221,8 @@ def drawings():
     )
     (on.folder / "drawing.svg").write_bytes(svg_of(small, nested(9)))
     find("picture-A").send_keys(str(on.folder / "drawing.svg"))
-    count.expect_soon("a slot says so too", lambda: many in find("slot-a").text, True)
-    push("tab-write")
+    count.expect_soon("a slot says so too", lambda: many in text_of("slot-a"), True)
+    push("tab-make")
 
 
 # ---- What is dropped
@@ -253,7 +260,7 @@ def many_files():
     drop("#slot-a", some)
     count.expect_soon(
         "the first of 200 pictures in a slot",
-        lambda: (note in find("slot-a").text, "the first" in find("slot-a").text),
+        lambda: (note in text_of("slot-a"), "the first" in text_of("slot-a")),
         (True, True),
     )
     settle()
@@ -265,13 +272,13 @@ def many_files():
     drop("#slot-a", [("mark.zip", "application/zip", b"PK")])
     count.expect_soon(
         "neither a picture nor a text",
-        lambda: (head(), "mark.zip is neither a picture nor a text." in find("slot-a").text),
+        lambda: (head(), "mark.zip is neither a picture nor a text." in text_of("slot-a")),
         (["No answer", "Symbol A isn’t there."], True),
     )
     drop("#slot-a", [("long.txt", "text/plain", b"1" * 100000)])
     count.expect_soon(
         "a long file of text",
-        lambda: "long.txt has 100,000 bytes, which are too many for a message or a grid." in find("slot-a").text,
+        lambda: "long.txt has 100,000 bytes, which are too many for a message or a grid." in text_of("slot-a"),
         True,
     )
     drop("body", [("grid.txt", "text/plain", written("a grid in a file").encode())])
@@ -281,16 +288,51 @@ def many_files():
     drop("body", [("message.txt", "text/plain", b"a message in a file\n")])
     count.expect_soon(
         "a message in a file",
-        lambda: (find("pane-write").is_displayed(), shown()["says"]),
+        lambda: (find("pane-make").is_displayed(), shown()["says"]),
         (True, "a message in a file"),
     )
     drop("body", [("mark.zip", "application/zip", b"PK")])
     count.expect_soon("neither, above", lambda: text_of("picture-hint"), "mark.zip is neither a picture nor a text.")
-    run("document.getElementById('sheet').open = true; document.getElementById('messages').value = ''")
+    write("123456")
+
+
+SLOW = """
+    const text = Blob.prototype.text;
+    globalThis.gates = [];
+    Blob.prototype.text = async function () { await new Promise((open) => gates.push(open)); return text.call(this); };
+    globalThis.usual = () => { Blob.prototype.text = text; };"""
+
+
+def dropped_on_the_sheet():
+    """Text and files of text go where they are dropped; a file that is still being read doesn't take the place of what
+    is entered meanwhile."""
+    write("123456")
+    lines = lambda: find("messages").get_attribute("value")
+    run("document.getElementById('messages').value = ''")
     drop("#messages", text="one\ntwo")
-    count.expect("text dropped on the sheet's messages", find("messages").get_attribute("value"), "one\ntwo")
-    run("document.getElementById('sheet').open = false")
-    settle()
+    count.expect("text dropped on the sheet's messages", lines(), "one\ntwo")
+    drop("#messages", [("lines.txt", "text/plain", b"three\nfour\nfive\n")])
+    count.expect_soon("a file dropped there", lambda: (lines(), text_of("sheet-hint")),
+                      ("three\nfour\nfive", "The lines of lines.txt."))
+    count.expect("the message stays", (shown()["says"], find("message").get_attribute("value")), ("123456", "123456"))
+    drop("#messages", [("long.txt", "text/plain", b"1" * 900000)])
+    count.expect_soon("a long file there", lambda: (lines(), text_of("sheet-hint")),
+                      ("three\nfour\nfive", "long.txt has 900,000 bytes, which are too many for a sheet."))
+    (on.folder / "more.csv").write_text("six\nseven\n")
+    find("lines").send_keys(str(on.folder / "more.csv"))
+    count.expect_soon("a file that is opened", lines, "six\nseven")
+    run(SLOW)
+    for where, field in (("body", "message"), ("#messages", "messages")):
+        drop(where, [("slow.txt", "text/plain", b"slow")])
+        wait_for(lambda: run("return gates.length"))
+        put(field, "meanwhile")
+        run("gates.pop()()")
+        said = "slow.txt was given up, since something else was entered meanwhile."
+        count.expect_soon(f"a file that is read while the {field} is typed",
+                          lambda: (text_of("toast"), find(field).get_attribute("value")), (said, "meanwhile"))
+        run("document.getElementById('toast').textContent = ''")
+    run("usual()")
+    put("messages", "")
     write("123456")
 
 
@@ -328,7 +370,7 @@ def low_contrast():
         "square.png: No symbol that can be read was found in the picture. "
         "Its contrast is low: its greys differ by 10 of 255.",
     )
-    push("tab-write")
+    push("tab-make")
 
 
-PARTS = [much_is_refused, drawings, many_files, low_contrast]
+PARTS = [much_is_refused, drawings, many_files, dropped_on_the_sheet, low_contrast]

@@ -3,9 +3,9 @@ import base64
 import re
 
 from tests.page.pictures import chunks, opened, png
-from tests.page.stage import (By, Keys, acting, agree, cells, changed, click, count, find, grid, media, metrics, on,
-                              pointed, push, put, run, settle, shown, text_of, unseen, usable, usual_metrics, wait_for,
-                              write, written)
+from tests.page.stage import (By, Keys, acting, agree, cells, changed, click, count, find, grid, learn, media, metrics, on,
+                              pointed, push, put, run, settle, shown, text_of, unfold, unseen, usable, usual_metrics,
+                              wait_for, write, written)
 
 NOTHING = ("Nothing is read", "")
 GIVING = ("copy", "save-svg", "save-png", "print")
@@ -70,11 +70,11 @@ def each_pane_keeps_its_state():
     count.expect("another message", shown()["state"], "Read as another message")
     push("tab-read", "example-c40", "to-limit")
     second = grid()
-    push("tab-write")
+    push("tab-make")
     count.expect("back at the message", (shown()["state"], grid(), usable("undo")), ("Read as another message", damaged, True))
     push("tab-read")
     count.expect("back at the grid", (shown()["state"], shown()["says"], grid(), usable("undo")), ("Read", "Every answer is proved.", second, True))
-    push("undo", "tab-write", "undo-all")
+    push("undo", "tab-make", "undo-all")
     count.expect("undone in each", verdict(), ("Read", "123456"))
 
 
@@ -99,13 +99,13 @@ def a_picture_does_not_win():
 
     meanwhile("document.getElementById('example-c40').click()", ("Read", "Every answer is proved."))
     count.expect("a late picture", (verdict(), "given up" in text_of("picture-hint")), (("Read", "Every answer is proved."), True))
-    meanwhile("""document.getElementById('tab-write').click();
+    meanwhile("""document.getElementById('tab-make').click();
                  const area = document.getElementById('message'); area.value = 'meanwhile'; area.dispatchEvent(new Event('input', { bubbles: true }))""", ("Read", "meanwhile"))
     count.expect("a late picture doesn't change the message", verdict(), ("Read", "meanwhile"))
     push("tab-read")
     count.expect("it is in its own pane", verdict(), ("Read", "late"))
     run("delete mitsubadoor.desks.pictures.ask")
-    push("tab-write")
+    push("tab-make")
 
 
 def names_follow():
@@ -155,7 +155,7 @@ def gives_what_it_says():
     push("tab-read", "example-c40")
     click(100, side=22)
     count.expect("a grid is given as it was opened", text_of("which-first"), "take the symbol as it was opened")
-    push("undo-all", "tab-write")
+    push("undo-all", "tab-make")
 
 
 # ---- Nothing freezes
@@ -176,7 +176,7 @@ HELD_UP = 4000  # milliseconds, on a busy machine
 def nothing_freezes():
     write("123456")
     for name, text in (("message", "\u00e9" * 1000000), ("grid", "1" * 1000000)):
-        push("tab-write" if name == "message" else "tab-read")
+        push("tab-make" if name == "message" else "tab-read")
         taken = run("""const area = document.getElementById(arguments[0]), begun = performance.now();
                        area.value = arguments[1]; area.dispatchEvent(new Event('input', { bubbles: true })); return performance.now() - begun""", name, text)
         settle()
@@ -190,7 +190,7 @@ def nothing_freezes():
     file.write_bytes(noise(6300))
     find("picture").send_keys(str(file))
     count.expect("what runs shows that it runs", bool(wait_for(lambda: find("busy").is_displayed())), True)
-    run("""document.getElementById('tab-write').click();
+    run("""document.getElementById('tab-make').click();
            const area = document.getElementById('message'); area.value = 'meanwhile'; area.dispatchEvent(new Event('input', { bubbles: true }))""")
     count.expect("one can go on meanwhile", wait_for(lambda: verdict() == ("Read", "meanwhile")), True)
     count.expect("it still runs", find("busy").is_displayed(), True)
@@ -201,19 +201,26 @@ def nothing_freezes():
     count.expect("stopped", (verdict(), "stopped" in text_of("picture-hint"), find("busy").is_displayed()), (NOTHING, True, False))
     count.expect("after that pictures are opened", opened("next.png", png(written("next").split("\n"), 4, 2)).split(":")[0], "next.png")
     count.expect("and read", verdict(), ("Read", "next"))
-    push("tab-write")
+    push("tab-make")
     write("123456")
 
 
 # ---- Phones
 
 def phones():
-    write("\\F010123456789012810AB-42")
+    """Of each task the symbol, what is done and what is read are seen together, from the top of the page."""
+    push("tab-read", "example-c40")
+    write("Hello")
     metrics(390, 844, True)
-    run("document.querySelector('.bench').scrollIntoView()")
-    top, bottom, head = run("""const box = (id) => document.getElementById(id).getBoundingClientRect();
-        return [box("easel").top, document.querySelector(".damage").getBoundingClientRect().bottom, box("verdict").height]""")
-    count.expect("symbol and buttons together on a phone", bottom - top + head <= 844, True)
+    for task, acts in (("read", ["camera", "copy-message"]), ("make", ["message", "save-png"]), ("learn", ["to-limit"])):
+        push(f"tab-{task}")
+        run("scrollTo(0, 0)")
+        ends = run("""return arguments[0].map((id) => document.getElementById(id).getBoundingClientRect())
+            .map(({ top, bottom, height }) => [Math.round(top), Math.round(bottom), height > 0])""",
+            ["verdict", "easel", *acts])
+        out = [end for end in ends if end[0] < 0 or end[1] > 844 or not end[2]]
+        count.expect(f"{task}: symbol, act and verdict together on a phone", out, [])
+    write("\\F010123456789012810AB-42")
     before = find("symbol").rect["width"]
     push("zoom-in", "zoom-in")
     count.expect("a symbol can be larger", (find("symbol").rect["width"] > 2.5 * before, run("return document.documentElement.scrollWidth <= innerWidth")), (True, True))
@@ -264,7 +271,7 @@ def gs1():
     push("tab-read")
     put("grid", written(f"\\F01{fine}"))
     count.expect("a table of what is read", rows()[0][:2], ["(01)", "GTIN"])
-    push("tab-write")
+    push("tab-make")
 
 
 # ---- The link
@@ -287,7 +294,7 @@ def links():
         go()
         started()
         count.expect(f"{name}: the grid", (find("pane-read").is_displayed(), grid()), (True, second))
-        push("tab-write")
+        push("tab-make")
         count.expect(f"{name}: the message", (find("message").get_attribute("value"), find("profile-1").is_selected(), grid()), ("A & b=\\F #", True, damaged))
         agree(f"{name}: what is read")
         push("undo")
@@ -295,13 +302,13 @@ def links():
         push("redo", "tab-read")
         count.expect(f"{name}: nothing is fetched", run(fetched), 0)
         linked()
-    push("tab-write")
+    push("tab-make")
     write("one")
     linked()
     push("tab-read")
     linked()
     on.page.back()
-    count.expect_soon("Back within the page", lambda: (find("pane-write").is_displayed(), verdict()), (True, ("Read", "one")))
+    count.expect_soon("Back within the page", lambda: (find("pane-make").is_displayed(), verdict()), (True, ("Read", "one")))
     linked()
     run("location.hash = '#message=another&damage=5'")
     linked()
@@ -310,7 +317,7 @@ def links():
         run("location.hash = arguments[0]", bad)
         linked()
         count.expect(f"{bad} is no fault", find("broken").is_displayed(), False)
-    push("tab-write")
+    push("tab-make")
     write("123456")
 
 
@@ -355,8 +362,8 @@ def print_():
 
 def lesson():
     write("A" * 10 + "123")
-    run("document.getElementById('lesson').open = true")
-    settle()
+    learn()
+    unfold("lesson")
     step = lambda: find("step").get_attribute("textContent")
     chips = lambda: run("return [...document.querySelectorAll('#step .chip')].map((it) => it.firstChild.textContent)")
     values = [held for held, _, _ in cells()]
@@ -385,8 +392,8 @@ def lesson():
 def slider():
     """The slider of the lesson follows the mouse as long as it is held."""
     write("A" * 10 + "123")
-    run("document.getElementById('lesson').open = true")
-    settle()
+    learn()
+    unfold("lesson")
     while text_of("step-count") != "Step 5 of 6: Places":
         push("step-on" if usable("step-on") else "step-back")
     slide, width = find("walk"), find("walk").rect["width"]
@@ -455,7 +462,7 @@ def words_and_looks():
     count.expect("the symbol on the first screen", run("scrollTo(0, 0); return document.getElementById('easel').getBoundingClientRect().bottom <= 900"), True)
     usual_metrics()
     media(forced_colors="active")
-    looks = run("return ['tab-write', 'tab-read'].map((id) => { const s = getComputedStyle(document.getElementById(id)); return s.textDecorationLine + s.borderBottomColor; })")
+    looks = run("return ['tab-learn', 'tab-read'].map((id) => { const s = getComputedStyle(document.getElementById(id)); return s.textDecorationLine + s.borderBottomColor; })")
     count.expect("forced colours tell the tabs apart", looks[0] != looks[1], True)
     media(forced_colors="none")
 
@@ -481,7 +488,7 @@ def dropped():
         base64.b64encode(png(written("a picture").split("\n"), 3, 2)).decode())
     count.expect_soon("a picture is dropped", verdict, ("Read", "a picture"))
     settle()
-    push("tab-write")
+    push("tab-make")
 
 
 COPY_PICTURE = """const [body, done] = arguments, bytes = Uint8Array.from(atob(body), (c) => c.charCodeAt(0));
@@ -506,11 +513,12 @@ def pasted_pictures():
     count.expect_soon("a picture pasted in no field", verdict, ("Read", "pasted again"))
     settle()
     copy("pasted below")
+    unfold("comparison")
     find("slot-b").find_element(By.TAG_NAME, "textarea").send_keys(*paste)
-    count.expect_soon("a picture pasted in a slot", lambda: "pasted below" in find("slot-b").text, True)
+    count.expect_soon("a picture pasted in a slot", lambda: "pasted below" in text_of("slot-b"), True)
     settle()
     count.expect("it isn't taken above", verdict(), ("Read", "pasted again"))
-    push("tab-write")
+    push("tab-make")
     count.expect("the message has its symbol", verdict(), ("Read", "123456"))
 
 

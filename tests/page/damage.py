@@ -3,7 +3,10 @@ import collections
 import random
 import re
 
-from tests.page.stage import By, Keys, QUIET, SHOWN, acting, agree, as_program, cells, changed, click, coloured, count, drawn, find, grid, offset, on, pointed, push, put, ran, run, settle, shown, text_of, to_top, told, unseen, usable, value_at, wait_for, write, written
+from tests.page.stage import (By, Keys, QUIET, SHOWN, acting, agree, as_program, cells, changed, click, coloured, count,
+                              drawn, find, grid, learn, metrics, offset, on, pointed, push, put, ran, run, settle,
+                              shown, task, text_of, to_top, told, unseen, usable, usual_metrics, value_at, wait_for,
+                              write, written)
 
 
 def small_symbol():
@@ -46,7 +49,7 @@ def border():
     click(1)
     count.expect("border coloured, dark and light", coloured(), ["#ffdf9e", "#a65f00", "turned"])
     push("undo")
-    count.expect("border said", shown()["why"], "3 modules of the border have the wrong colour, and 2 may. The message may still be readable: accept more under “What is wrong”.")
+    count.expect("border said", shown()["why"], "3 modules of the border have the wrong colour, and 2 may. The message may still be readable: accept more under “Details”.")
     put("border-limit", "3")
     count.expect("border borne", [shown()[it] for it in ("state", "says", "why")],
                  ["Read", "123456", "3 modules of the border have the wrong colour. Damage within the limits never changes the message."])
@@ -96,6 +99,7 @@ def another_message():
 
 def dragged():
     write("123456")
+    learn()
     chain = acting().move_to_element_with_offset(find("symbol"), *offset(33, 10)).click_and_hold()
     chain.move_to_element_with_offset(find("symbol"), *offset(66, 10)).move_to_element_with_offset(find("symbol"), *offset(44, 10)).release().perform()
     settle()
@@ -106,22 +110,34 @@ def dragged():
 
 
 def touched():
-    """A tap turns one module over. A swipe over the symbol scrolls the page and turns none over. On a busy machine a finger may seem
-    to rest, which is no tap and no swipe: then it is tried again."""
+    """A tap turns one module over. A swipe over the symbol scrolls the page, and a pinch zooms, and both turn none over.
+    On a busy machine a finger may seem to rest, which is no tap and no swipe: then it is tried again."""
     write("123456")
+    learn()
+    metrics(390, 844, mobile=True)
+    on.page.execute_cdp_cmd("Emulation.setTouchEmulationEnabled", {"enabled": True, "maxTouchPoints": 2})
     run("document.getElementById('symbol').scrollIntoView({ block: 'center' })")
     box = run("const b = document.getElementById('symbol').getBoundingClientRect(); return [b.left, b.top, b.width]")
     at = lambda cell: {"x": box[0] + (cell % 10 + QUIET + 0.5) * box[2] / 14, "y": box[1] + (cell // 10 + QUIET + 0.5) * box[2] / 14}
     turned_over = lambda: changed(written("123456"), grid())
 
+    def send(kind, *points):
+        on.page.execute_cdp_cmd("Input.dispatchTouchEvent", {"type": kind, "touchPoints": list(points)})
+
     def touch(first, *others):
-        send = lambda kind, *points: on.page.execute_cdp_cmd("Input.dispatchTouchEvent", {"type": kind, "touchPoints": list(points)})
         send("touchStart", at(first))
         for cell in others:
             send("touchMove", at(cell))
         send("touchEnd")
 
-    on.page.execute_cdp_cmd("Emulation.setTouchEmulationEnabled", {"enabled": True})
+    def pinch():
+        middle = at(44)
+        fingers = lambda apart: [{**middle, "x": middle["x"] + side * apart, "id": side} for side in (-1, 1)]
+        send("touchStart", *fingers(20))
+        for apart in range(28, 100, 8):
+            send("touchMove", *fingers(apart))
+        send("touchEnd")
+
     tried_until(lambda: touch(33), turned_over)
     settle()
     count.expect("a tap", turned_over(), [33])
@@ -131,23 +147,35 @@ def touched():
     tried_until(lambda: touch(83, 73, 63, 53, 43, 33, 23, 13), lambda: run("return scrollY") > before + 20)
     settle()
     count.expect("a swipe scrolls and turns nothing over", (turned_over(), run("return scrollY") > before + 20), ([], True))
-    count.expect("a pinch zooms", run("return getComputedStyle(document.getElementById('symbol')).touchAction"), "manipulation")
+    zoomed = lambda: run("return visualViewport.scale") > 1.5
+    to_top()
+    box = run("const b = document.getElementById('symbol').getBoundingClientRect(); return [b.left, b.top, b.width]")
+    tried_until(pinch, zoomed)
+    settle()
+    count.expect("a pinch zooms and turns nothing over", (zoomed(), turned_over()), (True, []))
+    on.page.execute_cdp_cmd("Emulation.setPageScaleFactor", {"pageScaleFactor": 1})
+    push("tab-make")
+    box = run("const b = document.getElementById('symbol').getBoundingClientRect(); return [b.left, b.top, b.width]")
+    tried_until(lambda: touch(33), turned_over, seconds=1)
+    count.expect("elsewhere a tap does nothing", turned_over(), [])
     on.page.execute_cdp_cmd("Emulation.setTouchEmulationEnabled", {"enabled": False})
+    usual_metrics()
     to_top()
 
 
-def tried_until(act, what):
+def tried_until(act, what, seconds=10):
     """Does it until something is so, up to three times."""
     for _ in range(3):
         act()
-        if wait_for(what, seconds=10):
+        if wait_for(what, seconds=seconds):
             break
 
 
 def by_keys():
     write("123456")
-    find("message").send_keys(Keys.TAB)
-    for _ in range(4):
+    learn()
+    find("tab-learn").send_keys(Keys.TAB)
+    for _ in range(12):
         if on.page.switch_to.active_element.get_attribute("id") == "symbol":
             break
         on.page.switch_to.active_element.send_keys(Keys.TAB)
@@ -171,13 +199,18 @@ def by_keys():
     count.expect("left by Escape", on.page.switch_to.active_element.get_attribute("id") == "symbol", False)
     find("words").send_keys(Keys.HOME, Keys.ARROW_RIGHT, Keys.ARROW_RIGHT)
     count.expect("codewords by keys", (text_of("about"), find("words").get_attribute("aria-activedescendant")), ("Codeword 3 of 8: data. It is 186, 10111010. It stands for the digits 56.", "word-2"))
-    find("tab-write").send_keys(Keys.ARROW_RIGHT)
-    count.expect("tabs by keys", (find("pane-read").is_displayed(), find("pane-write").is_displayed()), (True, False))
+    for key, tab in ((Keys.ARROW_LEFT, "make"), (Keys.ARROW_LEFT, "read"), (Keys.ARROW_LEFT, "learn"),
+                     (Keys.ARROW_RIGHT, "read")):
+        on.page.execute_script("document.getElementById(arguments[0]).focus()", f"tab-{task()}")
+        on.page.switch_to.active_element.send_keys(key)
+        panes = [find(f"pane-{each}").is_displayed() for each in ("read", "make", "learn")]
+        count.expect(f"{tab} by keys", (task(), panes), (tab, [tab == each for each in ("read", "make", "learn")]))
 
 
 def codewords():
     """Values, bits and where they stand, in a small symbol and in one of two blocks; what damaged ones are corrected to."""
     write("123456")
+    learn()
     count.expect("codewords", [held for held, _, _ in cells()], [142, 164, 186, 114, 25, 5, 88, 102])
     acting().move_to_element_with_offset(find("symbol"), *offset(11, 10)).perform()
     count.expect("a module pointed at", (text_of("about"), len(on.page.find_elements(By.CSS_SELECTOR, "#symbol .bits text"))), ("Codeword 2 of 8: data. It is 164, 10100100. It stands for the digits 34.", 8))
@@ -280,4 +313,4 @@ def much_damage():
     count.expect("what their codewords stand for", [stands for _, _, stands in some if stands is not None], [read for read, _ in answers if not read.startswith("refused")])
     reads = sum(not read.startswith("refused") for read, _ in answers)
     count.expect("some are read and some refused", 100 < reads < 500, True)
-    push("tab-write")
+    push("tab-make")

@@ -1,13 +1,9 @@
 """GS1 element strings: what is taken, said and shown green, by hand and beside the rules of the Python library, which
 stand over the same table."""
 import random
-import shutil
-import sys
-import pathlib
 
-from tests.page.stage import By, count, find, grid, on, push, settle, shown, text_of, unseen, write, written
+from tests.page.stage import By, count, find, grid, on, push, rules, settle, shown, text_of, unseen, write, written
 
-LIBRARY = pathlib.Path(__file__).resolve().parents[2] / "library"
 NOTHING = "Nothing is read"
 
 
@@ -63,22 +59,6 @@ def misjoined():
 
 
 # ---- Beside the Python library
-
-
-def rules():
-    """The module gs1 of library/python over the common table, without the library below it, in a package of another
-    name: ecc200 is the one that the tests of the Python package import in this process."""
-    package = on.folder / "rules" / "rules_of_gs1"
-    if not package.exists():
-        package.mkdir(parents=True)
-        shutil.copy(LIBRARY / "python" / "ecc200" / "gs1.py", package)
-        shutil.copytree(LIBRARY / "python" / "ecc200" / "data", package / "data")
-        (package / "core.py").write_text("FNC1 = 256\n")
-        (package / "__init__.py").write_text("")
-        sys.path.insert(0, str(package.parent))
-    from rules_of_gs1 import gs1
-
-    return gs1
 
 
 CHARACTERS = {"N": "0123456789", "X": "!\"%&')*+,-./0159:;<=>?AZ_az", "Y": "#-/0159AZ", "Z": "-059=AZ_az"}
@@ -171,7 +151,7 @@ def as_the_library_says():
         except gs1.Faulty as why:
             count.expect(f"{text} is wrong ({why})", is_green, False)
     count.expect("some are right and some wrong", 150 <= accepted < 350, True)
-    push("tab-write")
+    push("tab-make")
     write("123456")
 
 

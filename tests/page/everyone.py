@@ -2,7 +2,7 @@
 import contextlib
 import sys
 
-from tests.page.stage import By, count, find, media, metrics, on, push, run, usual_metrics, wait_for, write
+from tests.page.stage import By, count, find, media, metrics, on, push, run, unfold, usual_metrics, wait_for, write
 from tests.support import places
 
 sys.path.insert(0, places.path("web"))
@@ -31,33 +31,46 @@ CONTRAST = """
 
 def to_be_seen_by_all():
     """Contrast in both schemes, names for a screen reader, and a phone's width."""
+    push("tab-read", "example-c40")
     write("\\F010123456789012810AB-42")
-    for scheme in ("light", "dark"):
-        media(prefers_color_scheme=scheme)
-        for state in ("to-limit", "one-more"):
-            push(state)
-            count.expect(f"contrast, {scheme}, {state}", run(CONTRAST), [])
-        push("undo-all")
-    media(prefers_color_scheme="light")
-    tree = on.page.execute_cdp_cmd("Accessibility.getFullAXTree", {})["nodes"]
-    roles = {"button", "textbox", "spinbutton", "radio", "tab", "tabpanel", "listbox", "application", "region", "heading"}
-    nameless = [node["role"]["value"] for node in tree if not node.get("ignored") and node.get("role", {}).get("value") in roles and not node.get("name", {}).get("value")]
-    count.expect("each control has a name", nameless, [])
+    unfold("as-text", "form", "comparison", "sheet", "lesson")
+    for task in ("read", "make", "learn"):
+        push(f"tab-{task}")
+        unfold("details")
+        for scheme in ("light", "dark"):
+            media(prefers_color_scheme=scheme)
+            for state in ("to-limit", "one-more"):
+                push(state)
+                count.expect(f"contrast, {task}, {scheme}, {state}", run(CONTRAST), [])
+            push("undo-all")
+        media(prefers_color_scheme="light")
+        count.expect(f"{task}: each control has a name", nameless(), [])
     write("0" * 1632)  # the largest numbers
     for width in (320, 390, 768):
         metrics(width, 800, mobile=True, scale=2)
-        for pane in ("tab-write", "tab-read"):
-            push(pane)
-            count.expect(f"width {width}, {pane}", run("return document.documentElement.scrollWidth <= innerWidth"), True)
-        push("tab-write")
+        for tab in ("tab-read", "tab-make", "tab-learn"):
+            push(tab)
+            unfold("details")
+            count.expect(f"width {width}, {tab}", run("return document.documentElement.scrollWidth <= innerWidth"), True)
+        push("tab-make")
         too_wide = run("return [...document.querySelectorAll('#facts dt, #facts dd')].filter((it) => it.scrollWidth > it.clientWidth).map((it) => it.textContent)")
         count.expect(f"width {width}: each fact has its place", too_wide, [])
     usual_metrics()
 
 
+def nameless():
+    """The roles of what has a role, and no name for a screen reader."""
+    roles = {"button", "textbox", "spinbutton", "radio", "tab", "tabpanel", "listbox", "application", "region",
+             "heading", "combobox"}
+    nodes = [node for node in on.page.execute_cdp_cmd("Accessibility.getFullAXTree", {})["nodes"]
+             if not node.get("ignored")]
+    value_of = lambda node, name: node.get(name, {}).get("value")
+    return [value_of(node, "role") for node in nodes if value_of(node, "role") in roles and not value_of(node, "name")]
+
+
 SENTENCE = ("This browser can’t run the page, which needs WebAssembly with SIMD. Chrome, Edge and Firefox have had that since 2021,"
             " Safari since 2023.")
-OTHERS = "main > section, main > .bench, main > details"
+OTHERS = "main > .bench, main > details, .tabs"
 LACKS = {"SIMD": "WebAssembly.validate = () => false", "WebAssembly": "delete globalThis.WebAssembly"}
 
 

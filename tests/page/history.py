@@ -50,8 +50,8 @@ def back():
     on.page.back()
     count.expect_soon(
         "Back at the beginning",
-        lambda: (find("pane-write").is_displayed(), find("message").get_attribute("value"), shown()["state"]),
-        (True, begun, "Read, as GS1 data"),
+        lambda: (find("pane-make").is_displayed(), find("message").get_attribute("value"), shown()["state"]),
+        (True, begun, "Read"),
     )
     linked()
     on.page.forward()
@@ -69,7 +69,7 @@ def back():
     on.page.back()
     count.expect_soon(
         "Back after typing",
-        lambda: (find("pane-write").is_displayed(), find("message").get_attribute("value"), shown()["says"]),
+        lambda: (find("pane-make").is_displayed(), find("message").get_attribute("value"), shown()["says"]),
         (True, "typed", "typed"),
     )
     linked()

@@ -4,8 +4,8 @@ program and by a model of their order."""
 import random
 import urllib.parse
 
-from tests.page.stage import (QUIET, SHOWN, Keys, acting, as_program, changed, count, find, grid, offset, on, push,
-                              put, run, settle, shown, text_of, told, write, written)
+from tests.page.stage import (QUIET, SHOWN, Keys, acting, as_program, changed, count, find, fold, grid, offset, on,
+                              push, put, run, settle, shown, text_of, told, write, written)
 
 COLLECT = "globalThis.copied = []; navigator.clipboard.writeText = async (text) => { copied.push(text); }"
 
@@ -15,6 +15,7 @@ COLLECT = "globalThis.copied = []; navigator.clipboard.writeText = async (text) 
 
 def typed_then(text, *then):
     """Types a message and does something at once, by real keys and the real mouse."""
+    push("tab-make")
     chain = acting().click(find("message")).key_down(Keys.CONTROL).send_keys("a").key_up(Keys.CONTROL).send_keys(text)
     for act in then:
         act(chain)
@@ -26,6 +27,14 @@ def pressing(name):
     return lambda chain: chain.click(find(name))
 
 
+def learning(*then):
+    """Does something where symbols are damaged."""
+    def act(chain):
+        for each in (pressing("tab-learn"), *then):
+            each(chain)
+    return act
+
+
 def turning(cell, side=10):
     return lambda chain: chain.move_to_element_with_offset(find("symbol"), *offset(cell, side)).click()
 
@@ -35,15 +44,15 @@ def typed_and_done_at_once():
     run(COLLECT)
     for text in ("7", "65", "432", "9876"):
         clean = written(text)
-        typed_then(text, pressing("one-more"))
+        typed_then(text, learning(pressing("one-more")))
         count.expect(
             f"{text} and one codeword more",
             (shown()["state"], shown()["says"], len(changed(clean, grid()))),
             ("Read", text, 1),
         )
-        typed_then(text, turning(33))
+        typed_then(text, learning(turning(33)))
         count.expect(f"{text} and a module", (shown()["says"], changed(clean, grid())), (text, [33]))
-        typed_then(text, pressing("one-more"), pressing("undo"))
+        typed_then(text, learning(pressing("one-more"), pressing("undo")))
         count.expect(
             f"{text}, one codeword more, undone", (shown()["why"], grid()), ("Nothing had to be corrected.", clean)
         )
@@ -112,7 +121,7 @@ def taken_at_once():
         (shown()["state"], shown()["says"], find("grid").get_attribute("value")),
         ("Read", "55", written("55")),
     )
-    push("tab-write")
+    push("tab-make")
     put("message", "caf\u00e9")
     push("tab-read", "take-written")
     count.expect(
@@ -120,7 +129,7 @@ def taken_at_once():
         (shown()["state"], text_of("grid-hint")),
         ("Nothing is read", "There is no written symbol: the message can’t be taken."),
     )
-    push("tab-write")
+    push("tab-make")
     write("123456")
 
 
@@ -130,7 +139,7 @@ def fields(fragment):
 
 # ---- Random bursts
 
-BURSTS, MOST_ACTS = 250, 8  # in each something is entered, and then up to so many acts follow
+BURSTS, WITH_WAITS, MOST_ACTS = 1000, 100, 8  # in each up to so many acts; in the last ones with waits between
 MESSAGES = [
     "",
     "12",
@@ -147,6 +156,7 @@ MESSAGES = [
 BYTES = "\\xE9\\xE8\\xEA"  # of which both profiles make other symbols
 IMPOSSIBLE = "caf\u00e9"
 WAITS = [None] * 6 + [0, 4, 15, 40]  # milliseconds after an act, or none at all
+TASKS = {"read": "read", "make": "write", "learn": None}  # with their panes
 
 # Plays bursts of acts, as quickly as they say, and tells what the page has come to after each. Meanwhile each frame is
 # looked at: a green verdict on a message must be about what stands in the field.
@@ -160,7 +170,7 @@ PLAY = (
         at("symbol").dispatchEvent(new PointerEvent("click", { pointerType: "touch", bubbles: true, ...place }));
     };
     const look = () => {
-        const isColoured = !document.body.hasAttribute("data-entering") && !at("pane-write").hidden;
+        const isColoured = !document.body.hasAttribute("data-entering") && !at("pane-make").hidden;
         const isGreen = isColoured && at("verdict").className.includes("good");
         if (isGreen && at("says").textContent !== (at("message").value || "the empty message"))
             wrong.push([at("message").value, at("says").textContent, document.body.dataset.stage]);
@@ -252,13 +262,8 @@ class Generator:
     """Makes bursts, and keeps what they must lead to."""
 
     def __init__(self, seed):
-        self.chance, self.panes, self.here, self.profile, self.text = (
-            random.Random(seed),
-            {"write": Modelled(), "read": Modelled()},
-            "write",
-            0,
-            "",
-        )
+        self.chance, self.panes = random.Random(seed), {"write": Modelled(), "read": Modelled()}
+        self.task, self.here, self.profile, self.text = "make", "write", 0, ""
         self.symbols = {}
 
     def symbol(self, text, profile=0):
@@ -276,7 +281,11 @@ class Generator:
         return {"kind": "put", "id": "grid", "text": self.symbol(text)}
 
     def enter(self):
-        if self.here == "read":
+        """Enters something, or, where one learns, turns to the other symbol."""
+        if self.task == "learn":
+            self.here = "read" if self.here == "write" else "write"
+            return {"kind": "push", "id": f"learn-{self.here}"}
+        if self.task == "read":
             return self.enter_grid(self.chance.choice(MESSAGES))
         return self.enter_message(self.chance.choice([*MESSAGES, BYTES, IMPOSSIBLE]))
 
@@ -286,11 +295,18 @@ class Generator:
         return {"kind": "push", "id": f"profile-{self.profile}"}
 
     def tap(self):
-        """Taps on a module of the upper border: none that a button damages."""
-        across, here = self.chance.uniform(0.16, 0.84), self.panes[self.here]
-        if here.original is not None:
+        """Taps on a module of the upper border: none that a button damages. Only where one learns it is turned over."""
+        across, here = self.across(), self.panes[self.here]
+        if here.original is not None and self.task == "learn":
             here.step(int(across * (here.original.index("\n") + 2 * QUIET)) - QUIET)
         return {"kind": "tap", "across": across, "down": 0.15}
+
+    def across(self):
+        """A share of the symbol's width that is away from the edges of modules, since a finger's place is in pixels."""
+        while True:
+            share = self.chance.uniform(0.16, 0.84)
+            if all(0.1 < (share * (side + 2 * QUIET)) % 1 < 0.9 for side in (10, 12, 14)):
+                return share
 
     def press(self):
         here, name = self.panes[self.here], self.chance.choice(
@@ -302,45 +318,39 @@ class Generator:
     def accept(self):
         return {"kind": "put", "id": "border-limit", "text": self.chance.choice(["0", "3", "50"])}
 
-    def change(self):
-        self.here = "read" if self.here == "write" else "write"
-        return {"kind": "push", "id": f"tab-{self.here}"}
+    def change(self, task=None):
+        self.task = task or self.chance.choice([each for each in TASKS if each != self.task])
+        self.here = TASKS[self.task] or self.here
+        return {"kind": "push", "id": f"tab-{self.task}"}
 
-    def burst(self):
-        acts = [self.enter()]
+    def burst(self, has_waits):
+        acts = [self.change(self.chance.choice(["read", "make"])), self.enter()]
+        some = [self.enter] * 2 + [self.tap] * 3 + [self.press] * 3 + [self.accept, self.change, self.change, self.store]
         for _ in range(self.chance.randrange(1, MOST_ACTS)):
-            act = self.chance.choice(
-                [
-                    self.enter,
-                    self.enter,
-                    self.tap,
-                    self.tap,
-                    self.press,
-                    self.press,
-                    self.press,
-                    self.accept,
-                    self.change,
-                    self.store,
-                ]
-            )
-            if act != self.store or self.here == "write":
+            act = self.chance.choice(some)
+            if act != self.store or self.task == "make":
                 acts.append(act())
         for act in acts:
-            act["wait"] = self.chance.choice(WAITS)
+            act["wait"] = self.chance.choice(WAITS) if has_waits else None
         return acts, {name: pane.end() for name, pane in self.panes.items()}
 
 
 def bursts():
     write("123456")
+    fold("details")  # to draw each codeword again would take most of the time
+    push("tab-learn")
+    fold("details")
+    push("tab-make")
     maker = Generator(11)
-    some = [([maker.enter_message("123456"), maker.change(), maker.enter_grid("123456"), maker.change()], {})]
+    begin = [maker.enter_message("123456"), maker.change("read"), maker.enter_grid("123456"), maker.change("make")]
+    some = [(begin, {})]
     for act in some[0][0]:
         act["wait"] = None
-    some += [maker.burst() for _ in range(BURSTS)]
+    some += [maker.burst(False) for _ in range(BURSTS)] + [maker.burst(True) for _ in range(WITH_WAITS)]
     push("profile-0")
     told_of = on.page.execute_async_script(PLAY, [acts for acts, _ in some])
     count.expect("no green verdict is about anything else than what is entered", told_of["wrong"][:3], [])
-    count.expect("acts", sum(len(acts) for acts, _ in some) > 1000, True)
+    count.expect("acts", sum(len(acts) for acts, _ in some) > 5000, True)
     odd, grids = [], {}
     for (acts, ends), now in list(zip(some, told_of["told"]))[1:]:
         for name, end in ends.items():
@@ -360,7 +370,7 @@ def bursts():
             grids.setdefault(here["limit"], []).append((here["now"], as_program(now["shown"])))
         elif (now["shown"]["state"], here["stage"]) != ("Nothing is read", "bad"):
             odd.append((now["shown"], here["stage"], acts))
-    count.expect(f"each of {BURSTS} bursts has come to what was entered and done last", odd[:1], [])
+    count.expect(f"each of {len(some)} bursts has come to what was entered and done last", odd[:1], [])
     for limit, both in grids.items():
         more = [] if limit is None else ["--border", str(limit)]
         count.expect(
@@ -368,7 +378,10 @@ def bursts():
             [shown for _, shown in both],
             told([text for text, _ in both], *more),
         )
-    push("profile-0", "tab-write", "usual")
+    said = [entry["message"] for entry in on.page.get_log("browser")]
+    # (it bounds how often an address may change, and says so)
+    count.expect("console", [message for message in said if "Throttling navigation" not in message], [])
+    push("profile-0", "tab-make", "usual")
     write("123456")
 
 

@@ -45,7 +45,7 @@ def photographs():
         count.expect(f"{read} of {len(pictures)} photographs read, at least nine of ten", 10 * read >= 9 * len(pictures), True)
         count.expect("at least as many as dmtxread", dmtxread_misses(folder, pictures, len(pictures) - read), True)
         print(f"photographs: {read} of {len(pictures)} read")
-    push("tab-write")
+    push("tab-make")
 
 
 def dmtxread_misses(folder, pictures, least):
@@ -150,10 +150,10 @@ def camera_ends():
     seen = (set(tracks()), find("viewfinder").is_displayed(), said())
     count.expect("asked for twice and stopped", seen, ({"ended"}, False, "The camera is off."))
     on_again()
-    push("tab-write")
+    push("tab-make")
     count.expect("behind the other pane", tracks(), ["ended"])
     push("tab-read")
-    why = "The camera is off, since the other pane was opened."
+    why = "The camera is off, since another task was opened."
     count.expect("behind the other pane, said", (said(), shown()["says"]), (why, "Every answer is proved."))
     on_again()
     put("grid", written("typed"))
@@ -166,7 +166,7 @@ def camera_ends():
     why = "The camera is off, since the page was out of sight."
     count.expect("out of sight", (tracks(), said()), (["ended"], why))
     run("streams.length = 0; document.getElementById('camera').click()")
-    push("tab-write")
+    push("tab-make")
     count.expect("allowed before the other pane was opened, or not at all", tracks(), [])
     allow()
     count.expect_soon("allowed after that", tracks, ["ended"])

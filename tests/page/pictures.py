@@ -5,7 +5,8 @@ import struct
 import subprocess
 import zlib
 
-from tests.page.stage import Keys, agree, count, find, grid, on, push, put, run, settle, shown, text_of, turned, usable, wait_for, write, written
+from tests.page.stage import (Keys, agree, count, find, grid, on, push, put, run, settle, shown, text_of, turned, unfold,
+                              usable, wait_for, write, written)
 
 
 def png(rows, scale, around, light=255, dark=0):
@@ -74,7 +75,7 @@ def pictures():
     no_symbol = "No symbol that can be read was found in the picture."
     (on.folder / "beside.png").write_bytes(png(noise, 5, 2))
     find("picture-A").send_keys(str(on.folder / "beside.png"))
-    count.expect_soon("a picture without a symbol in a slot", lambda: no_symbol in find("slot-a").text, True)
+    count.expect_soon("a picture without a symbol in a slot", lambda: no_symbol in text_of("slot-a"), True)
     count.expect("what is said of a picture stays, whatever is looked at in a slot", text_of("picture-hint"), said)
     whole = png(rows, 8, 3)
     for name, body, why in (("noise.png", png(noise, 5, 2), no_symbol), ("white.png", png(["0" * 10] * 10, 2, 2), "The picture has only one colour."),
@@ -83,7 +84,7 @@ def pictures():
         count.expect(f"{name} is no symbol", opened(name, body), f"{name}: {why}")
         count.expect(f"{name}: no verdict of the one before", (shown()["state"], shown()["says"], usable("save-png")), ("Nothing is read", "", False))
     count.expect("what isn't opened changes nothing", grid(), before)
-    push("tab-write")
+    push("tab-make")
 
 
 def saved():
@@ -116,11 +117,12 @@ def saved():
     find("copy").click()
     count.expect("copied", wait_for(lambda: text_of("toast")), "Copied: the symbol, a line for each row")
     push("tab-read")
+    unfold("as-text")
     find("grid").send_keys(Keys.CONTROL, "a", Keys.NULL, Keys.DELETE)
     find("grid").send_keys(Keys.CONTROL, "v", Keys.NULL)
     count.expect("what was copied", find("grid").get_attribute("value").strip("\n"), written("Mitsubadoor"))
-    push("tab-write")
+    push("tab-make")
     find("message").send_keys(Keys.CONTROL, "a", Keys.NULL)
     find("message").send_keys(Keys.CONTROL, "v", Keys.NULL)
     count.expect("a grid that is pasted as a message", (find("pane-read").is_displayed(), shown()["says"]), (True, "Mitsubadoor"))
-    push("tab-write")
+    push("tab-make")

@@ -1,7 +1,10 @@
 """What the parts of the page's test have in common: the program, the page in its browser, and what was compared."""
 import contextlib
+import pathlib
 import re
+import shutil
 import subprocess
+import sys
 import time
 
 DEBIANS = "/usr/bin/python3"
@@ -18,13 +21,19 @@ except ImportError:
     webdriver = ActionChains = By = Keys = RemoteConnection = Service = UselessFileDetector = WebKitService = None
 
 QUIET = 2
-LEFT_OUT = {"structured append": 233, "reader programming": 234, "macro 05": 236, "macro 06": 237, "EDIFACT": 240, "an ECI": 241}
+LIBRARY = pathlib.Path(__file__).resolve().parents[2] / "library"
+LEFT_OUT = {"structured append": 233, "reader programming": 234, "macro 05": 236, "macro 06": 237, "EDIFACT": 240,
+            "an ECI": 241}
 
-# What the page shows, as plain text: the verdict, the meters and the facts.
+# What the page shows, as plain text: the verdict, the meters and the facts. Elements are told from a text that looks like
+# some by their identifiers, which have a colour.
 SHOWN = """
-    const text = (id) => document.getElementById(id).textContent, meters = [...document.querySelectorAll("#meters .meter")];
-    return { state: text("state"), says: text("says"), why: text("why"), side: parseInt(document.querySelector("#facts dd")?.textContent),
-             meters: meters.map((meter) => meter.querySelector(".count").textContent.replace(/ (can be corrected|accepted)$/, "")) };"""
+    const text = (id) => document.getElementById(id).textContent, one = (where) => document.querySelector(where);
+    const meters = [...document.querySelectorAll("#meters .count")].map((it) => it.textContent);
+    return { state: text("state"), says: text("says"), why: text("why"),
+             areElements: one("#says i")?.textContent.startsWith("(") ?? false,
+             side: parseInt(one("#facts dd")?.textContent),
+             meters: meters.map((it) => it.replace(/ (can be corrected|accepted)$/, "")) };"""
 
 
 class On:
@@ -65,7 +74,9 @@ count = Count()
 # ---- The program
 
 def ran(task, text, *more):
-    return subprocess.run([on.program, *task.split(), *more], input=text.encode(), stdout=subprocess.PIPE, timeout=300, check=False).stdout.decode()
+    words = [on.program, *task.split(), *more]
+    done = subprocess.run(words, input=text.encode(), stdout=subprocess.PIPE, timeout=300, check=False)
+    return done.stdout.decode()
 
 
 def written(message, profile=0):
@@ -79,7 +90,8 @@ def refused(line):
 
 
 def is_wide(answer):
-    """Whether the program leaves a grid out that the page reads: the page reads the wide extent, with EDIFACT and macros."""
+    """Whether the program leaves a grid out that the page reads: the page reads the wide extent, with EDIFACT and
+    macros."""
     return re.match(r"refused 8 (236 1|237 1|240 \d+)$", answer[0]) is not None
 
 
@@ -88,7 +100,35 @@ def told(grids, *more):
     limit."""
     text = "\n".join(grid.rstrip("\n") + "\n" for grid in grids)
     reads, checks = (ran(task, text, *more).splitlines() for task in ("read", "check"))
-    return [(f"refused {refused(check)}",) * 2 if check.startswith("\\no ") else (read, check) for read, check in zip(reads, checks)]
+    answer = lambda read, check: (f"refused {refused(check)}",) * 2 if check.startswith("\\no ") else (read, check)
+    return [answer(read, check) for read, check in zip(reads, checks)]
+
+
+# ---- Element strings
+
+def rules():
+    """The module gs1 of library/python over the common table, without the library below it, in a package of another
+    name: ecc200 is the one that the tests of the Python package import in this process."""
+    package = on.folder / "rules" / "rules_of_gs1"
+    if not package.exists():
+        package.mkdir(parents=True)
+        shutil.copy(LIBRARY / "python" / "ecc200" / "gs1.py", package)
+        shutil.copytree(LIBRARY / "python" / "ecc200" / "data", package / "data")
+        (package / "core.py").write_text("FNC1 = 256\n")
+        (package / "__init__.py").write_text("")
+        sys.path.insert(0, str(package.parent))
+    from rules_of_gs1 import gs1
+
+    return gs1
+
+
+def line_of(text):
+    """The program's line for what the page shows as an element string, whatever its values are."""
+    elements, table = re.findall(r"\((\d+)\)((?:\\.|[^(\\])*)", text), rules().identifiers()
+    assert "".join(f"({identifier}){value}" for identifier, value in elements) == text, text
+    plain = lambda value: re.sub(r"\\(.)", lambda found: "(" if found[1] == "(" else found[0], value)
+    ends = ["" if table[identifier].fixed else "\\F" for identifier, _ in elements[:-1]] + [""]
+    return "\\F" + "".join(identifier + plain(value) + end for (identifier, value), end in zip(elements, ends))
 
 
 # ---- The page
@@ -100,7 +140,9 @@ def as_program(shown):
     if shown["state"] != "Refused":
         assert not beyond, shown
         read = "" if shown["says"] == "the empty message" else shown["says"]
-        return read, f"ok {shown['side']} border {bounds[-1][0]} corrected {' '.join(count for count, _ in bounds[:-1])}"
+        corrected = " ".join(count for count, _ in bounds[:-1])
+        read = line_of(read) if shown["areElements"] else read
+        return read, f"ok {shown['side']} border {bounds[-1][0]} corrected {corrected}"
     assert shown["says"] == "no message", shown
     why = shown["why"]
     for code, pattern in REFUSALS:
@@ -125,11 +167,11 @@ REFUSALS = [
     (6, r"More than \d+ codewords are wrong(?: in block (\d+) of \d+)?\. (?:Its|The) \d+ check codewords correct no more"),
     (7, r"The value of data codeword (\d+), 0 or 242 to 255, is one that the standard reserves\."),
     (8, r"Data codeword (\d+) begins (structured append|reader programming|macro 05|macro 06|EDIFACT|an ECI)"),
-    (9, r"No character follows the Upper Shift at data codeword (\d+)\."),
+    (9, r"No character follows the Upper Shift that data codeword (\d+), or the pair that begins there, holds\."),
     (10, r"A pair of C40, Text or X12 codewords doesn’t stand for three values: data codeword (\d+)"),
     (11, r"A value in a pair of C40 or Text has no meaning: data codeword (\d+)"),
     (12, r"The length of the Base 256 segment at data codeword (\d+) is missing"),
-    (13, r"The run or the symbol ends before the character to which the Upper Shift at data codeword (\d+) applies"),
+    (13, r"The run or the symbol ends before the character that is due after the Upper Shift that data codeword (\d+), or"),
 ]
 
 
@@ -156,7 +198,9 @@ def settle():
 
 def put(name, text):
     """Gives a field a value as typing does, but all at once."""
-    run("const n = document.getElementById(arguments[0]); n.value = arguments[1]; n.dispatchEvent(new Event('input', { bubbles: true }))", name, text)
+    run("""const node = document.getElementById(arguments[0]);
+           node.value = arguments[1];
+           node.dispatchEvent(new Event('input', { bubbles: true }))""", name, text)
     settle()
 
 
@@ -167,8 +211,30 @@ def push(*names):
 
 
 def write(message, profile=0):
-    push("tab-write", f"profile-{profile}")
+    push("tab-make", "kind-message", f"profile-{profile}")
     put("message", message)
+
+
+def task():
+    return run("return mitsubadoor.store.task")
+
+
+def learn():
+    """Opens the task in which symbols are damaged, with the symbol that is at hand."""
+    if task() != "learn":
+        push("tab-learn")
+
+
+def unfold(*names):
+    for name in names:
+        run("document.getElementById(arguments[0]).open = true", name)
+    settle()
+
+
+def fold(*names):
+    for name in names:
+        run("document.getElementById(arguments[0]).open = false", name)
+    settle()
 
 
 def usable(name):
@@ -210,7 +276,8 @@ def offset(cell, side):
 
 def metrics(width, height, mobile=False, scale=1):
     """Makes the window of this size, or a phone's."""
-    on.page.execute_cdp_cmd("Emulation.setDeviceMetricsOverride", {"width": width, "height": height, "deviceScaleFactor": scale, "mobile": mobile})
+    how = {"width": width, "height": height, "deviceScaleFactor": scale, "mobile": mobile}
+    on.page.execute_cdp_cmd("Emulation.setDeviceMetricsOverride", how)
     wait_for(lambda: run("return innerWidth === arguments[0] && innerHeight === arguments[1]", width, height), seconds=5)
 
 
@@ -221,13 +288,16 @@ def usual_metrics():
 def media(**features):
     """Emulates media features, such as prefers_color_scheme="dark"."""
     named = {name.replace("_", "-"): value for name, value in features.items()}
-    on.page.execute_cdp_cmd("Emulation.setEmulatedMedia", {"features": [{"name": name, "value": value} for name, value in named.items()]})
-    wait_for(lambda: run("return Object.entries(arguments[0]).every(([name, value]) => matchMedia(`(${name}: ${value})`).matches)", named))
+    each = [{"name": name, "value": value} for name, value in named.items()]
+    on.page.execute_cdp_cmd("Emulation.setEmulatedMedia", {"features": each})
+    wait_for(lambda: run("""return Object.entries(arguments[0])
+        .every(([name, value]) => matchMedia(`(${name}: ${value})`).matches)""", named))
 
 
 @contextlib.contextmanager
 def unseen():
-    """Meanwhile nothing is laid out or painted, which takes most of the time where only texts are compared, hundreds of times."""
+    """Meanwhile nothing is laid out or painted, which takes most of the time where only texts are compared, hundreds of
+    times."""
     run("document.documentElement.style.display = 'none'")
     try:
         yield
@@ -252,12 +322,14 @@ def acting():
 
 
 def click(*cells, side=10):
+    learn()
     for cell in cells:
         acting().move_to_element_with_offset(find("symbol"), *offset(cell, side)).click().perform()
         settle()
 
 
-LONGEST, LONGEST_OF_BUGS = 60, 20  # seconds that a thing may take to come, on however busy a machine; and where bugs are planted
+# Seconds that a thing may take to come, on however busy a machine; and where bugs are planted.
+LONGEST, LONGEST_OF_BUGS = 60, 20
 
 
 def wait_for(what, seconds=None):
@@ -272,48 +344,59 @@ def wait_for(what, seconds=None):
 
 
 def drawn(side):
-    """The grid according to the pixels of the screen, taken at a corner of each module, away from crosses and numbers; also checks the quiet zone."""
+    """The grid according to the pixels of the screen, taken at a corner of each module, away from crosses and numbers;
+    also checks the quiet zone."""
     picture = find("symbol").screenshot_as_base64
     text = on.page.execute_async_script("""
         const [picture, side, quiet, done] = arguments, image = new Image(), all = side + 2 * quiet;
         image.src = "data:image/png;base64," + picture;
         image.decode().then(() => {
-            const { naturalWidth: width, naturalHeight: height } = image, pen = Object.assign(document.createElement("canvas"), { width, height }).getContext("2d");
+            const { naturalWidth: width, naturalHeight: height } = image;
+            const pen = Object.assign(document.createElement("canvas"), { width, height }).getContext("2d");
             pen.drawImage(image, 0, 0);
             const { data } = pen.getImageData(0, 0, width, height), rows = [];
             const at = (line) => Math.min(width - 1, Math.floor(((line + 0.12) * width) / all));
             for (let r = 0; r < all; r++) {
                 let row = "";
-                for (let c = 0; c < all; c++) { const p = 4 * (at(r) * width + at(c)); row += data[p] + data[p + 1] + data[p + 2] < 384 ? 1 : 0; }
+                for (let c = 0; c < all; c++) {
+                    const p = 4 * (at(r) * width + at(c));
+                    row += data[p] + data[p + 1] + data[p + 2] < 384 ? 1 : 0;
+                }
                 rows.push(row);
             }
             done(rows.join("\\n"));
         });""", picture, side, QUIET)
     lines = text.split("\n")
-    assert "1" not in "".join(lines[:QUIET] + lines[-QUIET:] + [line[:QUIET] + line[-QUIET:] for line in lines]), "a quiet zone that isn't"
+    around = lines[:QUIET] + lines[-QUIET:] + [line[:QUIET] + line[-QUIET:] for line in lines]
+    assert "1" not in "".join(around), "a quiet zone that isn't"
     return "\n".join(line[QUIET:-QUIET] for line in lines[QUIET:-QUIET])
 
 
 def coloured():
     """The colours in the symbol other than dark and light, and what is marked: turned over, or wrong from the start."""
     return run("""
-        const fills = [...document.querySelectorAll("#symbol > path")].map((path) => path.getAttribute("fill")).filter((fill) => fill !== "none" && fill !== "#14181f" && fill !== "url(#hatch)");
+        const fills = [...document.querySelectorAll("#symbol > path")].map((path) => path.getAttribute("fill"))
+            .filter((fill) => !["none", "#14181f", "url(#hatch)"].includes(fill));
         return [...fills, ...["turned", "wrong"].filter((it) => document.querySelector(`#symbol .${it}`))];""")
 
 
 def cells():
     """What each codeword's cell shows: its value, what it is corrected to, and its colour."""
-    got = run("return [...document.querySelectorAll('#words > b')].map((b) => [b.firstChild.textContent, (b.querySelector('small') || b).textContent, b.className])")
+    got = run("""return [...document.querySelectorAll('#words > b')]
+        .map((b) => [b.firstChild.textContent, (b.querySelector('small') || b).textContent, b.className])""")
     return [(int(held), int(below[1:]) if below.startswith("→") else int(held), kind) for held, below, kind in got]
 
 
 def pointed(words=None):
     """Points at these codewords, or at all: what is told of each, and the numbers in the symbol with their places."""
     return run("""
-        return [...document.querySelectorAll("#words > b")].filter((_, w) => !arguments[0] || arguments[0].includes(w)).map((cell) => {
+        const [words] = arguments, cells = [...document.querySelectorAll("#words > b")];
+        const number = (bit, name) => Math.floor(bit.getAttribute(name));
+        return cells.filter((_, w) => !words || words.includes(w)).map((cell) => {
             cell.dispatchEvent(new PointerEvent("pointerover", { bubbles: true }));
-            const bits = [...document.querySelectorAll("#symbol .bits text")].map((bit) => [bit.textContent, Math.floor(bit.getAttribute("x")), Math.floor(bit.getAttribute("y"))]);
-            return [document.getElementById("about").textContent, bits];
+            const bits = [...document.querySelectorAll("#symbol .bits text")];
+            return [document.getElementById("about").textContent,
+                bits.map((bit) => [bit.textContent, number(bit, "x"), number(bit, "y")])];
         });""", words)
 
 

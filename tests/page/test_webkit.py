@@ -4,7 +4,7 @@ import pathlib
 import random
 import subprocess
 
-from tests.page import browser, conduct, damage, everyone
+from tests.page import browser, conduct, damage, everyone, tasks
 from tests.page.parts import load
 from tests.page.pictures import opened, png
 from tests.page.stage import agree, count, grid, on, push, put, write, written
@@ -66,7 +66,8 @@ class WebKit(Case):
         self.told()
 
     def test_parts_that_need_nothing_of_chromium(self):
-        for part in (damage.by_keys, damage.fixed_square, conduct.a_picture_does_not_win):
+        for part in (damage.by_keys, damage.fixed_square, conduct.a_picture_does_not_win, tasks.tasks_are_linked,
+                     tasks.earlier_links, tasks.text_and_gs1):
             random.seed(1)
             load(PAGE)
             part()

@@ -2,7 +2,8 @@
 import pathlib
 
 from tests.page.pictures import png
-from tests.page.stage import By, Keys, agree, as_program, count, find, grid, is_wide, on, push, put, run, settle, shown, text_of, told, turned, unseen, write, written
+from tests.page.stage import (By, Keys, agree, as_program, count, find, grid, is_wide, on, push, put, run, settle, shown,
+                              text_of, told, turned, unfold, unseen, write, written)
 
 HERE = pathlib.Path(__file__).resolve().parent
 # The marks of other encoders, and three that dmtxwrite made (-e c, t and x): characters of each shift set, with and without an Upper Shift.
@@ -14,7 +15,7 @@ WIDE_GRIDS, WIDE_MADE = HERE.parent / "marks" / "wide_grids.txt", HERE.parent / 
 def spellings():
     for text in ["A\\\\B", "\\F011234567890123110ABC\\F17251231", "\\x80\\FA", "\\x8f", " ", "", "~" * 50, "0" * 1632, "0" * 1631, "A\\", "A\\xg1", "AB\\q", "A\\x4", "12\\f", "\\x", "caf\u00e9", "100 \u20ac", "tab\t", "0" * 1633, "\\xFF" * 409]:
         write(text)
-        line, words = written(text), find("message-hint").text
+        line, words = written(text), text_of("message-hint")
         name = f"spelling {text[:12]!r}"
         if line.startswith("\\no 15 escape "):
             count.expect(name, words.split(" ")[:2], ["Column", line.split(" ")[3]])
@@ -29,7 +30,8 @@ def spellings():
         for way, wanted in spelt.items():
             write(text)
             buttons = {button.text: button for button in find("message-hint").find_elements(By.TAG_NAME, "button")}
-            count.expect(f"ways to spell {text!r}", sorted(buttons), sorted(f"Spell it {each}" for each in spelt))
+            offered = sorted(["Take it as text", *(f"Spell it {each}" for each in spelt)])
+            count.expect(f"ways to spell {text!r}", sorted(buttons), offered)
             buttons[f"Spell it {way}"].click()
             settle()
             count.expect(f"{text!r} {way}", find("message").get_attribute("value"), wanted)
@@ -54,7 +56,7 @@ def profiles():
                 push("to-limit")
                 agree(f"profile {profile} of {text[:24]} at the limit")
             else:
-                count.expect(f"profile {profile} of {text[:24]}", find("message-hint").text.startswith("No size of symbol"), True)
+                count.expect(f"profile {profile} of {text[:24]}", text_of("message-hint").startswith("No size of symbol"), True)
         count.expect(f"sides told for {text[:24]}", [text_of("side-0"), text_of("side-1")], sides)
     write("123456")
 
@@ -63,7 +65,7 @@ def pasted():
     push("tab-read", "example-c40")
     count.expect("C40", [shown()[it] for it in ("state", "says")], ["Read", "Every answer is proved."])
     push("example-turned")
-    count.expect("turned and inverted", (find("grid-hint").text, shown()["says"]), ("The grid is inverted, light for dark, and turned a quarter to the right: found by trying, and shown upright.", "Every answer is proved."))
+    count.expect("turned and inverted", (text_of("grid-hint"), shown()["says"]), ("The grid is inverted, light for dark, and turned a quarter to the right: found by trying, and shown upright.", "Every answer is proved."))
     push("example-edifact")
     count.expect("EDIFACT", (shown()["state"], shown()["says"]), ("Read", "GOODS"))
     briefs = run("return mitsubadoor.mark.seen.told.map((it) => it.brief)")
@@ -72,7 +74,7 @@ def pasted():
                       ("1\n0\n1", "Not a square: there are 3 rows, and row 1 has 1 module."), ("11\n11", "A square of side 2, but no size has this side."),
                       ("1" * 105, "More than 104 rows or columns: symbols as large as that aren’t read here."), ("1\n" * 105, "More than 104 rows or columns: symbols as large as that aren’t read here.")]:
         put("grid", text)
-        count.expect(f"grid refused: {why}", (find("grid-hint").text, find("grid").get_attribute("aria-invalid")), (why, "true"))
+        count.expect(f"grid refused: {why}", (text_of("grid-hint"), find("grid").get_attribute("aria-invalid")), (why, "true"))
     clean = written("Mitsubadoor")
     spoilt = clean[:30] + "10"[int(clean[30])] + clean[31:]
     for name, text in {
@@ -86,7 +88,7 @@ def pasted():
         put("grid", text)
         count.expect(f"pasted {name}", grid(), spoilt)
         agree(f"pasted {name}")
-        count.expect(f"pasted {name}: said", find("grid-hint").text, "Read as it stands.")
+        count.expect(f"pasted {name}: said", text_of("grid-hint"), "Read as it stands.")
     count.expect("a wrong module that wasn't turned here has a dot", [len(on.page.find_elements(By.CSS_SELECTOR, f"#symbol .{it}")) for it in ("wrong", "turned")], [1, 0])
     push("to-limit")
     agree("pasted, to the limit")
@@ -99,11 +101,11 @@ def pasted():
             for quarters in range(4):
                 put("grid", turned(spoilt, quarters, mirrored, inverted))
                 how = ", and ".join(filter(None, [inverted and "inverted, light for dark", mirrored and "mirrored left to right", quarter[quarters]]))
-                count.expect(f"stands {how or 'upright'}", (find("grid-hint").text, grid()), (f"The grid is {how}: found by trying, and shown upright." if how else "Read as it stands.", spoilt))
+                count.expect(f"stands {how or 'upright'}", (text_of("grid-hint"), grid()), (f"The grid is {how}: found by trying, and shown upright." if how else "Read as it stands.", spoilt))
     put("grid", "\n".join(["1" * 10] * 10))
     agree("all dark")
-    count.expect("all dark: said", find("grid-hint").text, "It can’t be read as it stands, nor turned, mirrored or inverted. It is shown as it stands.")
-    push("tab-write")
+    count.expect("all dark: said", text_of("grid-hint"), "It can’t be read as it stands, nor turned, mirrored or inverted. It is shown as it stands.")
+    push("tab-make")
 
 
 def other_encoders():
@@ -135,6 +137,8 @@ def wide_marks():
 
 def compared():
     head = lambda: run("return [...document.querySelectorAll('#same strong, #same p')].map((it) => it.textContent)")
+    push("tab-read")
+    unfold("comparison")
     count.expect("same", head(), ["Yes, they say the same.", "Their modules differ, but both have this one normal grid:"])
     count.expect("one normal grid", len(find("same").find_elements(By.TAG_NAME, "svg")), 1)
     area = lambda slot: find(f"slot-{slot}").find_element(By.TAG_NAME, "textarea")
@@ -155,11 +159,11 @@ def compared():
     fill("b", "another")
     count.expect("a message", head(), ["Yes, they say the same.", "Both have this one normal grid:"])
     fill("b", "caf\u00e9")
-    count.expect("no message", (head(), "Column 4 is \u00e9" in find("slot-b").text), (["No answer", "Symbol B can’t be taken."], True))
+    count.expect("no message", (head(), "Column 4 is \u00e9" in text_of("slot-b")), (["No answer", "Symbol B can’t be taken."], True))
     take("b")
     count.expect("alike", head(), ["Yes, they say the same.", "Both have this one normal grid:"])
     fill("b", turned(written("another"), 1, False, True))
-    count.expect("turned", (head()[0], "inverted, light for dark, and turned a quarter to the right" in find("slot-b").text), ("Yes, they say the same.", True))
+    count.expect("turned", (head()[0], "inverted, light for dark, and turned a quarter to the right" in text_of("slot-b")), ("Yes, they say the same.", True))
     fill("b", turned(written("Another"), 1, False, True))
     count.expect("one letter", head()[0], "No, they say different things.")
     message = "".join(f"\\x{128 + k % 128:02X}" for k in range(60))
@@ -185,4 +189,5 @@ def compared():
     find("picture-B").send_keys(str(picture))
     settle()
     count.expect("a picture", head(), ["Yes, they say the same.", "Both have this one normal grid:"])
+    push("tab-read")
     count.expect("large enough to see", find("slot-b").find_element(By.TAG_NAME, "svg").rect["width"] >= 200, True)

@@ -13,7 +13,7 @@ from tests.support import commands, places
 PACKAGES = {
     "c++": "g++", "nm": "binutils", "sshd": "openssh-server", "ssh": "openssh-client", "pkg-config": "pkgconf",
     "javac": "default-jdk-headless", "node": "nodejs", "wasm-opt": "binaryen", "WebKitWebDriver": "webkit2gtk-driver",
-    "Xvfb": "xvfb", "chromedriver": "chromium-driver",
+    "Xvfb": "xvfb", "chromedriver": "chromium-driver", "tsc": "node-typescript",
 }
 PATH = os.pathsep.join([os.environ.get("PATH", os.defpath), "/usr/sbin"])
 

@@ -1,0 +1,110 @@
+"""What goes on for long: 2,000 acts leave nothing behind, and a page that is out of sight does nothing."""
+import random
+
+from tests.page.bounds import drop
+from tests.page.photographs import SLOW_CAMERA
+from tests.page.pictures import png
+from tests.page.stage import count, find, learn, on, push, run, settle, unfold, wait_for, write, written
+
+ACTS, BEFORE = 2000, 200  # the first ones fill what is kept of each size of symbol
+GROWTH = {"Nodes": 100, "JSEventListeners": 10, "JSHeapUsedSize": 1 << 20}
+
+DONE = """
+    const [count, grid, done] = arguments, at = (id) => document.getElementById(id);
+    const put = (id, text) => { at(id).value = text; at(id).dispatchEvent(new Event("input", { bubbles: true })); };
+    const tap = (across, down) => {
+        const box = at("symbol").getBoundingClientRect();
+        const place = { clientX: box.left + across * box.width, clientY: box.top + down * box.height };
+        at("symbol").dispatchEvent(new PointerEvent("click", { pointerType: "touch", bubbles: true, ...place }));
+    };
+    const point = (k) => at(`word-${k % 8}`)?.dispatchEvent(new PointerEvent("pointerover", { bubbles: true }));
+    const push = (id) => () => at(id).click();
+    const acts = [push("tab-make"), (k) => put("message", "A".repeat(k % 40)), push("profile-1"), push("profile-0"),
+        () => put("message", "caf\\u00e9"), push("tab-read"), () => put("grid", grid), () => put("grid", "12"),
+        push("tab-learn"), push("learn-write"), (k) => tap(0.3 + (k % 7) / 20, 0.4), push("one-more"), point,
+        push("to-limit"), push("scratch"), push("undo"), push("undo"), push("redo"), push("step-on"), push("undo-all"),
+        push("zoom-in"), push("zoom-out"), (k) => put("border-limit", String(k % 9)), push("usual"), push("step-back")];
+    (async () => {
+        for (let k = 0; k < count; k++) {
+            acts[k % acts.length](k);
+            await mitsubadoor.idle();
+        }
+        done();
+    })();"""
+TAPS = """
+    const [count, done] = arguments, { mark, idle } = mitsubadoor, symbol = document.getElementById("symbol");
+    const { left, top, width } = symbol.getBoundingClientRect();
+    const place = { clientX: left + 0.4 * width, clientY: top + 0.4 * width };
+    for (let k = 0; k < count; k++)
+        symbol.dispatchEvent(new PointerEvent("click", { pointerType: "touch", bubbles: true, ...place }));
+    idle().then(() => done(mark.past.length));"""
+MOST_ACTS = 500
+
+
+def measured():
+    """What the page holds, after all that it doesn't need has been given up."""
+    write("123456")
+    push("tab-make")
+    on.page.execute_cdp_cmd("HeapProfiler.collectGarbage", {})
+    metrics = on.page.execute_cdp_cmd("Performance.getMetrics", {})["metrics"]
+    return {each["name"]: each["value"] for each in metrics if each["name"] in GROWTH}
+
+
+def without_growth():
+    on.page.execute_cdp_cmd("Performance.enable", {})
+    learn()
+    unfold("lesson", "details")
+    acts = lambda some: on.page.execute_async_script(DONE, some, written("Mitsubadoor"))
+    acts(BEFORE)
+    before = measured()
+    acts(ACTS)
+    after = measured()
+    grown = {name: after[name] - before[name] for name, most in GROWTH.items() if after[name] - before[name] > most}
+    count.expect(f"what has grown in {ACTS} acts", grown, {})
+    said = [entry["message"] for entry in on.page.get_log("browser")]
+    count.expect("console", [message for message in said if "Throttling navigation" not in message], [])
+    learn()
+    kept = on.page.execute_async_script(TAPS, MOST_ACTS + 200)
+    count.expect("how many acts can be undone", kept, MOST_ACTS)
+    push("undo-all", "tab-make")
+
+
+WATCH = """
+    globalThis.calls = [];
+    globalThis.kept = {};
+    for (const name of ["setTimeout", "setInterval", "requestAnimationFrame"]) {
+        kept[name] = globalThis[name];
+        globalThis[name] = (...given) => { calls.push(name); return kept[name].call(globalThis, ...given); };
+    }
+    kept.post = Worker.prototype.postMessage;
+    Worker.prototype.postMessage = function (...given) { calls.push("postMessage"); return kept.post.apply(this, given); };
+    globalThis.again = () => {
+        for (const [name, value] of Object.entries(kept)) if (name !== "post") globalThis[name] = value;
+        Worker.prototype.postMessage = kept.post;
+    };"""
+LATER = "const [done] = arguments; kept.setTimeout.call(globalThis, () => done(calls), 1500);"
+
+
+def out_of_sight():
+    """Nothing runs on behind another tab of the browser, but a picture that is being looked at, until that is done."""
+    noise = ["".join(random.choice("01") for _ in range(40)) for _ in range(40)]
+    push("tab-read", "example-c40")
+    drop("body", [("noise.png", "image/png", png(noise, 6, 2))])
+    run(SLOW_CAMERA)
+    run("document.getElementById('camera').click(); for (const each of allowed.splice(0)) each()")
+    wait_for(lambda: find("viewfinder").is_displayed())
+    run("""clearInterval(painter);
+           Object.defineProperty(document, 'hidden', { configurable: true, value: true });
+           document.dispatchEvent(new Event('visibilitychange'));""")
+    settle()
+    run(WATCH)
+    count.expect("what is done out of sight", on.page.execute_async_script(LATER), [])
+    tracks = run("return streams.flatMap((stream) => stream.getTracks().map((track) => track.readyState))")
+    moving = run("return document.getAnimations().filter((it) => it.playState === 'running').length")
+    count.expect("the camera, and what moves", (tracks, moving), (["ended"], 0))
+    run("again(); delete document.hidden; delete navigator.mediaDevices")
+    write("123456")
+    count.expect("it goes on afterwards", run("return mitsubadoor.mark.stage"), "valid")
+
+
+PARTS = [without_growth, out_of_sight]

@@ -1,0 +1,159 @@
+"""The three tasks, each with its link: what is shown first, what each begins with, links of earlier pages, text as it
+stands, what GS1 data looks like, and that only where one learns a symbol is damaged."""
+from tests.page.conduct import linked, started, verdict
+from tests.page.history import afresh, fields
+from tests.page.stage import (acting, agree, changed, click, count, find, grid, learn, offset, on, push, put, run, settle,
+                              shown, task, text_of, unfold, usable, write, written)
+
+ELEMENTS = "(01)09506000134352(17)271231(10)AB-42"
+LINE = "\\F010950600013435217271231" + "10AB-42"
+TEXT = "Gr\u00f6\u00dfe: 5 \u00b5m"
+COLLECT = "globalThis.copied = []; navigator.clipboard.writeText = async (text) => { copied.push(text); }"
+
+
+def spelled_bytes(text):
+    return "".join(chr(byte) if byte < 128 else f"\\x{byte:02X}" for byte in text.encode())
+
+
+def seen_panes():
+    return [name for name in ("read", "make", "learn") if find(f"pane-{name}").is_displayed()]
+
+
+def go(fragment):
+    run("location.hash = arguments[0]", fragment)
+    linked()
+
+
+def tasks_are_linked():
+    """A task has a link, which from elsewhere opens the page at it, and within the page keeps what is entered."""
+    afresh()
+    first = (task(), find("message").get_attribute("value"), verdict(), on.page.title)
+    wanted = ("make", "Hello", ("Read", "Hello"), "Read, make and understand Data Matrix codes: Mitsubadoor")
+    count.expect("what is shown first", first, wanted)
+    for name in ("read", "make", "learn"):
+        address = on.page.current_url.partition("#")[0]
+        on.page.get("about:blank")
+        on.page.get(f"{address}#{name}")
+        started()
+        says = ("Nothing is entered yet", "") if name == "read" else ("Read", "Hello")
+        count.expect(f"#{name} from elsewhere", (seen_panes(), verdict()), ([name], says))
+        linked()
+        run("location.hash = '#make'")
+        linked()
+        put("message", f"at {name}")
+        go(f"#{name}")
+        count.expect(f"#{name} within the page", (seen_panes(), find("message").get_attribute("value")),
+                     ([name], f"at {name}"))
+        count.expect(f"#{name} is what the address says", (on.page.current_url.partition("#")[2].split("&")[0],
+                                                           fields().get("message")), (name, f"at {name}"))
+        selected = run("return [...document.querySelectorAll('[role=tab]')].map((it) => it.ariaSelected)")
+        count.expect(f"#{name}: its tab", selected, [str(each == name).lower() for each in ("read", "make", "learn")])
+
+
+def earlier_links():
+    """Links of earlier pages lead to what they were about: damage is where one learns."""
+    write("earlier")
+    push("tab-read", "example-c40")
+    linked()
+    letters = fields()["grid"]
+    for fragment, name, says, turned in (
+        ("message=old", "make", "old", []), ("message=old&damage=5", "learn", "old", [5]),
+        ("message=old&border=3", "learn", "old", []),
+        (f"message=old&grid={letters}&pane=read", "read", "Every answer is proved.", []),
+        (f"message=old&grid={letters}&grid-damage=3.4&pane=read", "learn", "Every answer is proved.", [3, 8]),
+        (f"message=old&damage=5&grid={letters}&pane=read", "read", "Every answer is proved.", []),
+    ):
+        go(f"#{fragment}")
+        damage = run("const { modules, original } = mitsubadoor.mark;"
+                     "return [...modules.keys()].filter((k) => modules[k] !== original[k])")
+        count.expect(fragment.replace(letters, "..."), (seen_panes(), shown()["says"], damage), ([name], says, turned))
+    for side in (105, 120, 999):
+        go(f"#read&grid={side}{'A' * -(-side * side // 6)}")
+        count.expect(f"a grid of side {side}", (find("grid").get_attribute("value"), verdict()),
+                     ("", ("Nothing is entered yet", "")))
+    push("tab-make")
+    write("123456")
+
+
+def text_and_gs1():
+    """Text is taken as it stands, in UTF-8; GS1 data has its identifiers in brackets, and FNC1 stands only where
+    codewords are shown. What is copied is what a person would type."""
+    run(COLLECT)
+    chips = {it.text: it for it in find("pane-make").find_elements("css selector", "[data-message]")}
+    chips["Text"].click()
+    settle()
+    count.expect("text", (grid(), find("kind-text").is_selected()), (written(spelled_bytes(TEXT)), True))
+    agree("text, as it is read")
+    count.expect("text is said", (shown()["says"], f"In UTF-8 it is \u201c{TEXT}\u201d." in shown()["why"]),
+                 (spelled_bytes(TEXT), True))
+    push("copy-message")
+    linked()
+    count.expect("text in the link", (fields()["message"], fields()["as"]), (TEXT, "text"))
+    on.page.refresh()
+    started()
+    count.expect("text after a reload", (grid(), find("kind-text").is_selected()), (written(spelled_bytes(TEXT)), True))
+    put("message", "a\\b (01) \\F\n2")
+    count.expect("nothing is spelled in text", (shown()["says"], text_of("message-hint")), ("a\\\\b (01) \\\\F\\x0A2", ""))
+    put("message", "~" * 20001)
+    count.expect("too much text", (verdict(), "20,001 characters" in text_of("message-hint")),
+                 (("Nothing is read", ""), True))
+    run(COLLECT)
+    find("pane-make").find_element("css selector", "[data-message^='(01)']").click()
+    settle()
+    agree("GS1 data, as it is read")
+    count.expect("GS1 data", (grid(), shown()["says"], find("kind-message").is_selected()), (written(LINE), ELEMENTS, True))
+    push("copy-message", "print")
+    for name in ("read", "make", "learn"):
+        push(f"tab-{name}")
+        unfold("details", "sheet", "comparison", "lesson")
+        said = run("return document.body.innerText")
+        words = text_of("words") + text_of("about") + text_of("step")
+        count.expect(f"{name}: FNC1 by its spelling only in codewords", said.count("\\F") <= words.count("\\F"), True)
+    count.expect("what is copied", run("return copied"), [ELEMENTS])
+    push("tab-make")
+    write("caf\u00e9")
+    buttons = {it.text: it for it in find("message-hint").find_elements("css selector", "button")}
+    buttons["Take it as text"].click()
+    settle()
+    count.expect("taken as text", (grid(), shown()["state"]), (written("caf\\xC3\\xA9"), "Read"))
+    run("delete navigator.clipboard.writeText")
+    for line in ("\\F01095060001343521" + "0AB\\F", "\\F0512", "\\F10A\\F\\F21B", "\\F10A\\x1D21B", "\\F10A(B)", "\\F10\\\\(",
+                 "\\F", "\\FAB\\x1D", "A\\FB", "\\F9112\\F", "\\F91\\x80", "(01)5\\F"):
+        write(line if not line.startswith("(") else "\\x28" + line[1:])
+        agree(f"{line} as it is shown")
+    write("123456")
+
+
+def damaged_only_where_one_learns():
+    write("123456")
+    clean = written("123456")
+    for name in ("make", "read"):
+        push(f"tab-{name}")
+        if name == "read":
+            put("grid", clean)
+        acting().move_to_element_with_offset(find("symbol"), *offset(33, 10)).click().perform()
+        run("document.querySelector('.skip').click()")
+        on.page.switch_to.active_element.send_keys(" ")
+        settle()
+        symbol = find("symbol")
+        count.expect(f"{name}: a click and a key", (grid(), usable("undo"), symbol.get_attribute("role")),
+                     (clean, False, "img"))
+        count.expect(f"{name}: no buttons for damage", find("to-limit").is_displayed(), False)
+    learn()
+    where = lambda: [run("return mitsubadoor.store.pane"), find("learn-read").is_selected()]
+    count.expect("what is learnt about", where(), ["read", True])
+    click(33)
+    find("learn-write").click()
+    settle()
+    count.expect("the other symbol", (where(), grid()), (["write", False], clean))
+    click(44)
+    for name, module in (("learn-read", 33), ("learn-write", 44)):
+        find(name).click()
+        settle()
+        count.expect(f"{name} keeps its damage", changed(clean, grid()), [module])
+    top, bottom = run("""return ['to-limit', 'easel'].map((id) => document.getElementById(id).getBoundingClientRect().top)""")
+    count.expect("damage is above the symbol", top < bottom, True)
+    push("undo-all", "learn-read", "undo-all", "tab-make")
+
+
+PARTS = [tasks_are_linked, earlier_links, text_and_gs1, damaged_only_where_one_learns]

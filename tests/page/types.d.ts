@@ -1,0 +1,2 @@
+// What browsers have and the checker's library doesn't know yet.
+declare const OffscreenCanvas: any;

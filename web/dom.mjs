@@ -1,0 +1,44 @@
+// Finding and making what the page consists of. Texts are always put in as texts, and never read as markup.
+
+// An element of index.html, by its id; which kind it is, index.html says.
+/** @type {(id: string) => any} */
+export const $ = (id) => document.getElementById(id);
+
+// All elements that a selector says.
+/** @type {(selector: string) => any[]} */
+export const allOf = (selector) => [...document.querySelectorAll(selector)];
+
+/** @type {(tag: string, properties?: object, ...children: (Node | string)[]) => any} */
+export function made(tag, properties = {}, ...children) {
+  const node = Object.assign(document.createElement(tag), properties);
+  node.append(...children);
+  return node;
+}
+// An element of a drawing, by its attributes.
+/** @type {(tag: string, attributes?: object, ...children: (Node | string)[]) => SVGElement} */
+export function shape(tag, attributes = {}, ...children) {
+  const node = document.createElementNS("http://www.w3.org/2000/svg", tag);
+  for (const [name, value] of Object.entries(attributes)) node.setAttribute(name, value);
+  node.append(...children);
+  return node;
+}
+// Words in which `these` stand as code.
+/** @type {(text: string) => (Node | string)[]} */
+export const withCode = (text) => text.split("`").map((part, k) => (k % 2 ? made("code", {}, part) : part));
+
+// Buttons that can't be used now stay in reach of the keyboard, so that focus isn't lost; `whenUsed` acts only if they
+// can be.
+/** @type {(id: string, isUsable: boolean) => void} */
+export function setUsable(id, isUsable) { $(id).setAttribute("aria-disabled", !isUsable); }
+/** @type {(id: string, action: () => void) => void} */
+export function whenUsed(id, action) {
+  $(id).addEventListener("click", () => { if ($(id).getAttribute("aria-disabled") !== "true") action(); });
+}
+// Says something below a field, which is marked if that is bad.
+/** @type {(id: string, said: string | (Node | string)[], isBad?: boolean, field?: string | null) => void} */
+export function hint(id, said, isBad = false, field = null) {
+  $(id).replaceChildren(...[said].flat());
+  $(id).classList.toggle("bad", isBad);
+  if (!field) return;
+  if (isBad) $(field).setAttribute("aria-invalid", "true"); else $(field).removeAttribute("aria-invalid");
+}
