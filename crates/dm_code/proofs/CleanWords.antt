@@ -1,5 +1,7 @@
--- What the results of a correction rest on: a word is a codeword where its syndromes are 0, and then it is near to itself.
-use Rattle.std.proofs.Common.{◌≡◌, ℕ, zero, suc, ◌+◌, ◌/◌, ◌<◌, ◌≤◌, List, [], ◌∷◌, ◌++◌, length, get_or, take, drop, refl, sym, ap, subst, ◌∙◌, arith, All, replicate}
+-- What the results of a correction rest on: a word is a codeword where its syndromes are 0, and then it is near to
+-- itself.
+use Rattle.std.proofs.Common.{◌≡◌, ℕ, zero, suc, ◌+◌, ◌/◌, ◌<◌, ◌≤◌, List, [], ◌∷◌, ◌++◌, length, get_or, take, drop}
+use Rattle.std.proofs.Common.{refl, sym, ap, subst, ◌∙◌, arith, All, replicate}
 use Rattle.std.proofs.lemmas.Grind.{common_steps}
 use Rattle.std.proofs.lemmas.List.{ext_get_or, length-replicate, get_or-replicate}
 use Rattle.gf301.specs.Field.{power}
@@ -23,24 +25,29 @@ zero_places (a ∷ p) h zero d l = h 0 (omega arith)
 zero_places (a ∷ p) h (suc i) d l = zero_places p (λ j m. h (suc j) (omega arith)) i d (omega arith)
 
 -- A word whose syndromes are all 0 is a codeword.
-pub codeword_from_syndromes : (k : ℕ) (w s : List ℕ) → k ≤ MOST_CHECKS → k < length w → length w ≤ 255 → Bytes w → s ≡ syndromes_of w k → AreZero s → IsCodeword k w
+pub codeword_from_syndromes : (k : ℕ) (w s : List ℕ) → k ≤ MOST_CHECKS → k < length w → length w ≤ 255 → Bytes w →
+    s ≡ syndromes_of w k → AreZero s → IsCodeword k w
 codeword_from_syndromes k w s a b l h e z =
     let n : length s ≡ k = ap length e ∙ syndromes_length w k in
-    codeword_from_values k w (omega arith) l (omega arith) h (λ i q. sym (syndrome_at w k i q) ∙ ap (λ t. get_or t i 0) (sym e) ∙ z i 0 (omega arith))
+    codeword_from_values k w (omega arith) l (omega arith) h (λ i q. sym (syndrome_at w k i q)
+    ∙ ap (λ t. get_or t i 0) (sym e) ∙ z i 0 (omega arith))
 
 -- The syndromes of zeros are all 0.
 pub zeros_of_zeros : (k : ℕ) (r : List ℕ) → AreZero r → AreZero (syndromes_of r k)
 zeros_of_zeros k r z =
     let same : r ≡ replicate (length r) 0 =
-    ext_get_or 0 r (replicate (length r) 0) (sym (length-replicate {A = ℕ} (length r) 0)) (λ i h. z i 0 h ∙ sym (get_or-replicate (length r) i 0 0 h)) in
+    ext_get_or 0 r (replicate (length r) 0) (sym (length-replicate {A = ℕ} (length r) 0)) (λ i h. z i 0 h
+    ∙ sym (get_or-replicate (length r) i 0 0 h)) in
     zero_places (syndromes_of r k) (λ i h.
-    syndrome_at r k i (omega (arith, syndromes_length r k)) ∙ ap (λ t. value t (power (1 + i))) same ∙ value_zeros (power (1 + i)) (length r))
+    syndrome_at r k i (omega (arith, syndromes_length r k)) ∙ ap (λ t. value t (power (1 + i))) same
+    ∙ value_zeros (power (1 + i)) (length r))
 
 -- The syndromes of a codeword are all 0.
 pub zero_syndromes : (k : ℕ) (w s : List ℕ) → s ≡ syndromes_of w k → IsCodeword k w → AreZero s
 zero_syndromes k w s e c =
     let n : length s ≡ k = ap length e ∙ syndromes_length w k in
-    zero_places s (λ i h. ap (λ t. get_or t i 0) e ∙ syndrome_at w k i (omega arith) ∙ codeword_values k w c i (omega arith))
+    zero_places s (λ i h. ap (λ t. get_or t i 0) e ∙ syndrome_at w k i (omega arith)
+    ∙ codeword_values k w c i (omega arith))
 
 -- A word differs from itself at no place.
 differing_self : (w : List ℕ) (n : ℕ) → differing w w n ≡ 0

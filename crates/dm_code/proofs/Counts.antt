@@ -11,9 +11,12 @@ below_square : (n : ℕ) → n ≤ n * n
 below_square zero = omega arith
 below_square (suc n) = omega arith
 
--- With u more values than 2 t, the products, those of the evaluator among them, are at most 4 times the square of the number of values.
-products_over : (t u d p q : ℕ) → d ≤ t → p ≤ (2 * t + u) * (2 * t + 3) → q ≤ p + d * (d + 1) → q ≤ 4 * (2 * t + u) * (2 * t + u)
-products_over t u d p q b l m = omega (arith, mul-le d (d + 1) t (t + 1) b (omega arith), below_square t, below_square u)
+-- With u more values than 2 t, the products, those of the evaluator among them, are at most 4 times the square of the
+-- number of values.
+products_over : (t u d p q : ℕ) → d ≤ t → p ≤ (2 * t + u) * (2 * t + 3) → q ≤ p + d * (d + 1) →
+    q ≤ 4 * (2 * t + u) * (2 * t + u)
+products_over t u d p q b l m =
+    omega (arith, mul-le d (d + 1) t (t + 1) b (omega arith), below_square t, below_square u)
 
 -- For k values there are at most 4 k k products.
 pub all_products : (k t d p q : ℕ) → 2 * t ≤ k → d ≤ t → p ≤ k * (2 * t + 3) → q ≤ p + d * (d + 1) → q ≤ 4 * k * k

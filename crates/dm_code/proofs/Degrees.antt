@@ -41,7 +41,8 @@ grown_most a (suc n) m h = omega arith
 grown_most zero zero m h = omega arith
 grown_most (suc a) zero m h = omega arith
 
--- The extent is the number of coefficients without the zeros at the end: one more than the degree, and 0 for the zero polynomial.
+-- The extent is the number of coefficients without the zeros at the end: one more than the degree, and 0 for the zero
+-- polynomial.
 pub extent : List ℕ → ℕ
 extent [] = 0
 extent (a ∷ p) = grown a (extent p)
@@ -59,5 +60,6 @@ below_extent (suc n) (a ∷ p) h (suc i) l = below_extent n p (grown_tail a (ext
 pub extent_most : (n : ℕ) (p : List ℕ) → IsBelow n p → extent p ≤ n
 unfolding extent
 extent_most n [] h = omega arith
-extent_most zero (a ∷ p) h = grown_nothing a (extent p) (h 0 (omega arith)) (extent_most 0 p (λ i l. h (suc i) (omega arith)))
+extent_most zero (a ∷ p) h =
+    grown_nothing a (extent p) (h 0 (omega arith)) (extent_most 0 p (λ i l. h (suc i) (omega arith)))
 extent_most (suc n) (a ∷ p) h = grown_most a (extent p) n (extent_most n p (λ i l. h (suc i) (omega arith)))

@@ -1,5 +1,6 @@
 -- The distance of two words, and that of two codewords.
-use Rattle.std.proofs.Common.{◌≡◌, ◌≢◌, ℕ, zero, suc, ◌+◌, ◌<◌, ◌≤◌, List, [], ◌∷◌, ◌++◌, length, get_or, refl, sym, ap, subst, ◌∙◌, arith, inl, inr, length-append, cond}
+use Rattle.std.proofs.Common.{◌≡◌, ◌≢◌, ℕ, zero, suc, ◌+◌, ◌<◌, ◌≤◌, List, [], ◌∷◌, ◌++◌, length, get_or, refl, sym, ap}
+use Rattle.std.proofs.Common.{subst, ◌∙◌, arith, inl, inr, length-append, cond}
 use Rattle.std.proofs.lemmas.Bool.{cases_lt, cases_eq, eq-eqb, ne_eqb}
 use Rattle.std.proofs.lemmas.List.{get_or_append_left, append_cancel_left}
 use lib.Bits.{xor_self}
@@ -48,7 +49,8 @@ differing_more v w n zero =
     omega arith
 differing_more v w n (suc m) =
     let i : differing v w (n + m) ≤ differing v w n + m = differing_more v w n m in
-    let e : differing v w (n + suc m) ≡ differing v w (n + m) + differs (get_or v (n + m) 0) (get_or w (n + m) 0) = ap (differing v w) (let q : n + suc m ≡ suc (n + m) = omega arith in q) in
+    let e : differing v w (n + suc m) ≡ differing v w (n + m) + differs (get_or v (n + m) 0) (get_or w (n + m) 0) =
+    ap (differing v w) (let q : n + suc m ≡ suc (n + m) = omega arith in q) in
     omega (arith, differs_le (get_or v (n + m) 0) (get_or w (n + m) 0))
 
 -- Words that agree at the first n places differ at none of them.
@@ -62,10 +64,13 @@ differing_none v w (suc n) h =
 -- Words with one prefix differ in no more places than follow it.
 pub distance_after : (f c d : List ℕ) → distance (f ++ c) (f ++ d) ≤ length c
 distance_after f c d =
-    let m : differing (f ++ c) (f ++ d) (length f + length c) ≤ differing (f ++ c) (f ++ d) (length f) + length c = differing_more (f ++ c) (f ++ d) (length f) (length c) in
+    let m : differing (f ++ c) (f ++ d) (length f + length c) ≤ differing (f ++ c) (f ++ d) (length f) + length c =
+    differing_more (f ++ c) (f ++ d) (length f) (length c) in
     let z : differing (f ++ c) (f ++ d) (length f) ≡ 0 =
-    differing_none (f ++ c) (f ++ d) (length f) (λ i l. get_or_append_left f c 0 i l ∙ sym (get_or_append_left f d 0 i l)) in
-    let e : differing (f ++ c) (f ++ d) (length (f ++ c)) ≡ differing (f ++ c) (f ++ d) (length f + length c) = ap (differing (f ++ c) (f ++ d)) (length-append f c) in
+    differing_none (f ++ c) (f ++ d) (length f) (λ i l. get_or_append_left f c 0 i l
+    ∙ sym (get_or_append_left f d 0 i l)) in
+    let e : differing (f ++ c) (f ++ d) (length (f ++ c)) ≡ differing (f ++ c) (f ++ d) (length f + length c) =
+    ap (differing (f ++ c) (f ++ d)) (length-append f c) in
     omega arith
 
 -- ---- the places at which two words differ are those at which their sum isn't 0
@@ -97,7 +102,8 @@ distance_nonzeros [] (b ∷ w) h = absurd (omega arith)
 distance_nonzeros (a ∷ v) [] h = absurd (omega arith)
 distance_nonzeros (a ∷ v) (b ∷ w) h =
     let i : distance v w ≡ nonzeros (plus v w) = distance_nonzeros v w (omega arith) in
-    let m : differing (a ∷ v) (b ∷ w) (suc (length v)) ≡ differs a b + distance v w = differing_head a b v w (length v) in
+    let m : differing (a ∷ v) (b ∷ w) (suc (length v)) ≡ differs a b + distance v w =
+    differing_head a b v w (length v) in
     elim (cases_eq a b) [
       | inl e ↦
           let z : a ⊕ b ≡ 0 = ap (λ x. a ⊕ x) (sym e) ∙ xor_self a in
@@ -107,28 +113,35 @@ distance_nonzeros (a ∷ v) (b ∷ w) h =
 
 -- ---- codewords
 -- Two codewords of one length that differ in at most k places are equal.
-pub codewords_one : (k : ℕ) (v w : List ℕ) → IsCodeword k v → IsCodeword k w → length v ≡ length w → length v ≤ 255 → distance v w ≤ k → v ≡ w
+pub codewords_one : (k : ℕ) (v w : List ℕ) → IsCodeword k v → IsCodeword k w → length v ≡ length w → length v ≤ 255 →
+    distance v w ≤ k → v ≡ w
 codewords_one k v w cv cw l h d =
-    same_from_values v w k l h (codeword_bytes k v cv) (codeword_bytes k w cw) (subst (λ n. n ≤ k) (distance_nonzeros v w l) d)
+    same_from_values v w k l h (codeword_bytes k v cv) (codeword_bytes k w cw)
+    (subst (λ n. n ≤ k) (distance_nonzeros v w l) d)
     (λ i b. codeword_values k v cv i b ∙ sym (codeword_values k w cw i b))
 
 -- Two different codewords of one length differ in at least k + 1 places.
-pub codewords_apart : (k : ℕ) (v w : List ℕ) → IsCodeword k v → IsCodeword k w → length v ≡ length w → length v ≤ 255 → v ≢ w → k + 1 ≤ distance v w
+pub codewords_apart : (k : ℕ) (v w : List ℕ) → IsCodeword k v → IsCodeword k w → length v ≡ length w → length v ≤ 255 →
+    v ≢ w → k + 1 ≤ distance v w
 codewords_apart k v w cv cw l h n = elim (cases_lt k (distance v w)) [
   | inl b ↦ omega arith
   | inr b ↦ absurd (n (codewords_one k v w cv cw l h b))
 ]
 
 -- A codeword's front determines the k codewords that follow it.
-pub front_determines : (k : ℕ) (f c d : List ℕ) → IsCodeword k (f ++ c) → IsCodeword k (f ++ d) → length c ≡ k → length d ≡ k → length f + k ≤ 255 → c ≡ d
+pub front_determines : (k : ℕ) (f c d : List ℕ) → IsCodeword k (f ++ c) → IsCodeword k (f ++ d) → length c ≡ k →
+    length d ≡ k → length f + k ≤ 255 → c ≡ d
 front_determines k f c d cc cd lc ld h =
     append_cancel_left f c d
-    (codewords_one k (f ++ c) (f ++ d) cc cd (omega (arith, length-append f c, length-append f d)) (omega (arith, length-append f c))
+    (codewords_one k (f ++ c) (f ++ d) cc cd (omega (arith, length-append f c, length-append f d))
+    (omega (arith, length-append f c))
     (omega (arith, distance_after f c d)))
 
 -- At most one codeword is near a word.
 pub near_one : (k : ℕ) (w c d : List ℕ) → length w ≤ 255 → IsNear k w c → IsNear k w d → c ≡ d
 near_one k w c d h nc nd =
-    let t : differing c d (length w) ≤ differing w c (length w) + differing w d (length w) = differing_triangle w c d (length w) in
+    let t : differing c d (length w) ≤ differing w c (length w) + differing w d (length w) =
+    differing_triangle w c d (length w) in
     let e : distance c d ≡ differing c d (length w) = ap (differing c d) nc.long in
-    codewords_one k c d nc.codeword nd.codeword (nc.long ∙ sym nd.long) (omega (arith, nc.long)) (omega (arith, nc.close, nd.close))
+    codewords_one k c d nc.codeword nd.codeword (nc.long ∙ sym nd.long) (omega (arith, nc.long))
+    (omega (arith, nc.close, nd.close))

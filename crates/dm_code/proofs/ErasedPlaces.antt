@@ -1,12 +1,16 @@
 -- A word and a codeword of one check less, with each place but an erased one weighed.
-use Rattle.std.proofs.Common.{◌≡◌, ◌≢◌, ℕ, zero, suc, ◌+◌, ◌-◌, ◌<◌, ◌≤◌, List, [], ◌∷◌, length, get_or, slice_set, refl, sym, ap, subst, ◌∙◌, arith, bit_xor, inl, inr, length-set}
+use Rattle.std.proofs.Common.{◌≡◌, ◌≢◌, ℕ, zero, suc, ◌+◌, ◌-◌, ◌<◌, ◌≤◌, List, [], ◌∷◌, length, get_or, slice_set}
+use Rattle.std.proofs.Common.{refl, sym, ap, subst, ◌∙◌, arith, bit_xor, inl, inr, length-set}
 use Rattle.std.proofs.lemmas.Bool.{cases_eq}
 use Rattle.std.proofs.lemmas.List.{get_or-set_same, get_or-set_other, ext_get_or}
 use Rattle.std.proofs.Math.Nat.{pos_of_ne-zero}
 use lib.Bits.{xor_zero_r, xor_zero_l, xor_self}
 use Rattle.gf301.specs.Field.{◌⊕◌, ◌⊗◌, raise, power}
 use Rattle.gf301.specs.Polynomial.{Bytes, value}
-use Rattle.gf301.proofs.Exported.{product_assoc, product_comm, product_zero_right, product_one_left, product_one_right, product_cancels, raise_below, sum_zero, power_injective, factor_value, value_below, weigh, weighted, weigh_same, weigh_weighted, value_weigh, length-weighted, bytes_weighted, laid, sums, laid_sums}
+use Rattle.gf301.proofs.Exported.{product_assoc, product_comm, product_zero_right, product_one_left, product_one_right}
+use Rattle.gf301.proofs.Exported.{product_cancels, raise_below, sum_zero, power_injective, factor_value, value_below}
+use Rattle.gf301.proofs.Exported.{weigh, weighted, weigh_same, weigh_weighted, value_weigh, length-weighted}
+use Rattle.gf301.proofs.Exported.{bytes_weighted, laid, sums, laid_sums}
 use Rattle.dm_code.specs.Codeword.{IsCodeword, IsNear, differs, differing, distance}
 use Rattle.dm_code.specs.Erased.{blank, distance_but, IsNearBut}
 use Rattle.dm_code.proofs.Codewords.{codeword_bytes, codeword_values, codeword_from_values}
@@ -22,19 +26,22 @@ unfoldable pub lessened : ℕ → List ℕ → List ℕ
 lessened r w = weighted (value (1 ∷ r ∷ [])) w
 
 -- A weighed list is weighed place by place.
-get_or-weighted : (f : ℕ → ℕ) (e : List ℕ) (i : ℕ) → i < length e → get_or (weighted f e) i 0 ≡ get_or e i 0 ⊗ f (locator_at (length e) i)
+get_or-weighted : (f : ℕ → ℕ) (e : List ℕ) (i : ℕ) → i < length e →
+    get_or (weighted f e) i 0 ≡ get_or e i 0 ⊗ f (locator_at (length e) i)
 unfolding weighted
 get_or-weighted f [] i h = absurd (omega arith)
 get_or-weighted f (a ∷ e) zero h = ap (λ n. a ⊗ f (power n)) (let r : length e ≡ length (a ∷ e) - 1 = omega arith in r)
 get_or-weighted f (a ∷ e) (suc i) h =
-    get_or-weighted f e i (omega arith) ∙ ap (λ n. get_or e i 0 ⊗ f (power n)) (let r : length e - suc i ≡ length (a ∷ e) - suc (suc i) = omega arith in r)
+    get_or-weighted f e i (omega arith) ∙ ap (λ n. get_or e i 0 ⊗ f (power n))
+    (let r : length e - suc i ≡ length (a ∷ e) - suc (suc i) = omega arith in r)
 
 -- The power sums of a weighed list are the polynomial laid on those of the list.
 pub weighted_sums : (p e : List ℕ) (i : ℕ) → sums (weighted (value p) e) i ≡ laid p (sums e) i
 unfolding sums
 weighted_sums p e i =
     weigh_weighted (λ x. raise x (suc i)) (value p) e
-    ∙ weigh_same (λ x. value p x ⊗ raise x (suc i)) (λ x. raise x (suc i) ⊗ value p x) (λ x. product_comm (value p x) (raise x (suc i))) e
+    ∙ weigh_same (λ x. value p x ⊗ raise x (suc i)) (λ x. raise x (suc i) ⊗ value p x)
+    (λ x. product_comm (value p x) (raise x (suc i))) e
     ∙ sym (laid_sums e p i)
 
 -- The value at a root of the generator is a power sum.
@@ -51,12 +58,15 @@ laid_two r s i =
     ∙ ap (λ j. 1 ⊗ s (suc i) ⊕ r ⊗ s j) (let q : 0 + i ≡ i = omega arith in q)
 
 -- The value of a lessened word at a root is its value at the next root, and r times that at this one.
-lessened_value : (r : ℕ) (w : List ℕ) (i : ℕ) → value (lessened r w) (power (1 + i)) ≡ value w (power (1 + suc i)) ⊕ r ⊗ value w (power (1 + i))
+lessened_value : (r : ℕ) (w : List ℕ) (i : ℕ) → value (lessened r w) (power (1 + i)) ≡
+    value w (power (1 + suc i)) ⊕ r ⊗ value w (power (1 + i))
 unfolding lessened
 lessened_value r w i =
     value_sums (weighted (value (1 ∷ r ∷ [])) w) i ∙ weighted_sums (1 ∷ r ∷ []) w i ∙ laid_two r (sums w) i
-    ∙ ap (λ y. 1 ⊗ y ⊕ r ⊗ sums w i) (sym (value_sums w (suc i))) ∙ ap (λ y. 1 ⊗ value w (power (1 + suc i)) ⊕ r ⊗ y) (sym (value_sums w i))
-    ∙ ap (λ y. y ⊕ r ⊗ value w (power (1 + i))) (product_one_left (value w (power (1 + suc i))) (value_below w (power (1 + suc i))))
+    ∙ ap (λ y. 1 ⊗ y ⊕ r ⊗ sums w i) (sym (value_sums w (suc i)))
+    ∙ ap (λ y. 1 ⊗ value w (power (1 + suc i)) ⊕ r ⊗ y) (sym (value_sums w i))
+    ∙ ap (λ y. y ⊕ r ⊗ value w (power (1 + i))) (product_one_left (value w (power (1 + suc i)))
+    (value_below w (power (1 + suc i))))
 
 -- A lessened word is as long.
 pub length-lessened : (r : ℕ) (w : List ℕ) → length (lessened r w) ≡ length w
@@ -69,22 +79,27 @@ unfolding lessened
 bytes_lessened r w = bytes_weighted (value (1 ∷ r ∷ [])) w
 
 -- A codeword that is lessened is a codeword of one check less.
-pub codeword_lessened : (k r : ℕ) (c : List ℕ) → suc k < 255 → length c ≤ 255 → k ≤ length c → IsCodeword (suc k) c → IsCodeword k (lessened r c)
+pub codeword_lessened : (k r : ℕ) (c : List ℕ) → suc k < 255 → length c ≤ 255 → k ≤ length c → IsCodeword (suc k) c →
+    IsCodeword k (lessened r c)
 codeword_lessened k r c small short room q =
-    codeword_from_values k (lessened r c) (omega arith) (omega (arith, length-lessened r c)) (omega (arith, length-lessened r c)) (bytes_lessened r c)
+    codeword_from_values k (lessened r c) (omega arith) (omega (arith, length-lessened r c))
+    (omega (arith, length-lessened r c)) (bytes_lessened r c)
     (λ i h. lessened_value r c i
     ∙ ap (λ y. y ⊕ r ⊗ value c (power (1 + i))) (codeword_values (suc k) c q (suc i) (omega arith))
     ∙ ap (λ y. 0 ⊕ r ⊗ y) (codeword_values (suc k) c q i (omega arith)) ∙ xor_zero_l (r ⊗ 0) ∙ product_zero_right r)
 
 -- Where a lessened word is a codeword, and the word is 0 at the first root, it is 0 at the next ones.
-values_back : (k r : ℕ) (c : List ℕ) → IsCodeword k (lessened r c) → value c (power 1) ≡ 0 → (i : ℕ) → i < suc k → value c (power (1 + i)) ≡ 0
+values_back : (k r : ℕ) (c : List ℕ) → IsCodeword k (lessened r c) → value c (power 1) ≡ 0 → (i : ℕ) → i < suc k →
+    value c (power (1 + i)) ≡ 0
 values_back k r c q z zero h = z
 values_back k r c q z (suc i) h =
-    sum_zero (value c (power (1 + suc i))) (r ⊗ value c (power (1 + i))) (sym (lessened_value r c i) ∙ codeword_values k (lessened r c) q i (omega arith))
+    sum_zero (value c (power (1 + suc i))) (r ⊗ value c (power (1 + i))) (sym (lessened_value r c i)
+    ∙ codeword_values k (lessened r c) q i (omega arith))
     ∙ ap (λ y. r ⊗ y) (values_back k r c q z i (omega arith)) ∙ product_zero_right r
 
 -- Such a word is a codeword of one check more.
-pub codeword_back : (k r : ℕ) (c : List ℕ) → suc k < 255 → length c ≤ 255 → suc k ≤ length c → Bytes c → IsCodeword k (lessened r c) → value c (power 1) ≡ 0 → IsCodeword (suc k) c
+pub codeword_back : (k r : ℕ) (c : List ℕ) → suc k < 255 → length c ≤ 255 → suc k ≤ length c → Bytes c →
+    IsCodeword k (lessened r c) → value c (power 1) ≡ 0 → IsCodeword (suc k) c
 codeword_back k r c small short room b q z = codeword_from_values (suc k) c small short room b (values_back k r c q z)
 
 -- ---- what stands at the places
@@ -94,34 +109,43 @@ unfolding lessened
 lessened_same w p h =
     let r = locator_at (length w) p in
     let b : r < 256 = raise_below 2 (length w - suc p) in
-    get_or-weighted (value (1 ∷ r ∷ [])) w p h ∙ ap (λ y. get_or w p 0 ⊗ y) (factor_value r r b b ∙ xor_self r) ∙ product_zero_right (get_or w p 0)
+    get_or-weighted (value (1 ∷ r ∷ [])) w p h ∙ ap (λ y. get_or w p 0 ⊗ y) (factor_value r r b b ∙ xor_self r)
+    ∙ product_zero_right (get_or w p 0)
 
 -- At another place it has a multiple of what the word has there.
-pub lessened_at : (w : List ℕ) (r i : ℕ) → i < length w → get_or (lessened r w) i 0 ≡ get_or w i 0 ⊗ value (1 ∷ r ∷ []) (locator_at (length w) i)
+pub lessened_at : (w : List ℕ) (r i : ℕ) → i < length w →
+    get_or (lessened r w) i 0 ≡ get_or w i 0 ⊗ value (1 ∷ r ∷ []) (locator_at (length w) i)
 unfolding lessened
 lessened_at w r i h = get_or-weighted (value (1 ∷ r ∷ [])) w i h
 
 -- The multiple isn't by 0.
-pub factor_positive : (n p i : ℕ) → n ≤ 255 → p < n → i < n → i ≢ p → 0 < value (1 ∷ locator_at n p ∷ []) (locator_at n i)
+pub factor_positive : (n p i : ℕ) → n ≤ 255 → p < n → i < n → i ≢ p →
+    0 < value (1 ∷ locator_at n p ∷ []) (locator_at n i)
 factor_positive n p i h a b ne =
     let r = locator_at n p in
     let x = locator_at n i in
-    pos_of_ne-zero (λ z. ne (let e : n - suc i ≡ n - suc p = power_injective (n - suc i) (n - suc p) (omega arith) (omega arith)
+    pos_of_ne-zero (λ z. ne (let e : n - suc i ≡ n - suc p =
+    power_injective (n - suc i) (n - suc p) (omega arith) (omega arith)
     (sum_zero x r (sym (factor_value r x (raise_below 2 (n - suc p)) (raise_below 2 (n - suc i))) ∙ z)) in omega arith))
 
 -- Two words of one length that agree at another place once they are lessened agree there.
-pub lessened_apart : (w c : List ℕ) (p i : ℕ) → Bytes w → Bytes c → length c ≡ length w → length w ≤ 255 → p < length w → i < length w → i ≢ p
-    → get_or (lessened (locator_at (length w) p) w) i 0 ≡ get_or (lessened (locator_at (length w) p) c) i 0 → get_or w i 0 ≡ get_or c i 0
+pub lessened_apart : (w c : List ℕ) (p i : ℕ) → Bytes w → Bytes c → length c ≡ length w → length w ≤ 255 →
+    p < length w → i < length w → i ≢ p
+    → get_or (lessened (locator_at (length w) p) w) i 0 ≡ get_or (lessened (locator_at (length w) p) c) i 0 →
+    get_or w i 0 ≡ get_or c i 0
 lessened_apart w c p i wb cb l s h b ne e =
     let f = value (1 ∷ locator_at (length w) p ∷ []) in
     let x = locator_at (length w) i in
-    product_cancels (f x) (get_or w i 0) (get_or c i 0) (factor_positive (length w) p i s h b ne) (value_below (1 ∷ locator_at (length w) p ∷ []) x) (wb i 0 b) (cb i 0 (omega (arith, l)))
+    product_cancels (f x) (get_or w i 0) (get_or c i 0) (factor_positive (length w) p i s h b ne)
+    (value_below (1 ∷ locator_at (length w) p ∷ []) x) (wb i 0 b) (cb i 0 (omega (arith, l)))
     (product_comm (f x) (get_or w i 0) ∙ sym (lessened_at w (locator_at (length w) p) i b) ∙ e
-    ∙ lessened_at c (locator_at (length w) p) i (omega (arith, l)) ∙ ap (λ n. get_or c i 0 ⊗ f (locator_at n i)) l ∙ product_comm (get_or c i 0) (f x))
+    ∙ lessened_at c (locator_at (length w) p) i (omega (arith, l)) ∙ ap (λ n. get_or c i 0 ⊗ f (locator_at n i)) l
+    ∙ product_comm (get_or c i 0) (f x))
 
 -- ---- how far apart two words are
 -- Words that differ at the same places of the first n differ at as many.
-differing_same : (t u v w : List ℕ) (n : ℕ) → ((i : ℕ) → i < n → differs (get_or t i 0) (get_or u i 0) ≡ differs (get_or v i 0) (get_or w i 0)) → differing t u n ≡ differing v w n
+differing_same : (t u v w : List ℕ) (n : ℕ) → ((i : ℕ) → i < n →
+    differs (get_or t i 0) (get_or u i 0) ≡ differs (get_or v i 0) (get_or w i 0)) → differing t u n ≡ differing v w n
 unfolding differing
 differing_same t u v w zero h = refl
 differing_same t u v w (suc n) h =
@@ -141,7 +165,8 @@ differing_set v w p (suc n) =
       | inr ne ↦ omega (arith, differing_set v w p n, set_elsewhere v w p n ne)
     ] where
       set_elsewhere : (v w : List ℕ) (p i : ℕ) → i ≢ p
-          → differs (get_or (slice_set v p 0) i 0) (get_or (slice_set w p 0) i 0) ≡ differs (get_or v i 0) (get_or w i 0)
+          → differs (get_or (slice_set v p 0) i 0) (get_or (slice_set w p 0) i 0) ≡
+          differs (get_or v i 0) (get_or w i 0)
       set_elsewhere v w p i ne =
           ap (λ y. differs y (get_or (slice_set w p 0) i 0)) (get_or-set_other v p i 0 0 ne)
           ∙ ap (differs (get_or v i 0)) (get_or-set_other w p i 0 0 ne)
@@ -154,19 +179,26 @@ length-blank (p ∷ q) w = length-set (blank q w) p 0 ∙ length-blank q w
 
 -- At the erased place there is 0.
 blank_at : (q w : List ℕ) (p i : ℕ) → i < length w → i ≡ p → get_or (slice_set (blank q w) p 0) i 0 ≡ 0
-blank_at q w p i h e = ap (λ j. get_or (slice_set (blank q w) p 0) j 0) e ∙ get_or-set_same (blank q w) p 0 0 (omega (arith, length-blank q w))
+blank_at q w p i h e =
+    ap (λ j. get_or (slice_set (blank q w) p 0) j 0) e
+    ∙ get_or-set_same (blank q w) p 0 0 (omega (arith, length-blank q w))
 
--- Whether two words differ at a place, once both have 0 at the erased ones, depends on whether they differ there before.
-blank_differs : (q t u v w : List ℕ) (i : ℕ) → i < length t → length u ≡ length t → length v ≡ length t → length w ≡ length t
+-- Whether two words differ at a place, once both have 0 at the erased ones, depends on whether they differ there
+-- before.
+blank_differs : (q t u v w : List ℕ) (i : ℕ) → i < length t → length u ≡ length t → length v ≡ length t →
+    length w ≡ length t
     → differs (get_or t i 0) (get_or u i 0) ≡ differs (get_or v i 0) (get_or w i 0)
-    → differs (get_or (blank q t) i 0) (get_or (blank q u) i 0) ≡ differs (get_or (blank q v) i 0) (get_or (blank q w) i 0)
+    → differs (get_or (blank q t) i 0) (get_or (blank q u) i 0) ≡
+    differs (get_or (blank q v) i 0) (get_or (blank q w) i 0)
 unfolding blank
 blank_differs [] t u v w i h lu lv lw e = e
 blank_differs (p ∷ q) t u v w i h lu lv lw e =
     elim (cases_eq i p) [
       | inl s ↦
-          differs_same (get_or (slice_set (blank q t) p 0) i 0) (get_or (slice_set (blank q u) p 0) i 0) (blank_at q t p i (omega arith) s ∙ sym (blank_at q u p i (omega arith) s))
-          ∙ sym (differs_same (get_or (slice_set (blank q v) p 0) i 0) (get_or (slice_set (blank q w) p 0) i 0) (blank_at q v p i (omega arith) s ∙ sym (blank_at q w p i (omega arith) s)))
+          differs_same (get_or (slice_set (blank q t) p 0) i 0) (get_or (slice_set (blank q u) p 0) i 0)
+          (blank_at q t p i (omega arith) s ∙ sym (blank_at q u p i (omega arith) s))
+          ∙ sym (differs_same (get_or (slice_set (blank q v) p 0) i 0) (get_or (slice_set (blank q w) p 0) i 0)
+          (blank_at q v p i (omega arith) s ∙ sym (blank_at q w p i (omega arith) s)))
       | inr s ↦
           ap (λ y. differs y (get_or (slice_set (blank q u) p 0) i 0)) (get_or-set_other (blank q t) p i 0 0 s)
           ∙ ap (differs (get_or (blank q t) i 0)) (get_or-set_other (blank q u) p i 0 0 s)
@@ -176,8 +208,10 @@ blank_differs (p ∷ q) t u v w i h lu lv lw e =
     ]
 
 -- Two words differ at another place where they do once they are lessened.
-lessened_differs : (w c : List ℕ) (p i : ℕ) → Bytes w → Bytes c → length c ≡ length w → length w ≤ 255 → p < length w → i < length w → i ≢ p
-    → differs (get_or w i 0) (get_or c i 0) ≡ differs (get_or (lessened (locator_at (length w) p) w) i 0) (get_or (lessened (locator_at (length w) p) c) i 0)
+lessened_differs : (w c : List ℕ) (p i : ℕ) → Bytes w → Bytes c → length c ≡ length w → length w ≤ 255 → p < length w →
+    i < length w → i ≢ p
+    → differs (get_or w i 0) (get_or c i 0) ≡ differs (get_or (lessened (locator_at (length w) p) w) i 0)
+    (get_or (lessened (locator_at (length w) p) c) i 0)
 lessened_differs w c p i wb cb l s h b ne =
     let r = locator_at (length w) p in
     let f = value (1 ∷ r ∷ []) in
@@ -185,20 +219,27 @@ lessened_differs w c p i wb cb l s h b ne =
       | inl e ↦
           differs_same (get_or w i 0) (get_or c i 0) e
           ∙ sym (differs_same (get_or (lessened r w) i 0) (get_or (lessened r c) i 0)
-          (lessened_at w r i b ∙ ap (λ y. y ⊗ f (locator_at (length w) i)) e ∙ ap (λ n. get_or c i 0 ⊗ f (locator_at n i)) (sym l) ∙ sym (lessened_at c r i (omega (arith, l)))))
+          (lessened_at w r i b ∙ ap (λ y. y ⊗ f (locator_at (length w) i)) e
+          ∙ ap (λ n. get_or c i 0 ⊗ f (locator_at n i)) (sym l) ∙ sym (lessened_at c r i (omega (arith, l)))))
       | inr n ↦
           differs_apart (get_or w i 0) (get_or c i 0) n
-          ∙ sym (differs_apart (get_or (lessened r w) i 0) (get_or (lessened r c) i 0) (λ e. n (lessened_apart w c p i wb cb l s h b ne e)))
+          ∙ sym (differs_apart (get_or (lessened r w) i 0) (get_or (lessened r c) i 0)
+          (λ e. n (lessened_apart w c p i wb cb l s h b ne e)))
     ]
 
 -- At the place itself lessened words agree.
-lessened_agree : (w c : List ℕ) (p : ℕ) → length c ≡ length w → p < length w → get_or (lessened (locator_at (length w) p) w) p 0 ≡ get_or (lessened (locator_at (length w) p) c) p 0
-lessened_agree w c p l h = lessened_same w p h ∙ sym (ap (λ n. get_or (lessened (locator_at n p) c) p 0) (sym l) ∙ lessened_same c p (omega (arith, l)))
+lessened_agree : (w c : List ℕ) (p : ℕ) → length c ≡ length w → p < length w →
+    get_or (lessened (locator_at (length w) p) w) p 0 ≡ get_or (lessened (locator_at (length w) p) c) p 0
+lessened_agree w c p l h =
+    lessened_same w p h ∙ sym (ap (λ n. get_or (lessened (locator_at n p) c) p 0) (sym l)
+    ∙ lessened_same c p (omega (arith, l)))
 
 -- With a place erased, two words differ at a place where they do once they are lessened.
-step_differs : (q w c : List ℕ) (p i : ℕ) → Bytes w → Bytes c → length c ≡ length w → length w ≤ 255 → p < length w → i < length w
+step_differs : (q w c : List ℕ) (p i : ℕ) → Bytes w → Bytes c → length c ≡ length w → length w ≤ 255 → p < length w →
+    i < length w
     → differs (get_or (blank (p ∷ q) w) i 0) (get_or (blank (p ∷ q) c) i 0)
-    ≡ differs (get_or (blank q (lessened (locator_at (length w) p) w)) i 0) (get_or (blank q (lessened (locator_at (length w) p) c)) i 0)
+    ≡ differs (get_or (blank q (lessened (locator_at (length w) p) w)) i 0)
+    (get_or (blank q (lessened (locator_at (length w) p) c)) i 0)
 unfolding blank
 step_differs q w c p i wb cb l s h b =
     let r = locator_at (length w) p in
@@ -206,29 +247,39 @@ step_differs q w c p i wb cb l s h b =
     let d = lessened r c in
     elim (cases_eq i p) [
       | inl e ↦
-          differs_same (get_or (slice_set (blank q w) p 0) i 0) (get_or (slice_set (blank q c) p 0) i 0) (blank_at q w p i b e ∙ sym (blank_at q c p i (omega (arith, l)) e))
-          ∙ sym (blank_differs q v d v v i (omega (arith, length-lessened r w)) (length-lessened r c ∙ l ∙ sym (length-lessened r w)) refl refl
-          (differs_same (get_or v i 0) (get_or d i 0) (ap (λ j. get_or v j 0) e ∙ lessened_agree w c p l h ∙ ap (λ j. get_or d j 0) (sym e)) ∙ sym (differs_same (get_or v i 0) (get_or v i 0) refl))
+          differs_same (get_or (slice_set (blank q w) p 0) i 0) (get_or (slice_set (blank q c) p 0) i 0)
+          (blank_at q w p i b e ∙ sym (blank_at q c p i (omega (arith, l)) e))
+          ∙ sym (blank_differs q v d v v i (omega (arith, length-lessened r w)) (length-lessened r c ∙ l
+          ∙ sym (length-lessened r w)) refl refl
+          (differs_same (get_or v i 0) (get_or d i 0) (ap (λ j. get_or v j 0) e ∙ lessened_agree w c p l h
+          ∙ ap (λ j. get_or d j 0) (sym e)) ∙ sym (differs_same (get_or v i 0) (get_or v i 0) refl))
           ∙ differs_same (get_or (blank q v) i 0) (get_or (blank q v) i 0) refl)
       | inr n ↦
           ap (λ y. differs y (get_or (slice_set (blank q c) p 0) i 0)) (get_or-set_other (blank q w) p i 0 0 n)
           ∙ ap (differs (get_or (blank q w) i 0)) (get_or-set_other (blank q c) p i 0 0 n)
-          ∙ blank_differs q w c v d i b l (length-lessened r w) (length-lessened r c ∙ l) (lessened_differs w c p i wb cb l s h b n)
+          ∙ blank_differs q w c v d i b l (length-lessened r w) (length-lessened r c ∙ l)
+          (lessened_differs w c p i wb cb l s h b n)
     ]
 
 -- With a place erased, two words are as far apart as they are once they are lessened.
 pub distance_step : (q w c : List ℕ) (p : ℕ) → Bytes w → Bytes c → length c ≡ length w → length w ≤ 255 → p < length w
-    → distance_but (p ∷ q) w c ≡ distance_but q (lessened (locator_at (length w) p) w) (lessened (locator_at (length w) p) c)
+    → distance_but (p ∷ q) w c ≡ distance_but q (lessened (locator_at (length w) p) w)
+    (lessened (locator_at (length w) p) c)
 distance_step q w c p wb cb l s h =
     let r = locator_at (length w) p in
     ap (differing (blank (p ∷ q) w) (blank (p ∷ q) c)) (length-blank (p ∷ q) w)
-    ∙ differing_same (blank (p ∷ q) w) (blank (p ∷ q) c) (blank q (lessened r w)) (blank q (lessened r c)) (length w) (λ i b. step_differs q w c p i wb cb l s h b)
-    ∙ sym (ap (differing (blank q (lessened r w)) (blank q (lessened r c))) (length-blank q (lessened r w) ∙ length-lessened r w))
+    ∙ differing_same (blank (p ∷ q) w) (blank (p ∷ q) c) (blank q (lessened r w)) (blank q (lessened r c)) (length w)
+    (λ i b. step_differs q w c p i wb cb l s h b)
+    ∙ sym (ap (differing (blank q (lessened r w)) (blank q (lessened r c))) (length-blank q (lessened r w)
+    ∙ length-lessened r w))
 
 -- ---- nearness but for erased places
--- Completeness of a step: where a codeword is near but for a place and others, it is near once both are lessened, but for the others, with one check less.
-pub near_but_lessened : (k : ℕ) (q w c : List ℕ) (p : ℕ) → suc k < 255 → Bytes w → length w ≤ 255 → suc k ≤ length w → p < length w
-    → IsNearBut (suc k) w (p ∷ q) c → IsNearBut k (lessened (locator_at (length w) p) w) q (lessened (locator_at (length w) p) c)
+-- Completeness of a step: where a codeword is near but for a place and others, it is near once both are lessened, but
+-- for the others, with one check less.
+pub near_but_lessened : (k : ℕ) (q w c : List ℕ) (p : ℕ) → suc k < 255 → Bytes w → length w ≤ 255 → suc k ≤ length w →
+    p < length w
+    → IsNearBut (suc k) w (p ∷ q) c → IsNearBut k (lessened (locator_at (length w) p) w) q
+    (lessened (locator_at (length w) p) c)
 near_but_lessened k q w c p small wb s room h n =
     let r = locator_at (length w) p in
     let e = distance_step q w c p wb (codeword_bytes (suc k) c n.codeword) n.long s h in
@@ -239,8 +290,10 @@ near_but_lessened k q w c p small wb s room h n =
     }
 
 -- Soundness of a step: a word that is near in this way once it is lessened, and is 0 at the first root, is near before.
-pub near_but_back : (k : ℕ) (q w c : List ℕ) (p : ℕ) → suc k < 255 → Bytes w → Bytes c → length c ≡ length w → length w ≤ 255 → suc k ≤ length w → p < length w → value c (power 1) ≡ 0
-    → IsNearBut k (lessened (locator_at (length w) p) w) q (lessened (locator_at (length w) p) c) → IsNearBut (suc k) w (p ∷ q) c
+pub near_but_back : (k : ℕ) (q w c : List ℕ) (p : ℕ) → suc k < 255 → Bytes w → Bytes c → length c ≡ length w →
+    length w ≤ 255 → suc k ≤ length w → p < length w → value c (power 1) ≡ 0
+    → IsNearBut k (lessened (locator_at (length w) p) w) q (lessened (locator_at (length w) p) c) →
+    IsNearBut (suc k) w (p ∷ q) c
 near_but_back k q w c p small wb cb l s room h z n =
     let r = locator_at (length w) p in
     let e = distance_step q w c p wb cb l s h in
@@ -276,10 +329,13 @@ near_but_one k w q c d s m n =
     let all : length (blank q w) ≡ length w = length-blank q w in
     let t = differing_triangle (blank q w) (blank q c) (blank q d) (length w) in
     let b = differing_blank q c d (length w) in
-    let of_c : distance_but q w c ≡ differing (blank q w) (blank q c) (length w) = ap (differing (blank q w) (blank q c)) all in
-    let of_d : distance_but q w d ≡ differing (blank q w) (blank q d) (length w) = ap (differing (blank q w) (blank q d)) all in
+    let of_c : distance_but q w c ≡ differing (blank q w) (blank q c) (length w) =
+    ap (differing (blank q w) (blank q c)) all in
+    let of_d : distance_but q w d ≡ differing (blank q w) (blank q d) (length w) =
+    ap (differing (blank q w) (blank q d)) all in
     let long : distance c d ≡ differing c d (length w) = ap (differing c d) m.long in
-    codewords_one k c d m.codeword n.codeword (m.long ∙ sym n.long) (omega (arith, m.long)) (omega (arith, t, b, of_c, of_d, long, m.close, n.close))
+    codewords_one k c d m.codeword n.codeword (m.long ∙ sym n.long) (omega (arith, m.long))
+    (omega (arith, t, b, of_c, of_d, long, m.close, n.close))
 
 -- ---- without erased places, and without checks
 -- With no place erased, the distance is that of the words.
@@ -291,7 +347,9 @@ distance_but_none w c = refl
 pub self_near_zero : (w c : List ℕ) → Bytes w → length w ≤ 255 → c ≡ w → IsNearBut 0 w [] c
 self_near_zero w c b s e =
     near_none_but 0 w c (record {
-      codeword = subst (IsCodeword 0) (sym e) (codeword_from_values 0 w (omega arith) s (omega arith) b (λ i h. absurd (omega arith)));
+      codeword =
+          subst (IsCodeword 0) (sym e) (codeword_from_values 0 w (omega arith) s (omega arith) b
+          (λ i h. absurd (omega arith)));
       long = ap length e;
       close = omega (arith, distance_self w c e);
     })
@@ -302,38 +360,47 @@ less_lessened p w v h l =
     let r = locator_at (length w) p in
     ext_get_or 0 v (lessened r w) (l.long ∙ sym (length-lessened r w)) (λ i b.
     let ib : i < length w = omega (arith, l.long) in
-    l.each i ib ∙ ap (λ y. get_or w i 0 ⊗ y) (sym (factor_value r (locator_at (length w) i) (raise_below 2 (length w - suc p)) (raise_below 2 (length w - suc i))))
+    l.each i ib ∙ ap (λ y. get_or w i 0 ⊗ y) (sym
+    (factor_value r (locator_at (length w) i) (raise_below 2 (length w - suc p))
+    (raise_below 2 (length w - suc i))))
     ∙ sym (lessened_at w r i ib))
 
 -- Completeness of a step, of words less a place.
-pub near_less : (k m : ℕ) (q w v c : List ℕ) (p : ℕ) → suc k ≡ m → m < 255 → Bytes w → length w ≤ 255 → m ≤ length w → p < length w → IsLess p w v
+pub near_less : (k m : ℕ) (q w v c : List ℕ) (p : ℕ) → suc k ≡ m → m < 255 → Bytes w → length w ≤ 255 → m ≤ length w →
+    p < length w → IsLess p w v
     → IsNearBut m w (p ∷ q) c → IsNearBut k v q (lessened (locator_at (length w) p) c)
 near_less k m q w v c p e small wb s room h l n =
     subst (λ u. IsNearBut k u q (lessened (locator_at (length w) p) c)) (sym (less_lessened p w v h l))
     (near_but_lessened k q w c p (omega arith) wb s (omega arith) h (subst (λ j. IsNearBut j w (p ∷ q) c) (sym e) n))
 
 -- Soundness of a step, of words less a place.
-pub near_restored : (k m : ℕ) (q w v c d : List ℕ) (p : ℕ) → suc k ≡ m → m < 255 → Bytes w → Bytes c → length w ≤ 255 → m ≤ length w → p < length w → IsLess p w v → IsLess p c d
-    → value c (power 1) ≡ 0 → IsNearBut k v q d → IsNearBut m w (p ∷ q) c × (distance_but (p ∷ q) w c ≡ distance_but q v d)
+pub near_restored : (k m : ℕ) (q w v c d : List ℕ) (p : ℕ) → suc k ≡ m → m < 255 → Bytes w → Bytes c → length w ≤ 255 →
+    m ≤ length w → p < length w → IsLess p w v → IsLess p c d
+    → value c (power 1) ≡ 0 → IsNearBut k v q d →
+    IsNearBut m w (p ∷ q) c × (distance_but (p ∷ q) w c ≡ distance_but q v d)
 near_restored k m q w v c d p e small wb cb s room h l o z n =
     let lc : length c ≡ length w = sym o.long ∙ n.long ∙ l.long in
     let ve : v ≡ lessened (locator_at (length w) p) w = less_lessened p w v h l in
-    let de : d ≡ lessened (locator_at (length w) p) c = less_lessened p c d (omega (arith, lc)) o ∙ ap (λ x. lessened (locator_at x p) c) lc in (
+    let de : d ≡ lessened (locator_at (length w) p) c =
+    less_lessened p c d (omega (arith, lc)) o ∙ ap (λ x. lessened (locator_at x p) c) lc in (
       subst (λ j. IsNearBut j w (p ∷ q) c) e
           (near_but_back k q w c p (omega arith) wb cb lc s (omega arith) h z
           (subst (λ u. IsNearBut k u q (lessened (locator_at (length w) p) c)) ve (subst (IsNearBut k v q) de n))),
-      distance_step q w c p wb cb lc s h ∙ ap (λ u. distance_but q u (lessened (locator_at (length w) p) c)) (sym ve) ∙ ap (distance_but q v) (sym de),
+      distance_step q w c p wb cb lc s h ∙ ap (λ u. distance_but q u (lessened (locator_at (length w) p) c)) (sym ve)
+          ∙ ap (distance_but q v) (sym de),
     )
 
 -- What is near to the lessened word, but not 0 at the place, comes from no codeword.
-pub near_nothing : (k m : ℕ) (q w v c d : List ℕ) (p : ℕ) → suc k ≡ m → m < 255 → Bytes w → length w ≤ 255 → m ≤ length w → p < length w → IsLess p w v
+pub near_nothing : (k m : ℕ) (q w v c d : List ℕ) (p : ℕ) → suc k ≡ m → m < 255 → Bytes w → length w ≤ 255 →
+    m ≤ length w → p < length w → IsLess p w v
     → IsNearBut k v q d → (get_or d p 0 ≡ 0 → ⊥) → IsNearBut m w (p ∷ q) c → ⊥
 near_nothing k m q w v c d p e small wb s room h l nd nz n =
     let r = locator_at (length w) p in
     let ve : v ≡ lessened r w = less_lessened p w v h l in
     let same : d ≡ lessened r c =
     near_but_one k v q d (lessened r c) (omega (arith, l.long)) nd (near_less k m q w v c p e small wb s room h l n) in
-    nz (ap (λ t. get_or t p 0) same ∙ ap (λ x. get_or (lessened (locator_at x p) c) p 0) (sym n.long) ∙ lessened_same c p (omega (arith, n.long)))
+    nz (ap (λ t. get_or t p 0) same ∙ ap (λ x. get_or (lessened (locator_at x p) c) p 0) (sym n.long)
+    ∙ lessened_same c p (omega (arith, n.long)))
 
 -- ---- a place given back
 -- The power 1 of 2 is 2.
@@ -341,16 +408,21 @@ power_one : power 1 ≡ 2
 unfolding raise
 power_one = product_one_right 2 (omega arith)
 
--- A number divided by the difference of two locators, times this difference, is the number, where it is 0 if the locators are the same.
-pub divided_at : (n p i d y z : ℕ) → n ≤ 255 → p < n → i < n → d ≡ power (n - suc i) ⊕ power (n - suc p) → (0 < d → d ⊗ y ≡ z) → (i ≡ p → z ≡ 0)
+-- A number divided by the difference of two locators, times this difference, is the number, where it is 0 if the
+-- locators are the same.
+pub divided_at : (n p i d y z : ℕ) → n ≤ 255 → p < n → i < n → d ≡ power (n - suc i) ⊕ power (n - suc p) →
+    (0 < d → d ⊗ y ≡ z) → (i ≡ p → z ≡ 0)
     → z ≡ y ⊗ (power (n - suc i) ⊕ power (n - suc p))
 divided_at n p i d y z h a b e v o =
     elim (cases_eq i p) [
       | inl s ↦
-          o s ∙ sym (product_zero_right y) ∙ ap (λ x. y ⊗ x) (sym (ap (λ j. power (n - suc j) ⊕ power (n - suc p)) s ∙ xor_self (power (n - suc p))))
+          o s ∙ sym (product_zero_right y) ∙ ap (λ x. y ⊗ x)
+          (sym (ap (λ j. power (n - suc j) ⊕ power (n - suc p)) s ∙ xor_self (power (n - suc p))))
       | inr s ↦
           let pos : 0 < d =
-          pos_of_ne-zero (λ q. s (let m : n - suc i ≡ n - suc p = power_injective (n - suc i) (n - suc p) (omega arith) (omega arith) (sum_zero (power (n - suc i)) (power (n - suc p)) (sym e ∙ q)) in omega arith)) in
+          pos_of_ne-zero (λ q. s (let m : n - suc i ≡ n - suc p =
+          power_injective (n - suc i) (n - suc p) (omega arith) (omega arith)
+          (sum_zero (power (n - suc i)) (power (n - suc p)) (sym e ∙ q)) in omega arith)) in
           sym (v pos) ∙ product_comm d y ∙ ap (λ x. y ⊗ x) e
     ]
 
@@ -363,21 +435,26 @@ less_set p x a f v e h l =
       each = λ i b. elim (cases_eq i p) [
         | inl s ↦
             l.each i (omega arith)
-            ∙ ap (λ j. get_or a i 0 ⊗ (power (length a - suc j) ⊕ power (length a - suc p))) s ∙ ap (λ y. get_or a i 0 ⊗ y) (xor_self (power (length a - suc p)))
+            ∙ ap (λ j. get_or a i 0 ⊗ (power (length a - suc j) ⊕ power (length a - suc p))) s
+            ∙ ap (λ y. get_or a i 0 ⊗ y) (xor_self (power (length a - suc p)))
             ∙ product_zero_right (get_or a i 0) ∙ sym (product_zero_right (get_or f i 0))
-            ∙ sym (ap (λ j. get_or f i 0 ⊗ (power (length f - suc j) ⊕ power (length f - suc p))) s ∙ ap (λ y. get_or f i 0 ⊗ y) (xor_self (power (length f - suc p))))
+            ∙ sym (ap (λ j. get_or f i 0 ⊗ (power (length f - suc j) ⊕ power (length f - suc p))) s
+            ∙ ap (λ y. get_or f i 0 ⊗ y) (xor_self (power (length f - suc p))))
         | inr s ↦
             l.each i (omega arith)
-            ∙ ap (λ y. y ⊗ (power (length a - suc i) ⊕ power (length a - suc p))) (sym (ap (λ t. get_or t i 0) e ∙ get_or-set_other a p i x 0 s))
+            ∙ ap (λ y. y ⊗ (power (length a - suc i) ⊕ power (length a - suc p)))
+            (sym (ap (λ t. get_or t i 0) e ∙ get_or-set_other a p i x 0 s))
             ∙ ap (λ n. get_or f i 0 ⊗ (power (n - suc i) ⊕ power (n - suc p))) (sym lf)
       ];
     }
 
 -- With what its value at the first root is, divided by the locator of a place, added there, a word is 0 at this root.
-pub root_set : (p x i y s : ℕ) (a f : List ℕ) → p < length a → x ≡ power (length a - suc p) → x ⊗ i ≡ 1 → s ≡ value a 2 → y ≡ s ⊗ i → f ≡ slice_set a p (get_or a p 0 ⊕ y) → value f (power 1) ≡ 0
+pub root_set : (p x i y s : ℕ) (a f : List ℕ) → p < length a → x ≡ power (length a - suc p) → x ⊗ i ≡ 1 →
+    s ≡ value a 2 → y ≡ s ⊗ i → f ≡ slice_set a p (get_or a p 0 ⊕ y) → value f (power 1) ≡ 0
 root_set p x i y s a f h xe ie se ye fe =
     let two : power 1 ≡ 2 = power_one in
     ap (λ t. value t (power 1)) fe ∙ ap (value (slice_set a p (get_or a p 0 ⊕ y))) two ∙ value_set a p y 2 h
     ∙ ap (λ z. value a 2 ⊕ y ⊗ z) (sym xe) ∙ ap (λ z. value a 2 ⊕ z ⊗ x) ye
-    ∙ ap (bit_xor (value a 2)) (product_assoc s i x ∙ ap (λ z. s ⊗ z) (product_comm i x ∙ ie) ∙ product_one_right s (subst (λ z. z < 256) (sym se) (value_below a 2)) ∙ se)
+    ∙ ap (bit_xor (value a 2)) (product_assoc s i x ∙ ap (λ z. s ⊗ z) (product_comm i x ∙ ie)
+    ∙ product_one_right s (subst (λ z. z < 256) (sym se) (value_below a 2)) ∙ se)
     ∙ xor_self (value a 2)

@@ -1,5 +1,6 @@
 -- The first coefficients of a series, as a list.
-use Rattle.std.proofs.Common.{◌≡◌, ℕ, zero, suc, ◌+◌, List, ◌<◌, ◌≤◌, [], ◌∷◌, ◌++◌, length, refl, sym, ap, ◌∙◌, arith, inl, inr}
+use Rattle.std.proofs.Common.{◌≡◌, ℕ, zero, suc, ◌+◌, List, ◌<◌, ◌≤◌, [], ◌∷◌, ◌++◌, length, refl, sym, ap, ◌∙◌, arith}
+use Rattle.std.proofs.Common.{inl, inr}
 use Rattle.std.proofs.lemmas.Bool.{cases_lt}
 use Rattle.gf301.specs.Polynomial.{Bytes, coefficient, shift, values_from}
 use Rattle.gf301.proofs.Exported.{bytes_cons}
@@ -44,7 +45,9 @@ bytes_first f (suc n) h = bytes_cons (f 0) (first (shift f) n) (h 0) (bytes_firs
 pub first_same : (f g : ℕ → ℕ) (n : ℕ) → ((i : ℕ) → i < n → f i ≡ g i) → first f n ≡ first g n
 unfolding first
 first_same f g zero h = refl
-first_same f g (suc n) h = ap (λ a. a ∷ first (shift f) n) (h 0 (omega arith)) ∙ ap (λ t. g 0 ∷ t) (first_same (shift f) (shift g) n (λ i l. h (suc i) (omega arith)))
+first_same f g (suc n) h =
+    ap (λ a. a ∷ first (shift f) n) (h 0 (omega arith))
+    ∙ ap (λ t. g 0 ∷ t) (first_same (shift f) (shift g) n (λ i l. h (suc i) (omega arith)))
 
 -- The first n + 1 coefficients are the first n, followed by coefficient n.
 pub first_push : (f : ℕ → ℕ) (n : ℕ) → first f (suc n) ≡ first f n ++ f n ∷ []
@@ -58,8 +61,11 @@ unfolding values_from first
 values_later f a zero = refl
 values_later f a (suc n) =
     ap (λ k. f k ∷ values_from f (suc a) n) (let q : a ≡ a + 0 = omega arith in q)
-    ∙ ap (λ t. f (a + 0) ∷ t) (values_later f (suc a) n ∙ first_same (λ i. f (suc a + i)) (λ i. f (a + suc i)) n (λ i h. ap f (let q : suc a + i ≡ a + suc i = omega arith in q)))
+    ∙ ap (λ t. f (a + 0) ∷ t) (values_later f (suc a) n
+    ∙ first_same (λ i. f (suc a + i)) (λ i. f (a + suc i)) n
+    (λ i h. ap f (let q : suc a + i ≡ a + suc i = omega arith in q)))
 
 -- The values of a series from the place 0 on are its first coefficients.
 pub values_are_first : (f : ℕ → ℕ) (n : ℕ) → values_from f 0 n ≡ first f n
-values_are_first f n = values_later f 0 n ∙ first_same (λ i. f (0 + i)) f n (λ i h. ap f (let q : 0 + i ≡ i = omega arith in q))
+values_are_first f n =
+    values_later f 0 n ∙ first_same (λ i. f (0 + i)) f n (λ i h. ap f (let q : 0 + i ≡ i = omega arith in q))

@@ -33,7 +33,8 @@ locates_decided s d l =
     ]
 
 -- A list that locates has an evaluator, and so is the locator of a pair.
-pair_of : (s : List ℕ) (d : ℕ) (l : List ℕ) → Bytes l → length l ≡ suc d → Locates s d l → IsPair s d l (first (convolution (coefficient l) (coefficient s)) d)
+pair_of : (s : List ℕ) (d : ℕ) (l : List ℕ) → Bytes l → length l ≡ suc d → Locates s d l →
+    IsPair s d l (first (convolution (coefficient l) (coefficient s)) d)
 pair_of s d l b e p =
     let f = convolution (coefficient l) (coefficient s) in
     record {
@@ -41,7 +42,12 @@ pair_of s d l b e p =
       evaluator_bytes = bytes_first f d (conv_below (coefficient l) (coefficient s));
       one = p.one;
       within = record { locator = λ i h. get_or_past l i 0 (omega arith); evaluator = λ i h. first_past f d i h };
-      equation = λ i h. elim (cases_lt i d) [ inl q ↦ sym (first_at f d i q) | inr q ↦ p.gives i h q ∙ sym (first_past f d i q) ];
+      equation =
+          λ i h. elim (cases_lt i d) [
+            | inl q ↦ sym (first_at f d i q)
+            | inr q ↦ p.gives i h q
+                ∙ sym (first_past f d i q)
+          ];
     }
 
 -- The first d + 1 coefficients of the locator of a pair within d locate.
@@ -50,14 +56,21 @@ first_locates s g v d p =
     let same = first_whole (coefficient g) (suc d) p.within.locator in
     record {
       one = same 0 ∙ p.one;
-      gives = λ i h q. conv_same_left (coefficient (first (coefficient g) (suc d))) (coefficient g) (coefficient s) i (λ j a. same j) ∙ p.equation i h ∙ p.within.evaluator i q;
+      gives =
+          λ i h q. conv_same_left (coefficient (first (coefficient g) (suc d))) (coefficient g) (coefficient s) i
+          (λ j a. same j) ∙ p.equation i h ∙ p.within.evaluator i q;
     }
 
 -- There is a pair within d, or there is none.
-pair_decided : (s : List ℕ) (d : ℕ) → ((l : List ℕ) × (w : List ℕ) × IsPair s d l w) ⊎ ((l w : List ℕ) → IsPair s d l w → ⊥)
+pair_decided : (s : List ℕ) (d : ℕ) → ((l : List ℕ) × (w : List ℕ) × IsPair s d l w)
+    ⊎ ((l w : List ℕ) → IsPair s d l w → ⊥)
 pair_decided s d =
     elim (any_list (suc d) (Locates s d) (λ l b e. locates_decided s d l)) [
-      | inl some ↦ inl (some.list, first (convolution (coefficient some.list) (coefficient s)) d, pair_of s d some.list some.bytes some.long some.holds)
+      | inl some ↦ inl (
+        some.list,
+        first (convolution (coefficient some.list) (coefficient s)) d,
+        pair_of s d some.list some.bytes some.long some.holds,
+      )
       | inr none ↦ inr (λ g v p. none (record {
         list = first (coefficient g) (suc d);
         bytes = bytes_first (coefficient g) (suc d) (byte_at g p.locator_bytes);
@@ -68,7 +81,9 @@ pair_decided s d =
 
 -- ---- the first bound
 -- A least pair has one of the first n bounds, or no pair is within any of them.
-first_bound : (s : List ℕ) (t n : ℕ) → n ≤ suc t → ((l : List ℕ) × (w : List ℕ) × (d : ℕ) × IsLeastAt s t l w d) ⊎ ((d : ℕ) → d < n → (l w : List ℕ) → IsPair s d l w → ⊥)
+first_bound : (s : List ℕ) (t n : ℕ) → n ≤ suc t →
+    ((l : List ℕ) × (w : List ℕ) × (d : ℕ) × IsLeastAt s t l w d)
+    ⊎ ((d : ℕ) → d < n → (l w : List ℕ) → IsPair s d l w → ⊥)
 first_bound s t zero h = inr (λ d b l w p. absurd (omega arith))
 first_bound s t (suc n) h =
     elim (first_bound s t n (omega arith)) [
@@ -84,7 +99,11 @@ first_bound s t (suc n) h =
             least = λ g v e q. elim (cases_lt e n) [ inl b ↦ absurd (none e b g v q) | inr b ↦ b ];
           },
         )
-        | inr missing ↦ inr (λ d b l w p. elim (cases_lt d n) [ inl c ↦ none d c l w p | inr c ↦ missing l w (subst (λ m. IsPair s m l w) (let e : d ≡ n = omega arith in e) p) ])
+        | inr missing ↦ inr (λ d b l w p. elim (cases_lt d n) [
+          | inl c ↦ none d c l w p
+          | inr c ↦ missing l w
+              (subst (λ m. IsPair s m l w) (let e : d ≡ n = omega arith in e) p)
+        ])
       ]
     ]
 

@@ -20,20 +20,33 @@ same_or_not p q =
     ]
 
 -- A list of bytes is near, or it isn't: its syndromes are 0 or not, and its distance is within the limit or not.
-is_near_or_not : (k : ℕ) (w c : List ℕ) → Bytes c → length c ≡ length w → k < length w → length w ≤ 255 → Decided (IsNear k w c)
+is_near_or_not : (k : ℕ) (w c : List ℕ) → Bytes c → length c ≡ length w → k < length w → length w ≤ 255 →
+    Decided (IsNear k w c)
 is_near_or_not k w c b l room short =
     elim (same_or_not (syndromes_of c k) (replicate k 0)) [
       | inl zero ↦ elim (cases_lt (k / 2) (distance w c)) [
         | inl far ↦ inr (λ near. absurd (omega (arith, far, near.close)))
-        | inr close ↦ inl (record { codeword = codeword_from_syndromes k c b (omega (arith, l, room)) (omega (arith, l, short)) zero; long = l; close = close })
+        | inr close ↦ inl (record {
+          codeword =
+              codeword_from_syndromes k c b (omega (arith, l, room)) (omega (arith, l, short)) zero;
+          long = l;
+          close =
+              close;
+        })
       ]
       | inr other ↦ inr (λ near. other (codeword_syndromes k c near.codeword))
     ]
 
 -- Some codeword is near to a word, or none is.
-pub near_or_none : (k : ℕ) (w : List ℕ) → k < length w → length w ≤ 255 → ((c : List ℕ) × IsNear k w c) ⊎ ((c : List ℕ) → IsNear k w c → ⊥)
+pub near_or_none : (k : ℕ) (w : List ℕ) → k < length w → length w ≤ 255 →
+    ((c : List ℕ) × IsNear k w c) ⊎ ((c : List ℕ) → IsNear k w c → ⊥)
 near_or_none k w room short =
     elim (any_list (length w) (IsNear k w) (λ c b l. is_near_or_not k w c b l room short)) [
       | inl some ↦ inl (some.list, some.holds)
-      | inr none ↦ inr (λ c near. none (record { list = c; bytes = codeword_bytes k c near.codeword; long = near.long; holds = near }))
+      | inr none ↦ inr (λ c near. none (record {
+        list = c;
+        bytes = codeword_bytes k c near.codeword;
+        long = near.long;
+        holds = near;
+      }))
     ]

@@ -23,9 +23,9 @@ differing word other (suc n) = differing word other n + differs (slice_index wor
 abbrev pub distance : List ℕ → List ℕ → ℕ
 distance word other = differing word other (length word)
 
--- Another word is near to a word where it is a codeword of k checks within the correction limit: it is as long, and they
--- differ in at most k / 2 places. That the limit is the whole of k / 2, with no check codeword kept back for detection,
--- is a rule of this project.
+-- Another word is near to a word where it is a codeword of k checks within the correction limit: it is as long, and
+-- they differ in at most k / 2 places. That the limit is the whole of k / 2, with no check codeword kept back for
+-- detection, is a rule of this project.
 pub record IsNear (k : ℕ) (word other : List ℕ) : Type 0 where
   pub codeword : IsCodeword k other
   pub long : length other ≡ length word

@@ -1,12 +1,13 @@
--- How near a word of one Reed-Solomon block of ISO/IEC 16022, ECC 200, is to a codeword, where some of its places are erased: what
--- stands there isn't known.
+-- How near a word of one Reed-Solomon block of ISO/IEC 16022, ECC 200, is to a codeword, where some of its places are
+-- erased: what stands there isn't known.
 use Rattle.std.specs.Prelude.{◌≡◌, ◌↔◌, Bool, ℕ, suc, ◌+◌, ◌*◌, ◌≤◌, if◌then◌else◌, List, [], ◌∷◌, length, slice_set}
 use Rattle.dm_code.specs.Codeword.{IsCodeword, IsNear, distance}
 
 -- A list says of each place, from this one on, whether it is erased: these are the erased places, in ascending order.
 unfoldable pub erased_from : ℕ → List Bool → List ℕ
 erased_from place [] = []
-erased_from place (is_erased ∷ rest) = if is_erased then place ∷ erased_from (suc place) rest else erased_from (suc place) rest
+erased_from place (is_erased ∷ rest) =
+    if is_erased then place ∷ erased_from (suc place) rest else erased_from (suc place) rest
 
 -- The erased places of a word, in ascending order, of which a list says, from the first place on, whether they are
 -- erased.
@@ -18,12 +19,13 @@ unfoldable pub blank : List ℕ → List ℕ → List ℕ
 blank [] word = word
 blank (place ∷ places) word = slice_set (blank places word) place 0
 
--- Another word differs from a word at this many places outside the erased ones: so many differ once both have 0 at these.
+-- Another word differs from a word at this many places outside the erased ones: so many differ once both have 0 at
+-- these.
 abbrev pub distance_but : List ℕ → List ℕ → List ℕ → ℕ
 distance_but places word other = distance (blank places word) (blank places other)
 
--- Another word is near to a word but for its erased places where it is a codeword of k checks and as long, and twice the number
--- of other places at which they differ, and the number of erased ones, are together at most k.
+-- Another word is near to a word but for its erased places where it is a codeword of k checks and as long, and twice
+-- the number of other places at which they differ, and the number of erased ones, are together at most k.
 pub record IsNearBut (k : ℕ) (word places other : List ℕ) : Type 0 where
   pub codeword : IsCodeword k other
   pub long : length other ≡ length word
@@ -31,7 +33,8 @@ pub record IsNearBut (k : ℕ) (word places other : List ℕ) : Type 0 where
 
 -- At most one codeword is near to a word of at most 255 numbers but for erased places.
 abbrev pub NearButIsOne : Type 0
-NearButIsOne = (k : ℕ) (word places first second : List ℕ) → length word ≤ 255 → IsNearBut k word places first → IsNearBut k word places second → first ≡ second
+NearButIsOne = (k : ℕ) (word places first second : List ℕ) → length word ≤ 255 → IsNearBut k word places first →
+    IsNearBut k word places second → first ≡ second
 
 -- With no place erased, a codeword is near to a word but for its erased places exactly where it is near to the word.
 abbrev pub NearButNoneIsNear : Type 0

@@ -1,6 +1,7 @@
 //! Correction of a block.
 
-ghost use Rattle.std.specs.Prelude.{◌≡◌, ◌+◌, ◌*◌, ◌/◌, ◌<◌, ◌≤◌, List, ℕ, length, take, IsTrue, ◌↔◌, IfOk, IsOkAnd, MatchResult};
+ghost use Rattle.std.specs.Prelude.{◌≡◌, ◌+◌, ◌*◌, ◌/◌, ◌<◌, ◌≤◌, List, ℕ, length, take, IsTrue, ◌↔◌, IfOk, IsOkAnd};
+ghost use Rattle.std.specs.Prelude.{MatchResult};
 ghost use Rattle.std.specs.List.{All};
 ghost use Rattle.gf301.specs.Polynomial.{Bytes};
 ghost use Rattle.dm_code.specs.Codeword.{IsCodeword, IsNear, distance};
@@ -29,16 +30,16 @@ pub struct Fixed {
 #[derive(Clone, Copy, Debug, PartialEq, Eq)]
 pub struct BeyondLimit;
 
-/// Gives the codeword of k check codewords that differs from the word in at most k div 2 places, and in how many it does, exactly
-/// where there is one, and [`BeyondLimit`] exactly where there is none; a word that is a codeword gives itself and 0. The word has
-/// k + 1 to [`LONGEST_WORD`] codewords, the data codewords first, and k is 1 to [`MOST_CHECKS`] (ISO/IEC 16022, error checking and
-/// correction).
+/// Gives the codeword of k check codewords that differs from the word in at most k div 2 places, and in how many it
+/// does, exactly where there is one, and [`BeyondLimit`] exactly where there is none; a word that is a codeword gives
+/// itself and 0. The word has k + 1 to [`LONGEST_WORD`] codewords, the data codewords first, and k is 1 to
+/// [`MOST_CHECKS`] (ISO/IEC 16022, error checking and correction).
 ///
-/// No such word lies within k div 2 places of two codewords, so there is no choice. A word with more wrong codewords than that
-/// may lie near to another codeword, and is then corrected to it.
+/// No such word lies within k div 2 places of two codewords, so there is no choice. A word with more wrong codewords
+/// than that may lie near to another codeword, and is then corrected to it.
 ///
-/// For a word of n codewords, with t for k div 2, the work is about n k + k k + 2 n t + t k products, sixteen at a time, and that
-/// of the solver; for a codeword it is n k alone.
+/// For a word of n codewords, with t for k div 2, the work is about n k + k k + 2 n t + t k products, sixteen at a
+/// time, and that of the solver; for a codeword it is n k alone.
 pub fn correct<S: KeySolver>(solver: &S, word: &[u8], k: usize) -> Result<Fixed, BeyondLimit>
     requires checks { 0 < k }
     requires most { k ≤ MOST_CHECKS }
@@ -75,9 +76,9 @@ pub fn correct<S: KeySolver>(solver: &S, word: &[u8], k: usize) -> Result<Fixed,
     }
 }
 
-/// Corrects the word at each place whose locator's inverse is a root of the error locator. Where a codeword is near, the word
-/// then is this codeword. The first k of the syndromes stay those of the word, so that the corrected word is tested without
-/// new ones.
+/// Corrects the word at each place whose locator's inverse is a root of the error locator. Where a codeword is near,
+/// the word then is this codeword. The first k of the syndromes stay those of the word, so that the corrected word is
+/// tested without new ones.
 fn correct_errors(word: &mut [u8], syndromes: &mut [u8], k: usize, key: &Key)
     requires checks { 0 < k }
     requires most { k ≤ MOST_CHECKS }
@@ -96,9 +97,9 @@ fn correct_errors(word: &mut [u8], syndromes: &mut [u8], k: usize, key: &Key)
     correct_roots(word, syndromes, k, locator, &key.evaluator);
 }
 
-/// Does what [`correct_errors`] does, for a locator without zeros at its end. Sixteen places at once, from the last place on, are
-/// tested for roots, and what gives the errors' values is computed there. The lists are read with the highest power first: the
-/// locator then has the wrong places' locators as roots.
+/// Does what [`correct_errors`] does, for a locator without zeros at its end. Sixteen places at once, from the last
+/// place on, are tested for roots, and what gives the errors' values is computed there. The lists are read with the
+/// highest power first: the locator then has the wrong places' locators as roots.
 fn correct_roots(word: &mut [u8], syndromes: &mut [u8], k: usize, locator: &[u8], evaluator: &[u8])
     requires checks { 0 < k }
     requires most { k ≤ MOST_CHECKS }

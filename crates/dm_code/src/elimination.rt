@@ -42,8 +42,8 @@ fn least_key(s: &[u8], t: usize) -> Option<Key>
     None
 }
 
-/// Gives the equations for a locator of a degree of at most `degree`: at each place from `degree` on, the product of the
-/// locator and the syndromes has the coefficient 0.
+/// Gives the equations for a locator of a degree of at most `degree`: at each place from `degree` on, the product of
+/// the locator and the syndromes has the coefficient 0.
 fn rows_of(s: &[u8], degree: usize) -> ArrayVec<Row, MOST_CHECKS>
     requires small { degree ≤ MOST_ERRORS }
     requires few { length s.now ≤ MOST_CHECKS }

@@ -10,11 +10,12 @@ use crate::limits::LONGEST_WORD;
 use arrayvec::ArrayVec;
 use gf301::{CHECKS_ROOM, MOST_CHECKS, add_scaled, taps};
 
-/// Room for a word, and behind it for the rest of the last sixteen numbers that a step of the division writes: at most 15.
+/// Room for a word, and behind it for the rest of the last sixteen numbers that a step of the division writes: at most
+/// 15.
 const DIVISION_ROOM: usize = LONGEST_WORD + 15;
 
-/// Gives the k check codewords of the data codewords `front`, k of 1 to [`MOST_CHECKS`], where both together are at most
-/// [`LONGEST_WORD`]: the one list of k codewords that completes `front` to a codeword of k checks.
+/// Gives the k check codewords of the data codewords `front`, k of 1 to [`MOST_CHECKS`], where both together are at
+/// most [`LONGEST_WORD`]: the one list of k codewords that completes `front` to a codeword of k checks.
 pub fn encode(front: &[u8], k: usize) -> ArrayVec<u8, MOST_CHECKS>
     requires some { 1 ≤ k }
     requires most { k ≤ MOST_CHECKS }
@@ -52,8 +53,8 @@ pub(crate) fn remainder(word: &[u8], k: usize) -> ArrayVec<u8, MOST_CHECKS>
     left
 }
 
-/// Divides the first `count` + k numbers, as a polynomial, by the generator for k check codewords: takes a multiple of it
-/// away from each of the first `count` places on, so that its last k numbers are then what is left.
+/// Divides the first `count` + k numbers, as a polynomial, by the generator for k check codewords: takes a multiple of
+/// it away from each of the first `count` places on, so that its last k numbers are then what is left.
 fn divide(rest: &mut [u8; DIVISION_ROOM], count: usize, k: usize)
     requires some { 1 ≤ k }
     requires most { k ≤ MOST_CHECKS }
@@ -72,8 +73,8 @@ fn divide(rest: &mut [u8; DIVISION_ROOM], count: usize, k: usize)
     }
 }
 
-/// Does what [`divide`] does, with a multiple that is `WIDTH` numbers wide: k, and what is missing to a multiple of 16. The
-/// compiler has a loop for each width, in which the generator's coefficients stay in lanes.
+/// Does what [`divide`] does, with a multiple that is `WIDTH` numbers wide: k, and what is missing to a multiple of 16.
+/// The compiler has a loop for each width, in which the generator's coefficients stay in lanes.
 fn divide_in<const WIDTH: usize>(rest: &mut [u8; DIVISION_ROOM], count: usize, k: usize)
     requires lanes { WIDTH % 16 ≡ 0 }
     requires enough { k ≤ WIDTH }

@@ -1,6 +1,7 @@
 //! Correction of a block of which some codewords are erased: what stands there isn't known.
 
-ghost use Rattle.std.specs.Prelude.{◌≡◌, ◌+◌, ◌-◌, ◌*◌, ◌<◌, ◌≤◌, List, [], ℕ, suc, length, get_or, IfOk, MatchResult, MatchOption};
+ghost use Rattle.std.specs.Prelude.{◌≡◌, ◌+◌, ◌-◌, ◌*◌, ◌<◌, ◌≤◌, List, [], ℕ, suc, length, get_or, IfOk, MatchResult};
+ghost use Rattle.std.specs.Prelude.{MatchOption};
 ghost use Rattle.std.specs.List.{All};
 ghost use Rattle.gf301.specs.Field.{◌⊕◌, ◌⊗◌, power};
 ghost use Rattle.gf301.specs.Polynomial.{Bytes, value};
@@ -23,21 +24,22 @@ pub struct Restored {
     pub changed: u8,
     /// The number of erased places.
     pub erased: u8,
-    /// The number of check codewords that neither errors nor erasures have used: an error uses two, an erasure one. Where it is 0,
-    /// many words are read as some codeword, whatever they held.
+    /// The number of check codewords that neither errors nor erasures have used: an error uses two, an erasure one.
+    /// Where it is 0, many words are read as some codeword, whatever they held.
     pub left: u8,
 }
 
-/// Gives the codeword of k check codewords that is near to the word but for its erased places, exactly where there is one, and
-/// [`BeyondLimit`] exactly where there is none: twice the number of other places at which they differ, and the number of erased
-/// ones, are together at most k. `erased` says of each place of the word whether what stands there is unknown; it is never looked
-/// at. The word has k + 1 to [`LONGEST_WORD`] codewords, the data codewords first, and k is at most [`MOST_CHECKS`] (ISO/IEC 16022,
-/// error checking and correction).
+/// Gives the codeword of k check codewords that is near to the word but for its erased places, exactly where there is
+/// one, and [`BeyondLimit`] exactly where there is none: twice the number of other places at which they differ, and the
+/// number of erased ones, are together at most k. `erased` says of each place of the word whether what stands there is
+/// unknown; it is never looked at. The word has k + 1 to [`LONGEST_WORD`] codewords, the data codewords first, and k is
+/// at most [`MOST_CHECKS`] (ISO/IEC 16022, error checking and correction).
 ///
-/// No such word is near to two codewords, so there is no choice. With no place erased, and a k of 1 or more, this is what [`correct`]
-/// gives.
+/// No such word is near to two codewords, so there is no choice. With no place erased, and a k of 1 or more, this is
+/// what [`correct`] gives.
 ///
-/// For a word of n codewords and s erased places the work is that of [`correct`], about 4 n s products, and n s inversions.
+/// For a word of n codewords and s erased places the work is that of [`correct`], about 4 n s products, and n s
+/// inversions.
 pub fn correct_erased<S: KeySolver>(
     solver: &S,
     word: &[u8],
@@ -119,8 +121,8 @@ fn less_places(word: &[u8], places: &[u8]) -> ArrayVec<u8, LONGEST_WORD>
     less
 }
 
-/// Weighs a place away: each codeword is multiplied by the difference of its place's locator and that of this place. A codeword of
-/// k checks becomes one of k - 1, with 0 at the place.
+/// Weighs a place away: each codeword is multiplied by the difference of its place's locator and that of this place. A
+/// codeword of k checks becomes one of k - 1, with 0 at the place.
 fn less_place(word: &[u8], place: usize) -> ArrayVec<u8, LONGEST_WORD>
     requires long { length word.now ≤ LONGEST_WORD }
     requires within { place < length word.now }
@@ -133,8 +135,8 @@ fn less_place(word: &[u8], place: usize) -> ArrayVec<u8, LONGEST_WORD>
     less
 }
 
-/// Gives back each of the places that were weighed away from a word, the last one first, in the codeword that is near to what
-/// was left; None where this comes from no codeword, since it isn't 0 at a place.
+/// Gives back each of the places that were weighed away from a word, the last one first, in the codeword that is near
+/// to what was left; None where this comes from no codeword, since it isn't 0 at a place.
 fn with_places(near: &[u8], places: &[u8]) -> Option<ArrayVec<u8, LONGEST_WORD>>
     requires long { length near.now ≤ LONGEST_WORD }
     requires within { All (λ p. p < length near.now) places.now }

@@ -1,8 +1,9 @@
 //! The values of errors, and what they add to the syndromes.
 //!
-//! The locator of a place is 2 to the power of the number of places after it. The roots of the error locator, whose list has the
-//! lowest power first, are the inverses of the wrong places' locators. Read with the highest power first, the list is a polynomial
-//! whose roots are these locators themselves; so it is read here, and the list of the error evaluator too.
+//! The locator of a place is 2 to the power of the number of places after it. The roots of the error locator, whose
+//! list has the lowest power first, are the inverses of the wrong places' locators. Read with the highest power first,
+//! the list is a polynomial whose roots are these locators themselves; so it is read here, and the list of the error
+//! evaluator too.
 
 ghost use Rattle.std.specs.Prelude.{◌≡◌, ◌*◌, ◌<◌, ◌≤◌, ℕ, suc, length, get_or};
 ghost use Rattle.gf301.specs.Field.{◌⊕◌, ◌⊗◌, raise};
@@ -10,9 +11,10 @@ ghost use Rattle.gf301.specs.Field.{◌⊕◌, ◌⊗◌, raise};
 use gf301::{Gf, powers_of, scale};
 use std::simd::prelude::*;
 
-/// Gives the value of the error at a place, from two values at the place's locator: the numerator is that of the error evaluator,
-/// and the divisor is the sum of the error locator's terms of odd powers, which is the place's locator times the value of the error
-/// locator without its root there. Where this root is a double one, the divisor is 0, and 0 is given.
+/// Gives the value of the error at a place, from two values at the place's locator: the numerator is that of the error
+/// evaluator, and the divisor is the sum of the error locator's terms of odd powers, which is the place's locator times
+/// the value of the error locator without its root there. Where this root is a double one, the divisor is 0, and 0 is
+/// given.
 pub(crate) fn error_value(numerator: Gf, divisor: Gf) -> Gf
     ensures byte { result.0 < 256 }
     ensures value { 0 < divisor.0 → divisor.0 ⊗ result.0 ≡ numerator.0 }
@@ -24,8 +26,9 @@ pub(crate) fn error_value(numerator: Gf, divisor: Gf) -> Gf
     numerator.mul(divisor.inverse())
 }
 
-/// Adds to the syndromes, so many groups of sixteen, what an error of a value at the place with the locator `at` adds to each
-/// of them: the value times a power of the locator. Sixteen powers give the next sixteen by products with the last of them.
+/// Adds to the syndromes, so many groups of sixteen, what an error of a value at the place with the locator `at` adds
+/// to each of them: the value times a power of the locator. Sixteen powers give the next sixteen by products with the
+/// last of them.
 pub(crate) fn add_error(syndromes: &mut [u8], groups: usize, value: Gf, at: Gf)
     requires { 16 * groups ≤ length syndromes.old }
     ensures long { length syndromes.new ≡ length syndromes.old }

@@ -1,8 +1,11 @@
 //! Laws of the definitions: facts about codewords and the key equation alone, whatever code writes or reads them.
 
-ghost use Rattle.dm_code.specs.CodewordLaws.{CodewordsLieApart, CloseCodewordsAreOne, NearCodewordIsOne, NearCodewordIsThereOrNot, FrontDeterminesChecks, ChecksAreThere, CodewordsAreBytes, CodewordsHaveNoSyndromes};
+ghost use Rattle.dm_code.specs.CodewordLaws.{CodewordsLieApart, CloseCodewordsAreOne, NearCodewordIsOne};
+ghost use Rattle.dm_code.specs.CodewordLaws.{NearCodewordIsThereOrNot, FrontDeterminesChecks, ChecksAreThere};
+ghost use Rattle.dm_code.specs.CodewordLaws.{CodewordsAreBytes, CodewordsHaveNoSyndromes};
 ghost use Rattle.dm_code.specs.Erased.{NearButIsOne, NearButNoneIsNear};
-ghost use Rattle.dm_code.specs.KeyEquationLaws.{PairsAreMultiples, LeastPairIsOne, ExactLeastPairIsOne, LeastPairIsThere};
+ghost use Rattle.dm_code.specs.KeyEquationLaws.{PairsAreMultiples, LeastPairIsOne, ExactLeastPairIsOne};
+ghost use Rattle.dm_code.specs.KeyEquationLaws.{LeastPairIsThere};
 
 /// The distance law: two different codewords of k checks and one length of at most 255 differ in at least k + 1 places.
 /// So two that differ in at most k places are one.
@@ -33,8 +36,8 @@ pub fn checks_are_there()
     ensures { ChecksAreThere }
 {}
 
-/// Which lists are codewords of k checks: they are lists of bytes, and a list of more than k and at most 255 bytes is one
-/// exactly where its values at 2^1 to 2^k are all 0.
+/// Which lists are codewords of k checks: they are lists of bytes, and a list of more than k and at most 255 bytes is
+/// one exactly where its values at 2^1 to 2^k are all 0.
 pub fn codewords_have_no_syndromes()
     ensures bytes { CodewordsAreBytes }
     ensures syndromes { CodewordsHaveNoSyndromes }
@@ -51,8 +54,8 @@ pub fn least_pair_is_one()
     ensures { LeastPairIsOne }
 {}
 
-/// With 2 t at most the number of syndromes, two least pairs whose lists have no number too many are the same lists: what
-/// [`crate::Quick`] gives is determined, list by list.
+/// With 2 t at most the number of syndromes, two least pairs whose lists have no number too many are the same lists:
+/// what [`crate::Quick`] gives is determined, list by list.
 pub fn exact_least_pair_is_one()
     ensures { ExactLeastPairIsOne }
 {}
@@ -62,8 +65,8 @@ pub fn least_pair_is_there()
     ensures { LeastPairIsThere }
 {}
 
-/// At most one codeword is near to a word of at most 255 bytes but for erased places, and with none erased it is the one
-/// that is near to the word.
+/// At most one codeword is near to a word of at most 255 bytes but for erased places, and with none erased it is the
+/// one that is near to the word.
 pub fn near_but_is_one()
     ensures one { NearButIsOne }
     ensures none { NearButNoneIsNear }

@@ -2,27 +2,27 @@
 //! correction.
 //!
 //! A block is a list of codewords, bytes that stand for elements of [`gf301::Gf`]: first the data codewords, then k
-//! check codewords, [`LONGEST_WORD`] in all at the most. As a polynomial, the highest power first, it is a multiple of the
-//! generator polynomial for k ([`gf301::generator`]); such a list is a codeword of k checks. k is 1 to [`MOST_CHECKS`].
+//! check codewords, [`LONGEST_WORD`] in all at the most. As a polynomial, the highest power first, it is a multiple of
+//! the generator polynomial for k ([`gf301::generator`]); such a list is a codeword of k checks. k is 1 to
+//! [`MOST_CHECKS`].
 //!
 //! [`encode`] makes the check codewords of a block. [`correct`] gives the codeword within k div 2 wrong codewords of a
-//! word, or says that there is none; it divides the word by the generator, takes the [`syndromes`] of what is left, has a
-//! [`KeySolver`] solve the key equation for them, and finds the wrong places and what is wrong there from its pair of
-//! polynomials, the [`Key`]. There are two solvers: [`Quick`], whose work grows with the square of the number of syndromes at
-//! the most, and [`Elimination`], whose work grows with its fourth power at the most.
+//! word, or says that there is none; it divides the word by the generator, takes the [`syndromes`] of what is left, has
+//! a [`KeySolver`] solve the key equation for them, and finds the wrong places and what is wrong there from its pair of
+//! polynomials, the [`Key`]. There are two solvers: [`Quick`], whose work grows with the square of the number of
+//! syndromes at the most, and [`Elimination`], whose work grows with its fourth power at the most.
 //!
 //! Everything but [`Elimination`] works in lanes, on sixteen codewords, roots, places or coefficients at once: check
-//! codewords are what is left of a division in place, syndromes are sums over parts of a word, and wrong places are looked
-//! for sixteen at a time.
+//! codewords are what is left of a division in place, syndromes are sums over parts of a word, and wrong places are
+//! looked for sixteen at a time.
 //!
-//! [`correct_erased`] does what [`correct`] does where some codewords are erased, that is, known to be unknown: an error then
-//! uses two of the k check codewords, and an erasure one.
+//! [`correct_erased`] does what [`correct`] does where some codewords are erased, that is, known to be unknown: an
+//! error then uses two of the k check codewords, and an erasure one.
 //!
-//! The definitions that the contracts cite are in `specs/`: `Codeword`, `Erased`, `Syndromes` and `KeyEquation`. What holds of these
-//! definitions, whatever the code does, is stated in `CodewordLaws` and `KeyEquationLaws` there and proved in [`laws`].
-//! `inner` has the definitions that private functions alone cite: `LinearSystem` for the elimination, `OddTerms` for finding
-//! errors, `Ones` and `Backwards` for [`Quick`],
-//! `Lessened` for [`correct_erased`].
+//! The definitions that the contracts cite are in `specs/`: `Codeword`, `Erased`, `Syndromes` and `KeyEquation`. What
+//! holds of these definitions, whatever the code does, is stated in `CodewordLaws` and `KeyEquationLaws` there and
+//! proved in [`laws`]. `inner` has the definitions that private functions alone cite: `LinearSystem` for the
+//! elimination, `OddTerms` for finding errors, `Ones` and `Backwards` for [`Quick`], `Lessened` for [`correct_erased`].
 #![tactic(auto)]
 
 mod correction;

@@ -49,9 +49,9 @@ fn coefficient_at(list: &[u8], i: usize) -> Gf
     }
 }
 
-/// Gives the values of a polynomial, its highest power first, at the sixteen elements from 2 to the power `first` on, and there
-/// the sums of its terms of odd powers. A turn takes a term of an even power and the next one. There are at most
-/// [`MOST_COEFFICIENTS`] terms, and `first` is at most 240.
+/// Gives the values of a polynomial, its highest power first, at the sixteen elements from 2 to the power `first` on,
+/// and there the sums of its terms of odd powers. A turn takes a term of an even power and the next one. There are at
+/// most [`MOST_COEFFICIENTS`] terms, and `first` is at most 240.
 pub(crate) fn sums(terms: &[u8], first: usize) -> (Simd<u8, 16>, Simd<u8, 16>)
     requires few { length terms.now ≤ MOST_COEFFICIENTS }
     requires first { first ≤ 240 }
@@ -73,8 +73,8 @@ pub(crate) fn sums(terms: &[u8], first: usize) -> (Simd<u8, 16>, Simd<u8, 16>)
     (values ^ highest, odd)
 }
 
-/// Gives the term of the power `after` of a polynomial, its highest power first, at the sixteen elements from 2 to the power
-/// `first` on: its coefficient times their powers.
+/// Gives the term of the power `after` of a polynomial, its highest power first, at the sixteen elements from 2 to the
+/// power `first` on: its coefficient times their powers.
 #[inline]
 fn term_at(terms: &[u8], after: usize, first: usize) -> Simd<u8, 16>
     requires within { after < length terms.now }

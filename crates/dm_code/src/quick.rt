@@ -15,20 +15,21 @@ use arrayvec::ArrayVec;
 use gf301::{Gf, MOST_CHECKS, Meter, lanes_mul};
 use std::simd::prelude::*;
 
-/// Solves the key equation by the algorithm of Berlekamp and Massey. The syndromes are taken one after the other, and the
-/// locator is corrected where its product with them has a coefficient that a pair of its degree can't have. The work grows
-/// with the square of the number of syndromes.
+/// Solves the key equation by the algorithm of Berlekamp and Massey. The syndromes are taken one after the other, and
+/// the locator is corrected where its product with them has a coefficient that a pair of its degree can't have. The
+/// work grows with the square of the number of syndromes.
 #[derive(Clone, Copy, Debug, PartialEq, Eq)]
 pub struct Quick;
 
 impl Quick {
-    /// Gives what [`KeySolver::solve`] gives for the syndromes `s` and the limit `t`, and the products and inversions that were
-    /// made for it: for k syndromes at most 4 k^2 products and k inversions. There are at most [`MOST_CHECKS`] syndromes, and 2 t
-    /// is at most their number.
+    /// Gives what [`KeySolver::solve`] gives for the syndromes `s` and the limit `t`, and the products and inversions
+    /// that were made for it: for k syndromes at most 4 k^2 products and k inversions. There are at most
+    /// [`MOST_CHECKS`] syndromes, and 2 t is at most their number.
     ///
-    /// The [`Meter`] is meant to count every product and every inversion, but no product with a zero that only fills lanes:
-    /// tests show that it does, and the clauses bound its counts. So a pair takes a product for each syndrome or more, even
-    /// a None takes one where there are syndromes, and a locator of more than one coefficient takes an inversion.
+    /// The [`Meter`] is meant to count every product and every inversion, but no product with a zero that only fills
+    /// lanes: tests show that it does, and the clauses bound its counts. So a pair takes a product for each syndrome or
+    /// more, even a None takes one where there are syndromes, and a locator of more than one coefficient takes an
+    /// inversion.
     pub fn solve_counted(&self, s: &[u8], t: usize) -> (Option<Key>, Meter)
         requires few { length s.now ≤ MOST_CHECKS }
         requires half { 2 * t ≤ length s.now }
@@ -65,8 +66,8 @@ impl Quick {
 }
 
 impl KeySolver for Quick {
-    /// Gives what [`Quick::solve_counted`] gives, without the counts: the lists of both are those of the least pair with no
-    /// number too many, and so the same ([`crate::laws::exact_least_pair_is_one`]).
+    /// Gives what [`Quick::solve_counted`] gives, without the counts: the lists of both are those of the least pair
+    /// with no number too many, and so the same ([`crate::laws::exact_least_pair_is_one`]).
     fn solve(&self, s: &[u8], t: usize) -> Option<Key>
         requires few { length s.now ≤ MOST_CHECKS }
         requires half { 2 * t ≤ length s.now }
@@ -88,8 +89,8 @@ const LOCATOR_ROOM: usize = 2 * COEFFICIENTS_ROOM;
 /// Room for the syndromes and, behind them, [`COEFFICIENTS_ROOM`] zeros or more.
 const BACK_ROOM: usize = MOST_CHECKS + COEFFICIENTS_ROOM;
 
-/// What is kept of the syndromes that have been taken. The discrepancy of a locator is the first coefficient of its product
-/// with the syndromes that isn't 0 and that a pair of its degree can't have.
+/// What is kept of the syndromes that have been taken. The discrepancy of a locator is the first coefficient of its
+/// product with the syndromes that isn't 0 and that a pair of its degree can't have.
 #[derive(Drop)]
 struct Search {
     /// The locator of the least degree that has no discrepancy among these syndromes, and zeros behind.
@@ -135,8 +136,8 @@ impl Search {
         &self.locator[..self.degree + 1]
     }
 
-    /// Takes the discrepancy from the locator, by a multiple of the earlier one. The locator then has the degree `degree`; where
-    /// it has grown, what it was before is the earlier one from now on.
+    /// Takes the discrepancy from the locator, by a multiple of the earlier one. The locator then has the degree
+    /// `degree`; where it has grown, what it was before is the earlier one from now on.
     fn adjust(&mut self, discrepancy: Gf, degree: usize, meter: &mut Meter)
         requires some { 0 < discrepancy.0 }
         requires small { degree ≤ MOST_ERRORS }
@@ -184,8 +185,8 @@ impl Search {
     }
 }
 
-/// Adds `factor` times the earlier locator, moved up by the gap, to a locator: `count` products, as many as the earlier one has
-/// coefficients before the zeros at its end.
+/// Adds `factor` times the earlier locator, moved up by the gap, to a locator: `count` products, as many as the earlier
+/// one has coefficients before the zeros at its end.
 fn add_moved(
     locator: &mut [u8; LOCATOR_ROOM],
     factor: Gf,
@@ -224,8 +225,8 @@ fn backwards(s: &[u8]) -> [u8; BACK_ROOM]
     back
 }
 
-/// Gives the evaluator of a locator of this degree: the coefficients below that degree of its product with the syndromes,
-/// which are given backwards too.
+/// Gives the evaluator of a locator of this degree: the coefficients below that degree of its product with the
+/// syndromes, which are given backwards too.
 fn evaluator_of(
     locator: &[u8; LOCATOR_ROOM],
     degree: usize,
@@ -255,8 +256,8 @@ fn evaluator_of(
     evaluator
 }
 
-/// Gives the coefficient of x^n of the product of a locator of this degree and the syndromes, which are given backwards too. Each
-/// product of two coefficients counts, and none with a zero behind them.
+/// Gives the coefficient of x^n of the product of a locator of this degree and the syndromes, which are given backwards
+/// too. Each product of two coefficients counts, and none with a zero behind them.
 fn product_at(
     locator: &[u8; LOCATOR_ROOM],
     degree: usize,
@@ -279,8 +280,8 @@ fn product_at(
     dot_in_lanes(locator, back, s.len() - 1 - n, degree / 16 + 1)
 }
 
-/// Gives the sum of the products, place by place, of the first numbers of a list, so many groups of sixteen, and those of another
-/// list from the place `first` on.
+/// Gives the sum of the products, place by place, of the first numbers of a list, so many groups of sixteen, and those
+/// of another list from the place `first` on.
 fn dot_in_lanes(list: &[u8], other: &[u8], first: usize, groups: usize) -> Gf
     requires list { 16 * groups ≤ length list.now }
     requires other { first + 16 * groups ≤ length other.now }

@@ -1,5 +1,5 @@
-//! The syndromes of a block: its values at the roots of the generator polynomial. 16 roots at a time are taken together in
-//! the lanes of a vector, and the rest of the roots one by one, each with 16 codewords at a time in the lanes.
+//! The syndromes of a block: its values at the roots of the generator polynomial. 16 roots at a time are taken together
+//! in the lanes of a vector, and the rest of the roots one by one, each with 16 codewords at a time in the lanes.
 
 ghost use Rattle.std.specs.Prelude.{◌≡◌, ◌≤◌, ◌*◌, ◌%◌, ℕ, length, map, take};
 ghost use Rattle.gf301.specs.Field.{power};
@@ -11,9 +11,9 @@ use arrayvec::ArrayVec;
 use gf301::{Gf, MOST_CHECKS, lanes_mul, power_row, scale, value_at};
 use std::simd::prelude::*;
 
-/// Gives the syndromes of a word of a block with k check codewords, k of at most [`MOST_CHECKS`]: its values at 2^1 to 2^k,
-/// in this order. They are all 0 exactly where the word, of more than k and at most [`crate::LONGEST_WORD`] codewords, is a
-/// codeword of k checks.
+/// Gives the syndromes of a word of a block with k check codewords, k of at most [`MOST_CHECKS`]: its values at 2^1 to
+/// 2^k, in this order. They are all 0 exactly where the word, of more than k and at most [`crate::LONGEST_WORD`]
+/// codewords, is a codeword of k checks.
 pub fn syndromes(word: &[u8], k: usize) -> ArrayVec<u8, MOST_CHECKS>
     requires { k ≤ MOST_CHECKS }
     ensures values { result.items ≡ syndromes_of word.now k }
@@ -28,8 +28,8 @@ pub fn syndromes(word: &[u8], k: usize) -> ArrayVec<u8, MOST_CHECKS>
     values
 }
 
-/// Gives the first syndromes of a word, 16 for each group: the values at the 16 roots of a group are computed at once. The most
-/// check codewords, 68, have 4 whole groups.
+/// Gives the first syndromes of a word, 16 for each group: the values at the 16 roots of a group are computed at once.
+/// The most check codewords, 68, have 4 whole groups.
 fn syndromes_in_groups(word: &[u8], groups: usize) -> ArrayVec<u8, MOST_CHECKS>
     requires { groups ≤ 4 }
     ensures { result.items ≡ syndromes_of word.now (16 * groups) }
@@ -42,8 +42,9 @@ fn syndromes_in_groups(word: &[u8], groups: usize) -> ArrayVec<u8, MOST_CHECKS>
     values
 }
 
-/// Gives the values of a word at the 16 roots from 2 to the power `first` on, by Horner's rule with 32 codewords at a time, after
-/// its first codewords, as many as parts of 32 leave. `first` is at most 65, where a fifth group would begin.
+/// Gives the values of a word at the 16 roots from 2 to the power `first` on, by Horner's rule with 32 codewords at a
+/// time, after its first codewords, as many as parts of 32 leave. `first` is at most 65, where a fifth group would
+/// begin.
 fn values_from_root(word: &[u8], first: usize) -> Simd<u8, 16>
     requires { first ≤ 65 }
     ensures { result ≡ map (value word.now) (values_from power first 16) }
@@ -59,7 +60,8 @@ fn values_from_root(word: &[u8], first: usize) -> Simd<u8, 16>
     values
 }
 
-/// Puts the first codewords of a word, as many as are left by sixteens, into the last lanes; 0 stands in those before them.
+/// Puts the first codewords of a word, as many as are left by sixteens, into the last lanes; 0 stands in those before
+/// them.
 fn prefix_in_lanes(word: &[u8]) -> Simd<u8, 16>
     ensures { (x : ℕ) → value result x ≡ value (take (length word.now % 16) word.now) x }
 {
@@ -69,8 +71,8 @@ fn prefix_in_lanes(word: &[u8]) -> Simd<u8, 16>
     u8x16::from_array(lanes)
 }
 
-/// Gives the value of a word at 2 to the power `exponent`, by Horner's rule with 16 codewords at a time: the lanes are the
-/// coefficients of a polynomial with that value, at first those of [`prefix_in_lanes`].
+/// Gives the value of a word at 2 to the power `exponent`, by Horner's rule with 16 codewords at a time: the lanes are
+/// the coefficients of a polynomial with that value, at first those of [`prefix_in_lanes`].
 fn value_by_sixteens(prefix: Simd<u8, 16>, word: &[u8], exponent: u16) -> Gf
     requires small { exponent ≤ MOST_CHECKS }
     requires prefix { (x : ℕ)

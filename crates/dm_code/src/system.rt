@@ -68,8 +68,8 @@ fn pivot(rows: &[Row], unknown: usize) -> Option<usize>
     None
 }
 
-/// Gives the rows less multiples of the pivot row `p`, so that this unknown is left in none of them. `inverse` is the inverse
-/// of its coefficient in the pivot row.
+/// Gives the rows less multiples of the pivot row `p`, so that this unknown is left in none of them. `inverse` is the
+/// inverse of its coefficient in the pivot row.
 fn without(rows: &[Row], p: usize, inverse: Gf, unknown: usize) -> ArrayVec<Row, MOST_CHECKS>
     requires within { unknown < MOST_COEFFICIENTS }
     requires few { length rows.now ≤ MOST_CHECKS }

@@ -1,5 +1,6 @@
 -- Each line means something.
-use Rattle.std.proofs.Common.{◌≡◌, ◌⊎◌, ◌∙◌, ◌≤◌, ◌<◌, ◌+◌, ◌-◌, ◌*◌, ℕ, zero, suc, List, [], ◌∷◌, ◌++◌, Ok, Err, inl, inr, refl, sym, ap, subst, append_assoc, append-nil, length, length-append, arith}
+use Rattle.std.proofs.Common.{◌≡◌, ◌⊎◌, ◌∙◌, ◌≤◌, ◌<◌, ◌+◌, ◌-◌, ◌*◌, ℕ, zero, suc, List, [], ◌∷◌, ◌++◌, Ok, Err, inl}
+use Rattle.std.proofs.Common.{inr, refl, sym, ap, subst, append_assoc, append-nil, length, length-append, arith}
 use Rattle.std.specs.List.{AllByRecursion}
 use Rattle.std.proofs.lemmas.Bool.{cases_eq, cases_lt}
 use Rattle.std.proofs.lemmas.List.Elements.{All-from_recursion}
@@ -7,13 +8,15 @@ use Rattle.dm_symbol.specs.declared.Item.{Item}
 use Rattle.dm_symbol.specs.declared.Item.TheVariants.{Byte, Fnc1}
 use Rattle.dm_symbol.specs.Messages.{IsItem, IsMessage, most_items}
 use Rattle.dm_text.specs.declared.message_line.LineFault.TheVariants.{BadEscape, TooLong}
-use Rattle.dm_text.specs.Spellings.{IsHexDigit, figure, upper, lower, IsSpelling, plain, backslash, fnc1, byte, IsJoining}
+use Rattle.dm_text.specs.Spellings.{IsHexDigit, figure, upper, lower, IsSpelling, plain, backslash, fnc1, byte}
+use Rattle.dm_text.specs.Spellings.{IsJoining}
 use Rattle.dm_text.specs.MessageLines.{IsLine, column_after}
 use Rattle.dm_text.specs.LineFeeds.{LineMeaning}
 use Rattle.dm_text.specs.inner.OpenLines.{BeginsNoSpelling}
 use Rattle.dm_text.proofs.Joinings.{prefix_longest, spelling_some}
 use Rattle.dm_text.proofs.OpenLineSteps.{none_begun}
-use Rattle.dm_text.proofs.SpellingBytes.{backslash_none, digit_none, first_digit_none, foreign_none, hexadecimal_none, second_digit_none, stray_none}
+use Rattle.dm_text.proofs.SpellingBytes.{backslash_none, digit_none, first_digit_none, foreign_none, hexadecimal_none}
+use Rattle.dm_text.proofs.SpellingBytes.{second_digit_none, stray_none}
 
 -- ---- digits
 
@@ -27,18 +30,22 @@ no_digit d v f u l (lower low high e) = l (omega (arith, low, e)) (omega (arith,
 digit_or_none : (d : ℕ) → ((v : ℕ) × IsHexDigit d v) ⊎ ((v : ℕ) → IsHexDigit d v → ⊥)
 digit_or_none d =
     elim (cases_lt d 48) [
-      | inl a ↦ inr (λ v. no_digit d v (λ x y. omega (arith, a, x)) (λ x y. omega (arith, a, x)) (λ x y. omega (arith, a, x)))
+      | inl a ↦ inr (λ v. no_digit d v (λ x y. omega (arith, a, x)) (λ x y. omega (arith, a, x))
+          (λ x y. omega (arith, a, x)))
       | inr a ↦ elim (cases_lt d 58) [
         | inl b ↦ inl (d - 48, figure (omega (arith, a, b)) (omega (arith, a)))
         | inr b ↦ elim (cases_lt d 65) [
-          | inl c ↦ inr (λ v. no_digit d v (λ x y. omega (arith, b, y)) (λ x y. omega (arith, c, x)) (λ x y. omega (arith, c, x)))
+          | inl c ↦ inr (λ v. no_digit d v (λ x y. omega (arith, b, y)) (λ x y. omega (arith, c, x))
+              (λ x y. omega (arith, c, x)))
           | inr c ↦ elim (cases_lt d 71) [
             | inl e ↦ inl (d - 55, upper (omega (arith, c)) (omega (arith, c, e)) (omega (arith, c)))
             | inr e ↦ elim (cases_lt d 97) [
-              | inl f ↦ inr (λ v. no_digit d v (λ x y. omega (arith, b, y)) (λ x y. omega (arith, e, y)) (λ x y. omega (arith, f, x)))
+              | inl f ↦ inr (λ v. no_digit d v (λ x y. omega (arith, b, y)) (λ x y. omega (arith, e, y))
+                  (λ x y. omega (arith, f, x)))
               | inr f ↦ elim (cases_lt d 103) [
                 | inl g ↦ inl (d - 87, lower (omega (arith, f)) (omega (arith, f, g)) (omega (arith, f)))
-                | inr g ↦ inr (λ v. no_digit d v (λ x y. omega (arith, b, y)) (λ x y. omega (arith, e, y)) (λ x y. omega (arith, g, y)))
+                | inr g ↦ inr (λ v. no_digit d v (λ x y. omega (arith, b, y)) (λ x y. omega (arith, e, y))
+                    (λ x y. omega (arith, g, y)))
               ]
             ]
           ]
@@ -57,7 +64,8 @@ record BeginsSpelling (bytes : List ℕ) : Type 0 where
   pub spelling : IsSpelling piece item
 
 -- A spelling, or none, stands at the start of bytes that begin with a backslash, x and a digit.
-after_digit : (s u : ℕ) → IsHexDigit s u → (more : List ℕ) → BeginsSpelling (92 ∷ 120 ∷ s ∷ more) ⊎ BeginsNoSpelling (92 ∷ 120 ∷ s ∷ more)
+after_digit : (s u : ℕ) → IsHexDigit s u → (more : List ℕ) →
+    BeginsSpelling (92 ∷ 120 ∷ s ∷ more) ⊎ BeginsNoSpelling (92 ∷ 120 ∷ s ∷ more)
 after_digit s u h [] = inr (digit_none s)
 after_digit s u h (t ∷ more) =
     elim (digit_or_none t) [
@@ -85,11 +93,24 @@ after_backslash : (more : List ℕ) → BeginsSpelling (92 ∷ more) ⊎ BeginsN
 after_backslash [] = inr backslash_none
 after_backslash (b ∷ more) =
     elim (cases_eq b 92) [
-      | inl e ↦ inl (record { piece = 92 ∷ 92 ∷ []; more = more; item = Byte 92; whole = ap (λ x. 92 ∷ x ∷ more) e; spelling = backslash refl refl })
+      | inl e ↦ inl (record {
+        piece = 92 ∷ 92 ∷ [];
+        more = more;
+        item = Byte 92;
+        whole = ap (λ x. 92 ∷ x ∷ more) e;
+        spelling = backslash refl refl;
+      })
       | inr no_backslash ↦ elim (cases_eq b 70) [
-        | inl e ↦ inl (record { piece = 92 ∷ 70 ∷ []; more = more; item = Fnc1; whole = ap (λ x. 92 ∷ x ∷ more) e; spelling = fnc1 refl refl })
+        | inl e ↦ inl (record {
+          piece = 92 ∷ 70 ∷ [];
+          more = more;
+          item = Fnc1;
+          whole = ap (λ x. 92 ∷ x ∷ more) e;
+          spelling = fnc1 refl refl;
+        })
         | inr no_f ↦ elim (cases_eq b 120) [
-          | inl e ↦ subst (λ x. BeginsSpelling (92 ∷ x ∷ more) ⊎ BeginsNoSpelling (92 ∷ x ∷ more)) (sym e) (after_x more)
+          | inl e ↦ subst (λ x. BeginsSpelling (92 ∷ x ∷ more) ⊎ BeginsNoSpelling (92 ∷ x ∷ more)) (sym e)
+              (after_x more)
           | inr no_x ↦ inr (stray_none b more no_backslash no_f no_x)
         ]
       ]
@@ -105,7 +126,14 @@ spelling_or_none (b ∷ more) =
         | inl low ↦ inr (foreign_none b more (λ l h. omega (arith, low, l)) no_backslash)
         | inr least ↦ elim (cases_lt 126 b) [
           | inl high ↦ inr (foreign_none b more (λ l h. omega (arith, high, h)) no_backslash)
-          | inr most ↦ inl (record { piece = b ∷ []; more = more; item = Byte b; whole = refl; spelling = plain b least most no_backslash refl refl })
+          | inr most ↦ inl (record {
+            piece = b ∷ [];
+            more = more;
+            item = Byte b;
+            whole = refl;
+            spelling =
+                plain b least most no_backslash refl refl;
+          })
         ]
       ]
     ]
@@ -137,7 +165,14 @@ prefix_of (suc n) line h =
     elim (spelling_or_none line) [
       | inr none ↦ prefix_none line none
       | inl s ↦
-          let later = prefix_of n s.more (omega (arith, h, ap length s.whole, length-append s.piece s.more, spelling_some s.piece s.item s.spelling)) in
+          let later =
+          prefix_of n s.more (omega (
+            arith,
+            h,
+            ap length s.whole,
+            length-append s.piece s.more,
+            spelling_some s.piece s.item s.spelling,
+          )) in
           record {
             prefix = s.piece ++ later.prefix;
             rest = later.rest;
@@ -149,7 +184,8 @@ prefix_of (suc n) line h =
     ]
 
 -- A line means what its prefix of joined spellings and the bytes after it say.
-by_rest : (line prefix rest : List ℕ) (items : List Item) → line ≡ prefix ++ rest → IsJoining prefix items → BeginsNoSpelling rest
+by_rest : (line prefix rest : List ℕ) (items : List Item) → line ≡ prefix ++ rest → IsJoining prefix items →
+    BeginsNoSpelling rest
     → (answer : LineMeaning) × IsLine line answer
 by_rest line prefix [] items whole joining none =
     let all : IsJoining line items = subst (λ l. IsJoining l items) (sym (whole ∙ append-nil prefix)) joining in
@@ -165,10 +201,12 @@ by_rest line prefix (b ∷ rest) items whole joining none = (
     longest = record {
       whole = whole;
       joined = (items, joining);
-      longest = λ other after e j. prefix_longest items j.0 prefix (b ∷ rest) other after joining none (sym whole ∙ e) j.1;
+      longest =
+          λ other after e j. prefix_longest items j.0 prefix (b ∷ rest) other after joining none (sym whole ∙ e) j.1;
     };
     broken = λ j.
-        let less = prefix_longest items j.0 prefix (b ∷ rest) line [] joining none (sym whole ∙ sym (append-nil line)) j.1 in
+        let less =
+        prefix_longest items j.0 prefix (b ∷ rest) line [] joining none (sym whole ∙ sym (append-nil line)) j.1 in
         omega (arith, less, ap length whole, length-append prefix (b ∷ rest));
     column_is = refl;
   },
@@ -190,7 +228,8 @@ digit_small d v (lower low high e) = high
 
 -- What is spelled is a byte or FNC1.
 spelled_item : (piece : List ℕ) (item : Item) → IsSpelling piece item → IsItem item
-spelled_item piece item (plain b least most other p i) = subst IsItem (sym i) (let small : b < 256 = omega (arith, most) in small)
+spelled_item piece item (plain b least most other p i) =
+    subst IsItem (sym i) (let small : b < 256 = omega (arith, most) in small)
 spelled_item piece item (backslash p i) = subst IsItem (sym i) (let small : 92 < 256 = omega arith in small)
 spelled_item piece item (fnc1 p i) = subst IsItem (sym i) (let small : 0 < 256 = omega arith in small)
 spelled_item piece item (byte s t u v hs ht p i) =

@@ -15,7 +15,8 @@ pub record HasLines (text : List ℕ) : Type 0 where
   pub split : IsSplit text lines rest
 
 -- A split text with one byte before it that isn't LF is split too.
-byte_before : (b : ℕ) (text : List ℕ) → b ≢ lf → (lines : List (List ℕ)) (rest : List ℕ) → IsSplit text lines rest → HasLines (b ∷ text)
+byte_before : (b : ℕ) (text : List ℕ) → b ≢ lf → (lines : List (List ℕ)) (rest : List ℕ) → IsSplit text lines rest →
+    HasLines (b ∷ text)
 byte_before b text other [] rest s = record {
   lines = [];
   rest = b ∷ rest;
@@ -24,7 +25,13 @@ byte_before b text other [] rest s = record {
 byte_before b text other (line ∷ lines) rest s = record {
   lines = (b ∷ line) ∷ lines;
   rest = rest;
-  split = record { whole = ap (λ l. b ∷ l) s.whole; lines_no_lf = ((other, s.lines_no_lf.0), s.lines_no_lf.1); rest_no_lf = s.rest_no_lf };
+  split =
+      record {
+        whole = ap (λ l. b ∷ l) s.whole;
+        lines_no_lf = ((other, s.lines_no_lf.0), s.lines_no_lf.1);
+        rest_no_lf =
+            s.rest_no_lf;
+      };
 }
 
 -- Each text is split into lines and a rest.
@@ -36,7 +43,13 @@ text_is_split (b ∷ text) =
       | inl e ↦ record {
         lines = [] ∷ later.lines;
         rest = later.rest;
-        split = record { whole = ap (λ x. x ∷ text) e ∙ ap (λ l. lf ∷ l) later.split.whole; lines_no_lf = (tt, later.split.lines_no_lf); rest_no_lf = later.split.rest_no_lf };
+        split =
+            record {
+              whole = ap (λ x. x ∷ text) e ∙ ap (λ l. lf ∷ l) later.split.whole;
+              lines_no_lf =
+                  (tt, later.split.lines_no_lf);
+              rest_no_lf = later.split.rest_no_lf;
+            };
       }
       | inr other ↦ byte_before b text other later.lines later.rest later.split
     ]
@@ -44,16 +57,22 @@ text_is_split (b ∷ text) =
 -- ---- records
 
 -- Lines with a full line before them have their records, if the lines alone have.
-line_before : (line : List ℕ) (lines : List (List ℕ)) (records : List (List (List ℕ))) → line ≢ [] → HasNoLf line → AreRecords lines records
+line_before : (line : List ℕ) (lines : List (List ℕ)) (records : List (List (List ℕ))) → line ≢ [] → HasNoLf line →
+    AreRecords lines records
     → (more : List (List (List ℕ))) × AreRecords (line ∷ lines) more
-line_before line _ _ some free no_line = ((line ∷ []) ∷ [], longest_stretch (line ∷ []) [] [] (λ e. cc) ((some, free), tt) tt no_line)
-line_before line _ _ some free (empty_line lines records h) =
-    ((line ∷ []) ∷ records, longest_stretch (line ∷ []) ([] ∷ lines) records (λ e. cc) ((some, free), tt) tt (empty_line lines records h))
+line_before line _ _ some free no_line =
+    ((line ∷ []) ∷ [], longest_stretch (line ∷ []) [] [] (λ e. cc) ((some, free), tt) tt no_line)
+line_before line _ _ some free (empty_line lines records h) = (
+  (line ∷ []) ∷ records,
+  longest_stretch (line ∷ []) ([] ∷ lines) records (λ e. cc) ((some, free), tt) tt
+      (empty_line lines records h),
+)
 line_before line _ _ some free (longest_stretch these lines records n full blank h) =
     ((line ∷ these) ∷ records, longest_stretch (line ∷ these) lines records (λ e. cc) ((some, free), full) blank h)
 
 -- Lines without LF have their records.
-pub records_are_there : (lines : List (List ℕ)) → AllByRecursion HasNoLf lines → (records : List (List (List ℕ))) × AreRecords lines records
+pub records_are_there : (lines : List (List ℕ)) → AllByRecursion HasNoLf lines →
+    (records : List (List (List ℕ))) × AreRecords lines records
 records_are_there [] free = ([], no_line)
 records_are_there ([] ∷ lines) free =
     let later = records_are_there lines free.1 in
@@ -71,7 +90,8 @@ pub record HasLastBlank (lines : List (List ℕ)) : Type 0 where
   pub is : IsLastBlank lines before after
 
 -- Lines that are cut after the last empty one can be cut so, too, with one line before them.
-blank_or_full : (line : List ℕ) (lines before after : List (List ℕ)) → IsLastBlank lines before after → HasLastBlank (line ∷ lines)
+blank_or_full : (line : List ℕ) (lines before after : List (List ℕ)) → IsLastBlank lines before after →
+    HasLastBlank (line ∷ lines)
 blank_or_full [] lines [] after h = record {
   before = [] ∷ [];
   after = after;
@@ -88,7 +108,8 @@ blank_or_full line lines (x ∷ before) after h = record {
   is = record { whole = ap (λ l. line ∷ l) h.whole; full = h.full; blank = inr (later h.blank) };
 }
   where
-    later : ((x ∷ before) ≡ []) ⊎ ((prefix : List (List ℕ)) × (x ∷ before ≡ prefix ++ [] ∷ [])) → (prefix : List (List ℕ)) × (line ∷ x ∷ before ≡ prefix ++ [] ∷ [])
+    later : ((x ∷ before) ≡ []) ⊎ ((prefix : List (List ℕ)) × (x ∷ before ≡ prefix ++ [] ∷ [])) →
+        (prefix : List (List ℕ)) × (line ∷ x ∷ before ≡ prefix ++ [] ∷ [])
     later (inl e) = cc
     later (inr some) = (line ∷ some.0, ap (λ l. line ∷ l) some.1)
 

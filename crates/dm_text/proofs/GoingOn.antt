@@ -9,7 +9,8 @@ use Rattle.dm_text.specs.Records.{record_of}
 use Rattle.dm_text.specs.RecordFacts.{RecordFacts, facts_of_record}
 use Rattle.dm_text.specs.RecordFeeds.{AreRecordsOfText}
 use Rattle.dm_text.specs.Answers.{Answer, IsRecordAnswer}
-use Rattle.dm_text.specs.Runs.{AreAnswersTo, AreClosedAnswers, AreClosedLines, AreMatched, IsAnswerToLine, IsAnswerToRecord}
+use Rattle.dm_text.specs.Runs.{AreAnswersTo, AreClosedAnswers, AreClosedLines, AreMatched, IsAnswerToLine}
+use Rattle.dm_text.specs.Runs.{IsAnswerToRecord}
 use Rattle.dm_text.specs.inner.AnsweredSoFar.{IsAnsweredSoFar}
 use Rattle.dm_text.proofs.EachAnswer.{line_is_answered, record_is_answered}
 use Rattle.dm_text.proofs.EachSplit.{last_blank_is_there, records_are_there, text_is_split}
@@ -47,14 +48,23 @@ has_records text =
         left = record {
           lines = b.after;
           rest = t.rest;
-          open_record = record { blank = []; are_lfs = tt; whole = refl; full = full_of b.after b.is.full (all_back HasNoLf b.before b.after free); rest_no_lf = t.split.rest_no_lf };
+          open_record =
+              record {
+                blank = [];
+                are_lfs = tt;
+                whole = refl;
+                full =
+                    full_of b.after b.is.full (all_back HasNoLf b.before b.after free);
+                rest_no_lf = t.split.rest_no_lf;
+              };
           facts_are = refl;
         };
       };
     }
 
 -- Answers that match records match their grids or faults.
-matched_grids : (task : Task) (records : List (List (List ℕ))) (answers : List Answer) → AreMatched (IsAnswerToRecord task) records answers
+matched_grids : (task : Task) (records : List (List (List ℕ))) (answers : List Answer) →
+    AreMatched (IsAnswerToRecord task) records answers
     → AreMatched (IsRecordAnswer task) (map record_of records) answers
 matched_grids task [] [] h = tt
 matched_grids task [] (y ∷ answers) h = absurd h
@@ -62,19 +72,23 @@ matched_grids task (x ∷ records) [] h = absurd h
 matched_grids task (x ∷ records) (y ∷ answers) h = (h.0, matched_grids task records answers h.1)
 
 -- Whatever comes after a text, the answers so far are the first of those to what is then closed.
-pub goes_on : (task : Task) (state : Answering) (text piece : List ℕ) (answers : List Answer) → IsAnsweredSoFar task state text answers
+pub goes_on : (task : Task) (state : Answering) (text piece : List ℕ) (answers : List Answer) →
+    IsAnsweredSoFar task state text answers
     → (more : List Answer) × AreClosedAnswers task (text ++ piece) (answers ++ more)
 goes_on task (Records asked facts) text piece answers s =
     let t = s.2 in
     let later = has_records ((ended_lines t.after ++ t.rest) ++ piece) in
-    let matched = matched_there (IsAnswerToRecord task) (record_is_answered task (answers_records asked task s.0)) later.records in
+    let matched =
+    matched_there (IsAnswerToRecord task) (record_is_answered task (answers_records asked task s.0))
+    later.records in
     let all = records_after text piece s.1 (map record_of later.records) facts later.new t later.are in (
       matched.0,
       so_far_closed task (Records asked later.new) (text ++ piece) (answers ++ matched.0) (
         s.0,
         s.1 ++ map record_of later.records,
         all,
-        matched_append (IsRecordAnswer task) s.1 (map record_of later.records) answers matched.0 s.3 (matched_grids task later.records matched.0 matched.1),
+        matched_append (IsRecordAnswer task) s.1 (map record_of later.records) answers matched.0 s.3
+            (matched_grids task later.records matched.0 matched.1),
       ),
     )
 goes_on task (Lines profile facts) text piece answers s =
@@ -82,15 +96,19 @@ goes_on task (Lines profile facts) text piece answers s =
     let later = text_is_split (t.rest ++ piece) in
     let matched = matched_there (IsAnswerToLine profile) (line_is_answered profile) later.lines in
     let lines = t.lines ++ later.lines in
-    let text_is : ended_lines t.lines ++ (t.rest ++ piece) ≡ text ++ piece = sym (append_assoc (ended_lines t.lines) t.rest piece) ∙ ap (λ l. l ++ piece) (sym t.split.whole) in (
+    let text_is : ended_lines t.lines ++ (t.rest ++ piece) ≡ text ++ piece =
+    sym (append_assoc (ended_lines t.lines) t.rest piece) ∙ ap (λ l. l ++ piece) (sym t.split.whole) in (
       matched.0,
       record {
         lines = lines;
         rest = later.rest;
-        split = subst (λ l. IsSplit l lines later.rest) text_is (split_lines t.lines later.lines (t.rest ++ piece) later.rest t.split.lines_no_lf later.split);
+        split =
+            subst (λ l. IsSplit l lines later.rest) text_is
+            (split_lines t.lines later.lines (t.rest ++ piece) later.rest t.split.lines_no_lf later.split);
         closed = lines;
         are_closed = subst (λ w. AreClosedLines w lines lines) (sym s.0) refl;
         answered = subst (λ w. AreAnswersTo w lines (answers ++ matched.0)) (sym s.0)
-            (matched_append (IsAnswerToLine profile) t.lines later.lines answers matched.0 (matched_lines profile t.lines s.1 answers t.each s.3) matched.1);
+            (matched_append (IsAnswerToLine profile) t.lines later.lines answers matched.0
+            (matched_lines profile t.lines s.1 answers t.each s.3) matched.1);
       },
     )

@@ -1,5 +1,6 @@
 -- How a text is cut into pieces changes nothing for its lines.
-use Rattle.std.proofs.Common.{◌≡◌, ◌∙◌, ◌+◌, ℕ, List, [], ◌∷◌, ◌++◌, refl, sym, ap, subst, append_assoc, append-nil, length, length-append, drop, arith, min}
+use Rattle.std.proofs.Common.{◌≡◌, ◌∙◌, ◌+◌, ℕ, List, [], ◌∷◌, ◌++◌, refl, sym, ap, subst, append_assoc, append-nil}
+use Rattle.std.proofs.Common.{length, length-append, drop, arith, min}
 use Rattle.std.specs.List.{concat}
 use Rattle.std.proofs.lemmas.List.{drop_at}
 use Rattle.dm_symbol.specs.declared.Item.{Item}
@@ -13,14 +14,16 @@ use Rattle.dm_text.proofs.Joinings.{joining_append, joining_one, joining_unique}
 use Rattle.dm_text.proofs.OpenLineSteps.{line_unique}
 
 -- What is left of a piece after its first line is what comes after the LF.
-pub rest_of : (piece before after : List ℕ) (taken : ℕ) → piece ≡ before ++ lf ∷ after → taken ≡ length before + 1 → drop taken piece ≡ after
+pub rest_of : (piece before after : List ℕ) (taken : ℕ) → piece ≡ before ++ lf ∷ after → taken ≡ length before + 1 →
+    drop taken piece ≡ after
 rest_of piece before after taken e n =
     let cut : piece ≡ (before ++ lf ∷ []) ++ after = e ∙ sym (append_assoc before (lf ∷ []) after) in
     let long : length (before ++ lf ∷ []) ≡ taken = length-append before (lf ∷ []) ∙ sym n in
     ap (drop taken) cut ∙ drop_at (before ++ lf ∷ []) after taken long
 
 -- Pieces that are fed while a line stands open close and leave open what that line does with their bytes after it.
-pub fed_after : (u : List ℕ) (old new : LineFacts) (pieces : List (List ℕ)) (meanings : List LineMeaning) → AreLinesFed old pieces meanings new
+pub fed_after : (u : List ℕ) (old new : LineFacts) (pieces : List (List ℕ)) (meanings : List LineMeaning) →
+    AreLinesFed old pieces meanings new
     → AreLineFacts u old → HasNoLf u → AreOfText (u ++ concat pieces) meanings new
 fed_after u old new pieces meanings (no_piece facts) known h = record {
   lines = [];
@@ -34,21 +37,25 @@ fed_after u old new pieces meanings (leaves_open _ mid _ piece taken more _ now 
     (fed_after (u ++ piece) mid new more meanings later (now.grown u known) (no_lf_append u piece h now.no_lf))
 fed_after u old new pieces meanings (closes _ mid _ piece taken meaning more others now later) known h =
     let rest = fed_after [] mid new (drop taken piece ∷ more) others later now.empty tt in
-    let left : concat (drop taken piece ∷ more) ≡ now.after ++ concat more = ap (λ l. l ++ concat more) (rest_of piece now.before now.after taken now.piece_is now.taken_is) in
+    let left : concat (drop taken piece ∷ more) ≡ now.after ++ concat more =
+    ap (λ l. l ++ concat more) (rest_of piece now.before now.after taken now.piece_is now.taken_is) in
     let text : (u ++ now.before) ++ lf ∷ (concat (drop taken piece ∷ more)) ≡ u ++ (piece ++ concat more) =
     ap (λ l. (u ++ now.before) ++ lf ∷ l) left ∙ append_assoc u now.before (lf ∷ (now.after ++ concat more))
-    ∙ ap (λ l. u ++ l) (sym (append_assoc now.before (lf ∷ now.after) (concat more)) ∙ ap (λ l. l ++ concat more) (sym now.piece_is)) in
+    ∙ ap (λ l. u ++ l) (sym (append_assoc now.before (lf ∷ now.after) (concat more))
+    ∙ ap (λ l. l ++ concat more) (sym now.piece_is)) in
     record {
       lines = (u ++ now.before) ∷ rest.lines;
       rest = rest.rest;
       split = subst (λ l. IsSplit l ((u ++ now.before) ∷ rest.lines) rest.rest) text
-          (split_more (u ++ now.before) (concat (drop taken piece ∷ more)) rest.lines rest.rest (no_lf_append u now.before h now.no_lf) rest.split);
+          (split_more (u ++ now.before) (concat (drop taken piece ∷ more)) rest.lines rest.rest
+          (no_lf_append u now.before h now.no_lf) rest.split);
       each = (now.means u known, rest.each);
       left = rest.left;
     }
 
 -- Pieces close, and leave open, what their joined text does.
-pub fed_is_text : (pieces : List (List ℕ)) (meanings : List LineMeaning) (old new : LineFacts) → AreLineFacts [] old → AreLinesFed old pieces meanings new
+pub fed_is_text : (pieces : List (List ℕ)) (meanings : List LineMeaning) (old new : LineFacts) → AreLineFacts [] old →
+    AreLinesFed old pieces meanings new
     → AreOfText (concat pieces) meanings new
 fed_is_text pieces meanings old new known fed = fed_after [] old new pieces meanings fed known tt
 
@@ -70,7 +77,8 @@ same_prefix (x ∷ f) (y ∷ g) r s n e =
     let t = same_prefix f g r s less tail in (ap (λ k. k ∷ f) head ∙ ap (λ l. y ∷ l) t.0, t.1)
 
 -- A good line becomes joined spellings by bytes that complete its pending ones.
-joined_on : (line prefix pending more : List ℕ) (items : List Item) (item : Item) → line ≡ prefix ++ pending → IsJoining prefix items → IsSpelling (pending ++ more) item
+joined_on : (line prefix pending more : List ℕ) (items : List Item) (item : Item) → line ≡ prefix ++ pending →
+    IsJoining prefix items → IsSpelling (pending ++ more) item
     → IsJoined (line ++ more)
 joined_on line prefix pending more items item e j s = (
   items ++ item ∷ [],
@@ -81,7 +89,8 @@ joined_on line prefix pending more items item e j s = (
 -- A line has only one set of facts.
 pub facts_unique : (line : List ℕ) (a b : LineFacts) → AreLineFacts line a → AreLineFacts line b → a ≡ b
 facts_unique line (Faulty m) (Faulty n) p q =
-    ap Faulty (p.column_is ∙ ap (λ k. min (k + 1) most_bytes) (prefix_length line p.prefix q.prefix p.rest q.rest p.longest q.longest) ∙ sym q.column_is)
+    ap Faulty (p.column_is ∙ ap (λ k. min (k + 1) most_bytes)
+    (prefix_length line p.prefix q.prefix p.rest q.rest p.longest q.longest) ∙ sym q.column_is)
 facts_unique line (Faulty m) (Good n items pending) p q =
     let can = q.can_become in
     absurd (p.broken can.0 (joined_on line q.prefix pending can.0 q.items can.1 q.longest.whole q.joining can.2))
@@ -89,7 +98,10 @@ facts_unique line (Good n items pending) (Faulty m) p q =
     let can = p.can_become in
     absurd (q.broken can.0 (joined_on line p.prefix pending can.0 p.items can.1 p.longest.whole p.joining can.2))
 facts_unique line (Good n items pending) (Good n' items' pending') p q =
-    let same = same_prefix p.prefix q.prefix pending pending' (prefix_length line p.prefix q.prefix pending pending' p.longest q.longest) (sym p.longest.whole ∙ q.longest.whole) in
+    let same =
+    same_prefix p.prefix q.prefix pending pending'
+    (prefix_length line p.prefix q.prefix pending pending' p.longest q.longest) (sym p.longest.whole
+    ∙ q.longest.whole) in
     let list = joining_unique p.items q.items q.prefix (subst (λ l. IsJoining l p.items) same.0 p.joining) q.joining in
     let count : n ≡ n' = p.count_is ∙ ap (λ l. min (length l) most_bytes) same.0 ∙ sym q.count_is in
     let known : items ≡ items' = p.known_is ∙ ap kept list ∙ sym q.known_is in
@@ -107,7 +119,8 @@ meanings_unique (l ∷ lines) (x ∷ a) (y ∷ b) p q =
     let tail : a ≡ b = meanings_unique lines a b p.1 q.1 in cc
 
 -- A text has only one list of meanings, and leaves open only one thing.
-pub of_text_unique : (text : List ℕ) (a b : List LineMeaning) (f g : LineFacts) → AreOfText text a f → AreOfText text b g → (a ≡ b) × (f ≡ g)
+pub of_text_unique : (text : List ℕ) (a b : List LineMeaning) (f g : LineFacts) → AreOfText text a f →
+    AreOfText text b g → (a ≡ b) × (f ≡ g)
 of_text_unique text a b f g p q =
     let same = split_unique p.lines q.lines text p.rest q.rest p.split q.split in (
       meanings_unique q.lines a b (subst (λ l. AreMeanings l a) same.0 p.each) q.each,
@@ -115,8 +128,11 @@ of_text_unique text a b f g p q =
     )
 
 -- How a text is cut into pieces changes neither the meanings nor what is left open.
-pub cuts_change_nothing : (pieces others : List (List ℕ)) (meanings theirs : List LineMeaning) (old new end : LineFacts) → AreLineFacts [] old
-    → concat pieces ≡ concat others → AreLinesFed old pieces meanings new → AreLinesFed old others theirs end → (meanings ≡ theirs) × (new ≡ end)
+pub cuts_change_nothing : (pieces others : List (List ℕ)) (meanings theirs : List LineMeaning)
+    (old new end : LineFacts) → AreLineFacts [] old
+    → concat pieces ≡ concat others → AreLinesFed old pieces meanings new → AreLinesFed old others theirs end →
+    (meanings ≡ theirs) × (new ≡ end)
 cuts_change_nothing pieces others meanings theirs old new end known same p q =
     of_text_unique (concat others) meanings theirs new end
-    (subst (λ l. AreOfText l meanings new) same (fed_is_text pieces meanings old new known p)) (fed_is_text others theirs old end known q)
+    (subst (λ l. AreOfText l meanings new) same (fed_is_text pieces meanings old new known p))
+    (fed_is_text others theirs old end known q)

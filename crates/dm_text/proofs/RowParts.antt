@@ -1,5 +1,7 @@
 -- Cells that are looked at together.
-use Rattle.std.proofs.Common.{◌≡◌, ◌∙◌, ◌+◌, ◌-◌, ◌*◌, ◌%◌, ◌^◌, ◌<◌, ◌≤◌, ℕ, suc, Bool, true, false, not, List, [], ◌∷◌, ◌++◌, refl, sym, ap, subst, length, length-append, map, get_or, take, drop, bit_and, bit_or, ◌≢◌, arith, w8, Fits}
+use Rattle.std.proofs.Common.{◌≡◌, ◌∙◌, ◌+◌, ◌-◌, ◌*◌, ◌%◌, ◌^◌, ◌<◌, ◌≤◌, ℕ, suc, Bool, true, false, not, List, []}
+use Rattle.std.proofs.Common.{◌∷◌, ◌++◌, refl, sym, ap, subst, length, length-append, map, get_or, take, drop, bit_and}
+use Rattle.std.proofs.Common.{bit_or, ◌≢◌, arith, w8, Fits}
 use Rattle.std.specs.Prelude.{◌==◌, ◌||◌}
 use Rattle.std.specs.List.{list_all, list_any, prefix_len, range_with_len}
 use Rattle.std.specs.Simd.Lanes.{mask_l, chunk, Each1}
@@ -33,10 +35,12 @@ prefix_number n line le =
     let parts : number_of line ≡ number_of (drop n line) * 2 ^ n + number_of (take n line) =
     ap number_of (sym (take-append-drop n line)) ∙ number_more (take n line) (drop n line)
     ∙ ap (λ (k : ℕ). number_of (drop n line) * 2 ^ k + number_of (take n line)) long in
-    ap (λ (k : ℕ). k % 2 ^ n) parts ∙ mod-mul-add (number_of (drop n line)) (2 ^ n) (number_of (take n line)) (subst (λ (k : ℕ). number_of (take n line) < 2 ^ k) long (number_small (take n line)))
+    ap (λ (k : ℕ). k % 2 ^ n) parts ∙ mod-mul-add (number_of (drop n line)) (2 ^ n) (number_of (take n line))
+    (subst (λ (k : ℕ). number_of (take n line) < 2 ^ k) long (number_small (take n line)))
 
 -- A mask of the lowest n bits leaves, of the number of a line, the number of its first n characters.
-pub masked_prefix : (n : ℕ) (line : List ℕ) → n ≤ length line → bit_and (number_of line) (2 ^ n - 1) ≡ number_of (take n line)
+pub masked_prefix : (n : ℕ) (line : List ℕ) → n ≤ length line →
+    bit_and (number_of line) (2 ^ n - 1) ≡ number_of (take n line)
 masked_prefix n line le = and_mask (number_of line) n ∙ prefix_number n line le
 
 -- A character is near if it differs from 1 in the lowest bit at most.
@@ -59,7 +63,8 @@ holds_at p n all b l = by_test (p b) refl
     by_test true e = e
     by_test false e =
         let here : get_or (range_with_len 0 n) b 0 ≡ b = get_or-range_with_len 0 n b 0 l ∙ zero-add b in
-        let none : list_all p (range_with_len 0 n) ≡ false = list_all_at p (range_with_len 0 n) b 0 (omega (arith, length-range_with_len 0 n)) (ap p here ∙ e) in
+        let none : list_all p (range_with_len 0 n) ≡ false =
+        list_all_at p (range_with_len 0 n) b 0 (omega (arith, length-range_with_len 0 n)) (ap p here ∙ e) in
         let never : false ≡ true = sym none ∙ all in cc
 
 -- A near character that passes the test isn't foreign.
@@ -82,7 +87,8 @@ prefix_cells (b ∷ xs) fits = by_test (is_near b) refl (prefix_cells xs fits.1)
     by_test true e rest =
         let more : prefix_len is_near (b ∷ xs) ≡ suc (prefix_len is_near xs) = rw e (omega arith) in
         ap (λ (n : ℕ). list_any is_foreign (take n (b ∷ xs))) more ∙ rw (near_cell b fits.0.fits e) rest
-    by_test false e rest = let none : prefix_len is_near (b ∷ xs) ≡ 0 = rw e refl in ap (λ (n : ℕ). list_any is_foreign (take n (b ∷ xs))) none
+    by_test false e rest = let none : prefix_len is_near (b ∷ xs) ≡ 0 = rw e refl in
+        ap (λ (n : ℕ). list_any is_foreign (take n (b ∷ xs))) none
 
 -- Cells are no LF.
 pub cells_no_lf : (more : List ℕ) → list_any is_foreign more ≡ false → HasNoLf more
@@ -95,7 +101,8 @@ cells_no_lf (b ∷ more) e =
 
 -- The near characters at the start of a block are at most 32.
 pub prefix_short : (text : List ℕ) (n : ℕ) → 32 ≤ length text → n ≡ prefix_len is_near (chunk 0 32 text) → n ≤ 32
-prefix_short text n long e = omega (arith, e, prefix_len-le-length is_near (chunk 0 32 text), length-chunk 0 32 text long)
+prefix_short text n long e =
+    omega (arith, e, prefix_len-le-length is_near (chunk 0 32 text), length-chunk 0 32 text long)
 
 -- A power of 2 with an exponent of at most 32 fits in 64 bits.
 pub mask_within : (n : ℕ) → n ≤ 32 → 1 * 2 ^ n % 2 ^ 64 ≡ 2 ^ n
@@ -106,7 +113,8 @@ pub mask_is : (n : ℕ) → n ≤ 32 → 1 ≤ 1 * 2 ^ n % 2 ^ 64
 mask_is n le = rw (mask_within n le) (pow_pos n)
 
 -- The bits and the count that are taken are those of the cells at the start of the text.
-pub prefix_is : (text : List ℕ) (n bits prefix : ℕ) → 32 ≤ length text → n ≡ prefix_len is_near (chunk 0 32 text) → bits ≡ mask_l (map is_dark (chunk 0 32 text))
+pub prefix_is : (text : List ℕ) (n bits prefix : ℕ) → 32 ≤ length text → n ≡ prefix_len is_near (chunk 0 32 text) →
+    bits ≡ mask_l (map is_dark (chunk 0 32 text))
     → prefix ≡ bit_and bits (1 * 2 ^ n % 2 ^ 64 - 1) → n ≢ 0 → ((i : ℕ) → Fits w8 (get_or text i 0))
     → AreFirstCells text (let f : RowPart = record { bits = prefix; count = n } in f)
 prefix_is text n bits prefix long count is masked some bytes =
@@ -117,12 +125,17 @@ prefix_is text n bits prefix long count is masked some bytes =
     record {
       within = omega arith;
       cells = record {
-        bits_are = masked ∙ ap (λ (k : ℕ). bit_and bits (k - 1)) (mask_within n short) ∙ ap (λ (k : ℕ). bit_and k (2 ^ n - 1)) (is ∙ sym (number_is_mask block))
+        bits_are =
+            masked ∙ ap (λ (k : ℕ). bit_and bits (k - 1)) (mask_within n short)
+            ∙ ap (λ (k : ℕ). bit_and k (2 ^ n - 1)) (is ∙ sym (number_is_mask block))
             ∙ masked_prefix n block (omega (arith, whole, short)) ∙ ap number_of these;
         count_is = sym (length-take-le n text (omega arith));
         some = omega (arith, some);
         few = omega (arith, short);
-        cells = ap (list_any is_foreign) (sym these) ∙ ap (λ (k : ℕ). list_any is_foreign (take k block)) count ∙ prefix_cells block (Each1-from_get_or (Fits w8) block 0 (λ i l. subst (Fits w8) (sym (get_or-chunk 0 32 text i 0 (omega (arith, l, whole)))) (bytes (0 + i))));
+        cells =
+            ap (list_any is_foreign) (sym these) ∙ ap (λ (k : ℕ). list_any is_foreign (take k block)) count
+            ∙ prefix_cells block (Each1-from_get_or (Fits w8) block 0
+            (λ i l. subst (Fits w8) (sym (get_or-chunk 0 32 text i 0 (omega (arith, l, whole)))) (bytes (0 + i))));
       };
     }
 
@@ -133,11 +146,13 @@ cells_some (b ∷ characters) f cells none = cc
 
 -- Cells, and others after them, joined, are those of the characters of both.
 pub join_cells : (xs ys : List ℕ) (f g : RowPart) → AreCells xs f → AreCells ys g → f.count + g.count ≤ 128
-    → AreCells (xs ++ ys) (let h : RowPart = record { bits = bit_or f.bits (g.bits * 2 ^ f.count % 2 ^ 128); count = f.count + g.count } in h)
+    → AreCells (xs ++ ys) (let h : RowPart =
+    record { bits = bit_or f.bits (g.bits * 2 ^ f.count % 2 ^ 128); count = f.count + g.count } in h)
 join_cells xs ys f g a b room =
     let count : f.count + g.count ≡ length (xs ++ ys) = omega (arith, a.count_is, b.count_is, length-append xs ys) in
     let long : length (xs ++ ys) ≤ 128 = omega (arith, room, count) in
-    let small : number_of ys * 2 ^ length xs < 2 ^ 128 = omega (arith, number_more xs ys, number_small (xs ++ ys), pow_mono long) in
+    let small : number_of ys * 2 ^ length xs < 2 ^ 128 =
+    omega (arith, number_more xs ys, number_small (xs ++ ys), pow_mono long) in
     record {
       bits_are = ap (λ (k : ℕ). bit_or k (g.bits * 2 ^ f.count % 2 ^ 128)) a.bits_are
           ∙ ap (λ (k : ℕ). bit_or (number_of xs) (k * 2 ^ f.count % 2 ^ 128)) b.bits_are
@@ -150,15 +165,23 @@ join_cells xs ys f g a b room =
     }
 
 -- The cells at the start of a text, joined with those at the start of the rest, are cells at the start of the text.
-pub prefix_longer : (text : List ℕ) (at : ℕ) (f g h : RowPart) → AreFirstCells text f → f.count ≡ at → AreFirstCells (take (length text - at) (drop at text)) g
-    → ((xs ys : List ℕ) → AreCells xs f → AreCells ys g → AreCells (xs ++ ys) h) → AreFirstCells text h × (h.count ≡ f.count + g.count)
+pub prefix_longer : (text : List ℕ) (at : ℕ) (f g h : RowPart) → AreFirstCells text f → f.count ≡ at →
+    AreFirstCells (take (length text - at) (drop at text)) g
+    → ((xs ys : List ℕ) → AreCells xs f → AreCells ys g → AreCells (xs ++ ys) h) →
+    AreFirstCells text h × (h.count ≡ f.count + g.count)
 prefix_longer text at f g h a e b both =
     let rest = take (length text - at) (drop at text) in
     let cells = both (take f.count text) (take g.count rest) a.cells b.cells in
     let whole : take f.count text ++ take g.count rest ≡ take (f.count + g.count) text =
-    ap (λ (k : List ℕ). take f.count text ++ take g.count k) (rest_is text at ∙ ap (λ (n : ℕ). drop n text) (sym e)) ∙ sym (take-add f.count g.count text) in
+    ap (λ (k : List ℕ). take f.count text ++ take g.count k) (rest_is text at ∙ ap (λ (n : ℕ). drop n text) (sym e))
+    ∙ sym (take-add f.count g.count text) in
     let within : f.count + g.count ≤ length text = omega (arith, a.within, b.within, rest_length text at, e) in
-    let count : h.count ≡ f.count + g.count = cells.count_is ∙ ap length whole ∙ length-take-le (f.count + g.count) text within in (
-      record { within = omega (arith, within, count); cells = subst (λ (k : List ℕ). AreCells k h) (whole ∙ ap (λ (n : ℕ). take n text) (sym count)) cells },
+    let count : h.count ≡ f.count + g.count =
+    cells.count_is ∙ ap length whole ∙ length-take-le (f.count + g.count) text within in (
+      record {
+        within = omega (arith, within, count);
+        cells =
+            subst (λ (k : List ℕ). AreCells k h) (whole ∙ ap (λ (n : ℕ). take n text) (sym count)) cells;
+      },
       count,
     )

@@ -12,7 +12,8 @@ data Begins (bytes : List ℕ) : Type 0 where
   with_plain : (c : ℕ) (rest : List ℕ) → 32 ≤ c → c ≤ 126 → c ≢ 92 → bytes ≡ c ∷ rest → Begins bytes
   with_backslash : (rest : List ℕ) → bytes ≡ 92 ∷ 92 ∷ rest → Begins bytes
   with_fnc1 : (rest : List ℕ) → bytes ≡ 92 ∷ 70 ∷ rest → Begins bytes
-  with_byte : (s t u v : ℕ) (rest : List ℕ) → IsHexDigit s u → IsHexDigit t v → bytes ≡ 92 ∷ 120 ∷ s ∷ t ∷ rest → Begins bytes
+  with_byte : (s t u v : ℕ) (rest : List ℕ) → IsHexDigit s u → IsHexDigit t v → bytes ≡ 92 ∷ 120 ∷ s ∷ t ∷ rest →
+      Begins bytes
 
 -- Bytes at whose start a spelling stands begin with one of the four kinds.
 begins : (bytes piece more : List ℕ) (item : Item) → bytes ≡ piece ++ more → IsSpelling piece item → Begins bytes
@@ -30,7 +31,8 @@ backslash_alone : Begins (92 ∷ []) → ⊥
 backslash_alone (with_plain c rest l h n e) = n (sym (heads 92 c [] rest e))
 backslash_alone (with_backslash rest e) = let s : 1 ≡ suc (suc (length rest)) = ap length e in omega arith
 backslash_alone (with_fnc1 rest e) = let s : 1 ≡ suc (suc (length rest)) = ap length e in omega arith
-backslash_alone (with_byte s t u v rest a b e) = let s : 1 ≡ suc (suc (suc (suc (length rest)))) = ap length e in omega arith
+backslash_alone (with_byte s t u v rest a b e) = let s : 1 ≡ suc (suc (suc (suc (length rest)))) = ap length e in
+    omega arith
 
 -- No spelling stands at the start of a backslash by itself.
 pub backslash_none : BeginsNoSpelling (92 ∷ [])
@@ -43,9 +45,12 @@ backslash_can = (92 ∷ [], Byte 92, backslash refl refl)
 -- A backslash and x by themselves begin with no spelling.
 hexadecimal_alone : Begins (92 ∷ 120 ∷ []) → ⊥
 hexadecimal_alone (with_plain c rest l h n e) = n (sym (heads 92 c (120 ∷ []) rest e))
-hexadecimal_alone (with_backslash rest e) = let s = heads 120 92 [] rest (tails 92 92 (120 ∷ []) (92 ∷ rest) e) in omega arith
-hexadecimal_alone (with_fnc1 rest e) = let s = heads 120 70 [] rest (tails 92 92 (120 ∷ []) (70 ∷ rest) e) in omega arith
-hexadecimal_alone (with_byte s t u v rest a b e) = let s : 2 ≡ suc (suc (suc (suc (length rest)))) = ap length e in omega arith
+hexadecimal_alone (with_backslash rest e) = let s = heads 120 92 [] rest (tails 92 92 (120 ∷ []) (92 ∷ rest) e) in
+    omega arith
+hexadecimal_alone (with_fnc1 rest e) = let s = heads 120 70 [] rest (tails 92 92 (120 ∷ []) (70 ∷ rest) e) in
+    omega arith
+hexadecimal_alone (with_byte s t u v rest a b e) = let s : 2 ≡ suc (suc (suc (suc (length rest)))) = ap length e in
+    omega arith
 
 -- No spelling stands at the start of a backslash and x by themselves.
 pub hexadecimal_none : BeginsNoSpelling (92 ∷ 120 ∷ [])
@@ -62,9 +67,12 @@ hexadecimal_can = (48 ∷ 48 ∷ [], Byte 0, byte 48 48 0 0 zero_digit zero_digi
 -- A backslash, x and a digit by themselves begin with no spelling.
 digit_alone : (d : ℕ) → Begins (92 ∷ 120 ∷ d ∷ []) → ⊥
 digit_alone d (with_plain c rest l h n e) = n (sym (heads 92 c (120 ∷ d ∷ []) rest e))
-digit_alone d (with_backslash rest e) = let s = heads 120 92 (d ∷ []) rest (tails 92 92 (120 ∷ d ∷ []) (92 ∷ rest) e) in omega arith
-digit_alone d (with_fnc1 rest e) = let s = heads 120 70 (d ∷ []) rest (tails 92 92 (120 ∷ d ∷ []) (70 ∷ rest) e) in omega arith
-digit_alone d (with_byte s t u v rest a b e) = let s : 3 ≡ suc (suc (suc (suc (length rest)))) = ap length e in omega arith
+digit_alone d (with_backslash rest e) = let s = heads 120 92 (d ∷ []) rest (tails 92 92 (120 ∷ d ∷ []) (92 ∷ rest) e) in
+    omega arith
+digit_alone d (with_fnc1 rest e) = let s = heads 120 70 (d ∷ []) rest (tails 92 92 (120 ∷ d ∷ []) (70 ∷ rest) e) in
+    omega arith
+digit_alone d (with_byte s t u v rest a b e) = let s : 3 ≡ suc (suc (suc (suc (length rest)))) = ap length e in
+    omega arith
 
 -- No spelling stands at the start of a backslash, x and a digit by themselves.
 pub digit_none : (d : ℕ) → BeginsNoSpelling (92 ∷ 120 ∷ d ∷ [])
@@ -76,7 +84,8 @@ digit_can d u h = (48 ∷ [], Byte (16 * u + 0), byte d 48 u 0 h zero_digit refl
 
 -- No spelling begins with a byte outside 32 to 126.
 foreign_first : (b : ℕ) (more : List ℕ) → (32 ≤ b → b ≤ 126 → ⊥) → b ≢ 92 → Begins (b ∷ more) → ⊥
-foreign_first b more out n (with_plain c rest l h _ e) = let s = heads b c more rest e in out (omega arith) (omega arith)
+foreign_first b more out n (with_plain c rest l h _ e) = let s = heads b c more rest e in
+    out (omega arith) (omega arith)
 foreign_first b more out n (with_backslash rest e) = n (heads b 92 more (92 ∷ rest) e)
 foreign_first b more out n (with_fnc1 rest e) = n (heads b 92 more (70 ∷ rest) e)
 foreign_first b more out n (with_byte s t u v rest _ _ e) = n (heads b 92 more (120 ∷ s ∷ t ∷ rest) e)
@@ -90,7 +99,8 @@ stray_second : (b : ℕ) (more : List ℕ) → b ≢ 92 → b ≢ 70 → b ≢ 1
 stray_second b more n m o (with_plain c rest l h k e) = k (sym (heads 92 c (b ∷ more) rest e))
 stray_second b more n m o (with_backslash rest e) = n (heads b 92 more rest (tails 92 92 (b ∷ more) (92 ∷ rest) e))
 stray_second b more n m o (with_fnc1 rest e) = m (heads b 70 more rest (tails 92 92 (b ∷ more) (70 ∷ rest) e))
-stray_second b more n m o (with_byte s t u v rest _ _ e) = o (heads b 120 more (s ∷ t ∷ rest) (tails 92 92 (b ∷ more) (120 ∷ s ∷ t ∷ rest) e))
+stray_second b more n m o (with_byte s t u v rest _ _ e) =
+    o (heads b 120 more (s ∷ t ∷ rest) (tails 92 92 (b ∷ more) (120 ∷ s ∷ t ∷ rest) e))
 
 -- No spelling stands at the start of a backslash and a byte other than the backslash, F and x.
 pub stray_none : (b : ℕ) (more : List ℕ) → b ≢ 92 → b ≢ 70 → b ≢ 120 → BeginsNoSpelling (92 ∷ b ∷ more)
@@ -99,10 +109,14 @@ stray_none b more n m o = none_if (92 ∷ b ∷ more) (stray_second b more n m o
 -- No spelling begins with a backslash, x and a byte that is no digit.
 no_first_digit : (b : ℕ) (more : List ℕ) → ((u : ℕ) → IsHexDigit b u → ⊥) → Begins (92 ∷ 120 ∷ b ∷ more) → ⊥
 no_first_digit b more never (with_plain c rest l h k e) = k (sym (heads 92 c (120 ∷ b ∷ more) rest e))
-no_first_digit b more never (with_backslash rest e) = let s = heads 120 92 (b ∷ more) rest (tails 92 92 (120 ∷ b ∷ more) (92 ∷ rest) e) in omega arith
-no_first_digit b more never (with_fnc1 rest e) = let s = heads 120 70 (b ∷ more) rest (tails 92 92 (120 ∷ b ∷ more) (70 ∷ rest) e) in omega arith
+no_first_digit b more never (with_backslash rest e) = let s =
+    heads 120 92 (b ∷ more) rest (tails 92 92 (120 ∷ b ∷ more) (92 ∷ rest) e) in omega arith
+no_first_digit b more never (with_fnc1 rest e) = let s =
+    heads 120 70 (b ∷ more) rest (tails 92 92 (120 ∷ b ∷ more) (70 ∷ rest) e) in omega arith
 no_first_digit b more never (with_byte s t u v rest hs ht e) =
-    let same : b ≡ s = heads b s more (t ∷ rest) (tails 120 120 (b ∷ more) (s ∷ t ∷ rest) (tails 92 92 (120 ∷ b ∷ more) (120 ∷ s ∷ t ∷ rest) e)) in
+    let same : b ≡ s =
+    heads b s more (t ∷ rest) (tails 120 120 (b ∷ more) (s ∷ t ∷ rest)
+    (tails 92 92 (120 ∷ b ∷ more) (120 ∷ s ∷ t ∷ rest) e)) in
     never u (rw same hs)
 
 -- No spelling stands at the start of a backslash, x and a byte that is no digit.
@@ -112,13 +126,17 @@ first_digit_none b more never = none_if (92 ∷ 120 ∷ b ∷ more) (no_first_di
 -- No spelling begins with a backslash, x, a byte and a byte that is no digit.
 no_second_digit : (d b : ℕ) (more : List ℕ) → ((u : ℕ) → IsHexDigit b u → ⊥) → Begins (92 ∷ 120 ∷ d ∷ b ∷ more) → ⊥
 no_second_digit d b more never (with_plain c rest l h k e) = k (sym (heads 92 c (120 ∷ d ∷ b ∷ more) rest e))
-no_second_digit d b more never (with_backslash rest e) = let s = heads 120 92 (d ∷ b ∷ more) rest (tails 92 92 (120 ∷ d ∷ b ∷ more) (92 ∷ rest) e) in omega arith
-no_second_digit d b more never (with_fnc1 rest e) = let s = heads 120 70 (d ∷ b ∷ more) rest (tails 92 92 (120 ∷ d ∷ b ∷ more) (70 ∷ rest) e) in omega arith
+no_second_digit d b more never (with_backslash rest e) = let s =
+    heads 120 92 (d ∷ b ∷ more) rest (tails 92 92 (120 ∷ d ∷ b ∷ more) (92 ∷ rest) e) in omega arith
+no_second_digit d b more never (with_fnc1 rest e) = let s =
+    heads 120 70 (d ∷ b ∷ more) rest (tails 92 92 (120 ∷ d ∷ b ∷ more) (70 ∷ rest) e) in omega arith
 no_second_digit d b more never (with_byte s t u v rest hs ht e) =
-    let digits : d ∷ b ∷ more ≡ s ∷ t ∷ rest = tails 120 120 (d ∷ b ∷ more) (s ∷ t ∷ rest) (tails 92 92 (120 ∷ d ∷ b ∷ more) (120 ∷ s ∷ t ∷ rest) e) in
+    let digits : d ∷ b ∷ more ≡ s ∷ t ∷ rest =
+    tails 120 120 (d ∷ b ∷ more) (s ∷ t ∷ rest) (tails 92 92 (120 ∷ d ∷ b ∷ more) (120 ∷ s ∷ t ∷ rest) e) in
     let same : b ≡ t = heads b t more rest (tails d s (b ∷ more) (t ∷ rest) digits) in
     never v (rw same ht)
 
 -- No spelling stands at the start of a backslash, x, a byte and a byte that is no digit.
-pub second_digit_none : (d b : ℕ) (more : List ℕ) → ((u : ℕ) → IsHexDigit b u → ⊥) → BeginsNoSpelling (92 ∷ 120 ∷ d ∷ b ∷ more)
+pub second_digit_none : (d b : ℕ) (more : List ℕ) → ((u : ℕ) → IsHexDigit b u → ⊥) →
+    BeginsNoSpelling (92 ∷ 120 ∷ d ∷ b ∷ more)
 second_digit_none d b more never = none_if (92 ∷ 120 ∷ d ∷ b ∷ more) (no_second_digit d b more never)

@@ -1,5 +1,6 @@
 -- Texts that are split at LF.
-use Rattle.std.proofs.Common.{◌≡◌, ◌∙◌, ◌+◌, ◌<◌, ℕ, List, [], ◌∷◌, ◌++◌, refl, sym, ap, subst, append_assoc, length, take, arith}
+use Rattle.std.proofs.Common.{◌≡◌, ◌∙◌, ◌+◌, ◌<◌, ℕ, List, [], ◌∷◌, ◌++◌, refl, sym, ap, subst, append_assoc, length}
+use Rattle.std.proofs.Common.{take, arith}
 use Rattle.std.proofs.lemmas.List.{length-take-le}
 use Rattle.dm_text.specs.Texts.{lf, HasNoLf, ended_lines, IsSplit}
 
@@ -28,11 +29,14 @@ first_lf (x ∷ a) b (y ∷ c) d p q e =
     let r = first_lf a b c d p.1 q.1 tail in (ap (λ k. k ∷ a) head ∙ ap (λ l. y ∷ l) r.0, r.1)
 
 -- A text of ended lines begins with its first line and an LF.
-line_first : (line : List ℕ) (lines : List (List ℕ)) (rest : List ℕ) → ended_lines (line ∷ lines) ++ rest ≡ line ++ lf ∷ (ended_lines lines ++ rest)
-line_first line lines rest = append_assoc (line ++ lf ∷ []) (ended_lines lines) rest ∙ append_assoc line (lf ∷ []) (ended_lines lines ++ rest)
+line_first : (line : List ℕ) (lines : List (List ℕ)) (rest : List ℕ) → ended_lines (line ∷ lines) ++ rest ≡ line ++ lf ∷
+    (ended_lines lines ++ rest)
+line_first line lines rest =
+    append_assoc (line ++ lf ∷ []) (ended_lines lines) rest ∙ append_assoc line (lf ∷ []) (ended_lines lines ++ rest)
 
 -- A line before a split text, with an LF between, is the first of its lines.
-pub split_more : (line text : List ℕ) (lines : List (List ℕ)) (rest : List ℕ) → HasNoLf line → IsSplit text lines rest → IsSplit (line ++ lf ∷ text) (line ∷ lines) rest
+pub split_more : (line text : List ℕ) (lines : List (List ℕ)) (rest : List ℕ) → HasNoLf line → IsSplit text lines rest →
+    IsSplit (line ++ lf ∷ text) (line ∷ lines) rest
 split_more line text lines rest h s = record {
   whole = ap (λ l. line ++ lf ∷ l) s.whole ∙ sym (line_first line lines rest);
   lines_no_lf = (h, s.lines_no_lf);
@@ -40,7 +44,8 @@ split_more line text lines rest h s = record {
 }
 
 -- A text is split in only one way.
-pub split_unique : (xs ys : List (List ℕ)) (text r s : List ℕ) → IsSplit text xs r → IsSplit text ys s → (xs ≡ ys) × (r ≡ s)
+pub split_unique : (xs ys : List (List ℕ)) (text r s : List ℕ) → IsSplit text xs r → IsSplit text ys s →
+    (xs ≡ ys) × (r ≡ s)
 split_unique [] [] text r s p q = (refl, sym p.whole ∙ q.whole)
 split_unique [] (y ∷ ys) text r s p q =
     absurd (lf_in y (ended_lines ys ++ s) (subst HasNoLf (sym p.whole ∙ q.whole ∙ line_first y ys s) p.rest_no_lf))
@@ -49,8 +54,10 @@ split_unique (x ∷ xs) [] text r s p q =
 split_unique (x ∷ xs) (y ∷ ys) text r s p q =
     let e = sym (line_first x xs r) ∙ sym p.whole ∙ q.whole ∙ line_first y ys s in
     let same = first_lf x (ended_lines xs ++ r) y (ended_lines ys ++ s) p.lines_no_lf.0 q.lines_no_lf.0 e in
-    let left : IsSplit (ended_lines xs ++ r) xs r = record { whole = refl; lines_no_lf = p.lines_no_lf.1; rest_no_lf = p.rest_no_lf } in
-    let right : IsSplit (ended_lines xs ++ r) ys s = record { whole = same.1; lines_no_lf = q.lines_no_lf.1; rest_no_lf = q.rest_no_lf } in
+    let left : IsSplit (ended_lines xs ++ r) xs r =
+    record { whole = refl; lines_no_lf = p.lines_no_lf.1; rest_no_lf = p.rest_no_lf } in
+    let right : IsSplit (ended_lines xs ++ r) ys s =
+    record { whole = same.1; lines_no_lf = q.lines_no_lf.1; rest_no_lf = q.rest_no_lf } in
     let rest = split_unique xs ys (ended_lines xs ++ r) r s left right in
     let head : x ≡ y = same.0 in
     let tail : xs ≡ ys = rest.0 in (cc, rest.1)

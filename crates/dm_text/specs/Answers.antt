@@ -1,5 +1,6 @@
 -- What is written for records and lines, and the table of sizes.
-use Rattle.std.specs.Prelude.{◌≡◌, ℕ, Bool, true, false, List, [], ◌∷◌, ◌++◌, map, flat_map, codes, if◌then◌else◌, Option, Some, None, Result, Ok, Err}
+use Rattle.std.specs.Prelude.{◌≡◌, ℕ, Bool, true, false, List, [], ◌∷◌, ◌++◌, map, flat_map, codes, if◌then◌else◌}
+use Rattle.std.specs.Prelude.{Option, Some, None, Result, Ok, Err}
 use Rattle.std.specs.Fmt.{decimal}
 use Rattle.dm_symbol.specs.declared.Item.{Item}
 use Rattle.dm_symbol.specs.declared.Profile.{Profile}
@@ -40,11 +41,12 @@ abbrev pub spaced_text : List ℕ → List ℕ
 spaced_text [] = []
 spaced_text (number ∷ numbers) = decimal number ++ flat_map (λ next. codes " " ++ decimal next) numbers
 
--- The line that says how damaged a grid is has its side, the number of its border faults and, for each block, the number
--- of places at which it was corrected.
+-- The line that says how damaged a grid is has its side, the number of its border faults and, for each block, the
+-- number of places at which it was corrected.
 abbrev pub check_text : ℕ → Reading → List ℕ
 check_text side reading =
-    codes "ok " ++ decimal side ++ codes " border " ++ decimal reading.border_faults ++ codes " corrected " ++ spaced_text reading.corrected.items
+    codes "ok " ++ decimal side ++ codes " border " ++ decimal reading.border_faults ++ codes " corrected "
+    ++ spaced_text reading.corrected.items
 
 -- ---- answers
 
@@ -87,21 +89,24 @@ border_limit_for None side = usual_limit side
 -- Where messages are asked for, a record that is a grid is answered as reading it is, and any other by its refusal.
 abbrev pub IsReadAnswer : Option ℕ → RecordMeaning → Answer → Type 0
 IsReadAnswer border (Ok grid) answer =
-    (reading : Result Reading ReadFault) × ReadResult Usual grid (border_limit_for border grid.size.side) reading × (answer ≡ reading_answer reading)
+    (reading : Result Reading ReadFault) × ReadResult Usual grid (border_limit_for border grid.size.side) reading
+    × (answer ≡ reading_answer reading)
 IsReadAnswer border (Err why) answer = answer ≡ refusal_answer (record_refusal why)
 
 -- Where it is asked how damaged grids are, a record that is a grid is
 -- answered as checking it is, and any other by its refusal.
 abbrev pub IsCheckAnswer : Option ℕ → RecordMeaning → Answer → Type 0
 IsCheckAnswer border (Ok grid) answer =
-    (reading : Result Reading ReadFault) × ReadResult Usual grid (border_limit_for border grid.size.side) reading × (answer ≡ checking_answer grid.size.side reading)
+    (reading : Result Reading ReadFault) × ReadResult Usual grid (border_limit_for border grid.size.side) reading
+    × (answer ≡ checking_answer grid.size.side reading)
 IsCheckAnswer border (Err why) answer = answer ≡ refusal_answer (record_refusal why)
 
 -- Where normal grids under a profile are asked for, a record that is a
 -- grid is answered as normalising it is, and any other by its refusal.
 abbrev pub IsNormalAnswer : Option ℕ → Profile → RecordMeaning → Answer → Type 0
 IsNormalAnswer border profile (Ok grid) answer =
-    (normal : Result GridView NormalFault) × NormalResult Usual profile grid (border_limit_for border grid.size.side) normal × (answer ≡ normalising_answer normal)
+    (normal : Result GridView NormalFault) × NormalResult Usual profile grid (border_limit_for border grid.size.side)
+    normal × (answer ≡ normalising_answer normal)
 IsNormalAnswer border profile (Err why) answer = answer ≡ refusal_in_place_of_grid (record_refusal why)
 
 -- A record is answered by what the task asks of it.
@@ -114,8 +119,10 @@ IsRecordAnswer Table meaning answer = ⊥
 
 -- A message is answered by its normal grid under the profile, or by a refusal if it has none.
 pub data IsMessageAnswer (profile : Profile) (message : List Item) (answer : Answer) : Type 0 where
-  normal_grid : (grid : GridView) → IsNormalGrid profile message grid → answer ≡ grid_answer grid → IsMessageAnswer profile message answer
-  too_long : (FitsSomeSize profile message → ⊥) → answer ≡ refusal_in_place_of_grid too_long_refusal → IsMessageAnswer profile message answer
+  normal_grid : (grid : GridView) → IsNormalGrid profile message grid → answer ≡ grid_answer grid →
+      IsMessageAnswer profile message answer
+  too_long : (FitsSomeSize profile message → ⊥) → answer ≡ refusal_in_place_of_grid too_long_refusal →
+      IsMessageAnswer profile message answer
 
 -- A message line is answered, under a profile, as its message is, or by the refusal of its fault.
 abbrev pub IsWriteAnswer : Profile → LineMeaning → Answer → Type 0
@@ -127,7 +134,8 @@ IsWriteAnswer profile (Err why) answer = answer ≡ refusal_in_place_of_grid (li
 -- A size is written as the numbers of its row.
 abbrev pub numbers_of : SizeRow → List ℕ
 numbers_of size =
-    size.side ∷ size.regions ∷ size.region_side ∷ size.mapping ∷ size.data_count ∷ size.check_count ∷ size.blocks ∷ size.limit ∷ []
+    size.side ∷ size.regions ∷ size.region_side ∷ size.mapping ∷ size.data_count ∷ size.check_count ∷ size.blocks ∷
+    size.limit ∷ []
 
 -- The table of sizes is written as a line for each, by rising side.
 abbrev pub table_text : List ℕ

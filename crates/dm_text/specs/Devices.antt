@@ -1,5 +1,6 @@
 -- What a call of a device does to its count of failures, to its mark of pending bytes and to known bytes.
-use Rattle.std.specs.Prelude.{◌≡◌, ◌+◌, ◌-◌, ◌^◌, ℕ, Bool, true, cond, nat_lt, min, List, [], ◌∷◌, ◌++◌, length, refl, Result, Ok, Err, Option, Some, None}
+use Rattle.std.specs.Prelude.{◌≡◌, ◌+◌, ◌-◌, ◌^◌, ℕ, Bool, true, cond, nat_lt, min, List, [], ◌∷◌, ◌++◌, length, refl}
+use Rattle.std.specs.Prelude.{Result, Ok, Err, Option, Some, None}
 use Rattle.std.proofs.Common.{sym, ap, ◌∙◌, append_assoc}
 use Rattle.std.specs.Io.KnownBytes.{Appends, Consumes}
 
@@ -41,4 +42,5 @@ pub consumed_joined : (a b c : Option (List ℕ)) (x y : List ℕ) → Consumes 
 consumed_joined None b c x y p q = tt
 consumed_joined (Some before) None c x y p q = absurd p
 consumed_joined (Some before) (Some between) None x y p q = absurd q
-consumed_joined (Some before) (Some between) (Some after) x y p q = p ∙ ap (λ l. x ++ l) q ∙ sym (append_assoc x y after)
+consumed_joined (Some before) (Some between) (Some after) x y p q =
+    p ∙ ap (λ l. x ++ l) q ∙ sym (append_assoc x y after)

@@ -9,8 +9,8 @@ use Rattle.dm_symbol.specs.Messages.{most_items}
 pub data LineFacts : Type 0 where
   -- The line has a fault in this column.
   Faulty : (column : ℕ) → LineFacts
-  -- The longest prefix of the line that is joined spellings has `prefix_length` bytes. Its items are known unless they are too
-  -- many, and the bytes `pending` follow it.
+  -- The longest prefix of the line that is joined spellings has `prefix_length` bytes. Its items are known unless they
+  -- are too many, and the bytes `pending` follow it.
   Good : (prefix_length : ℕ) (items : Option (List Item)) (pending : List ℕ) → LineFacts
 
 -- Items are kept unless they are too many.

@@ -18,21 +18,25 @@ pub record LeavesLineOpen (old : LineFacts) (piece : List ℕ) (taken : ℕ) (ne
 
 -- The first LF of a piece closes the line: the piece is taken up to and including
 -- it, the line has this meaning, and then none is open.
-pub record ClosesLine (old : LineFacts) (piece : List ℕ) (taken : ℕ) (meaning : LineMeaning) (new : LineFacts) : Type 0 where
-  pub before : List ℕ
-  pub after : List ℕ
-  pub piece_is : piece ≡ before ++ lf ∷ after
-  pub no_lf : HasNoLf before
-  pub taken_is : taken ≡ length before + 1
-  pub means : (line : List ℕ) → AreLineFacts line old → IsLine (line ++ before) meaning
-  pub empty : AreLineFacts [] new
+pub record ClosesLine (old : LineFacts) (piece : List ℕ) (taken : ℕ) (meaning : LineMeaning) (new : LineFacts) : Type 0
+  where
+    pub before : List ℕ
+    pub after : List ℕ
+    pub piece_is : piece ≡ before ++ lf ∷ after
+    pub no_lf : HasNoLf before
+    pub taken_is : taken ≡ length before + 1
+    pub means : (line : List ℕ) → AreLineFacts line old → IsLine (line ++ before) meaning
+    pub empty : AreLineFacts [] new
 
 -- Pieces fed one after another, each until all of it is taken, close lines with these meanings.
 pub data AreLinesFed : LineFacts → List (List ℕ) → List LineMeaning → LineFacts → Type 0 where
   no_piece : (facts : LineFacts) → AreLinesFed facts [] [] facts
-  leaves_open : (old mid new : LineFacts) (piece : List ℕ) (taken : ℕ) (pieces : List (List ℕ)) (meanings : List LineMeaning)
-      → LeavesLineOpen old piece taken mid → AreLinesFed mid pieces meanings new → AreLinesFed old (piece ∷ pieces) meanings new
-  closes : (old mid new : LineFacts) (piece : List ℕ) (taken : ℕ) (meaning : LineMeaning) (pieces : List (List ℕ)) (meanings : List LineMeaning)
+  leaves_open : (old mid new : LineFacts) (piece : List ℕ) (taken : ℕ) (pieces : List (List ℕ))
+      (meanings : List LineMeaning)
+      → LeavesLineOpen old piece taken mid → AreLinesFed mid pieces meanings new →
+      AreLinesFed old (piece ∷ pieces) meanings new
+  closes : (old mid new : LineFacts) (piece : List ℕ) (taken : ℕ) (meaning : LineMeaning) (pieces : List (List ℕ))
+      (meanings : List LineMeaning)
       → ClosesLine old piece taken meaning mid → AreLinesFed mid (drop taken piece ∷ pieces) meanings new
       → AreLinesFed old (piece ∷ pieces) (meaning ∷ meanings) new
 

@@ -1,5 +1,6 @@
 -- What a grid feed has to know of an open record, so that it can give the record's meaning when it ends.
-use Rattle.std.specs.Prelude.{◌≡◌, ◌==◌, ◌&&◌, ℕ, Bool, true, false, not, if◌then◌else◌, List, [], ◌∷◌, ◌++◌, length, Option, Some, None}
+use Rattle.std.specs.Prelude.{◌≡◌, ◌==◌, ◌&&◌, ℕ, Bool, true, false, not, if◌then◌else◌, List, [], ◌∷◌, ◌++◌, length}
+use Rattle.std.specs.Prelude.{Option, Some, None}
 use Rattle.std.specs.List.{list_any}
 use Rattle.dm_text.specs.Texts.{last_line}
 use Rattle.dm_text.specs.Records.{IsOpenRecord, has_foreign, is_large, rows_of}
@@ -43,7 +44,8 @@ differ first lines = list_any (λ line. not (length line == first)) lines
 -- Lines that are neither foreign nor too large have these contents; the first of them, `done`, are ended by LF.
 abbrev pub cells_of_lines : List (List ℕ) → List (List ℕ) → RecordContents
 cells_of_lines done lines =
-    Cells (length lines) (first_length lines) (last_length lines) (if differ (first_length lines) done then None else Some (rows_of lines))
+    Cells (length lines) (first_length lines) (last_length lines)
+    (if differ (first_length lines) done then None else Some (rows_of lines))
 
 -- Lines that are each ended by LF, and a rest, have these contents.
 abbrev pub contents_of : List (List ℕ) → List ℕ → RecordContents

@@ -25,7 +25,8 @@ pub record ClosedRecordMeans (text : List ℕ) (meaning : RecordMeaning) : Type 
 
 -- A byte of a piece closes a record: the piece is taken up to and including
 -- it, the record has this meaning, and then none is open.
-pub record ClosesRecord (old : RecordFacts) (piece : List ℕ) (taken : ℕ) (meaning : RecordMeaning) (new : RecordFacts) : Type 0 where
+pub record ClosesRecord (old : RecordFacts) (piece : List ℕ) (taken : ℕ) (meaning : RecordMeaning)
+    (new : RecordFacts) : Type 0 where
   pub some : 0 < taken
   pub within : taken ≤ length piece
   pub means : (text : List ℕ) → AreRecordFacts text old → ClosedRecordMeans (text ++ take taken piece) meaning
@@ -42,9 +43,12 @@ pub record LastRecordMeans (text : List ℕ) (meaning : RecordMeaning) : Type 0 
 -- Pieces fed one after another, each until all of it is taken, close records with these meanings.
 pub data AreRecordsFed : RecordFacts → List (List ℕ) → List RecordMeaning → RecordFacts → Type 0 where
   no_piece : (facts : RecordFacts) → AreRecordsFed facts [] [] facts
-  leaves_open : (old mid new : RecordFacts) (piece : List ℕ) (taken : ℕ) (pieces : List (List ℕ)) (meanings : List RecordMeaning)
-      → LeavesRecordOpen old piece taken mid → AreRecordsFed mid pieces meanings new → AreRecordsFed old (piece ∷ pieces) meanings new
-  closes : (old mid new : RecordFacts) (piece : List ℕ) (taken : ℕ) (meaning : RecordMeaning) (pieces : List (List ℕ)) (meanings : List RecordMeaning)
+  leaves_open : (old mid new : RecordFacts) (piece : List ℕ) (taken : ℕ) (pieces : List (List ℕ))
+      (meanings : List RecordMeaning)
+      → LeavesRecordOpen old piece taken mid → AreRecordsFed mid pieces meanings new →
+      AreRecordsFed old (piece ∷ pieces) meanings new
+  closes : (old mid new : RecordFacts) (piece : List ℕ) (taken : ℕ) (meaning : RecordMeaning) (pieces : List (List ℕ))
+      (meanings : List RecordMeaning)
       → ClosesRecord old piece taken meaning mid → AreRecordsFed mid (drop taken piece ∷ pieces) meanings new
       → AreRecordsFed old (piece ∷ pieces) (meaning ∷ meanings) new
 

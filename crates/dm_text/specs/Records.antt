@@ -1,5 +1,6 @@
 -- Grid texts: where their records stand, and which grid or fault the lines of a record make.
-use Rattle.std.specs.Prelude.{◌≡◌, ◌≢◌, ◌==◌, ◌||◌, ℕ, Bool, not, nat_lt, if◌then◌else◌, List, [], ◌∷◌, ◌++◌, length, map, Option, Some, None, Result, Ok, Err}
+use Rattle.std.specs.Prelude.{◌≡◌, ◌≢◌, ◌==◌, ◌||◌, ℕ, Bool, not, nat_lt, if◌then◌else◌, List, [], ◌∷◌, ◌++◌, length}
+use Rattle.std.specs.Prelude.{map, Option, Some, None, Result, Ok, Err}
 use Rattle.std.specs.List.{AllByRecursion, list_all, list_any}
 use Rattle.dm_symbol.specs.Sizes.{SizeRow, largest_side, row_with_side}
 use Rattle.dm_symbol.specs.Grid.{GridView}
@@ -45,9 +46,11 @@ pub data AreRecords : List (List ℕ) → List (List (List ℕ)) → Type 0 wher
   -- Where no line is left there is no record.
   no_line : AreRecords [] []
   -- An empty line belongs to no record.
-  empty_line : (lines : List (List ℕ)) (records : List (List (List ℕ))) → AreRecords lines records → AreRecords ([] ∷ lines) records
+  empty_line : (lines : List (List ℕ)) (records : List (List (List ℕ))) → AreRecords lines records →
+      AreRecords ([] ∷ lines) records
   -- A stretch of full lines that no further line makes longer is a record.
-  longest_stretch : (these lines : List (List ℕ)) (records : List (List (List ℕ))) → these ≢ [] → AreFullLines these → BeginsBlank lines
+  longest_stretch : (these lines : List (List ℕ)) (records : List (List (List ℕ))) → these ≢ [] → AreFullLines these →
+      BeginsBlank lines
       → AreRecords lines records → AreRecords (these ++ lines) (these ∷ records)
 
 -- ---- what a record comes to
@@ -72,7 +75,8 @@ is_square lines = list_all (λ line. length line == length lines) lines
 abbrev pub rows_of : List (List ℕ) → List (List Bool)
 rows_of lines = map (map (λ b. b == 49)) lines
 
--- Square lines make the grid of this size, if there is one with their side; otherwise their fault is that there is none.
+-- Square lines make the grid of this size, if there is one with their side; otherwise their fault is that there is
+-- none.
 abbrev pub grid_of_size : Option SizeRow → List (List ℕ) → Result GridView RecordFault
 grid_of_size (Some size) lines = Ok (record { size = size; rows = rows_of lines })
 grid_of_size None lines = Err (NoSuchSize (length lines))

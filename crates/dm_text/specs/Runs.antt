@@ -1,5 +1,6 @@
 -- What is written for a whole text, and how reading and writing it ends.
-use Rattle.std.specs.Prelude.{◌≡◌, ◌≢◌, ◌≤◌, ◌⊎◌, ◌+◌, ◌^◌, nat_lt, if◌then◌else◌, ℕ, Bool, false, not, List, [], ◌∷◌, ◌++◌, length, count_by, flat_map, Option, Result, IfOk, OnOk, IsErrOf}
+use Rattle.std.specs.Prelude.{◌≡◌, ◌≢◌, ◌≤◌, ◌⊎◌, ◌+◌, ◌^◌, nat_lt, if◌then◌else◌, ℕ, Bool, false, not, List, [], ◌∷◌}
+use Rattle.std.specs.Prelude.{◌++◌, length, count_by, flat_map, Option, Result, IfOk, OnOk, IsErrOf}
 use Rattle.std.specs.Io.KnownBytes.{Appends}
 use Rattle.dm_symbol.specs.declared.Profile.{Profile}
 use Rattle.dm_text.specs.declared.task.Task.{Task}
@@ -29,7 +30,8 @@ IsAnswerToRecord task lines answer = IsRecordAnswer task (record_of lines) answe
 
 -- A message line is answered, under a profile, by what it means.
 abbrev pub IsAnswerToLine : Profile → List ℕ → Answer → Type 0
-IsAnswerToLine profile line answer = (message : LineMeaning) × IsLine line message × IsWriteAnswer profile message answer
+IsAnswerToLine profile line answer =
+    (message : LineMeaning) × IsLine line message × IsWriteAnswer profile message answer
 
 -- The records in some lines are answered, each in order.
 abbrev pub AreAnswersToRecords : Task → List (List ℕ) → List Answer → Type 0
@@ -70,13 +72,16 @@ answers_text answers = flat_map (λ a. a.text) answers
 
 -- The tally of some answers counts as answered those that are no refusals, and as refused those that are.
 abbrev pub tally_of : List Answer → Tally
-tally_of answers = record { answered = count_by (λ a. not a.refused) answers; refused = count_by (λ a. a.refused) answers }
+tally_of answers =
+    record { answered = count_by (λ a. not a.refused) answers; refused = count_by (λ a. a.refused) answers }
 
 -- For a text as a whole the answers to all of its records or lines are written, one after another, and counted in the
 -- tally. For the table the text counts as empty: the table is written, and nothing is counted.
 abbrev pub IsOut : Task → List ℕ → List ℕ → Tally → Type 0
 IsOut Table text out tally = (text ≡ []) × (out ≡ table_text) × (tally ≡ tally_of [])
-IsOut task text out tally = (answers : List Answer) × AreAllAnswers task text answers × (out ≡ answers_text answers) × (tally ≡ tally_of answers)
+IsOut task text out tally =
+    (answers : List Answer) × AreAllAnswers task text answers × (out ≡ answers_text answers)
+    × (tally ≡ tally_of answers)
 
 -- For a text that may go on the answers to the records or lines that are closed within it are written, one after
 -- another. For the table, whose text counts as empty, the table is written.
@@ -86,8 +91,9 @@ IsOutSoFar task text done = (answers : List Answer) × AreClosedAnswers task tex
 
 -- ---- how it ends
 
--- Between two moments a source gave exactly these bytes (`Gave`) and saw its end (`Ended`), and a sink took exactly these bytes (`Took`) or a
--- prefix of them (`TookPrefix`), and was flushed when it had taken as many bytes as these numbers say (`Flushed`).
+-- Between two moments a source gave exactly these bytes (`Gave`) and saw its end (`Ended`), and a sink took exactly
+-- these bytes (`Took`) or a prefix of them (`TookPrefix`), and was flushed when it had taken as many bytes as these
+-- numbers say (`Flushed`).
 
 -- The source has come to its end; for the table, which reads nothing, this always holds.
 abbrev pub HasEnded : Task → Type 0 → Type 0
@@ -96,7 +102,8 @@ HasEnded task Ended = Ended
 
 -- A text is answered if the source gave it, at most `most` bytes, and
 -- ended, and what is written for this text as a whole was taken.
-pub record IsAnswered (task : Task) (most : ℕ) (Gave : List ℕ → Type 0) (Ended : Type 0) (Took : List ℕ → Type 0) (tally : Tally) : Type 0 where
+pub record IsAnswered (task : Task) (most : ℕ) (Gave : List ℕ → Type 0) (Ended : Type 0) (Took : List ℕ →
+    Type 0) (tally : Tally) : Type 0 where
   pub text : List ℕ
   pub gave : Gave text
   pub ended : HasEnded task Ended
@@ -139,7 +146,8 @@ HasBegunOut task text TookPrefix = (out : List ℕ) × (tally : Tally) × IsOut 
 -- A prefix has been written if the source gave a text of at most `most` bytes, and the sink took a prefix of
 -- what is written for what is closed within it or, if the source had ended, of what is written for the text as a
 -- whole. Which of the sink's calls failed isn't told.
-pub record HasWrittenPrefix (task : Task) (most : ℕ) (Gave : List ℕ → Type 0) (Ended : Type 0) (TookPrefix : List ℕ → Type 0) : Type 0 where
+pub record HasWrittenPrefix (task : Task) (most : ℕ) (Gave : List ℕ → Type 0) (Ended : Type 0) (TookPrefix : List ℕ →
+    Type 0) : Type 0 where
   pub text : List ℕ
   pub gave : Gave text
   pub within : length text ≤ most
@@ -154,18 +162,21 @@ most_asked most given = if nat_lt given most then most else most + 1
 abbrev pub most_input : ℕ
 most_input = 2 ^ 30
 
--- The known bytes of a sink were `old` and are now `new`. Either there was no flush, not even a failed one; or there was
--- one, after all was answered and the sink had taken all that is written for it.
-abbrev pub IsFlushedAtEnd : Task → ℕ → (List ℕ → Type 0) → Type 0 → (List ℕ → Type 0) → Option (List ℕ) → Option (List ℕ) → Type 0
+-- The known bytes of a sink were `old` and are now `new`. Either there was no flush, not even a failed one; or there
+-- was one, after all was answered and the sink had taken all that is written for it.
+abbrev pub IsFlushedAtEnd : Task → ℕ → (List ℕ → Type 0) → Type 0 → (List ℕ → Type 0) → Option (List ℕ) →
+    Option (List ℕ) → Type 0
 IsFlushedAtEnd task most Gave Ended Flushed old new =
-    Flushed [] ⊎ ((tally : Tally) × IsAnswered task most Gave Ended (Appends old new) tally × IsFlushedOnce Flushed old new)
+    Flushed [] ⊎ ((tally : Tally) × IsAnswered task most Gave Ended (Appends old new) tally
+    × IsFlushedOnce Flushed old new)
 
--- A run of a task, of at most `most` bytes of input, came to this outcome. Of the source: what it gave, whether it ended,
--- how far it was asked, and its count of failures before and after. Of the sink: its known bytes before and after, its
--- flushes, its mark of pending bytes after, and its count of failures before and after.
+-- A run of a task, of at most `most` bytes of input, came to this outcome. Of the source: what it gave, whether it
+-- ended, how far it was asked, and its count of failures before and after. Of the sink: its known bytes before and
+-- after, its flushes, its mark of pending bytes after, and its count of failures before and after.
 pub record IsRun (task : Task) (most : ℕ) (outcome : Result Tally RunFault)
     (Gave : List ℕ → Type 0) (Ended : Type 0) (Asked : ℕ → Type 0) (reads_failed reads_failed_now : ℕ)
-    (old new : Option (List ℕ)) (Flushed : List ℕ → Type 0) (is_pending : Bool) (writes_failed writes_failed_now : ℕ) : Type 0 where
+    (old new : Option (List ℕ)) (Flushed : List ℕ → Type 0) (is_pending : Bool)
+    (writes_failed writes_failed_now : ℕ) : Type 0 where
   -- Ok: all is answered and flushed, once and last, and no device failed.
   pub answered : IfOk outcome (λ tally. IsAnswered task most Gave Ended (Appends old new) tally)
   pub flushed : OnOk outcome (is_pending ≡ false)
@@ -173,16 +184,19 @@ pub record IsRun (task : Task) (most : ℕ) (outcome : Result Tally RunFault)
   pub well : OnOk outcome ((reads_failed_now ≡ reads_failed) × (writes_failed_now ≡ writes_failed))
   -- A read failed: what is due so far is written, the source alone failed, and there was no flush.
   pub read : IsErrOf outcome fault.Read → HasWrittenOutSoFar task most Gave (Appends old new)
-  pub read_failed : IsErrOf outcome fault.Read → HasRisen reads_failed reads_failed_now × (writes_failed_now ≡ writes_failed)
+  pub read_failed : IsErrOf outcome fault.Read →
+      HasRisen reads_failed reads_failed_now × (writes_failed_now ≡ writes_failed)
   pub read_unflushed : IsErrOf outcome fault.Read → Flushed []
   -- The input was too much: what is due for `most` bytes of it is written, no device failed, and there was no flush.
   pub too_much : IsErrOf outcome fault.TooMuchInput → IsTooMuch task most Gave (Appends old new)
-  pub too_much_well : IsErrOf outcome fault.TooMuchInput → (reads_failed_now ≡ reads_failed) × (writes_failed_now ≡ writes_failed)
+  pub too_much_well : IsErrOf outcome fault.TooMuchInput →
+      (reads_failed_now ≡ reads_failed) × (writes_failed_now ≡ writes_failed)
   pub too_much_unflushed : IsErrOf outcome fault.TooMuchInput → Flushed []
   -- A write or a flush failed: a prefix of what is due is written, the sink alone failed, and only a flush after all
   -- was answered was tried.
   pub write : IsErrOf outcome fault.Write → HasWrittenPrefix task most Gave Ended (AppendsPrefix old new)
-  pub write_failed : IsErrOf outcome fault.Write → HasRisen writes_failed writes_failed_now × (reads_failed_now ≡ reads_failed)
+  pub write_failed : IsErrOf outcome fault.Write →
+      HasRisen writes_failed writes_failed_now × (reads_failed_now ≡ reads_failed)
   pub write_flushed : IsErrOf outcome fault.Write → IsFlushedAtEnd task most Gave Ended Flushed old new
   -- In each case no byte was asked for beyond those that may be.
   pub asked : (text : List ℕ) × Gave text × Asked (most_asked most (length text))

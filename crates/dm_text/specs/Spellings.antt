@@ -1,5 +1,6 @@
 -- The spellings of items in a message line, and the text of a message.
-use Rattle.std.specs.Prelude.{◌≡◌, ◌≢◌, ◌≤◌, ◌<◌, ◌+◌, ◌*◌, ◌/◌, ◌%◌, ◌==◌, ◌&&◌, nat_le, nat_lt, if◌then◌else◌, ℕ, List, [], ◌∷◌, ◌++◌, flat_map}
+use Rattle.std.specs.Prelude.{◌≡◌, ◌≢◌, ◌≤◌, ◌<◌, ◌+◌, ◌*◌, ◌/◌, ◌%◌, ◌==◌, ◌&&◌, nat_le, nat_lt, if◌then◌else◌, ℕ}
+use Rattle.std.specs.Prelude.{List, [], ◌∷◌, ◌++◌, flat_map}
 use Rattle.dm_symbol.specs.declared.Item.{Item}
 use Rattle.dm_symbol.specs.declared.Item.TheVariants.{Byte, Fnc1}
 
@@ -25,7 +26,8 @@ pub data IsSpelling (piece : List ℕ) (item : Item) : Type 0 where
 -- The line is the spellings of these items, joined.
 abbrev pub IsJoining : List ℕ → List Item → Type 0
 IsJoining line [] = line ≡ []
-IsJoining line (item ∷ items) = (piece : List ℕ) × (rest : List ℕ) × IsSpelling piece item × (line ≡ piece ++ rest) × IsJoining rest items
+IsJoining line (item ∷ items) =
+    (piece : List ℕ) × (rest : List ℕ) × IsSpelling piece item × (line ≡ piece ++ rest) × IsJoining rest items
 
 -- The line is joined spellings.
 abbrev pub IsJoined : List ℕ → Type 0

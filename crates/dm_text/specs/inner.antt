@@ -1,4 +1,5 @@
--- Definitions that the contracts and the invariants of private functions and types cite; no public contract and no law does.
+-- Definitions that the contracts and the invariants of private functions and types cite; no public contract and no law
+-- does.
 pub mod KeptTexts
 pub mod OpenLines
 pub mod OpenRecords

@@ -1,7 +1,9 @@
 //! What is written for a record or a line.
 
 ghost use Rattle.std.specs.Prelude.{◌≡◌, ◌↔◌, ◌<◌, ◌≤◌, ◌+◌, ◌∷◌, ◌++◌, [], IsTrue, length};
-ghost use Rattle.dm_text.specs.Answers.{Answer as AnAnswer, IsCheckAnswer, IsNormalAnswer, IsReadAnswer, IsRecordAnswer, IsWriteAnswer, refusal_in_place_of_grid, check_text, grid_answer, border_limit_for, line_answer, refusal_answer};
+ghost use Rattle.dm_text.specs.Answers.{Answer as AnAnswer, IsCheckAnswer, IsNormalAnswer, IsReadAnswer};
+ghost use Rattle.dm_text.specs.Answers.{IsRecordAnswer, IsWriteAnswer, refusal_in_place_of_grid, check_text};
+ghost use Rattle.dm_text.specs.Answers.{grid_answer, border_limit_for, line_answer, refusal_answer};
 ghost use Rattle.dm_text.specs.inner.AnsweredSoFar.{as_task};
 ghost use Rattle.dm_text.specs.inner.Gathering.{Gathers};
 ghost use Rattle.dm_symbol.specs.Outcomes.{outcome};
@@ -200,8 +202,8 @@ impl Targets {
     }
 }
 
-// The targets have room for the largest grid. So there is one of each for all records and lines, which is handed to each of
-// these functions; what stood in them before doesn't matter. The answer is gathered behind the others.
+// The targets have room for the largest grid. So there is one of each for all records and lines, which is handed to
+// each of these functions; what stood in them before doesn't matter. The answer is gathered behind the others.
 
 /// Answers a record where grids are read, checked or normalised. Its grid, if it is one, stands in `targets.grid`.
 pub(crate) fn answer_record(

@@ -10,12 +10,12 @@ use crate::record::{OpenRecord, RecordFault};
 use dm_symbol::{Grid, light_grid};
 use std::marker::Model;
 
-/// Cuts a text that comes in pieces into records, the longest stretches of lines that are not empty. It holds the record
-/// that stands open, but no more of it than a grid can have: once a byte other than 0, 1 and LF has come, or the
+/// Cuts a text that comes in pieces into records, the longest stretches of lines that are not empty. It holds the
+/// record that stands open, but no more of it than a grid can have: once a byte other than 0, 1 and LF has come, or the
 /// record is too large, it holds only that.
 ///
-/// In contracts it is the `RecordFacts` (`specs/RecordFacts.antt`) of the text since the last record. The clauses `some_text` say
-/// that there is such a text, so that what a clause says of each of them isn't empty.
+/// In contracts it is the `RecordFacts` (`specs/RecordFacts.antt`) of the text since the last record. The clauses
+/// `some_text` say that there is such a text, so that what a clause says of each of them isn't empty.
 #[derive(Drop)]
 pub struct GridFeed {
     record: OpenRecord,

@@ -20,8 +20,8 @@ ghost use Rattle.dm_text.specs.LineFeeds.{AreLinesFed, AreOfText, LineMeaning};
 
 pub mod cuts;
 
-/// The text of a message of at most `MOST_ITEMS` items is read as the message; so the text of what a grid is read as in the
-/// usual extent is read as that.
+/// The text of a message of at most `MOST_ITEMS` items is read as the message; so the text of what a grid is read as in
+/// the usual extent is read as that.
 pub fn text_is_read_back()
     ensures message { (message : List Item) → IsMessage message → length message ≤ most_items
         → IsLine (text_of message) (Ok message) }

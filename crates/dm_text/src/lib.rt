@@ -1,8 +1,9 @@
 //! Texts of square Data Matrix symbols (ISO/IEC 16022, ECC 200), and the answers to them.
 //!
-//! A text of grids comes as records of lines of 0 and 1, a text of messages as lines. [`run`] answers each record or line; the
-//! feeds [`GridFeed`] and [`LineFeed`] cut texts that come in pieces. What the contracts say is defined in `specs/`: `Runs` and
-//! `Answers` for what is written, `Records` and `MessageLines` for what is read. No call allocates memory.
+//! A text of grids comes as records of lines of 0 and 1, a text of messages as lines. [`run`] answers each record or
+//! line; the feeds [`GridFeed`] and [`LineFeed`] cut texts that come in pieces. What the contracts say is defined in
+//! `specs/`: `Runs` and `Answers` for what is written, `Records` and `MessageLines` for what is read. No call allocates
+//! memory.
 #![tactic(auto)]
 
 mod answer;

@@ -15,8 +15,8 @@ use std::marker::Model;
 /// the line that stands open: its items while they are at most `MOST_ITEMS`, the
 /// bytes of a spelling that is begun, and a count; or the column of its fault.
 ///
-/// In contracts it is the `LineFacts` (`specs/LineFacts.antt`) of the open line. The clauses `some_line` say that there is such a
-/// line, so that what a clause says of each of them isn't empty.
+/// In contracts it is the `LineFacts` (`specs/LineFacts.antt`) of the open line. The clauses `some_line` say that there
+/// is such a line, so that what a clause says of each of them isn't empty.
 #[derive(Drop)]
 pub struct LineFeed {
     line: OpenLine,

@@ -1,6 +1,7 @@
 //! A message line, as it comes.
 
-ghost use Rattle.std.specs.Prelude.{◌≡◌, ◌≤◌, ◌<◌, ◌+◌, ◌∷◌, ◌++◌, [], ℕ, List, IsTrue, ◌↔◌, IfNone, IfSome, drop, length, map, take};
+ghost use Rattle.std.specs.Prelude.{◌≡◌, ◌≤◌, ◌<◌, ◌+◌, ◌∷◌, ◌++◌, [], ℕ, List, IsTrue, ◌↔◌, IfNone, IfSome, drop};
+ghost use Rattle.std.specs.Prelude.{length, map, take};
 ghost use Rattle.std.specs.List.{AllByRecursion};
 ghost use Rattle.dm_text.specs.MessageLines.{IsLine};
 ghost use Rattle.dm_text.specs.Texts.{HasNoLf};

@@ -22,12 +22,12 @@ const WEIGHTS: [u8; 16] = [1, 2, 4, 8, 16, 32, 64, 128, 1, 2, 4, 8, 16, 32, 64, 
 /// The most characters that are written behind a row, with its last cells, and cut off again.
 const MOST_CUT: usize = TOGETHER as usize - 1;
 
-/// The room that an answer needs: that of a grid of the largest side, each row with its LF, of an empty line, and of what is
-/// written behind the last row.
+/// The room that an answer needs: that of a grid of the largest side, each row with its LF, of an empty line, and of
+/// what is written behind the last row.
 pub(crate) const MOST_ANSWER: usize = LARGEST_SIDE * (LARGEST_SIDE + 1) + 1 + MOST_CUT;
 
-/// The room for answers that are written together: once there is none for a further answer, at least three of the largest grids
-/// are written.
+/// The room for answers that are written together: once there is none for a further answer, at least three of the
+/// largest grids are written.
 pub(crate) const MOST_GATHERED: usize = 4 * MOST_ANSWER;
 
 /// The texts of answers that are written together, one after another.
@@ -48,7 +48,8 @@ pub(crate) fn push_decimal<const N: usize>(text: &mut Text<N>, number: u64)
     text.push(b'0' + (number % 10) as u8);
 }
 
-/// Appends numbers in decimal digits, with single spaces between. Eight of them, of at most five digits, need 47 bytes; the room is for more.
+/// Appends numbers in decimal digits, with single spaces between. Eight of them, of at most five digits, need 47 bytes;
+/// the room is for more.
 pub(crate) fn push_spaced<const N: usize>(text: &mut Text<N>, numbers: &[u16])
     requires room { length text.old.items + 64 ≤ N }
     requires few { length numbers.now ≤ 8 }

@@ -1,6 +1,7 @@
 //! A record of a grid text, as it comes.
 
-ghost use Rattle.std.specs.Prelude.{◌≡◌, ◌≢◌, ◌∷◌, ◌++◌, [], ℕ, Bool, true, false, List, IsTrue, ◌↔◌, ◌+◌, ◌<◌, ◌≤◌, IfNone, IfSome, length, take};
+ghost use Rattle.std.specs.Prelude.{◌≡◌, ◌≢◌, ◌∷◌, ◌++◌, [], ℕ, Bool, true, false, List, IsTrue, ◌↔◌, ◌+◌, ◌<◌, ◌≤◌};
+ghost use Rattle.std.specs.Prelude.{IfNone, IfSome, length, take};
 ghost use Rattle.std.specs.Bool.{OnTrue, OnFalse};
 ghost use Rattle.dm_text.specs.Records.{IsClosedRecord, is_foreign, record_of};
 ghost use Rattle.dm_text.specs.RecordFacts.{AreRecordFacts, facts_of_record};
@@ -113,8 +114,9 @@ impl OpenRecord {
         None
     }
 
-    /// Takes whole lines at the start of some bytes, each together with its LF, and says how many bytes they are. How many
-    /// lines it takes matters for speed alone: none where a line stands open, or where the record can't be a grid any more.
+    /// Takes whole lines at the start of some bytes, each together with its LF, and says how many bytes they are. How
+    /// many lines it takes matters for speed alone: none where a line stands open, or where the record can't be a grid
+    /// any more.
     fn take_lines(&mut self, bytes: &[u8]) -> usize
         ensures within { result ≤ length bytes.now }
         ensures grown { (text : List ℕ) → AreRecordFacts text self.old
@@ -130,9 +132,9 @@ impl OpenRecord {
         0
     }
 
-    /// Takes cells at the start of some bytes together, and says how many they are, which matters for speed alone. Where a
-    /// foreign character already stands in the record it takes none, so that text that is no grid isn't searched for cells
-    /// at each of its bytes.
+    /// Takes cells at the start of some bytes together, and says how many they are, which matters for speed alone.
+    /// Where a foreign character already stands in the record it takes none, so that text that is no grid isn't
+    /// searched for cells at each of its bytes.
     fn take_cells(&mut self, bytes: &[u8]) -> usize
         ensures within { result ≤ length bytes.now }
         ensures grown { (text : List ℕ) → AreRecordFacts text self.old

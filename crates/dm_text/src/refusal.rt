@@ -2,7 +2,8 @@
 
 ghost use Rattle.std.specs.Prelude.{◌≡◌, ◌≤◌, ◌+◌, ◌++◌, length};
 ghost use Rattle.std.specs.Fmt.{decimal};
-ghost use Rattle.dm_text.specs.Refusals.{line_refusal, normal_refusal, read_refusal, record_refusal, too_long_refusal, word_refusal};
+ghost use Rattle.dm_text.specs.Refusals.{line_refusal, normal_refusal, read_refusal, record_refusal, too_long_refusal};
+ghost use Rattle.dm_text.specs.Refusals.{word_refusal};
 
 use crate::message_line::LineFault;
 use crate::printed::{GatheredText, MOST_DIGITS, MOST_GATHERED, push_decimal};

@@ -36,9 +36,9 @@ impl RowPart {
         }
     }
 
-    /// Gives cells at the start of a text, as many as can be looked at together: at most 128, and none behind another byte. How
-    /// many they are, and when there is None, no clause says, since it matters for speed alone: None comes where the first byte is
-    /// no cell, or where fewer than 32 bytes have come.
+    /// Gives cells at the start of a text, as many as can be looked at together: at most 128, and none behind another
+    /// byte. How many they are, and when there is None, no clause says, since it matters for speed alone: None comes
+    /// where the first byte is no cell, or where fewer than 32 bytes have come.
     pub(crate) fn of_text(text: &[u8]) -> Option<RowPart>
         ensures { IfSome result (λ cells. AreFirstCells text.now cells) }
     {
@@ -98,7 +98,8 @@ fn dark_bits(block: u8x32) -> u64
     block.simd_eq(u8x32::splat(b'1')).to_bitmask()
 }
 
-/// Gives the other characters of a block: 0 for 0 and 1, which are the two that differ from 1 in the lowest bit at most.
+/// Gives the other characters of a block: 0 for 0 and 1, which are the two that differ from 1 in the lowest bit at
+/// most.
 #[inline]
 fn other_bits(block: u8x32) -> u64
     ensures { result ≡ mask_l (map (λ b. not (bit_or b 1 == 49)) block) }

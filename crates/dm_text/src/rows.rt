@@ -1,6 +1,7 @@
 //! The lines of a record, as rows of cells.
 
-ghost use Rattle.std.specs.Prelude.{◌≡◌, ◌≢◌, ◌≤◌, ◌∷◌, ◌++◌, ◌↔◌, [], ℕ, Bool, true, false, List, IsTrue, length, take};
+ghost use Rattle.std.specs.Prelude.{◌≡◌, ◌≢◌, ◌≤◌, ◌∷◌, ◌++◌, ◌↔◌, [], ℕ, Bool, true, false, List, IsTrue, length};
+ghost use Rattle.std.specs.Prelude.{take};
 ghost use Rattle.std.specs.Bool.{OnTrue, OnFalse};
 ghost use Rattle.dm_text.specs.Records.{record_of};
 ghost use Rattle.dm_text.specs.inner.OpenRecords.{AreCells, Continues, EndsLines, HoldsLines, is_ended, line_count};

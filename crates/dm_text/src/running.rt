@@ -1,11 +1,13 @@
 //! A task done over a source and a sink.
 
-ghost use Rattle.std.specs.Prelude.{◌≡◌, ◌≤◌, ◌<◌, ◌+◌, ◌-◌, ◌^◌, ◌∷◌, ◌++◌, ◌⊎◌, [], ℕ, false, List, MatchResult, IfOk, OnOk, OnErr, IsErrOf, length, max, take};
+ghost use Rattle.std.specs.Prelude.{◌≡◌, ◌≤◌, ◌<◌, ◌+◌, ◌-◌, ◌^◌, ◌∷◌, ◌++◌, ◌⊎◌, [], ℕ, false, List, MatchResult};
+ghost use Rattle.std.specs.Prelude.{IfOk, OnOk, OnErr, IsErrOf, length, max, take};
 ghost use Rattle.std.specs.Io.KnownBytes.{Appends};
 ghost use Rattle.dm_text.specs.Answers.{Answer as AnAnswer, table_text};
 ghost use Rattle.dm_text.specs.Devices.{AppendsPrefix, Counts, HasRisen, IsFlushedOnce};
 ghost use Rattle.dm_text.specs.Runs.{IsRun, tally_of, answers_text};
-ghost use Rattle.dm_text.specs.inner.AnsweredSoFar.{Advances, AreCounted, HasBegunAnswers, HasBegunLast, HasTakenText, IsLastAnswered};
+ghost use Rattle.dm_text.specs.inner.AnsweredSoFar.{Advances, AreCounted, HasBegunAnswers, HasBegunLast, HasTakenText};
+ghost use Rattle.dm_text.specs.inner.AnsweredSoFar.{IsLastAnswered};
 
 use crate::answer::{Answers, Targets};
 use crate::answering::Answering;

@@ -54,8 +54,8 @@ pub trait Source {
         → asked a b m → asked b c n → m ≤ most → length x + n ≤ most → asked a c most };
 }
 
-/// A source from any reader of std. Each error of the reader is a failure, `Interrupted` too. It doesn't tell how much is
-/// asked for.
+/// A source from any reader of std. Each error of the reader is a failure, `Interrupted` too. It doesn't tell how much
+/// is asked for.
 #[derive(Drop)]
 pub struct FromRead<R: Read + Drop> {
     reader: R,

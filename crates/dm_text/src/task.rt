@@ -39,7 +39,8 @@ pub(crate) enum RecordTask {
     Normal(Option<u16>, Profile),
 }
 
-/// How many records or lines there were, by their answers: `answered` counts those whose answer is no refusal, and `refused` the others.
+/// How many records or lines there were, by their answers: `answered` counts those whose answer is no refusal, and
+/// `refused` the others.
 #[derive(Clone, Copy, Debug, PartialEq, Eq)]
 pub struct Tally {
     /// How many answers are no refusals.

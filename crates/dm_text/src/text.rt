@@ -7,8 +7,8 @@ use std::marker::Model;
 /// The byte that ends a line.
 pub(crate) const LF: u8 = b'\n';
 
-/// A text of at most `N` bytes, at the start of a buffer for so many. What stands behind it means nothing, so that nothing is written
-/// where it becomes empty: a short text costs nothing for the room of the longest.
+/// A text of at most `N` bytes, at the start of a buffer for so many. What stands behind it means nothing, so that
+/// nothing is written where it becomes empty: a short text costs nothing for the room of the longest.
 #[derive(Drop)]
 pub(crate) struct Text<const N: usize> {
     buffer: [u8; N],

@@ -1,5 +1,6 @@
 -- A subcommand with readable matches is at most one task.
-use Rattle.std.proofs.Common.{◌≡◌, ◌∙◌, ℕ, Bool, true, false, refl, sym, ap, List, Option, Some, None, pos, slice_index, codes, arith}
+use Rattle.std.proofs.Common.{◌≡◌, ◌∙◌, ℕ, Bool, true, false, refl, sym, ap, List, Option, Some, None, pos, slice_index}
+use Rattle.std.proofs.Common.{codes, arith}
 use Rattle.std.specs.Prelude.{unwrap_or}
 use Rattle.std.specs.Str.{bytes_eq}
 use Rattle.std.proofs.lemmas.Bool.Decides.{not_from_Decides}
@@ -28,11 +29,13 @@ limit_given rows readable = go (first_of (codes "border") rows) refl
 pub profile_given : (rows : List Row) → (profile : Profile) × GivesProfile rows profile
 profile_given rows = go (first_of (codes "shorter") rows) refl
   where
-    by_text : (text : Text) (b : Bool) → bytes_eq text (codes "true") ≡ b → first_of (codes "shorter") rows ≡ Some text → (profile : Profile) × GivesProfile rows profile
+    by_text : (text : Text) (b : Bool) → bytes_eq text (codes "true") ≡ b →
+        first_of (codes "shorter") rows ≡ Some text → (profile : Profile) × GivesProfile rows profile
     by_text text true e is = (Shorter, is ∙ ap Some ((bytes_eq-Decides text (codes "true")).0 e))
     by_text text false e is = (
       Ascii,
-      λ given. not_from_Decides (bytes_eq text (codes "true")) (bytes_eq-Decides text (codes "true")) e (ap (λ o. unwrap_or o text) (sym is ∙ given)),
+      λ given. not_from_Decides (bytes_eq text (codes "true")) (bytes_eq-Decides text (codes "true")) e
+          (ap (λ o. unwrap_or o text) (sym is ∙ given)),
     )
 
     go : (o : Option Text) → first_of (codes "shorter") rows ≡ o → (profile : Profile) × GivesProfile rows profile
@@ -86,7 +89,8 @@ has_letter name rows (Write profile) is = ap (λ n. slice_index n 0) is.0
 has_letter name rows Table is = ap (λ n. slice_index n 0) is
 
 -- Two tasks with one letter that a subcommand is are the same.
-same_letter : (name : Text) (rows : List Row) (s t : Task) → letter s ≡ letter t → IsTaskOf name rows s → IsTaskOf name rows t → s ≡ t
+same_letter : (name : Text) (rows : List Row) (s t : Task) → letter s ≡ letter t → IsTaskOf name rows s →
+    IsTaskOf name rows t → s ≡ t
 same_letter name rows (Read a) (Read b) e x y = ap Read (one_limit rows a b x.1 y.1)
 same_letter name rows (Read a) (Check b) e x y = absurd (omega arith)
 same_letter name rows (Read a) (Normal b q) e x y = absurd (omega arith)
@@ -99,7 +103,8 @@ same_letter name rows (Check a) (Write q) e x y = absurd (omega arith)
 same_letter name rows (Check a) Table e x y = absurd (omega arith)
 same_letter name rows (Normal a p) (Read b) e x y = absurd (omega arith)
 same_letter name rows (Normal a p) (Check b) e x y = absurd (omega arith)
-same_letter name rows (Normal a p) (Normal b q) e x y = ap (λ l. Normal l p) (one_limit rows a b x.1 y.1) ∙ ap (λ r. Normal b r) (one_profile rows p q x.2 y.2)
+same_letter name rows (Normal a p) (Normal b q) e x y =
+    ap (λ l. Normal l p) (one_limit rows a b x.1 y.1) ∙ ap (λ r. Normal b r) (one_profile rows p q x.2 y.2)
 same_letter name rows (Normal a p) (Write q) e x y = absurd (omega arith)
 same_letter name rows (Normal a p) Table e x y = absurd (omega arith)
 same_letter name rows (Write profile) (Read b) e x y = absurd (omega arith)

@@ -1,6 +1,7 @@
--- What clap's getters read of a border's text that passed its parser is the limit that the text writes, and of the flag's whether it was
--- given.
-use Rattle.std.proofs.Common.{◌≡◌, ◌∙◌, ◌<◌, ◌^◌, ◌==◌, ℕ, Bool, true, false, true≢false, inl, inr, cond, drop, refl, sym, ap, subst, List, [], ◌∷◌, Option, Some, None, Result, Ok, Err, codes, arith}
+-- What clap's getters read of a border's text that passed its parser is the limit that the text writes, and of the
+-- flag's whether it was given.
+use Rattle.std.proofs.Common.{◌≡◌, ◌∙◌, ◌<◌, ◌^◌, ◌==◌, ℕ, Bool, true, false, true≢false, inl, inr, cond, drop, refl}
+use Rattle.std.proofs.Common.{sym, ap, subst, List, [], ◌∷◌, Option, Some, None, Result, Ok, Err, codes, arith}
 use Rattle.std.specs.Prelude.{option_and_then, slice_get, find, unwrap_or}
 use Rattle.std.specs.Str.{bytes_eq}
 use Rattle.std.specs.Str.Parse.{IsNumeral, ParsesUnsigned, digits_value, starts_with_minus, without_leading_plus}
@@ -30,12 +31,14 @@ no_plus (d ∷ ds) h =
     ap (λ (b : Bool). drop (cond b 1 0) (d ∷ ds)) plus
 
 -- The number that is read from a text which writes a limit is that limit.
-limit_number : {E : Type 0} (G : Text → Result ℕ E → Type 0) → ((u : Text) (x : Result ℕ E) → G u x → ParsesUnsigned 16 10 u x)
+limit_number : {E : Type 0} (G : Text → Result ℕ E → Type 0) →
+    ((u : Text) (x : Result ℕ E) → G u x → ParsesUnsigned 16 10 u x)
     → (t : Text) (r : Option ℕ) (n : ℕ) → ReadsOne G (without_minus t) r → IsBorderLimit t n → r ≡ Some n
 limit_number {E} G parses t r n read limit =
     go (starts_with_minus t) refl r (subst (λ (u : Text). ReadsOne G u r) (without_minus-cond t) read)
   where
-    go : (b : Bool) → starts_with_minus t ≡ b → (o : Option ℕ) → ReadsOne G (cond (starts_with_minus t) (drop 1 t) t) o → o ≡ Some n
+    go : (b : Bool) → starts_with_minus t ≡ b → (o : Option ℕ) →
+        ReadsOne G (cond (starts_with_minus t) (drop 1 t) t) o → o ≡ Some n
     go true minus (Some v) h =
         let numeral : IsNumeral 10 (drop 1 t) = rw minus at limit.0 in
         let value = rw minus at limit.1 in
@@ -68,7 +71,8 @@ none_of id rows = go (find (λ r. bytes_eq r.id id) rows)
     go (Some r) e = rw e refl
 
 -- What the getter reads for the border is the limit that the matches give.
-pub limit_read : {E : Type 0} (G : Text → Result ℕ E → Type 0) → ((u : Text) (x : Result ℕ E) → G u x → ParsesUnsigned 16 10 u x)
+pub limit_read : {E : Type 0} (G : Text → Result ℕ E → Type 0) →
+    ((u : Text) (x : Result ℕ E) → G u x → ParsesUnsigned 16 10 u x)
     → (rows : List Row) (r : Option ℕ) → (one_of (codes "border") rows ≡ None → r ≡ None)
     → ((t : Text) → one_of (codes "border") rows ≡ Some t → ReadsOne G t r) → IsReadable rows → GivesLimit rows r
 limit_read {E} G parses rows r none value readable = go (first_of (codes "border") rows) refl
@@ -80,13 +84,16 @@ limit_read {E} G parses rows r none value readable = go (first_of (codes "border
         let number = limit_number {E = E} G parses text r found.1.0 (value (without_minus text) found.0) found.1.1 in
         subst (GivesLimit rows) (sym number) (text, is, found.1.1)
 
-module _ (rows : List Row) (readable : IsReadable rows) (b : Bool) (none : one_of (codes "shorter") rows ≡ None → b ≡ false)
-    (given : one_of (codes "shorter") rows ≡ Some (codes "true") → b ≡ true) (other : one_of (codes "shorter") rows ≡ Some (codes "false") → b ≡ false) where
+module _ (rows : List Row) (readable : IsReadable rows) (b : Bool) (none : one_of (codes "shorter") rows ≡ None →
+    b ≡ false)
+    (given : one_of (codes "shorter") rows ≡ Some (codes "true") → b ≡ true)
+    (other : one_of (codes "shorter") rows ≡ Some (codes "false") → b ≡ false) where
   -- Where the getter says that the flag was given, it was.
   pub flag_given : b ≡ true → first_of (codes "shorter") rows ≡ Some (codes "true")
   flag_given is = go (first_of (codes "shorter") rows) refl
     where
-      go : (o : Option Text) → first_of (codes "shorter") rows ≡ o → first_of (codes "shorter") rows ≡ Some (codes "true")
+      go : (o : Option Text) → first_of (codes "shorter") rows ≡ o →
+          first_of (codes "shorter") rows ≡ Some (codes "true")
       go None e = absurd (true≢false (sym is ∙ none (none_of (codes "shorter") rows e)))
       go (Some text) e =
           let found = readable.flag text e in

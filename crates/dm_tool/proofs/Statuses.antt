@@ -38,18 +38,22 @@ status_none (suc n) none = absurd (omega arith)
 
 -- The program ends with the status for its number of refusals.
 ends_with : (tally : Tally) (status : ℕ) → status ≡ status_for tally.refused → EndsWith tally status
-ends_with tally status e = (λ none. (e ∙ status_none tally.refused none, refl), λ some. (e ∙ status_one tally.refused some, refl))
+ends_with tally status e =
+    (λ none. (e ∙ status_none tally.refused none, refl), λ some. (e ∙ status_one tally.refused some, refl))
 
 -- The largest of the statuses is the status for the sum of the refusals.
-largest_is : (tallies : List Tally) (statuses : List ℕ) → AreMatched EndsWith tallies statuses → largest statuses ≡ status_for (sum_of tallies).refused
+largest_is : (tallies : List Tally) (statuses : List ℕ) → AreMatched EndsWith tallies statuses →
+    largest statuses ≡ status_for (sum_of tallies).refused
 unfolding status_for
 largest_is [] [] are = refl
 largest_is [] (n ∷ statuses) are = absurd are
 largest_is (t ∷ tallies) [] are = absurd are
 largest_is (t ∷ tallies) (n ∷ statuses) are =
-    ap₂ max (status_is t.refused n (λ none. (are.0.0 none).0) (λ some. (are.0.1 some).0)) (largest_is tallies statuses are.1)
+    ap₂ max (status_is t.refused n (λ none. (are.0.0 none).0) (λ some. (are.0.1 some).0))
+    (largest_is tallies statuses are.1)
     ∙ status_added t.refused (sum_of tallies).refused
 
 -- The largest of the parts' statuses is the status of the whole.
-pub largest_status : (tallies : List Tally) (statuses : List ℕ) → AreMatched EndsWith tallies statuses → EndsWith (sum_of tallies) (largest statuses)
+pub largest_status : (tallies : List Tally) (statuses : List ℕ) → AreMatched EndsWith tallies statuses →
+    EndsWith (sum_of tallies) (largest statuses)
 largest_status tallies statuses are = ends_with (sum_of tallies) (largest statuses) (largest_is tallies statuses are)

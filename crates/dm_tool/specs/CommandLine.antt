@@ -82,4 +82,5 @@ NamesTask (Some found) task = IsTaskOf found.0 found.1 task
 
 -- The matches name exactly one task.
 abbrev pub NamesOneTask : Option (Text × List Row) → Type 0
-NamesOneTask matches = (task : Task) × NamesTask matches task × ((other : Task) → NamesTask matches other → other ≡ task)
+NamesOneTask matches =
+    (task : Task) × NamesTask matches task × ((other : Task) → NamesTask matches other → other ≡ task)

@@ -6,9 +6,12 @@ ghost use Rattle.clap.specs.Takes.{takes};
 ghost use Rattle.clap.specs.Walk.{rule_of, rows_of};
 ghost use Rattle.clap.specs.Matches.{found_of};
 ghost use Rattle.clap.specs.Values.{kind_of};
-ghost use Rattle.clap.specs.Simple.{App, Shape, app_of, shape_of, subcommand_of, subcommand_rows_of, new_shape, with_subcommand};
+ghost use Rattle.clap.specs.Simple.{App, Shape, app_of, shape_of, subcommand_of, subcommand_rows_of, new_shape};
+ghost use Rattle.clap.specs.Simple.{with_subcommand};
 ghost use Rattle.clap.specs.declared.builder.command.Command.TheViews.{out-Command};
-ghost use Rattle.dm_tool.specs.CommandLine.{GivesLimit, GivesProfile, IsTaskOf, NamesTask, border_rule, dm_app, shorter_rule, texts_of, top_app, with_border as bordered, with_both as both, with_shorter as shortened};
+ghost use Rattle.dm_tool.specs.CommandLine.{GivesLimit, GivesProfile, IsTaskOf, NamesTask, border_rule, dm_app};
+ghost use Rattle.dm_tool.specs.CommandLine.{shorter_rule, texts_of, top_app, with_border as bordered};
+ghost use Rattle.dm_tool.specs.CommandLine.{with_both as both, with_shorter as shortened};
 ghost use Rattle.dm_tool.specs.inner.CommandReads.{HasNoTask, IsReadable};
 
 use crate::fault::CallFault;

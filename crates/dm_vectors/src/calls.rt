@@ -1,7 +1,7 @@
 //! Calls of blocks, grids and symbols with what they return, and nothing of what they promise.
 //!
-//! A test asserts what it finds. Over the calls themselves its proof would carry all that they promise, which takes much longer.
-//! Where a call asks for something, its double here gives nothing or does nothing in its place.
+//! A test asserts what it finds. Over the calls themselves its proof would carry all that they promise, which takes
+//! much longer. Where a call asks for something, its double here gives nothing or does nothing in its place.
 
 use arrayvec::ArrayVec;
 use dm_code::{encode, syndromes};

@@ -1,7 +1,8 @@
-//! Test vectors of the crates below: worked rows of the standard, damage at the limits and beyond them, each through public calls.
+//! Test vectors of the crates below: worked rows of the standard, damage at the limits and beyond them, each through
+//! public calls.
 //!
-//! These tests stand above all crates that they are about, so that none of these is proved a second time with its tests. There is
-//! nothing else here. The tests of the command line are in the program's own crate.
+//! These tests stand above all crates that they are about, so that none of these is proved a second time with its
+//! tests. There is nothing else here. The tests of the command line are in the program's own crate.
 #![tactic(auto)]
 
 #[cfg(test)]

@@ -197,7 +197,8 @@ fn messages_are_written_as_symbols(rt: HostRuntime) {
     }
 }
 
-/// Whether a message that just fills this size is written at it, and one that just doesn't fit at a larger one, if there is one.
+/// Whether a message that just fills this size is written at it, and one that just doesn't fit at a larger one, if
+/// there is one.
 fn is_just_filled(size: Size) -> bool {
     let (side, count) = (size.side(), usize::from(size.data_count()));
     let larger = match write(&of_many(b'A', count + 1)) {

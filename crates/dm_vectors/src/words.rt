@@ -260,8 +260,8 @@ fn a_segment_may_fill_the_symbol(rt: HostRuntime) {
     holds(&rt, spells_bytes(&words, &[255; 202]));
 }
 
-/// A segment of 250 bytes 0, whose length takes two codewords, the last of which is this one, with pads up to the size of side 64, and
-/// no codewords where it has no such size.
+/// A segment of 250 bytes 0, whose length takes two codewords, the last of which is this one, with pads up to the size
+/// of side 64, and no codewords where it has no such size.
 fn padded_segment(last: u8) -> ArrayVec<u8, MOST_DATA> {
     match with_pads(&segment(&[231, 38, last], 0, 253), Size::of_side(64)) {
         Some(words) => words,

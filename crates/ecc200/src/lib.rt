@@ -1,8 +1,9 @@
-//! Data Matrix ECC 200 (ISO/IEC 16022, square sizes) for C and for whatever calls C: `library/ecc200.h` declares these functions and is
-//! their manual.
+//! Data Matrix ECC 200 (ISO/IEC 16022, square sizes) for C and for whatever calls C: `library/ecc200.h` declares these
+//! functions and is their manual.
 //!
-//! Each hands on to the function of `ecc200_calls` that has its name without the prefix, and promises what that one does; the structs are those of that crate
-//! too. Here is no more than what C links, since a static library is proved anew whenever it is built.
+//! Each hands on to the function of `ecc200_calls` that has its name without the prefix, and promises what that one
+//! does; the structs are those of that crate too. Here is no more than what C links, since a static library is proved
+//! anew whenever it is built.
 #![tactic(auto)]
 
 ghost use Rattle.std.specs.Prelude.{◌≡◌, map};
@@ -40,7 +41,8 @@ pub extern "C" fn ecc200_write(items: &[u16], profile: u16, out: &mut SymbolOut)
     ecc200_calls::write(items, profile, out)
 }
 
-/// Writes the normal grid of the message of these bytes, each of which is an item: what [`ecc200_write`] does for the same numbers.
+/// Writes the normal grid of the message of these bytes, each of which is an item: what [`ecc200_write`] does for the
+/// same numbers.
 #[unsafe(no_mangle)]
 pub extern "C" fn ecc200_write_bytes(bytes: &[u8], profile: u16, out: &mut SymbolOut) -> u16
     ensures out { IsWriteResult bytes.now profile out.new }

@@ -1,5 +1,7 @@
 -- Rows of modules that are packed into one number, module after module from the right.
-use Rattle.std.proofs.Common.{◌≡◌, ℕ, zero, suc, ◌+◌, ◌-◌, ◌*◌, ◌/◌, ◌%◌, ◌^◌, ◌<◌, ◌≤◌, Bool, true, false, cond, nat_eq, List, length, get_or, refl, sym, ◌∙◌, ap, arith, mul_comm, Fits, map, take, drop, subst, bit_or, inl, inr}
+use Rattle.std.proofs.Common.{◌≡◌, ℕ, zero, suc, ◌+◌, ◌-◌, ◌*◌, ◌/◌, ◌%◌, ◌^◌, ◌<◌, ◌≤◌, Bool, true, false, cond}
+use Rattle.std.proofs.Common.{nat_eq, List, length, get_or, refl, sym, ◌∙◌, ap, arith, mul_comm, Fits, map, take, drop}
+use Rattle.std.proofs.Common.{subst, bit_or, inl, inr}
 use Rattle.std.specs.Int.{w128}
 use Rattle.std.proofs.Math.Facts.{Fits-bits}
 use Rattle.std.proofs.Math.Pow.{pow_mono}
@@ -54,13 +56,15 @@ dark_next : (row c : ℕ) (b : Bool) → is_dark_in (2 * row + from_bool b) (c +
 dark_next row c b =
     let e : (2 * row + from_bool b) / 2 ≡ row = omega (arith, from_bool_small b) in
     let d : 2 ^ (c + 1) ≡ 2 * 2 ^ c = pow_next c ∙ mul_comm (2 ^ c) 2 in
-    ap (λ x. nat_eq (x % 2) 1) (ap (λ x. (2 * row + from_bool b) / x) d ∙ sym (div-div-eq-div-mul (2 * row + from_bool b) 2 (2 ^ c)) ∙ ap (λ x. x / 2 ^ c) e)
+    ap (λ x. nat_eq (x % 2) 1) (ap (λ x. (2 * row + from_bool b) / x) d
+    ∙ sym (div-div-eq-div-mul (2 * row + from_bool b) 2 (2 ^ c)) ∙ ap (λ x. x / 2 ^ c) e)
 
 -- One more module is packed, from the right.
 pub packed_more : (modules : List ℕ) (i row : ℕ) → i < length modules
     → ((c : ℕ) → c < i → is_dark_in row c ≡ is_dark (get_or modules (length modules - i + c) 0))
     → (c : ℕ) → c < i + 1
-    → is_dark_in (2 * row + from_bool (is_dark (get_or modules (length modules - 1 - i) 0))) c ≡ is_dark (get_or modules (length modules - (i + 1) + c) 0)
+    → is_dark_in (2 * row + from_bool (is_dark (get_or modules (length modules - 1 - i) 0))) c ≡
+    is_dark (get_or modules (length modules - (i + 1) + c) 0)
 packed_more modules i row l h zero k =
     let e : length modules - 1 - i ≡ length modules - (i + 1) + 0 = omega (arith, l) in
     dark_first row (is_dark (get_or modules (length modules - 1 - i) 0)) ∙ ap (λ j. is_dark (get_or modules j 0)) e
@@ -68,7 +72,8 @@ packed_more modules i row l h (suc c) k =
     let b : Bool = is_dark (get_or modules (length modules - 1 - i) 0) in
     let s : suc c ≡ c + 1 = omega arith in
     let e : length modules - i + c ≡ length modules - (i + 1) + suc c = omega (arith, l) in
-    ap (λ j. is_dark_in (2 * row + from_bool b) j) s ∙ dark_next row c b ∙ h c (omega (arith, k)) ∙ ap (λ j. is_dark (get_or modules j 0)) e
+    ap (λ j. is_dark_in (2 * row + from_bool b) j) s ∙ dark_next row c b ∙ h c (omega (arith, k))
+    ∙ ap (λ j. is_dark (get_or modules j 0)) e
 
 -- The packed rows of a square have its modules.
 pub square_packed : (side : ℕ) (modules rows : List ℕ) → length modules ≡ side * side
@@ -76,26 +81,31 @@ pub square_packed : (side : ℕ) (modules rows : List ℕ) → length modules �
     → square_of_rows side (take side rows) ≡ square_of side (map is_dark modules)
 square_packed side modules rows count cells =
     sym (square_of_prefix side rows)
-    ∙ same_squares side (λ r. is_dark_in (get_or rows r 0)) (λ r c. get_or (map is_dark modules) (r * side + c) false) (λ r c lr lc.
+    ∙ same_squares side (λ r. is_dark_in (get_or rows r 0)) (λ r c. get_or (map is_dark modules) (r * side + c) false)
+    (λ r c lr lc.
     let room : (r + 1) * side ≤ side * side = mul-le-mul_right side (omega (arith, lr)) in
     cells r c lr lc ∙ sym (get_or-map is_dark modules (r * side + c) 0 false (omega (arith, count, room, lc))))
 
 -- ---- sixteen modules together
 
 -- So many bits more are that many bits in all.
-pub together_small : (row next column : ℕ) → row < 2 ^ column → next < 2 ^ 16 → next * 2 ^ column + row < 2 ^ (column + 16)
+pub together_small : (row next column : ℕ) → row < 2 ^ column → next < 2 ^ 16 →
+    next * 2 ^ column + row < 2 ^ (column + 16)
 together_small row next column small few =
     let all : 2 ^ (column + 16) ≡ 2 ^ column * 2 ^ 16 = pow-add 2 column 16 in
     let most : (next + 1) * 2 ^ column ≤ 2 ^ 16 * 2 ^ column = mul-le-mul_right (2 ^ column) (omega (arith, few)) in
     omega (arith, all, most, small)
 
 -- Modules that are packed together stand above those before them.
-pub together_is : (row next column : ℕ) → column ≤ 112 → row < 2 ^ column → next < 2 ^ 16 → bit_or row (next * 2 ^ column % 2 ^ 128) ≡ next * 2 ^ column + row
+pub together_is : (row next column : ℕ) → column ≤ 112 → row < 2 ^ column → next < 2 ^ 16 →
+    bit_or row (next * 2 ^ column % 2 ^ 128) ≡ next * 2 ^ column + row
 together_is row next column low small few =
-    let room : next * 2 ^ column < 2 ^ 128 = omega (arith, together_small row next column small few, pow_mono {i = column + 16} {j = 128} (omega arith)) in
+    let room : next * 2 ^ column < 2 ^ 128 =
+    omega (arith, together_small row next column small few, pow_mono {i = column + 16} {j = 128} (omega arith)) in
     ap (bit_or row) (mod-eq_of_lt room) ∙ or_shifted_r next column row small
 
--- Where the modules before a column are packed, and those from it on beside them, the modules before a later column are.
+-- Where the modules before a column are packed, and those from it on beside them, the modules before a later column
+-- are.
 pub together_more : (modules : List ℕ) (row next column across : ℕ) → row < 2 ^ column
     → ((k : ℕ) → k < column → k < across → is_dark_in row k ≡ is_dark (get_or modules k 0))
     → ((k : ℕ) → k < 16 → column + k < across → is_dark_in next k ≡ is_dark (get_or modules (column + k) 0))
@@ -104,15 +114,18 @@ together_more modules row next column across small before after k l within = eli
   | inl lt ↦ ap (λ b. nat_eq b 1) (bit_at_cat_low next column row k lt) ∙ before k lt within
   | inr ge ↦
       let back : column + (k - column) ≡ k = omega (arith, ge) in
-      ap (λ b. nat_eq b 1) (bit_at_cat_high next column row k small ge) ∙ after (k - column) (omega (arith, ge, l)) (omega (arith, back, within))
+      ap (λ b. nat_eq b 1) (bit_at_cat_high next column row k small ge)
+      ∙ after (k - column) (omega (arith, ge, l)) (omega (arith, back, within))
       ∙ ap (λ j. is_dark (get_or modules j 0)) back
 ]
 
 -- The rest of a list from a place on has what stands in the list from there on.
 pub rest_at : (xs : List ℕ) (at k d : ℕ) → at + k < length xs
-    → (k < length (take (length xs - at) (drop at xs))) × (get_or (take (length xs - at) (drop at xs)) k d ≡ get_or xs (at + k) d)
+    → (k < length (take (length xs - at) (drop at xs)))
+    × (get_or (take (length xs - at) (drop at xs)) k d ≡ get_or xs (at + k) d)
 rest_at xs at k d l =
-    let whole : take (length xs - at) (drop at xs) ≡ drop at xs = take_all (length xs - at) (drop at xs) (omega (arith, length-drop at xs)) in
+    let whole : take (length xs - at) (drop at xs) ≡ drop at xs =
+    take_all (length xs - at) (drop at xs) (omega (arith, length-drop at xs)) in
     (omega (arith, ap length whole, length-drop at xs), ap (λ ys. get_or ys k d) whole ∙ get_or-drop at xs k d)
 
 -- Fewer than sixteen bits are less than sixteen.
@@ -120,10 +133,13 @@ pub short_small : (n k : ℕ) → n < 2 ^ k → k < 16 → n < 2 ^ 16
 short_small n k small l = omega (arith, small, pow_below k 16 l)
 
 -- The mask of sixteen modules has sixteen bits.
-pub mask_small : (modules : List ℕ) (bits : ℕ) → bits ≡ mask_l (map is_dark (chunk 0 16 modules)) → 16 ≤ length modules → bits < 2 ^ 16
+pub mask_small : (modules : List ℕ) (bits : ℕ) → bits ≡ mask_l (map is_dark (chunk 0 16 modules)) →
+    16 ≤ length modules → bits < 2 ^ 16
 mask_small modules bits e long =
-    let count : length (map is_dark (chunk 0 16 modules)) ≡ 16 = length-map (chunk 0 16 modules) is_dark ∙ length-chunk 0 16 modules long in
-    subst (λ n. n < 2 ^ 16) (sym e) (subst (λ n. mask_l (map is_dark (chunk 0 16 modules)) < 2 ^ n) count (mask_l-lt (map is_dark (chunk 0 16 modules))))
+    let count : length (map is_dark (chunk 0 16 modules)) ≡ 16 =
+    length-map (chunk 0 16 modules) is_dark ∙ length-chunk 0 16 modules long in
+    subst (λ n. n < 2 ^ 16) (sym e) (subst (λ n. mask_l (map is_dark (chunk 0 16 modules)) < 2 ^ n) count
+    (mask_l-lt (map is_dark (chunk 0 16 modules))))
 
 -- A bit of a mask is 1 where its lane is true.
 cond_one : (b : Bool) → nat_eq (cond b 1 0) 1 ≡ b
@@ -136,5 +152,8 @@ pub mask_dark : (modules : List ℕ) (bits : ℕ) → bits ≡ mask_l (map is_da
 mask_dark modules bits e long column l within =
     let block = chunk 0 16 modules in
     let count : length block ≡ 16 = length-chunk 0 16 modules long in
-    ap (λ n. is_dark_in n column) e ∙ ap (λ b. nat_eq b 1) (bit_mask_l (map is_dark block) column) ∙ cond_one (get_or (map is_dark block) column false)
-    ∙ get_or-map is_dark block column 0 false (omega (arith, count, l)) ∙ ap is_dark (get_or-chunk 0 16 modules column 0 l ∙ ap (λ j. get_or modules j 0) (let first : 0 + column ≡ column = omega arith in first))
+    ap (λ n. is_dark_in n column) e ∙ ap (λ b. nat_eq b 1) (bit_mask_l (map is_dark block) column)
+    ∙ cond_one (get_or (map is_dark block) column false)
+    ∙ get_or-map is_dark block column 0 false (omega (arith, count, l))
+    ∙ ap is_dark (get_or-chunk 0 16 modules column 0 l
+    ∙ ap (λ j. get_or modules j 0) (let first : 0 + column ≡ column = omega arith in first))

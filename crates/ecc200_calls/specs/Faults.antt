@@ -34,8 +34,8 @@ word_fault (word.Value place) = fault 11 0 place
 word_fault (word.Length place) = fault 12 0 place
 word_fault (word.Unfinished place) = fault 13 0 place
 
--- A grid is not read: because of its borders, with the number of their wrong modules; because of a block, with its number, from 0; or
--- because of its data codewords.
+-- A grid is not read: because of its borders, with the number of their wrong modules; because of a block, with its
+-- number, from 0; or because of its data codewords.
 abbrev pub read_fault : ReadFault → Fault
 read_fault (read.Border count) = fault 5 count 0
 read_fault (read.Block block) = fault 6 0 block

@@ -1,5 +1,6 @@
 -- Grids as lists of numbers, one for each module, row by row from the top.
-use Rattle.std.specs.Prelude.{◌≡◌, ◌≢◌, ℕ, ◌*◌, Bool, not, nat_eq, if◌then◌else◌, List, map, flat_map, length, Some, IsNone}
+use Rattle.std.specs.Prelude.{◌≡◌, ◌≢◌, ℕ, ◌*◌, Bool, not, nat_eq, if◌then◌else◌, List, map, flat_map, length, Some}
+use Rattle.std.specs.Prelude.{IsNone}
 use Rattle.dm_symbol.specs.Sizes.{row_with_side}
 use Rattle.dm_symbol.specs.Grid.{GridView, square_of}
 use Rattle.ecc200_calls.specs.declared.fault.Fault.{Fault}
@@ -26,4 +27,5 @@ pub record IsGridOf (side : ℕ) (modules : List ℕ) (grid : GridView) : Type 0
 -- Modules make no grid because there are not as many as the square of the side, or because no size has this side.
 pub data IsModulesFault (side : ℕ) (modules : List ℕ) (why : Fault) : Type 0 where
   not_square : length modules ≢ side * side → why ≡ shape → IsModulesFault side modules why
-  no_size : length modules ≡ side * side → IsNone (row_with_side side) → why ≡ no_such_side side → IsModulesFault side modules why
+  no_size : length modules ≡ side * side → IsNone (row_with_side side) → why ≡ no_such_side side →
+      IsModulesFault side modules why

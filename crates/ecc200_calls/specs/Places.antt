@@ -1,5 +1,6 @@
 -- What each module of a symbol is (ISO/IEC 16022, symbol structure and module placement).
-use Rattle.std.specs.Prelude.{◌≡◌, ℕ, ◌+◌, ◌*◌, ◌<◌, ◌≤◌, Bool, true, if◌then◌else◌, List, get_or, replicate, Some, IsNone}
+use Rattle.std.specs.Prelude.{◌≡◌, ℕ, ◌+◌, ◌*◌, ◌<◌, ◌≤◌, Bool, true, if◌then◌else◌, List, get_or, replicate, Some}
+use Rattle.std.specs.Prelude.{IsNone}
 use Rattle.dm_place.specs.declared.shape.Cell.{Cell}
 use Rattle.dm_layout.specs.Sizes.{SizeRow, row_with_side}
 use Rattle.dm_layout.specs.Border.{is_border, border_is_dark, is_fixed, fixed_is_dark, symbol_line}
@@ -32,12 +33,14 @@ place_at size places row column = get_or places (row * size.side + column) nothi
 
 -- This stands in the symbol where a cell of the mapping square lies.
 abbrev pub mapped_place : SizeRow → List PlaceOut → ℕ → ℕ → PlaceOut
-mapped_place size places row column = place_at size places (symbol_line size.region_side row) (symbol_line size.region_side column)
+mapped_place size places row column =
+    place_at size places (symbol_line size.region_side row) (symbol_line size.region_side column)
 
--- These are the modules of a symbol of this size: each bit of each codeword where it lies, the borders, the fixed square, and nothing
--- behind them. That each module is exactly one of these is a law of the placement.
+-- These are the modules of a symbol of this size: each bit of each codeword where it lies, the borders, the fixed
+-- square, and nothing behind them. That each module is exactly one of these is a law of the placement.
 pub record AreModulesOf (size : SizeRow) (places : List PlaceOut) : Type 0 where
-  pub bits : (word bit : ℕ) (cell : Cell) → IsPlace size.mapping word bit cell → mapped_place size places cell.row cell.column ≡ bit_place word bit
+  pub bits : (word bit : ℕ) (cell : Cell) → IsPlace size.mapping word bit cell →
+      mapped_place size places cell.row cell.column ≡ bit_place word bit
   pub border : (row column : ℕ) → row < size.side → column < size.side → is_border size row column ≡ true →
       place_at size places row column ≡ border_place (border_is_dark size row column)
   pub fixed : (row column : ℕ) → row < size.mapping → column < size.mapping → is_fixed size.mapping row column ≡ true →
@@ -51,4 +54,5 @@ no_places why = record { fault = why; side = 0; places = replicate most_modules 
 -- For this side is given that no size has it, or the modules of the size that has it.
 pub data IsPlacesResult (side : ℕ) (out : PlacesOut) : Type 0 where
   no_size : IsNone (row_with_side side) → out ≡ no_places (no_such_side side) → IsPlacesResult side out
-  modules : (size : SizeRow) → row_with_side side ≡ Some size → out.fault ≡ no_fault → out.side ≡ side → AreModulesOf size out.places → IsPlacesResult side out
+  modules : (size : SizeRow) → row_with_side side ≡ Some size → out.fault ≡ no_fault → out.side ≡ side →
+      AreModulesOf size out.places → IsPlacesResult side out

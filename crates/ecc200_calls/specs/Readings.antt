@@ -23,7 +23,15 @@ most_read = most_spelled Wide most_data
 -- What is given for a fault has that fault, and all else is 0.
 abbrev pub no_reading : Fault → ReadingOut
 no_reading why =
-    record { fault = why; side = 0; border_faults = 0; block_count = 0; item_count = 0; items = replicate most_read 0; corrected = replicate most_blocks 0 }
+    record {
+      fault = why;
+      side = 0;
+      border_faults = 0;
+      block_count = 0;
+      item_count = 0;
+      items = replicate most_read 0;
+      corrected = replicate most_blocks 0;
+    }
 
 -- A reading of a grid of this side is given in this way.
 abbrev pub reading_shown : ℕ → Reading → ReadingOut
@@ -45,11 +53,15 @@ result_shown side (Err why) = no_reading (read_fault why)
 
 -- Reading these modules in an extent gives the reason why they make no grid, or the result of reading for their grid.
 pub data ExtentResult (extent : Extent) (side : ℕ) (modules : List ℕ) (limit : ℕ) (out : ReadingOut) : Type 0 where
-  no_grid : (why : Fault) → IsModulesFault side modules why → out ≡ no_reading why → ExtentResult extent side modules limit out
-  of_grid : (grid : GridView) (result : Result Reading ReadFault) → IsGridOf side modules grid → ReadResult extent grid limit result
+  no_grid : (why : Fault) → IsModulesFault side modules why → out ≡ no_reading why →
+      ExtentResult extent side modules limit out
+  of_grid : (grid : GridView) (result : Result Reading ReadFault) → IsGridOf side modules grid →
+      ReadResult extent grid limit result
       → out ≡ result_shown side result → ExtentResult extent side modules limit out
 
 -- Reading these modules gives that there is no such extent, or the result in that extent.
 pub data IsReadResult (side : ℕ) (modules : List ℕ) (limit extent : ℕ) (out : ReadingOut) : Type 0 where
-  no_extent : extent_of extent ≡ None → out ≡ no_reading (no_such_extent extent) → IsReadResult side modules limit extent out
-  in_extent : (chosen : Extent) → extent_of extent ≡ Some chosen → ExtentResult chosen side modules limit out → IsReadResult side modules limit extent out
+  no_extent : extent_of extent ≡ None → out ≡ no_reading (no_such_extent extent) →
+      IsReadResult side modules limit extent out
+  in_extent : (chosen : Extent) → extent_of extent ≡ Some chosen → ExtentResult chosen side modules limit out →
+      IsReadResult side modules limit extent out

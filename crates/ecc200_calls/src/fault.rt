@@ -1,11 +1,13 @@
 //! Faults as numbers.
 
 ghost use Rattle.std.specs.Prelude.{◌≡◌};
-ghost use Rattle.ecc200_calls.specs.Faults.{fault, foreign, no_fault, no_such_extent, no_such_profile, no_such_side, normal_fault, read_fault, shape, too_long, word_fault};
+ghost use Rattle.ecc200_calls.specs.Faults.{fault, foreign, no_fault, no_such_extent, no_such_profile, no_such_side};
+ghost use Rattle.ecc200_calls.specs.Faults.{normal_fault, read_fault, shape, too_long, word_fault};
 
 use dm_symbol::{NormalFault, ReadFault, WordFault};
 
-/// Why there is no result: a code of the header, and what the header says beside it. All three are 0 if there is a result.
+/// Why there is no result: a code of the header, and what the header says beside it. All three are 0 if there is a
+/// result.
 #[repr(C)]
 #[derive(Clone, Copy)]
 pub struct Fault {

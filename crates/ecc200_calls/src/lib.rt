@@ -1,17 +1,18 @@
-//! What the library for C does: Data Matrix ECC 200 (ISO/IEC 16022, square sizes) over numbers, slices, and structs that are laid out as C
-//! has them.
+//! What the library for C does: Data Matrix ECC 200 (ISO/IEC 16022, square sizes) over numbers, slices, and structs
+//! that are laid out as C has them.
 //!
-//! [`read()`] writes a [`ReadingOut`]; [`write()`], [`write_bytes()`] and [`normal()`] a [`SymbolOut`]; [`inspect()`] an [`InspectionOut`]; [`places()`] a
-//! [`PlacesOut`], a [`PlaceOut`] for each module; and each of these has a [`Fault`]. [`sizes()`] writes a [`SizesOut`], a [`SizeOut`] for each size.
-//! [`usual_limit()`], which is that of `dm_symbol`, and [`abi()`] return a number.
+//! [`read()`] writes a [`ReadingOut`]; [`write()`], [`write_bytes()`] and [`normal()`] a [`SymbolOut`]; [`inspect()`]
+//! an [`InspectionOut`]; [`places()`] a [`PlacesOut`], a [`PlaceOut`] for each module; and each of these has a
+//! [`Fault`]. [`sizes()`] writes a [`SizesOut`], a [`SizeOut`] for each size. [`usual_limit()`], which is that of
+//! `dm_symbol`, and [`abi()`] return a number.
 //!
-//! C calls none of these by these names: the crate `ecc200` above this one, a static library, exports each with the prefix `ecc200_` and hands on to it. They
-//! are two crates since a static library is proved anew whenever it is built, for each kind of machine. This crate is proved once, and what is
-//! proved of it is kept.
+//! C calls none of these by these names: the crate `ecc200` above this one, a static library, exports each with the
+//! prefix `ecc200_` and hands on to it. They are two crates since a static library is proved anew whenever it is built,
+//! for each kind of machine. This crate is proved once, and what is proved of it is kept.
 //!
-//! Each function is total, takes no memory but its stack, keeps nothing between calls, and writes all of `out` and nothing else. What they
-//! give is defined in `specs/`, on the definitions of `dm_symbol`: `Readings`, `Symbols`, `Inspections`, `Places`, `Sizes`;
-//! `Laws` has the laws of these definitions, which the functions of [`laws`] prove.
+//! Each function is total, takes no memory but its stack, keeps nothing between calls, and writes all of `out` and
+//! nothing else. What they give is defined in `specs/`, on the definitions of `dm_symbol`: `Readings`, `Symbols`,
+//! `Inspections`, `Places`, `Sizes`; `Laws` has the laws of these definitions, which the functions of [`laws`] prove.
 #![tactic(auto)]
 
 mod arrays;

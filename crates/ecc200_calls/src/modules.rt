@@ -1,6 +1,7 @@
 //! Grids as bytes, one for each module, row by row from the top. They are packed and unpacked sixteen at once.
 
-ghost use Rattle.std.specs.Prelude.{◌≡◌, ◌+◌, ◌*◌, ◌^◌, ◌≤◌, ◌<◌, ◌++◌, ℕ, [], drop, get_or, length, map, take, IfErr, OnOk};
+ghost use Rattle.std.specs.Prelude.{◌≡◌, ◌+◌, ◌*◌, ◌^◌, ◌≤◌, ◌<◌, ◌++◌, ℕ, [], drop, get_or, length, map, take, IfErr};
+ghost use Rattle.std.specs.Prelude.{OnOk};
 ghost use Rattle.dm_symbol.specs.Grid.{is_dark_in};
 ghost use Rattle.std.specs.Simd.Lanes.{mask_l};
 ghost use Rattle.ecc200_calls.specs.inner.UnpackedCells.{unpacked_cells};
@@ -44,8 +45,8 @@ pub(crate) fn make_grid(modules: &[u8], side: u16, grid: &mut Grid) -> Result<()
     }
 }
 
-/// Packs the first modules into one number: the module of a column is the bit whose weight is 2 to the power of that column, 1 for dark. What its
-/// other bits are is of no account.
+/// Packs the first modules into one number: the module of a column is the bit whose weight is 2 to the power of that
+/// column, 1 for dark. What its other bits are is of no account.
 fn pack(modules: &[u8], across: usize) -> u128
     requires few { across ≤ LARGEST_SIDE }
     requires there { across ≤ length modules.now }
@@ -61,8 +62,8 @@ fn pack(modules: &[u8], across: usize) -> u128
     row
 }
 
-/// Packs the first modules, as many as are packed together, or all if they are fewer. The last modules of a symbol can be fewer; else modules of the
-/// row below are among them.
+/// Packs the first modules, as many as are packed together, or all if they are fewer. The last modules of a symbol can
+/// be fewer; else modules of the row below are among them.
 fn pack_together(modules: &[u8]) -> u128
     ensures modules { (column : ℕ) → column < TOGETHER → column < length modules.now
         → is_dark_in result column ≡ is_dark (get_or modules.now column 0) }

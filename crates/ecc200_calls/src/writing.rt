@@ -28,7 +28,8 @@ pub fn write(items: &[u16], profile: u16, out: &mut SymbolOut) -> u16
     out.fault.code
 }
 
-/// Writes the normal grid of the message of these bytes, each of which is an item: what [`write()`] does for the same numbers.
+/// Writes the normal grid of the message of these bytes, each of which is an item: what [`write()`] does for the same
+/// numbers.
 pub fn write_bytes(bytes: &[u8], profile: u16, out: &mut SymbolOut) -> u16
     ensures out { IsWriteResult bytes.now profile out.new }
     ensures code { result ≡ out.new.fault.code }

@@ -1,5 +1,6 @@
 -- The laws of the field.
-use Rattle.std.proofs.Common.{◌≡◌, ℕ, zero, suc, ◌+◌, ◌-◌, ◌*◌, ◌/◌, ◌%◌, ◌^◌, ◌<◌, refl, sym, ap, subst, ◌∙◌, arith, bit_xor, Bool, true, ◌&&◌, eqb, not, inl, inr}
+use Rattle.std.proofs.Common.{◌≡◌, ℕ, zero, suc, ◌+◌, ◌-◌, ◌*◌, ◌/◌, ◌%◌, ◌^◌, ◌<◌, refl, sym, ap, subst, ◌∙◌, arith}
+use Rattle.std.proofs.Common.{bit_xor, Bool, true, ◌&&◌, eqb, not, inl, inr}
 use Rattle.std.proofs.lemmas.Bool.{and_parts, eqb-true, eqb-false, not-true, cases_order}
 use Rattle.std.proofs.lemmas.Nat.{mod_below, xor_mod, xor_lt, pow_pos, xor_block}
 use lib.Bits.{xor_assoc, xor_self, xor_zero_r}
@@ -29,7 +30,8 @@ carryless_sum_left (suc i) a b c =
 shifted_sum : (d : ℕ) → d < 2 → (a b i : ℕ) → d * ((a ⊕ b) * 2 ^ i) ≡ d * (a * 2 ^ i) ⊕ d * (b * 2 ^ i)
 shifted_sum zero h a b i = simp (zero-mul)
 shifted_sum (suc zero) h a b i =
-    let e : bit_xor a b * 2 ^ i ≡ bit_xor (a * 2 ^ i) (b * 2 ^ i) = sym (simp (add-zero, xor_zero_r) at (xor_block i a b 0 0 (pow_pos i) (pow_pos i))) in
+    let e : bit_xor a b * 2 ^ i ≡ bit_xor (a * 2 ^ i) (b * 2 ^ i) =
+    sym (simp (add-zero, xor_zero_r) at (xor_block i a b 0 0 (pow_pos i) (pow_pos i))) in
     simp one-mul e
 shifted_sum (suc (suc d)) h a b i = absurd (omega arith)
 
@@ -83,7 +85,8 @@ unfolding all_below ◌⊗◌ carryless modulo_301
 comm_test = refl
 
 -- Three powers of 2 may be multiplied in either grouping: 512 cases.
-assoc_test : all_below 8 (λ i. all_below 8 (λ j. all_below 8 (λ k. eqb ((2 ^ i ⊗ 2 ^ j) ⊗ 2 ^ k) (2 ^ i ⊗ (2 ^ j ⊗ 2 ^ k))))) ≡ true
+assoc_test : all_below 8 (λ i. all_below 8 (λ j.
+    all_below 8 (λ k. eqb ((2 ^ i ⊗ 2 ^ j) ⊗ 2 ^ k) (2 ^ i ⊗ (2 ^ j ⊗ 2 ^ k))))) ≡ true
 unfolding all_below ◌⊗◌ carryless modulo_301
 assoc_test = refl
 
@@ -96,11 +99,15 @@ comm_at i j hi hj =
 
 -- A power of 2 and a byte commute.
 comm_left : (i b : ℕ) → i < 8 → b < 2 ^ 8 → 2 ^ i ⊗ b ≡ b ⊗ 2 ^ i
-comm_left i b hi hb = additive_agree (λ x. 2 ^ i ⊗ x) (λ x. x ⊗ 2 ^ i) (product_sum_right (2 ^ i)) (λ x y. product_sum_left x y (2 ^ i)) 8 (λ j hj. comm_at i j hi hj) b hb
+comm_left i b hi hb =
+    additive_agree (λ x. 2 ^ i ⊗ x) (λ x. x ⊗ 2 ^ i) (product_sum_right (2 ^ i)) (λ x y. product_sum_left x y (2 ^ i)) 8
+    (λ j hj. comm_at i j hi hj) b hb
 
 -- Two bytes commute.
 comm_bytes : (a b : ℕ) → a < 2 ^ 8 → b < 2 ^ 8 → a ⊗ b ≡ b ⊗ a
-comm_bytes a b ha hb = additive_agree (λ x. x ⊗ b) (λ x. b ⊗ x) (λ x y. product_sum_left x y b) (product_sum_right b) 8 (λ i hi. comm_left i b hi hb) a ha
+comm_bytes a b ha hb =
+    additive_agree (λ x. x ⊗ b) (λ x. b ⊗ x) (λ x y. product_sum_left x y b) (product_sum_right b) 8
+    (λ i hi. comm_left i b hi hb) a ha
 
 -- The product is commutative.
 pub product_comm : (a b : ℕ) → a ⊗ b ≡ b ⊗ a
@@ -115,7 +122,8 @@ assoc_at i j k hi hj hk =
     eqb-true ((2 ^ i ⊗ 2 ^ j) ⊗ 2 ^ k) (2 ^ i ⊗ (2 ^ j ⊗ 2 ^ k))
     (all_below_at 8 (λ k. eqb ((2 ^ i ⊗ 2 ^ j) ⊗ 2 ^ k) (2 ^ i ⊗ (2 ^ j ⊗ 2 ^ k)))
     (all_below_at 8 (λ j. all_below 8 (λ k. eqb ((2 ^ i ⊗ 2 ^ j) ⊗ 2 ^ k) (2 ^ i ⊗ (2 ^ j ⊗ 2 ^ k))))
-    (all_below_at 8 (λ i. all_below 8 (λ j. all_below 8 (λ k. eqb ((2 ^ i ⊗ 2 ^ j) ⊗ 2 ^ k) (2 ^ i ⊗ (2 ^ j ⊗ 2 ^ k))))) assoc_test i hi) j hj) k hk)
+    (all_below_at 8 (λ i. all_below 8 (λ j. all_below 8 (λ k. eqb ((2 ^ i ⊗ 2 ^ j) ⊗ 2 ^ k) (2 ^ i ⊗ (2 ^ j ⊗ 2 ^ k)))))
+    assoc_test i hi) j hj) k hk)
 
 -- Two powers of 2 and a byte associate.
 assoc_third : (i j c : ℕ) → i < 8 → j < 8 → c < 2 ^ 8 → (2 ^ i ⊗ 2 ^ j) ⊗ c ≡ 2 ^ i ⊗ (2 ^ j ⊗ c)
@@ -144,9 +152,11 @@ assoc_bytes a b c ha hb hc =
 -- The product is associative.
 pub product_assoc : (a b c : ℕ) → (a ⊗ b) ⊗ c ≡ a ⊗ (b ⊗ c)
 product_assoc a b c =
-    sym (product_low_right (a ⊗ b) c) ∙ ap (λ x. x ⊗ (c % 256)) (sym (product_low_left a b) ∙ sym (product_low_right (a % 256) b))
+    sym (product_low_right (a ⊗ b) c) ∙ ap (λ x. x ⊗ (c % 256)) (sym (product_low_left a b)
+    ∙ sym (product_low_right (a % 256) b))
     ∙ assoc_bytes (a % 256) (b % 256) (c % 256) (byte_below a) (byte_below b) (byte_below c)
-    ∙ product_low_left a ((b % 256) ⊗ (c % 256)) ∙ ap (λ x. a ⊗ x) (product_low_left b (c % 256) ∙ product_low_right b c)
+    ∙ product_low_left a ((b % 256) ⊗ (c % 256))
+    ∙ ap (λ x. a ⊗ x) (product_low_left b (c % 256) ∙ product_low_right b c)
 
 -- The product of 0 and an element is 0.
 pub product_zero_left : (a : ℕ) → 0 ⊗ a ≡ 0
@@ -173,7 +183,8 @@ product_one_right a h = product_comm a 1 ∙ product_one_left a h
 
 -- A factor 1 inside a product may be left out, even where the other factor is no byte.
 pub product_one_middle : (a b : ℕ) → a ⊗ (1 ⊗ b) ≡ a ⊗ b
-product_one_middle a b = ap (λ x. a ⊗ x) (sym (product_low_right 1 b) ∙ product_one_left (b % 256) (byte_below b)) ∙ product_low_right a b
+product_one_middle a b =
+    ap (λ x. a ⊗ x) (sym (product_low_right 1 b) ∙ product_one_left (b % 256) (byte_below b)) ∙ product_low_right a b
 
 -- Products of powers of 2 below 2 ^ 8 are bytes.
 byte_test : all_below 8 (λ i. all_below 8 (λ j. eqb ((2 ^ i ⊗ 2 ^ j) % 256) (2 ^ i ⊗ 2 ^ j))) ≡ true
@@ -191,7 +202,8 @@ byte_at i j hi hj =
 byte_second : (i b : ℕ) → i < 8 → b < 2 ^ 8 → (2 ^ i ⊗ b) % 256 ≡ 2 ^ i ⊗ b
 byte_second i b hi hb =
     additive_agree (λ x. (2 ^ i ⊗ x) % 256) (λ x. 2 ^ i ⊗ x)
-    (λ x y. ap (λ z. z % 256) (product_sum_right (2 ^ i) x y) ∙ xor_mod (2 ^ i ⊗ x) (2 ^ i ⊗ y) 8) (product_sum_right (2 ^ i))
+    (λ x y. ap (λ z. z % 256) (product_sum_right (2 ^ i) x y) ∙ xor_mod (2 ^ i ⊗ x) (2 ^ i ⊗ y) 8)
+    (product_sum_right (2 ^ i))
     8 (λ j hj. byte_at i j hi hj) b hb
 
 -- The product of two bytes is its own low byte.
@@ -205,7 +217,8 @@ byte_product a b ha hb =
 pub product_below : (a b : ℕ) → a ⊗ b < 256
 product_below a b =
     let e : a ⊗ b ≡ (a % 256) ⊗ (b % 256) = sym (product_low_left a b) ∙ sym (product_low_right (a % 256) b) in
-    subst (λ x. x < 256) (byte_product (a % 256) (b % 256) (byte_below a) (byte_below b) ∙ sym e) (mod_below ((a % 256) ⊗ (b % 256)) 256 (omega arith))
+    subst (λ x. x < 256) (byte_product (a % 256) (b % 256) (byte_below a) (byte_below b) ∙ sym e)
+    (mod_below ((a % 256) ⊗ (b % 256)) 256 (omega arith))
 
 -- A sum of bytes is a byte.
 pub sum_below : (a b : ℕ) → a < 256 → b < 256 → a ⊕ b < 256
@@ -236,7 +249,8 @@ pub product_inverse : (a : ℕ) → 0 < a → a < 256 → a ⊗ inverse_of a ≡
 product_inverse a l h =
     let e : a - 1 + 1 ≡ a = omega arith in
     subst (λ x. x ⊗ inverse_of x ≡ 1) e
-    (eqb-true ((a - 1 + 1) ⊗ inverse_of (a - 1 + 1)) 1 (all_below_at 255 (λ a. eqb ((a + 1) ⊗ inverse_of (a + 1)) 1) inverse_test (a - 1) (omega arith)))
+    (eqb-true ((a - 1 + 1) ⊗ inverse_of (a - 1 + 1)) 1
+    (all_below_at 255 (λ a. eqb ((a + 1) ⊗ inverse_of (a + 1)) 1) inverse_test (a - 1) (omega arith)))
 
 -- An element has at most one inverse.
 pub inverse_only : (a b c : ℕ) → b < 256 → c < 256 → a ⊗ b ≡ 1 → a ⊗ c ≡ 1 → b ≡ c
@@ -247,7 +261,8 @@ inverse_only a b c hb hc eb ec =
 -- A factor that is not 0 is cancelled.
 pub product_cancel : (a b : ℕ) → 0 < a → a < 256 → b < 256 → a ⊗ b ≡ 0 → b ≡ 0
 product_cancel a b l ha hb e =
-    sym (product_one_right b hb) ∙ ap (λ x. b ⊗ x) (sym (product_inverse a l ha)) ∙ sym (product_assoc b a (inverse_of a))
+    sym (product_one_right b hb) ∙ ap (λ x. b ⊗ x) (sym (product_inverse a l ha))
+    ∙ sym (product_assoc b a (inverse_of a))
     ∙ ap (λ x. x ⊗ inverse_of a) (product_comm b a ∙ e) ∙ product_zero_left (inverse_of a)
 
 -- Two numbers whose sum is 0 are equal.
@@ -258,7 +273,8 @@ sum_zero a b e = sym (xor_zero_r a) ∙ ap (bit_xor a) (sym (xor_self b)) ∙ sy
 pub product_cancels : (a b c : ℕ) → 0 < a → a < 256 → b < 256 → c < 256 → a ⊗ b ≡ a ⊗ c → b ≡ c
 product_cancels a b c l ha hb hc e =
     sum_zero b c
-    (product_cancel a (b ⊕ c) l ha (sum_below b c hb hc) (product_sum_right a b c ∙ ap (λ x. x ⊕ a ⊗ c) e ∙ xor_self (a ⊗ c)))
+    (product_cancel a (b ⊕ c) l ha (sum_below b c hb hc) (product_sum_right a b c ∙ ap (λ x. x ⊕ a ⊗ c) e
+    ∙ xor_self (a ⊗ c)))
 
 -- ---- Powers
 -- A power of an element is a byte.
@@ -277,7 +293,9 @@ raise_add x (suc i) j = rw suc-add (ap (λ y. x ⊗ y) (raise_add x i j) ∙ sym
 pub raise_mul : (x i j : ℕ) → raise x (i * j) ≡ raise (raise x i) j
 unfolding raise
 raise_mul x i zero = ap (raise x) (mul-zero i)
-raise_mul x i (suc j) = ap (raise x) (let e : i * suc j ≡ i + i * j = omega arith in e) ∙ raise_add x i (i * j) ∙ ap (λ y. raise x i ⊗ y) (raise_mul x i j)
+raise_mul x i (suc j) =
+    ap (raise x) (let e : i * suc j ≡ i + i * j = omega arith in e) ∙ raise_add x i (i * j)
+    ∙ ap (λ y. raise x i ⊗ y) (raise_mul x i j)
 
 -- Two exponents may be applied in either order.
 pub raise_swap : (x i j : ℕ) → raise (raise x i) j ≡ raise (raise x j) i
@@ -319,7 +337,8 @@ none_is_one_at : (n e i : ℕ) → none_is_one n (power e) ≡ true → i < n �
 unfolding none_is_one raise
 none_is_one_at zero e i t l q = absurd (omega arith)
 none_is_one_at (suc n) e zero t l q =
-    eqb-false (power e) 1 (not-true (eqb (power e) 1) (and_parts (not (eqb (power e) 1)) (none_is_one n (power (suc e))) t).0) (ap power (sym (add-zero e)) ∙ q)
+    eqb-false (power e) 1 (not-true (eqb (power e) 1)
+    (and_parts (not (eqb (power e) 1)) (none_is_one n (power (suc e))) t).0) (ap power (sym (add-zero e)) ∙ q)
 none_is_one_at (suc n) e (suc i) t l q =
     none_is_one_at n (suc e) i (and_parts (not (eqb (power e) 1)) (none_is_one n (power (suc e))) t).1 (omega arith)
     (ap power (let s : suc e + i ≡ e + suc i = omega arith in s) ∙ q)
@@ -327,7 +346,8 @@ none_is_one_at (suc n) e (suc i) t l q =
 -- No power of 2 with an exponent of 1 to 254 is 1.
 power_one : (i : ℕ) → 0 < i → i < 255 → power i ≡ 1 → ⊥
 unfolding raise ◌⊗◌ carryless modulo_301
-power_one i l h e = none_is_one_at 254 1 (i - 1) power_test (omega arith) (ap power (let s : 1 + (i - 1) ≡ i = omega arith in s) ∙ e)
+power_one i l h e =
+    none_is_one_at 254 1 (i - 1) power_test (omega arith) (ap power (let s : 1 + (i - 1) ≡ i = omega arith in s) ∙ e)
 
 -- Powers of 2 whose exponents differ by less than 255 differ.
 pub power_apart : (i j : ℕ) → i < j → j < i + 255 → power i ≡ power j → ⊥
@@ -346,4 +366,10 @@ power_apart i j h l e =
 -- Powers of 2 with different exponents below 255 are different.
 pub power_injective : (i j : ℕ) → i < 255 → j < 255 → power i ≡ power j → i ≡ j
 power_injective i j hi hj e =
-    elim (cases_order i j) [ inl s ↦ s | inr r ↦ elim r [ inl l ↦ absurd (power_apart i j l (omega arith) e) | inr g ↦ absurd (power_apart j i g (omega arith) (sym e)) ] ]
+    elim (cases_order i j) [
+      | inl s ↦ s
+      | inr r ↦ elim r [
+        | inl l ↦ absurd (power_apart i j l (omega arith) e)
+        | inr g ↦ absurd (power_apart j i g (omega arith) (sym e))
+      ]
+    ]

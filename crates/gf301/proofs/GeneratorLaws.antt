@@ -1,12 +1,14 @@
 -- The generator polynomials: their lengths, values and roots.
-use Rattle.std.proofs.Common.{◌≡◌, ℕ, zero, suc, ◌+◌, ◌<◌, ◌≤◌, List, [], ◌∷◌, length, refl, sym, ap, subst, ◌∙◌, arith, inl, inr}
+use Rattle.std.proofs.Common.{◌≡◌, ℕ, zero, suc, ◌+◌, ◌<◌, ◌≤◌, List, [], ◌∷◌, length, refl, sym, ap, subst, ◌∙◌, arith}
+use Rattle.std.proofs.Common.{inl, inr}
 use lib.Bits.{xor_self, xor_zero_r}
 use Rattle.std.proofs.Math.Nat.{pos_of_ne-zero}
 use Rattle.std.proofs.lemmas.Bool.{cases_order}
 use Rattle.gf301.specs.Field.{◌⊕◌, ◌⊗◌, raise, power}
 use Rattle.gf301.specs.Polynomial.{Bytes, value, coefficient, convolution, times}
 use Rattle.gf301.specs.Generator.{generator}
-use Rattle.gf301.proofs.FieldLaws.{product_zero_left, product_zero_right, product_one_left, product_positive, sum_zero, sum_below, raise_below, power_apart}
+use Rattle.gf301.proofs.FieldLaws.{product_zero_left, product_zero_right, product_one_left, product_positive, sum_zero}
+use Rattle.gf301.proofs.FieldLaws.{sum_below, raise_below, power_apart}
 use Rattle.gf301.proofs.Weights.{bytes_cons}
 use Rattle.gf301.proofs.PolyLaws.{length_times, get_or-times, bytes_times, value_times, value_below, factor_value}
 
@@ -16,7 +18,8 @@ unfolding generator
 generator_length zero = refl
 generator_length (suc k) =
     let i : length (generator k) ≡ suc k = generator_length k in
-    let l : length (times (1 ∷ power (suc k) ∷ []) (generator k)) + 1 ≡ 2 + length (generator k) = length_times (1 ∷ power (suc k) ∷ []) (generator k) (omega arith) in
+    let l : length (times (1 ∷ power (suc k) ∷ []) (generator k)) + 1 ≡ 2 + length (generator k) =
+    length_times (1 ∷ power (suc k) ∷ []) (generator k) (omega arith) in
     omega arith
 
 -- The generator for k + 1 check codewords is that for k, times x - 2^(k + 1).
@@ -37,9 +40,12 @@ generator_root zero i h = absurd (omega arith)
 generator_root (suc k) i h =
     generator_step k (power (1 + i)) (raise_below 2 (1 + i))
     ∙ elim (cases_order i k) [
-      | inl s ↦ ap (λ y. y ⊗ value (generator k) (power (1 + i))) (ap (λ j. power (1 + i) ⊕ power j) (let e : suc k ≡ 1 + i = omega arith in e) ∙ xor_self (power (1 + i))) ∙ product_zero_left (value (generator k) (power (1 + i)))
+      | inl s ↦ ap (λ y. y ⊗ value (generator k) (power (1 + i)))
+          (ap (λ j. power (1 + i) ⊕ power j) (let e : suc k ≡ 1 + i = omega arith in e) ∙ xor_self (power (1 + i)))
+          ∙ product_zero_left (value (generator k) (power (1 + i)))
       | inr r ↦ elim r [
-        | inl l ↦ ap (λ y. (power (1 + i) ⊕ power (suc k)) ⊗ y) (generator_root k i l) ∙ product_zero_right (power (1 + i) ⊕ power (suc k))
+        | inl l ↦ ap (λ y. (power (1 + i) ⊕ power (suc k)) ⊗ y) (generator_root k i l)
+            ∙ product_zero_right (power (1 + i) ⊕ power (suc k))
         | inr g ↦ absurd (omega arith)
       ]
     ]
@@ -56,7 +62,8 @@ generator_positive (suc k) j h l =
     let d : 0 < power j ⊕ power (suc k) =
     pos_of_ne-zero (λ z. power_apart (suc k) j h (omega arith) (sym (sum_zero (power j) (power (suc k)) z))) in
     subst (λ y. 0 < y) (sym (generator_step k (power j) (raise_below 2 j)))
-    (product_positive (power j ⊕ power (suc k)) (value (generator k) (power j)) d (sum_below (power j) (power (suc k)) (raise_below 2 j) (raise_below 2 (suc k)))
+    (product_positive (power j ⊕ power (suc k)) (value (generator k) (power j)) d
+    (sum_below (power j) (power (suc k)) (raise_below 2 j) (raise_below 2 (suc k)))
     (generator_positive k j (omega arith) l) (value_below (generator k) (power j)))
 
 -- The coefficients of the generator are bytes.

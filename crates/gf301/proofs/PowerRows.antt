@@ -1,7 +1,9 @@
 -- The table of powers of powers.
-use Rattle.std.proofs.Common.{◌≡◌, ℕ, zero, suc, ◌+◌, ◌-◌, ◌*◌, ◌%◌, ◌<◌, ◌≤◌, List, [], ◌∷◌, ◌++◌, length, get_or, map, take, drop, refl, sym, ap, ◌∙◌, arith, Bool, true, ◌&&◌, eqb, inl, inr}
+use Rattle.std.proofs.Common.{◌≡◌, ℕ, zero, suc, ◌+◌, ◌-◌, ◌*◌, ◌%◌, ◌<◌, ◌≤◌, List, [], ◌∷◌, ◌++◌, length, get_or, map}
+use Rattle.std.proofs.Common.{take, drop, refl, sym, ap, ◌∙◌, arith, Bool, true, ◌&&◌, eqb, inl, inr}
 use Rattle.std.proofs.lemmas.Bool.{and_parts, eqb-true, cases_lt}
-use Rattle.std.proofs.lemmas.List.{get_or-map, length-map, ext_get_or, take-take, get_or-drop, get_or_append_left, get_or-append_right}
+use Rattle.std.proofs.lemmas.List.{get_or-map, length-map, ext_get_or, take-take, get_or-drop, get_or_append_left}
+use Rattle.std.proofs.lemmas.List.{get_or-append_right}
 use Rattle.std.proofs.lemmas.Nat.{mul-le}
 use Rattle.std.proofs.lemmas.Simd.{length-chunk, get_or-chunk}
 use lib.Lanes.{chunk}
@@ -28,7 +30,8 @@ strides_at : (e j : ℕ) (ps ys : List ℕ) → strides e ps ys ≡ true → j <
 unfolding strides
 strides_at e j ps [] t l = absurd (omega arith)
 strides_at e zero ps (y ∷ ys) t l =
-    eqb-true y (get_or ps 0 0) (and_parts (eqb y (get_or ps 0 0)) (strides e (drop e ps) ys) t).0 ∙ ap (λ i. get_or ps i 0) (let q : 0 ≡ e * 0 = omega arith in q)
+    eqb-true y (get_or ps 0 0) (and_parts (eqb y (get_or ps 0 0)) (strides e (drop e ps) ys) t).0
+    ∙ ap (λ i. get_or ps i 0) (let q : 0 ≡ e * 0 = omega arith in q)
 strides_at e (suc j) ps (y ∷ ys) t l =
     strides_at e j (drop e ps) ys (and_parts (eqb y (get_or ps 0 0)) (strides e (drop e ps) ys) t).1 (omega arith)
     ∙ get_or-drop e ps (e * j) 0 ∙ ap (λ i. get_or ps i 0) (let q : e + e * j ≡ e * suc j = omega arith in q)
@@ -77,7 +80,8 @@ row_at e j h l =
     ∙ rounds_at e (e * j) (omega arith)
 
 -- Sixteen numbers of the row of e are the powers e of sixteen powers of 2 in their order.
-row_lanes : (e first : ℕ) → e < 35 → first ≤ 240 → chunk first 16 (row e) ≡ map (λ x. raise x e) (values_from power first 16)
+row_lanes : (e first : ℕ) → e < 35 → first ≤ 240 →
+    chunk first 16 (row e) ≡ map (λ x. raise x e) (values_from power first 16)
 row_lanes e first h l =
     let n : length (chunk first 16 (row e)) ≡ 16 = length-chunk first 16 (row e) (omega (arith, row_length e h)) in
     ext_get_or 0 (chunk first 16 (row e)) (map (λ x. raise x e) (values_from power first 16))
@@ -87,20 +91,26 @@ row_lanes e first h l =
     get_or-chunk first 16 (row e) i 0 lt ∙ row_at e (first + i) h (omega arith)
     ∙ ap power (let q : e * (first + i) ≡ (first + i) * e = omega arith in q) ∙ raise_mul 2 (first + i) e
     ∙ ap (λ x. raise x e) (sym (get_or-values_from power first 16 i lt))
-    ∙ sym (get_or-map (λ x. raise x e) (values_from power first 16) i 0 0 (omega (arith, length-values_from power first 16))))
+    ∙ sym (get_or-map (λ x. raise x e) (values_from power first 16) i 0 0
+    (omega (arith, length-values_from power first 16))))
 
 -- These are read from the part of the row that begins with the first of them.
-pub row_read : (e first : ℕ) → e < 35 → first ≤ 240 → take 16 (take (length (row e) - first) (drop first (row e))) ≡ map (λ x. raise x e) (values_from power first 16)
-row_read e first h l = take-take 16 (length (row e) - first) (drop first (row e)) (omega (arith, row_length e h)) ∙ row_lanes e first h l
+pub row_read : (e first : ℕ) → e < 35 → first ≤ 240 →
+    take 16 (take (length (row e) - first) (drop first (row e))) ≡ map (λ x. raise x e) (values_from power first 16)
+row_read e first h l =
+    take-take 16 (length (row e) - first) (drop first (row e)) (omega (arith, row_length e h)) ∙ row_lanes e first h l
 
 -- The first sixteen powers of 2, times the one with an exponent, are those from this exponent on.
 pub later_powers : (first : ℕ) → map (λ x. power first ⊗ x) (chunk 0 16 POWERS) ≡ values_from power first 16
 later_powers first =
     let n : length (chunk 0 16 POWERS) ≡ 16 = refl in
-    let m : length (map (λ x. power first ⊗ x) (chunk 0 16 POWERS)) ≡ 16 = length-map (chunk 0 16 POWERS) (λ x. power first ⊗ x) ∙ n in
-    ext_get_or 0 (map (λ x. power first ⊗ x) (chunk 0 16 POWERS)) (values_from power first 16) (m ∙ sym (length-values_from power first 16))
+    let m : length (map (λ x. power first ⊗ x) (chunk 0 16 POWERS)) ≡ 16 =
+    length-map (chunk 0 16 POWERS) (λ x. power first ⊗ x) ∙ n in
+    ext_get_or 0 (map (λ x. power first ⊗ x) (chunk 0 16 POWERS)) (values_from power first 16) (m
+    ∙ sym (length-values_from power first 16))
     (λ i b.
     let lt : i < 16 = omega (arith, m) in
     get_or-map (λ x. power first ⊗ x) (chunk 0 16 POWERS) i 0 0 (omega (arith, n))
-    ∙ ap (λ y. power first ⊗ y) (get_or-chunk 0 16 POWERS i 0 lt ∙ ap (λ j. get_or POWERS j 0) (let q : 0 + i ≡ i = omega arith in q) ∙ powers_at i (omega arith))
+    ∙ ap (λ y. power first ⊗ y) (get_or-chunk 0 16 POWERS i 0 lt
+    ∙ ap (λ j. get_or POWERS j 0) (let q : 0 + i ≡ i = omega arith in q) ∙ powers_at i (omega arith))
     ∙ sym (raise_add 2 first i) ∙ sym (get_or-values_from power first 16 i lt))

@@ -1,5 +1,6 @@
 -- The powers of an element in lanes: the first ones, and then as many more.
-use Rattle.std.proofs.Common.{◌≡◌, ℕ, zero, suc, ◌+◌, ◌-◌, ◌*◌, ◌<◌, ◌≤◌, List, ◌∷◌, length, get_or, map, take, drop, replicate, refl, sym, ap, ◌∙◌, arith, bit_xor, true, cond, eqb, ltb, inl, inr}
+use Rattle.std.proofs.Common.{◌≡◌, ℕ, zero, suc, ◌+◌, ◌-◌, ◌*◌, ◌<◌, ◌≤◌, List, ◌∷◌, length, get_or, map, take, drop}
+use Rattle.std.proofs.Common.{replicate, refl, sym, ap, ◌∙◌, arith, bit_xor, true, cond, eqb, ltb, inl, inr}
 use Rattle.std.proofs.lemmas.Bool.{eqb-true, cases_lt, lt-ltb, le-ltb}
 use Rattle.std.proofs.lemmas.List.{get_or-map, length-map, ext_get_or, get_or_past, get_or_default, take-take}
 use Rattle.std.proofs.lemmas.Simd.{length-zip2, length-chunk, get_or-zip2, get_or-chunk}
@@ -31,7 +32,9 @@ back_length n h = length-chunk (8 - n) 16 BACK (omega arith)
 
 -- The number at a place of the table.
 table_back : (p : ℕ) → p < 24 → get_or BACK p 0 ≡ cond (ltb p 8) 15 (p - 8)
-table_back p h = eqb-true (get_or BACK p 0) (cond (ltb p 8) 15 (p - 8)) (all_below_at 24 (λ p. eqb (get_or BACK p 0) (cond (ltb p 8) 15 (p - 8))) back_test p h)
+table_back p h =
+    eqb-true (get_or BACK p 0) (cond (ltb p 8) 15 (p - 8))
+    (all_below_at 24 (λ p. eqb (get_or BACK p 0) (cond (ltb p 8) 15 (p - 8))) back_test p h)
 
 -- The lowest n lanes take the last one.
 back_low : (n i : ℕ) → n ≤ 8 → i < n → get_or (back n) i 0 ≡ 15
@@ -72,32 +75,40 @@ nothing_added : (a c b : ℕ) → b ≡ 0 → a ⊕ c ⊗ b ≡ a
 nothing_added a c b e = ap (λ y. a ⊕ c ⊗ y) e ∙ ap (bit_xor a) (product_zero_right c) ∙ xor_zero_r a
 
 -- The first lanes stay as they are.
-pub followed_first : (c n : ℕ) (v s : List ℕ) → n ≤ 8 → length v ≡ 16 → s ≡ map (λ x. c ⊗ x) (map (λ i. get_or v i 0) (back n)) → ((i : ℕ) → n ≤ i → get_or v i 0 ≡ 0)
+pub followed_first : (c n : ℕ) (v s : List ℕ) → n ≤ 8 → length v ≡ 16 →
+    s ≡ map (λ x. c ⊗ x) (map (λ i. get_or v i 0) (back n)) → ((i : ℕ) → n ≤ i → get_or v i 0 ≡ 0)
     → (i : ℕ) → i < n → get_or (zip2 bit_xor v s) i 0 ≡ get_or v i 0
 followed_first c n v s h long e free i l =
     followed_at c n v s h long e i (omega arith)
-    ∙ nothing_added (get_or v i 0) c (get_or v (get_or (back n) i 0) 0) (ap (λ j. get_or v j 0) (back_low n i h l) ∙ free 15 (omega arith))
+    ∙ nothing_added (get_or v i 0) c (get_or v (get_or (back n) i 0) 0) (ap (λ j. get_or v j 0) (back_low n i h l)
+    ∙ free 15 (omega arith))
 
 -- Behind them stand their products.
-pub followed_scaled : (c n : ℕ) (v s : List ℕ) → n ≤ 8 → length v ≡ 16 → s ≡ map (λ x. c ⊗ x) (map (λ i. get_or v i 0) (back n)) → ((i : ℕ) → n ≤ i → get_or v i 0 ≡ 0)
+pub followed_scaled : (c n : ℕ) (v s : List ℕ) → n ≤ 8 → length v ≡ 16 →
+    s ≡ map (λ x. c ⊗ x) (map (λ i. get_or v i 0) (back n)) → ((i : ℕ) → n ≤ i → get_or v i 0 ≡ 0)
     → (i : ℕ) → i < n → get_or (zip2 bit_xor v s) (n + i) 0 ≡ c ⊗ get_or v i 0
 followed_scaled c n v s h long e free i l =
     followed_at c n v s h long e (n + i) (omega arith)
     ∙ ap (λ y. y ⊕ c ⊗ get_or v (get_or (back n) (n + i) 0) 0) (free (n + i) (omega arith))
     ∙ xor_zero_l (c ⊗ get_or v (get_or (back n) (n + i) 0) 0)
-    ∙ ap (λ j. c ⊗ get_or v j 0) (back_high n (n + i) h (omega arith) (omega arith) ∙ (let q : n + i - n ≡ i = omega arith in q))
+    ∙ ap (λ j. c ⊗ get_or v j 0) (back_high n (n + i) h (omega arith) (omega arith)
+    ∙ (let q : n + i - n ≡ i = omega arith in q))
 
 -- The lanes after these are 0.
-pub followed_free : (c n : ℕ) (v s : List ℕ) → n ≤ 8 → length v ≡ 16 → s ≡ map (λ x. c ⊗ x) (map (λ i. get_or v i 0) (back n)) → ((i : ℕ) → n ≤ i → get_or v i 0 ≡ 0)
+pub followed_free : (c n : ℕ) (v s : List ℕ) → n ≤ 8 → length v ≡ 16 →
+    s ≡ map (λ x. c ⊗ x) (map (λ i. get_or v i 0) (back n)) → ((i : ℕ) → n ≤ i → get_or v i 0 ≡ 0)
     → (i : ℕ) → 2 * n ≤ i → get_or (zip2 bit_xor v s) i 0 ≡ 0
 followed_free c n v s h long e free i l =
     elim (cases_lt i 16) [
       | inl b ↦
           followed_at c n v s h long e i b
-          ∙ nothing_added (get_or v i 0) c (get_or v (get_or (back n) i 0) 0) (ap (λ j. get_or v j 0) (back_high n i h (omega arith) b) ∙ free (i - n) (omega arith))
+          ∙ nothing_added (get_or v i 0) c (get_or v (get_or (back n) i 0) 0)
+          (ap (λ j. get_or v j 0) (back_high n i h (omega arith) b) ∙ free (i - n) (omega arith))
           ∙ free i (omega arith)
       | inr b ↦
-          let sl : length s ≡ 16 = ap length e ∙ length-map (map (λ i. get_or v i 0) (back n)) (λ x. c ⊗ x) ∙ length-map (back n) (λ i. get_or v i 0) ∙ back_length n h in
+          let sl : length s ≡ 16 =
+          ap length e ∙ length-map (map (λ i. get_or v i 0) (back n)) (λ x. c ⊗ x)
+          ∙ length-map (back n) (λ i. get_or v i 0) ∙ back_length n h in
           get_or_past (zip2 bit_xor v s) i 0 (omega (arith, long, length-zip2 bit_xor v s (long ∙ sym sl)))
     ]
 
@@ -108,15 +119,18 @@ pub record ArePowers (x n : ℕ) (v : List ℕ) : Type 0 where
   pub free : (i : ℕ) → n ≤ i → get_or v i 0 ≡ 0
 
 -- With their products with the power n behind them there are twice as many.
-pub twice_powers : (x n c : ℕ) (v r : List ℕ) → ArePowers x n v → c ≡ raise x n → ((i : ℕ) → i < n → get_or r i 0 ≡ get_or v i 0)
-    → ((i : ℕ) → i < n → get_or r (n + i) 0 ≡ c ⊗ get_or v i 0) → ((i : ℕ) → 2 * n ≤ i → get_or r i 0 ≡ 0) → ArePowers x (2 * n) r
+pub twice_powers : (x n c : ℕ) (v r : List ℕ) → ArePowers x n v → c ≡ raise x n →
+    ((i : ℕ) → i < n → get_or r i 0 ≡ get_or v i 0)
+    → ((i : ℕ) → i < n → get_or r (n + i) 0 ≡ c ⊗ get_or v i 0) → ((i : ℕ) → 2 * n ≤ i → get_or r i 0 ≡ 0) →
+    ArePowers x (2 * n) r
 twice_powers x n c v r p e first more free = record {
   each = λ i h. elim (cases_lt i n) [
     | inl b ↦ first i b ∙ p.each i b
     | inr b ↦
         let j = i - n in
         let q : n + j ≡ i = omega arith in
-        ap (λ m. get_or r m 0) (sym q) ∙ more j (omega arith) ∙ ap (λ y. y ⊗ get_or v j 0) e ∙ ap (λ y. raise x n ⊗ y) (p.each j (omega arith))
+        ap (λ m. get_or r m 0) (sym q) ∙ more j (omega arith) ∙ ap (λ y. y ⊗ get_or v j 0) e
+        ∙ ap (λ y. raise x n ⊗ y) (p.each j (omega arith))
         ∙ sym (raise_add x n j) ∙ ap (raise x) q
   ];
   free = free;
@@ -132,8 +146,11 @@ zeros_at (suc n) (suc i) = zeros_at n i
 pub one_power : (x : ℕ) → ArePowers x 1 (1 ∷ replicate 15 0)
 unfolding raise
 one_power x = record {
-  each = λ i h. ap (λ j. get_or (1 ∷ replicate 15 0) j 0) (let q : i ≡ 0 = omega arith in q) ∙ ap (raise x) (let q : 0 ≡ i = omega arith in q);
-  free = λ i h. let q : suc (i - 1) ≡ i = omega arith in ap (λ j. get_or (1 ∷ replicate 15 0) j 0) (sym q) ∙ zeros_at 15 (i - 1);
+  each =
+      λ i h. ap (λ j. get_or (1 ∷ replicate 15 0) j 0) (let q : i ≡ 0 = omega arith in q)
+      ∙ ap (raise x) (let q : 0 ≡ i = omega arith in q);
+  free = λ i h. let q : suc (i - 1) ≡ i =
+      omega arith in ap (λ j. get_or (1 ∷ replicate 15 0) j 0) (sym q) ∙ zeros_at 15 (i - 1);
 }
 
 -- An element is its own power 1.
@@ -149,4 +166,5 @@ raise_twice x y n e = ap (λ z. z ⊗ z) e ∙ sym (raise_add x n n)
 pub all_powers : (x : ℕ) (v : List ℕ) → length v ≡ 16 → ArePowers x 16 v → v ≡ values_from (raise x) 0 16
 all_powers x v long p =
     ext_get_or 0 v (values_from (raise x) 0 16) (long ∙ sym (length-values_from (raise x) 0 16))
-    (λ i h. p.each i (omega (arith, long)) ∙ sym (get_or-values_from (raise x) 0 16 i (omega (arith, long)) ∙ ap (raise x) (let q : 0 + i ≡ i = omega arith in q)))
+    (λ i h. p.each i (omega (arith, long)) ∙ sym (get_or-values_from (raise x) 0 16 i (omega (arith, long))
+    ∙ ap (raise x) (let q : 0 + i ≡ i = omega arith in q)))

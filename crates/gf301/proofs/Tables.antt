@@ -1,5 +1,6 @@
 -- The rules of the two tables.
-use Rattle.std.proofs.Common.{◌≡◌, ℕ, zero, suc, ◌+◌, ◌-◌, ◌*◌, ◌/◌, ◌%◌, ◌<◌, List, [], ◌∷◌, length, get_or, refl, sym, ap, subst, ◌∙◌, arith, Bool, true, ◌&&◌, eqb, ltb}
+use Rattle.std.proofs.Common.{◌≡◌, ℕ, zero, suc, ◌+◌, ◌-◌, ◌*◌, ◌/◌, ◌%◌, ◌<◌, List, [], ◌∷◌, length, get_or, refl, sym}
+use Rattle.std.proofs.Common.{ap, subst, ◌∙◌, arith, Bool, true, ◌&&◌, eqb, ltb}
 use Rattle.std.proofs.lemmas.Bool.{and_parts, eqb-true, ltb-true}
 use Rattle.std.proofs.Math.Nat.{add-zero}
 use Rattle.gf301.specs.Field.{◌⊗◌, carryless, modulo_301, raise, power}
@@ -21,9 +22,11 @@ powers_test = refl
 doubling_at : (ys : List ℕ) (e i : ℕ) → doubling (power e) ys ≡ true → i < length ys → get_or ys i 0 ≡ power (e + i)
 unfolding doubling raise
 doubling_at [] e i h l = absurd (omega arith)
-doubling_at (y ∷ ys) e zero h l = eqb-true y (power e) (and_parts (eqb y (power e)) (doubling (2 ⊗ y) ys) h).0 ∙ ap power (sym (add-zero e))
+doubling_at (y ∷ ys) e zero h l =
+    eqb-true y (power e) (and_parts (eqb y (power e)) (doubling (2 ⊗ y) ys) h).0 ∙ ap power (sym (add-zero e))
 doubling_at (y ∷ ys) e (suc i) h l =
-    let p : (eqb y (power e) ≡ true) × (doubling (2 ⊗ y) ys ≡ true) = and_parts (eqb y (power e)) (doubling (2 ⊗ y) ys) h in
+    let p : (eqb y (power e) ≡ true) × (doubling (2 ⊗ y) ys ≡ true) =
+    and_parts (eqb y (power e)) (doubling (2 ⊗ y) ys) h in
     doubling_at ys (suc e) i (subst (λ z. doubling (2 ⊗ z) ys ≡ true) (eqb-true y (power e) p.0) p.1) (omega arith)
     ∙ ap power (let q : suc e + i ≡ e + suc i = omega arith in q)
 
@@ -46,7 +49,8 @@ pub logs_at : (a : ℕ) → 0 < a → a < 256 → (get_or LOGS a 0 < 255) × (po
 unfolding log_test
 logs_at a l h =
     let e : a - 1 + 1 ≡ a = omega arith in
-    let t : log_test a ≡ true = subst (λ x. log_test x ≡ true) e (all_below_at 255 (λ a. log_test (a + 1)) logs_test (a - 1) (omega arith)) in
+    let t : log_test a ≡ true =
+    subst (λ x. log_test x ≡ true) e (all_below_at 255 (λ a. log_test (a + 1)) logs_test (a - 1) (omega arith)) in
     let p : (ltb (get_or LOGS a 0) 255 ≡ true) × (eqb (get_or POWERS (get_or LOGS a 0) 0) a ≡ true) =
     and_parts (ltb (get_or LOGS a 0) 255) (eqb (get_or POWERS (get_or LOGS a 0) 0) a) t in
     let b : get_or LOGS a 0 < 255 = ltb-true (get_or LOGS a 0) 255 p.0 in
@@ -62,6 +66,7 @@ raise_one (suc n) = product_one_left (raise 1 n) (raise_below 1 n) ∙ raise_one
 pub power_mod : (e : ℕ) → power (e % 255) ≡ power e
 power_mod e =
     sym (product_one_left (power (e % 255)) (raise_below 2 (e % 255)))
-    ∙ ap (λ y. y ⊗ power (e % 255)) (sym (raise_mul 2 255 (e / 255) ∙ ap (λ y. raise y (e / 255)) power_255 ∙ raise_one (e / 255)))
+    ∙ ap (λ y. y ⊗ power (e % 255)) (sym (raise_mul 2 255 (e / 255) ∙ ap (λ y. raise y (e / 255)) power_255
+    ∙ raise_one (e / 255)))
     ∙ sym (raise_add 2 (255 * (e / 255)) (e % 255))
     ∙ ap power (let q : 255 * (e / 255) + e % 255 ≡ e = omega arith in q)

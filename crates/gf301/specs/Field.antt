@@ -13,7 +13,8 @@ a ⊕ b = bit_xor a b
 abbrev pub bit : ℕ → ℕ → ℕ
 bit a i = a / 2 ^ i % 2
 
--- The product without carries of b and the n low bits of a is the sum of b shifted by i, over each bit i of a that is 1.
+-- The product without carries of b and the n low bits of a is the sum of b shifted by i, over each bit i of a that is
+-- 1.
 unfoldable pub carryless : ℕ → ℕ → ℕ → ℕ
 carryless zero a b = 0
 carryless (suc i) a b = bit a i * (b * 2 ^ i) ⊕ carryless i a b

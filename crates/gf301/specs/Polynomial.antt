@@ -33,7 +33,7 @@ unfoldable pub values_from : (ℕ → ℕ) → ℕ → ℕ → List ℕ
 values_from f first zero = []
 values_from f first (suc count) = f first ∷ values_from f (suc first) count
 
--- The product of two polynomials of n and m coefficients has n + m - 1 coefficients (none where both are empty), each the
--- sum of the products of a coefficient of p and one of q whose places add up to its own.
+-- The product of two polynomials of n and m coefficients has n + m - 1 coefficients (none where both are empty), each
+-- the sum of the products of a coefficient of p and one of q whose places add up to its own.
 unfoldable pub times : List ℕ → List ℕ → List ℕ
 times p q = values_from (convolution (coefficient p) (coefficient q)) 0 (length p + length q - 1)

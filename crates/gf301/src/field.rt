@@ -22,8 +22,8 @@ pub(crate) static POWERS: [u8; 255] = [
     119, 238, 241, 207, 179, 75, 150,
 ];
 
-/// The logarithms: at each element stands the e below 255 with 2 to the power e equal to it. 0 has none, and its place is not
-/// read.
+/// The logarithms: at each element stands the e below 255 with 2 to the power e equal to it. 0 has none, and its place
+/// is not read.
 static LOGS: [u8; 256] = [
     0, 0, 1, 240, 2, 225, 241, 53, 3, 38, 226, 133, 242, 43, 54, 210, 4, 195, 39, 114, 227, 106,
     134, 28, 243, 140, 44, 23, 55, 118, 211, 234, 5, 219, 196, 96, 40, 222, 115, 103, 228, 78, 107,
@@ -52,8 +52,8 @@ impl Gf {
         Gf(self.0 ^ other.0)
     }
 
-    /// Multiplies two elements, without carries and modulo 301. The product is looked up as the sum of this element's products
-    /// with the low and the high four bits of the other one.
+    /// Multiplies two elements, without carries and modulo 301. The product is looked up as the sum of this element's
+    /// products with the low and the high four bits of the other one.
     pub fn mul(self, other: Gf) -> Gf
         ensures { result.0 ≡ self.0 ⊗ other.0 }
     {

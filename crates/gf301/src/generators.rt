@@ -14,8 +14,8 @@ pub const MOST_CHECKS: usize = 68;
 /// Room for the most check codewords, or as many other numbers, in whole groups of sixteen.
 pub const CHECKS_ROOM: usize = (MOST_CHECKS + 15) / 16 * 16;
 
-/// Gives the generator polynomial for k check codewords, k of 1 to [`MOST_CHECKS`]: (x - 2^1) (x - 2^2) .. (x - 2^k), with
-/// k + 1 coefficients, of which the first is 1.
+/// Gives the generator polynomial for k check codewords, k of 1 to [`MOST_CHECKS`]: (x - 2^1) (x - 2^2) .. (x - 2^k),
+/// with k + 1 coefficients, of which the first is 1.
 pub fn generator(k: usize) -> Poly
     requires some { 1 ≤ k }
     requires most { k ≤ MOST_CHECKS }
@@ -29,8 +29,8 @@ pub fn generator(k: usize) -> Poly
     product
 }
 
-/// Gives the coefficients of the generator for k check codewords after the first, k of at most [`MOST_CHECKS`], and then
-/// zeros up to [`CHECKS_ROOM`] numbers.
+/// Gives the coefficients of the generator for k check codewords after the first, k of at most [`MOST_CHECKS`], and
+/// then zeros up to [`CHECKS_ROOM`] numbers.
 #[inline]
 pub fn taps(k: usize) -> &'static [u8; CHECKS_ROOM]
     requires { k ≤ MOST_CHECKS }

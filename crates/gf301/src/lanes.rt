@@ -12,16 +12,16 @@ use crate::power_rows::POWER_ROWS;
 use crate::product_rows::{HIGH, LOW};
 use std::simd::prelude::*;
 
-/// Gives the sixteen powers of 2 with exponents of `first` to `first` + 15, in this order, for any `first`. With the exponent 1
-/// [`power_row`] gives the same from a table, where `first` is at most 240.
+/// Gives the sixteen powers of 2 with exponents of `first` to `first` + 15, in this order, for any `first`. With the
+/// exponent 1 [`power_row`] gives the same from a table, where `first` is at most 240.
 pub fn powers(first: u16) -> [u8; 16]
     ensures { result ≡ values_from power first 16 }
 {
     scale(Gf::power_of_two(first).0, u8x16::from_slice(&POWERS)).to_array()
 }
 
-/// Multiplies the two elements in each lane. It takes no table: `a` is doubled over and over, and the bits of `b`, from the
-/// lowest on, tell which of its multiples are added.
+/// Multiplies the two elements in each lane. It takes no table: `a` is doubled over and over, and the bits of `b`, from
+/// the lowest on, tell which of its multiples are added.
 #[inline]
 pub fn lanes_mul(a: Simd<u8, 16>, b: Simd<u8, 16>) -> Simd<u8, 16>
     ensures { result ≡ zip2 (λ x y. x ⊗ y) a b }
@@ -39,8 +39,8 @@ pub fn lanes_mul(a: Simd<u8, 16>, b: Simd<u8, 16>) -> Simd<u8, 16>
     sum
 }
 
-/// Multiplies each lane by 2: its bits move up by one, and where the highest was 1 the field's polynomial 301 is taken away, of
-/// which 45 lies in the lane.
+/// Multiplies each lane by 2: its bits move up by one, and where the highest was 1 the field's polynomial 301 is taken
+/// away, of which 45 lies in the lane.
 #[inline]
 fn double(a: Simd<u8, 16>) -> Simd<u8, 16>
     ensures { result ≡ map (λ x. 2 ⊗ x) a }
@@ -49,8 +49,8 @@ fn double(a: Simd<u8, 16>) -> Simd<u8, 16>
     (a + a) ^ carries.select(u8x16::splat(45), u8x16::splat(0))
 }
 
-/// Multiplies each lane by `c`: the product is the sum of the products of `c` with the low and the high four bits there, which
-/// are looked up.
+/// Multiplies each lane by `c`: the product is the sum of the products of `c` with the low and the high four bits
+/// there, which are looked up.
 #[inline]
 pub fn scale(c: u8, v: Simd<u8, 16>) -> Simd<u8, 16>
     ensures { result ≡ map (λ x. c ⊗ x) v }
@@ -70,8 +70,8 @@ fn by_table(table: Simd<u8, 16>, places: Simd<u8, 16>) -> Simd<u8, 16>
     table.swizzle_dyn(places)
 }
 
-/// Gives the sixteen powers of 2 with exponents of `first` to `first` + 15, each to the power e, which is at most half of
-/// [`MOST_CHECKS`]. `first` is at most 240, since a row of the table has 256 numbers.
+/// Gives the sixteen powers of 2 with exponents of `first` to `first` + 15, each to the power e, which is at most half
+/// of [`MOST_CHECKS`]. `first` is at most 240, since a row of the table has 256 numbers.
 #[inline]
 pub fn power_row(e: usize, first: usize) -> Simd<u8, 16>
     requires exponent { e ≤ MOST_CHECKS / 2 }
@@ -81,14 +81,14 @@ pub fn power_row(e: usize, first: usize) -> Simd<u8, 16>
     u8x16::from_slice(&POWER_ROWS[e][first..])
 }
 
-/// The sixteen numbers from the place 8 - n on, n of at most 8, say for each lane from which lane it is filled when all lanes
-/// move up by n. The lowest n lanes are filled from the last one.
+/// The sixteen numbers from the place 8 - n on, n of at most 8, say for each lane from which lane it is filled when all
+/// lanes move up by n. The lowest n lanes are filled from the last one.
 static BACK: [u8; 24] = [
     15, 15, 15, 15, 15, 15, 15, 15, 0, 1, 2, 3, 4, 5, 6, 7, 8, 9, 10, 11, 12, 13, 14, 15,
 ];
 
-/// Gives the sixteen powers of an element with exponents of 0 to 15, in this order. The first 1, 2, 4 and 8 powers give as
-/// many more, by products with the next power.
+/// Gives the sixteen powers of an element with exponents of 0 to 15, in this order. The first 1, 2, 4 and 8 powers give
+/// as many more, by products with the next power.
 #[inline]
 pub fn powers_of(x: Gf) -> Simd<u8, 16>
     ensures { result ≡ values_from (raise x.0) 0 16 }
@@ -103,7 +103,8 @@ pub fn powers_of(x: Gf) -> Simd<u8, 16>
     append_scaled(eight, 8, eighth)
 }
 
-/// Puts the products of the first `count` lanes with `c` behind them. `count` is at most 8, and the lanes from there on are 0.
+/// Puts the products of the first `count` lanes with `c` behind them. `count` is at most 8, and the lanes from there on
+/// are 0.
 #[inline]
 fn append_scaled(lanes: Simd<u8, 16>, count: usize, c: Gf) -> Simd<u8, 16>
     requires few { count ≤ 8 }

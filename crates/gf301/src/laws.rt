@@ -67,8 +67,8 @@ pub fn roots_are_few()
         → All (λ a. a ≡ 0) p }
 {}
 
-/// The generator for k check codewords has k + 1 coefficients, of which the first is 1, and among the powers of 2, whose
-/// exponents are 1 to 255, its roots are those with exponents of 1 to k.
+/// The generator for k check codewords has k + 1 coefficients, of which the first is 1, and among the powers of 2,
+/// whose exponents are 1 to 255, its roots are those with exponents of 1 to k.
 pub fn generator_laws()
     ensures length { (k : ℕ) → length (generator k) ≡ k + 1 }
     ensures first { (k : ℕ) → coefficient (generator k) 0 ≡ 1 }

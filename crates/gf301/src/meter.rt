@@ -27,8 +27,8 @@ impl Meter {
         a.mul(b)
     }
 
-    /// Gives the element whose product with `a` is 1; 0 has none. This counts as an inversion; fewer than `u32::MAX` have
-    /// been counted before.
+    /// Gives the element whose product with `a` is 1; 0 has none. This counts as an inversion; fewer than `u32::MAX`
+    /// have been counted before.
     pub fn inverse(&mut self, a: Gf) -> Gf
         requires some { 0 < a.0 }
         requires room { self.old.inversions < 2 ^ 32 - 1 }
@@ -41,8 +41,8 @@ impl Meter {
         a.inverse()
     }
 
-    /// Does what [`add_scaled`] does, which counts as `count` products: at least as many as the other list has numbers before the
-    /// zeros at its end. There is room for as many in `u32`.
+    /// Does what [`add_scaled`] does, which counts as `count` products: at least as many as the other list has numbers
+    /// before the zeros at its end. There is room for as many in `u32`.
     #[inline]
     pub fn add_scaled(&mut self, sum: &mut [u8], c: Gf, list: &[u8], count: u32)
         requires enough { length sum.old ≤ length list.now }

@@ -20,8 +20,8 @@ pub fn value_at(p: &[u8], at: Gf) -> Gf
     sum
 }
 
-/// Multiplies two polynomials that aren't empty, of n and m coefficients; the product has n + m - 1 coefficients, of which
-/// there is room for 256.
+/// Multiplies two polynomials that aren't empty, of n and m coefficients; the product has n + m - 1 coefficients, of
+/// which there is room for 256.
 pub fn times(p: &[u8], q: &[u8]) -> Poly
     requires left_filled { 0 < length p.now }
     requires right_filled { 0 < length q.now }

@@ -1,5 +1,6 @@
 -- How an open record is kept: as rows of cells, each a number.
-use Rattle.std.specs.Prelude.{◌≡◌, ◌==◌, ◌&&◌, ◌+◌, ◌*◌, ◌<◌, ◌≤◌, ℕ, Bool, true, false, not, if◌then◌else◌, List, [], ◌∷◌, ◌++◌, length, map, take, Option, Some, None}
+use Rattle.std.specs.Prelude.{◌≡◌, ◌==◌, ◌&&◌, ◌+◌, ◌*◌, ◌<◌, ◌≤◌, ℕ, Bool, true, false, not, if◌then◌else◌, List, []}
+use Rattle.std.specs.Prelude.{◌∷◌, ◌++◌, length, map, take, Option, Some, None}
 use Rattle.std.specs.List.{list_any, range_with_len}
 use Rattle.dm_symbol.specs.Grid.{is_dark_in}
 use Rattle.dm_text.specs.declared.row_part.RowPart.{RowPart}
@@ -8,7 +9,8 @@ use Rattle.dm_text.specs.declared.record.Contents.{Contents}
 use Rattle.dm_text.specs.declared.record.Contents.TheVariants as kept
 use Rattle.dm_text.specs.Texts.{ended_lines, last_line}
 use Rattle.dm_text.specs.Records.{AreFullLines, IsClosedRecord, has_foreign, is_foreign, is_large}
-use Rattle.dm_text.specs.RecordFacts.{AreRecordFacts, RecordContents, RecordFacts, Foreign, Large, Cells, contents_of, facts_of_record, differ, first_length, last_length, is_nothing}
+use Rattle.dm_text.specs.RecordFacts.{AreRecordFacts, RecordContents, RecordFacts, Foreign, Large, Cells, contents_of}
+use Rattle.dm_text.specs.RecordFacts.{facts_of_record, differ, first_length, last_length, is_nothing}
 
 -- A character is a dark cell if it is 1, which is 49.
 abbrev pub is_dark : ℕ → Bool
@@ -93,7 +95,8 @@ pub record EndsLines (t : Rows) (lines : List (List ℕ)) (bytes : List ℕ) : T
   pub full : AreFullLines more
   pub held : HoldsLines t (lines ++ more) []
 
--- Where there was room, the rows of the lines and the rest are kept; otherwise there are too many of them, or one is too long.
+-- Where there was room, the rows of the lines and the rest are kept; otherwise there are too many of them, or one is
+-- too long.
 abbrev pub Continues : Bool → Rows → List (List ℕ) → List ℕ → Type 0
 Continues true t lines rest = HoldsLines t lines rest
 Continues false t lines rest = is_large (lines ++ last_line rest) ≡ true

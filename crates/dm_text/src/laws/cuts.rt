@@ -1,4 +1,5 @@
-//! Laws of texts that are cut between records, or between message lines: answered part by part, they are answered as a whole.
+//! Laws of texts that are cut between records, or between message lines: answered part by part, they are answered as a
+//! whole.
 
 ghost use Rattle.std.specs.Prelude.{◌≡◌, ◌≢◌, ◌++◌, ℕ, List, flat_map, map};
 ghost use Rattle.std.specs.List.{concat};

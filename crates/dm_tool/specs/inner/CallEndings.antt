@@ -8,5 +8,8 @@ use Rattle.dm_tool.specs.Endings.{Ends}
 -- the usage if it names none, and with 3 if memory was lacking.
 abbrev pub IsEndingOfCall : CallFault → ℕ → List ℕ → Type 0
 IsEndingOfCall Usage status line =
-    Ends 2 (codes "dm_tool: usage: dm_tool read|check [--border N] | normal [--border N] [--shorter] | write [--shorter] | table") status line
+    Ends 2
+    (codes
+    "dm_tool: usage: dm_tool read|check [--border N] | normal [--border N] [--shorter] | write [--shorter] | table")
+    status line
 IsEndingOfCall Memory status line = Ends 3 (codes "dm_tool: no memory") status line

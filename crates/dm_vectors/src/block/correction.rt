@@ -58,8 +58,8 @@ fn two_errors_with_five_checks_are_corrected_and_three_refused(rt: HostRuntime) 
     holds(&rt, is_refused(&[0, 0, 0, 114, 25, 5, 88, 102], 5));
 }
 
-/// Whether the first `length` codewords of a word are corrected with as many wrong codewords as can be, at every `step`th place from the
-/// place `first` on.
+/// Whether the first `length` codewords of a word are corrected with as many wrong codewords as can be, at every
+/// `step`th place from the place `first` on.
 fn is_corrected_from(word: &[u8; 255], length: usize, k: usize, first: usize, step: usize) -> bool {
     let damaged = with_errors(*word, first, step, k / 2);
     is_corrected(part(&damaged, 0, length), part(word, 0, length), k, k / 2)
@@ -155,8 +155,8 @@ fn errors_at_each_four_places_with_seven_checks_are_refused(rt: HostRuntime) {
     holds(&rt, are_all_four_refused(&codeword(5, 7)));
 }
 
-/// Whether a word that is one place more than the limit away from the word of zeros is corrected to another codeword, the
-/// generator polynomial, which stands at the places up to `count` + k.
+/// Whether a word that is one place more than the limit away from the word of zeros is corrected to another codeword,
+/// the generator polynomial, which stands at the places up to `count` + k.
 fn is_corrected_to_the_generator(count: usize, k: usize) -> bool {
     let mut word = [0; 255];
     put(&mut word, count.saturating_sub(1), &generator_of(k));

@@ -4,8 +4,8 @@ use super::samples::WORD;
 use crate::claims::holds;
 use dm_code::{BeyondLimit, Elimination, KeySolver, Quick, Restored, correct_erased};
 
-/// What `correct_erased` gives with five check codewords, and None where there is no such block. Each character says of a place
-/// whether it is erased: `x`.
+/// What `correct_erased` gives with five check codewords, and None where there is no such block. Each character says of
+/// a place whether it is erased: `x`.
 fn outcome_of<S: KeySolver>(
     solver: &S,
     word: &[u8; 8],
@@ -18,7 +18,8 @@ fn outcome_of<S: KeySolver>(
     correct_erased(solver, word, 5, &erased)
 }
 
-/// Whether both solvers restore the word of the samples, with these counts of changed and erased places, and of checks left.
+/// Whether both solvers restore the word of the samples, with these counts of changed and erased places, and of checks
+/// left.
 fn is_restored(word: &[u8; 8], marks: &[u8; 8], counts: (u8, u8, u8)) -> bool {
     let outcome = outcome_of(&Quick, word, marks);
     let is_right = match &outcome {

@@ -77,9 +77,9 @@ fn is_like(found: &Option<Key>, other: &Option<Key>) -> bool {
     }
 }
 
-/// Whether the counts of a solution for k syndromes and the limit t are within their bounds: from above always, and from
-/// below: a product for each syndrome where there is a pair, a product where there is none, and an inversion where a locator
-/// other than 1 was found.
+/// Whether the counts of a solution for k syndromes and the limit t are within their bounds: from above always, and
+/// from below: a product for each syndrome where there is a pair, a product where there is none, and an inversion where
+/// a locator other than 1 was found.
 fn is_within(meter: Meter, found: &Option<Key>, k: usize, t: usize) -> bool {
     let (products, inversions) = (meter.products as usize, meter.inversions as usize);
     if k > 68 || t > 34 || products > 4 * k * k || inversions > k {
@@ -179,8 +179,8 @@ fn are_alike_with(
     are_alike(part(&damaged, 0, length), k)
 }
 
-/// Whether both solvers agree for a codeword with one error, with as many as can be corrected, and with one more, at every `step`th
-/// place from the place `first` on.
+/// Whether both solvers agree for a codeword with one error, with as many as can be corrected, and with one more, at
+/// every `step`th place from the place `first` on.
 fn are_alike_from(word: &[u8; 255], length: usize, k: usize, first: usize, step: usize) -> bool {
     are_alike_with(word, length, k, first, step, 1)
         && are_alike_with(word, length, k, first, step, k / 2)
@@ -204,9 +204,10 @@ fn both_solvers_agree(rt: HostRuntime) {
     }
 }
 
-/// Syndromes, limits, and how many products and inversions `Quick` makes, counted with pen and paper: for each syndrome a product with each
-/// coefficient of the locator that reaches it; where that isn't 0, one for the multiple, one for each coefficient that the multiple of the earlier
-/// locator reaches, and an inversion where the degree grows; and the products of the evaluator. The last two are refused.
+/// Syndromes, limits, and how many products and inversions `Quick` makes, counted with pen and paper: for each syndrome
+/// a product with each coefficient of the locator that reaches it; where that isn't 0, one for the multiple, one for
+/// each coefficient that the multiple of the earlier locator reaches, and an inversion where the degree grows; and the
+/// products of the evaluator. The last two are refused.
 static COUNTS: [(&[u8], usize, u32, u32); 7] = [
     (&[0, 0, 0, 0, 0], 2, 5, 0),
     (&[1, 1], 1, 6, 1),

@@ -1,5 +1,5 @@
-//! Placement in mapping matrices of any size: corners, absent anchors and the fixed square. What is laid and lifted is tested with
-//! the modules of whole symbols.
+//! Placement in mapping matrices of any size: corners, absent anchors and the fixed square. What is laid and lifted is
+//! tested with the modules of whole symbols.
 
 use crate::claims::holds;
 use dm_place::{Shape, Shapes, has_fixed_square};

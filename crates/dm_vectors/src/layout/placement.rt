@@ -9,8 +9,8 @@ fn is_at(list: &[(u16, u16)], index: usize, place: Place) -> bool {
     index < list.len() && list[index].0 == place.row && list[index].1 == place.column
 }
 
-/// Whether these are the cells of the lowest bits, codeword by codeword. That of a standard shape is its anchor, that of
-/// corner 1 is (3, n-1), and that of corner 2 is (1, n-1).
+/// Whether these are the cells of the lowest bits, codeword by codeword. That of a standard shape is its anchor, that
+/// of corner 1 is (3, n-1), and that of corner 2 is (1, n-1).
 fn are_lowest_bits(size: Size, expected: &[(u16, u16)]) -> bool {
     let mut count = 0usize;
     for place in Cells::new(size) {

@@ -1,5 +1,5 @@
-//! Symbols printed by zint 2.11.1: codewords laid in them and lifted out of them. Their sizes are one with corner 4, one with regions side by side,
-//! one with corner 3, and one whose rows are wrapped a second time.
+//! Symbols printed by zint 2.11.1: codewords laid in them and lifted out of them. Their sizes are one with corner 4,
+//! one with regions side by side, one with corner 3, and one whose rows are wrapped a second time.
 
 use crate::claims::holds;
 use crate::modules::{modules_of, words_of};

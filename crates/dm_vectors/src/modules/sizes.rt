@@ -3,8 +3,8 @@
 use crate::claims::holds;
 use dm_modules::{SIZE_COUNT, SizeChoice, SymbolSize, table};
 
-/// Rows, columns, rows and columns of a region, regions down and across, data, check, blocks, check codewords and limit of a block, as the
-/// standards' tables have them.
+/// Rows, columns, rows and columns of a region, regions down and across, data, check, blocks, check codewords and limit
+/// of a block, as the standards' tables have them.
 static ROWS: [[u16; 11]; SIZE_COUNT] = [
     [10, 10, 8, 8, 1, 1, 3, 5, 1, 5, 2],
     [12, 12, 10, 10, 1, 1, 5, 7, 1, 7, 3],
@@ -110,8 +110,8 @@ fn no_other_sizes_are_found(rt: HostRuntime) {
     holds(&rt, sides_of(SymbolSize::of(9, 9)) == (0, 0));
 }
 
-/// A count of data codewords, and rows and columns of the smallest square, rectangle of ISO/IEC 16022, rectangle of both standards, and size of
-/// all that hold it; 0 where none does.
+/// A count of data codewords, and rows and columns of the smallest square, rectangle of ISO/IEC 16022, rectangle of
+/// both standards, and size of all that hold it; 0 where none does.
 static SMALLEST: [[u16; 9]; 34] = [
     [0, 10, 10, 8, 18, 8, 18, 10, 10],
     [3, 10, 10, 8, 18, 8, 18, 10, 10],

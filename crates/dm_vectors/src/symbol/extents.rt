@@ -1,4 +1,5 @@
-//! Symbols in both extents of reading: with EDIFACT, with macros, and with an Upper Shift that waits at the end of a run.
+//! Symbols in both extents of reading: with EDIFACT, with macros, and with an Upper Shift that waits at the end of a
+//! run.
 
 use super::*;
 use dm_symbol::{Extent, MESSAGE_ROOM, light_grid, normal_read_as_to, read_as_to};
@@ -77,8 +78,8 @@ fn is_refused_usually(grid: &Grid, fault: ReadFault) -> bool {
         && has_no_normal_grid(grid, 0, NormalFault::Read(fault))
 }
 
-/// Whether the data codewords are read in the wide extent alone, and the symbol in which the same text is spelled out, which is the normal one of
-/// both, in each.
+/// Whether the data codewords are read in the wide extent alone, and the symbol in which the same text is spelled out,
+/// which is the normal one of both, in each.
 fn row_holds(side: u16, data_words: &[u8], fault: WordFault, text: &[u8]) -> bool {
     let grid = completed_grid(side, data_words);
     match write(&of_bytes(text)) {

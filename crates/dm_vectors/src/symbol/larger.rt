@@ -90,8 +90,8 @@ fn damaged_grid(grid: &Grid, most: usize, more: usize) -> Grid {
     grid_of(side_of(grid), &damaged(lift(grid).list(), most, more))
 }
 
-/// Whether the grid of so many digits 7 is read with its first `most` codewords wrong, which is as many in each block as can be
-/// corrected, and not with one more in the first or the last block.
+/// Whether the grid of so many digits 7 is read with its first `most` codewords wrong, which is as many in each block
+/// as can be corrected, and not with one more in the first or the last block.
 fn is_limit(digits: &[u8], most: usize, corrected: &[u8], last: u8) -> bool {
     let Ok(grid) = write(&of_bytes(digits)) else {
         return false;

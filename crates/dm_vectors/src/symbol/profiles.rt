@@ -20,8 +20,8 @@ fn becomes_both(grid: &Grid, ascii: &Grid, shorter: &Grid) -> bool {
         && becomes(grid, 0, ascii)
 }
 
-/// Whether each profile's normal grid of the message is read as it with nothing corrected, stays under its own profile, and becomes the
-/// other's under the other.
+/// Whether each profile's normal grid of the message is read as it with nothing corrected, stays under its own profile,
+/// and becomes the other's under the other.
 fn goes_both_ways(message: &Message) -> bool {
     let Ok(ascii) = write_as(Profile::Ascii, message) else {
         return false;
@@ -149,7 +149,8 @@ fn goes_both_ways_between_the_profiles(rt: HostRuntime) {
     holds(&rt, goes_both_ways(&of_bytes(b"123456")));
 }
 
-/// Whether the grid of side 14 with these data codewords becomes a grid of this side under the shorter profile that begins with these.
+/// Whether the grid of side 14 with these data codewords becomes a grid of this side under the shorter profile that
+/// begins with these.
 fn becomes_segment(data_words: &[u8], side: u16, prefix: &[u8]) -> bool {
     let grid = completed_grid(14, data_words);
     begins(&normal_as(Profile::Shorter, &grid, 3), side, prefix)

@@ -22,7 +22,8 @@ pub(super) struct Device<'a> {
 }
 
 impl<'a> Device<'a> {
-    /// Fails in this way after each `good` reads and writes. It hasn't come to its end, takes all, and its flushes are good.
+    /// Fails in this way after each `good` reads and writes. It hasn't come to its end, takes all, and its flushes are
+    /// good.
     pub(super) fn new(
         kind: ErrorKind,
         good: u32,
@@ -196,8 +197,8 @@ fn a_read_of_each_length_fails_in_each_way_or_finds_the_end(rt: HostRuntime) {
     }
 }
 
-/// A write of these bytes, or a flush: its outcome, with 0 for a flush, what is then counted, and whether bytes are then
-/// pending. The counts are those of failures, writes and flushes.
+/// A write of these bytes, or a flush: its outcome, with 0 for a flush, what is then counted, and whether bytes are
+/// then pending. The counts are those of failures, writes and flushes.
 type AskedWrite = (
     Option<&'static [u8]>,
     Result<usize, Failed>,
@@ -205,8 +206,8 @@ type AskedWrite = (
     bool,
 );
 
-/// Writes to a device, one after another: how many are good before each one that fails, the most bytes that one takes, whether
-/// a flush fails, and the writes and flushes.
+/// Writes to a device, one after another: how many are good before each one that fails, the most bytes that one takes,
+/// whether a flush fails, and the writes and flushes.
 static WRITES: [(u32, usize, bool, &[AskedWrite]); 4] = [
     (
         1,

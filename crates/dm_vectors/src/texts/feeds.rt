@@ -123,7 +123,9 @@ fn lines_come_in_pieces(rt: HostRuntime) {
 
 /// The symbols of `123456` and `A`, with two empty lines between them.
 pub(super) const TWO_GRIDS: &[u8] =
-    b"1010101010\n1100101101\n1100000100\n1100011101\n1100001000\n1000001111\n1110110000\n1111011001\n1001110100\n1111111111\n\n\n1010101010\n1101100011\n1000110100\n1001101011\n1001010000\n1001001011\n1101001100\n1100111101\n1100001000\n1111111111\n";
+    b"1010101010\n1100101101\n1100000100\n1100011101\n1100001000\n1000001111\n1110110000\n1111011001\n1001110100\n\
+      1111111111\n\n\n1010101010\n1101100011\n1000110100\n1001101011\n1001010000\n1001001011\n1101001100\n\
+      1100111101\n1100001000\n1111111111\n";
 
 /// The record is the symbol of the line.
 fn is_symbol_of(record: Result<Grid, RecordFault>, line: &[u8]) -> bool {
@@ -139,8 +141,8 @@ fn is_symbol_of(record: Result<Grid, RecordFault>, line: &[u8]) -> bool {
     }
 }
 
-/// Feeds a piece, and says how many bytes of it were taken, and whether they closed a record: the symbol of `123456`. None
-/// where they closed another one.
+/// Feeds a piece, and says how many bytes of it were taken, and whether they closed a record: the symbol of `123456`.
+/// None where they closed another one.
 fn feed_record(feed: &mut GridFeed, piece: &[u8]) -> Option<(usize, bool)> {
     let Fed { taken, closed } = feed.feed(piece);
     match closed {

@@ -42,8 +42,8 @@ impl<'a> TextSource<'a> {
         TextSource::failing(text, usize::MAX, usize::MAX, usize::MAX)
     }
 
-    /// Gives at most `piece` bytes of the text at the first read, and at most `later` bytes at each later one, but at least 1. The
-    /// reads after the first `good_reads` fail.
+    /// Gives at most `piece` bytes of the text at the first read, and at most `later` bytes at each later one, but at
+    /// least 1. The reads after the first `good_reads` fail.
     pub(super) fn failing(text: &'a [u8], piece: usize, later: usize, good_reads: usize) -> Self {
         TextSource {
             rest: text,
@@ -87,7 +87,8 @@ impl<'a> Source for TextSource<'a> {
     ghost asked_none = { λ s k low high. low };
 
     ghost asked_joined = { λ a b c x m n most gave first then fewer within k low high.
-        then k (first k low (place_before a.given m most k fewer high)) (place_within a.given b.given (length x) n most k gave.1 within high) };
+        then k (first k low (place_before a.given m most k fewer high))
+        (place_within a.given b.given (length x) n most k gave.1 within high) };
 
     fn read(&mut self, into: &mut [u8]) -> Result<usize, Failed> {
         self.reads = self.reads.saturating_add(1);
@@ -108,7 +109,8 @@ impl<'a> Source for TextSource<'a> {
     }
 }
 
-/// Keeps what it takes, and how much it had taken at each of the first flushes. A write of no byte fails: no run needs one.
+/// Keeps what it takes, and how much it had taken at each of the first flushes. A write of no byte fails: no run needs
+/// one.
 #[derive(Drop)]
 pub(super) struct MemorySink {
     taken: Taken,
@@ -161,7 +163,8 @@ impl Sink for MemorySink {
 
     ghost flushed_none = { λ s few. sym (append-nil s.flushes.items) };
 
-    ghost flushed_joined = { λ a b c x y first then. kept_joined a.flushes.items b.flushes.items c.flushes.items x y first then };
+    ghost flushed_joined = { λ a b c x y first then.
+        kept_joined a.flushes.items b.flushes.items c.flushes.items x y first then };
 
     fn write(&mut self, bytes: &[u8]) -> Result<usize, Failed> {
         let room = self.room.saturating_sub(self.taken.len());

@@ -51,7 +51,8 @@ fn has_taken(sink: &MemorySink, written: &[u8]) -> bool {
 /// A task, its text, what it writes, and how many records or lines it answers and refuses.
 pub(super) type Run<'a> = (Task, &'a [u8], &'a [u8], u64, u64);
 
-/// Whether the task writes exactly this for its text, with these counts. The sink is flushed once, when it has taken all of it.
+/// Whether the task writes exactly this for its text, with these counts. The sink is flushed once, when it has taken
+/// all of it.
 pub(super) fn writes(run: Run<'_>) -> bool {
     let (task, text, written, answered, refused) = run;
     let mut sink = MemorySink::new();
@@ -59,7 +60,8 @@ pub(super) fn writes(run: Run<'_>) -> bool {
     outcome == Ok(Tally { answered, refused }) && has_taken(&sink, written)
 }
 
-/// Whether the task writes just this for a text of one record or line, and counts it as refused where this is a refusal.
+/// Whether the task writes just this for a text of one record or line, and counts it as refused where this is a
+/// refusal.
 pub(super) fn answers(task: Task, text: &[u8], written: &[u8]) -> bool {
     let refused = u64::from(written.starts_with(b"\\no "));
     writes((task, text, written, 1u64.saturating_sub(refused), refused))
@@ -82,7 +84,11 @@ fn written_for(task: Task, text: &[u8]) -> Taken {
 
 /// The table of sizes.
 static SIZES: &[u8] =
-    b"10 1 8 8 3 5 1 2\n12 1 10 10 5 7 1 3\n14 1 12 12 8 10 1 5\n16 1 14 14 12 12 1 6\n18 1 16 16 18 14 1 7\n20 1 18 18 22 18 1 9\n22 1 20 20 30 20 1 10\n24 1 22 22 36 24 1 12\n26 1 24 24 44 28 1 14\n32 4 14 28 62 36 1 18\n36 4 16 32 86 42 1 21\n40 4 18 36 114 48 1 24\n44 4 20 40 144 56 1 28\n48 4 22 44 174 68 1 34\n52 4 24 48 204 84 2 21\n64 16 14 56 280 112 2 28\n72 16 16 64 368 144 4 18\n80 16 18 72 456 192 4 24\n88 16 20 80 576 224 4 28\n96 16 22 88 696 272 4 34\n104 16 24 96 816 336 6 28\n";
+    b"10 1 8 8 3 5 1 2\n12 1 10 10 5 7 1 3\n14 1 12 12 8 10 1 5\n16 1 14 14 12 12 1 6\n18 1 16 16 18 14 1 7\n\
+      20 1 18 18 22 18 1 9\n22 1 20 20 30 20 1 10\n24 1 22 22 36 24 1 12\n26 1 24 24 44 28 1 14\n\
+      32 4 14 28 62 36 1 18\n36 4 16 32 86 42 1 21\n40 4 18 36 114 48 1 24\n44 4 20 40 144 56 1 28\n\
+      48 4 22 44 174 68 1 34\n52 4 24 48 204 84 2 21\n64 16 14 56 280 112 2 28\n72 16 16 64 368 144 4 18\n\
+      80 16 18 72 456 192 4 24\n88 16 20 80 576 224 4 28\n96 16 22 88 696 272 4 34\n104 16 24 96 816 336 6 28\n";
 
 /// Runs of a text without records or lines.
 static NO_ANSWERS: [Run<'_>; 7] = [

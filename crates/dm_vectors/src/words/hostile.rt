@@ -84,7 +84,8 @@ fn reads_whole_symbols_of_one_codeword(rt: HostRuntime) {
     }
 }
 
-/// The first codeword of a symbol of side 104 and each other one, and the fault with which the wide extent refuses them.
+/// The first codeword of a symbol of side 104 and each other one, and the fault with which the wide extent refuses
+/// them.
 static REFUSED_SYMBOLS: [(u8, u8, WordFault); 4] = [
     (240, 255, WordFault::Reserved(815)),
     (240, 0, WordFault::Reserved(815)),

@@ -3,7 +3,8 @@
 use super::wide::spells_widely;
 use super::*;
 
-/// A row as far as its line was looked at: codewords, each with a blank behind it, then `=` and the bytes that they spell.
+/// A row as far as its line was looked at: codewords, each with a blank behind it, then `=` and the bytes that they
+/// spell.
 #[derive(Drop)]
 struct Row {
     words: Codewords,

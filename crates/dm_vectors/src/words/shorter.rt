@@ -18,7 +18,8 @@ fn spells_with_pads(words: &[u8], message: &Message) -> bool {
     }
 }
 
-/// The shorter codewords of the message, where they are read as it, alone and with pads, and are the normal ones under `Shorter`.
+/// The shorter codewords of the message, where they are read as it, alone and with pads, and are the normal ones under
+/// `Shorter`.
 fn shorter_of(message: &Message) -> Option<ArrayVec<u8, MOST_DATA>> {
     match shorter_words(message) {
         Ok(words) if is_right(&words, message) => Some(words),
@@ -126,8 +127,9 @@ fn letters_and_bytes(letters: usize, bytes: usize) -> Message {
     message
 }
 
-/// Letters A and bytes 200, how many codewords they take, and whether these are a segment: where both forms are equally long it is
-/// ASCII, in which a byte of 128 or more takes one codeword more; one such byte in place of a letter breaks the tie.
+/// Letters A and bytes 200, how many codewords they take, and whether these are a segment: where both forms are equally
+/// long it is ASCII, in which a byte of 128 or more takes one codeword more; one such byte in place of a letter breaks
+/// the tie.
 static TIES: [(usize, usize, usize, bool); 9] = [
     (0, 2, 4, false),
     (1, 2, 5, false),

@@ -53,7 +53,8 @@ static IN_ASCII: [Row; 4] = [
     ),
 ];
 
-/// Bytes in runs of C40, Text and X12: with an unlatch or without one, with one codeword left, and with a byte of three values.
+/// Bytes in runs of C40, Text and X12: with an unlatch or without one, with one codeword left, and with a byte of three
+/// values.
 static IN_RUNS: [Row; 6] = [
     (
         Extent::Usual,

@@ -100,7 +100,8 @@ static EDIFACT_AT_THE_END: &[u8] = b"\
 240 4 32 223 =ABC
 ";
 
-/// Runs of EDIFACT behind a whole group, whose next value is an unlatch, or is none where at most two codewords are left.
+/// Runs of EDIFACT behind a whole group, whose next value is an unlatch, or is none where at most two codewords are
+/// left.
 static ENDED_FIRST: &[u8] = b"\
 240 4 32 196 124 =ABCD{
 240 4 32 196 124 66 =ABCD{A
@@ -193,7 +194,8 @@ static LATCHED: &[u8] = b"\
 236 240 124 66 129 =[)>\x1E05\x1DA\x1E\x04
 ";
 
-/// Runs of C40 and Text that end with an Upper Shift that waits, alone or before a lone shift, in each way in which a run ends.
+/// Runs of C40 and Text that end with an Upper Shift that waits, alone or before a lone shift, in each way in which a
+/// run ends.
 static FILLED: &[u8] = b"\
 230 87 199 =A
 230 87 199 254 =A

@@ -20,4 +20,5 @@ structure_place size row column = structure_by (border_colour size row column) r
 abbrev pub with_bits : SizeRow → List Place → List PlaceOut → List PlaceOut
 with_bits size [] places = places
 with_bits size (p ∷ rest) places =
-    with_bits size rest (set places (symbol_line size.region_side p.row * size.side + symbol_line size.region_side p.column) (bit_place p.word p.bit))
+    with_bits size rest (set places (symbol_line size.region_side p.row * size.side
+    + symbol_line size.region_side p.column) (bit_place p.word p.bit))

@@ -1,4 +1,5 @@
-use Rattle.std.proofs.Common.{◌≡◌, ◌*◌, ◌/◌, ◌≤◌, ◌++◌, length, take, drop, refl, sym, ap, subst, ◌∙◌, arith, IsTrue, false}
+use Rattle.std.proofs.Common.{◌≡◌, ◌*◌, ◌/◌, ◌≤◌, ◌++◌, length, take, drop, refl, sym, ap, subst, ◌∙◌, arith, IsTrue}
+use Rattle.std.proofs.Common.{false}
 use Rattle.dm_code.specs.Codeword.{IsCodeword, IsNear, distance}
 use Rattle.dm_code.specs.Syndromes.{syndromes_of}
 use Rattle.dm_code.specs.KeyEquation.{IsLeastPair, NoPair}
@@ -6,18 +7,22 @@ use Rattle.dm_code.proofs.Bytes.{bytes_places}
 use Rattle.dm_code.proofs.Distance.{near_one}
 use Rattle.dm_code.proofs.SyndromeLaws.{syndromes_length}
 use Rattle.dm_code.proofs.Nearness.{near_pair}
-use Rattle.dm_code.proofs.CleanWords.{AreZero, codeword_from_syndromes, zeros_of_zeros, zero_syndromes, distance_self, near_self, IsRewritten, rewritten}
+use Rattle.dm_code.proofs.CleanWords.{AreZero, codeword_from_syndromes, zeros_of_zeros, zero_syndromes, distance_self}
+use Rattle.dm_code.proofs.CleanWords.{near_self, IsRewritten, rewritten}
 use Rattle.dm_code.proofs.correction.correct.Goals as goal
-use Rattle.dm_code.proofs.correction.correct.Goals.{else-are_zero-2-via-then-are_zero-2+else-from-k, else-are_zero-2-via-else-are_zero-2}
+use Rattle.dm_code.proofs.correction.correct.Goals.{else-are_zero-2-via-then-are_zero-2+else-from-k}
+use Rattle.dm_code.proofs.correction.correct.Goals.{else-are_zero-2-via-else-are_zero-2}
 
 -- ---- a word that is a codeword
 pub returns-then-are_zero-clause-near : goal.returns-then-are_zero-clause-near
 returns-then-are_zero-clause-near g c =
     let w = c.args.word.now in
     near_self c.args.k w c.copy_of.result.items c.copy_of.ensures
-    (codeword_from_syndromes c.args.k w (syndromes_of c.remainder-rest.result.items c.args.k) c.requires.most c.requires.data c.requires.long (bytes_places w (λ i h. omega (arith, c.type_inv.word i)))
+    (codeword_from_syndromes c.args.k w (syndromes_of c.remainder-rest.result.items c.args.k) c.requires.most
+    c.requires.data c.requires.long (bytes_places w (λ i h. omega (arith, c.type_inv.word i)))
     c.remainder-rest.ensures
-    (zeros_of_zeros c.args.k c.remainder-rest.result.items (subst AreZero c.deref.ensures.0 (c.are_zero.ensures.0 c.if-are_zero.true))))
+    (zeros_of_zeros c.args.k c.remainder-rest.result.items
+    (subst AreZero c.deref.ensures.0 (c.are_zero.ensures.0 c.if-are_zero.true))))
 
 pub returns-then-are_zero-clause-changed : goal.returns-then-are_zero-clause-changed
 returns-then-are_zero-clause-changed g c = sym (distance_self c.args.word.now c.copy_of.result.items c.copy_of.ensures)
@@ -28,7 +33,10 @@ returns-then-are_zero-clause-itself g c h = (c.copy_of.ensures, refl)
 -- ---- no pair, so no codeword is near
 pub solve-requires-clause-half : goal.solve-requires-clause-half
 solve-requires-clause-half g c =
-    let n : length c.deref-3.result.now ≡ c.args.k = ap length (c.deref-3.ensures.0 ∙ c.syndromes-syndromes.ensures.values ∙ ap (λ t. syndromes_of t c.args.k) c.deref-2.ensures.0 ∙ c.remainder-rest.ensures) ∙ syndromes_length c.args.word.now c.args.k in
+    let n : length c.deref-3.result.now ≡ c.args.k =
+    ap length (c.deref-3.ensures.0 ∙ c.syndromes-syndromes.ensures.values
+    ∙ ap (λ t. syndromes_of t c.args.k) c.deref-2.ensures.0 ∙ c.remainder-rest.ensures)
+    ∙ syndromes_length c.args.word.now c.args.k in
     let r : 2 * (c.args.k / 2) ≤ length c.deref-3.result.now = omega arith in r
 
 pub returns-in_default-clause-near : goal.returns-in_default-clause-near
@@ -36,15 +44,19 @@ returns-in_default-clause-near g c v h =
     let w = c.args.word.now in
     let s = c.deref-3.result.now in
     let k = c.args.k in
-    let e : s ≡ syndromes_of w k = c.deref-3.ensures.0 ∙ c.syndromes-syndromes.ensures.values ∙ ap (λ t. syndromes_of t c.args.k) c.deref-2.ensures.0 ∙ c.remainder-rest.ensures in
+    let e : s ≡ syndromes_of w k =
+    c.deref-3.ensures.0 ∙ c.syndromes-syndromes.ensures.values
+    ∙ ap (λ t. syndromes_of t c.args.k) c.deref-2.ensures.0 ∙ c.remainder-rest.ensures in
     let n : length s ≡ k = ap length e ∙ syndromes_length w k in
-    near_pair w s v (e ∙ ap (syndromes_of w) (sym n)) (subst (λ m. IsNear m w v) (sym n) h) (subst (λ m. NoPair s (m / 2)) (sym n) c.in_default.ensures.none)
+    near_pair w s v (e ∙ ap (syndromes_of w) (sym n)) (subst (λ m. IsNear m w v) (sym n) h)
+    (subst (λ m. NoPair s (m / 2)) (sym n) c.in_default.ensures.none)
 
 pub returns-in_default-clause-changed : goal.returns-in_default-clause-changed
 returns-in_default-clause-changed g c = tt
 
 pub returns-in_default-clause-itself : goal.returns-in_default-clause-itself
-returns-in_default-clause-itself g c h = returns-in_default-clause-near g c c.args.word.now (near_self c.args.k c.args.word.now c.args.word.now refl h)
+returns-in_default-clause-itself g c h =
+    returns-in_default-clause-near g c c.args.word.now (near_self c.args.k c.args.word.now c.args.word.now refl h)
 
 -- ---- the errors are corrected
 pub correct_errors-requires-clause-syndromes : goal.correct_errors-requires-clause-syndromes
@@ -52,7 +64,9 @@ correct_errors-requires-clause-syndromes g c =
     let w = c.args.word.now in
     let k = c.args.k in
     let s = c.deref-4.result.now in
-    let e : s ≡ syndromes_of w k = c.deref-4.ensures.0 ∙ c.syndromes-syndromes.ensures.values ∙ ap (λ t. syndromes_of t c.args.k) c.deref-2.ensures.0 ∙ c.remainder-rest.ensures in
+    let e : s ≡ syndromes_of w k =
+    c.deref-4.ensures.0 ∙ c.syndromes-syndromes.ensures.values
+    ∙ ap (λ t. syndromes_of t c.args.k) c.deref-2.ensures.0 ∙ c.remainder-rest.ensures in
     ap (λ n. take n c.with_room-left.result) (sym (ap length e ∙ syndromes_length w k)) ∙ c.with_room-left.ensures ∙ e
     ∙ ap (λ u. syndromes_of u k) (sym (c.deref_mut.ensures.value ∙ c.copy_of-fixed.ensures))
 
@@ -62,7 +76,9 @@ correct_errors-requires-clause-key g c =
     let l = c.in-Some.key.locator.items in
     let v = c.in-Some.key.evaluator.items in
     subst (λ u. IsLeastPair u (k / 2) l v)
-    (c.deref-3.ensures.0 ∙ c.syndromes-syndromes.ensures.values ∙ ap (λ t. syndromes_of t c.args.k) c.deref-2.ensures.0 ∙ c.remainder-rest.ensures ∙ ap (λ u. syndromes_of u k) (sym (c.deref_mut.ensures.value ∙ c.copy_of-fixed.ensures)))
+    (c.deref-3.ensures.0 ∙ c.syndromes-syndromes.ensures.values ∙ ap (λ t. syndromes_of t c.args.k) c.deref-2.ensures.0
+    ∙ c.remainder-rest.ensures ∙ ap (λ u. syndromes_of u k)
+    (sym (c.deref_mut.ensures.value ∙ c.copy_of-fixed.ensures)))
     c.in-Some.ensures.least
 
 pub returns-then-from-k-clause-near : goal.returns-then-from-k-clause-near
@@ -71,17 +87,28 @@ returns-then-from-k-clause-near g c =
     let k = c.args.k in
     let f = c.correct_errors.new.word in
     let now : IsRewritten w c.copy_of-fixed.result.items f =
-    rewritten w c.copy_of-fixed.result.items c.deref_mut.result.now f c.copy_of-fixed.ensures c.deref_mut.ensures.value c.correct_errors.ensures.long in
-    let d : distance w f ≤ k / 2 = omega (arith, c.differences-changed.ensures, ap (distance w) (c.deref-5.ensures.0 ∙ now.word), c.from.ensures, c.if-from-k.true) in
+    rewritten w c.copy_of-fixed.result.items c.deref_mut.result.now f c.copy_of-fixed.ensures c.deref_mut.ensures.value
+    c.correct_errors.ensures.long in
+    let d : distance w f ≤ k / 2 =
+    omega (
+      arith,
+      c.differences-changed.ensures,
+      ap (distance w) (c.deref-5.ensures.0 ∙ now.word),
+      c.from.ensures,
+      c.if-from-k.true,
+    ) in
     subst (IsNear k w) (sym now.word) (record {
-      codeword = codeword_from_syndromes k f (take k c.correct_errors.new.syndromes) c.requires.most (omega (arith, now.long, c.requires.data)) (omega (arith, now.long, c.requires.long))
+      codeword =
+          codeword_from_syndromes k f (take k c.correct_errors.new.syndromes) c.requires.most
+          (omega (arith, now.long, c.requires.data)) (omega (arith, now.long, c.requires.long))
           c.correct_errors.ensures.bytes c.correct_errors.ensures.kept (c.are_zero-2.ensures.0 c.if-are_zero-2.true);
       long = now.long;
       close = d;
     })
 
 pub returns-then-from-k-clause-changed : goal.returns-then-from-k-clause-changed
-returns-then-from-k-clause-changed g c = c.differences-changed.ensures ∙ ap (distance c.args.word.now) c.deref-5.ensures.0
+returns-then-from-k-clause-changed g c =
+    c.differences-changed.ensures ∙ ap (distance c.args.word.now) c.deref-5.ensures.0
 
 pub returns-then-from-k-clause-itself : goal.returns-then-from-k-clause-itself
 returns-then-from-k-clause-itself g c h =
@@ -89,8 +116,13 @@ returns-then-from-k-clause-itself g c h =
     let k = c.args.k in
     let a = c.copy_of-fixed.result.items in
     let f = c.correct_errors.new.word in
-    let r : take (length a) (f ++ drop (length f) a) ≡ w = near_one k w (take (length a) (f ++ drop (length f) a)) w c.requires.long (returns-then-from-k-clause-near g c) (near_self k w w refl h) in
-    (r, c.differences-changed.ensures ∙ ap (distance w) c.deref-5.ensures.0 ∙ distance_self w (take (length a) (f ++ drop (length f) a)) r)
+    let r : take (length a) (f ++ drop (length f) a) ≡ w =
+    near_one k w (take (length a) (f ++ drop (length f) a)) w c.requires.long (returns-then-from-k-clause-near g c)
+    (near_self k w w refl h) in (
+      r,
+      c.differences-changed.ensures ∙ ap (distance w) c.deref-5.ensures.0
+          ∙ distance_self w (take (length a) (f ++ drop (length f) a)) r,
+    )
 
 pub returns-else-are_zero-2-clause-near : goal.returns-else-are_zero-2-clause-near
 returns-else-are_zero-2-clause-near g c v h =
@@ -99,13 +131,25 @@ returns-else-are_zero-2-clause-near g c v h =
     let f = c.correct_errors.new.word in
     let s = take k c.correct_errors.new.syndromes in
     let now : IsRewritten w c.copy_of-fixed.result.items f =
-    rewritten w c.copy_of-fixed.result.items c.deref_mut.result.now f c.copy_of-fixed.ensures c.deref_mut.ensures.value c.correct_errors.ensures.long in
-    let same : f ≡ v = c.correct_errors.ensures.near v (subst (λ u. IsNear k u v) (sym (c.deref_mut.ensures.value ∙ c.copy_of-fixed.ensures)) h) in
+    rewritten w c.copy_of-fixed.result.items c.deref_mut.result.now f c.copy_of-fixed.ensures c.deref_mut.ensures.value
+    c.correct_errors.ensures.long in
+    let same : f ≡ v =
+    c.correct_errors.ensures.near v (subst (λ u. IsNear k u v)
+    (sym (c.deref_mut.ensures.value ∙ c.copy_of-fixed.ensures)) h) in
     elim c.else-are_zero-2.branch [
       | else-are_zero-2-via-then-are_zero-2+else-from-k b ↦
-          absurd (omega (arith, c.differences-changed.ensures, ap (distance w) (c.deref-5.ensures.0 ∙ now.word ∙ same), b.from.ensures, b.if-from-k.false, h.close))
+          absurd (omega (
+            arith,
+            c.differences-changed.ensures,
+            ap (distance w) (c.deref-5.ensures.0 ∙ now.word ∙ same),
+            b.from.ensures,
+            b.if-from-k.false,
+            h.close,
+          ))
       | else-are_zero-2-via-else-are_zero-2 b ↦
-          let yes : IsTrue c.are_zero-2.result = c.are_zero-2.ensures.1 (zero_syndromes k f s c.correct_errors.ensures.kept (subst (IsCodeword k) (sym same) h.codeword)) in
+          let yes : IsTrue c.are_zero-2.result =
+          c.are_zero-2.ensures.1 (zero_syndromes k f s c.correct_errors.ensures.kept
+          (subst (IsCodeword k) (sym same) h.codeword)) in
           let not : c.are_zero-2.result ≡ false = b.if-are_zero-2.false in
           absurd (cc (yes, not))
     ]
@@ -114,4 +158,5 @@ pub returns-else-are_zero-2-clause-changed : goal.returns-else-are_zero-2-clause
 returns-else-are_zero-2-clause-changed g c = tt
 
 pub returns-else-are_zero-2-clause-itself : goal.returns-else-are_zero-2-clause-itself
-returns-else-are_zero-2-clause-itself g c h = returns-else-are_zero-2-clause-near g c c.args.word.now (near_self c.args.k c.args.word.now c.args.word.now refl h)
+returns-else-are_zero-2-clause-itself g c h =
+    returns-else-are_zero-2-clause-near g c c.args.word.now (near_self c.args.k c.args.word.now c.args.word.now refl h)

@@ -1,4 +1,5 @@
-use Rattle.std.proofs.Common.{◌≡◌, ◌-◌, ◌*◌, ◌/◌, ◌+◌, ◌<◌, suc, length, get_or, map, take, slice_set, refl, sym, ap, subst, ◌∙◌, arith}
+use Rattle.std.proofs.Common.{◌≡◌, ◌-◌, ◌*◌, ◌/◌, ◌+◌, ◌<◌, suc, length, get_or, map, take, slice_set, refl, sym, ap}
+use Rattle.std.proofs.Common.{subst, ◌∙◌, arith}
 use Rattle.gf301.specs.Field.{◌⊕◌, power}
 use Rattle.gf301.specs.Polynomial.{value, coefficient, values_from}
 use Rattle.dm_code.specs.inner.OddTerms.{odd_part}
@@ -21,7 +22,9 @@ loop-part-init c =
     let w = c.args.word.now in
     record {
       bytes = λ i. omega (arith, c.type_inv.word i);
-      corrected = subst (IsCorrectedFrom l c.args.evaluator.now w w (take c.args.k c.args.syndromes.now) c.args.k) (let z : length w ≡ length w - 0 = omega arith in z)
+      corrected =
+          subst (IsCorrectedFrom l c.args.evaluator.now w w (take c.args.k c.args.syndromes.now) c.args.k)
+          (let z : length w ≡ length w - 0 = omega arith in z)
           (corrected_start l c.args.evaluator.now w (take c.args.k c.args.syndromes.now) c.args.k c.requires.syndromes);
     }
 
@@ -40,33 +43,48 @@ loop-lane-preserved c =
     let q = length w - suc (j + lane) in
     let back : length w - suc q ≡ j + lane = omega arith in
     let next : q ≡ length w - (j + (lane + 1)) = omega arith in
-    let z : get_or c.sums.result.0 lane 0 ≡ value l (power (j + lane)) = lane_value l c.sums.result.0 j lane c.sums.ensures.values below in
-    let o : get_or c.sums.result.1 lane 0 ≡ odd_part l (power (j + lane)) = lane_odd l c.sums.result.1 j lane c.sums.ensures.odd below in
+    let z : get_or c.sums.result.0 lane 0 ≡ value l (power (j + lane)) =
+    lane_value l c.sums.result.0 j lane c.sums.ensures.values below in
+    let o : get_or c.sums.result.1 lane 0 ≡ odd_part l (power (j + lane)) =
+    lane_odd l c.sums.result.1 j lane c.sums.ensures.odd below in
     let e = values_from (coefficient v) 0 (length l - 1) in
-    let ue : c.deref.result.now ≡ e = c.deref.ensures.0 ∙ c.first_coefficients-upper.ensures ∙ ap (values_from (coefficient v) 0) c.saturating_sub.ensures in
+    let ue : c.deref.result.now ≡ e =
+    c.deref.ensures.0 ∙ c.first_coefficients-upper.ensures
+    ∙ ap (values_from (coefficient v) 0) c.saturating_sub.ensures in
     let ne : get_or c.sums-in-loop-part.result.0 lane 0 ≡ value e (power (j + lane)) =
     lane_value e c.sums-in-loop-part.result.0 j lane
     (c.sums-in-loop-part.ensures.values ∙ ap (λ u. map (value u) (values_from power j 16)) ue) below in
-    let h : IsCorrectedFrom l v w f s k (suc q) = subst (IsCorrectedFrom l v w f s k) (let r : length w - (j + lane) ≡ suc q = omega arith in r) c.loop-lane.invariant in
+    let h : IsCorrectedFrom l v w f s k (suc q) =
+    subst (IsCorrectedFrom l v w f s k) (let r : length w - (j + lane) ≡ suc q = omega arith in
+    r) c.loop-lane.invariant in
     subst (IsCorrectedFrom l v w c.if-values-lane-eq0.word (take k c.if-values-lane-eq0.syndromes) k) next
     (elim c.if-values-lane-eq0.branch [
       | else-values-lane-eq0 b ↦
           subst (λ g. IsCorrectedFrom l v w g (take k c.if-values-lane-eq0.syndromes) k q) (sym b.word-is)
           (subst (λ u. IsCorrectedFrom l v w f (take k u) k q) (sym b.syndromes-is)
-          (apart_step l v w f s k q h (λ e. b.if-values-lane-eq0.false (z ∙ ap (λ n. value l (power n)) (sym back) ∙ e))))
+          (apart_step l v w f s k q h (λ e. b.if-values-lane-eq0.false (z ∙ ap (λ n. value l (power n)) (sym back)
+          ∙ e))))
       | then-values-lane-eq0 b ↦
           let at = b.power_of_two-at.result.0 in
           let y = b.error_value-value.result.0 in
           let ae : at ≡ power (j + lane) = b.power_of_two-at.ensures in
           let xe : at ≡ locator_at (length w) q = ae ∙ ap power (sym back) in
           let ze : value l at ≡ 0 = ap (value l) ae ∙ sym z ∙ b.if-values-lane-eq0.true in
-          let added = taken_sum (error_term y at) c.loop-lane.syndromes c.if-values-lane-eq0.syndromes k (16 * c.div_ceil-groups.result) (ap length b.syndromes-is ∙ b.add_error.ensures.long)
-          (omega (arith, c.requires.room, c.loop-part.auto.syndromes, c.loop-lane.auto.syndromes)) (omega (arith, c.div_ceil-groups.ensures)) (λ i n. ap (λ u. get_or u i 0) b.syndromes-is ∙ b.add_error.ensures.each i n) in
-          root_step l v w f c.if-values-lane-eq0.word s (take k c.if-values-lane-eq0.syndromes) k q at y h (c.loop-lane.auto.word ∙ c.loop-part.auto.word) (omega arith) xe ze
-          (b.word-is ∙ ap (λ n. slice_set f n b.add.result.0) (let r : length f - 1 - (j + lane) ≡ q = omega (arith, c.loop-lane.auto.word, c.loop-part.auto.word) in r)
-          ∙ ap (slice_set f q) (b.add.ensures ∙ ap (λ n. get_or f n 0 ⊕ y) (let r : length f - 1 - (j + lane) ≡ q = omega (arith, c.loop-lane.auto.word, c.loop-part.auto.word) in r)))
+          let added =
+          taken_sum (error_term y at) c.loop-lane.syndromes c.if-values-lane-eq0.syndromes k
+          (16 * c.div_ceil-groups.result) (ap length b.syndromes-is ∙ b.add_error.ensures.long)
+          (omega (arith, c.requires.room, c.loop-part.auto.syndromes, c.loop-lane.auto.syndromes))
+          (omega (arith, c.div_ceil-groups.ensures)) (λ i n. ap (λ u. get_or u i 0) b.syndromes-is
+          ∙ b.add_error.ensures.each i n) in
+          root_step l v w f c.if-values-lane-eq0.word s (take k c.if-values-lane-eq0.syndromes) k q at y h
+          (c.loop-lane.auto.word ∙ c.loop-part.auto.word) (omega arith) xe ze
+          (b.word-is ∙ ap (λ n. slice_set f n b.add.result.0) (let r : length f - 1 - (j + lane) ≡ q =
+          omega (arith, c.loop-lane.auto.word, c.loop-part.auto.word) in r)
+          ∙ ap (slice_set f q) (b.add.ensures ∙ ap (λ n. get_or f n 0 ⊕ y) (let r : length f - 1 - (j + lane) ≡ q =
+          omega (arith, c.loop-lane.auto.word, c.loop-part.auto.word) in r)))
           b.error_value-value.ensures.byte
-          (divided_by l at (get_or c.sums.result.1 lane 0) y (value (first (coefficient v) (length l - 1)) at) (o ∙ ap (odd_part l) (sym ae))
+          (divided_by l at (get_or c.sums.result.1 lane 0) y (value (first (coefficient v) (length l - 1)) at) (o
+          ∙ ap (odd_part l) (sym ae))
           (λ p. b.error_value-value.ensures.value p ∙ ne ∙ ap (value e) (sym ae)
           ∙ ap (λ u. value u at) (values_are_first (coefficient v) (length l - 1))))
           added.0 added.1
@@ -82,7 +100,8 @@ loop-part-preserved c =
     record {
       bytes = c.loop-part.invariant.bytes;
       corrected = subst (IsCorrectedFrom l v w c.loop-lane.word (take k c.loop-lane.syndromes) k)
-          (let r : length w - (j + c.loop-lane.lane) ≡ length w - 16 * (c.loop-part.part + 1) = omega (arith, c.min-lane-end.ensures, c.loop-part.auto.word) in r) c.loop-lane.invariant;
+          (let r : length w - (j + c.loop-lane.lane) ≡ length w - 16 * (c.loop-part.part + 1) =
+          omega (arith, c.min-lane-end.ensures, c.loop-part.auto.word) in r) c.loop-lane.invariant;
     }
 
 pub returns-clause-bytes : goal.returns-clause-bytes
@@ -90,7 +109,8 @@ returns-clause-bytes c =
     let l = c.args.locator.now in
     let v = c.args.evaluator.now in
     let i = c.loop-part.invariant in
-    corrected_bytes l v c.args.word.now c.loop-part.word i.bytes (record { long = c.loop-part.auto.word; each = λ j b. i.corrected.done j (omega arith) b })
+    corrected_bytes l v c.args.word.now c.loop-part.word i.bytes
+    (record { long = c.loop-part.auto.word; each = λ j b. i.corrected.done j (omega arith) b })
 
 pub returns-clause-near : goal.returns-clause-near
 returns-clause-near c n h =
@@ -100,9 +120,11 @@ returns-clause-near c n h =
     let f = c.loop-part.word in
     let i = c.loop-part.invariant in
     let t : IsTrimmed l l = record { same = λ i. refl; tight = c.requires.tight } in
-    let m : IsCorrected l v w f = record { long = c.loop-part.auto.word; each = λ j b. i.corrected.done j (omega arith) b } in
+    let m : IsCorrected l v w f =
+    record { long = c.loop-part.auto.word; each = λ j b. i.corrected.done j (omega arith) b } in
     let k = c.args.k in
     let s = syndromes_of w k in
     let sk : k ≡ length s = sym (syndromes_length w k) in
-    corrected_near w s n l v l f (omega (arith, c.requires.checks)) i.bytes c.requires.long (ap (syndromes_of w) sk) (subst (λ m. IsLeastPair s (m / 2) l v) sk c.requires.key) t m
+    corrected_near w s n l v l f (omega (arith, c.requires.checks)) i.bytes c.requires.long (ap (syndromes_of w) sk)
+    (subst (λ m. IsLeastPair s (m / 2) l v) sk c.requires.key) t m
     (subst (λ m. IsNear m w n) sk h)

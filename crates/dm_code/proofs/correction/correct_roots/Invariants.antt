@@ -6,8 +6,11 @@ use Rattle.dm_code.proofs.correction.correct_roots.Given as goal
 abbrev pub invariant-loop-part : goal.invariant-loop-part
 invariant-loop-part l = record {
   bytes : (i : ℕ) → get_or l.initial.word i 0 < 256;
-  corrected : IsCorrectedFrom l.fn.locator l.fn.evaluator l.initial.word l.word (take l.fn.k l.syndromes) l.fn.k (length l.initial.word - 16 * l.part);
+  corrected : IsCorrectedFrom l.fn.locator l.fn.evaluator l.initial.word l.word (take l.fn.k l.syndromes) l.fn.k
+      (length l.initial.word - 16 * l.part);
 }
 
 abbrev pub invariant-loop-lane : goal.invariant-loop-lane
-invariant-loop-lane l = IsCorrectedFrom l.fn.locator l.fn.evaluator l.fn.word l.word (take l.fn.k l.syndromes) l.fn.k (length l.fn.word - (l.first + l.lane))
+invariant-loop-lane l =
+    IsCorrectedFrom l.fn.locator l.fn.evaluator l.fn.word l.word (take l.fn.k l.syndromes) l.fn.k
+    (length l.fn.word - (l.first + l.lane))

@@ -17,11 +17,25 @@ loop-i-preserved c =
     let e = ap (differing v w) (let q : suc i ≡ i + 1 = omega arith in q) in
     elim c.if-c-other.branch [
       | then-c-other b ↦ record {
-        count = (let q : c.if-c-other.count ≡ differing v w (suc i) = omega (arith, b.count-is, c.loop-i.invariant.count, differs_apart (get_or v i 0) (get_or w i 0) b.if-c-other.true) in q) ∙ e;
+        count =
+            (let q : c.if-c-other.count ≡ differing v w (suc i) =
+            omega (
+              arith,
+              b.count-is,
+              c.loop-i.invariant.count,
+              differs_apart (get_or v i 0) (get_or w i 0) b.if-c-other.true,
+            ) in q) ∙ e;
         below = omega (arith, b.count-is, c.loop-i.invariant.below);
       }
       | else-c-other b ↦ record {
-        count = (let q : c.if-c-other.count ≡ differing v w (suc i) = omega (arith, b.count-is, c.loop-i.invariant.count, differs_same (get_or v i 0) (get_or w i 0) b.if-c-other.false) in q) ∙ e;
+        count =
+            (let q : c.if-c-other.count ≡ differing v w (suc i) =
+            omega (
+              arith,
+              b.count-is,
+              c.loop-i.invariant.count,
+              differs_same (get_or v i 0) (get_or w i 0) b.if-c-other.false,
+            ) in q) ∙ e;
         below = omega (arith, b.count-is, c.loop-i.invariant.below);
       }
     ]

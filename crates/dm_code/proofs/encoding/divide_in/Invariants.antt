@@ -7,5 +7,6 @@ abbrev pub invariant-loop-place : goal.invariant-loop-place
 invariant-loop-place g l = record {
   long : length l.rest ≡ 270;
   bytes : (i : ℕ) → get_or l.rest i 0 < 256;
-  same : (i : ℕ) → i < l.k → value (take (l.count + l.k - l.place) (drop l.place l.rest)) (power (suc i)) ≡ value (take (l.count + l.k) l.initial.rest) (power (suc i));
+  same : (i : ℕ) → i < l.k → value (take (l.count + l.k - l.place) (drop l.place l.rest)) (power (suc i)) ≡
+      value (take (l.count + l.k) l.initial.rest) (power (suc i));
 }

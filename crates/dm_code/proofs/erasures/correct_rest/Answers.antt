@@ -11,7 +11,8 @@ pub returns-then-k-eq0-clause-near : goal.returns-then-k-eq0-clause-near
 returns-then-k-eq0-clause-near g c =
     let w = c.args.word.now in
     subst (λ k. IsNearBut k w [] c.copy_of.result.items) (sym c.if-k-eq0.true)
-    (self_near_zero w c.copy_of.result.items (bytes_places w (λ i h. omega (arith, c.type_inv.word i))) c.requires.long c.copy_of.ensures)
+    (self_near_zero w c.copy_of.result.items (bytes_places w (λ i h. omega (arith, c.type_inv.word i))) c.requires.long
+    c.copy_of.ensures)
 
 pub returns-then-k-eq0-clause-changed : goal.returns-then-k-eq0-clause-changed
 returns-then-k-eq0-clause-changed g c =
@@ -22,10 +23,12 @@ pub returns-clause-near : goal.returns-clause-near
 returns-clause-near g c =
     let w = c.args.word.now in
     let k = c.args.k in
-    MatchResult-weaker c.correct.result c.correct.ensures.near (λ fixed n. near_none_but k w fixed.word.items n) (λ x none v n. none v (near_but_none k w v n))
+    MatchResult-weaker c.correct.result c.correct.ensures.near (λ fixed n. near_none_but k w fixed.word.items n)
+    (λ x none v n. none v (near_but_none k w v n))
 
 pub returns-clause-changed : goal.returns-clause-changed
 returns-clause-changed g c =
     let w = c.args.word.now in
-    IfOk-weaker c.correct.result (λ fixed. fixed.changed ≡ distance w fixed.word.items) (λ fixed. fixed.changed ≡ distance_but [] w fixed.word.items)
+    IfOk-weaker c.correct.result (λ fixed. fixed.changed ≡ distance w fixed.word.items)
+    (λ fixed. fixed.changed ≡ distance_but [] w fixed.word.items)
     (λ fixed e. e ∙ sym (distance_but_none w fixed.word.items)) c.correct.ensures.changed

@@ -19,13 +19,18 @@ loop-i-preserved c =
           elim (cases_eq j i) [
             | inl e ↦
                 ap (λ m. get_or v m 0) e
-                ∙ divided_at n c.args.place i c.difference-divisor.result.0 y (get_or v i 0) c.requires.long c.requires.within (omega arith) c.difference-divisor.ensures c.error_value-value.ensures.value
+                ∙ divided_at n c.args.place i c.difference-divisor.result.0 y (get_or v i 0) c.requires.long
+                c.requires.within (omega arith) c.difference-divisor.ensures c.error_value-value.ensures.value
                 (λ s. ap (λ m. get_or v m 0) s ∙ c.requires.zero)
                 ∙ ap (λ m. y ⊗ (power (n - suc m) ⊕ power (n - suc c.args.place))) (sym e)
                 ∙ ap (λ z. z ⊗ (power (n - suc j) ⊕ power (n - suc c.args.place)))
-                (sym (ap (λ t. get_or t j 0) c.push.ensures.items ∙ get_or-append_right a (y ∷ []) i j 0 la (omega arith) ∙ ap (λ m. get_or (y ∷ []) m 0) (let q : j - i ≡ 0 = omega arith in q)))
+                (sym (ap (λ t. get_or t j 0) c.push.ensures.items
+                ∙ get_or-append_right a (y ∷ []) i j 0 la (omega arith)
+                ∙ ap (λ m. get_or (y ∷ []) m 0) (let q : j - i ≡ 0 = omega arith in q)))
             | inr e ↦
                 c.loop-i.invariant.each j (omega arith)
-                ∙ ap (λ z. z ⊗ (power (n - suc j) ⊕ power (n - suc c.args.place))) (sym (ap (λ t. get_or t j 0) c.push.ensures.items ∙ get_or_append_left a (y ∷ []) 0 j (omega arith)))
+                ∙ ap (λ z. z ⊗ (power (n - suc j) ⊕ power (n - suc c.args.place)))
+                (sym (ap (λ t. get_or t j 0) c.push.ensures.items
+                ∙ get_or_append_left a (y ∷ []) 0 j (omega arith)))
           ];
     }

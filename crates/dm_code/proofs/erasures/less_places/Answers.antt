@@ -18,5 +18,6 @@ less_place-less-requires-clause-within c =
 
 pub loop-i-preserved : goal.loop-i-preserved
 loop-i-preserved c =
-    less_more c.args.places.now c.args.word.now c.loop-i.less.items c.less_place-less.result.items c.loop-i.i c.from.result c.from.ensures c.loop-i.invariant
+    less_more c.args.places.now c.args.word.now c.loop-i.less.items c.less_place-less.result.items c.loop-i.i
+    c.from.result c.from.ensures c.loop-i.invariant
     (subst (λ u. IsLess c.from.result u c.less_place-less.result.items) c.deref.ensures.0 c.less_place-less.ensures)

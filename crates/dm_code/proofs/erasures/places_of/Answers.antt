@@ -15,15 +15,20 @@ loop-place-preserved c =
     let few = c.loop-place.invariant.few in
     elim c.if-is_erased.branch [
       | then-is_erased w ↦
-          let e : c.if-is_erased.places.items ≡ c.loop-place.places.items ++ (i ∷ []) = ap (λ p. p.items) w.places-is ∙ w.push.ensures.items in
+          let e : c.if-is_erased.places.items ≡ c.loop-place.places.items ++ (i ∷ []) =
+          ap (λ p. p.items) w.places-is ∙ w.push.ensures.items in
           record {
-            found = e ∙ ap (λ l. l ++ (i ∷ [])) c.loop-place.invariant.found ∙ sym (erased_more c.args.erased.now i c.loop-place-test.true w.if-is_erased.true);
+            found =
+                e ∙ ap (λ l. l ++ (i ∷ [])) c.loop-place.invariant.found
+                ∙ sym (erased_more c.args.erased.now i c.loop-place-test.true w.if-is_erased.true);
             few = omega (arith, ap length e, length-append c.loop-place.places.items (i ∷ []), few);
           }
       | else-is_erased w ↦
           let e : c.if-is_erased.places.items ≡ c.loop-place.places.items = ap (λ p. p.items) w.places-is in
           record {
-            found = e ∙ c.loop-place.invariant.found ∙ sym (erased_no_more c.args.erased.now i c.loop-place-test.true w.if-is_erased.false);
+            found =
+                e ∙ c.loop-place.invariant.found
+                ∙ sym (erased_no_more c.args.erased.now i c.loop-place-test.true w.if-is_erased.false);
             few = omega (arith, ap length e, few);
           }
     ]

@@ -6,5 +6,6 @@ use Rattle.dm_code.proofs.erasures.with_places.Given as goal
 abbrev pub invariant-loop-done : goal.invariant-loop-done
 invariant-loop-done l = record {
   long : length l.restored.items ≡ length l.near;
-  back : (k : ℕ) (word less : List ℕ) → AreWeighedAway k word l.places less l.near → IsGivenBack k l.places word less l.near (length l.places - l.done) l.restored.items;
+  back : (k : ℕ) (word less : List ℕ) → AreWeighedAway k word l.places less l.near →
+      IsGivenBack k l.places word less l.near (length l.places - l.done) l.restored.items;
 }

@@ -6,7 +6,8 @@ use Rattle.dm_code.proofs.errors.error_value.Goals as goal
 -- A number times the inverse of a divisor, times the divisor, is the number.
 quotient_of : (d m y : ℕ) → m < 256 → d ⊗ y ≡ 1 → d ⊗ (m ⊗ y) ≡ m
 quotient_of d m y h e =
-    sym (product_assoc d m y) ∙ ap (λ z. z ⊗ y) (product_comm d m) ∙ product_assoc m d y ∙ ap (λ z. m ⊗ z) e ∙ product_one_right m h
+    sym (product_assoc d m y) ∙ ap (λ z. z ⊗ y) (product_comm d m) ∙ product_assoc m d y ∙ ap (λ z. m ⊗ z) e
+    ∙ product_one_right m h
 
 pub returns-clause-value : goal.returns-clause-value
 returns-clause-value c n =

@@ -8,7 +8,8 @@ unfolding values_from
 loop-i-init c = c.new-first.ensures
 
 pub push-requires : goal.push-requires
-push-requires c = omega (arith, ap length c.loop-i.invariant ∙ length-values_from (coefficient c.args.list.now) 0 c.loop-i.i)
+push-requires c =
+    omega (arith, ap length c.loop-i.invariant ∙ length-values_from (coefficient c.args.list.now) 0 c.loop-i.i)
 
 pub loop-i-preserved : goal.loop-i-preserved
 loop-i-preserved c =

@@ -32,14 +32,18 @@ loop-pair-preserved c =
     let odd : (n + 1) % 2 ≡ 1 = omega arith in
     record {
       values =
-          ap (λ r. zip2 bit_xor (zip2 bit_xor r c.term_at-even_term.result) c.term_at-odd_term.result) (c.loop-pair.invariant.values ∙ ap (λ m. map (value (drop m w)) xs) before)
-          ∙ ap (λ r. zip2 bit_xor (zip2 bit_xor (map (value (drop (suc i) w)) xs) r) c.term_at-odd_term.result) c.term_at-even_term.ensures
-          ∙ ap (λ r. zip2 bit_xor r c.term_at-odd_term.result) (lanes_more w xs i n (omega arith) ∙ ap (λ m. map (value (drop m w)) xs) between)
+          ap (λ r. zip2 bit_xor (zip2 bit_xor r c.term_at-even_term.result) c.term_at-odd_term.result)
+          (c.loop-pair.invariant.values ∙ ap (λ m. map (value (drop m w)) xs) before)
+          ∙ ap (λ r. zip2 bit_xor (zip2 bit_xor (map (value (drop (suc i) w)) xs) r) c.term_at-odd_term.result)
+          c.term_at-even_term.ensures
+          ∙ ap (λ r. zip2 bit_xor r c.term_at-odd_term.result) (lanes_more w xs i n (omega arith)
+          ∙ ap (λ m. map (value (drop m w)) xs) between)
           ∙ ap (λ r. zip2 bit_xor (map (value (drop (suc k) w)) xs) r) c.term_at-odd_term.ensures
           ∙ lanes_more w xs k (n + 1) (omega arith) ∙ ap (λ m. map (value (drop m w)) xs) after;
       odd =
           ap (λ r. zip2 bit_xor r c.term_at-odd_term.result)
-          (c.loop-pair.invariant.odd ∙ ap (λ m. map (odd_part (drop m w)) xs) before ∙ even_more w xs i n (omega arith) even ∙ ap (λ m. map (odd_part (drop m w)) xs) between)
+          (c.loop-pair.invariant.odd ∙ ap (λ m. map (odd_part (drop m w)) xs) before
+          ∙ even_more w xs i n (omega arith) even ∙ ap (λ m. map (odd_part (drop m w)) xs) between)
           ∙ ap (λ r. zip2 bit_xor (map (odd_part (drop (suc k) w)) xs) r) c.term_at-odd_term.ensures
           ∙ odd_more w xs k (n + 1) (omega arith) odd ∙ ap (λ m. map (odd_part (drop m w)) xs) after;
     }
@@ -51,8 +55,10 @@ returns-clause-values c =
     let n = length w - 1 in
     let left : length w - 2 * c.loop-pair.pair ≡ suc 0 = omega arith in
     let place : length w - suc n ≡ 0 = omega arith in
-    ap (λ r. zip2 bit_xor r c.term_at-highest.result) (c.loop-pair.invariant.values ∙ ap (λ m. map (value (drop m w)) xs) left)
-    ∙ ap (λ r. zip2 bit_xor (map (value (drop (suc 0) w)) xs) r) (c.term_at-highest.ensures ∙ ap (λ m. map (λ x. get_or w m 0 ⊗ x) (map (λ x. raise x n) xs)) place)
+    ap (λ r. zip2 bit_xor r c.term_at-highest.result) (c.loop-pair.invariant.values
+    ∙ ap (λ m. map (value (drop m w)) xs) left)
+    ∙ ap (λ r. zip2 bit_xor (map (value (drop (suc 0) w)) xs) r) (c.term_at-highest.ensures
+    ∙ ap (λ m. map (λ x. get_or w m 0 ⊗ x) (map (λ x. raise x n) xs)) place)
     ∙ lanes_more w xs 0 n (omega arith)
 
 pub returns-clause-odd : goal.returns-clause-odd
@@ -61,4 +67,5 @@ returns-clause-odd c =
     let xs = values_from power c.args.first 16 in
     let left : length w - 2 * c.loop-pair.pair ≡ suc 0 = omega arith in
     let even : (length w - 1) % 2 ≡ 0 = omega arith in
-    c.loop-pair.invariant.odd ∙ ap (λ m. map (odd_part (drop m w)) xs) left ∙ even_more w xs 0 (length w - 1) (omega arith) even
+    c.loop-pair.invariant.odd ∙ ap (λ m. map (odd_part (drop m w)) xs) left
+    ∙ even_more w xs 0 (length w - 1) (omega arith) even

@@ -1,4 +1,5 @@
-use Rattle.std.proofs.Common.{◌≡◌, ◌-◌, ◌+◌, length, length-take, length-drop, take, drop, get_or, sym, ap, ◌∙◌, arith, inl, inr}
+use Rattle.std.proofs.Common.{◌≡◌, ◌-◌, ◌+◌, length, length-take, length-drop, take, drop, get_or, sym, ap, ◌∙◌, arith}
+use Rattle.std.proofs.Common.{inl, inr}
 use Rattle.std.proofs.lemmas.Bool.{cases_lt}
 use Rattle.std.proofs.lemmas.List.{get_or_past}
 use Rattle.std.proofs.lemmas.List.Edits.{get_or-between}
@@ -30,5 +31,6 @@ returns-clause-high c = λ i.
           ∙ ap (λ y. y ⊕ x ⊗ get_or e i 0) (get_or-between b g (g + 48) i 0 (omega arith))
       | inr h ↦
           mid_past g v b ys i (omega arith) yl h
-          ∙ sym (ap (λ y. get_or b (g + i) 0 ⊕ y) (ap (λ y. x ⊗ y) (get_or_past e i 0 (omega arith)) ∙ product_zero_right x) ∙ xor_zero_r (get_or b (g + i) 0))
+          ∙ sym (ap (λ y. get_or b (g + i) 0 ⊕ y) (ap (λ y. x ⊗ y) (get_or_past e i 0 (omega arith))
+          ∙ product_zero_right x) ∙ xor_zero_r (get_or b (g + i) 0))
     ]

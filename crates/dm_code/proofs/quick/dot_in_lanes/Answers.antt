@@ -22,7 +22,9 @@ loop-group-preserved c =
     let p = c.lanes_mul-sum.result in
     let al : length (chunk n 16 a) ≡ 16 = length-chunk n 16 a (omega arith) in
     let bl : length (chunk (first + n) 16 b) ≡ 16 = length-chunk (first + n) 16 b (omega arith) in
-    let pl : length p ≡ 16 = ap length c.lanes_mul-sum.ensures ∙ length-zip2 (λ x y. x ⊗ y) (chunk n 16 a) (chunk (first + n) 16 b) (al ∙ sym bl) ∙ al in
+    let pl : length p ≡ 16 =
+    ap length c.lanes_mul-sum.ensures ∙ length-zip2 (λ x y. x ⊗ y) (chunk n 16 a) (chunk (first + n) 16 b) (al
+    ∙ sym bl) ∙ al in
     let sl : length c.loop-group.sum ≡ 16 = c.loop-group.auto.sum.0 in
     total_sums c.loop-group.sum p (sl ∙ sym pl)
     ∙ ap (λ y. y ⊕ total p) c.loop-group.invariant
@@ -30,11 +32,14 @@ loop-group-preserved c =
     (total_products f v (0 + n) 16 p pl (λ i h.
     ap (λ u. get_or u i 0) c.lanes_mul-sum.ensures
     ∙ get_or-zip2 (λ x y. x ⊗ y) (chunk n 16 a) (chunk (first + n) 16 b) i 0 0 0 (omega (arith, al)) (omega (arith, bl))
-    ∙ ap (λ y. y ⊗ get_or (chunk (first + n) 16 b) i 0) (get_or-chunk n 16 a i 0 h ∙ ap (coefficient a) (let q : n + i ≡ 0 + n + i = omega arith in q))
-    ∙ ap (λ y. f (0 + n + i) ⊗ y) (get_or-chunk (first + n) 16 b i 0 h ∙ ap (coefficient b) (let q : first + n + i ≡ first + (0 + n + i) = omega arith in q))))
+    ∙ ap (λ y. y ⊗ get_or (chunk (first + n) 16 b) i 0) (get_or-chunk n 16 a i 0 h
+    ∙ ap (coefficient a) (let q : n + i ≡ 0 + n + i = omega arith in q))
+    ∙ ap (λ y. f (0 + n + i) ⊗ y) (get_or-chunk (first + n) 16 b i 0 h
+    ∙ ap (coefficient b) (let q : first + n + i ≡ first + (0 + n + i) = omega arith in q))))
     ∙ sym (dot_parts f v 0 n 16) ∙ ap (dot f v 0) (let q : n + 16 ≡ 16 * (c.loop-group.group + 1) = omega arith in q)
 
 pub returns : goal.returns
 returns c =
     c.loop-group.invariant
-    ∙ ap (λ n. dot (coefficient c.args.list.now) (λ i. coefficient c.args.other.now (c.args.first + i)) 0 (16 * n)) (let q : c.loop-group.group ≡ c.args.groups = omega arith in q)
+    ∙ ap (λ n. dot (coefficient c.args.list.now) (λ i. coefficient c.args.other.now (c.args.first + i)) 0 (16 * n))
+    (let q : c.loop-group.group ≡ c.args.groups = omega arith in q)

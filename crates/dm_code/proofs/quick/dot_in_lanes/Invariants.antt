@@ -5,4 +5,5 @@ use Rattle.dm_code.proofs.LaneDots.{total}
 use Rattle.dm_code.proofs.quick.dot_in_lanes.Given as goal
 
 abbrev pub invariant-loop-group : goal.invariant-loop-group
-invariant-loop-group l = total l.sum ≡ dot (coefficient l.list) (λ i. coefficient l.other (l.first + i)) 0 (16 * l.group)
+invariant-loop-group l =
+    total l.sum ≡ dot (coefficient l.list) (λ i. coefficient l.other (l.first + i)) 0 (16 * l.group)

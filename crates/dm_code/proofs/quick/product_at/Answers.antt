@@ -10,7 +10,9 @@ returns-clause-coefficient c =
     let n = c.args.n in
     let first = length s - 1 - n in
     c.dot_in_lanes.ensures
-    ∙ sym (conv_lanes (coefficient c.args.locator.now) (coefficient s) (λ i. coefficient b (first + i)) n (16 * (c.args.degree / 16 + 1))
-    (λ j q. ap (coefficient b) (let r : first + j ≡ length s - suc (n - j) = omega arith in r) ∙ c.requires.back.each (n - j) (omega arith))
+    ∙ sym (conv_lanes (coefficient c.args.locator.now) (coefficient s) (λ i. coefficient b (first + i)) n
+    (16 * (c.args.degree / 16 + 1))
+    (λ j q. ap (coefficient b) (let r : first + j ≡ length s - suc (n - j) = omega arith in r)
+    ∙ c.requires.back.each (n - j) (omega arith))
     (λ j q. c.requires.back.zeros (first + j) (omega arith))
     (λ i q. c.requires.zeros i (omega arith)))

@@ -7,7 +7,8 @@ use Rattle.dm_code.proofs.syndrome.syndromes.Goals as goal
 
 pub loop-i-init : goal.loop-i-init
 loop-i-init c =
-    c.syndromes_in_groups-values.ensures ∙ ap (syndromes_of c.args.word.now) (let e : 16 * (c.args.k / 16) ≡ 16 * (c.args.k / 16) + 1 - 1 = omega arith in e)
+    c.syndromes_in_groups-values.ensures ∙ ap (syndromes_of c.args.word.now)
+    (let e : 16 * (c.args.k / 16) ≡ 16 * (c.args.k / 16) + 1 - 1 = omega arith in e)
 
 pub push-requires : goal.push-requires
 push-requires c = omega (arith, ap length c.loop-i.invariant ∙ syndromes_length c.args.word.now (c.loop-i.i - 1))
@@ -17,7 +18,8 @@ loop-i-preserved c =
     let w = c.args.word.now in
     let i = c.loop-i.i in
     c.push.ensures.items ∙ ap (λ t. t ++ c.value_by_sixteens.result.0 ∷ []) c.loop-i.invariant
-    ∙ ap (λ a. syndromes_of w (i - 1) ++ a ∷ []) (c.value_by_sixteens.ensures ∙ ap (λ j. value w (power j)) (let e : i ≡ 1 + (i - 1) = omega arith in e))
+    ∙ ap (λ a. syndromes_of w (i - 1) ++ a ∷ []) (c.value_by_sixteens.ensures
+    ∙ ap (λ j. value w (power j)) (let e : i ≡ 1 + (i - 1) = omega arith in e))
     ∙ sym (syndromes_push w (i - 1)) ∙ ap (syndromes_of w) (let e : suc (i - 1) ≡ i + 1 - 1 = omega arith in e)
 
 pub returns-clause-bytes : goal.returns-clause-bytes

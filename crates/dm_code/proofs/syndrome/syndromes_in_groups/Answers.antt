@@ -19,10 +19,15 @@ loop-group-preserved c =
     let done = 16 * c.loop-group.group in
     let roots = values_from power (1 + done) 16 in
     let of : c.values_from_root.result ≡ map (value w) roots =
-    c.values_from_root.ensures ∙ ap (λ f. map (value w) (values_from power f 16)) (let e : done + 1 ≡ 1 + done = omega arith in e) in
+    c.values_from_root.ensures ∙ ap (λ f. map (value w) (values_from power f 16)) (let e : done + 1 ≡ 1 + done =
+    omega arith in e) in
     let before : length c.loop-group.values.items ≡ done = ap length c.loop-group.invariant ∙ syndromes_length w done in
-    let added : length c.values_from_root.result ≡ 16 = ap length of ∙ length-map roots (value w) ∙ length-values_from power (1 + done) 16 in
-    let room : length c.loop-group.values.items + length c.values_from_root.result ≤ MOST_CHECKS = omega (arith, before, added) in
-    let all : c.try_extend_from_slice-room.new.self.items ≡ c.loop-group.values.items ++ c.values_from_root.result = grind (arith, room) in
+    let added : length c.values_from_root.result ≡ 16 =
+    ap length of ∙ length-map roots (value w) ∙ length-values_from power (1 + done) 16 in
+    let room : length c.loop-group.values.items + length c.values_from_root.result ≤ MOST_CHECKS =
+    omega (arith, before, added) in
+    let all : c.try_extend_from_slice-room.new.self.items ≡ c.loop-group.values.items ++ c.values_from_root.result =
+    grind (arith, room) in
     all ∙ ap (λ t. t ++ c.values_from_root.result) c.loop-group.invariant ∙ ap (λ t. syndromes_of w done ++ t) of
-    ∙ more_syndromes w done 16 ∙ ap (syndromes_of w) (let e : done + 16 ≡ 16 * (c.loop-group.group + 1) = omega arith in e)
+    ∙ more_syndromes w done 16 ∙ ap (syndromes_of w) (let e : done + 16 ≡ 16 * (c.loop-group.group + 1) = omega arith in
+    e)

@@ -16,9 +16,13 @@ loop-j-preserved c =
     let j = c.loop-j.j in
     record {
       from = omega arith;
-      sum = c.add-sum.ensures ∙ ap (λ y. y ⊕ c.loop-j.sum.0) c.mul.ensures ∙ ap (λ y. f (j - 1) ⊗ v (j - 1) ⊕ y) c.loop-j.invariant.sum
+      sum =
+          c.add-sum.ensures ∙ ap (λ y. y ⊕ c.loop-j.sum.0) c.mul.ensures
+          ∙ ap (λ y. f (j - 1) ⊗ v (j - 1) ⊕ y) c.loop-j.invariant.sum
           ∙ sym (dot_step f v (j - 1) (35 - j) j (35 - (j - 1)) (omega arith) (omega arith));
     }
 
 pub returns : goal.returns
-returns c = c.loop-j.invariant.sum ∙ ap (λ j. dot (coefficient c.args.f.now) (coefficient c.args.v.now) j (35 - j)) (let e : c.loop-j.j ≡ c.args.first = omega arith in e)
+returns c =
+    c.loop-j.invariant.sum ∙ ap (λ j. dot (coefficient c.args.f.now) (coefficient c.args.v.now) j (35 - j))
+    (let e : c.loop-j.j ≡ c.args.first = omega arith in e)

@@ -6,11 +6,13 @@ use Rattle.dm_text.proofs.answer.answer_check.Goals as goal
 
 pub returns-in-Ok-read_to : goal.returns-in-Ok-read_to
 returns-in-Ok-read_to c =
-    let side : c.side.result ≡ c.args.targets.now.grid.size.side = c.side.ensures.value ∙ ap (λ size. size.side) c.size.ensures.value in
+    let side : c.side.result ≡ c.args.targets.now.grid.size.side =
+    c.side.ensures.value ∙ ap (λ size. size.side) c.size.ensures.value in
     rw c.in-Ok.is (
       line_answer (check_text c.args.targets.now.grid.size.side c.read_to.new.reading),
       (Ok c.read_to.new.reading, rw (← c.border_limit_for-limit.ensures) c.in-Ok-read_to.ensures.read.result_is, refl),
-      subst (λ s. Gathers c.args.answers.now (line_answer (check_text s c.read_to.new.reading)) c.add_counts.new.self) side c.add_counts.ensures,
+      subst (λ s. Gathers c.args.answers.now (line_answer (check_text s c.read_to.new.reading)) c.add_counts.new.self)
+          side c.add_counts.ensures,
     )
 
 pub returns-in-Err-read_to : goal.returns-in-Err-read_to

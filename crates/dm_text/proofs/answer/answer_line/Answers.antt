@@ -5,7 +5,11 @@ use Rattle.dm_text.proofs.answer.answer_line.Goals as goal
 
 pub returns-in-Ok-write_to : goal.returns-in-Ok-write_to
 returns-in-Ok-write_to c =
-    rw c.in-Ok.is (grid_answer c.write_to.new.grid, normal_grid c.write_to.new.grid c.in-Ok-write_to.ensures.written.normal refl, c.add_grid.ensures)
+    rw c.in-Ok.is (
+      grid_answer c.write_to.new.grid,
+      normal_grid c.write_to.new.grid c.in-Ok-write_to.ensures.written.normal refl,
+      c.add_grid.ensures,
+    )
 
 pub returns-in-Err-write_to : goal.returns-in-Err-write_to
 returns-in-Err-write_to c = rw c.in-Ok.is (

@@ -13,10 +13,18 @@ returns-in-Ok-normal_to c = rw c.in-Ok.is (
 pub returns-in-Err-normal_to : goal.returns-in-Err-normal_to
 returns-in-Err-normal_to c = rw c.in-Ok.is (
   refusal_in_place_of_grid (normal_refusal c.in-Err-normal_to.fault),
-  (Err c.in-Err-normal_to.fault, rw (← c.border_limit_for-limit.ensures) c.in-Err-normal_to.ensures.normal.result_is, refl),
+  (
+    Err c.in-Err-normal_to.fault,
+    rw (← c.border_limit_for-limit.ensures) c.in-Err-normal_to.ensures.normal.result_is,
+    refl,
+  ),
   c.refuse_normal.ensures,
 )
 
 pub returns-in-Err : goal.returns-in-Err
 returns-in-Err c =
-    rw c.in-Err.is (refusal_in_place_of_grid (record_refusal c.in-Err.fault), refl, c.refuse_record_in_place_of_grid.ensures)
+    rw c.in-Err.is (
+      refusal_in_place_of_grid (record_refusal c.in-Err.fault),
+      refl,
+      c.refuse_record_in_place_of_grid.ensures,
+    )

@@ -8,4 +8,5 @@ returns-clause-message c = text_is_line
 
 pub returns-clause-read : goal.returns-clause-read
 returns-clause-read c =
-    λ grid limit m r. text_is_line m (read_is_message Usual grid limit m r) (no_more_items_are_read Usual grid limit m r)
+    λ grid limit m r. text_is_line m (read_is_message Usual grid limit m r)
+    (no_more_items_are_read Usual grid limit m r)

@@ -6,13 +6,19 @@ use Rattle.dm_text.proofs.printed.push_row.Goals as goal
 
 pub push-requires : goal.push-requires
 push-requires c =
-    let long = ap length c.push_cells.ensures ∙ length-append c.args.text.now.items (map character_of (cells_in c.side.result c.row.result)) in
-    let side : c.side.result ≡ c.args.grid.now.size.side = c.side.ensures.value ∙ ap (λ s. s.side) c.size.ensures.value in
+    let long =
+    ap length c.push_cells.ensures ∙ length-append c.args.text.now.items
+    (map character_of (cells_in c.side.result c.row.result)) in
+    let side : c.side.result ≡ c.args.grid.now.size.side =
+    c.side.ensures.value ∙ ap (λ s. s.side) c.size.ensures.value in
     (omega arith, omega (arith, long, cells_long c.side.result c.row.result, side, c.requires.room))
 
 pub returns : goal.returns
 returns c =
     let row = get_or c.args.grid.now.rows c.args.row [] in
-    let side : c.side.result ≡ c.args.grid.now.size.side = c.side.ensures.value ∙ ap (λ s. s.side) c.size.ensures.value in
-    c.push.ensures ∙ ap (λ (l : List ℕ). l ++ 10 ∷ []) (c.push_cells.ensures ∙ ap (λ (n : ℕ). c.args.text.now.items ++ map character_of (cells_in n c.row.result)) side
-    ∙ ap (λ (l : List Bool). c.args.text.now.items ++ map character_of l) (row_is row c.row.result c.args.grid.now.size.side c.requires.width c.row.ensures.cells))
+    let side : c.side.result ≡ c.args.grid.now.size.side =
+    c.side.ensures.value ∙ ap (λ s. s.side) c.size.ensures.value in
+    c.push.ensures ∙ ap (λ (l : List ℕ). l ++ 10 ∷ []) (c.push_cells.ensures
+    ∙ ap (λ (n : ℕ). c.args.text.now.items ++ map character_of (cells_in n c.row.result)) side
+    ∙ ap (λ (l : List Bool). c.args.text.now.items ++ map character_of l)
+    (row_is row c.row.result c.args.grid.now.size.side c.requires.width c.row.ensures.cells))

@@ -13,6 +13,16 @@ push_decimal-requires g c = elim c.if-i-gt0.branch [
 
 pub loop-i-preserved : goal.loop-i-preserved
 loop-i-preserved g c = elim c.if-i-gt0.branch [
-  | then-i-gt0 w ↦ grind (arith, common_steps, spaced_more c.args.numbers.now c.loop-i.i, length-decimal-le 5 (get_or c.args.numbers.now c.loop-i.i 0))
-  | else-i-gt0 w ↦ grind (arith, common_steps, spaced_first c.args.numbers.now, length-decimal-le 5 (get_or c.args.numbers.now 0 0))
+  | then-i-gt0 w ↦ grind (
+    arith,
+    common_steps,
+    spaced_more c.args.numbers.now c.loop-i.i,
+    length-decimal-le 5 (get_or c.args.numbers.now c.loop-i.i 0),
+  )
+  | else-i-gt0 w ↦ grind (
+    arith,
+    common_steps,
+    spaced_first c.args.numbers.now,
+    length-decimal-le 5 (get_or c.args.numbers.now 0 0),
+  )
 ]

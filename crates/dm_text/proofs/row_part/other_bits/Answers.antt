@@ -8,6 +8,7 @@ pub returns : goal.returns
 returns c =
     let block = c.args.block in
     let ored = zip2 bit_or block (replicate 32 1) in
-    bitmask_splat w8 (λ x y. not (eqb x y)) ored 32 49 (length-zip2 bit_or block (replicate 32 1) c.fits-block.0 ∙ c.fits-block.0) (omega arith)
+    bitmask_splat w8 (λ x y. not (eqb x y)) ored 32 49 (length-zip2 bit_or block (replicate 32 1) c.fits-block.0
+    ∙ c.fits-block.0) (omega arith)
     ∙ ap (λ l. mask_l (map (λ x. not (eqb x 49)) l)) (zip2_splat bit_or block 32 1 c.fits-block.0)
     ∙ ap mask_l (map-map (λ x. not (eqb x 49)) (λ x. bit_or x 1) block)

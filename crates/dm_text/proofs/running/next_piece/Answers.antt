@@ -1,4 +1,5 @@
-use Rattle.std.proofs.Common.{◌≤◌, ◌++◌, [], ℕ, List, Result, Ok, Err, IfOk, MatchResult, arith, length, max, rules, take}
+use Rattle.std.proofs.Common.{◌≤◌, ◌++◌, [], ℕ, List, Result, Ok, Err, IfOk, MatchResult, arith, length, max, rules}
+use Rattle.std.proofs.Common.{take}
 use Rattle.std.proofs.lemmas.List.{take-append-le}
 use Rattle.dm_text.proofs.running.next_piece.Goals as goal
 
@@ -9,7 +10,8 @@ of_longer P (Ok n) xs ys within p = rw (take-append-le n xs ys) p
 of_longer P (Err e) xs ys within p = p
 
 pub returns-clause-bytes : goal.returns-clause-bytes
-returns-clause-bytes g c = of_longer (λ bytes. g.I.Source.gave c.args.source.now c.read.new.self bytes) c.read.result c.read.new.into _
+returns-clause-bytes g c =
+    of_longer (λ bytes. g.I.Source.gave c.args.source.now c.read.new.self bytes) c.read.result c.read.new.into _
     c.read.ensures.bound c.read.ensures.bytes
 
 pub returns-clause-count : goal.returns-clause-count
@@ -18,5 +20,7 @@ returns-clause-count g c = c.read.ensures.count
 pub returns-clause-asked : goal.returns-clause-asked
 returns-clause-asked g c =
     let within : length c.read.new.into ≤ max c.args.left 1 = search rules in
-    g.met.I.Source.asked_joined c.args.source.now c.args.source.now c.read.new.self [] 0 (length c.read.new.into) (max c.args.left 1)
-    (g.met.I.Source.gave_none c.args.source.now) (g.met.I.Source.asked_none c.args.source.now) c.read.ensures.asked (omega arith) (omega (arith, within))
+    g.met.I.Source.asked_joined c.args.source.now c.args.source.now c.read.new.self [] 0 (length c.read.new.into)
+    (max c.args.left 1)
+    (g.met.I.Source.gave_none c.args.source.now) (g.met.I.Source.asked_none c.args.source.now) c.read.ensures.asked
+    (omega arith) (omega (arith, within))

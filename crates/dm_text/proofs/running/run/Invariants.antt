@@ -12,8 +12,10 @@ invariant-pieces g l = record {
   unflushed : g.O.Sink.flushed l.initial.sink l.sink [];
   asked : g.I.Source.asked l.initial.source l.source l.most;
   room : l.tally.answered + l.tally.refused + l.left ≤ l.most;
-  so_far : (text : List ℕ) × (answers : List Answer) × g.I.Source.gave l.initial.source l.source text × (length text + l.left ≡ l.most)
-      × IsAnsweredSoFar l.fn.task l.answering text answers × Appends (g.O.Sink.contents l.initial.sink) (g.O.Sink.contents l.sink) (answers_text answers)
+  so_far : (text : List ℕ) × (answers : List Answer) × g.I.Source.gave l.initial.source l.source text
+      × (length text + l.left ≡ l.most)
+      × IsAnsweredSoFar l.fn.task l.answering text answers
+      × Appends (g.O.Sink.contents l.initial.sink) (g.O.Sink.contents l.sink) (answers_text answers)
       × (l.tally ≡ tally_of answers);
 }
 

@@ -7,4 +7,5 @@ pub returns-in-92 : goal.returns-in-92
 returns-in-92 c = let e : c.args.byte ≡ 92 = omega arith in rw e (refl, backslash_can, backslash_none)
 
 pub returns-in-32-to-126 : goal.returns-in-32-to-126
-returns-in-32-to-126 c = let n : c.args.byte ≢ 92 = omega arith in plain c.args.byte (omega arith) (omega arith) n refl refl
+returns-in-32-to-126 c = let n : c.args.byte ≢ 92 =
+    omega arith in plain c.args.byte (omega arith) (omega arith) n refl refl

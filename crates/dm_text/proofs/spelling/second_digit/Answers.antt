@@ -7,7 +7,10 @@ pub returns-in_default : goal.returns-in_default
 returns-in_default c more = first_digit_none c.args.first (c.args.byte ∷ more) c.in_default.ensures.none
 
 pub returns-in_default-hex_value : goal.returns-in_default-hex_value
-returns-in_default-hex_value c more = second_digit_none c.args.first c.args.byte more c.in_default-hex_value.ensures.none
+returns-in_default-hex_value c more =
+    second_digit_none c.args.first c.args.byte more c.in_default-hex_value.ensures.none
 
 pub returns : goal.returns
-returns c = byte c.args.first c.args.byte c.in-Some.high c.in-Some-hex_value.low c.in-Some.ensures.some c.in-Some-hex_value.ensures.some refl refl
+returns c =
+    byte c.args.first c.args.byte c.in-Some.high c.in-Some-hex_value.low c.in-Some.ensures.some
+    c.in-Some-hex_value.ensures.some refl refl

@@ -5,5 +5,7 @@ use Rattle.dm_tool.proofs.command_line.command.Goals as goal
 
 pub returns : goal.returns
 returns c =
-    let write = c.add_subcommand-with_write.ensures _ (with_shorter (codes "write")) c.for_grids.ensures c.with_shorter.ensures.shape in
+    let write =
+    c.add_subcommand-with_write.ensures _ (with_shorter (codes "write")) c.for_grids.ensures
+    c.with_shorter.ensures.shape in
     c.add_subcommand.ensures _ (new_shape (codes "table")) write c.plain.ensures.shape

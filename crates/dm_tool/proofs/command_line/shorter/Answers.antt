@@ -11,4 +11,5 @@ returns-clause-rule c =
     ∙ ap (λ (r : Rule). record r { long = Some (codes "shorter"); action = Some SetTrue }) c.new.ensures.rule
 
 pub returns-clause-local : goal.returns-clause-local
-returns-clause-local c = ap (λ (a : Arg). a.global) c.action.ensures ∙ ap (λ (a : Arg). a.global) c.long.ensures ∙ c.new.ensures.optional.1
+returns-clause-local c =
+    ap (λ (a : Arg). a.global) c.action.ensures ∙ ap (λ (a : Arg). a.global) c.long.ensures ∙ c.new.ensures.optional.1

@@ -7,5 +7,7 @@ use Rattle.dm_tool.proofs.command_line.top.Goals as goal
 pub returns : goal.returns
 returns c =
     ap app_of_fields c.disable_help_subcommand.ensures
-    ∙ ap (λ (f : Command-F Command). app_of_fields (record f { disable_help_subcommand = true })) c.subcommand_required.ensures
-    ∙ ap (λ (a : App). record a { top = record a.top { subcommand_required = true; disable_help_subcommand = true } }) c.new.ensures.app
+    ∙ ap (λ (f : Command-F Command). app_of_fields (record f { disable_help_subcommand = true }))
+    c.subcommand_required.ensures
+    ∙ ap (λ (a : App). record a { top = record a.top { subcommand_required = true; disable_help_subcommand = true } })
+    c.new.ensures.app

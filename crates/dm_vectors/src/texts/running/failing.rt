@@ -76,7 +76,8 @@ fn failed(fault: RunFault, reads: usize, written: &[u8]) -> End<'_> {
 }
 
 impl<'a> End<'a> {
-    /// The source is so after the run. It wasn't asked for more than one byte past the limit, and not called again after it failed.
+    /// The source is so after the run. It wasn't asked for more than one byte past the limit, and not called again
+    /// after it failed.
     fn leaves_source(&self, source: &TextSource<'_>, most: u32) -> bool {
         source.reads() == self.reads
             && source.reach() as u64 <= u64::from(most).saturating_add(1)
@@ -137,8 +138,8 @@ fn a_read_fails(rt: HostRuntime) {
     }
 }
 
-/// The number of reads, of `piece` bytes each, that a text takes when at most `most` bytes may come, including the one that
-/// meets its end or the byte too many.
+/// The number of reads, of `piece` bytes each, that a text takes when at most `most` bytes may come, including the one
+/// that meets its end or the byte too many.
 fn reads_of(text: &[u8], piece: usize, most: usize) -> usize {
     text.len()
         .min(most)
@@ -193,7 +194,8 @@ fn all_answered<'a>(answered: u64, written: &'a [u8], flushes: &'a [usize]) -> E
     }
 }
 
-/// How many bytes of the two grids may come, how many are then answered, or none where that is too much, and what is written.
+/// How many bytes of the two grids may come, how many are then answered, or none where that is too much, and what is
+/// written.
 static GRID_LIMITS: [(u32, Option<u64>, &[u8]); 6] = [
     (223, Some(2), b"123456\nA\n"),
     (222, Some(2), b"123456\nA\n"),

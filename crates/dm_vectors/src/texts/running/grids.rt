@@ -18,7 +18,8 @@ fn push_row(text: &mut Taken, row: u128, count: usize) {
     push(text, b"\n");
 }
 
-/// Appends the record of rows of modules, from the top, without an empty line after it. There are as many modules in a row as rows.
+/// Appends the record of rows of modules, from the top, without an empty line after it. There are as many modules in a
+/// row as rows.
 fn push_record(text: &mut Taken, rows: &[u128]) {
     for row in rows {
         push_row(text, *row, rows.len());
@@ -79,7 +80,8 @@ static MORE_GRIDS: [(&[u128], &[u8]); 6] = [
     ),
 ];
 
-/// Whether the two records, with empty lines around them or without, are read, checked and normalised as these lines and grids.
+/// Whether the two records, with empty lines around them or without, are read, checked and normalised as these lines
+/// and grids.
 fn are_answered(text: &[u8], normal: &[u8]) -> bool {
     let lines = b"123456\nA\n".as_slice();
     let checked = b"ok 10 border 0 corrected 0\nok 10 border 0 corrected 0\n".as_slice();
@@ -120,7 +122,8 @@ fn grids_are_read_and_checked(rt: HostRuntime) {
     }
 }
 
-/// Appends the record of a worked grid with an empty line after it, and what is written where it is read and where it is checked.
+/// Appends the record of a worked grid with an empty line after it, and what is written where it is read and where it
+/// is checked.
 fn push_worked(worked: &Worked, text: &mut Taken, read: &mut Taken, checked: &mut Taken) {
     push_record(text, worked.0);
     push(text, b"\n");
@@ -145,7 +148,8 @@ fn grids_are_read_and_checked_in_order(rt: HostRuntime) {
     holds(&rt, are_read_and_checked_in_order());
 }
 
-/// Whether the grid is read as this line, or refused with it. Where it is read, its normal grid is what is written for the line.
+/// Whether the grid is read as this line, or refused with it. Where it is read, its normal grid is what is written for
+/// the line.
 fn is_read(rows: &[u128], line: &[u8]) -> bool {
     let record = record_of(rows);
     let normal = written_for(Task::Write(Profile::Ascii), line);
@@ -169,7 +173,8 @@ fn worked_record(place: usize) -> Taken {
     }
 }
 
-/// A task with a low limit of wrong border modules and with a high one, and what each writes for a grid that has 10 of them.
+/// A task with a low limit of wrong border modules and with a high one, and what each writes for a grid that has 10 of
+/// them.
 static LIMITS: [(Task, Task, &[u8], &[u8]); 3] = [
     (
         Task::Read(Some(2)),

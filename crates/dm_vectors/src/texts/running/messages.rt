@@ -56,7 +56,8 @@ fn messages_are_read_back(rt: HostRuntime) {
     holds(&rt, writes((Task::Read(None), &grids, lines, 10, 0)));
 }
 
-/// Whether the line of digits is written as a grid of this side, which is read as the line, is checked so, and is normal.
+/// Whether the line of digits is written as a grid of this side, which is read as the line, is checked so, and is
+/// normal.
 fn is_grid_of(digits: &[u8], side: usize, checked: &[u8]) -> bool {
     let grid = written_for(Task::Write(Profile::Ascii), digits);
     has_side(&grid, side)

@@ -25,8 +25,8 @@ fn is_form(grid: &[u8], line: &[u8], shorter: &[u8], ascii: &[u8]) -> bool {
         && answers(Task::Normal(None, Profile::Ascii), grid, ascii)
 }
 
-/// Whether the line is written as grids of these sides under the shorter profile and under ASCII. Each is read as the line, and is normal
-/// under its own profile; normalising under the other gives the other.
+/// Whether the line is written as grids of these sides under the shorter profile and under ASCII. Each is read as the
+/// line, and is normal under its own profile; normalising under the other gives the other.
 fn has_sides(line: &[u8], side: usize, ascii_side: usize) -> bool {
     let shorter = written_for(Task::Write(Profile::Shorter), line);
     let ascii = written_for(Task::Write(Profile::Ascii), line);
@@ -71,7 +71,8 @@ pub(super) fn is_too_long(task: Task, text: &[u8]) -> bool {
     answers(task, text, b"\\no 14 too-long\n\n")
 }
 
-/// Whether the line has a grid of this side under the shorter profile, which is its own normal grid there, and none under ASCII.
+/// Whether the line has a grid of this side under the shorter profile, which is its own normal grid there, and none
+/// under ASCII.
 fn is_only_shorter(line: &[u8], side: usize) -> bool {
     let grid = written_for(Task::Write(Profile::Shorter), line);
     has_side(&grid, side)

@@ -1,4 +1,5 @@
-use Rattle.std.proofs.Common.{◌≡◌, ◌≢◌, ◌<◌, ◌*◌, ◌+◌, ◌↔◌, ◌∙◌, ℕ, Result, Err, length, take, get_or, refl, ap, subst, arith}
+use Rattle.std.proofs.Common.{◌≡◌, ◌≢◌, ◌<◌, ◌*◌, ◌+◌, ◌↔◌, ◌∙◌, ℕ, Result, Err, length, take, get_or, refl, ap, subst}
+use Rattle.std.proofs.Common.{arith}
 use Rattle.std.specs.Prelude.{IsNone}
 use Rattle.std.proofs.lemmas.List.{length-take-le}
 use Rattle.dm_symbol.specs.declared.GridFault.{GridFault}
@@ -12,7 +13,8 @@ use Rattle.ecc200_calls.proofs.modules.make_grid.Goals as goal
 
 pub returns-then-across-gt-LARGEST_SIDE-clause-fault : goal.returns-then-across-gt-LARGEST_SIDE-clause-fault
 returns-then-across-gt-LARGEST_SIDE-clause-fault c =
-    no_size (rw (← c.from-across.ensures) c.if-modules-across.false) (none_above c.args.side (omega (arith, c.from-across.ensures, c.if-across-gt-LARGEST_SIDE.true)))
+    no_size (rw (← c.from-across.ensures) c.if-modules-across.false)
+    (none_above c.args.side (omega (arith, c.from-across.ensures, c.if-across-gt-LARGEST_SIDE.true)))
     c.no_such_side.ensures
 
 pub returns-in-Ok-clause-grid : goal.returns-in-Ok-clause-grid
@@ -21,19 +23,25 @@ returns-in-Ok-clause-grid c =
     let side = c.args.side in
     let across : c.from-across.result ≡ side = c.from-across.ensures in
     let count : length modules ≡ side * side = rw (← across) c.if-modules-across.false in
-    let above : (r k : ℕ) → r < c.loop-row.row → k < side → is_dark_in (get_or c.loop-row.rows r 0) k ≡ is_dark (get_or modules (r * side + k) 0) =
-    subst (λ x. (r k : ℕ) → r < c.loop-row.row → k < x → is_dark_in (get_or c.loop-row.rows r 0) k ≡ is_dark (get_or modules (r * x + k) 0)) across c.loop-row.invariant.above in
+    let above : (r k : ℕ) → r < c.loop-row.row → k < side →
+    is_dark_in (get_or c.loop-row.rows r 0) k ≡ is_dark (get_or modules (r * side + k) 0) =
+    subst (λ x. (r k : ℕ) → r < c.loop-row.row → k < x →
+    is_dark_in (get_or c.loop-row.rows r 0) k ≡ is_dark (get_or modules (r * x + k) 0)) across
+    c.loop-row.invariant.above in
     record {
       count = count;
       size = c.in-Ok.ensures.size;
       cells =
           c.in-Ok.ensures.cells ∙ ap (λ k. square_of_rows side (take k c.loop-row.rows)) across
-          ∙ square_packed side modules c.loop-row.rows count (λ r k lr lk. above r k (omega (arith, lr, c.loop-row-test.false, across)) lk);
+          ∙ square_packed side modules c.loop-row.rows count
+          (λ r k lr lk. above r k (omega (arith, lr, c.loop-row-test.false, across)) lk);
     }
 
 -- Rows that are as many as the side make no grid only where no size has this side.
-no_size_there : {U : Type 0} (why : GridFault) (side count : ℕ) → count ≡ side → (◌≡◌ {A = Result U GridFault} (Err why) (Err NotSquare)) ↔ (count ≢ side)
-    → (◌≡◌ {A = Result U GridFault} (Err why) (Err NoSuchSize)) ↔ ((count ≡ side) × IsNone (row_with_side side)) → IsNone (row_with_side side)
+no_size_there : {U : Type 0} (why : GridFault) (side count : ℕ) → count ≡ side →
+    (◌≡◌ {A = Result U GridFault} (Err why) (Err NotSquare)) ↔ (count ≢ side)
+    → (◌≡◌ {A = Result U GridFault} (Err why) (Err NoSuchSize)) ↔ ((count ≡ side) × IsNone (row_with_side side)) →
+    IsNone (row_with_side side)
 no_size_there NotSquare side count e square size = absurd (square.0 refl e)
 no_size_there NoSuchSize side count e square size = (size.0 refl).1
 
@@ -42,6 +50,8 @@ returns-in-Err-clause-fault c =
     let rows = c.loop-row.rows in
     let across = c.from-across.result in
     let count : length (take across rows) ≡ c.args.side =
-    length-take-le across rows (omega (arith, c.loop-row.invariant.height, c.if-across-gt-LARGEST_SIDE.false)) ∙ c.from-across.ensures in
+    length-take-le across rows (omega (arith, c.loop-row.invariant.height, c.if-across-gt-LARGEST_SIDE.false))
+    ∙ c.from-across.ensures in
     no_size (rw (← c.from-across.ensures) c.if-modules-across.false)
-    (no_size_there c.in-Err.field-0 c.args.side (length (take across rows)) count c.in-Err.ensures.not_square c.in-Err.ensures.no_such_size) c.no_such_side-in-Err.ensures
+    (no_size_there c.in-Err.field-0 c.args.side (length (take across rows)) count c.in-Err.ensures.not_square
+    c.in-Err.ensures.no_such_size) c.no_such_side-in-Err.ensures

@@ -7,6 +7,7 @@ use Rattle.ecc200_calls.proofs.modules.make_grid.Given as goal
 -- The rows above this one are packed.
 abbrev pub invariant-loop-row : goal.invariant-loop-row
 invariant-loop-row l = record {
-  above : (r c : ℕ) → r < l.row → c < l.across → is_dark_in (get_or l.rows r 0) c ≡ is_dark (get_or l.modules (r * l.across + c) 0);
+  above : (r c : ℕ) → r < l.row → c < l.across →
+      is_dark_in (get_or l.rows r 0) c ≡ is_dark (get_or l.modules (r * l.across + c) 0);
   height : length l.rows ≡ largest_side;
 }

@@ -7,12 +7,16 @@ use Rattle.ecc200_calls.proofs.Packing.{packed_fits, packed_more, packed_small}
 use Rattle.ecc200_calls.proofs.modules.pack_singly.Goals as goal
 
 pub overflow_mul-row : goal.overflow_mul-row
-overflow_mul-row c = Fits-le (omega arith) (packed_fits c.loop-i.row c.loop-i.i false c.loop-i.invariant.small (omega (arith, c.loop-i-test.true, c.requires)))
+overflow_mul-row c =
+    Fits-le (omega arith) (packed_fits c.loop-i.row c.loop-i.i false c.loop-i.invariant.small
+    (omega (arith, c.loop-i-test.true, c.requires)))
 
 pub overflow_add-row : goal.overflow_add-row
 overflow_add-row c =
     subst (λ x. Fits w128 (2 * c.loop-i.row + x)) (sym c.from.ensures)
-    (packed_fits c.loop-i.row c.loop-i.i (is_dark (get_or c.args.modules.now (length c.args.modules.now - 1 - c.loop-i.i) 0)) c.loop-i.invariant.small (omega (arith, c.loop-i-test.true, c.requires)))
+    (packed_fits c.loop-i.row c.loop-i.i (is_dark
+    (get_or c.args.modules.now (length c.args.modules.now - 1 - c.loop-i.i) 0)) c.loop-i.invariant.small
+    (omega (arith, c.loop-i-test.true, c.requires)))
 
 pub loop-i-preserved : goal.loop-i-preserved
 loop-i-preserved c =
@@ -20,7 +24,12 @@ loop-i-preserved c =
     let i = c.loop-i.i in
     let bit : c.from.result ≡ from_bool (is_dark (get_or modules (length modules - 1 - i) 0)) = c.from.ensures in
     record {
-      bits = subst (λ x. (column : ℕ) → column < i + 1 → is_dark_in (2 * c.loop-i.row + x) column ≡ is_dark (get_or modules (length modules - (i + 1) + column) 0)) (sym bit)
+      bits =
+          subst (λ x. (column : ℕ) → column < i + 1 →
+          is_dark_in (2 * c.loop-i.row + x) column ≡ is_dark (get_or modules (length modules - (i + 1) + column) 0))
+          (sym bit)
           (packed_more modules i c.loop-i.row c.loop-i-test.true c.loop-i.invariant.bits);
-      small = subst (λ x. 2 * c.loop-i.row + x < 2 ^ (i + 1)) (sym bit) (packed_small c.loop-i.row i (is_dark (get_or modules (length modules - 1 - i) 0)) c.loop-i.invariant.small);
+      small =
+          subst (λ x. 2 * c.loop-i.row + x < 2 ^ (i + 1)) (sym bit)
+          (packed_small c.loop-i.row i (is_dark (get_or modules (length modules - 1 - i) 0)) c.loop-i.invariant.small);
     }

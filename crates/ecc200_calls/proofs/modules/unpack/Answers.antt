@@ -15,11 +15,15 @@ loop-column-preserved c =
     let stored = c.unpack_together-together.result in
     let at = c.from.result in
     let room : column + 16 ≤ length line = omega (arith, c.loop-column-test.true, c.requires, i.multiple, i.room) in
-    let long : length stored ≡ 16 = sixteen stored (bit_and (c.args.cells / 2 ^ column) 65535) c.unpack_together-together.ensures in
-    let same = stored_in_rest at (LINE - at) line stored (omega (arith, c.from.ensures, room, i.room)) (omega (arith, c.from.ensures, room, i.room, long))
+    let long : length stored ≡ 16 =
+    sixteen stored (bit_and (c.args.cells / 2 ^ column) 65535) c.unpack_together-together.ensures in
+    let same =
+    stored_in_rest at (LINE - at) line stored (omega (arith, c.from.ensures, room, i.room))
+    (omega (arith, c.from.ensures, room, i.room, long))
     ∙ ap (λ a. put_chunk a line stored) c.from.ensures in
     record {
-      before = subst (λ xs. (k : ℕ) → k < column + 16 → get_or xs k 0 ≡ module_of (is_dark_in c.args.cells k)) (sym same)
+      before =
+          subst (λ xs. (k : ℕ) → k < column + 16 → get_or xs k 0 ≡ module_of (is_dark_in c.args.cells k)) (sym same)
           (unpacked_more c.args.cells column line stored room c.unpack_together-together.ensures i.before);
       multiple = omega (arith, i.multiple);
       room = ap length same ∙ length-put_chunk column line stored ∙ i.room;

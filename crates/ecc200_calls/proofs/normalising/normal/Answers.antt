@@ -6,6 +6,8 @@ use Rattle.ecc200_calls.proofs.normalising.normal.Goals as goal
 pub returns-clause-out : goal.returns-clause-out
 returns-clause-out c = elim c.match-extent_of.branch [
   | in-Some w ↦ IsNormalResult.in_extent w.in-Some.extent (sym c.extent_of.ensures ∙ w.in-Some.is)
-      (subst (λ out. ProfileResult w.in-Some.extent c.args.side c.args.modules.now c.args.border_limit c.args.profile out) (sym w.out-is) w.normal_modules.ensures)
-  | in-None w ↦ IsNormalResult.no_extent (sym c.extent_of.ensures ∙ w.in-None.is) (w.out-is ∙ w.show_fault.ensures ∙ ap no_symbol w.no_such_extent.ensures)
+      (subst (λ out. ProfileResult w.in-Some.extent c.args.side c.args.modules.now c.args.border_limit c.args.profile
+      out) (sym w.out-is) w.normal_modules.ensures)
+  | in-None w ↦ IsNormalResult.no_extent (sym c.extent_of.ensures ∙ w.in-None.is) (w.out-is ∙ w.show_fault.ensures
+      ∙ ap no_symbol w.no_such_extent.ensures)
 ]

@@ -12,13 +12,27 @@ loop-column-preserved c =
     let row = c.args.row in
     let column = c.loop-column.column in
     let start = c.from.result * c.from-2.result in
-    let start_is : start ≡ row * s.side = ap (λ x. x * c.from-2.result) c.from.ensures ∙ ap (λ x. row * x) (c.from-2.ensures ∙ c.side.ensures.value) in
+    let start_is : start ≡ row * s.side =
+    ap (λ x. x * c.from-2.result) c.from.ensures ∙ ap (λ x. row * x) (c.from-2.ensures ∙ c.side.ensures.value) in
     let above : (row + 1) * s.side ≤ s.side * s.side = mul-le-mul_right s.side (omega (arith, c.requires.row)) in
-    let inside : start + column < length c.loop-column.places = omega (arith, start_is, above, c.requires.room, i.room, c.loop-column-test.true, c.side-column-end.ensures.value) in
+    let inside : start + column < length c.loop-column.places =
+    omega (
+      arith,
+      start_is,
+      above,
+      c.requires.room,
+      i.room,
+      c.loop-column-test.true,
+      c.side-column-end.ensures.value,
+    ) in
     rw (c.from-in-loop-column.ensures, c.structure_place.ensures)
     (record {
       put = module_put c.loop-column.places start column (structure_place s row) inside i.put;
-      before = λ j l. module_kept c.args.places.now c.loop-column.places (start + column) j (structure_place s row column) (λ e. omega (arith, e, l)) (i.before j l);
-      behind = λ j l. module_kept c.args.places.now c.loop-column.places (start + column) j (structure_place s row column) (λ e. omega (arith, e, l)) (i.behind j (omega (arith, l)));
+      before =
+          λ j l. module_kept c.args.places.now c.loop-column.places (start + column) j (structure_place s row column)
+          (λ e. omega (arith, e, l)) (i.before j l);
+      behind =
+          λ j l. module_kept c.args.places.now c.loop-column.places (start + column) j (structure_place s row column)
+          (λ e. omega (arith, e, l)) (i.behind j (omega (arith, l)));
       room = length-set c.loop-column.places (start + column) (structure_place s row column) ∙ i.room;
     })

@@ -6,6 +6,8 @@ use Rattle.ecc200_calls.proofs.reading.read.Goals as goal
 pub returns-clause-out : goal.returns-clause-out
 returns-clause-out c = elim c.match-extent_of.branch [
   | in-Some w ↦ IsReadResult.in_extent w.in-Some.extent (sym c.extent_of.ensures ∙ w.in-Some.is)
-      (subst (λ out. ExtentResult w.in-Some.extent c.args.side c.args.modules.now c.args.border_limit out) (sym w.out-is) w.read_modules.ensures)
-  | in-None w ↦ IsReadResult.no_extent (sym c.extent_of.ensures ∙ w.in-None.is) (w.out-is ∙ w.show_fault.ensures ∙ ap no_reading w.no_such_extent.ensures)
+      (subst (λ out. ExtentResult w.in-Some.extent c.args.side c.args.modules.now c.args.border_limit out)
+      (sym w.out-is) w.read_modules.ensures)
+  | in-None w ↦ IsReadResult.no_extent (sym c.extent_of.ensures ∙ w.in-None.is) (w.out-is ∙ w.show_fault.ensures
+      ∙ ap no_reading w.no_such_extent.ensures)
 ]

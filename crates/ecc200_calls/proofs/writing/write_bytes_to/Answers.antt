@@ -7,11 +7,20 @@ use Rattle.ecc200_calls.proofs.writing.write_bytes_to.Goals as goal
 
 pub returns-then-bytes-gt-MOST_ITEMS : goal.returns-then-bytes-gt-MOST_ITEMS
 returns-then-bytes-gt-MOST_ITEMS c =
-    let there = message_there c.args.bytes.now (All-from_get_or (λ number. number ≤ 256) c.args.bytes.now 0 (λ i inside. omega (arith, c.type_inv.bytes i))) in
-    WrittenResult.no_grid there.0 there.1 there.2 (too_many c.args.profile there.0 c.args.bytes.now there.2 c.if-bytes-gt-MOST_ITEMS.true) (ap Err c.too_long.ensures)
+    let there =
+    message_there c.args.bytes.now (All-from_get_or (λ number. number ≤ 256) c.args.bytes.now 0
+    (λ i inside. omega (arith, c.type_inv.bytes i))) in
+    WrittenResult.no_grid there.0 there.1 there.2
+    (too_many c.args.profile there.0 c.args.bytes.now there.2 c.if-bytes-gt-MOST_ITEMS.true)
+    (ap Err c.too_long.ensures)
 
 pub returns-in-Ok : goal.returns-in-Ok
-returns-in-Ok c = WrittenResult.normal c.message_of_bytes.result c.write_to.new.grid c.message_of_bytes.ensures.message c.message_of_bytes.ensures.numbers c.in-Ok.ensures.written.normal refl
+returns-in-Ok c =
+    WrittenResult.normal c.message_of_bytes.result c.write_to.new.grid c.message_of_bytes.ensures.message
+    c.message_of_bytes.ensures.numbers c.in-Ok.ensures.written.normal refl
 
 pub returns-in-Err : goal.returns-in-Err
-returns-in-Err c = WrittenResult.no_grid c.message_of_bytes.result c.message_of_bytes.ensures.message c.message_of_bytes.ensures.numbers (λ h. false≢true (c.in-Err.ensures.written.fits.1 h)) (ap Err c.too_long-in-Err.ensures)
+returns-in-Err c =
+    WrittenResult.no_grid c.message_of_bytes.result c.message_of_bytes.ensures.message
+    c.message_of_bytes.ensures.numbers (λ h. false≢true (c.in-Err.ensures.written.fits.1 h))
+    (ap Err c.too_long-in-Err.ensures)

@@ -10,10 +10,12 @@ unfolding generator
 loop-i-init c = c.push.ensures.items ∙ ap (λ t. t ++ 1 ∷ []) c.new-product.ensures
 
 pub times-product-requires-clause-right_filled : goal.times-product-requires-clause-right_filled
-times-product-requires-clause-right_filled c = omega (arith, ap length (c.deref.ensures.0 ∙ c.loop-i.invariant), generator_length (c.loop-i.i - 1))
+times-product-requires-clause-right_filled c =
+    omega (arith, ap length (c.deref.ensures.0 ∙ c.loop-i.invariant), generator_length (c.loop-i.i - 1))
 
 pub times-product-requires-clause-fits : goal.times-product-requires-clause-fits
-times-product-requires-clause-fits c = omega (arith, ap length (c.deref.ensures.0 ∙ c.loop-i.invariant), generator_length (c.loop-i.i - 1))
+times-product-requires-clause-fits c =
+    omega (arith, ap length (c.deref.ensures.0 ∙ c.loop-i.invariant), generator_length (c.loop-i.i - 1))
 
 pub loop-i-preserved : goal.loop-i-preserved
 loop-i-preserved c =

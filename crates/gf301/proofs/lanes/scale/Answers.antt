@@ -20,5 +20,6 @@ returns c =
     ∙ ap (λ n. map (λ i. get_or (take 16 (take (length LOW - 16 * n) (drop (16 * n) LOW))) i 0) low) c.from-row.ensures
     ∙ ap (λ t. map (λ i. get_or t i 0) low) (low_read c.args.c (omega arith)))
     (c.by_table-high.ensures
-    ∙ ap (λ n. map (λ i. get_or (take 16 (take (length HIGH - 16 * n) (drop (16 * n) HIGH))) i 0) high) c.from-row.ensures
+    ∙ ap (λ n. map (λ i. get_or (take 16 (take (length HIGH - 16 * n) (drop (16 * n) HIGH))) i 0) high)
+    c.from-row.ensures
     ∙ ap (λ t. map (λ i. get_or t i 0) high) (high_read c.args.c (omega arith)))

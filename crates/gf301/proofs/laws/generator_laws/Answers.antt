@@ -2,7 +2,8 @@ use Rattle.std.proofs.Common.{◌≡◌, ◌+◌, ◌-◌, suc, arith, ap, ◌�
 use Rattle.gf301.specs.Field.{power}
 use Rattle.gf301.specs.Polynomial.{value}
 use Rattle.gf301.specs.Generator.{generator}
-use Rattle.gf301.proofs.GeneratorLaws.{generator_length, generator_first, bytes_generator, generator_root, generator_positive}
+use Rattle.gf301.proofs.GeneratorLaws.{generator_length, generator_first, bytes_generator, generator_root}
+use Rattle.gf301.proofs.GeneratorLaws.{generator_positive}
 use Rattle.gf301.proofs.laws.generator_laws.Goals as goal
 
 pub returns-clause-length : goal.returns-clause-length

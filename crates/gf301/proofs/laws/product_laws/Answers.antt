@@ -1,5 +1,7 @@
 use Rattle.std.proofs.Common.{◌%◌, ◌∙◌}
-use Rattle.gf301.proofs.FieldLaws.{product_below, product_low_left, product_low_right, product_comm, product_assoc, product_sum_right, product_zero_right, product_one_right, product_inverse, product_cancels, inverse_of, inverse_below}
+use Rattle.gf301.proofs.FieldLaws.{product_below, product_low_left, product_low_right, product_comm, product_assoc}
+use Rattle.gf301.proofs.FieldLaws.{product_sum_right, product_zero_right, product_one_right, product_inverse}
+use Rattle.gf301.proofs.FieldLaws.{product_cancels, inverse_of, inverse_below}
 use Rattle.gf301.proofs.laws.product_laws.Goals as goal
 
 pub returns-clause-byte : goal.returns-clause-byte

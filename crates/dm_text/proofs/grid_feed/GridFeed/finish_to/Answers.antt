@@ -14,7 +14,9 @@ returns-clause-last c text facts =
       lines = known.lines;
       rest = known.rest;
       open_record = known.open_record;
-      some = λ none. true≢false (sym ((c.is_empty.ensures known.lines known.rest known.facts_are).1 none) ∙ c.if-is_empty.false);
+      some =
+          λ none. true≢false (sym ((c.is_empty.ensures known.lines known.rest known.facts_are).1 none)
+          ∙ c.if-is_empty.false);
       meaning_is = c.close_to.ensures.meaning known.lines known.rest known.facts_are;
     }
 

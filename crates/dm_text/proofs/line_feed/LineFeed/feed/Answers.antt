@@ -9,5 +9,6 @@ returns-in_default c = record {
 }
 
 pub returns-clause-closed : goal.returns-clause-closed
-returns-clause-closed c = line_ends c.args.self.now c.take_line.new.self c.close.new.self c.args.piece.now c.in-Some.taken c.close.result
+returns-clause-closed c =
+    line_ends c.args.self.now c.take_line.new.self c.close.new.self c.args.piece.now c.in-Some.taken c.close.result
     c.in-Some.ensures.ends c.close.ensures.line c.close.ensures.empty

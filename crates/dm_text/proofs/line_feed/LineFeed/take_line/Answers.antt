@@ -3,7 +3,8 @@ use Rattle.dm_text.proofs.Texts.{length-prefix}
 use Rattle.dm_text.proofs.line_feed.LineFeed.take_line.Goals as goal
 
 pub invariant_of-self : goal.invariant_of-self
-invariant_of-self c = (c.self.invariant.0 ++ c.args.piece.now, c.in_default.ensures.«open» c.self.invariant.0 c.self.invariant.1)
+invariant_of-self c =
+    (c.self.invariant.0 ++ c.args.piece.now, c.in_default.ensures.«open» c.self.invariant.0 c.self.invariant.1)
 
 pub returns-in_default-clause-open : goal.returns-in_default-clause-open
 returns-in_default-clause-open c = record {
@@ -13,7 +14,10 @@ returns-in_default-clause-open c = record {
 }
 
 pub invariant_of-self-2 : goal.invariant_of-self-2
-invariant_of-self-2 c = (c.self.invariant.0 ++ take c.in-Some.end c.args.piece.now, c.in-Some.ensures.before c.self.invariant.0 c.self.invariant.1)
+invariant_of-self-2 c = (
+  c.self.invariant.0 ++ take c.in-Some.end c.args.piece.now,
+  c.in-Some.ensures.before c.self.invariant.0 c.self.invariant.1,
+)
 
 pub returns-clause-ends : goal.returns-clause-ends
 returns-clause-ends c = record {

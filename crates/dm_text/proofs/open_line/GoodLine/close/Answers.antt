@@ -6,4 +6,5 @@ use Rattle.dm_text.proofs.open_line.GoodLine.close.Goals as goal
 pub returns-then-count-gt0 : goal.returns-then-count-gt0
 returns-then-count-gt0 c line good =
     let some : 0 < length (pending_bytes c.args.self.pending) = rw (← c.count.ensures) c.if-count-gt0.true in
-    rw c.saturating_add.ensures (pending_end line (pending_bytes c.args.self.pending) c.args.self.prefix_length c.args.self.items good some)
+    rw c.saturating_add.ensures (pending_end line (pending_bytes c.args.self.pending) c.args.self.prefix_length
+    c.args.self.items good some)

@@ -12,6 +12,7 @@ returns-in-Faulty c line facts = (
 pub returns-else-good-eq0 : goal.returns-else-good-eq0
 returns-else-good-eq0 c line facts = (
   λ t. absurd (c.if-good-eq0.false (eqb-true c.in-Good.good.prefix_length 0 t)),
-  λ e. absurd (c.if-good-eq0.false (good_empty_counts line (pending_bytes c.in-Good.good.pending) c.in-Good.good.prefix_length c.in-Good.good.items
+  λ e. absurd (c.if-good-eq0.false (good_empty_counts line (pending_bytes c.in-Good.good.pending)
+      c.in-Good.good.prefix_length c.in-Good.good.items
       (rw (← c.self.view_is, c.in-Good.is) at facts) e).0),
 )

@@ -9,7 +9,9 @@ pub loop-byte-preserved : goal.loop-byte-preserved
 loop-byte-preserved c line facts =
     let prefix = take c.loop-byte.byte-index c.args.bytes.now in
     let byte = get_or c.args.bytes.now c.loop-byte.byte-index 0 in
-    let more = ap (λ (l : List ℕ). line ++ l) (take_more c.args.bytes.now c.loop-byte.byte-index 0 c.loop-byte-test.true) ∙ sym (append_assoc line prefix (byte ∷ [])) in
+    let more =
+    ap (λ (l : List ℕ). line ++ l) (take_more c.args.bytes.now c.loop-byte.byte-index 0 c.loop-byte-test.true)
+    ∙ sym (append_assoc line prefix (byte ∷ [])) in
     rw more (c.push.ensures (line ++ prefix) (c.loop-byte.invariant line facts))
 
 pub returns : goal.returns

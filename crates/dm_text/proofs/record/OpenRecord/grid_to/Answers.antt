@@ -21,4 +21,5 @@ returns-in-Cells c lines rest e =
     let seen = ap (λ (f : RecordFacts). f.contents) (c.self.view_is ∙ e) in
     let held = rw c.in-Cells.is at s.contents_are in
     c.grid_to.ensures s.lines s.rest held ∙ meaning_is s.lines s.rest
-    ∙ ap meaning_of (sym (seen_is c.in-Cells.rows s.lines s.rest held) ∙ sym (ap contents_seen c.in-Cells.is) ∙ seen) ∙ sym (meaning_is lines rest)
+    ∙ ap meaning_of (sym (seen_is c.in-Cells.rows s.lines s.rest held) ∙ sym (ap contents_seen c.in-Cells.is) ∙ seen)
+    ∙ sym (meaning_is lines rest)

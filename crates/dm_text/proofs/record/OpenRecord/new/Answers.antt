@@ -8,4 +8,5 @@ use Rattle.dm_text.proofs.record.OpenRecord.new.Goals as goal
 pub returns : goal.returns
 returns c =
     subst (λ (f : RecordFacts). AreRecordFacts [] f)
-    (sym (value_is false (kept.Cells c.new.result) (record { lines = []; rest = []; ended_is = refl; contents_are = c.new.ensures }))) none_open
+    (sym (value_is false (kept.Cells c.new.result)
+    (record { lines = []; rest = []; ended_is = refl; contents_are = c.new.ensures }))) none_open

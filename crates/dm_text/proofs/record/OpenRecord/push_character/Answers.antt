@@ -12,5 +12,6 @@ invariant_of-self c =
 pub returns-then-is_foreign : goal.returns-then-is_foreign
 returns-then-is_foreign c text known =
     let s = c.self.invariant in
-    grown_by text _ c.self.inside.ended c.self.inside.contents kept.Foreign (c.args.byte ∷ []) s known (c.requires, tt) (omega arith) c.self.view_is
+    grown_by text _ c.self.inside.ended c.self.inside.contents kept.Foreign (c.args.byte ∷ []) s known (c.requires, tt)
+    (omega arith) c.self.view_is
     (foreign_more s.lines s.rest c.args.byte (sym c.is_foreign.ensures ∙ c.if-is_foreign.true))

@@ -41,15 +41,19 @@ loop-at-smaller c = omega arith
 
 pub returns-clause-open : goal.returns-clause-open
 returns-clause-open c text known =
-    subst (λ (l : List ℕ). AreRecordFacts l c.loop-at.self) (all_taken text c.args.bytes.now c.loop-at.at c.loop-at-test.false) (c.loop-at.invariant.grown text known)
+    subst (λ (l : List ℕ). AreRecordFacts l c.loop-at.self)
+    (all_taken text c.args.bytes.now c.loop-at.at c.loop-at-test.false) (c.loop-at.invariant.grown text known)
 
 pub returns-then-end-bytes-clause-open : goal.returns-then-end-bytes-clause-open
 returns-then-end-bytes-clause-open c text known =
     let bytes = c.args.bytes.now in
     let line = c.loop-at.at + c.take_lines.result in
-    let lines = subst (λ (l : List ℕ). AreRecordFacts l c.take_lines.new.self) (go_on text bytes c.loop-at.at c.take_lines.result)
+    let lines =
+    subst (λ (l : List ℕ). AreRecordFacts l c.take_lines.new.self)
+    (go_on text bytes c.loop-at.at c.take_lines.result)
     (c.take_lines.ensures.grown (text ++ take c.loop-at.at bytes) (c.loop-at.invariant.grown text known)) in
-    subst (λ (l : List ℕ). AreRecordFacts l c.take_cells.new.self) (go_on text bytes line c.take_cells.result ∙ all_taken text bytes (line + c.take_cells.result) (omega (arith, c.if-end-bytes.true)))
+    subst (λ (l : List ℕ). AreRecordFacts l c.take_cells.new.self) (go_on text bytes line c.take_cells.result
+    ∙ all_taken text bytes (line + c.take_cells.result) (omega (arith, c.if-end-bytes.true)))
     (c.take_cells.ensures.grown (text ++ take line bytes) lines)
 
 pub returns-then-push-clause-closes : goal.returns-then-push-clause-closes
@@ -58,10 +62,21 @@ returns-then-push-clause-closes c text known =
     let line = c.loop-at.at + c.take_lines.result in
     let end = line + c.take_cells.result in
     let within : end < length bytes =
-    omega (arith, c.loop-at-test.true, c.if-end-bytes.false, c.take_lines.ensures.within, rest_length bytes c.loop-at.at, c.take_cells.ensures.within, rest_length bytes line) in
-    let lines = subst (λ (l : List ℕ). AreRecordFacts l c.take_lines.new.self) (go_on text bytes c.loop-at.at c.take_lines.result)
+    omega (
+      arith,
+      c.loop-at-test.true,
+      c.if-end-bytes.false,
+      c.take_lines.ensures.within,
+      rest_length bytes c.loop-at.at,
+      c.take_cells.ensures.within,
+      rest_length bytes line,
+    ) in
+    let lines =
+    subst (λ (l : List ℕ). AreRecordFacts l c.take_lines.new.self)
+    (go_on text bytes c.loop-at.at c.take_lines.result)
     (c.take_lines.ensures.grown (text ++ take c.loop-at.at bytes) (c.loop-at.invariant.grown text known)) in
-    let here = subst (λ (l : List ℕ). AreRecordFacts l c.take_cells.new.self) (go_on text bytes line c.take_cells.result)
+    let here =
+    subst (λ (l : List ℕ). AreRecordFacts l c.take_cells.new.self) (go_on text bytes line c.take_cells.result)
     (c.take_cells.ensures.grown (text ++ take line bytes) lines) in
     let same = rw c.if-push.true at c.push.ensures.same in
     let closes = rw c.if-push.true at c.push.ensures.closes in
@@ -79,14 +94,26 @@ loop-at-preserved c =
     let line = c.loop-at.at + c.take_lines.result in
     let end = line + c.take_cells.result in
     let within : end < length bytes =
-    omega (arith, c.loop-at-test.true, c.if-end-bytes.false, c.take_lines.ensures.within, rest_length bytes c.loop-at.at, c.take_cells.ensures.within, rest_length bytes line) in
+    omega (
+      arith,
+      c.loop-at-test.true,
+      c.if-end-bytes.false,
+      c.take_lines.ensures.within,
+      rest_length bytes c.loop-at.at,
+      c.take_cells.ensures.within,
+      rest_length bytes line,
+    ) in
     let grows = rw c.if-push.false at c.push.ensures.«open» in
     record {
       within = omega (arith, within);
       grown = λ text known.
-          let lines = subst (λ (l : List ℕ). AreRecordFacts l c.take_lines.new.self) (go_on text bytes c.loop-at.at c.take_lines.result)
+          let lines =
+          subst (λ (l : List ℕ). AreRecordFacts l c.take_lines.new.self)
+          (go_on text bytes c.loop-at.at c.take_lines.result)
           (c.take_lines.ensures.grown (text ++ take c.loop-at.at bytes) (c.loop-at.invariant.grown text known)) in
-          let here = subst (λ (l : List ℕ). AreRecordFacts l c.take_cells.new.self) (go_on text bytes line c.take_cells.result)
+          let here =
+          subst (λ (l : List ℕ). AreRecordFacts l c.take_cells.new.self) (go_on text bytes line c.take_cells.result)
           (c.take_cells.ensures.grown (text ++ take line bytes) lines) in
-          subst (λ (l : List ℕ). AreRecordFacts l c.push.new.self) (go_on_by_one text bytes end within) (grows (text ++ take end bytes) here);
+          subst (λ (l : List ℕ). AreRecordFacts l c.push.new.self) (go_on_by_one text bytes end within)
+          (grows (text ++ take end bytes) here);
     }

@@ -13,5 +13,6 @@ returns-clause-power c = rw c.from.ensures (logs_at c.args.self.0 c.requires (om
 
 pub returns-clause-only : goal.returns-clause-only
 returns-clause-only c = λ e h q.
-    let p : (get_or LOGS c.args.self.0 0 < 255) × (power (get_or LOGS c.args.self.0 0) ≡ c.args.self.0) = logs_at c.args.self.0 c.requires (omega arith) in
+    let p : (get_or LOGS c.args.self.0 0 < 255) × (power (get_or LOGS c.args.self.0 0) ≡ c.args.self.0) =
+    logs_at c.args.self.0 c.requires (omega arith) in
     power_injective e (get_or LOGS c.args.self.0 0) h p.0 (q ∙ sym p.1) ∙ ap (λ i. get_or LOGS i 0) (sym c.from.ensures)
