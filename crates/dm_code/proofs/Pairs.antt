@@ -201,8 +201,8 @@ pub every_multiple : (s l w g v : List ℕ) (t : ℕ) → 2 * t ≤ length s →
     IsMultiple l w g v
 every_multiple s l w g v t h p q =
     let a = least_at s l w t p in multiple_at s l w g v t a.0 h a.1 q
-    -- ---- two least pairs are equal as polynomials: their difference, with the factor x divided out,
-    is shorter than either
+
+-- ---- two least pairs are equal: their difference, with the factor x divided out, is shorter than either
 
 -- Two elements whose sum is 0 are equal.
 sum_same : (a b : ℕ) → a < 256 → b < 256 → a ⊕ 1 ⊗ b ≡ 0 → b ≡ a
