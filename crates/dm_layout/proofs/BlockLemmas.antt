@@ -1,5 +1,6 @@
 -- The blocks of a square's codewords, which are all of one length.
-use Rattle.std.proofs.Common.{◌≡◌, ◌≢◌, ℕ, ◌+◌, ◌*◌, ◌/◌, ◌%◌, ◌<◌, List, map, length, get_or, take, refl, sym, ◌∙◌, ap, subst}
+use Rattle.std.proofs.Common.{◌≡◌, ◌≢◌, ℕ, ◌+◌, ◌*◌, ◌/◌, ◌%◌, ◌<◌, List, map, length, get_or, take, refl, sym, ◌∙◌, ap}
+use Rattle.std.proofs.Common.{subst}
 use Rattle.std.specs.List.{range_with_len}
 use Rattle.dm_modules.proofs.Exported as symbols
 pub use Rattle.dm_modules.proofs.Exported.{put_one, stay_one}
@@ -45,7 +46,8 @@ word_of_block w b k words lb lk =
 -- ---- a block is put
 
 -- A block is a given list if the codewords of that list stand at the block's places.
-pub put_gives : (w v : WordsView) (b : ℕ) (list : List ℕ) → IsWords w → IsWords v → v.size ≡ w.size → b < w.size.blocks →
+pub put_gives : (w v : WordsView) (b : ℕ) (list : List ℕ) → IsWords w → IsWords v → v.size ≡ w.size →
+    b < w.size.blocks →
     length list ≡ block_length w.size →
     ((k : ℕ) → k < length list → get_or v.list (k * w.size.blocks + b) 0 ≡ get_or list k 0) →
     block_of w.size.blocks b v.list ≡ list

@@ -1,5 +1,6 @@
 -- Border cells by row and column, and their faults.
-use Rattle.std.proofs.Common.{◌≡◌, ◌≢◌, ℕ, ◌+◌, ◌-◌, ◌*◌, ◌/◌, ◌%◌, ◌<◌, ◌≤◌, Bool, true, false, not, ◌&&◌, ◌||◌, [], ◌∷◌, ◌++◌, nat_eq, refl, sym, ◌∙◌, ap, arith}
+use Rattle.std.proofs.Common.{◌≡◌, ◌≢◌, ℕ, ◌+◌, ◌-◌, ◌*◌, ◌/◌, ◌%◌, ◌<◌, ◌≤◌, Bool, true, false, not, ◌&&◌, ◌||◌, []}
+use Rattle.std.proofs.Common.{◌∷◌, ◌++◌, nat_eq, refl, sym, ◌∙◌, ap, arith}
 use Rattle.std.specs.Prelude.{count_by, sum_by}
 use Rattle.std.specs.List.{range_with_len}
 use Rattle.std.proofs.lemmas.Nat.{mod-mul-add, div-mul-add}
@@ -17,14 +18,17 @@ use Rattle.dm_place.proofs.Exported.{range-append}
 
 -- The number of border faults in the rows above this one.
 abbrev pub faults_above : GridView → ℕ → ℕ
-faults_above grid row = sum_by (λ r. count_by (is_fault grid r) (range_with_len 0 grid.size.side)) (range_with_len 0 row)
+faults_above grid row =
+    sum_by (λ r. count_by (is_fault grid r) (range_with_len 0 grid.size.side)) (range_with_len 0 row)
 
 -- The border faults above the next row are those above this row and those in it.
-pub faults_above_more : (grid : GridView) (row : ℕ) → faults_above grid (row + 1) ≡ faults_above grid row + count_by (is_fault grid row) (range_with_len 0 grid.size.side)
+pub faults_above_more : (grid : GridView) (row : ℕ) →
+    faults_above grid (row + 1) ≡ faults_above grid row + count_by (is_fault grid row) (range_with_len 0 grid.size.side)
 faults_above_more grid row =
     let f : ℕ → ℕ = λ r. count_by (is_fault grid r) (range_with_len 0 grid.size.side) in
     let z : 0 + row ≡ row = omega arith in
-    ap (sum_by f) (range-append 0 row 1 ∙ ap (λ k. range_with_len 0 row ++ k ∷ []) z) ∙ sum_by_push f (range_with_len 0 row) row
+    ap (sum_by f) (range-append 0 row 1 ∙ ap (λ k. range_with_len 0 row ++ k ∷ []) z)
+    ∙ sum_by_push f (range_with_len 0 row) row
 
 -- ---- rows and columns of the symbol and of the mapping square
 
@@ -35,7 +39,8 @@ is_inner_line d line = not (nat_eq (line % (d + 2)) 0 || nat_eq (line % (d + 2))
 
 -- A line of the mapping square that has a place in a region lies in that
 -- region's square, one line further than this place.
-pub symbol_line_parts : (d region place : ℕ) → place < d → symbol_line d (region * d + place) ≡ region * (d + 2) + (place + 1)
+pub symbol_line_parts : (d region place : ℕ) → place < d →
+    symbol_line d (region * d + place) ≡ region * (d + 2) + (place + 1)
 symbol_line_parts d region place l =
     let e : (region * d + place) / d ≡ region = div-mul-add region d place l in
     let f : region * d + place + 2 * region + 1 ≡ region * (d + 2) + (place + 1) = omega arith in
@@ -43,15 +48,19 @@ symbol_line_parts d region place l =
 
 -- A line of the symbol inside a region holds the line of the mapping
 -- square that has its place, less 1, in that region.
-pub mapping_line_parts : (d region place : ℕ) → place < d → mapping_line d (region * (d + 2) + (place + 1)) ≡ region * d + place
+pub mapping_line_parts : (d region place : ℕ) → place < d →
+    mapping_line d (region * (d + 2) + (place + 1)) ≡ region * d + place
 mapping_line_parts d region place l =
-    let e : (region * (d + 2) + (place + 1)) / (d + 2) ≡ region = div-mul-add region (d + 2) (place + 1) (omega arith) in
+    let e : (region * (d + 2) + (place + 1)) / (d + 2) ≡ region =
+    div-mul-add region (d + 2) (place + 1) (omega arith) in
     let f : region * (d + 2) + (place + 1) - 2 * region - 1 ≡ region * d + place = omega arith in
     ap (λ q. region * (d + 2) + (place + 1) - 2 * q - 1) e ∙ f
 
 -- A line with place p + 1 in the square of a region, p being below the region's side, lies inside the region.
 inner_parts : (d region place : ℕ) → place < d → is_inner_line d (region * (d + 2) + (place + 1)) ≡ true
-inner_parts d region place l = ap (λ r. not (nat_eq r 0 || nat_eq r (d + 1))) (mod-mul-add region (d + 2) (place + 1) (omega arith)) ∙ inside (place + 1) (omega arith) (omega arith)
+inner_parts d region place l =
+    ap (λ r. not (nat_eq r 0 || nat_eq r (d + 1))) (mod-mul-add region (d + 2) (place + 1) (omega arith))
+    ∙ inside (place + 1) (omega arith) (omega arith)
   where
     inside : (r : ℕ) → r ≢ 0 → r ≢ d + 1 → not (nat_eq r 0 || nat_eq r (d + 1)) ≡ true
     inside r n0 nd = grind arith
@@ -77,7 +86,8 @@ mapped_line s line h l =
     let small : a < d = omega (arith, facts.least) in
     let in_count : q < regions_across s = region_below d (regions_across s) q a (omega (arith, parts, facts.mapping)) in
     let room : (q + 1) * (d + 2) ≤ regions_across s * (d + 2) = mul-le-mul_right (d + 2) (omega (arith, in_count)) in
-    let there : symbol_line d line ≡ q * (d + 2) + (a + 1) = ap (symbol_line d) (sym parts) ∙ symbol_line_parts d q a small in
+    let there : symbol_line d line ≡ q * (d + 2) + (a + 1) =
+    ap (symbol_line d) (sym parts) ∙ symbol_line_parts d q a small in
     record {
       below = omega (arith, there, room, small, facts.side);
       inner = ap (is_inner_line d) there ∙ inner_parts d q a small;
@@ -90,7 +100,8 @@ pub record IsFromMapping (s : SizeRow) (line : ℕ) : Type 0 where
   pub back : symbol_line s.region_side (mapping_line s.region_side line) ≡ line
 
 -- Each line of the symbol that lies inside a region holds a line of the mapping square.
-pub inner_line : (s : SizeRow) (line : ℕ) → IsRow s → line < s.side → is_inner_line s.region_side line ≡ true → IsFromMapping s line
+pub inner_line : (s : SizeRow) (line : ℕ) → IsRow s → line < s.side → is_inner_line s.region_side line ≡ true →
+    IsFromMapping s line
 inner_line s line h l inner =
     let facts = row_facts s h in
     let d = s.region_side in
@@ -99,9 +110,11 @@ inner_line s line h l inner =
     let ends = not_ends d r inner in
     let small : r - 1 < d = omega (arith, ends.0, ends.1) in
     let parts : q * (d + 2) + (r - 1 + 1) ≡ line = omega (arith, div-add-mod line (d + 2), ends.0) in
-    let in_count : q < regions_across s = region_below (d + 2) (regions_across s) q (r - 1 + 1) (omega (arith, parts, facts.side)) in
+    let in_count : q < regions_across s =
+    region_below (d + 2) (regions_across s) q (r - 1 + 1) (omega (arith, parts, facts.side)) in
     let room : (q + 1) * d ≤ regions_across s * d = mul-le-mul_right d (omega (arith, in_count)) in
-    let there : mapping_line d line ≡ q * d + (r - 1) = ap (mapping_line d) (sym parts) ∙ mapping_line_parts d q (r - 1) small in
+    let there : mapping_line d line ≡ q * d + (r - 1) =
+    ap (mapping_line d) (sym parts) ∙ mapping_line_parts d q (r - 1) small in
     record {
       below = omega (arith, there, room, small, facts.mapping);
       back = ap (symbol_line d) there ∙ symbol_line_parts d q (r - 1) small ∙ parts;
@@ -111,9 +124,11 @@ inner_line s line h l inner =
     not_ends d r h = (grind arith, grind arith)
 
 -- A cell of the symbol belongs to no border exactly where its row and its column both lie inside a region.
-pub border_by_lines : (s : SizeRow) (row column : ℕ) → is_border s row column ≡ not (is_inner_line s.region_side row && is_inner_line s.region_side column)
+pub border_by_lines : (s : SizeRow) (row column : ℕ) →
+    is_border s row column ≡ not (is_inner_line s.region_side row && is_inner_line s.region_side column)
 border_by_lines s row column =
-    shuffled (nat_eq (column % (s.region_side + 2)) 0) (nat_eq (row % (s.region_side + 2)) (s.region_side + 1)) (nat_eq (row % (s.region_side + 2)) 0) (nat_eq (column % (s.region_side + 2)) (s.region_side + 1))
+    shuffled (nat_eq (column % (s.region_side + 2)) 0) (nat_eq (row % (s.region_side + 2)) (s.region_side + 1))
+    (nat_eq (row % (s.region_side + 2)) 0) (nat_eq (column % (s.region_side + 2)) (s.region_side + 1))
   where
     shuffled : (a b c e : Bool) → (a || b || c || e) ≡ not (not (c || b) && not (a || e))
     shuffled true true true true = refl
@@ -147,9 +162,13 @@ pub record IsImage (s : SizeRow) (r c : ℕ) : Type 0 where
   pub column : IsFromMapping s c
 
 -- Each cell of the symbol that belongs to no border is where a cell of the mapping square lies.
-pub image_of_mapping : (s : SizeRow) (row column : ℕ) → IsRow s → row < s.side → column < s.side → is_border s row column ≡ false → IsImage s row column
+pub image_of_mapping : (s : SizeRow) (row column : ℕ) → IsRow s → row < s.side → column < s.side →
+    is_border s row column ≡ false → IsImage s row column
 image_of_mapping s r c h lr lc e =
-    let both = and_parts (is_inner_line s.region_side r) (is_inner_line s.region_side c) (not_false (is_inner_line s.region_side r && is_inner_line s.region_side c) (sym (border_by_lines s r c) ∙ e)) in
+    let both =
+    and_parts (is_inner_line s.region_side r) (is_inner_line s.region_side c)
+    (not_false (is_inner_line s.region_side r && is_inner_line s.region_side c) (sym (border_by_lines s r c)
+    ∙ e)) in
     record { row = inner_line s r h lr both.0; column = inner_line s c h lc both.1 }
   where
     not_false : (b : Bool) → not b ≡ false → b ≡ true

@@ -1,5 +1,7 @@
 -- The border cells of a symbol's rows as bits.
-use Rattle.std.proofs.Common.{◌≡◌, ◌≢◌, ◌⊎◌, inl, inr, ℕ, zero, suc, ◌+◌, ◌-◌, ◌*◌, ◌/◌, ◌%◌, ◌^◌, ◌<◌, ◌≤◌, Bool, true, false, not, ◌&&◌, ◌||◌, cond, nat_eq, nat_lt, [], ◌∷◌, ◌++◌, refl, sym, ◌∙◌, ap, subst, arith, eq-eqb}
+use Rattle.std.proofs.Common.{◌≡◌, ◌≢◌, ◌⊎◌, inl, inr, ℕ, zero, suc, ◌+◌, ◌-◌, ◌*◌, ◌/◌, ◌%◌, ◌^◌, ◌<◌, ◌≤◌, Bool, true}
+use Rattle.std.proofs.Common.{false, not, ◌&&◌, ◌||◌, cond, nat_eq, nat_lt, refl, sym, ◌∙◌, ap, subst}
+use Rattle.std.proofs.Common.{arith, eq-eqb}
 use Rattle.std.specs.Prelude.{count_by, count_ones, min}
 use Rattle.std.specs.Bool.{beq}
 use Rattle.std.specs.Cmp.{booleans_Decides}
@@ -8,12 +10,11 @@ use Rattle.std.specs.Int.RustNames.{bit_xor}
 use lib.Bits.{bit_and}
 use lib.Count.{ones}
 use Rattle.std.specs.List.{range_with_len, list_all}
-use Rattle.std.proofs.Math.Nat.{mod-lt, mul-div_cancel, div-lt_iff_lt-mul, pow-succ', mod-add-mod}
+use Rattle.std.proofs.Math.Nat.{mul-div_cancel, mod-add-mod}
 use Rattle.std.proofs.Math.Pow.{pow_mono}
 use Rattle.std.proofs.lemmas.Bool.{eqb-true, ne_eqb, and_parts, cases_lt, le-ltb, lt-ltb}
-use Rattle.std.proofs.lemmas.List.Sums.{sum_by_push}
-use Rattle.std.proofs.lemmas.Nat.{ones_cat, ones-le, pow_pos, div-add-mod', mod-mul-add}
-use Rattle.std.proofs.lemmas.Nat.Bits.{bit_at_and, bit_at_xor, bit_at-lt, bit_at_cat_low}
+use Rattle.std.proofs.lemmas.Nat.{div-add-mod', mod-mul-add}
+use Rattle.std.proofs.lemmas.Nat.Bits.{bit_at_and, bit_at_xor, bit_at-lt}
 use Rattle.dm_layout.specs.Sizes.{SizeRow, IsRow, regions_across}
 use Rattle.dm_layout.specs.Grid.{GridView, cell_at, is_dark_in}
 use Rattle.dm_layout.specs.Border.{is_on_edge, edge_is_dark, is_fault, is_border, border_is_dark}
@@ -21,61 +22,16 @@ use Rattle.dm_layout.specs.inner.BorderMasks.{AreBorders, is_wrong}
 use Rattle.dm_layout.specs.declared.border.TheConstants.{EVEN_COLUMNS}
 use Rattle.dm_place.proofs.Exported.{same_tests}
 use Rattle.dm_layout.proofs.PackedRows.{darkened, darkened_cell, darkened_narrow}
-use Rattle.dm_place.proofs.Exported.{range-append, all_at}
+use Rattle.dm_place.proofs.Exported.{all_at}
 use Rattle.dm_layout.proofs.TableRows.{row_facts}
-
--- ---- how many cells of a row are dark
-
--- One more column adds 1 to the count if its test passes.
-count_more : (f : ℕ → Bool) (n : ℕ) → count_by f (range_with_len 0 (n + 1)) ≡ count_by f (range_with_len 0 n) + cond (f n) 1 0
-count_more f n =
-    let z : 0 + n ≡ n = omega arith in
-    ap (count_by f) (range-append 0 n 1 ∙ ap (λ k. range_with_len 0 n ++ k ∷ []) z) ∙ sum_by_push (λ c. cond (f c) 1 0) (range_with_len 0 n) n
-
--- A binary digit has as many ones as its value says.
-ones_of_digit : (b : ℕ) → b < 2 → count_ones b ≡ cond (nat_eq (b % 2) 1) 1 0
-unfolding ones
-ones_of_digit zero l = refl
-ones_of_digit (suc zero) l = refl
-ones_of_digit (suc (suc b)) l = absurd (omega arith)
-
--- A row of n cells, written as a number, has as many ones as dark cells.
-pub counted_ones : (n x : ℕ) (f : ℕ → Bool) → x < 2 ^ n → ((c : ℕ) → c < n → is_dark_in x c ≡ f c) → count_ones x ≡ count_by f (range_with_len 0 n)
-counted_ones zero x f l same = let e = ones-le 0 x l in omega (arith, e)
-counted_ones (suc n) x f l same =
-    let h : ℕ = x / 2 ^ n in
-    let r : ℕ = x % 2 ^ n in
-    let j : suc n ≡ n + 1 = omega arith in
-    let parts : h * 2 ^ n + r ≡ x = div-add-mod' x (2 ^ n) in
-    let rl : r < 2 ^ n = mod-lt x (pow_pos n) in
-    let prefix : count_ones r ≡ count_by f (range_with_len 0 n) = counted_ones n r f rl (λ c lc.
-    ap (λ (i : ℕ). nat_eq i 1) (sym (bit_at_cat_low h n r c lc)) ∙ ap (λ (i : ℕ). is_dark_in i c) parts ∙ same c (omega arith)) in
-    let first : count_ones h ≡ cond (f n) 1 0 = ones_of_digit h (half n x l) ∙ ap (λ (b : Bool). cond b 1 0) (same n (omega arith)) in
-    let more = count_more f n in
-    let whole : count_ones x ≡ count_ones h + count_ones r = ap count_ones (sym parts) ∙ ones_cat n h r rl in
-    let all : count_ones x ≡ count_by f (range_with_len 0 (n + 1)) = omega (arith, whole, prefix, first, more) in
-    all ∙ ap (λ (i : ℕ). count_by f (range_with_len 0 i)) (sym j)
-  where
-    half : (n x : ℕ) → x < 2 ^ suc n → x / 2 ^ n < 2
-    half n x l = (div-lt_iff_lt-mul (pow_pos n)).1 (subst (λ (i : ℕ). x < i) (pow-succ' 2 n) l)
-
--- Tests that agree at all columns of a row count the same number of columns.
-pub same_count : (n : ℕ) (f g : ℕ → Bool) → ((c : ℕ) → c < n → f c ≡ g c) → count_by f (range_with_len 0 n) ≡ count_by g (range_with_len 0 n)
-same_count zero f g same = refl
-same_count (suc n) f g same =
-    let j : suc n ≡ n + 1 = omega arith in
-    let old = same_count n f g (λ c l. same c (omega arith)) in
-    let here = ap {B = ℕ} (λ (b : Bool). cond b 1 0) (same n (omega arith)) in
-    let a = count_more f n in
-    let b = count_more g n in
-    let all : count_by f (range_with_len 0 (n + 1)) ≡ count_by g (range_with_len 0 (n + 1)) = omega (arith, old, here, a, b) in
-    ap (λ (i : ℕ). count_by f (range_with_len 0 i)) j ∙ all ∙ ap (λ (i : ℕ). count_by g (range_with_len 0 i)) (sym j)
+use Rattle.dm_layout.proofs.DarkCells.{counted_ones, same_count}
 
 -- ---- the cells that differ from their colour, among some
 
 -- Of three binary digits, the exclusive or of two, masked by the third,
 -- is 1 exactly where the third is 1 and the two differ.
-differ : (x y m : ℕ) → x < 2 → y < 2 → m < 2 → nat_eq (min ((x + y) % 2) m) 1 ≡ nat_eq m 1 && not (beq (nat_eq x 1) (nat_eq y 1))
+differ : (x y m : ℕ) → x < 2 → y < 2 → m < 2 → nat_eq (min ((x + y) % 2) m) 1 ≡ nat_eq m 1
+    && not (beq (nat_eq x 1) (nat_eq y 1))
 differ zero zero zero a b c = refl
 differ zero zero (suc zero) a b c = refl
 differ zero (suc zero) zero a b c = refl
@@ -89,9 +45,11 @@ differ x (suc (suc y)) m a b c = absurd (omega arith)
 differ x y (suc (suc m)) a b c = absurd (omega arith)
 
 -- The masked difference of two rows is 1 exactly at the columns of the mask where the rows differ.
-wrong_cell : (row dark mask c : ℕ) → is_dark_in (bit_and (bit_xor row dark) mask) c ≡ is_dark_in mask c && not (beq (is_dark_in row c) (is_dark_in dark c))
+wrong_cell : (row dark mask c : ℕ) → is_dark_in (bit_and (bit_xor row dark) mask) c ≡ is_dark_in mask c
+    && not (beq (is_dark_in row c) (is_dark_in dark c))
 wrong_cell row dark mask c =
-    ap (λ (i : ℕ). nat_eq i 1) (bit_at_and (bit_xor row dark) mask c ∙ ap (λ (i : ℕ). min i (bit_at mask c)) (bit_at_xor row dark c))
+    ap (λ (i : ℕ). nat_eq i 1) (bit_at_and (bit_xor row dark) mask c
+    ∙ ap (λ (i : ℕ). min i (bit_at mask c)) (bit_at_xor row dark c))
     ∙ differ (bit_at row c) (bit_at dark c) (bit_at mask c) (bit_at-lt row c) (bit_at-lt dark c) (bit_at-lt mask c)
 
 -- Whether a border cell is wrong depends on the row of colours at border cells alone.
@@ -100,7 +58,8 @@ masked true there dark = refl
 masked false there dark = refl
 
 -- The ones of the masked difference between a row and its colours count the wrong border cells of the row.
-pub wrong_cells : (d inner n row dark mask : ℕ) → bit_and (bit_xor row dark) mask < 2 ^ n → ((c : ℕ) → c < n → is_dark_in mask c ≡ is_on_edge d inner (c % (d + 2))) →
+pub wrong_cells : (d inner n row dark mask : ℕ) → bit_and (bit_xor row dark) mask < 2 ^ n →
+    ((c : ℕ) → c < n → is_dark_in mask c ≡ is_on_edge d inner (c % (d + 2))) →
     ((c : ℕ) → c < n → is_dark_in dark c ≡ is_on_edge d inner (c % (d + 2)) && edge_is_dark d inner (c % (d + 2))) →
     count_ones (bit_and (bit_xor row dark) mask) ≡ count_by (is_wrong d inner row) (range_with_len 0 n)
 wrong_cells d inner n row dark mask narrow cells colours =
@@ -111,10 +70,13 @@ wrong_cells d inner n row dark mask narrow cells colours =
     ∙ masked (is_on_edge d inner (c % (d + 2))) (is_dark_in row c) (edge_is_dark d inner (c % (d + 2))))
 
 -- The wrong border cells of a grid's row are the border faults of that row.
-pub faults_of_bits : (grid : GridView) (r row : ℕ) → ((c : ℕ) → c < grid.size.side → is_dark_in row c ≡ cell_at grid r c) →
-    count_by (is_wrong grid.size.region_side (r % (grid.size.region_side + 2)) row) (range_with_len 0 grid.size.side) ≡ count_by (is_fault grid r) (range_with_len 0 grid.size.side)
+pub faults_of_bits : (grid : GridView) (r row : ℕ) →
+    ((c : ℕ) → c < grid.size.side → is_dark_in row c ≡ cell_at grid r c) →
+    count_by (is_wrong grid.size.region_side (r % (grid.size.region_side + 2)) row) (range_with_len 0 grid.size.side) ≡
+    count_by (is_fault grid r) (range_with_len 0 grid.size.side)
 faults_of_bits grid r row same =
-    same_count grid.size.side (is_wrong grid.size.region_side (r % (grid.size.region_side + 2)) row) (is_fault grid r) (λ c l.
+    same_count grid.size.side (is_wrong grid.size.region_side (r % (grid.size.region_side + 2)) row) (is_fault grid r)
+    (λ c l.
     ap (λ (b : Bool). is_border grid.size r c && not (beq b (border_is_dark grid.size r c))) (same c l))
 
 -- ---- the columns of borders, square by square
@@ -127,7 +89,8 @@ stands c a s = by_start (cases_lt c (a * s))
     by_start (inl l) = inl l
     by_start (inr m) = by_end (cases_lt c (a * s + s))
       where
-        by_end : (c < a * s + s) ⊎ (a * s + s ≤ c) → (c < a * s) ⊎ ((x : ℕ) × (x < s) × (c ≡ a * s + x)) ⊎ (a * s + s ≤ c)
+        by_end : (c < a * s + s) ⊎ (a * s + s ≤ c) →
+            (c < a * s) ⊎ ((x : ℕ) × (x < s) × (c ≡ a * s + x)) ⊎ (a * s + s ≤ c)
         by_end (inl l) = inr (inl (c - a * s, omega arith, omega arith))
         by_end (inr k) = inr (inr k)
 
@@ -135,7 +98,8 @@ stands c a s = by_start (cases_lt c (a * s))
 -- columns of a square are 0 to `last`.
 pub record AreRuled (last a left both : ℕ) : Type 0 where
   pub left_columns : (c : ℕ) → is_dark_in left c ≡ nat_lt c (a * (last + 1)) && nat_eq (c % (last + 1)) 0
-  pub both_columns : (c : ℕ) → is_dark_in both c ≡ nat_lt c (a * (last + 1)) && (nat_eq (c % (last + 1)) 0 || nat_eq (c % (last + 1)) last)
+  pub both_columns : (c : ℕ) → is_dark_in both c ≡ nat_lt c (a * (last + 1))
+      && (nat_eq (c % (last + 1)) 0 || nat_eq (c % (last + 1)) last)
   pub left_width : left < 2 ^ (a * (last + 1))
   pub both_width : both < 2 ^ (a * (last + 1))
 
@@ -156,7 +120,8 @@ left_behind p q e = ap (λ (b : Bool). cond b true (false && q)) e
 
 -- Darkening the left and right columns of a square leaves the columns before the square as they were.
 both_before : (p r q : Bool) → p ≡ false → r ≡ false → cond r true (cond p true (true && q)) ≡ true && q
-both_before p r q e f = ap (λ (b : Bool). cond b true (cond p true (true && q))) f ∙ ap (λ (b : Bool). cond b true (true && q)) e
+both_before p r q e f =
+    ap (λ (b : Bool). cond b true (cond p true (true && q))) f ∙ ap (λ (b : Bool). cond b true (true && q)) e
 
 -- In a square whose left and right columns are darkened only these two are dark.
 both_here : (p r q v : Bool) → p ≡ q → r ≡ v → cond r true (cond p true (false && (q || v))) ≡ true && (q || v)
@@ -173,7 +138,8 @@ both_here false false false true e f = cc
 
 -- Darkening the left and right columns of a square leaves the columns behind the square light.
 both_behind : (p r q : Bool) → p ≡ false → r ≡ false → cond r true (cond p true (false && q)) ≡ false && q
-both_behind p r q e f = ap (λ (b : Bool). cond b true (cond p true (false && q))) f ∙ ap (λ (b : Bool). cond b true (false && q)) e
+both_behind p r q e f =
+    ap (λ (b : Bool). cond b true (cond p true (false && q))) f ∙ ap (λ (b : Bool). cond b true (false && q)) e
 
 module _ (last a c : ℕ) where
   abbrev s : ℕ
@@ -185,33 +151,43 @@ module _ (last a c : ℕ) where
   next : (a + 1) * (last + 1) ≡ a * (last + 1) + (last + 1)
   next = omega arith
 
-  left_at : (c < k) ⊎ ((x : ℕ) × (x < s) × (c ≡ k + x)) ⊎ (k + s ≤ c) → cond (nat_eq c k) true (nat_lt c k && nat_eq (c % s) 0) ≡ nat_lt c ((a + 1) * s) && nat_eq (c % s) 0
+  left_at : (c < k) ⊎ ((x : ℕ) × (x < s) × (c ≡ k + x)) ⊎ (k + s ≤ c) →
+      cond (nat_eq c k) true (nat_lt c k && nat_eq (c % s) 0) ≡ nat_lt c ((a + 1) * s) && nat_eq (c % s) 0
   left_at (inl l) =
-      rw (lt-ltb c k l, lt-ltb c ((a + 1) * s) (omega (arith, next, l))) (left_before (nat_eq c k) (nat_eq (c % s) 0) (ne_eqb c k (λ z. omega (arith, z, l))))
+      rw (lt-ltb c k l, lt-ltb c ((a + 1) * s) (omega (arith, next, l)))
+      (left_before (nat_eq c k) (nat_eq (c % s) 0) (ne_eqb c k (λ z. omega (arith, z, l))))
   left_at (inr (inr l)) =
-      rw (le-ltb c k (omega (arith, l)), le-ltb c ((a + 1) * s) (omega (arith, next, l))) (left_behind (nat_eq c k) (nat_eq (c % s) 0) (ne_eqb c k (λ z. omega (arith, z, l))))
+      rw (le-ltb c k (omega (arith, l)), le-ltb c ((a + 1) * s) (omega (arith, next, l)))
+      (left_behind (nat_eq c k) (nat_eq (c % s) 0) (ne_eqb c k (λ z. omega (arith, z, l))))
   left_at (inr (inl (x, small, is))) =
       let r : c % s ≡ x = ap (λ (i : ℕ). i % s) is ∙ mod-mul-add a s x small in
       rw (le-ltb c k (omega (arith, is)), lt-ltb c ((a + 1) * s) (omega (arith, next, is, small)))
-      (left_here (nat_eq c k) (nat_eq (c % s) 0) (same_tests c k (c % s) 0 (λ z. omega (arith, is, r, z)) (λ z. omega (arith, is, r, z))))
+      (left_here (nat_eq c k) (nat_eq (c % s) 0)
+      (same_tests c k (c % s) 0 (λ z. omega (arith, is, r, z)) (λ z. omega (arith, is, r, z))))
 
   both_at : (c < k) ⊎ ((x : ℕ) × (x < s) × (c ≡ k + x)) ⊎ (k + s ≤ c) →
-      cond (nat_eq c (k + last)) true (cond (nat_eq c k) true (nat_lt c k && (nat_eq (c % s) 0 || nat_eq (c % s) last))) ≡ nat_lt c ((a + 1) * s) && (nat_eq (c % s) 0 || nat_eq (c % s) last)
+      cond (nat_eq c (k + last)) true (cond (nat_eq c k) true (nat_lt c k
+      && (nat_eq (c % s) 0 || nat_eq (c % s) last))) ≡ nat_lt c ((a + 1) * s)
+      && (nat_eq (c % s) 0 || nat_eq (c % s) last)
   both_at (inl l) =
       rw (lt-ltb c k l, lt-ltb c ((a + 1) * s) (omega (arith, next, l)))
-      (both_before (nat_eq c k) (nat_eq c (k + last)) (nat_eq (c % s) 0 || nat_eq (c % s) last) (ne_eqb c k (λ z. omega (arith, z, l))) (ne_eqb c (k + last) (λ z. omega (arith, z, l))))
+      (both_before (nat_eq c k) (nat_eq c (k + last)) (nat_eq (c % s) 0 || nat_eq (c % s) last)
+      (ne_eqb c k (λ z. omega (arith, z, l))) (ne_eqb c (k + last) (λ z. omega (arith, z, l))))
   both_at (inr (inr l)) =
       rw (le-ltb c k (omega (arith, l)), le-ltb c ((a + 1) * s) (omega (arith, next, l)))
-      (both_behind (nat_eq c k) (nat_eq c (k + last)) (nat_eq (c % s) 0 || nat_eq (c % s) last) (ne_eqb c k (λ z. omega (arith, z, l))) (ne_eqb c (k + last) (λ z. omega (arith, z, l))))
+      (both_behind (nat_eq c k) (nat_eq c (k + last)) (nat_eq (c % s) 0 || nat_eq (c % s) last)
+      (ne_eqb c k (λ z. omega (arith, z, l))) (ne_eqb c (k + last) (λ z. omega (arith, z, l))))
   both_at (inr (inl (x, small, is))) =
       let r : c % s ≡ x = ap (λ (i : ℕ). i % s) is ∙ mod-mul-add a s x small in
       rw (le-ltb c k (omega (arith, is)), lt-ltb c ((a + 1) * s) (omega (arith, next, is, small)))
-      (both_here (nat_eq c k) (nat_eq c (k + last)) (nat_eq (c % s) 0) (nat_eq (c % s) last) (same_tests c k (c % s) 0 (λ z. omega (arith, is, r, z)) (λ z. omega (arith, is, r, z)))
+      (both_here (nat_eq c k) (nat_eq c (k + last)) (nat_eq (c % s) 0) (nat_eq (c % s) last)
+      (same_tests c k (c % s) 0 (λ z. omega (arith, is, r, z)) (λ z. omega (arith, is, r, z)))
       (same_tests c (k + last) (c % s) last (λ z. omega (arith, is, r, z)) (λ z. omega (arith, is, r, z))))
 
 -- Darkening the left and right columns of one more square gives those of the first a + 1 squares.
 pub one_ruled : (last a left both : ℕ) → 1 ≤ last → (a + 1) * (last + 1) < 128 → AreRuled last a left both →
-    AreRuled last (a + 1) (darkened left (a * (last + 1))) (darkened (darkened both (a * (last + 1))) (a * (last + 1) + last))
+    AreRuled last (a + 1) (darkened left (a * (last + 1)))
+    (darkened (darkened both (a * (last + 1))) (a * (last + 1) + last))
 one_ruled last a left both least fits old =
     let k : ℕ = a * (last + 1) in
     let n : ℕ = (a + 1) * (last + 1) in
@@ -224,47 +200,62 @@ one_ruled last a left both least fits old =
     let lw = old.left_width in
     let bw = old.both_width in
     record {
-      left_columns = λ c. darkened_cell left k c lk ∙ ap (cond (nat_eq c k) true) (old.left_columns c) ∙ left_at last a c (stands c a (last + 1));
+      left_columns =
+          λ c. darkened_cell left k c lk ∙ ap (cond (nat_eq c k) true) (old.left_columns c)
+          ∙ left_at last a c (stands c a (last + 1));
       both_columns = λ c.
           darkened_cell (darkened both k) (k + last) c ll
-          ∙ ap (cond (nat_eq c (k + last)) true) (darkened_cell both k c lk ∙ ap (cond (nat_eq c k) true) (old.both_columns c))
+          ∙ ap (cond (nat_eq c (k + last)) true) (darkened_cell both k c lk
+          ∙ ap (cond (nat_eq c k) true) (old.both_columns c))
           ∙ both_at last a c (stands c a (last + 1));
       left_width = darkened_narrow left k n lk nk (omega (arith, m, lw));
-      both_width = darkened_narrow (darkened both k) (k + last) n ll nl (darkened_narrow both k n lk nk (omega (arith, m, bw)));
+      both_width =
+          darkened_narrow (darkened both k) (k + last) n ll nl (darkened_narrow both k n lk nk (omega (arith, m, bw)));
     }
 
 -- A test of 128 columns, computed by the checker: in one row the even columns are dark, in the other all.
-patterns : list_all (λ c. beq (is_dark_in EVEN_COLUMNS c) (nat_eq (c % 2) 0) && is_dark_in (2 ^ 128 - 1) c) (range_with_len 0 128) ≡ true
+patterns : list_all (λ c. beq (is_dark_in EVEN_COLUMNS c) (nat_eq (c % 2) 0) && is_dark_in (2 ^ 128 - 1) c)
+    (range_with_len 0 128) ≡ true
 patterns = refl
 
 -- Of these two rows, one is dark at a column exactly where the column is even, and the other is dark at every column.
 patterns_at : (c : ℕ) → c < 128 → (is_dark_in EVEN_COLUMNS c ≡ nat_eq (c % 2) 0) × (is_dark_in (2 ^ 128 - 1) c ≡ true)
 patterns_at c l =
     let z : 0 + c ≡ c = omega arith in
-    let both = and_parts _ _ (subst (λ (i : ℕ). beq (is_dark_in EVEN_COLUMNS i) (nat_eq (i % 2) 0) && is_dark_in (2 ^ 128 - 1) i ≡ true) z
-    (all_at (λ c. beq (is_dark_in EVEN_COLUMNS c) (nat_eq (c % 2) 0) && is_dark_in (2 ^ 128 - 1) c) 0 128 c patterns l)) in
+    let both =
+    and_parts _ _ (subst (λ (i : ℕ). beq (is_dark_in EVEN_COLUMNS i) (nat_eq (i % 2) 0)
+    && is_dark_in (2 ^ 128 - 1) i ≡ true) z
+    (all_at (λ c. beq (is_dark_in EVEN_COLUMNS c) (nat_eq (c % 2) 0) && is_dark_in (2 ^ 128 - 1) c) 0 128 c patterns
+    l)) in
     ((booleans_Decides _ _).0 both.0, both.1)
 
 -- Once the columns of all squares are drawn, the four rows are those of the borders of the size.
-pub are_borders : (size : SizeRow) (side last a left both even all : ℕ) → IsRow size → side ≡ size.side → last ≡ size.region_side + 1 → a ≡ side / (last + 1) → AreRuled last a left both →
+pub are_borders : (size : SizeRow) (side last a left both even all : ℕ) → IsRow size → side ≡ size.side →
+    last ≡ size.region_side + 1 → a ≡ side / (last + 1) → AreRuled last a left both →
     ((c : ℕ) → c < side → is_dark_in even c ≡ is_dark_in EVEN_COLUMNS c) → even < 2 ^ side →
-    ((c : ℕ) → c < side → is_dark_in all c ≡ is_dark_in (2 ^ 128 - 1) c) → all < 2 ^ side → AreBorders size last left both even all
+    ((c : ℕ) → c < side → is_dark_in all c ≡ is_dark_in (2 ^ 128 - 1) c) → all < 2 ^ side →
+    AreBorders size last left both even all
 are_borders size side last a left both even all row es el ea ruled ev ew av aw =
     let facts = row_facts size row in
     let s : last + 1 ≡ size.region_side + 2 = omega (arith, el) in
     let p : 0 < size.region_side + 2 = omega arith in
     let q : side / (last + 1) ≡ regions_across size =
-    ap (λ (i : ℕ). i / (last + 1)) (es ∙ facts.side) ∙ ap (λ (i : ℕ). regions_across size * (size.region_side + 2) / i) s ∙ mul-div_cancel (regions_across size) p in
-    let w : a * (last + 1) ≡ size.side = ap (λ (i : ℕ). i * (last + 1)) (ea ∙ q) ∙ ap (λ (i : ℕ). regions_across size * i) s ∙ sym facts.side in
+    ap (λ (i : ℕ). i / (last + 1)) (es ∙ facts.side)
+    ∙ ap (λ (i : ℕ). regions_across size * (size.region_side + 2) / i) s ∙ mul-div_cancel (regions_across size) p in
+    let w : a * (last + 1) ≡ size.side =
+    ap (λ (i : ℕ). i * (last + 1)) (ea ∙ q) ∙ ap (λ (i : ℕ). regions_across size * i) s ∙ sym facts.side in
     let fits = facts.fits in
     record {
       row = row;
       last_row = el;
       left_columns = λ c l.
-          ruled.left_columns c ∙ ap (λ (b : Bool). b && nat_eq (c % (last + 1)) 0) (lt-ltb c (a * (last + 1)) (omega (arith, w, l))) ∙ ap (λ (i : ℕ). nat_eq (c % i) 0) s;
+          ruled.left_columns c ∙ ap (λ (b : Bool). b && nat_eq (c % (last + 1)) 0)
+          (lt-ltb c (a * (last + 1)) (omega (arith, w, l))) ∙ ap (λ (i : ℕ). nat_eq (c % i) 0) s;
       both_columns = λ c l.
-          ruled.both_columns c ∙ ap (λ (b : Bool). b && (nat_eq (c % (last + 1)) 0 || nat_eq (c % (last + 1)) last)) (lt-ltb c (a * (last + 1)) (omega (arith, w, l)))
-          ∙ ap (λ (i : ℕ). nat_eq (c % i) 0 || nat_eq (c % i) last) s ∙ ap (λ (i : ℕ). nat_eq (c % (size.region_side + 2)) 0 || nat_eq (c % (size.region_side + 2)) i) el;
+          ruled.both_columns c ∙ ap (λ (b : Bool). b && (nat_eq (c % (last + 1)) 0 || nat_eq (c % (last + 1)) last))
+          (lt-ltb c (a * (last + 1)) (omega (arith, w, l)))
+          ∙ ap (λ (i : ℕ). nat_eq (c % i) 0 || nat_eq (c % i) last) s
+          ∙ ap (λ (i : ℕ). nat_eq (c % (size.region_side + 2)) 0 || nat_eq (c % (size.region_side + 2)) i) el;
       even_columns = λ c l. ev c (omega (arith, es, l)) ∙ (patterns_at c (omega (arith, l, fits))).0;
       all_columns = λ c l. av c (omega (arith, es, l)) ∙ (patterns_at c (omega (arith, l, fits))).1;
       left_width = subst (λ (i : ℕ). left < 2 ^ i) w ruled.left_width;
@@ -292,7 +283,8 @@ dark_bottom true r s e o = refl
 dark_bottom false r s e o = refl
 
 -- In the first row of a square a cell is dark exactly where its column is even, the left column being even.
-dark_top : (p s e o : Bool) → (p ≡ true → e ≡ true) → e ≡ (p || false || true || s) && cond (p || false) true (cond true e o)
+dark_top : (p s e o : Bool) → (p ≡ true → e ≡ true) →
+    e ≡ (p || false || true || s) && cond (p || false) true (cond true e o)
 dark_top true s e o h = h refl
 dark_top false s e o h = refl
 
@@ -316,24 +308,35 @@ module _ (size : SizeRow) (last left both even all : ℕ) (b : AreBorders size l
   d = size.region_side
 
   -- All cells of the first and the last row of a square are border cells.
-  pub cells_all : (inner ≡ 0) ⊎ (inner ≡ last) → (c : ℕ) → c < size.side → is_dark_in all c ≡ is_on_edge size.region_side inner (c % (size.region_side + 2))
+  pub cells_all : (inner ≡ 0) ⊎ (inner ≡ last) → (c : ℕ) → c < size.side →
+      is_dark_in all c ≡ is_on_edge size.region_side inner (c % (size.region_side + 2))
   cells_all (inl e) c l =
-      b.all_columns c l ∙ sym (ap (λ (t : Bool). nat_eq (c % (d + 2)) 0 || nat_eq inner (d + 1) || t || nat_eq (c % (d + 2)) (d + 1)) (eq-eqb inner 0 e) ∙ any_third (nat_eq (c % (d + 2)) 0) (nat_eq inner (d + 1)) (nat_eq (c % (d + 2)) (d + 1)))
+      b.all_columns c l ∙ sym (ap (λ (t : Bool). nat_eq (c % (d + 2)) 0 || nat_eq inner (d + 1) || t
+      || nat_eq (c % (d + 2)) (d + 1)) (eq-eqb inner 0 e)
+      ∙ any_third (nat_eq (c % (d + 2)) 0) (nat_eq inner (d + 1)) (nat_eq (c % (d + 2)) (d + 1)))
   cells_all (inr e) c l =
       b.all_columns c l
-      ∙ sym (ap (λ (t : Bool). nat_eq (c % (d + 2)) 0 || t || nat_eq inner 0 || nat_eq (c % (d + 2)) (d + 1)) (eq-eqb inner (d + 1) (e ∙ b.last_row)) ∙ any_second (nat_eq (c % (d + 2)) 0) (nat_eq inner 0) (nat_eq (c % (d + 2)) (d + 1)))
+      ∙ sym (ap (λ (t : Bool). nat_eq (c % (d + 2)) 0 || t || nat_eq inner 0 || nat_eq (c % (d + 2)) (d + 1))
+      (eq-eqb inner (d + 1) (e ∙ b.last_row))
+      ∙ any_second (nat_eq (c % (d + 2)) 0) (nat_eq inner 0) (nat_eq (c % (d + 2)) (d + 1)))
 
   -- The row in which all columns are dark has the border colours of a square's last row.
-  pub dark_in_last : inner ≡ last → (c : ℕ) → c < size.side → is_dark_in all c ≡ is_on_edge size.region_side inner (c % (size.region_side + 2)) && edge_is_dark size.region_side inner (c % (size.region_side + 2))
+  pub dark_in_last : inner ≡ last → (c : ℕ) → c < size.side →
+      is_dark_in all c ≡ is_on_edge size.region_side inner (c % (size.region_side + 2))
+      && edge_is_dark size.region_side inner (c % (size.region_side + 2))
   dark_in_last e c l =
       let p : Bool = nat_eq (c % (d + 2)) 0 in
       let s : Bool = nat_eq (c % (d + 2)) (d + 1) in
       b.all_columns c l
       ∙ dark_bottom p (nat_eq inner 0) s (nat_eq (c % (d + 2) % 2) 0) (nat_eq (inner % 2) 1)
-      ∙ ap (λ (t : Bool). (p || t || nat_eq inner 0 || s) && cond (p || t) true (cond (nat_eq inner 0) (nat_eq (c % (d + 2) % 2) 0) (nat_eq (inner % 2) 1))) (sym (eq-eqb inner (d + 1) (e ∙ b.last_row)))
+      ∙ ap (λ (t : Bool). (p || t || nat_eq inner 0 || s)
+      && cond (p || t) true (cond (nat_eq inner 0) (nat_eq (c % (d + 2) % 2) 0) (nat_eq (inner % 2) 1)))
+      (sym (eq-eqb inner (d + 1) (e ∙ b.last_row)))
 
   -- The row in which the even columns are dark has the border colours of a square's first row.
-  pub dark_in_first : inner ≢ last → inner ≡ 0 → (c : ℕ) → c < size.side → is_dark_in even c ≡ is_on_edge size.region_side inner (c % (size.region_side + 2)) && edge_is_dark size.region_side inner (c % (size.region_side + 2))
+  pub dark_in_first : inner ≢ last → inner ≡ 0 → (c : ℕ) → c < size.side →
+      is_dark_in even c ≡ is_on_edge size.region_side inner (c % (size.region_side + 2))
+      && edge_is_dark size.region_side inner (c % (size.region_side + 2))
   dark_in_first nl e c l =
       let p : Bool = nat_eq (c % (d + 2)) 0 in
       let s : Bool = nat_eq (c % (d + 2)) (d + 1) in
@@ -341,9 +344,14 @@ module _ (size : SizeRow) (last left both even all : ℕ) (b : AreBorders size l
       let m : c % (d + 2) % 2 ≡ c % 2 = mod_twice c (d + 2) (omega (arith, two)) (omega arith) in
       b.even_columns c l
       ∙ ap (λ (i : ℕ). nat_eq i 0) (sym m)
-      ∙ dark_top p s (nat_eq (c % (d + 2) % 2) 0) (nat_eq (inner % 2) 1) (λ z. ap (λ (i : ℕ). nat_eq (i % 2) 0) (eqb-true (c % (d + 2)) 0 z))
-      ∙ ap (λ (t : Bool). (p || t || true || s) && cond (p || t) true (cond true (nat_eq (c % (d + 2) % 2) 0) (nat_eq (inner % 2) 1))) (sym (ne_eqb inner (d + 1) (λ z. nl (z ∙ sym b.last_row))))
-      ∙ ap (λ (t : Bool). (p || nat_eq inner (d + 1) || t || s) && cond (p || nat_eq inner (d + 1)) true (cond t (nat_eq (c % (d + 2) % 2) 0) (nat_eq (inner % 2) 1))) (sym (eq-eqb inner 0 e))
+      ∙ dark_top p s (nat_eq (c % (d + 2) % 2) 0) (nat_eq (inner % 2) 1)
+      (λ z. ap (λ (i : ℕ). nat_eq (i % 2) 0) (eqb-true (c % (d + 2)) 0 z))
+      ∙ ap (λ (t : Bool). (p || t || true || s) && cond (p || t) true
+      (cond true (nat_eq (c % (d + 2) % 2) 0) (nat_eq (inner % 2) 1)))
+      (sym (ne_eqb inner (d + 1) (λ z. nl (z ∙ sym b.last_row))))
+      ∙ ap (λ (t : Bool). (p || nat_eq inner (d + 1) || t || s)
+      && cond (p || nat_eq inner (d + 1)) true (cond t (nat_eq (c % (d + 2) % 2) 0) (nat_eq (inner % 2) 1)))
+      (sym (eq-eqb inner 0 e))
 
 -- The place of the next row in its square follows from the place of the row before it.
 pub row_below : (s row inner : ℕ) → inner ≡ row % s → (inner + 1) % s ≡ (row + 1) % s

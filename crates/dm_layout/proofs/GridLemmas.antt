@@ -26,5 +26,6 @@ same_squares n = same_rows_by n n
 pub same_grids : (g h : GridView) → IsGrid g → IsGrid h → g.size ≡ h.size →
     ((r c : ℕ) → r < g.size.side → c < g.size.side → cell_at g r c ≡ cell_at h r c) → g ≡ h
 same_grids g h a b e cells =
-    let same = same_modules (symbol_modules g) (symbol_modules h) (is_modules g a) (is_modules h b) (ap symbol_size e) cells in
+    let same =
+    same_modules (symbol_modules g) (symbol_modules h) (is_modules g a) (is_modules h b) (ap symbol_size e) cells in
     same_parts g.size h.size g.rows h.rows e (ap (λ (m : ModulesView). m.rows) same)

@@ -1,5 +1,6 @@
 -- Rows of the mapping square as numbers.
-use Rattle.std.proofs.Common.{◌≡◌, ◌⊎◌, inl, inr, ℕ, ◌+◌, ◌-◌, ◌*◌, ◌/◌, ◌%◌, ◌^◌, ◌<◌, ◌≤◌, Bool, true, false, nat_eq, nat_lt, refl, sym, ◌∙◌, ap, arith, subst}
+use Rattle.std.proofs.Common.{◌≡◌, ◌⊎◌, inl, inr, ℕ, ◌+◌, ◌-◌, ◌*◌, ◌/◌, ◌%◌, ◌^◌, ◌<◌, ◌≤◌, Bool, true, false, nat_eq}
+use Rattle.std.proofs.Common.{nat_lt, refl, sym, ◌∙◌, ap, arith, subst}
 use Rattle.std.specs.Int.{bit_at}
 use Rattle.std.specs.Int.RustNames.{bit_or}
 use Rattle.std.specs.Int.Bits.{or_shifted_r}
@@ -19,7 +20,8 @@ use Rattle.dm_layout.proofs.PackedRows.{weight, prefix_cell}
 
 -- Bit c of a row that is moved to the right by s columns is bit s + c of the row.
 pub moved_bit : (x s c : ℕ) → bit_at (x / 2 ^ s) c ≡ bit_at x (s + c)
-moved_bit x s c = ap (λ (i : ℕ). i % 2) (div-div-eq-div-mul x (2 ^ s) (2 ^ c) ∙ ap (λ (i : ℕ). x / i) (sym (pow-add 2 s c)))
+moved_bit x s c =
+    ap (λ (i : ℕ). i % 2) (div-div-eq-div-mul x (2 ^ s) (2 ^ c) ∙ ap (λ (i : ℕ). x / i) (sym (pow-add 2 s c)))
 
 -- ---- a row without its borders, region by region
 
@@ -66,7 +68,8 @@ pub record IsCut (row d a inner : ℕ) : Type 0 where
 
 -- With the part of one more region put after them, the cells of an inner
 -- row are those of the row between the borders.
-one_more : (inner row d a : ℕ) → 8 ≤ d → d < 128 → inner < 2 ^ (a * d) → ((c : ℕ) → c < a * d → is_dark_in inner c ≡ is_dark_in row (symbol_line d c)) →
+one_more : (inner row d a : ℕ) → 8 ≤ d → d < 128 → inner < 2 ^ (a * d) →
+    ((c : ℕ) → c < a * d → is_dark_in inner c ≡ is_dark_in row (symbol_line d c)) →
     (c : ℕ) → c < (a + 1) * d → is_dark_in (part_of row d a * 2 ^ (a * d) + inner) c ≡ is_dark_in row (symbol_line d c)
 one_more inner row d a least small narrow so_far c l = by_part (below (nat_lt c (a * d)) refl)
   where
@@ -74,7 +77,8 @@ one_more inner row d a least small narrow so_far c l = by_part (below (nat_lt c 
     below true e = inl (ltb-true c (a * d) e)
     below false e = inr (ltb-false c (a * d) e)
 
-    by_part : (c < a * d) ⊎ (a * d ≤ c) → is_dark_in (part_of row d a * 2 ^ (a * d) + inner) c ≡ is_dark_in row (symbol_line d c)
+    by_part : (c < a * d) ⊎ (a * d ≤ c) → is_dark_in (part_of row d a * 2 ^ (a * d) + inner) c ≡
+        is_dark_in row (symbol_line d c)
     by_part (inl m) = ap (λ (i : ℕ). nat_eq i 1) (bit_at_cat_low (part_of row d a) (a * d) inner c m) ∙ so_far c m
     by_part (inr m) =
         let j : ℕ = c - a * d in
@@ -89,7 +93,8 @@ one_more inner row d a least small narrow so_far c l = by_part (below (nat_lt c 
         ∙ ap (is_dark_in row) line
 
 -- An inner row of some regions, with the part of the next one put after them, is one of one region more.
-pub cut_more : (inner row d a n : ℕ) → 8 ≤ d → a < n → n * d ≤ largest_mapping → inner < 2 ^ (a * d) → ((c : ℕ) → c < a * d → is_dark_in inner c ≡ is_dark_in row (symbol_line d c)) →
+pub cut_more : (inner row d a n : ℕ) → 8 ≤ d → a < n → n * d ≤ largest_mapping → inner < 2 ^ (a * d) →
+    ((c : ℕ) → c < a * d → is_dark_in inner c ≡ is_dark_in row (symbol_line d c)) →
     IsCut row d (a + 1) (bit_or inner (part_of row d a * 2 ^ (a * d) % 2 ^ 128))
 cut_more inner row d a n least l fits narrow so_far =
     let m : (a + 1) * d ≤ n * d = mul-le-mul_right d (omega arith) in
@@ -102,19 +107,22 @@ cut_more inner row d a n least l fits narrow so_far =
     }
 
 -- The cells of the first region are cut from a row by one shift.
-pub cut_first : (row d n : ℕ) → 8 ≤ d → 1 ≤ n → n * d ≤ largest_mapping → IsCut row d 1 (row / 2 ^ 1 % (1 * 2 ^ d % 2 ^ 128))
+pub cut_first : (row d n : ℕ) → 8 ≤ d → 1 ≤ n → n * d ≤ largest_mapping →
+    IsCut row d 1 (row / 2 ^ 1 % (1 * 2 ^ d % 2 ^ 128))
 cut_first row d n least some fits =
     let m : 1 * d ≤ n * d = mul-le-mul_right d some in
     let small : d < 128 = omega (arith, m, fits) in
     let z : 1 * d ≡ d = omega arith in
-    let w : row / 2 ^ 1 % (1 * 2 ^ d % 2 ^ 128) < 2 ^ d = below (row / 2 ^ 1) (1 * 2 ^ d % 2 ^ 128) (2 ^ d) (weight d small) (pow_pos d) in
+    let w : row / 2 ^ 1 % (1 * 2 ^ d % 2 ^ 128) < 2 ^ d =
+    below (row / 2 ^ 1) (1 * 2 ^ d % 2 ^ 128) (2 ^ d) (weight d small) (pow_pos d) in
     record {
       narrow = subst (λ (i : ℕ). row / 2 ^ 1 % (1 * 2 ^ d % 2 ^ 128) < 2 ^ i) (sym z) w;
       so_far = λ c lc.
           let l : c < d = omega arith in
           let q : c / d ≡ 0 = ap (λ (i : ℕ). i / d) (omega arith) ∙ div-mul-add 0 d c l in
           let line : 1 + c ≡ symbol_line d c = omega (arith, q) in
-          prefix_cell (row / 2 ^ 1) d c small l ∙ ap (λ (i : ℕ). nat_eq i 1) (moved_bit row 1 c) ∙ ap (is_dark_in row) line;
+          prefix_cell (row / 2 ^ 1) d c small l ∙ ap (λ (i : ℕ). nat_eq i 1) (moved_bit row 1 c)
+          ∙ ap (is_dark_in row) line;
     }
   where
     below : (x m n : ℕ) → m ≡ n → 0 < n → x % m < n
@@ -123,11 +131,15 @@ cut_first row d n least some fits =
 -- ---- the loops
 
 -- A row of the symbol without its borders is a row of the mapping square.
-pub one_line : (grid : GridView) (size : SizeRow) (a d row outer x : ℕ) → IsGrid grid → size ≡ grid.size → a ≡ regions_across size → d ≡ size.region_side →
+pub one_line : (grid : GridView) (size : SizeRow) (a d row outer x : ℕ) → IsGrid grid → size ≡ grid.size →
+    a ≡ regions_across size → d ≡ size.region_side →
     ((c : ℕ) → c < grid.size.side → is_dark_in outer c ≡ cell_at grid (symbol_line d row) c) →
-    ((c : ℕ) → c < a * d → is_dark_in x c ≡ is_dark_in outer (symbol_line d c)) → (c : ℕ) → c < grid.size.mapping → is_dark_in x c ≡ mapped_cell grid row c
+    ((c : ℕ) → c < a * d → is_dark_in x c ≡ is_dark_in outer (symbol_line d c)) → (c : ℕ) → c < grid.size.mapping →
+    is_dark_in x c ≡ mapped_cell grid row c
 one_line grid size a d row outer x g e f h outside inside c lc =
     let dd : d ≡ grid.size.region_side = h ∙ ap (λ (s : SizeRow). s.region_side) e in
     let w = across_covers grid.size a d g.row (f ∙ ap regions_across e) dd in
-    let lies : symbol_line d c < grid.size.side = subst (λ (i : ℕ). symbol_line i c < grid.size.side) (sym dd) (lies_inside grid.size c g.row lc) in
-    inside c (omega (arith, w, lc)) ∙ outside (symbol_line d c) lies ∙ ap (λ (i : ℕ). cell_at grid (symbol_line i row) (symbol_line i c)) dd
+    let lies : symbol_line d c < grid.size.side =
+    subst (λ (i : ℕ). symbol_line i c < grid.size.side) (sym dd) (lies_inside grid.size c g.row lc) in
+    inside c (omega (arith, w, lc)) ∙ outside (symbol_line d c) lies
+    ∙ ap (λ (i : ℕ). cell_at grid (symbol_line i row) (symbol_line i c)) dd

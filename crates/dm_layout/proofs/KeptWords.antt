@@ -41,7 +41,8 @@ prefix_kept size prefix row fits short bytes = record {
 -- The codewords of the size are then these data codewords and zeros.
 pub zeros_behind : (size : SizeRow) (prefix : List ℕ) → codeword_count size ≤ most_codewords →
     length prefix ≡ size.data_count →
-    take (codeword_count size) (prefix ++ drop (length prefix) (replicate most_codewords 0)) ≡ prefix ++ replicate size.check_count 0
+    take (codeword_count size) (prefix ++ drop (length prefix) (replicate most_codewords 0)) ≡ prefix
+    ++ replicate size.check_count 0
 zeros_behind size = symbols.zeros_behind most_codewords (symbol_size size)
 
 -- Codewords of the size that are put among what is kept are kept with it.

@@ -1,90 +1,29 @@
 -- One more codeword in its slot, and the cells that it darkens.
-use Rattle.std.proofs.Common.{◌≡◌, ◌⊎◌, inl, inr, ℕ, zero, suc, ◌+◌, ◌-◌, ◌*◌, ◌/◌, ◌%◌, ◌^◌, ◌<◌, ◌≤◌, Bool, true, false, ◌&&◌, ◌||◌, nat_eq, nat_le, nat_lt, List, [], ◌∷◌, ◌++◌, length, get_or, set, refl, sym, ◌∙◌, ap, arith, subst}
+use Rattle.std.proofs.Common.{◌≡◌, ◌⊎◌, inl, inr, ℕ, zero, suc, ◌+◌, ◌-◌, ◌*◌, ◌/◌, ◌%◌, ◌^◌, ◌<◌, ◌≤◌, Bool, true}
+use Rattle.std.proofs.Common.{false, ◌&&◌, ◌||◌, nat_eq, nat_le, nat_lt, List, [], ◌∷◌, ◌++◌, length, get_or, set, refl}
+use Rattle.std.proofs.Common.{sym, ◌∙◌, ap, arith, subst}
 use Rattle.std.specs.Prelude.{Decides}
 use Rattle.std.specs.Int.RustNames.{bit_or}
-use Rattle.std.specs.List.{list_all, range_with_len}
-use Rattle.std.proofs.Math.Bool.{and-or_distrib_left, or_assoc, or-false, and-true, and-false}
+use Rattle.std.proofs.Math.Bool.{and-or_distrib_left, or-false, and-true, and-false}
 use Rattle.std.proofs.Math.Nat.{mod-eq_of_lt}
 use Rattle.std.proofs.Math.Pow.{pow_pos, pow_mono}
 use Rattle.std.proofs.lemmas.Nat.{pow-add, mul-add-lt}
 use Rattle.std.proofs.lemmas.Nat.Bits.{bit_at_above}
-use Rattle.std.proofs.lemmas.Bool.{true≢false, agree_below, agree_below_at, cases_eq, cases_lt, lt-leb, le-leb, ltb-true, ne_eqb}
-use Rattle.std.proofs.lemmas.Bool.Decides.{Decides-and, Decides-or, Decides-like, Decides-eqb, Decides-ltb, Decides-at, same_from_decides}
+use Rattle.std.proofs.lemmas.Bool.{true≢false, cases_eq, cases_lt, lt-leb, le-leb}
+use Rattle.std.proofs.lemmas.Bool.{ltb-true, ne_eqb}
+use Rattle.std.proofs.lemmas.Bool.Decides.{Decides-and, Decides-or, Decides-like, Decides-eqb, Decides-ltb, Decides-at}
+use Rattle.std.proofs.lemmas.Bool.Decides.{same_from_decides}
 use Rattle.dm_place.specs.declared.shape.Cell.{Cell}
 use Rattle.dm_layout.specs.Grid.{is_dark_in}
 use Rattle.dm_layout.specs.Placement.{At}
 use Rattle.dm_layout.specs.inner.Wrapped.{wrapped_cell, standard}
 use Rattle.dm_layout.specs.inner.Laying.{by_anchors, scattered, folded}
-use Rattle.dm_layout.specs.inner.Reading.{look_in, marks_in}
-use Rattle.dm_layout.specs.inner.Slots.{first_column, reversed_bits}
-use Rattle.dm_layout.proofs.FoldedRows.{IsCell, one_cell, decides_le, decides_cell, folded_or, folded_same, folded_none, folded_cell}
-use Rattle.dm_layout.proofs.OuterRows.{or_dark}
-use Rattle.dm_place.proofs.Exported.{all_below}
-use Rattle.dm_layout.proofs.SlotRows.{reversed_twice}
-use Rattle.dm_layout.proofs.WidenedRows.{put_over, low_bit, bit_up, none_up}
-
--- ---- the cells of a byte, of which the lowest bit comes first
-
--- One of these cells, for the bits of a byte from bit k on, lies at this row and column, and its bit is 1.
-abbrev pub marks_low : ℕ → ℕ → List Cell → ℕ → ℕ → Bool
-marks_low y k [] r c = false
-marks_low y k (x ∷ rest) r c = (nat_eq r x.row && nat_eq c x.column && is_dark_in y k) || marks_low y (suc k) rest r c
-
--- A test of all bytes, computed by the checker: each bit of a reversed
--- byte is that of the byte in the opposite order.
-reversed_test : list_all (λ x. agree_below (is_dark_in (reversed_bits x)) (λ k. nat_eq (x / 2 ^ (8 - (k + 1)) % 2) 1) 8) (range_with_len 0 256) ≡ true
-reversed_test = refl
-
-reversed_bit : (x k : ℕ) → x < 256 → k < 8 → is_dark_in (reversed_bits x) k ≡ nat_eq (x / 2 ^ (8 - (k + 1)) % 2) 1
-reversed_bit x k l lk =
-    agree_below_at (is_dark_in (reversed_bits x)) (λ k. nat_eq (x / 2 ^ (8 - (k + 1)) % 2) 1) 8 k
-    (all_below (λ x. agree_below (is_dark_in (reversed_bits x)) (λ k. nat_eq (x / 2 ^ (8 - (k + 1)) % 2) 1) 8) 256 x reversed_test l) lk
-
--- A byte whose bits are those of a codeword in the opposite order marks the cells that the codeword marks.
-marks_alike : (y w k : ℕ) (xs : List Cell) (r c : ℕ) → ((t : ℕ) → t < 8 → is_dark_in y t ≡ nat_eq (w / 2 ^ (8 - (t + 1)) % 2) 1) → k + length xs ≤ 8 → marks_low y k xs r c ≡ marks_in w k xs r c
-marks_alike y w k [] r c same h = refl
-marks_alike y w k (x ∷ rest) r c same h =
-    ap (λ (b : Bool). (nat_eq r x.row && nat_eq c x.column && b) || marks_low y (suc k) rest r c) (same k (omega arith))
-    ∙ ap (λ (b : Bool). (nat_eq r x.row && nat_eq c x.column && nat_eq (w / 2 ^ (8 - (k + 1)) % 2) 1) || b) (marks_alike y w (suc k) rest r c same (omega arith))
-
--- A codeword with its bits in the opposite order marks the cells that the codeword marks.
-pub marks_reversed : (w : ℕ) (xs : List Cell) (r c : ℕ) → w < 256 → length xs ≤ 8 → marks_low (reversed_bits w) 0 xs r c ≡ marks_in w 0 xs r c
-marks_reversed w xs r c l h = marks_alike (reversed_bits w) w 0 xs r c (λ t lt. reversed_bit w t l lt) (omega arith)
-
--- A byte marks the cells that a codeword of its bits in the opposite order marks.
-pub marks_turned : (y : ℕ) (xs : List Cell) (r c : ℕ) → length xs ≤ 8 → marks_low y 0 xs r c ≡ marks_in (reversed_bits (y % 256)) 0 xs r c
-marks_turned y xs r c h = marks_alike y (reversed_bits (y % 256)) 0 xs r c turned (omega arith)
-  where
-    turned : (t : ℕ) → t < 8 → is_dark_in y t ≡ nat_eq (reversed_bits (y % 256) / 2 ^ (8 - (t + 1)) % 2) 1
-    turned t l =
-        sym (low_bit y 8 t l)
-        ∙ ap (λ (i : ℕ). is_dark_in i t) (sym (reversed_twice (y % 256) (omega arith)))
-        ∙ reversed_bit (reversed_bits (y % 256)) t (omega arith) l
-
--- A cell is marked by one of two bits exactly if it is marked by one or by the other.
-either_bit : (p a b x y : Bool) → (p && (a || b) || (x || y)) ≡ ((p && a || x) || (p && b || y))
-either_bit true true b x y = refl
-either_bit true false true true y = refl
-either_bit true false true false y = refl
-either_bit true false false x y = refl
-either_bit false a b x y = refl
-
--- Two bytes together mark the cells that one of them marks.
-pub marks_or : (y z k : ℕ) (xs : List Cell) (r c : ℕ) → marks_low (bit_or y z) k xs r c ≡ (marks_low y k xs r c || marks_low z k xs r c)
-marks_or y z k [] r c = refl
-marks_or y z k (x ∷ rest) r c =
-    ap (λ (b : Bool). (nat_eq r x.row && nat_eq c x.column && b) || marks_low (bit_or y z) (suc k) rest r c) (or_dark y z k)
-    ∙ ap (λ (b : Bool). (nat_eq r x.row && nat_eq c x.column && (is_dark_in y k || is_dark_in z k)) || b) (marks_or y z (suc k) rest r c)
-    ∙ either_bit (nat_eq r x.row && nat_eq c x.column) (is_dark_in y k) (is_dark_in z k) (marks_low y (suc k) rest r c) (marks_low z (suc k) rest r c)
-
--- Cells followed by others are marked by the bits of a byte that belong to each.
-marks_append : (y k : ℕ) (xs ys : List Cell) (r c : ℕ) → marks_low y k (xs ++ ys) r c ≡ (marks_low y k xs r c || marks_low y (k + length xs) ys r c)
-marks_append y k [] ys r c = let e : k ≡ k + 0 = omega arith in ap (λ (i : ℕ). marks_low y i ys r c) e
-marks_append y k (x ∷ xs) ys r c =
-    let e : suc k + length xs ≡ k + suc (length xs) = omega arith in
-    let h : Bool = nat_eq r x.row && nat_eq c x.column && is_dark_in y k in
-    ap (λ (b : Bool). h || b) (marks_append y (suc k) xs ys r c ∙ ap (λ (i : ℕ). marks_low y (suc k) xs r c || marks_low y i ys r c) e)
-    ∙ sym (or_assoc h (marks_low y (suc k) xs r c) (marks_low y (k + suc (length xs)) ys r c))
+use Rattle.dm_layout.specs.inner.Reading.{look_in}
+use Rattle.dm_layout.specs.inner.Slots.{first_column}
+use Rattle.dm_layout.proofs.FoldedRows.{IsCell, one_cell, decides_le, decides_cell, folded_or, folded_same, folded_none}
+use Rattle.dm_layout.proofs.FoldedRows.{folded_cell}
+use Rattle.dm_layout.proofs.WidenedRows.{put_over, bit_up, none_up}
+use Rattle.dm_layout.proofs.MarkedCells.{marks_low, marks_append}
 
 -- ---- cells in a row
 
@@ -101,27 +40,36 @@ itself : (b : Bool) → Decides b (b ≡ true)
 itself b = (λ e. e, λ e. e)
 
 decides_run : (y k i b m r c : ℕ) → Decides (marks_low y k (cells_run i b m) r c) (InRun y k i b m r c)
-decides_run y k i b zero r c = (λ e. absurd (true≢false (sym e)), λ h. let lo = h.1 in let hi = h.2 in absurd (omega arith))
+decides_run y k i b zero r c =
+    (λ e. absurd (true≢false (sym e)), λ h. let lo = h.1 in let hi = h.2 in absurd (omega arith))
 decides_run y k i b (suc m) r c =
     Decides-like (marks_low y k (cells_run i b (suc m)) r c) to from
-    (Decides-or (one_cell i b r c && is_dark_in y k) _ (Decides-and (one_cell i b r c) _ (decides_cell i b r c) (itself (is_dark_in y k))) (decides_run y (suc k) i (b + 1) m r c))
+    (Decides-or (one_cell i b r c && is_dark_in y k) _
+    (Decides-and (one_cell i b r c) _ (decides_cell i b r c) (itself (is_dark_in y k)))
+    (decides_run y (suc k) i (b + 1) m r c))
   where
     to : (IsCell i b r c × (is_dark_in y k ≡ true)) ⊎ InRun y (suc k) i (b + 1) m r c → InRun y k i b (suc m) r c
-    to (inl ((er, ec), d)) = let e : k ≡ c - b + k = omega arith in (er, omega arith, omega arith, subst (λ (t : ℕ). is_dark_in y t ≡ true) e d)
-    to (inr (er, lo, hi, d)) = let e : c - (b + 1) + suc k ≡ c - b + k = omega arith in (er, omega arith, omega arith, subst (λ (t : ℕ). is_dark_in y t ≡ true) e d)
+    to (inl ((er, ec), d)) = let e : k ≡ c - b + k =
+        omega arith in (er, omega arith, omega arith, subst (λ (t : ℕ). is_dark_in y t ≡ true) e d)
+    to (inr (er, lo, hi, d)) = let e : c - (b + 1) + suc k ≡ c - b + k = omega arith in
+        (er, omega arith, omega arith, subst (λ (t : ℕ). is_dark_in y t ≡ true) e d)
 
     from : InRun y k i b (suc m) r c → (IsCell i b r c × (is_dark_in y k ≡ true)) ⊎ InRun y (suc k) i (b + 1) m r c
     from (er, lo, hi, d) = by (cases_eq c b)
       where
         by : (c ≡ b) ⊎ (c ≡ b → ⊥) → (IsCell i b r c × (is_dark_in y k ≡ true)) ⊎ InRun y (suc k) i (b + 1) m r c
-        by (inl ec) = let e : c - b + k ≡ k = omega arith in inl ((er, ec), subst (λ (t : ℕ). is_dark_in y t ≡ true) e d)
-        by (inr ne) = let e : c - b + k ≡ c - (b + 1) + suc k = omega arith in inr (er, omega arith, omega arith, subst (λ (t : ℕ). is_dark_in y t ≡ true) e d)
+        by (inl ec) = let e : c - b + k ≡ k =
+            omega arith in inl ((er, ec), subst (λ (t : ℕ). is_dark_in y t ≡ true) e d)
+        by (inr ne) = let e : c - b + k ≡ c - (b + 1) + suc k = omega arith in
+            inr (er, omega arith, omega arith, subst (λ (t : ℕ). is_dark_in y t ≡ true) e d)
 
 -- Cells that follow one another are marked alike d rows further down.
-run_below : (y k i b m d r c : ℕ) → (nat_le d r && marks_low y k (cells_run i b m) (r - d) c) ≡ marks_low y k (cells_run (i + d) b m) r c
+run_below : (y k i b m d r c : ℕ) → (nat_le d r && marks_low y k (cells_run i b m) (r - d) c) ≡
+    marks_low y k (cells_run (i + d) b m) r c
 run_below y k i b m d r c =
     same_from_decides (nat_le d r && marks_low y k (cells_run i b m) (r - d) c) _
-    (Decides-like (nat_le d r && marks_low y k (cells_run i b m) (r - d) c) to from (Decides-and (nat_le d r) _ (decides_le d r) (decides_run y k i b m (r - d) c)))
+    (Decides-like (nat_le d r && marks_low y k (cells_run i b m) (r - d) c) to from
+    (Decides-and (nat_le d r) _ (decides_le d r) (decides_run y k i b m (r - d) c)))
     (decides_run y k (i + d) b m r c)
   where
     to : (d ≤ r) × InRun y k i b m (r - d) c → InRun y k (i + d) b m r c
@@ -141,14 +89,17 @@ byte_fits y s width small fits =
     mod-eq_of_lt (omega (arith, a, b, d))
 
 -- A byte that is moved to the left, in a number wide enough, has its bits as many columns further on.
-pub byte_up : (y s width c : ℕ) → y < 256 → s + 8 ≤ width → is_dark_in (y * 2 ^ s % 2 ^ width) c ≡ (nat_le s c && is_dark_in y (c - s))
-byte_up y s width c small fits = ap (λ (i : ℕ). is_dark_in i c) (byte_fits y s width small fits) ∙ by_column (cases_lt c s)
+pub byte_up : (y s width c : ℕ) → y < 256 → s + 8 ≤ width →
+    is_dark_in (y * 2 ^ s % 2 ^ width) c ≡ (nat_le s c && is_dark_in y (c - s))
+byte_up y s width c small fits =
+    ap (λ (i : ℕ). is_dark_in i c) (byte_fits y s width small fits) ∙ by_column (cases_lt c s)
   where
     by_column : (c < s) ⊎ (s ≤ c) → is_dark_in (y * 2 ^ s) c ≡ (nat_le s c && is_dark_in y (c - s))
     by_column (inl h) = none_up y s c h ∙ ap (λ (t : Bool). t && is_dark_in y (c - s)) (sym (lt-leb s c h))
     by_column (inr h) =
         let e : c ≡ s + (c - s) = omega (arith, h) in
-        ap (is_dark_in (y * 2 ^ s)) e ∙ bit_up y s (c - s) ∙ ap (λ (t : Bool). t && is_dark_in y (c - s)) (sym (le-leb s c h))
+        ap (is_dark_in (y * 2 ^ s)) e ∙ bit_up y s (c - s)
+        ∙ ap (λ (t : Bool). t && is_dark_in y (c - s)) (sym (le-leb s c h))
 
 -- A bit of a byte that is 1 is one of the first eight.
 byte_bits : (y t : ℕ) → y < 256 → is_dark_in y t ≡ true → t < 8
@@ -160,10 +111,13 @@ byte_bits y t small e = by_place (cases_lt t 8)
 
 -- A byte in a slot darkens this column by its bits from `low` on, `count` of them.
 abbrev added : ℕ → ℕ → ℕ → ℕ → ℕ → ℕ → ℕ → Bool
-added n s x q low count c = nat_lt q n && (nat_le (first_column q) c && (nat_lt ((c - first_column q) % 8) count && (nat_eq q s && is_dark_in x (c - first_column q + low))))
+added n s x q low count c =
+    nat_lt q n && (nat_le (first_column q) c && (nat_lt ((c - first_column q) % 8) count
+    && (nat_eq q s && is_dark_in x (c - first_column q + low))))
 
 anchors_or : (n s x q low count c : ℕ) (slots : List ℕ) → s < length slots →
-    by_anchors n (set slots s (bit_or (get_or slots s 0) x)) q low count c ≡ (by_anchors n slots q low count c || added n s x q low count c)
+    by_anchors n (set slots s (bit_or (get_or slots s 0) x)) q low count c ≡
+    (by_anchors n slots q low count c || added n s x q low count c)
 anchors_or n s x q low count c slots l =
     let j : ℕ = c - first_column q + low in
     let t1 : Bool = nat_lt q n in
@@ -179,23 +133,28 @@ anchors_or n s x q low count c slots l =
 -- A byte in a slot darkens this column: the same test, as equations of numbers.
 abbrev IsAdded : ℕ → ℕ → ℕ → ℕ → ℕ → ℕ → ℕ → ℕ → Type 0
 IsAdded n i y s q low count c =
-    (q < n) × ((first_column q ≤ c) × (((c - first_column q) % 8 < count) × ((q ≡ i) × ((s ≤ c - first_column q + low) × (is_dark_in y (c - first_column q + low - s) ≡ true)))))
+    (q < n) × ((first_column q ≤ c) × (((c - first_column q) % 8 < count)
+    × ((q ≡ i) × ((s ≤ c - first_column q + low) × (is_dark_in y (c - first_column q + low - s) ≡ true)))))
 
-decides_added : (n i y s width q low count c : ℕ) → y < 256 → s + 8 ≤ width → Decides (added n i (y * 2 ^ s % 2 ^ width) q low count c) (IsAdded n i y s q low count c)
+decides_added : (n i y s width q low count c : ℕ) → y < 256 → s + 8 ≤ width →
+    Decides (added n i (y * 2 ^ s % 2 ^ width) q low count c) (IsAdded n i y s q low count c)
 decides_added n i y s width q low count c small fits =
     Decides-and _ _ (Decides-ltb q n)
     (Decides-and _ _ (decides_le (first_column q) c)
     (Decides-and _ _ (Decides-ltb ((c - first_column q) % 8) count)
     (Decides-and _ _ (Decides-eqb q i)
     (Decides-at _ _ (byte_up y s width (c - first_column q + low) small fits)
-    (Decides-and _ _ (decides_le s (c - first_column q + low)) (itself (is_dark_in y (c - first_column q + low - s))))))))
+    (Decides-and _ _ (decides_le s (c - first_column q + low))
+    (itself (is_dark_in y (c - first_column q + low - s))))))))
 
 -- A byte in the slot of an anchor darkens the cells of its shape beside the anchor.
-added_run : (n i j y width q low count c : ℕ) → i < n → (5 * i + j) % 8 ≡ 4 → y < 256 → 8 * (j / 8) + 8 ≤ width → low + count ≤ 8 →
+added_run : (n i j y width q low count c : ℕ) → i < n → (5 * i + j) % 8 ≡ 4 → y < 256 → 8 * (j / 8) + 8 ≤ width →
+    low + count ≤ 8 →
     added n i (y * 2 ^ (8 * (j / 8)) % 2 ^ width) q low count c ≡ marks_low y low (cells_run i (j + 2) count) q c
 added_run n i j y width q low count c li anchor small fits low_count =
     same_from_decides (added n i (y * 2 ^ (8 * (j / 8)) % 2 ^ width) q low count c) _
-    (Decides-like (added n i (y * 2 ^ (8 * (j / 8)) % 2 ^ width) q low count c) to from (decides_added n i y (8 * (j / 8)) width q low count c small fits))
+    (Decides-like (added n i (y * 2 ^ (8 * (j / 8)) % 2 ^ width) q low count c) to from
+    (decides_added n i y (8 * (j / 8)) width q low count c small fits))
     (decides_run y low i (j + 2) count q c)
   where
     to : IsAdded n i y (8 * (j / 8)) q low count c → InRun y low i (j + 2) count q c
@@ -217,11 +176,15 @@ added_none n s x q low count c far = by_row (nat_lt q n) refl
     none true b = and-false b
     none false b = refl
 
-    by_row : (t : Bool) → nat_lt q n ≡ t → (t && (nat_le (first_column q) c && (nat_lt ((c - first_column q) % 8) count && (nat_eq q s && is_dark_in x (c - first_column q + low))))) ≡ false
+    by_row : (t : Bool) → nat_lt q n ≡ t → (t && (nat_le (first_column q) c
+        && (nat_lt ((c - first_column q) % 8) count && (nat_eq q s && is_dark_in x (c - first_column q + low))))) ≡
+        false
     by_row false e = refl
     by_row true e =
         let l = ltb-true q n e in
-        ap (λ (t : Bool). nat_le (first_column q) c && (nat_lt ((c - first_column q) % 8) count && (t && is_dark_in x (c - first_column q + low)))) (ne_eqb q s (λ f. omega (arith, f, l, far)))
+        ap (λ (t : Bool). nat_le (first_column q) c
+        && (nat_lt ((c - first_column q) % 8) count && (t && is_dark_in x (c - first_column q + low))))
+        (ne_eqb q s (λ f. omega (arith, f, l, far)))
         ∙ none (nat_le (first_column q) c) (nat_lt ((c - first_column q) % 8) count)
 
 -- The cells of a standard shape in widened rows.
@@ -240,14 +203,23 @@ three_added false false false x y z = refl
 
 module _ (n : ℕ) (slots : List ℕ) where
   -- A byte in the slot of an anchor scatters to the cells of the anchor's shape.
-  pub scattered_shape : (i j y width r c : ℕ) → i < n → (5 * i + j) % 8 ≡ 4 → y < 256 → 8 * (j / 8) + 8 ≤ width → i < length slots →
-      scattered n (set slots i (bit_or (get_or slots i 0) (y * 2 ^ (8 * (j / 8)) % 2 ^ width))) r c ≡ (scattered n slots r c || marks_low y 0 (wide_cells i j) r c)
+  pub scattered_shape : (i j y width r c : ℕ) → i < n → (5 * i + j) % 8 ≡ 4 → y < 256 → 8 * (j / 8) + 8 ≤ width →
+      i < length slots →
+      scattered n (set slots i (bit_or (get_or slots i 0) (y * 2 ^ (8 * (j / 8)) % 2 ^ width))) r c ≡
+      (scattered n slots r c || marks_low y 0 (wide_cells i j) r c)
   scattered_shape i j y width r c li anchor small fits l =
-      ap (λ (b : Bool). b || ((nat_le 1 r && by_anchors n news (r - 1) 2 3 c) || (nat_le 2 r && by_anchors n news (r - 2) 5 3 c))) (in_row r 0 2 (omega arith))
-      ∙ ap (λ (b : Bool). (by_anchors n slots r 0 2 c || marks_low y 0 first r c) || (b || (nat_le 2 r && by_anchors n news (r - 2) 5 3 c))) (in_lower 1 2 3 (omega arith))
-      ∙ ap (λ (b : Bool). (by_anchors n slots r 0 2 c || marks_low y 0 first r c) || (((nat_le 1 r && by_anchors n slots (r - 1) 2 3 c) || marks_low y 2 second r c) || b)) (in_lower 2 5 3 (omega arith))
-      ∙ three_added (by_anchors n slots r 0 2 c) (nat_le 1 r && by_anchors n slots (r - 1) 2 3 c) (nat_le 2 r && by_anchors n slots (r - 2) 5 3 c) (marks_low y 0 first r c) (marks_low y 2 second r c) (marks_low y 5 third r c)
-      ∙ ap (λ (b : Bool). scattered n slots r c || (marks_low y 0 first r c || b)) (sym (marks_append y 2 second third r c))
+      ap (λ (b : Bool). b || ((nat_le 1 r && by_anchors n news (r - 1) 2 3 c)
+      || (nat_le 2 r && by_anchors n news (r - 2) 5 3 c))) (in_row r 0 2 (omega arith))
+      ∙ ap (λ (b : Bool). (by_anchors n slots r 0 2 c || marks_low y 0 first r c)
+      || (b || (nat_le 2 r && by_anchors n news (r - 2) 5 3 c))) (in_lower 1 2 3 (omega arith))
+      ∙ ap (λ (b : Bool). (by_anchors n slots r 0 2 c || marks_low y 0 first r c)
+      || (((nat_le 1 r && by_anchors n slots (r - 1) 2 3 c) || marks_low y 2 second r c) || b))
+      (in_lower 2 5 3 (omega arith))
+      ∙ three_added (by_anchors n slots r 0 2 c) (nat_le 1 r && by_anchors n slots (r - 1) 2 3 c)
+      (nat_le 2 r && by_anchors n slots (r - 2) 5 3 c) (marks_low y 0 first r c) (marks_low y 2 second r c)
+      (marks_low y 5 third r c)
+      ∙ ap (λ (b : Bool). scattered n slots r c || (marks_low y 0 first r c || b))
+      (sym (marks_append y 2 second third r c))
       ∙ ap (λ (b : Bool). scattered n slots r c || b) (sym (marks_append y 0 first (second ++ third) r c))
     where
       x : ℕ
@@ -265,23 +237,35 @@ module _ (n : ℕ) (slots : List ℕ) where
       third : List Cell
       third = cells_run (i + 2) (j + 2) 3
 
-      in_row : (q low count : ℕ) → low + count ≤ 8 → by_anchors n news q low count c ≡ (by_anchors n slots q low count c || marks_low y low (cells_run i (j + 2) count) q c)
+      in_row : (q low count : ℕ) → low + count ≤ 8 →
+          by_anchors n news q low count c ≡ (by_anchors n slots q low count c
+          || marks_low y low (cells_run i (j + 2) count) q c)
       in_row q low count low_count =
-          anchors_or n i x q low count c slots l ∙ ap (λ (b : Bool). by_anchors n slots q low count c || b) (added_run n i j y width q low count c li anchor small fits low_count)
+          anchors_or n i x q low count c slots l
+          ∙ ap (λ (b : Bool). by_anchors n slots q low count c || b)
+          (added_run n i j y width q low count c li anchor small fits low_count)
 
       in_lower : (d low count : ℕ) → low + count ≤ 8 →
-          (nat_le d r && by_anchors n news (r - d) low count c) ≡ ((nat_le d r && by_anchors n slots (r - d) low count c) || marks_low y low (cells_run (i + d) (j + 2) count) r c)
+          (nat_le d r && by_anchors n news (r - d) low count c) ≡
+          ((nat_le d r && by_anchors n slots (r - d) low count c)
+          || marks_low y low (cells_run (i + d) (j + 2) count) r c)
       in_lower d low count low_count =
           ap (λ (b : Bool). nat_le d r && b) (in_row (r - d) low count low_count)
-          ∙ and-or_distrib_left (nat_le d r) (by_anchors n slots (r - d) low count c) (marks_low y low (cells_run i (j + 2) count) (r - d) c)
-          ∙ ap (λ (b : Bool). (nat_le d r && by_anchors n slots (r - d) low count c) || b) (run_below y low i (j + 2) count d r c)
+          ∙ and-or_distrib_left (nat_le d r) (by_anchors n slots (r - d) low count c)
+          (marks_low y low (cells_run i (j + 2) count) (r - d) c)
+          ∙ ap (λ (b : Bool). (nat_le d r && by_anchors n slots (r - d) low count c) || b)
+          (run_below y low i (j + 2) count d r c)
 
   -- A byte in a slot behind all rows scatters to no cell.
-  pub scattered_corner : (s x r c : ℕ) → n ≤ s → s < length slots → scattered n (set slots s (bit_or (get_or slots s 0) x)) r c ≡ scattered n slots r c
+  pub scattered_corner : (s x r c : ℕ) → n ≤ s → s < length slots →
+      scattered n (set slots s (bit_or (get_or slots s 0) x)) r c ≡ scattered n slots r c
   scattered_corner s x r c far l =
-      ap (λ (b : Bool). b || ((nat_le 1 r && by_anchors n news (r - 1) 2 3 c) || (nat_le 2 r && by_anchors n news (r - 2) 5 3 c))) (same r 0 2)
-      ∙ ap (λ (b : Bool). by_anchors n slots r 0 2 c || ((nat_le 1 r && b) || (nat_le 2 r && by_anchors n news (r - 2) 5 3 c))) (same (r - 1) 2 3)
-      ∙ ap (λ (b : Bool). by_anchors n slots r 0 2 c || ((nat_le 1 r && by_anchors n slots (r - 1) 2 3 c) || (nat_le 2 r && b))) (same (r - 2) 5 3)
+      ap (λ (b : Bool). b || ((nat_le 1 r && by_anchors n news (r - 1) 2 3 c)
+      || (nat_le 2 r && by_anchors n news (r - 2) 5 3 c))) (same r 0 2)
+      ∙ ap (λ (b : Bool). by_anchors n slots r 0 2 c
+      || ((nat_le 1 r && b) || (nat_le 2 r && by_anchors n news (r - 2) 5 3 c))) (same (r - 1) 2 3)
+      ∙ ap (λ (b : Bool). by_anchors n slots r 0 2 c
+      || ((nat_le 1 r && by_anchors n slots (r - 1) 2 3 c) || (nat_le 2 r && b))) (same (r - 2) 5 3)
     where
       news : List ℕ
       news = set slots s (bit_or (get_or slots s 0) x)
@@ -299,25 +283,34 @@ abbrev AreFolded : ℕ → ℕ → ℕ → List Cell → List Cell → Type 0
 AreFolded n r c [] [] = Unit {0}
 AreFolded n r c [] (z ∷ zs) = ⊥
 AreFolded n r c (x ∷ xs) [] = ⊥
-AreFolded n r c (x ∷ xs) (z ∷ zs) = (folded n (one_cell x.row x.column) r c ≡ one_cell z.row z.column r c) × AreFolded n r c xs zs
+AreFolded n r c (x ∷ xs) (z ∷ zs) =
+    (folded n (one_cell x.row x.column) r c ≡ one_cell z.row z.column r c) × AreFolded n r c xs zs
 
 -- A picture that a bit shows or hides is folded alike.
-folded_and : (n : ℕ) (f : ℕ → ℕ → Bool) (d : Bool) (r c : ℕ) → c < n → folded n (λ i j. f i j && d) r c ≡ (folded n f r c && d)
-folded_and n f true r c l = folded_same n (n + 8) (λ i j. f i j && true) f r c l (omega arith) (λ i j _. and-true (f i j)) ∙ sym (and-true (folded n f r c))
-folded_and n f false r c l = folded_same n (n + 8) (λ i j. f i j && false) (λ i j. false) r c l (omega arith) (λ i j _. and-false (f i j)) ∙ folded_none n r c ∙ sym (and-false (folded n f r c))
+folded_and : (n : ℕ) (f : ℕ → ℕ → Bool) (d : Bool) (r c : ℕ) → c < n →
+    folded n (λ i j. f i j && d) r c ≡ (folded n f r c && d)
+folded_and n f true r c l =
+    folded_same n (n + 8) (λ i j. f i j && true) f r c l (omega arith) (λ i j _. and-true (f i j))
+    ∙ sym (and-true (folded n f r c))
+folded_and n f false r c l =
+    folded_same n (n + 8) (λ i j. f i j && false) (λ i j. false) r c l (omega arith) (λ i j _. and-false (f i j))
+    ∙ folded_none n r c ∙ sym (and-false (folded n f r c))
 
-pub folded_marks : (n y k r c : ℕ) (xs zs : List Cell) → c < n → AreFolded n r c xs zs → folded n (marks_low y k xs) r c ≡ marks_low y k zs r c
+pub folded_marks : (n y k r c : ℕ) (xs zs : List Cell) → c < n → AreFolded n r c xs zs →
+    folded n (marks_low y k xs) r c ≡ marks_low y k zs r c
 folded_marks n y k r c [] [] l h = folded_none n r c
 folded_marks n y k r c [] (z ∷ zs) l h = absurd h
 folded_marks n y k r c (x ∷ xs) [] l h = absurd h
 folded_marks n y k r c (x ∷ xs) (z ∷ zs) l h =
     folded_or n (λ i j. one_cell x.row x.column i j && is_dark_in y k) (marks_low y (suc k) xs) r c
-    ∙ ap (λ (b : Bool). b || folded n (marks_low y (suc k) xs) r c) (folded_and n (one_cell x.row x.column) (is_dark_in y k) r c l)
+    ∙ ap (λ (b : Bool). b || folded n (marks_low y (suc k) xs) r c)
+    (folded_and n (one_cell x.row x.column) (is_dark_in y k) r c l)
     ∙ ap (λ (b : Bool). (b && is_dark_in y k) || folded n (marks_low y (suc k) xs) r c) h.0
     ∙ ap (λ (b : Bool). (one_cell z.row z.column r c && is_dark_in y k) || b) (folded_marks n y (suc k) r c xs zs l h.1)
 
 -- The cells of a standard shape in widened rows are folded to where the shape wraps.
-pub wide_folded : (n i j r c : ℕ) → 8 ≤ n → n % 2 ≡ 0 → i < n → j < n → (5 * i + j) % 8 ≡ 4 → r < n → c < n → AreFolded n r c (wide_cells i j) (standard n i j)
+pub wide_folded : (n i j r c : ℕ) → 8 ≤ n → n % 2 ≡ 0 → i < n → j < n → (5 * i + j) % 8 ≡ 4 → r < n → c < n →
+    AreFolded n r c (wide_cells i j) (standard n i j)
 wide_folded n i j r c least even li lj anchor lr lc = (
   at 2 2 i (j + 2) (omega arith) (omega arith) (omega arith) (omega arith),
   (
@@ -341,5 +334,6 @@ wide_folded n i j r c least even li lj anchor lr lc = (
   ),
 )
   where
-    at : (up left a b : ℕ) → up ≤ 2 → left ≤ 2 → a + up ≡ i + 2 → b + left ≡ j + 4 → folded n (one_cell a b) r c ≡ one_cell (wrapped_cell n i j up left).row (wrapped_cell n i j up left).column r c
+    at : (up left a b : ℕ) → up ≤ 2 → left ≤ 2 → a + up ≡ i + 2 → b + left ≡ j + 4 →
+        folded n (one_cell a b) r c ≡ one_cell (wrapped_cell n i j up left).row (wrapped_cell n i j up left).column r c
     at up left a b lu ll ea eb = folded_cell n i j up left a b r c least even li lj anchor lu ll ea eb lr lc

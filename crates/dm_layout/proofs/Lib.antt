@@ -21,10 +21,12 @@ mod MovedRows
 mod TestedSlots
 mod SlotOrder
 mod FoldedRows
+mod MarkedCells
 mod LaidSlots
 mod LaidWords
 mod SlotBytes
 mod DrawnRows
+mod DarkCells
 mod BorderMasks
 mod BorderLemmas
 mod EmptyGrid

@@ -1,14 +1,18 @@
 -- Rows of the mapping square in the rows of the symbol.
-use Rattle.std.proofs.Common.{◌≡◌, ◌⊎◌, inl, inr, ℕ, zero, suc, ◌+◌, ◌-◌, ◌*◌, ◌/◌, ◌%◌, ◌^◌, ◌<◌, ◌≤◌, Bool, true, false, ◌&&◌, ◌||◌, nat_eq, List, length, get_or, set, refl, sym, ◌∙◌, ap, arith, subst, get_or-set_other, get_or-set_same}
+use Rattle.std.proofs.Common.{◌≡◌, ◌⊎◌, inl, inr, ℕ, zero, suc, ◌+◌, ◌-◌, ◌*◌, ◌/◌, ◌%◌, ◌^◌, ◌<◌, ◌≤◌, Bool, true}
+use Rattle.std.proofs.Common.{false, ◌&&◌, ◌||◌, nat_eq, List, length, get_or, set, refl, sym, ◌∙◌, ap, arith, subst}
+use Rattle.std.proofs.Common.{get_or-set_other, get_or-set_same}
 use Rattle.std.specs.Prelude.{max}
 use Rattle.std.specs.Int.{bit_at}
 use Rattle.std.specs.Int.RustNames.{bit_or}
 use lib.Bits.{bit_and}
 use Rattle.std.proofs.Math.Bool.{or-false}
-use Rattle.std.proofs.Math.Nat.{mod-eq_of_lt, mul-le-mul_right, div-div-eq-div-mul, div-mul-le_self, lt_of_mul-lt-mul_right}
+use Rattle.std.proofs.Math.Nat.{mod-eq_of_lt, mul-le-mul_right, div-div-eq-div-mul, div-mul-le_self}
+use Rattle.std.proofs.Math.Nat.{lt_of_mul-lt-mul_right}
 use Rattle.std.proofs.Math.Pow.{pow_pos, pow_mono}
 use Rattle.std.proofs.lemmas.Bool.{eqb-true, eqb-false, cases_lt}
-use Rattle.std.proofs.lemmas.Nat.{pow-add, mul-add-lt, div-mul-add, mod-mul-add, mod_below, div-add-mod', pow_below, or_lt, and_mask, and_le_l}
+use Rattle.std.proofs.lemmas.Nat.{pow-add, mul-add-lt, div-mul-add, mod-mul-add, mod_below, div-add-mod', pow_below}
+use Rattle.std.proofs.lemmas.Nat.{or_lt, and_mask, and_le_l}
 use Rattle.std.proofs.lemmas.Nat.Bits.{bit_at_cat_low, bit_at_cat_high, bit_at-lt, bit_at-zero, bit_at_or, bit_at_above}
 use Rattle.dm_layout.specs.Sizes.{SizeRow, largest_mapping, most_across}
 use Rattle.dm_layout.specs.Border.{symbol_line}
@@ -32,28 +36,36 @@ max_one (suc zero) (suc (suc y)) lx ly = absurd (omega arith)
 
 -- A cell of one row laid over another is dark exactly if it is dark in one of them.
 pub or_dark : (a b c : ℕ) → is_dark_in (bit_or a b) c ≡ (is_dark_in a c || is_dark_in b c)
-or_dark a b c = ap (λ (i : ℕ). nat_eq i 1) (bit_at_or a b c) ∙ max_one (bit_at a c) (bit_at b c) (bit_at-lt a c) (bit_at-lt b c)
+or_dark a b c =
+    ap (λ (i : ℕ). nat_eq i 1) (bit_at_or a b c) ∙ max_one (bit_at a c) (bit_at b c) (bit_at-lt a c) (bit_at-lt b c)
 
 -- A kept grid stays one when a row of no more columns than its side is laid over one of its rows.
-pub kept_or : (size : SizeRow) (rows : List ℕ) (row cells : ℕ) → IsKept size rows → row < size.side → cells < 2 ^ size.side → IsKept size (set rows row (bit_or (get_or rows row 0) cells))
+pub kept_or : (size : SizeRow) (rows : List ℕ) (row cells : ℕ) → IsKept size rows → row < size.side →
+    cells < 2 ^ size.side → IsKept size (set rows row (bit_or (get_or rows row 0) cells))
 kept_or size rows row cells kept l narrow =
-    kept_set size rows row (bit_or (get_or rows row 0) cells) kept l (or_lt size.side (get_or rows row 0) cells (kept_narrow size rows row kept l) narrow)
+    kept_set size rows row (bit_or (get_or rows row 0) cells) kept l
+    (or_lt size.side (get_or rows row 0) cells (kept_narrow size rows row kept l) narrow)
 
 -- When a row is laid over a row of a kept grid, the cells are dark that
 -- were, and those of that row that are dark in the one laid over it.
-pub cell_or : (size : SizeRow) (rows : List ℕ) (row cells : ℕ) → IsKept size rows → row < size.side → (r c : ℕ) → r < size.side → c < size.side →
-    cell_at (kept_grid size (set rows row (bit_or (get_or rows row 0) cells))) r c ≡ (cell_at (kept_grid size rows) r c || (nat_eq r row && is_dark_in cells c))
+pub cell_or : (size : SizeRow) (rows : List ℕ) (row cells : ℕ) → IsKept size rows → row < size.side → (r c : ℕ) →
+    r < size.side → c < size.side →
+    cell_at (kept_grid size (set rows row (bit_or (get_or rows row 0) cells))) r c ≡
+    (cell_at (kept_grid size rows) r c || (nat_eq r row && is_dark_in cells c))
 cell_or size rows row cells kept l r c lr lc =
-    cell_of_kept size (set rows row x) r c lr lc ∙ by_row (nat_eq r row) refl ∙ ap (λ (b : Bool). b || (nat_eq r row && is_dark_in cells c)) (sym (cell_of_kept size rows r c lr lc))
+    cell_of_kept size (set rows row x) r c lr lc ∙ by_row (nat_eq r row) refl
+    ∙ ap (λ (b : Bool). b || (nat_eq r row && is_dark_in cells c)) (sym (cell_of_kept size rows r c lr lc))
   where
     x : ℕ
     x = bit_or (get_or rows row 0) cells
 
-    by_row : (t : Bool) → nat_eq r row ≡ t → is_dark_in (get_or (set rows row x) r 0) c ≡ (is_dark_in (get_or rows r 0) c || (nat_eq r row && is_dark_in cells c))
+    by_row : (t : Bool) → nat_eq r row ≡ t → is_dark_in (get_or (set rows row x) r 0) c ≡
+        (is_dark_in (get_or rows r 0) c || (nat_eq r row && is_dark_in cells c))
     by_row true e =
         let er = eqb-true r row e in
         let inside : row < length rows = omega (arith, kept.fits, kept.height) in
-        ap (λ (i : ℕ). is_dark_in (get_or (set rows row x) i 0) c) er ∙ ap (λ (i : ℕ). is_dark_in i c) (get_or-set_same rows row x 0 inside) ∙ or_dark (get_or rows row 0) cells c
+        ap (λ (i : ℕ). is_dark_in (get_or (set rows row x) i 0) c) er
+        ∙ ap (λ (i : ℕ). is_dark_in i c) (get_or-set_same rows row x 0 inside) ∙ or_dark (get_or rows row 0) cells c
         ∙ ap (λ (i : ℕ). is_dark_in (get_or rows i 0) c || is_dark_in cells c) (sym er)
         ∙ ap (λ (t : Bool). is_dark_in (get_or rows r 0) c || (t && is_dark_in cells c)) (sym e)
     by_row false e =
@@ -88,7 +100,8 @@ module _ (inner d a outer : ℕ) (least : 8 ≤ d) (small : d < 128) (old : IsOu
   k = a * (d + 2) + 1
 
   narrow_k : outer < 2 ^ (a * (d + 2) + 1)
-  narrow_k = let m : 2 ^ (a * (d + 2)) ≤ 2 ^ (a * (d + 2) + 1) = pow_mono (omega arith) in let n = old.narrow in omega (arith, n, m)
+  narrow_k = let m : 2 ^ (a * (d + 2)) ≤ 2 ^ (a * (d + 2) + 1) = pow_mono (omega arith) in let n = old.narrow in
+      omega (arith, n, m)
 
   whole_mapped : (c : ℕ) → c < (a + 1) * d → is_dark_in (p * 2 ^ k + outer) (symbol_line d c) ≡ is_dark_in inner c
   whole_mapped c l = by_part (cases_lt c (a * d))
@@ -122,14 +135,17 @@ module _ (inner d a outer : ℕ) (least : 8 ≤ d) (small : d < 128) (old : IsOu
   whole_border : (j : ℕ) → ((j % (d + 2) ≡ 0) ⊎ (j % (d + 2) ≡ d + 1)) → is_dark_in (p * 2 ^ k + outer) j ≡ false
   whole_border j e = by_part (cases_lt j (a * (d + 2) + 1)) (cases_lt (j - (a * (d + 2) + 1)) d)
     where
-      by_part : (j < a * (d + 2) + 1) ⊎ (a * (d + 2) + 1 ≤ j) → (j - (a * (d + 2) + 1) < d) ⊎ (d ≤ j - (a * (d + 2) + 1)) → is_dark_in (p * 2 ^ k + outer) j ≡ false
+      by_part : (j < a * (d + 2) + 1) ⊎ (a * (d + 2) + 1 ≤ j) →
+          (j - (a * (d + 2) + 1) < d) ⊎ (d ≤ j - (a * (d + 2) + 1)) → is_dark_in (p * 2 ^ k + outer) j ≡ false
       by_part (inl l) x = ap (λ (i : ℕ). nat_eq i 1) (bit_at_cat_low p k outer j l) ∙ old.border j e
       by_part (inr l) (inr m) =
-          ap (λ (i : ℕ). nat_eq i 1) (bit_at_cat_high p k outer j narrow_k l ∙ bit_at_above p d (j - (a * (d + 2) + 1)) (piece_small inner d a small) m)
+          ap (λ (i : ℕ). nat_eq i 1) (bit_at_cat_high p k outer j narrow_k l
+          ∙ bit_at_above p d (j - (a * (d + 2) + 1)) (piece_small inner d a small) m)
       by_part (inr l) (inl m) =
           let i : ℕ = j - (a * (d + 2) + 1) in
           let is : j ≡ a * (d + 2) + (i + 1) = omega (arith, l) in
-          let r : j % (d + 2) ≡ i + 1 = ap (λ (x : ℕ). x % (d + 2)) is ∙ mod-mul-add a (d + 2) (i + 1) (omega (arith, m)) in
+          let r : j % (d + 2) ≡ i + 1 =
+          ap (λ (x : ℕ). x % (d + 2)) is ∙ mod-mul-add a (d + 2) (i + 1) (omega (arith, m)) in
           absurd (never i e r m)
         where
           never : (i : ℕ) → ((j % (d + 2) ≡ 0) ⊎ (j % (d + 2) ≡ d + 1)) → j % (d + 2) ≡ i + 1 → i < d → ⊥
@@ -137,7 +153,8 @@ module _ (inner d a outer : ℕ) (least : 8 ≤ d) (small : d < 128) (old : IsOu
           never i (inr z) r m = omega (arith, z, r, m)
 
 -- An outer row of some regions, with the part of the next region put after its border, is one of one region more.
-out_more : (inner outer d a n : ℕ) → 8 ≤ d → a < n → n * d ≤ largest_mapping → IsOut inner d a outer → IsOut inner d (a + 1) (piece_of inner d a * 2 ^ (a * (d + 2) + 1) + outer)
+out_more : (inner outer d a n : ℕ) → 8 ≤ d → a < n → n * d ≤ largest_mapping → IsOut inner d a outer →
+    IsOut inner d (a + 1) (piece_of inner d a * 2 ^ (a * (d + 2) + 1) + outer)
 out_more inner outer d a n least l fits old =
     let k : ℕ = a * (d + 2) + 1 in
     let p : ℕ = piece_of inner d a in
@@ -147,7 +164,8 @@ out_more inner outer d a n least l fits old =
     let ps = piece_small inner d a small in
     let nk = narrow_k inner d a outer least small old in
     let sum_small : p * 2 ^ k + outer < 2 ^ k * 2 ^ d = mul-add-lt p (2 ^ k) outer (2 ^ d) ps nk in
-    let s2 : p * 2 ^ k + outer < 2 ^ (k + d) = subst (λ (i : ℕ). p * 2 ^ k + outer < i) (sym (pow-add 2 k d)) sum_small in
+    let s2 : p * 2 ^ k + outer < 2 ^ (k + d) =
+    subst (λ (i : ℕ). p * 2 ^ k + outer < i) (sym (pow-add 2 k d)) sum_small in
     let s3 : 2 ^ (k + d) ≤ 2 ^ ((a + 1) * (d + 2)) = pow_mono (omega arith) in
     record {
       narrow = omega (arith, s2, s3);
@@ -179,7 +197,8 @@ opened_first inner d n most narrow =
         border = λ j e. ap (λ (i : ℕ). nat_eq i 1) (bit_at-zero j);
       };
       sum =
-          mod-eq_of_lt (omega (arith, m, narrow)) ∙ e ∙ ap (λ (i : ℕ). i * 2 + 0) (sym o) ∙ ap (λ (i : ℕ). inner / 2 ^ i * 2 + 0) (sym z) ∙ ap (λ (i : ℕ). inner / 2 ^ (0 * d) * 2 ^ i + 0) (sym y);
+          mod-eq_of_lt (omega (arith, m, narrow)) ∙ e ∙ ap (λ (i : ℕ). i * 2 + 0) (sym o)
+          ∙ ap (λ (i : ℕ). inner / 2 ^ i * 2 + 0) (sym z) ∙ ap (λ (i : ℕ). inner / 2 ^ (0 * d) * 2 ^ i + 0) (sym y);
     }
 
 -- Opening one more border takes no more than there is, fits in the row,
@@ -196,7 +215,9 @@ in_parts x y p d w outer out e f = f ∙ ap (λ (i : ℕ). i * w + out) e ∙ sa
     same : (y * d + p) * w + out ≡ y * (w * d) + (p * w + out)
     same = omega arith
 
-module _ (inner d a n outer prefix : ℕ) (least : 8 ≤ d) (few : n ≤ most_across) (l : a + 1 < n) (most : n * d ≤ largest_mapping) (narrow : inner < 2 ^ (n * d)) (old : IsOpened inner d a outer) (is : prefix ≡ 2 ^ (a * (d + 2) + 1 + d) - 1) where
+module _ (inner d a n outer prefix : ℕ) (least : 8 ≤ d) (few : n ≤ most_across) (l : a + 1 < n)
+    (most : n * d ≤ largest_mapping) (narrow : inner < 2 ^ (n * d)) (old : IsOpened inner d a outer)
+    (is : prefix ≡ 2 ^ (a * (d + 2) + 1 + d) - 1) where
   abbrev x : ℕ
   x = inner / 2 ^ (a * d)
 
@@ -223,22 +244,28 @@ module _ (inner d a n outer prefix : ℕ) (least : 8 ≤ d) (few : n ≤ most_ac
       subst (λ (i : ℕ). low < i) (sym (pow-add 2 q d)) (mul-add-lt (x % 2 ^ d) (2 ^ q) old.out (2 ^ d) r nk)
 
   form : outer ≡ y * 2 ^ (q + d) + low
-  form = in_parts x y (x % 2 ^ d) (2 ^ d) (2 ^ q) outer old.out (sym (div-add-mod' x (2 ^ d))) old.sum ∙ ap (λ (i : ℕ). y * i + low) (sym (pow-add 2 q d))
+  form =
+      in_parts x y (x % 2 ^ d) (2 ^ d) (2 ^ q) outer old.out (sym (div-add-mod' x (2 ^ d))) old.sum
+      ∙ ap (λ (i : ℕ). y * i + low) (sym (pow-add 2 q d))
 
   left_is : bit_and outer prefix ≡ low
-  left_is = ap (bit_and outer) is ∙ and_mask outer (q + d) ∙ ap (λ (i : ℕ). i % 2 ^ (q + d)) form ∙ mod-mul-add y (2 ^ (q + d)) low low_small
+  left_is =
+      ap (bit_and outer) is ∙ and_mask outer (q + d) ∙ ap (λ (i : ℕ). i % 2 ^ (q + d)) form
+      ∙ mod-mul-add y (2 ^ (q + d)) low low_small
 
   y_is : y ≡ inner / 2 ^ ((a + 1) * d)
   y_is =
       let t : a * d + d ≡ (a + 1) * d = omega arith in
-      div-div-eq-div-mul inner (2 ^ (a * d)) (2 ^ d) ∙ ap (λ (i : ℕ). inner / i) (sym (pow-add 2 (a * d) d)) ∙ ap (λ (i : ℕ). inner / 2 ^ i) t
+      div-div-eq-div-mul inner (2 ^ (a * d)) (2 ^ d) ∙ ap (λ (i : ℕ). inner / i) (sym (pow-add 2 (a * d) d))
+      ∙ ap (λ (i : ℕ). inner / 2 ^ i) t
 
   -- The rest of the row is moved by two columns more.
   moved : (outer - bit_and outer prefix) * 4 ≡ y * 2 ^ ((a + 1) * (d + 2) + 1)
   moved =
       let t : q + d + 2 ≡ (a + 1) * (d + 2) + 1 = omega arith in
       let r : outer - low ≡ y * 2 ^ (q + d) = rest outer low (y * 2 ^ (q + d)) form in
-      ap (λ (i : ℕ). (outer - i) * 4) left_is ∙ ap (λ (i : ℕ). i * 4) r ∙ four y (2 ^ (q + d)) ∙ ap (λ (i : ℕ). y * i) (sym (pow-add 2 (q + d) 2)) ∙ ap (λ (i : ℕ). y * 2 ^ i) t
+      ap (λ (i : ℕ). (outer - i) * 4) left_is ∙ ap (λ (i : ℕ). i * 4) r ∙ four y (2 ^ (q + d))
+      ∙ ap (λ (i : ℕ). y * i) (sym (pow-add 2 (q + d) 2)) ∙ ap (λ (i : ℕ). y * 2 ^ i) t
     where
       rest : (o k t : ℕ) → o ≡ t + k → o - k ≡ t
       rest o k t e = omega (arith, e)
@@ -249,14 +276,17 @@ module _ (inner d a n outer prefix : ℕ) (least : 8 ≤ d) (few : n ≤ most_ac
   moved_small : y * 2 ^ ((a + 1) * (d + 2) + 1) < 2 ^ 120
   moved_small =
       let e : (a + 1) * d + (2 * a + 3) ≡ (a + 1) * (d + 2) + 1 = omega arith in
-      let u : y * 2 ^ ((a + 1) * d) ≤ inner = subst (λ (i : ℕ). i * 2 ^ ((a + 1) * d) ≤ inner) (sym y_is) (div-mul-le_self inner (2 ^ ((a + 1) * d))) in
+      let u : y * 2 ^ ((a + 1) * d) ≤ inner =
+      subst (λ (i : ℕ). i * 2 ^ ((a + 1) * d) ≤ inner) (sym y_is) (div-mul-le_self inner (2 ^ ((a + 1) * d))) in
       let v : y * 2 ^ ((a + 1) * d) < 2 ^ (n * d) = omega (arith, u, narrow) in
       let m = mul-add-lt (y * 2 ^ ((a + 1) * d)) (2 ^ (2 * a + 3)) 0 (2 ^ (n * d)) v (pow_pos (2 * a + 3)) in
       let b : 2 ^ (2 * a + 3 + n * d) < 2 ^ 120 = pow_below (2 * a + 3 + n * d) 120 (omega (arith, most, l, few)) in
       let g : 2 ^ (2 * a + 3) * 2 ^ (n * d) ≡ 2 ^ (2 * a + 3 + n * d) = sym (pow-add 2 (2 * a + 3) (n * d)) in
       let h : y * 2 ^ ((a + 1) * (d + 2) + 1) ≡ y * 2 ^ ((a + 1) * d) * 2 ^ (2 * a + 3) =
-      ap (λ (i : ℕ). y * 2 ^ i) (sym e) ∙ ap (λ (i : ℕ). y * i) (pow-add 2 ((a + 1) * d) (2 * a + 3)) ∙ three y (2 ^ ((a + 1) * d)) (2 ^ (2 * a + 3)) in
-      below (y * 2 ^ ((a + 1) * (d + 2) + 1)) (y * 2 ^ ((a + 1) * d) * 2 ^ (2 * a + 3)) (2 ^ (2 * a + 3) * 2 ^ (n * d)) (2 ^ (2 * a + 3 + n * d)) (2 ^ 120) h m g b
+      ap (λ (i : ℕ). y * 2 ^ i) (sym e) ∙ ap (λ (i : ℕ). y * i) (pow-add 2 ((a + 1) * d) (2 * a + 3))
+      ∙ three y (2 ^ ((a + 1) * d)) (2 ^ (2 * a + 3)) in
+      below (y * 2 ^ ((a + 1) * (d + 2) + 1)) (y * 2 ^ ((a + 1) * d) * 2 ^ (2 * a + 3)) (2 ^ (2 * a + 3) * 2 ^ (n * d))
+      (2 ^ (2 * a + 3 + n * d)) (2 ^ 120) h m g b
     where
       three : (u v w : ℕ) → u * (v * w) ≡ u * v * w
       three u v w = omega arith
@@ -269,19 +299,23 @@ module _ (inner d a n outer prefix : ℕ) (least : 8 ≤ d) (few : n ≤ most_ac
   opened_more =
       let s = moved_small in
       let e = left_is in
-      let t : (outer - bit_and outer prefix) * 4 % 2 ^ 128 ≡ y * 2 ^ ((a + 1) * (d + 2) + 1) = ap (λ (i : ℕ). i % 2 ^ 128) moved ∙ mod-eq_of_lt (omega (arith, s)) in
+      let t : (outer - bit_and outer prefix) * 4 % 2 ^ 128 ≡ y * 2 ^ ((a + 1) * (d + 2) + 1) =
+      ap (λ (i : ℕ). i % 2 ^ 128) moved ∙ mod-eq_of_lt (omega (arith, s)) in
       let b : 2 ^ (q + d) < 2 ^ 120 = pow_below (q + d) 120 (let w = wide in omega (arith, w, l, few)) in
       let ls = low_small in
       record {
         part = and_le_l outer prefix;
-        fits = below (bit_and outer prefix) low ((outer - bit_and outer prefix) * 4 % 2 ^ 128) (y * 2 ^ ((a + 1) * (d + 2) + 1)) (2 ^ (q + d)) e t ls b s;
+        fits =
+            below (bit_and outer prefix) low ((outer - bit_and outer prefix) * 4 % 2 ^ 128)
+            (y * 2 ^ ((a + 1) * (d + 2) + 1)) (2 ^ (q + d)) e t ls b s;
         next = record {
           out = piece_of inner d a * 2 ^ q + old.out;
           is = out_more inner old.out d a n least (omega (arith, l)) most old.is;
           sum =
               ap (λ (i : ℕ). i + (outer - bit_and outer prefix) * 4 % 2 ^ 128) left_is
               ∙ ap (λ (i : ℕ). low + i) (t ∙ ap (λ (i : ℕ). i * 2 ^ ((a + 1) * (d + 2) + 1)) y_is)
-              ∙ ap (λ (i : ℕ). x % i * 2 ^ q + old.out + inner / 2 ^ ((a + 1) * d) * 2 ^ ((a + 1) * (d + 2) + 1)) (sym (weight d small_d))
+              ∙ ap (λ (i : ℕ). x % i * 2 ^ q + old.out + inner / 2 ^ ((a + 1) * d) * 2 ^ ((a + 1) * (d + 2) + 1))
+              (sym (weight d small_d))
               ∙ turned (piece_of inner d a * 2 ^ q + old.out) (inner / 2 ^ ((a + 1) * d) * 2 ^ ((a + 1) * (d + 2) + 1));
         };
       }
@@ -293,19 +327,25 @@ module _ (inner d a n outer prefix : ℕ) (least : 8 ≤ d) (few : n ≤ most_ac
       turned u v = omega arith
 
 -- Once the borders of all regions but the last are opened, the row is the outer row of all regions.
-pub opened_all : (inner d a n outer : ℕ) → 8 ≤ d → n ≡ a + 1 → n * d ≤ largest_mapping → inner < 2 ^ (n * d) → IsOpened inner d a outer → IsOut inner d n outer
+pub opened_all : (inner d a n outer : ℕ) → 8 ≤ d → n ≡ a + 1 → n * d ≤ largest_mapping → inner < 2 ^ (n * d) →
+    IsOpened inner d a outer → IsOut inner d n outer
 opened_all inner d a n outer least en most narrow old =
     let p0 = pow_pos (a * d) in
     let x : ℕ = inner / 2 ^ (a * d) in
     let t : n * d ≡ a * d + d = ap (λ (i : ℕ). i * d) en ∙ more in
     let small : d < 128 = omega (arith, t, most) in
     let m : x * 2 ^ (a * d) ≤ inner = div-mul-le_self inner (2 ^ (a * d)) in
-    let w : 2 ^ (n * d) ≡ 2 ^ d * 2 ^ (a * d) = ap (λ (i : ℕ). 2 ^ i) t ∙ pow-add 2 (a * d) d ∙ turned (2 ^ (a * d)) (2 ^ d) in
-    let lx : x < 2 ^ d = lt_of_mul-lt-mul_right (2 ^ (a * d)) (below (x * 2 ^ (a * d)) inner (2 ^ (n * d)) (2 ^ d * 2 ^ (a * d)) m narrow w) in
+    let w : 2 ^ (n * d) ≡ 2 ^ d * 2 ^ (a * d) =
+    ap (λ (i : ℕ). 2 ^ i) t ∙ pow-add 2 (a * d) d ∙ turned (2 ^ (a * d)) (2 ^ d) in
+    let lx : x < 2 ^ d =
+    lt_of_mul-lt-mul_right (2 ^ (a * d)) (below (x * 2 ^ (a * d)) inner (2 ^ (n * d)) (2 ^ d * 2 ^ (a * d)) m narrow
+    w) in
     let px : x ≡ piece_of inner d a = sym (ap (λ (i : ℕ). x % i) (weight d small) ∙ mod-eq_of_lt lx) in
-    let e : outer ≡ piece_of inner d a * 2 ^ (a * (d + 2) + 1) + old.out = old.sum ∙ ap (λ (i : ℕ). i * 2 ^ (a * (d + 2) + 1) + old.out) px in
+    let e : outer ≡ piece_of inner d a * 2 ^ (a * (d + 2) + 1) + old.out =
+    old.sum ∙ ap (λ (i : ℕ). i * 2 ^ (a * (d + 2) + 1) + old.out) px in
     let l : a < n = omega (arith, en) in
-    subst (λ (i : ℕ). IsOut inner d i outer) (sym en) (subst (λ (i : ℕ). IsOut inner d (a + 1) i) (sym e) (out_more inner old.out d a n least l most old.is))
+    subst (λ (i : ℕ). IsOut inner d i outer) (sym en)
+    (subst (λ (i : ℕ). IsOut inner d (a + 1) i) (sym e) (out_more inner old.out d a n least l most old.is))
   where
     more : (a + 1) * d ≡ a * d + d
     more = omega arith

@@ -1,5 +1,7 @@
 -- Rows of sixteen bytes as numbers.
-use Rattle.std.proofs.Common.{◌≡◌, ◌⊎◌, inl, inr, ℕ, zero, suc, ◌+◌, ◌-◌, ◌*◌, ◌/◌, ◌%◌, ◌^◌, ◌<◌, ◌≤◌, Bool, false, ◌&&◌, ◌||◌, nat_eq, nat_le, List, [], ◌∷◌, length, get_or, set, replicate, refl, sym, ◌∙◌, ap, arith, subst, get_or-set_other, get_or-set_same}
+use Rattle.std.proofs.Common.{◌≡◌, ◌⊎◌, inl, inr, ℕ, zero, suc, ◌+◌, ◌-◌, ◌*◌, ◌/◌, ◌%◌, ◌^◌, ◌<◌, ◌≤◌, Bool, false}
+use Rattle.std.proofs.Common.{◌&&◌, ◌||◌, nat_eq, nat_le, List, [], ◌∷◌, length, get_or, set, replicate, refl, sym, ◌∙◌}
+use Rattle.std.proofs.Common.{ap, arith, subst, get_or-set_other, get_or-set_same}
 use Rattle.std.specs.Int.{from_le_bytes, to_le_bytes, bytes_low_first, byte_at, w128}
 use Rattle.std.specs.Int.RustNames.{bit_or}
 use Rattle.std.proofs.Math.Arith.{mod-mul}
@@ -41,7 +43,8 @@ in_sixteen (b0 ∷ b1 ∷ b2 ∷ b3 ∷ b4 ∷ b5 ∷ b6 ∷ b7 ∷ b8 ∷ b9 �
 in_sixteen (b0 ∷ b1 ∷ b2 ∷ b3 ∷ b4 ∷ b5 ∷ b6 ∷ b7 ∷ b8 ∷ b9 ∷ b10 ∷ b11 ∷ b12 ∷ b13 ∷ []) h = absurd (omega arith)
 in_sixteen (b0 ∷ b1 ∷ b2 ∷ b3 ∷ b4 ∷ b5 ∷ b6 ∷ b7 ∷ b8 ∷ b9 ∷ b10 ∷ b11 ∷ b12 ∷ b13 ∷ b14 ∷ []) h = absurd (omega arith)
 in_sixteen (b0 ∷ b1 ∷ b2 ∷ b3 ∷ b4 ∷ b5 ∷ b6 ∷ b7 ∷ b8 ∷ b9 ∷ b10 ∷ b11 ∷ b12 ∷ b13 ∷ b14 ∷ b15 ∷ []) h = omega arith
-in_sixteen (b0 ∷ b1 ∷ b2 ∷ b3 ∷ b4 ∷ b5 ∷ b6 ∷ b7 ∷ b8 ∷ b9 ∷ b10 ∷ b11 ∷ b12 ∷ b13 ∷ b14 ∷ b15 ∷ b16 ∷ rest) h = absurd (omega arith)
+in_sixteen (b0 ∷ b1 ∷ b2 ∷ b3 ∷ b4 ∷ b5 ∷ b6 ∷ b7 ∷ b8 ∷ b9 ∷ b10 ∷ b11 ∷ b12 ∷ b13 ∷ b14 ∷ b15 ∷ b16 ∷ rest) h =
+    absurd (omega arith)
 
 -- The number of bytes has no more bits than they have.
 in_bytes_small : (bs : List ℕ) → ((i : ℕ) → get_or bs i 0 < 256) → in_bytes bs < 2 ^ (8 * length bs)
@@ -56,18 +59,21 @@ in_bytes_small (b ∷ bs) small =
     omega (arith, h, r, q)
 
 -- A bit of the number of bytes is one of a byte.
-in_bytes_bit : (bs : List ℕ) (c : ℕ) → ((i : ℕ) → get_or bs i 0 < 256) → is_dark_in (in_bytes bs) c ≡ is_dark_in (get_or bs (c / 8) 0) (c % 8)
+in_bytes_bit : (bs : List ℕ) (c : ℕ) → ((i : ℕ) → get_or bs i 0 < 256) →
+    is_dark_in (in_bytes bs) c ≡ is_dark_in (get_or bs (c / 8) 0) (c % 8)
 unfolding in_bytes
 in_bytes_bit [] c small = none c ∙ sym (none (c % 8))
   where
     none : (t : ℕ) → is_dark_in 0 t ≡ false
     none t = ap (λ (i : ℕ). nat_eq i 1) (bit_at-zero t)
-in_bytes_bit (b ∷ bs) c small = ap (λ (x : ℕ). is_dark_in x c) turned ∙ by_place (in_bytes_bit bs (c - 8) (λ i. small (suc i))) (cases_lt c 8)
+in_bytes_bit (b ∷ bs) c small =
+    ap (λ (x : ℕ). is_dark_in x c) turned ∙ by_place (in_bytes_bit bs (c - 8) (λ i. small (suc i))) (cases_lt c 8)
   where
     turned : b + 256 * in_bytes bs ≡ in_bytes bs * 2 ^ 8 + b
     turned = omega arith
 
-    by_place : is_dark_in (in_bytes bs) (c - 8) ≡ is_dark_in (get_or bs ((c - 8) / 8) 0) ((c - 8) % 8) → (c < 8) ⊎ (8 ≤ c) → is_dark_in (in_bytes bs * 2 ^ 8 + b) c ≡ is_dark_in (get_or (b ∷ bs) (c / 8) 0) (c % 8)
+    by_place : is_dark_in (in_bytes bs) (c - 8) ≡ is_dark_in (get_or bs ((c - 8) / 8) 0) ((c - 8) % 8) →
+        (c < 8) ⊎ (8 ≤ c) → is_dark_in (in_bytes bs * 2 ^ 8 + b) c ≡ is_dark_in (get_or (b ∷ bs) (c / 8) 0) (c % 8)
     by_place rest (inl l) =
         let q : c / 8 ≡ 0 = omega arith in
         let r : c % 8 ≡ c = omega arith in
@@ -78,10 +84,12 @@ in_bytes_bit (b ∷ bs) c small = ap (λ (x : ℕ). is_dark_in x c) turned ∙ b
         let r : c % 8 ≡ (c - 8) % 8 = omega arith in
         ap (λ (i : ℕ). nat_eq i 1) (bit_at_cat_high (in_bytes bs) 8 b c (small 0) l)
         ∙ rest
-        ∙ sym (ap (λ (i : ℕ). is_dark_in (get_or (b ∷ bs) i 0) (c % 8)) q ∙ ap (is_dark_in (get_or bs ((c - 8) / 8) 0)) r)
+        ∙ sym (ap (λ (i : ℕ). is_dark_in (get_or (b ∷ bs) i 0) (c % 8)) q
+        ∙ ap (is_dark_in (get_or bs ((c - 8) / 8) 0)) r)
 
 -- A byte of the number of bytes is the byte.
-in_bytes_byte : (bs : List ℕ) (k : ℕ) → ((i : ℕ) → get_or bs i 0 < 256) → in_bytes bs / 2 ^ (8 * k) % 256 ≡ get_or bs k 0
+in_bytes_byte : (bs : List ℕ) (k : ℕ) → ((i : ℕ) → get_or bs i 0 < 256) →
+    in_bytes bs / 2 ^ (8 * k) % 256 ≡ get_or bs k 0
 unfolding in_bytes
 in_bytes_byte [] k small = zero_byte (2 ^ (8 * k)) (pow_pos (8 * k))
   where
@@ -104,14 +112,17 @@ in_bytes_byte (b ∷ bs) (suc k) small =
 -- ---- one byte more
 
 -- A byte laid over one of others leaves them bytes.
-pub over_bytes : (bs : List ℕ) (k y : ℕ) → ((i : ℕ) → get_or bs i 0 < 256) → k < length bs → y < 256 → (i : ℕ) → get_or (set bs k (bit_or (get_or bs k 0) y)) i 0 < 256
+pub over_bytes : (bs : List ℕ) (k y : ℕ) → ((i : ℕ) → get_or bs i 0 < 256) → k < length bs → y < 256 → (i : ℕ) →
+    get_or (set bs k (bit_or (get_or bs k 0) y)) i 0 < 256
 over_bytes bs k y small room ly i = by_place (cases_eq i k)
   where
     x : ℕ
     x = bit_or (get_or bs k 0) y
 
     by_place : (i ≡ k) ⊎ (i ≡ k → ⊥) → get_or (set bs k x) i 0 < 256
-    by_place (inl e) = subst (λ (z : ℕ). z < 256) (sym (ap (λ (j : ℕ). get_or (set bs k x) j 0) e ∙ get_or-set_same bs k x 0 room)) (or_lt 8 (get_or bs k 0) y (small k) ly)
+    by_place (inl e) =
+        subst (λ (z : ℕ). z < 256) (sym (ap (λ (j : ℕ). get_or (set bs k x) j 0) e ∙ get_or-set_same bs k x 0 room))
+        (or_lt 8 (get_or bs k 0) y (small k) ly)
     by_place (inr ne) = subst (λ (z : ℕ). z < 256) (sym (get_or-set_other bs k i x 0 ne)) (small i)
 
 -- Where a byte is laid over one of sixteen, it is laid over their number, moved to its place.
@@ -135,13 +146,16 @@ byte_over bs k y count small lk ly = same_row_numbers 128 _ _ left right bits
         subst (λ (i : ℕ). in_bytes news < 2 ^ i) e (in_bytes_small news news_small)
 
     whole : in_bytes bs < 2 ^ 128
-    whole = let e : 8 * length bs ≡ 128 = omega (arith, count) in subst (λ (i : ℕ). in_bytes bs < 2 ^ i) e (in_bytes_small bs small)
+    whole = let e : 8 * length bs ≡ 128 =
+        omega (arith, count) in subst (λ (i : ℕ). in_bytes bs < 2 ^ i) e (in_bytes_small bs small)
 
     fits : y * 2 ^ (8 * k) % 2 ^ 128 ≡ y * 2 ^ (8 * k)
     fits = byte_fits y (8 * k) 128 ly (omega arith)
 
     right : bit_or (in_bytes bs) (y * 2 ^ (8 * k)) < 2 ^ 128
-    right = or_lt 128 (in_bytes bs) (y * 2 ^ (8 * k)) whole (subst (λ (z : ℕ). z < 2 ^ 128) fits (mod_below (y * 2 ^ (8 * k)) (2 ^ 128) (pow_pos 128)))
+    right =
+        or_lt 128 (in_bytes bs) (y * 2 ^ (8 * k)) whole
+        (subst (λ (z : ℕ). z < 2 ^ 128) fits (mod_below (y * 2 ^ (8 * k)) (2 ^ 128) (pow_pos 128)))
 
     bits : (c : ℕ) → c < 128 → is_dark_in (in_bytes news) c ≡ is_dark_in (bit_or (in_bytes bs) (y * 2 ^ (8 * k))) c
     bits c lc =
@@ -152,7 +166,9 @@ byte_over bs k y count small lk ly = same_row_numbers 128 _ _ left right bits
         moved : is_dark_in (y * 2 ^ (8 * k)) c ≡ (nat_le (8 * k) c && is_dark_in y (c - 8 * k))
         moved = ap (λ (z : ℕ). is_dark_in z c) (sym fits) ∙ byte_up y (8 * k) 128 c ly (omega arith)
 
-        by_place : (c / 8 ≡ k) ⊎ (c / 8 ≡ k → ⊥) → is_dark_in (get_or news (c / 8) 0) (c % 8) ≡ (is_dark_in (get_or bs (c / 8) 0) (c % 8) || is_dark_in (y * 2 ^ (8 * k)) c)
+        by_place : (c / 8 ≡ k) ⊎ (c / 8 ≡ k → ⊥) →
+            is_dark_in (get_or news (c / 8) 0) (c % 8) ≡
+            (is_dark_in (get_or bs (c / 8) 0) (c % 8) || is_dark_in (y * 2 ^ (8 * k)) c)
         by_place (inl e) =
             let r : c % 8 ≡ c - 8 * k = omega (arith, e) in
             ap (λ (i : ℕ). is_dark_in (get_or news i 0) (c % 8)) e
@@ -160,7 +176,8 @@ byte_over bs k y count small lk ly = same_row_numbers 128 _ _ left right bits
             ∙ or_dark (get_or bs k 0) y (c % 8)
             ∙ ap (λ (i : ℕ). is_dark_in (get_or bs i 0) (c % 8) || is_dark_in y (c % 8)) (sym e)
             ∙ ap (λ (i : ℕ). is_dark_in (get_or bs (c / 8) 0) (c % 8) || is_dark_in y i) r
-            ∙ ap (λ (b : Bool). is_dark_in (get_or bs (c / 8) 0) (c % 8) || (b && is_dark_in y (c - 8 * k))) (sym (le-leb (8 * k) c (omega (arith, e))))
+            ∙ ap (λ (b : Bool). is_dark_in (get_or bs (c / 8) 0) (c % 8) || (b && is_dark_in y (c - 8 * k)))
+            (sym (le-leb (8 * k) c (omega (arith, e))))
             ∙ ap (λ (b : Bool). is_dark_in (get_or bs (c / 8) 0) (c % 8) || b) (sym moved)
         by_place (inr ne) =
             ap (λ (z : ℕ). is_dark_in z (c % 8)) (get_or-set_other bs k (c / 8) x 0 ne)
@@ -171,7 +188,8 @@ byte_over bs k y count small lk ly = same_row_numbers 128 _ _ left right bits
             none (inl l) = ap (λ (b : Bool). b && is_dark_in y (c - 8 * k)) (lt-leb (8 * k) c l)
             none (inr l) =
                 let far : 8 ≤ c - 8 * k = omega (arith, l, ne) in
-                ap (λ (b : Bool). b && is_dark_in y (c - 8 * k)) (le-leb (8 * k) c l) ∙ ap (λ (i : ℕ). nat_eq i 1) (bit_at_above y 8 (c - 8 * k) ly far)
+                ap (λ (b : Bool). b && is_dark_in y (c - 8 * k)) (le-leb (8 * k) c l)
+                ∙ ap (λ (i : ℕ). nat_eq i 1) (bit_at_above y 8 (c - 8 * k) ly far)
 
 -- ---- a number in bytes
 
@@ -226,8 +244,13 @@ slot_inside x (inr within) = let h = within.0 in omega (arith, h)
 -- Slots without a codeword are rows of sixteen bytes.
 pub slots_empty : (n : ℕ) → AreSlotRows (replicate n (replicate {A = ℕ} 16 0))
 slots_empty n = record {
-  wide = λ r l. ap length (get_or-replicate n r (replicate {A = ℕ} 16 0) [] (omega (arith, l, length-replicate n (replicate {A = ℕ} 16 0))));
-  bytes = λ r i l. subst (λ (bs : List ℕ). get_or bs i 0 < 256) (sym (get_or-replicate n r (replicate {A = ℕ} 16 0) [] (omega (arith, l, length-replicate n (replicate {A = ℕ} 16 0))))) (zeros 16 i);
+  wide =
+      λ r l. ap length (get_or-replicate n r (replicate {A = ℕ} 16 0) []
+      (omega (arith, l, length-replicate n (replicate {A = ℕ} 16 0))));
+  bytes =
+      λ r i l. subst (λ (bs : List ℕ). get_or bs i 0 < 256)
+      (sym (get_or-replicate n r (replicate {A = ℕ} 16 0) []
+      (omega (arith, l, length-replicate n (replicate {A = ℕ} 16 0))))) (zeros 16 i);
 }
   where
     zeros : (k i : ℕ) → get_or (replicate k 0) i 0 < 256
@@ -236,18 +259,23 @@ slots_empty n = record {
     zeros (suc k) (suc i) = zeros k i
 
 -- Slots stay rows of sixteen bytes when a row is replaced by one.
-pub slots_set : (rows : List (List ℕ)) (r : ℕ) (bs : List ℕ) → AreSlotRows rows → r < length rows → length bs ≡ 16 → ((i : ℕ) → get_or bs i 0 < 256) → AreSlotRows (set rows r bs)
+pub slots_set : (rows : List (List ℕ)) (r : ℕ) (bs : List ℕ) → AreSlotRows rows → r < length rows → length bs ≡ 16 →
+    ((i : ℕ) → get_or bs i 0 < 256) → AreSlotRows (set rows r bs)
 slots_set rows r bs are room count small = record {
   wide = λ q l. either (λ (ys : List ℕ). length ys ≡ 16) q count (λ lq. are.wide q lq) l;
   bytes = λ q i l. either (λ (ys : List ℕ). get_or ys i 0 < 256) q (small i) (λ lq. are.bytes q i lq) l;
 }
   where
-    either : (P : List ℕ → Type 0) (q : ℕ) → P bs → (q < length rows → P (get_or rows q [])) → q < length (set rows r bs) → P (get_or (set rows r bs) q [])
+    either : (P : List ℕ → Type 0) (q : ℕ) → P bs → (q < length rows → P (get_or rows q [])) →
+        q < length (set rows r bs) → P (get_or (set rows r bs) q [])
     either P q here other l = by_place (cases_eq q r)
       where
         by_place : (q ≡ r) ⊎ (q ≡ r → ⊥) → P (get_or (set rows r bs) q [])
-        by_place (inl e) = subst P (sym (ap (λ (j : ℕ). get_or (set rows r bs) j []) e ∙ get_or-set_same rows r bs [] room)) here
-        by_place (inr ne) = subst P (sym (get_or-set_other rows r q bs [] ne)) (other (let k = length-set rows r bs in omega (arith, l, k)))
+        by_place (inl e) =
+            subst P (sym (ap (λ (j : ℕ). get_or (set rows r bs) j []) e ∙ get_or-set_same rows r bs [] room)) here
+        by_place (inr ne) =
+            subst P (sym (get_or-set_other rows r q bs [] ne))
+            (other (let k = length-set rows r bs in omega (arith, l, k)))
 
 -- The bytes of a number are bytes.
 pub low_first_small : (k i n j : ℕ) → get_or (bytes_low_first i k n) j 0 < 256
@@ -277,8 +305,10 @@ module _ (rows : List (List ℕ)) (r : ℕ) (room : r < length rows) where
 
     -- Where a byte is laid over one of a row of slots, it is laid over the row's number, moved to its place.
     pub byte_added : (k y : ℕ) → k < 16 → y < 256 →
-        slot_numbers (set rows r (set (get_or rows r []) k (bit_or (get_or (get_or rows r []) k 0) y))) ≡ set (slot_numbers rows) r (bit_or (get_or (slot_numbers rows) r 0) (y * 2 ^ (8 * k)))
+        slot_numbers (set rows r (set (get_or rows r []) k (bit_or (get_or (get_or rows r []) k 0) y))) ≡
+        set (slot_numbers rows) r (bit_or (get_or (slot_numbers rows) r 0) (y * 2 ^ (8 * k)))
     byte_added k y lk ly =
         map-set (from_le_bytes w128) rows r _
         ∙ ap (set (slot_numbers rows) r)
-        (in_sixteen _ (length-set bs k _ ∙ count) ∙ byte_over bs k y count small lk ly ∙ ap (λ (x : ℕ). bit_or x (y * 2 ^ (8 * k))) (sym (row_is ∙ in_sixteen bs count)))
+        (in_sixteen _ (length-set bs k _ ∙ count) ∙ byte_over bs k y count small lk ly
+        ∙ ap (λ (x : ℕ). bit_or x (y * 2 ^ (8 * k))) (sym (row_is ∙ in_sixteen bs count)))

@@ -1,5 +1,7 @@
 -- The codewords of a row as the bytes of one number.
-use Rattle.std.proofs.Common.{◌≡◌, ◌≢◌, ◌⊎◌, inl, inr, ℕ, zero, suc, ◌+◌, ◌-◌, ◌*◌, ◌/◌, ◌%◌, ◌^◌, ◌<◌, ◌≤◌, Bool, true, false, ◌&&◌, ◌||◌, nat_eq, nat_le, nat_lt, List, [], ◌∷◌, length, get_or, set, refl, sym, ◌∙◌, ap, arith, subst, below_more, get_or-set_same, get_or-set_other}
+use Rattle.std.proofs.Common.{◌≡◌, ◌≢◌, ◌⊎◌, inl, inr, ℕ, zero, suc, ◌+◌, ◌-◌, ◌*◌, ◌/◌, ◌%◌, ◌^◌, ◌<◌, ◌≤◌, Bool, true}
+use Rattle.std.proofs.Common.{false, ◌&&◌, ◌||◌, nat_eq, nat_le, nat_lt, List, [], ◌∷◌, length, get_or, set, refl, sym}
+use Rattle.std.proofs.Common.{◌∙◌, ap, arith, subst, below_more, get_or-set_same, get_or-set_other}
 use lib.Bits.{bit_and}
 use Rattle.std.proofs.Math.Bool.{or-false}
 use Rattle.std.specs.Bool.{beq}
@@ -15,7 +17,8 @@ use Rattle.dm_layout.specs.Grid.{is_dark_in}
 use Rattle.dm_layout.specs.inner.Reading.{look_in}
 use Rattle.dm_layout.specs.inner.Slots.{is_joined, reversed_bits}
 use Rattle.dm_layout.specs.declared.slots.TheConstants.{REVERSED}
-use Rattle.dm_layout.specs.declared.bit_rows.TheConstants.{LOW_TWO_BITS, LOW_THREE_BITS, NARROW_LOW_TWO_BITS, NARROW_LOW_THREE_BITS}
+use Rattle.dm_layout.specs.declared.bit_rows.TheConstants.{LOW_TWO_BITS, LOW_THREE_BITS, NARROW_LOW_TWO_BITS}
+use Rattle.dm_layout.specs.declared.bit_rows.TheConstants.{NARROW_LOW_THREE_BITS}
 use Rattle.dm_place.proofs.Exported.{all_below}
 use Rattle.dm_layout.proofs.OuterRows.{or_dark}
 use Rattle.dm_layout.specs.Placement.{cells_of}
@@ -35,7 +38,8 @@ table_test f n (y ∷ ys) = nat_eq y (f n) && table_test f (suc n) ys
 table_at : (f : ℕ → ℕ) (n i : ℕ) (t : List ℕ) → table_test f n t ≡ true → i < length t → get_or t i 0 ≡ f (n + i)
 unfolding table_test
 table_at f n i [] h l = absurd (omega arith)
-table_at f n zero (y ∷ ys) h l = let z : n ≡ n + 0 = omega arith in eqb-true y (f n) (and_parts (nat_eq y (f n)) (table_test f (suc n) ys) h).0 ∙ ap f z
+table_at f n zero (y ∷ ys) h l = let z : n ≡ n + 0 =
+    omega arith in eqb-true y (f n) (and_parts (nat_eq y (f n)) (table_test f (suc n) ys) h).0 ∙ ap f z
 table_at f n (suc i) (y ∷ ys) h l =
     let z : suc n + i ≡ n + suc i = omega arith in
     table_at f (suc n) i ys (and_parts (nat_eq y (f n)) (table_test f (suc n) ys) h).1 (omega arith) ∙ ap f z
@@ -59,7 +63,8 @@ twice_test = refl
 
 pub reversed_twice : (x : ℕ) → x < 256 → reversed_bits (reversed_bits x) ≡ x
 reversed_twice x l =
-    eqb-true (reversed_bits (reversed_bits x)) x (all_below (λ x. nat_eq (reversed_bits (reversed_bits x)) x) 256 x twice_test l)
+    eqb-true (reversed_bits (reversed_bits x)) x
+    (all_below (λ x. nat_eq (reversed_bits (reversed_bits x)) x) 256 x twice_test l)
 
 -- ---- three rows in one
 
@@ -75,43 +80,57 @@ min_one (suc zero) (suc (suc y)) lx ly = absurd (omega arith)
 
 -- A cell of a masked row is dark exactly if it is dark in the row and in the mask.
 pub and_dark : (a b c : ℕ) → is_dark_in (bit_and a b) c ≡ (is_dark_in a c && is_dark_in b c)
-and_dark a b c = ap (λ (i : ℕ). nat_eq i 1) (bit_at_and a b c) ∙ min_one (bit_at a c) (bit_at b c) (bit_at-lt a c) (bit_at-lt b c)
+and_dark a b c =
+    ap (λ (i : ℕ). nat_eq i 1) (bit_at_and a b c) ∙ min_one (bit_at a c) (bit_at b c) (bit_at-lt a c) (bit_at-lt b c)
 
 -- A test of 128 columns, computed by the checker: the masks have the
 -- lowest two and the lowest three bits of each byte.
-masks : list_all (λ c. beq (is_dark_in LOW_TWO_BITS c) (nat_lt (c % 8) 2) && beq (is_dark_in LOW_THREE_BITS c) (nat_lt (c % 8) 3)) (range_with_len 0 128) ≡ true
+masks : list_all (λ c. beq (is_dark_in LOW_TWO_BITS c) (nat_lt (c % 8) 2)
+    && beq (is_dark_in LOW_THREE_BITS c) (nat_lt (c % 8) 3)) (range_with_len 0 128) ≡ true
 masks = refl
 
 -- The masks of sixteen bytes have the lowest two and the lowest three bits of each byte.
-pub masks_at : (c : ℕ) → c < 128 → (is_dark_in LOW_TWO_BITS c ≡ nat_lt (c % 8) 2) × (is_dark_in LOW_THREE_BITS c ≡ nat_lt (c % 8) 3)
+pub masks_at : (c : ℕ) → c < 128 → (is_dark_in LOW_TWO_BITS c ≡ nat_lt (c % 8) 2)
+    × (is_dark_in LOW_THREE_BITS c ≡ nat_lt (c % 8) 3)
 masks_at c l =
     let both =
-    and_parts (beq (is_dark_in LOW_TWO_BITS c) (nat_lt (c % 8) 2)) (beq (is_dark_in LOW_THREE_BITS c) (nat_lt (c % 8) 3))
-    (all_below (λ c. beq (is_dark_in LOW_TWO_BITS c) (nat_lt (c % 8) 2) && beq (is_dark_in LOW_THREE_BITS c) (nat_lt (c % 8) 3)) 128 c masks l) in
+    and_parts (beq (is_dark_in LOW_TWO_BITS c) (nat_lt (c % 8) 2))
+    (beq (is_dark_in LOW_THREE_BITS c) (nat_lt (c % 8) 3))
+    (all_below (λ c. beq (is_dark_in LOW_TWO_BITS c) (nat_lt (c % 8) 2)
+    && beq (is_dark_in LOW_THREE_BITS c) (nat_lt (c % 8) 3)) 128 c masks l) in
     ((booleans_Decides _ _).0 both.0, (booleans_Decides _ _).0 both.1)
 
 -- A test of 64 columns, computed by the checker: the masks have the
 -- lowest two and the lowest three bits of each byte.
-narrow_masks : list_all (λ c. beq (is_dark_in NARROW_LOW_TWO_BITS c) (nat_lt (c % 8) 2) && beq (is_dark_in NARROW_LOW_THREE_BITS c) (nat_lt (c % 8) 3)) (range_with_len 0 64) ≡ true
+narrow_masks : list_all (λ c. beq (is_dark_in NARROW_LOW_TWO_BITS c) (nat_lt (c % 8) 2)
+    && beq (is_dark_in NARROW_LOW_THREE_BITS c) (nat_lt (c % 8) 3)) (range_with_len 0 64) ≡ true
 narrow_masks = refl
 
-pub narrow_masks_at : (c : ℕ) → c < 64 → (is_dark_in NARROW_LOW_TWO_BITS c ≡ nat_lt (c % 8) 2) × (is_dark_in NARROW_LOW_THREE_BITS c ≡ nat_lt (c % 8) 3)
+pub narrow_masks_at : (c : ℕ) → c < 64 → (is_dark_in NARROW_LOW_TWO_BITS c ≡ nat_lt (c % 8) 2)
+    × (is_dark_in NARROW_LOW_THREE_BITS c ≡ nat_lt (c % 8) 3)
 narrow_masks_at c l =
     let both =
-    and_parts (beq (is_dark_in NARROW_LOW_TWO_BITS c) (nat_lt (c % 8) 2)) (beq (is_dark_in NARROW_LOW_THREE_BITS c) (nat_lt (c % 8) 3))
-    (all_below (λ c. beq (is_dark_in NARROW_LOW_TWO_BITS c) (nat_lt (c % 8) 2) && beq (is_dark_in NARROW_LOW_THREE_BITS c) (nat_lt (c % 8) 3)) 64 c narrow_masks l) in
+    and_parts (beq (is_dark_in NARROW_LOW_TWO_BITS c) (nat_lt (c % 8) 2))
+    (beq (is_dark_in NARROW_LOW_THREE_BITS c) (nat_lt (c % 8) 3))
+    (all_below (λ c. beq (is_dark_in NARROW_LOW_TWO_BITS c) (nat_lt (c % 8) 2)
+    && beq (is_dark_in NARROW_LOW_THREE_BITS c) (nat_lt (c % 8) 3)) 64 c narrow_masks l) in
     ((booleans_Decides _ _).0 both.0, (booleans_Decides _ _).0 both.1)
 
 -- A masked row, moved to the left, is dark where the row is at the lowest three bits of a byte.
-pub masked_up : (width mask count b s c : ℕ) → ((i : ℕ) → i < width → is_dark_in mask i ≡ nat_lt (i % 8) count) → c < width →
-    is_dark_in (bit_and b mask * 2 ^ s % 2 ^ width) c ≡ (nat_le s c && (is_dark_in b (c - s) && nat_lt ((c - s) % 8) count))
+pub masked_up : (width mask count b s c : ℕ) → ((i : ℕ) → i < width → is_dark_in mask i ≡ nat_lt (i % 8) count) →
+    c < width →
+    is_dark_in (bit_and b mask * 2 ^ s % 2 ^ width) c ≡
+    (nat_le s c && (is_dark_in b (c - s) && nat_lt ((c - s) % 8) count))
 masked_up width mask count b s c masked l = low_bit (x * 2 ^ s) width c l ∙ by_column (cases_lt c s)
   where
     x : ℕ
     x = bit_and b mask
 
-    by_column : (c < s) ⊎ (s ≤ c) → is_dark_in (x * 2 ^ s) c ≡ (nat_le s c && (is_dark_in b (c - s) && nat_lt ((c - s) % 8) count))
-    by_column (inl h) = none_up x s c h ∙ ap (λ (t : Bool). t && (is_dark_in b (c - s) && nat_lt ((c - s) % 8) count)) (sym (lt-leb s c h))
+    by_column : (c < s) ⊎ (s ≤ c) → is_dark_in (x * 2 ^ s) c ≡
+        (nat_le s c && (is_dark_in b (c - s) && nat_lt ((c - s) % 8) count))
+    by_column (inl h) =
+        none_up x s c h ∙ ap (λ (t : Bool). t && (is_dark_in b (c - s) && nat_lt ((c - s) % 8) count))
+        (sym (lt-leb s c h))
     by_column (inr h) =
         let e : c ≡ s + (c - s) = omega arith in
         ap (is_dark_in (x * 2 ^ s)) e ∙ bit_up x s (c - s) ∙ and_dark b mask (c - s)
@@ -119,25 +138,35 @@ masked_up width mask count b s c masked l = low_bit (x * 2 ^ s) width c l ∙ by
         ∙ ap (λ (t : Bool). t && (is_dark_in b (c - s) && nat_lt ((c - s) % 8) count)) (sym (le-leb s c h))
 
 -- What follows is about numbers of some width, with masks of the lowest two and of the lowest three bits of each byte.
-module _ (width two three : ℕ) (masked : (c : ℕ) → c < width → (is_dark_in two c ≡ nat_lt (c % 8) 2) × (is_dark_in three c ≡ nat_lt (c % 8) 3)) where
+module _ (width two three : ℕ) (masked : (c : ℕ) → c < width →
+    (is_dark_in two c ≡ nat_lt (c % 8) 2) × (is_dark_in three c ≡ nat_lt (c % 8) 3)) where
   -- Three masked rows, each moved to its place in the bytes, are joined in one.
-  pub joined_in : (a b d c : ℕ) → c < width → is_dark_in (bit_or (bit_or (bit_and a two) (bit_and b three * 4 % 2 ^ width)) (bit_and d three * 32 % 2 ^ width)) c ≡ is_joined a b d c
+  pub joined_in : (a b d c : ℕ) → c < width → is_dark_in
+      (bit_or (bit_or (bit_and a two) (bit_and b three * 4 % 2 ^ width)) (bit_and d three * 32 % 2 ^ width)) c ≡
+      is_joined a b d c
   joined_in a b d c l =
       or_dark (bit_or (bit_and a two) (bit_and b three * 4 % 2 ^ width)) (bit_and d three * 32 % 2 ^ width) c
-      ∙ ap (λ (t : Bool). t || is_dark_in (bit_and d three * 32 % 2 ^ width) c) (or_dark (bit_and a two) (bit_and b three * 4 % 2 ^ width) c)
-      ∙ ap (λ (t : Bool). (t || is_dark_in (bit_and b three * 4 % 2 ^ width) c) || is_dark_in (bit_and d three * 32 % 2 ^ width) c)
+      ∙ ap (λ (t : Bool). t || is_dark_in (bit_and d three * 32 % 2 ^ width) c)
+      (or_dark (bit_and a two) (bit_and b three * 4 % 2 ^ width) c)
+      ∙ ap (λ (t : Bool). (t || is_dark_in (bit_and b three * 4 % 2 ^ width) c)
+      || is_dark_in (bit_and d three * 32 % 2 ^ width) c)
       (and_dark a two c ∙ ap (λ (t : Bool). is_dark_in a c && t) (masked c l).0)
-      ∙ ap (λ (t : Bool). ((is_dark_in a c && nat_lt (c % 8) 2) || t) || is_dark_in (bit_and d three * 32 % 2 ^ width) c) (masked_up width three 3 b 2 c (λ i h. (masked i h).1) l)
-      ∙ ap (λ (t : Bool). ((is_dark_in a c && nat_lt (c % 8) 2) || (nat_le 2 c && (is_dark_in b (c - 2) && nat_lt ((c - 2) % 8) 3))) || t) (masked_up width three 3 d 5 c (λ i h. (masked i h).1) l)
+      ∙ ap (λ (t : Bool). ((is_dark_in a c && nat_lt (c % 8) 2) || t)
+      || is_dark_in (bit_and d three * 32 % 2 ^ width) c) (masked_up width three 3 b 2 c (λ i h. (masked i h).1) l)
+      ∙ ap (λ (t : Bool). ((is_dark_in a c && nat_lt (c % 8) 2)
+      || (nat_le 2 c && (is_dark_in b (c - 2) && nat_lt ((c - 2) % 8) 3))) || t)
+      (masked_up width three 3 d 5 c (λ i h. (masked i h).1) l)
 
 -- Three masked rows of 128 bits, each moved to its place in the bytes, are joined in one.
 pub joined_bit : (a b d c : ℕ) → c < 128 →
-    is_dark_in (bit_or (bit_or (bit_and a LOW_TWO_BITS) (bit_and b LOW_THREE_BITS * 4 % 2 ^ 128)) (bit_and d LOW_THREE_BITS * 32 % 2 ^ 128)) c ≡ is_joined a b d c
+    is_dark_in (bit_or (bit_or (bit_and a LOW_TWO_BITS) (bit_and b LOW_THREE_BITS * 4 % 2 ^ 128))
+    (bit_and d LOW_THREE_BITS * 32 % 2 ^ 128)) c ≡ is_joined a b d c
 joined_bit = joined_in 128 LOW_TWO_BITS LOW_THREE_BITS masks_at
 
 -- Three masked rows of 64 bits, each moved to its place in the bytes, are joined in one.
 pub narrow_joined_bit : (a b d c : ℕ) → c < 64 →
-    is_dark_in (bit_or (bit_or (bit_and a NARROW_LOW_TWO_BITS) (bit_and b NARROW_LOW_THREE_BITS * 4 % 2 ^ 64)) (bit_and d NARROW_LOW_THREE_BITS * 32 % 2 ^ 64)) c ≡ is_joined a b d c
+    is_dark_in (bit_or (bit_or (bit_and a NARROW_LOW_TWO_BITS) (bit_and b NARROW_LOW_THREE_BITS * 4 % 2 ^ 64))
+    (bit_and d NARROW_LOW_THREE_BITS * 32 % 2 ^ 64)) c ≡ is_joined a b d c
 narrow_joined_bit = joined_in 64 NARROW_LOW_TWO_BITS NARROW_LOW_THREE_BITS narrow_masks_at
 
 -- ---- the bytes of a row
@@ -153,11 +182,14 @@ other_row x c s far = by_column (cases_lt c s)
 
     by_column : (c < s) ⊎ (s ≤ c) → (nat_le s c && (x && nat_lt ((c - s) % 8) 3)) ≡ false
     by_column (inl h) = ap (λ (t : Bool). t && (x && nat_lt ((c - s) % 8) 3)) (lt-leb s c h)
-    by_column (inr h) = ap (λ (t : Bool). nat_le s c && (x && t)) (le-ltb ((c - s) % 8) 3 (far h)) ∙ nothing (nat_le s c) x
+    by_column (inr h) =
+        ap (λ (t : Bool). nat_le s c && (x && t)) (le-ltb ((c - s) % 8) 3 (far h)) ∙ nothing (nat_le s c) x
 
 -- The part that reaches a bit gives it its own.
 this_row : (x : Bool) (c s : ℕ) → s ≤ c → (c - s) % 8 < 3 → (nat_le s c && (x && nat_lt ((c - s) % 8) 3)) ≡ x
-this_row x c s h l = ap (λ (t : Bool). t && (x && nat_lt ((c - s) % 8) 3)) (le-leb s c h) ∙ ap (λ (t : Bool). x && t) (lt-ltb ((c - s) % 8) 3 l) ∙ alone x
+this_row x c s h l =
+    ap (λ (t : Bool). t && (x && nat_lt ((c - s) % 8) 3)) (le-leb s c h)
+    ∙ ap (λ (t : Bool). x && t) (lt-ltb ((c - s) % 8) 3 l) ∙ alone x
   where
     alone : (a : Bool) → (a && true) ≡ a
     alone true = refl
@@ -184,27 +216,35 @@ masked_off x c l = ap (λ (t : Bool). x && t) (le-ltb (c % 8) 2 l) ∙ nothing x
 
 -- The bytes of three rows that are joined in one are the codewords of the anchors of a row.
 pub are_joined : (n width : ℕ) (rows : List ℕ) (r x : ℕ) → n + 8 ≤ width →
-    ((c : ℕ) → c < width → is_dark_in x c ≡ is_joined (get_or rows r 0 / 2 ^ first_column r) (get_or rows (r + 1) 0 / 2 ^ first_column r) (get_or rows (r + 2) 0 / 2 ^ first_column r) c) →
+    ((c : ℕ) → c < width → is_dark_in x c ≡ is_joined (get_or rows r 0 / 2 ^ first_column r)
+    (get_or rows (r + 1) 0 / 2 ^ first_column r) (get_or rows (r + 2) 0 / 2 ^ first_column r) c) →
     IsJoined n rows r x
 are_joined n width rows r x wide bits = record {
   first = λ k t lk lt.
       let c : ℕ = 8 * k + t in
       let m : c % 8 < 2 = omega arith in
       byte k t (omega arith) ∙ bits c (omega arith)
-      ∙ ap (λ (b : Bool). ((is_dark_in (row r) c && b) || (nat_le 2 c && (is_dark_in (row (r + 1)) (c - 2) && nat_lt ((c - 2) % 8) 3))) || (nat_le 5 c && (is_dark_in (row (r + 2)) (c - 5) && nat_lt ((c - 5) % 8) 3))) (lt-ltb (c % 8) 2 m)
-      ∙ only_first (is_dark_in (row r) c) _ _ (other_row (is_dark_in (row (r + 1)) (c - 2)) c 2 (λ h. omega arith)) (other_row (is_dark_in (row (r + 2)) (c - 5)) c 5 (λ h. omega arith))
+      ∙ ap (λ (b : Bool). ((is_dark_in (row r) c && b)
+      || (nat_le 2 c && (is_dark_in (row (r + 1)) (c - 2) && nat_lt ((c - 2) % 8) 3)))
+      || (nat_le 5 c && (is_dark_in (row (r + 2)) (c - 5) && nat_lt ((c - 5) % 8) 3))) (lt-ltb (c % 8) 2 m)
+      ∙ only_first (is_dark_in (row r) c) _ _ (other_row (is_dark_in (row (r + 1)) (c - 2)) c 2 (λ h. omega arith))
+      (other_row (is_dark_in (row (r + 2)) (c - 5)) c 5 (λ h. omega arith))
       ∙ there r c;
   second = λ k t lk lt.
       let c : ℕ = 8 * k + (2 + t) in
       let e : c - 2 ≡ 8 * k + t = omega arith in
       byte k (2 + t) (omega arith) ∙ bits c (omega arith)
-      ∙ only_second (is_dark_in (row (r + 1)) (c - 2)) _ _ _ (masked_off (is_dark_in (row r) c) c (omega arith)) (this_row (is_dark_in (row (r + 1)) (c - 2)) c 2 (omega arith) (omega arith)) (other_row (is_dark_in (row (r + 2)) (c - 5)) c 5 (λ h. omega arith))
+      ∙ only_second (is_dark_in (row (r + 1)) (c - 2)) _ _ _ (masked_off (is_dark_in (row r) c) c (omega arith))
+      (this_row (is_dark_in (row (r + 1)) (c - 2)) c 2 (omega arith) (omega arith))
+      (other_row (is_dark_in (row (r + 2)) (c - 5)) c 5 (λ h. omega arith))
       ∙ ap (is_dark_in (row (r + 1))) e ∙ there (r + 1) (8 * k + t);
   third = λ k t lk lt.
       let c : ℕ = 8 * k + (5 + t) in
       let e : c - 5 ≡ 8 * k + t = omega arith in
       byte k (5 + t) (omega arith) ∙ bits c (omega arith)
-      ∙ only_third (is_dark_in (row (r + 2)) (c - 5)) _ _ _ (masked_off (is_dark_in (row r) c) c (omega arith)) (other_row (is_dark_in (row (r + 1)) (c - 2)) c 2 (λ h. omega arith)) (this_row (is_dark_in (row (r + 2)) (c - 5)) c 5 (omega arith) (omega arith))
+      ∙ only_third (is_dark_in (row (r + 2)) (c - 5)) _ _ _ (masked_off (is_dark_in (row r) c) c (omega arith))
+      (other_row (is_dark_in (row (r + 1)) (c - 2)) c 2 (λ h. omega arith))
+      (this_row (is_dark_in (row (r + 2)) (c - 5)) c 5 (omega arith) (omega arith))
       ∙ ap (is_dark_in (row (r + 2))) e ∙ there (r + 2) (8 * k + t);
 }
   where
@@ -218,30 +258,43 @@ are_joined n width rows r x wide bits = record {
     byte k t h = low_bit (x / 2 ^ (8 * k)) 8 t h ∙ ap (λ (i : ℕ). nat_eq i 1) (moved_bit x (8 * k) t)
 
 -- When one more row is joined, the rows above the next are joined.
-pub join_more : (n width : ℕ) (rows slots news : List ℕ) (x row : ℕ) → n + 8 ≤ width → row < length slots → news ≡ set slots row x →
-    ((c : ℕ) → c < width → is_dark_in x c ≡ is_joined (get_or rows row 0 / 2 ^ first_column row) (get_or rows (row + 1) 0 / 2 ^ first_column row) (get_or rows (row + 2) 0 / 2 ^ first_column row) c) →
-    ((r : ℕ) → r < row → IsJoined n rows r (get_or slots r 0)) → (r : ℕ) → r < row + 1 → IsJoined n rows r (get_or news r 0)
-join_more n width rows slots news x row wide room is bits so_far = below_more (λ r. IsJoined n rows r (get_or news r 0)) row before here
+pub join_more : (n width : ℕ) (rows slots news : List ℕ) (x row : ℕ) → n + 8 ≤ width → row < length slots →
+    news ≡ set slots row x →
+    ((c : ℕ) → c < width → is_dark_in x c ≡ is_joined (get_or rows row 0 / 2 ^ first_column row)
+    (get_or rows (row + 1) 0 / 2 ^ first_column row) (get_or rows (row + 2) 0 / 2 ^ first_column row) c) →
+    ((r : ℕ) → r < row → IsJoined n rows r (get_or slots r 0)) → (r : ℕ) → r < row + 1 →
+    IsJoined n rows r (get_or news r 0)
+join_more n width rows slots news x row wide room is bits so_far =
+    below_more (λ r. IsJoined n rows r (get_or news r 0)) row before here
   where
     before : (r : ℕ) → r < row → IsJoined n rows r (get_or news r 0)
     before r l =
         let ne : r ≢ row = omega arith in
-        subst (λ (y : ℕ). IsJoined n rows r y) (sym (ap (λ (xs : List ℕ). get_or xs r 0) is ∙ get_or-set_other slots row r x 0 ne)) (so_far r l)
+        subst (λ (y : ℕ). IsJoined n rows r y) (sym (ap (λ (xs : List ℕ). get_or xs r 0) is
+        ∙ get_or-set_other slots row r x 0 ne)) (so_far r l)
 
     here : IsJoined n rows row (get_or news row 0)
-    here = subst (λ (y : ℕ). IsJoined n rows row y) (sym (ap (λ (xs : List ℕ). get_or xs row 0) is ∙ get_or-set_same slots row x 0 room)) (are_joined n width rows row x wide bits)
+    here =
+        subst (λ (y : ℕ). IsJoined n rows row y)
+        (sym (ap (λ (xs : List ℕ). get_or xs row 0) is ∙ get_or-set_same slots row x 0 room))
+        (are_joined n width rows row x wide bits)
 
 -- The slot of a corner has the lowest byte of the row behind all others.
 pub corner_slot_is : (rows : List ℕ) → slot_byte rows corner_slot ≡ get_or rows largest_mapping 0 % 256
-corner_slot_is rows = let z : get_or rows largest_mapping 0 / 1 % 256 ≡ get_or rows largest_mapping 0 % 256 = omega arith in z
+corner_slot_is rows = let z : get_or rows largest_mapping 0 / 1 % 256 ≡ get_or rows largest_mapping 0 % 256 =
+    omega arith in z
 
 -- Joined rows, with the codeword of a corner put behind them, have the slots of all codewords.
-pub corner_beside : (n : ℕ) (rows joined news : List ℕ) (b w : ℕ) → n ≤ largest_mapping → largest_mapping < length joined → news ≡ set joined largest_mapping b → b < 256 → b ≡ reversed_bits w → w < 256 → AreJoined n rows joined →
-    (n % 8 ≡ 4 → w ≡ word_in rows (cells_of n Corner1)) → (n % 8 ≡ 6 → w ≡ word_in rows (cells_of n Corner2)) → HasSlots n rows news
+pub corner_beside : (n : ℕ) (rows joined news : List ℕ) (b w : ℕ) → n ≤ largest_mapping →
+    largest_mapping < length joined → news ≡ set joined largest_mapping b → b < 256 → b ≡ reversed_bits w → w < 256 →
+    AreJoined n rows joined →
+    (n % 8 ≡ 4 → w ≡ word_in rows (cells_of n Corner1)) → (n % 8 ≡ 6 → w ≡ word_in rows (cells_of n Corner2)) →
+    HasSlots n rows news
 corner_beside n rows joined news b w within room is fits e small anchors first second = record {
   anchors = λ r l.
       let ne : r ≢ largest_mapping = omega arith in
-      subst (λ (x : ℕ). IsJoined n rows r x) (sym (ap (λ (xs : List ℕ). get_or xs r 0) is ∙ get_or-set_other joined largest_mapping r b 0 ne)) (anchors r l);
+      subst (λ (x : ℕ). IsJoined n rows r x) (sym (ap (λ (xs : List ℕ). get_or xs r 0) is
+      ∙ get_or-set_other joined largest_mapping r b 0 ne)) (anchors r l);
   corner1 = λ h. corner ∙ first h;
   corner2 = λ h. corner ∙ second h;
 }

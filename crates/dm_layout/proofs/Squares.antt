@@ -162,7 +162,9 @@ laid_alike grid words row same = (laid_in_modules grid words, laid_in_grid grid 
 -- A grid holds only one list of codewords.
 pub one_list : (grid : GridView) (a b : WordsView) → Holds grid a → Holds grid b → a ≡ b
 one_list grid a b ha hb =
-    let one = one_held (symbol_modules grid) (symbol_words a) (symbol_words b) (modules_hold grid a ha) (modules_hold grid b hb) in
+    let one =
+    one_held (symbol_modules grid) (symbol_words a) (symbol_words b) (modules_hold grid a ha)
+    (modules_hold grid b hb) in
     same_lists a.size b.size a.list b.list (ha.same_size ∙ sym hb.same_size)
     (ap (λ (w : codewords.WordsView). w.list) one)
 
@@ -170,8 +172,11 @@ one_list grid a b ha hb =
 pub every_grid_holds : (grid : GridView) → IsGrid grid → (words : WordsView) × Holds grid words
 every_grid_holds grid g =
     let some = some_held (symbol_modules grid) (is_modules grid g) in
-    let words : WordsView = record { size = grid.size; list = some.0.list } in
-    (words, grid_holds grid words g.row refl (subst (holding.Holds (symbol_modules grid)) (same_view some.0 some.1.same_size) some.1))
+    let words : WordsView = record { size = grid.size; list = some.0.list } in (
+      words,
+      grid_holds grid words g.row refl (subst (holding.Holds (symbol_modules grid))
+          (same_view some.0 some.1.same_size) some.1),
+    )
   where
     view : sizes.SizeEntry → List ℕ → codewords.WordsView
     view size list = record { size = size; list = list }
@@ -179,13 +184,16 @@ every_grid_holds grid g =
     same_list : (s t : sizes.SizeEntry) (xs : List ℕ) → s ≡ t → view s xs ≡ view t xs
     same_list s t xs e = cc
 
-    same_view : (w : codewords.WordsView) → w.size ≡ symbol_size grid.size → w ≡ symbol_words (record { size = grid.size; list = w.list })
+    same_view : (w : codewords.WordsView) → w.size ≡ symbol_size grid.size →
+        w ≡ symbol_words (record { size = grid.size; list = w.list })
     same_view w e = same_list w.size (symbol_size grid.size) w.list e
 
 -- Codewords are laid in only one grid.
 pub one_laid : (words : WordsView) (g k : GridView) → IsLaid words g → IsLaid words k → g ≡ k
 one_laid words g k a b =
-    let one = one_laid_of (symbol_words words) (symbol_modules g) (symbol_modules k) (laid_in_modules g words a) (laid_in_modules k words b) in
+    let one =
+    one_laid_of (symbol_words words) (symbol_modules g) (symbol_modules k) (laid_in_modules g words a)
+    (laid_in_modules k words b) in
     same_parts g.size k.size g.rows k.rows (sym a.holds.same_size ∙ b.holds.same_size)
     (ap (λ (m : ModulesView). m.rows) one)
 
@@ -193,8 +201,11 @@ one_laid words g k a b =
 pub laid_somewhere : (words : WordsView) → IsWords words → (grid : GridView) × IsLaid words grid
 laid_somewhere words w =
     let some = some_laid (symbol_words words) (are_codewords words w) in
-    let grid : GridView = record { size = words.size; rows = some.0.rows } in
-    (grid, laid_in_grid grid words w.row refl (subst (holding.IsLaid (symbol_words words)) (same_view some.0 (sym some.1.holds.same_size)) some.1))
+    let grid : GridView = record { size = words.size; rows = some.0.rows } in (
+      grid,
+      laid_in_grid grid words w.row refl (subst (holding.IsLaid (symbol_words words))
+          (same_view some.0 (sym some.1.holds.same_size)) some.1),
+    )
   where
     view : sizes.SizeEntry → List (List Bool) → ModulesView
     view size rows = record { size = size; rows = rows }
@@ -202,5 +213,6 @@ laid_somewhere words w =
     same_rows : (s t : sizes.SizeEntry) (xs : List (List Bool)) → s ≡ t → view s xs ≡ view t xs
     same_rows s t xs e = cc
 
-    same_view : (m : ModulesView) → m.size ≡ symbol_size words.size → m ≡ symbol_modules (record { size = words.size; rows = m.rows })
+    same_view : (m : ModulesView) → m.size ≡ symbol_size words.size →
+        m ≡ symbol_modules (record { size = words.size; rows = m.rows })
     same_view m e = same_rows m.size (symbol_size words.size) m.rows e

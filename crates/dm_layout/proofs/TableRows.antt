@@ -1,12 +1,15 @@
 -- What holds for each row of the size table.
-use Rattle.std.proofs.Common.{◌≡◌, ℕ, ◌+◌, ◌*◌, ◌%◌, ◌<◌, ◌≤◌, Bool, true, false, cond, ◌&&◌, nat_eq, nat_le, List, [], ◌∷◌, map, Option, Some, None, refl, sym, ◌∙◌, ap, subst, arith}
+use Rattle.std.proofs.Common.{◌≡◌, ℕ, ◌+◌, ◌*◌, ◌%◌, ◌<◌, ◌≤◌, Bool, true, false, cond, ◌&&◌, nat_eq, nat_le, List, []}
+use Rattle.std.proofs.Common.{◌∷◌, map, Option, Some, None, refl, sym, ◌∙◌, ap, subst, arith}
 use Rattle.std.specs.Prelude.{All, IfSome, find}
 use Rattle.std.specs.List.{AllByRecursion, list_all, list_any}
 use Rattle.std.proofs.lemmas.Bool.{and_parts, eqb-true, leb-true, leb-false}
 use Rattle.std.proofs.lemmas.List.Elements.{recursion_from_All, All-from_recursion}
 use Rattle.std.proofs.lemmas.List.Sums.{AllPass-from_list_all}
 use Rattle.dm_modules.proofs.Exported.{at_found, found_passes, greatest_of}
-use Rattle.dm_layout.specs.Sizes.{SizeRow, size_table, IsRow, row_with_side, row_for_words, regions_across, block_data, block_check, block_length, codeword_count, largest_side, largest_mapping, most_across, most_codewords, longest_block, IsGreatest}
+use Rattle.dm_layout.specs.Sizes.{SizeRow, size_table, IsRow, row_with_side, row_for_words, regions_across, block_data}
+use Rattle.dm_layout.specs.Sizes.{block_check, block_length, codeword_count, largest_side, largest_mapping, most_across}
+use Rattle.dm_layout.specs.Sizes.{most_codewords, longest_block, IsGreatest}
 
 -- The size that is found for a side has that side and stands in the table.
 pub found_row : (side : ℕ) (s : SizeRow) → row_with_side side ≡ Some s → (s.side ≡ side) × IsRow s
@@ -23,15 +26,18 @@ passed_at_row test s h row =
     (recursion_from_All (λ r. test r ≡ true) size_table (AllPass-from_list_all test size_table h)) row
 
 -- Two numbers that are the same in each row of the table are the same for a size that stands in it.
-pub same_at_row : (x y : SizeRow → ℕ) (s : SizeRow) → IsRow s → list_all (λ r. nat_eq (x r) (y r)) size_table ≡ true → x s ≡ y s
+pub same_at_row : (x y : SizeRow → ℕ) (s : SizeRow) → IsRow s → list_all (λ r. nat_eq (x r) (y r)) size_table ≡ true →
+    x s ≡ y s
 same_at_row x y s row h = eqb-true _ _ (passed_at_row (λ r. nat_eq (x r) (y r)) s h row)
 
 -- A number that is at most another one in each row of the table is so for a size that stands in it.
-most_at_row : (x y : SizeRow → ℕ) (s : SizeRow) → IsRow s → list_all (λ r. nat_le (x r) (y r)) size_table ≡ true → x s ≤ y s
+most_at_row : (x y : SizeRow → ℕ) (s : SizeRow) → IsRow s → list_all (λ r. nat_le (x r) (y r)) size_table ≡ true →
+    x s ≤ y s
 most_at_row x y s row h = leb-true _ _ (passed_at_row (λ r. nat_le (x r) (y r)) s h row)
 
 -- Two values that the checker finds to be the same in each row of a table are the same in each of its rows.
-pub same_in_each : {X Y : Type 0} (f g : X → Y) (rows : List X) → map f rows ≡ map g rows → AllByRecursion (λ r. f r ≡ g r) rows
+pub same_in_each : {X Y : Type 0} (f g : X → Y) (rows : List X) → map f rows ≡ map g rows →
+    AllByRecursion (λ r. f r ≡ g r) rows
 same_in_each f g [] h = tt
 same_in_each f g (r ∷ rows) h =
     let first : f r ≡ g r = cc in
@@ -79,7 +85,8 @@ row_facts s h = record {
 
 -- The regions that stand side by side are together as wide as the mapping square.
 pub across_covers : (s : SizeRow) (a d : ℕ) → IsRow s → a ≡ regions_across s → d ≡ s.region_side → a * d ≡ s.mapping
-across_covers s a d row ea ed = ap (λ (i : ℕ). i * d) ea ∙ ap (λ (i : ℕ). regions_across s * i) ed ∙ sym (row_facts s row).mapping
+across_covers s a d row ea ed =
+    ap (λ (i : ℕ). i * d) ea ∙ ap (λ (i : ℕ). regions_across s * i) ed ∙ sym (row_facts s row).mapping
 
 -- A side that the table has is at most the largest side.
 pub side_fits : (side : ℕ) (s : SizeRow) → row_with_side side ≡ Some s → side ≤ largest_side
@@ -104,27 +111,32 @@ rises_test (r ∷ rows) h =
     let b = and_parts (list_all (λ (s : SizeRow). nat_le r.side s.side) rows) (rises rows) h in
     (bounded r rows b.0, rises_test rows b.1)
   where
-    bounded : (r : SizeRow) (rows : List SizeRow) → list_all (λ (s : SizeRow). nat_le r.side s.side) rows ≡ true → AllByRecursion (λ (s : SizeRow). r.side ≤ s.side) rows
+    bounded : (r : SizeRow) (rows : List SizeRow) → list_all (λ (s : SizeRow). nat_le r.side s.side) rows ≡ true →
+        AllByRecursion (λ (s : SizeRow). r.side ≤ s.side) rows
     bounded r [] h = tt
     bounded r (s ∷ rest) h =
         let b = and_parts (nat_le r.side s.side) (list_all (λ (q : SizeRow). nat_le r.side q.side) rest) h in
         (leb-true _ _ b.0, bounded r rest b.1)
 
 -- The first row with enough data codewords is the smallest with enough of them.
-found_first : (count : ℕ) (rows : List SizeRow) (size : SizeRow) → Rises rows → find (λ row. nat_le count row.data_count) rows ≡ Some size →
+found_first : (count : ℕ) (rows : List SizeRow) (size : SizeRow) → Rises rows →
+    find (λ row. nat_le count row.data_count) rows ≡ Some size →
     AllByRecursion (λ (row : SizeRow). count ≤ row.data_count → size.side ≤ row.side) rows
 found_first count [] size h e = tt
 found_first count (r ∷ rows) size h e = first_case (nat_le count r.data_count) refl e (found_first count rows size h.1)
   where
-    weaker : (rest : List SizeRow) → AllByRecursion (λ (s : SizeRow). r.side ≤ s.side) rest → r ≡ size → AllByRecursion (λ (row : SizeRow). count ≤ row.data_count → size.side ≤ row.side) rest
+    weaker : (rest : List SizeRow) → AllByRecursion (λ (s : SizeRow). r.side ≤ s.side) rest → r ≡ size →
+        AllByRecursion (λ (row : SizeRow). count ≤ row.data_count → size.side ≤ row.side) rest
     weaker [] h e = tt
     weaker (s ∷ rest) h e = ((λ _. subst (λ (q : SizeRow). q.side ≤ s.side) e h.0), weaker rest h.1 e)
 
     too_large : r.data_count < count → count ≤ r.data_count → ⊥
     too_large a b = omega arith
 
-    first_case : (b : Bool) → nat_le count r.data_count ≡ b → cond b (Some r) (find (λ row. nat_le count row.data_count) rows) ≡ Some size →
-        (find (λ row. nat_le count row.data_count) rows ≡ Some size → AllByRecursion (λ (row : SizeRow). count ≤ row.data_count → size.side ≤ row.side) rows) →
+    first_case : (b : Bool) → nat_le count r.data_count ≡ b →
+        cond b (Some r) (find (λ row. nat_le count row.data_count) rows) ≡ Some size →
+        (find (λ row. nat_le count row.data_count) rows ≡ Some size →
+        AllByRecursion (λ (row : SizeRow). count ≤ row.data_count → size.side ≤ row.side) rows) →
         AllByRecursion (λ (row : SizeRow). count ≤ row.data_count → size.side ≤ row.side) (r ∷ rows)
     first_case true t e later =
         let g : r ≡ size = cc in
@@ -137,7 +149,8 @@ unfolding size_table
 table_rises = refl
 
 -- The size that `row_for_words` gives is the smallest with enough data codewords.
-pub smallest_for_words : (count : ℕ) (o : Option SizeRow) → o ≡ row_for_words count → IfSome o (λ size. All (λ row. count ≤ row.data_count → size.side ≤ row.side) size_table)
+pub smallest_for_words : (count : ℕ) (o : Option SizeRow) → o ≡ row_for_words count →
+    IfSome o (λ size. All (λ row. count ≤ row.data_count → size.side ≤ row.side) size_table)
 smallest_for_words count None e = tt
 smallest_for_words count (Some size) e =
     All-from_recursion (λ row. count ≤ row.data_count → size.side ≤ row.side) size_table

@@ -1,5 +1,5 @@
--- The tables of slots, computed for the mapping side of each size: they are those of the shapes in order, and each cell of a shape lies in the square.
--- All sizes together take 2 s, and the check that computes them 0.9 GB.
+-- The tables of slots, computed for the mapping side of each size: they are those of the shapes in order, and each cell
+-- of a shape lies in the square. All sizes together take 2 s, and the check that computes them 0.9 GB.
 use Rattle.std.proofs.Common.{◌≡◌, true, ◌&&◌, refl, map}
 use Rattle.std.specs.Prelude.{ℕ, Bool, nat_eq}
 use Rattle.std.specs.List.{list_all}

@@ -1,5 +1,7 @@
 -- Rows of the mapping square that are widened.
-use Rattle.std.proofs.Common.{◌≡◌, ◌≢◌, ◌⊎◌, inl, inr, ℕ, ◌+◌, ◌-◌, ◌*◌, ◌/◌, ◌%◌, ◌^◌, ◌<◌, ◌≤◌, Bool, true, false, ◌&&◌, ◌||◌, nat_eq, nat_le, nat_lt, List, length, get_or, set, refl, sym, ◌∙◌, ap, arith, subst, get_or-set_other, get_or-set_same}
+use Rattle.std.proofs.Common.{◌≡◌, ◌≢◌, ◌⊎◌, inl, inr, ℕ, ◌+◌, ◌-◌, ◌*◌, ◌/◌, ◌%◌, ◌^◌, ◌<◌, ◌≤◌, Bool, true, false}
+use Rattle.std.proofs.Common.{◌&&◌, ◌||◌, nat_eq, nat_le, nat_lt, List, length, get_or, set, refl, sym, ◌∙◌, ap, arith}
+use Rattle.std.proofs.Common.{subst, get_or-set_other, get_or-set_same}
 use Rattle.std.specs.Int.RustNames.{bit_or}
 use Rattle.std.proofs.Math.Bool.{or-false}
 use Rattle.std.proofs.Math.Pow.{pow_pos}
@@ -17,7 +19,8 @@ use Rattle.dm_layout.proofs.OuterRows.{or_dark}
 
 -- When a row is laid over another one, the cells are dark that were, and
 -- those of that row that are dark in the one laid over it.
-pub put_over : (rows : List ℕ) (q x r c : ℕ) → q < length rows → look_in (set rows q (bit_or (get_or rows q 0) x)) r c ≡ (look_in rows r c || (nat_eq r q && is_dark_in x c))
+pub put_over : (rows : List ℕ) (q x r c : ℕ) → q < length rows →
+    look_in (set rows q (bit_or (get_or rows q 0) x)) r c ≡ (look_in rows r c || (nat_eq r q && is_dark_in x c))
 put_over rows q x r c l = by_row (nat_eq r q) refl
   where
     y : ℕ
@@ -26,9 +29,12 @@ put_over rows q x r c l = by_row (nat_eq r q) refl
     by_row : (t : Bool) → nat_eq r q ≡ t → look_in (set rows q y) r c ≡ (look_in rows r c || (t && is_dark_in x c))
     by_row true e =
         let er = eqb-true r q e in
-        ap (λ (i : ℕ). look_in (set rows q y) i c) er ∙ ap (λ (i : ℕ). is_dark_in i c) (get_or-set_same rows q y 0 l) ∙ or_dark (get_or rows q 0) x c
+        ap (λ (i : ℕ). look_in (set rows q y) i c) er ∙ ap (λ (i : ℕ). is_dark_in i c) (get_or-set_same rows q y 0 l)
+        ∙ or_dark (get_or rows q 0) x c
         ∙ ap (λ (i : ℕ). look_in rows i c || is_dark_in x c) (sym er)
-    by_row false e = ap (λ (i : ℕ). is_dark_in i c) (get_or-set_other rows q r y 0 (eqb-false r q e)) ∙ sym (or-false (look_in rows r c))
+    by_row false e =
+        ap (λ (i : ℕ). is_dark_in i c) (get_or-set_other rows q r y 0 (eqb-false r q e))
+        ∙ sym (or-false (look_in rows r c))
 
 -- ---- bits of rows that are moved
 
@@ -37,7 +43,8 @@ pub bit_up : (x s c : ℕ) → is_dark_in (x * 2 ^ s) (s + c) ≡ is_dark_in x c
 bit_up x s c =
     let z : x * 2 ^ s ≡ x * 2 ^ s + 0 = omega arith in
     let b : s + c - s ≡ c = omega arith in
-    ap (λ (i : ℕ). is_dark_in i (s + c)) z ∙ ap (λ (i : ℕ). nat_eq i 1) (bit_at_cat_high x s 0 (s + c) (pow_pos s) (omega arith)) ∙ ap (is_dark_in x) b
+    ap (λ (i : ℕ). is_dark_in i (s + c)) z ∙ ap (λ (i : ℕ). nat_eq i 1)
+    (bit_at_cat_high x s 0 (s + c) (pow_pos s) (omega arith)) ∙ ap (is_dark_in x) b
 
 -- To the right of a row that is moved to the left there is nothing.
 pub none_up : (x s c : ℕ) → c < s → is_dark_in (x * 2 ^ s) c ≡ false
@@ -52,11 +59,13 @@ none_up x s c l =
 -- The lowest n bits of a number are its own.
 pub low_bit : (x n c : ℕ) → c < n → is_dark_in (x % 2 ^ n) c ≡ is_dark_in x c
 low_bit x n c l =
-    ap (λ (i : ℕ). nat_eq i 1) (sym (bit_at_cat_low (x / 2 ^ n) n (x % 2 ^ n) c l)) ∙ ap (λ (i : ℕ). is_dark_in i c) (div-add-mod' x (2 ^ n))
+    ap (λ (i : ℕ). nat_eq i 1) (sym (bit_at_cat_low (x / 2 ^ n) n (x % 2 ^ n) c l))
+    ∙ ap (λ (i : ℕ). is_dark_in i c) (div-add-mod' x (2 ^ n))
 
 -- A row of some width that is moved to the left by s columns and then to
 -- the right by 4 has its bit c + 4 - s at column c.
-pub moved_both : (width x s c : ℕ) → c + 4 < width → s ≤ c + 4 → is_dark_in (x * 2 ^ s % 2 ^ width / 16) c ≡ is_dark_in x (c + 4 - s)
+pub moved_both : (width x s c : ℕ) → c + 4 < width → s ≤ c + 4 →
+    is_dark_in (x * 2 ^ s % 2 ^ width / 16) c ≡ is_dark_in x (c + 4 - s)
 moved_both width x s c l h =
     let e : 4 + c ≡ s + (c + 4 - s) = omega arith in
     ap (λ (i : ℕ). nat_eq i 1) (moved_bit (x * 2 ^ s % 2 ^ width) 4 c)
@@ -67,19 +76,22 @@ moved_both width x s c l h =
 -- ---- the rows of the square
 
 -- What holds of a row that is put among others, and of these others, holds of all rows then.
-pub look_set : (P : Bool → Type 0) (rows : List ℕ) (q y r c : ℕ) → q < length rows → (r ≡ q → P (is_dark_in y c)) → (r ≢ q → P (look_in rows r c)) → P (look_in (set rows q y) r c)
+pub look_set : (P : Bool → Type 0) (rows : List ℕ) (q y r c : ℕ) → q < length rows → (r ≡ q → P (is_dark_in y c)) →
+    (r ≢ q → P (look_in rows r c)) → P (look_in (set rows q y) r c)
 look_set P rows q y r c l here other = by_row (nat_eq r q) refl
   where
     by_row : (t : Bool) → nat_eq r q ≡ t → P (look_in (set rows q y) r c)
     by_row true e =
         let er = eqb-true r q e in
-        subst P (sym (ap (λ (i : ℕ). look_in (set rows q y) i c) er ∙ ap (λ (i : ℕ). is_dark_in i c) (get_or-set_same rows q y 0 l))) (here er)
+        subst P (sym (ap (λ (i : ℕ). look_in (set rows q y) i c) er
+        ∙ ap (λ (i : ℕ). is_dark_in i c) (get_or-set_same rows q y 0 l))) (here er)
     by_row false e =
         let ne = eqb-false r q e in
         subst P (sym (ap (λ (i : ℕ). is_dark_in i c) (get_or-set_other rows q r y 0 ne))) (other ne)
 
 -- A row of a region lies in the symbol behind two borders for each region before it, and one more.
-pub line_here : (row region d until : ℕ) → until ≡ (region + 1) * d → region * d ≤ row → row < until → row + 2 * region + 1 ≡ symbol_line d row
+pub line_here : (row region d until : ℕ) → until ≡ (region + 1) * d → region * d ≤ row → row < until →
+    row + 2 * region + 1 ≡ symbol_line d row
 line_here row region d until e lo hi =
     let j : ℕ = row - region * d in
     let s : (region + 1) * d ≡ region * d + d = omega arith in
@@ -89,7 +101,8 @@ line_here row region d until e lo hi =
     omega (arith, q)
 
 -- Where nothing is dark, none of the rows of the square is there yet.
-pub moved_none : (n row : ℕ) (look : ℕ → ℕ → Bool) (rows : List ℕ) → row ≡ 0 → ((r c : ℕ) → look_in rows r c ≡ false) → IsMoved n row look rows
+pub moved_none : (n row : ℕ) (look : ℕ → ℕ → Bool) (rows : List ℕ) → row ≡ 0 → ((r c : ℕ) → look_in rows r c ≡ false) →
+    IsMoved n row look rows
 moved_none n row look rows e light = record {
   inside = λ r c l lc. absurd (omega arith);
   left = λ r c l. light r c;
@@ -97,7 +110,9 @@ moved_none n row look rows e light = record {
 }
 
 -- When one more row of the square is put, the rows above the next are there.
-pub moved_more : (n row x : ℕ) (look : ℕ → ℕ → Bool) (rows news : List ℕ) → row + 2 < length rows → x < 2 ^ n → ((c : ℕ) → c < n → is_dark_in x c ≡ look row c) → news ≡ set rows (row + 2) (x * 16) → IsMoved n row look rows → IsMoved n (row + 1) look news
+pub moved_more : (n row x : ℕ) (look : ℕ → ℕ → Bool) (rows news : List ℕ) → row + 2 < length rows → x < 2 ^ n →
+    ((c : ℕ) → c < n → is_dark_in x c ≡ look row c) → news ≡ set rows (row + 2) (x * 16) → IsMoved n row look rows →
+    IsMoved n (row + 1) look news
 moved_more n row x look rows news l narrow cells is moved = subst (IsMoved n (row + 1) look) (sym is) (record {
   inside = λ r c lr lc.
       look_set (λ b. b ≡ look r c) rows (row + 2) (x * 16) (r + 2) (c + 4) l
@@ -106,9 +121,12 @@ moved_more n row x look rows news l narrow cells is moved = subst (IsMoved n (ro
       let four : c + 4 ≡ 4 + c = omega arith in
       ap (is_dark_in (x * 16)) four ∙ bit_up x 4 c ∙ cells c lc ∙ ap (λ (i : ℕ). look i c) er)
       (λ ne. moved.inside r c (omega arith) lc);
-  left = λ r c lc. look_set (λ b. b ≡ false) rows (row + 2) (x * 16) r c l (λ e. none_up x 4 c lc) (λ ne. moved.left r c lc);
+  left =
+      λ r c lc. look_set (λ b. b ≡ false) rows (row + 2) (x * 16) r c l (λ e. none_up x 4 c lc)
+      (λ ne. moved.left r c lc);
   right = λ r c lc.
-      look_set (λ b. b ≡ false) rows (row + 2) (x * 16) r c l (λ e. ap (λ (i : ℕ). nat_eq i 1) (bit_at_above (x * 16) (n + 4) c small lc)) (λ ne. moved.right r c lc);
+      look_set (λ b. b ≡ false) rows (row + 2) (x * 16) r c l
+      (λ e. ap (λ (i : ℕ). nat_eq i 1) (bit_at_above (x * 16) (n + 4) c small lc)) (λ ne. moved.right r c lc);
 })
   where
     small : x * 16 < 2 ^ (n + 4)
@@ -118,12 +136,15 @@ moved_more n row x look rows news l narrow cells is moved = subst (IsMoved n (ro
 
 -- What is wrapped to the left of the rows above `until`, with what was there before.
 abbrev pub wrapped_left : List ℕ → ℕ → ℕ → ℕ → ℕ → ℕ → Bool
-wrapped_left rows n shift until r c = look_in rows r c || ((nat_le 2 r && nat_lt r until) && look_in rows (r + 4 - shift) (n + c))
+wrapped_left rows n shift until r c =
+    look_in rows r c || ((nat_le 2 r && nat_lt r until) && look_in rows (r + 4 - shift) (n + c))
 
 -- From column 4 on nothing is added by wrapping.
-nothing_far : (rows : List ℕ) (n shift until r c : ℕ) → ((r c : ℕ) → n + 4 ≤ c → look_in rows r c ≡ false) → 4 ≤ c → wrapped_left rows n shift until r c ≡ look_in rows r c
+nothing_far : (rows : List ℕ) (n shift until r c : ℕ) → ((r c : ℕ) → n + 4 ≤ c → look_in rows r c ≡ false) → 4 ≤ c →
+    wrapped_left rows n shift until r c ≡ look_in rows r c
 nothing_far rows n shift until r c width l =
-    ap (λ (b : Bool). look_in rows r c || ((nat_le 2 r && nat_lt r until) && b)) (width (r + 4 - shift) (n + c) (omega arith)) ∙ nothing (look_in rows r c) (nat_le 2 r && nat_lt r until)
+    ap (λ (b : Bool). look_in rows r c || ((nat_le 2 r && nat_lt r until) && b))
+    (width (r + 4 - shift) (n + c) (omega arith)) ∙ nothing (look_in rows r c) (nat_le 2 r && nat_lt r until)
   where
     nothing : (a b : Bool) → (a || (b && false)) ≡ a
     nothing true b = refl
@@ -131,24 +152,31 @@ nothing_far rows n shift until r c width l =
     nothing false false = refl
 
 -- When one more row is wrapped, the rows above the next are wrapped.
-pub wrap_more : (olds rows : List ℕ) (n shift row : ℕ) → 8 ≤ n → shift ≤ 6 → row + 2 < length rows → ((r c : ℕ) → n + 4 ≤ c → look_in olds r c ≡ false) →
+pub wrap_more : (olds rows : List ℕ) (n shift row : ℕ) → 8 ≤ n → shift ≤ 6 → row + 2 < length rows →
+    ((r c : ℕ) → n + 4 ≤ c → look_in olds r c ≡ false) →
     ((r c : ℕ) → look_in rows r c ≡ wrapped_left olds n shift (row + 2) r c) →
-    (r c : ℕ) → look_in (set rows (row + 2) (bit_or (get_or rows (row + 2) 0) (get_or rows (row + 6 - shift) 0 / 2 ^ n))) r c ≡ wrapped_left olds n shift (row + 1 + 2) r c
+    (r c : ℕ) →
+    look_in (set rows (row + 2) (bit_or (get_or rows (row + 2) 0) (get_or rows (row + 6 - shift) 0 / 2 ^ n))) r c ≡
+    wrapped_left olds n shift (row + 1 + 2) r c
 wrap_more olds rows n shift row least small inside width so_far r c =
     put_over rows (row + 2) (get_or rows (row + 6 - shift) 0 / 2 ^ n) r c inside
-    ∙ ap (λ (b : Bool). b || (nat_eq r (row + 2) && is_dark_in (get_or rows (row + 6 - shift) 0 / 2 ^ n) c)) (so_far r c)
+    ∙ ap (λ (b : Bool). b || (nat_eq r (row + 2) && is_dark_in (get_or rows (row + 6 - shift) 0 / 2 ^ n) c))
+    (so_far r c)
     ∙ ap (λ (b : Bool). wrapped_left olds n shift (row + 2) r c || (nat_eq r (row + 2) && b)) from
     ∙ by_row (nat_eq r (row + 2)) refl
   where
     from : is_dark_in (get_or rows (row + 6 - shift) 0 / 2 ^ n) c ≡ look_in olds (row + 6 - shift) (n + c)
     from =
-        ap (λ (i : ℕ). nat_eq i 1) (moved_bit (get_or rows (row + 6 - shift) 0) n c) ∙ so_far (row + 6 - shift) (n + c) ∙ nothing_far olds n shift (row + 2) (row + 6 - shift) (n + c) width (omega arith)
+        ap (λ (i : ℕ). nat_eq i 1) (moved_bit (get_or rows (row + 6 - shift) 0) n c) ∙ so_far (row + 6 - shift) (n + c)
+        ∙ nothing_far olds n shift (row + 2) (row + 6 - shift) (n + c) width (omega arith)
 
     here : (a b : Bool) → ((a || (true && false) && b) || (true && b)) ≡ (a || ((true && true) && b))
     here true b = refl
     here false b = refl
 
-    by_row : (t : Bool) → nat_eq r (row + 2) ≡ t → (wrapped_left olds n shift (row + 2) r c || (t && look_in olds (row + 6 - shift) (n + c))) ≡ wrapped_left olds n shift (row + 1 + 2) r c
+    by_row : (t : Bool) → nat_eq r (row + 2) ≡ t →
+        (wrapped_left olds n shift (row + 2) r c || (t && look_in olds (row + 6 - shift) (n + c))) ≡
+        wrapped_left olds n shift (row + 1 + 2) r c
     by_row true e =
         let er = eqb-true r (row + 2) e in
         let two = le-leb 2 r (omega (arith, er)) in
@@ -163,17 +191,24 @@ wrap_more olds rows n shift row least small inside width so_far r c =
         ∙ ap (λ (t : Bool). look_in olds r c || ((true && t) && b)) (sym yes)
         ∙ ap (λ (t : Bool). look_in olds r c || ((t && nat_lt r (row + 1 + 2)) && b)) (sym two)
     by_row false e =
-        or-false (wrapped_left olds n shift (row + 2) r c) ∙ ap (λ (t : Bool). look_in olds r c || ((nat_le 2 r && t) && look_in olds (r + 4 - shift) (n + c))) (same (cases_lt r (row + 2)))
+        or-false (wrapped_left olds n shift (row + 2) r c)
+        ∙ ap (λ (t : Bool). look_in olds r c || ((nat_le 2 r && t) && look_in olds (r + 4 - shift) (n + c)))
+        (same (cases_lt r (row + 2)))
       where
         same : (r < row + 2) ⊎ (row + 2 ≤ r) → nat_lt r (row + 2) ≡ nat_lt r (row + 1 + 2)
         same (inl l) = lt-ltb r (row + 2) l ∙ sym (lt-ltb r (row + 1 + 2) (omega arith))
-        same (inr l) = le-ltb r (row + 2) l ∙ sym (le-ltb r (row + 1 + 2) (let ne : r ≢ row + 2 = eqb-false r (row + 2) e in omega arith))
+        same (inr l) =
+            le-ltb r (row + 2) l ∙ sym (le-ltb r (row + 1 + 2) (let ne : r ≢ row + 2 = eqb-false r (row + 2) e in
+            omega arith))
 
 -- ---- the rows above the square
 
 -- The two rows above the square are the last rows of the square, moved to where they wrap.
-pub row_above : (width : ℕ) (rows : List ℕ) (n shift r c : ℕ) → 8 ≤ n → 2 < length rows → r < 2 → c + 4 < width → shift ≤ c + 4 →
-    look_in (set (set rows 0 (get_or rows n 0 * 2 ^ shift % 2 ^ width / 16)) 1 (get_or (set rows 0 (get_or rows n 0 * 2 ^ shift % 2 ^ width / 16)) (n + 1) 0 * 2 ^ shift % 2 ^ width / 16)) r c ≡ look_in rows (r + n) (c + 4 - shift)
+pub row_above : (width : ℕ) (rows : List ℕ) (n shift r c : ℕ) → 8 ≤ n → 2 < length rows → r < 2 → c + 4 < width →
+    shift ≤ c + 4 →
+    look_in (set (set rows 0 (get_or rows n 0 * 2 ^ shift % 2 ^ width / 16)) 1
+    (get_or (set rows 0 (get_or rows n 0 * 2 ^ shift % 2 ^ width / 16)) (n + 1) 0 * 2 ^ shift % 2 ^ width / 16)) r
+    c ≡ look_in rows (r + n) (c + 4 - shift)
 row_above width rows n shift r c least long l lc h = by_row (nat_eq r 0) refl
   where
     x : ℕ
@@ -191,7 +226,8 @@ row_above width rows n shift r c least long l lc h = by_row (nat_eq r 0) refl
         let ne : 0 ≢ 1 = omega arith in
         let s : n ≡ r + n = omega (arith, er) in
         ap (λ (i : ℕ). look_in (set (set rows 0 x) 1 y) i c) er
-        ∙ ap (λ (i : ℕ). is_dark_in i c) (get_or-set_other (set rows 0 x) 1 0 y 0 ne ∙ get_or-set_same rows 0 x 0 (omega arith))
+        ∙ ap (λ (i : ℕ). is_dark_in i c) (get_or-set_other (set rows 0 x) 1 0 y 0 ne
+        ∙ get_or-set_same rows 0 x 0 (omega arith))
         ∙ moved_both width (get_or rows n 0) shift c lc h
         ∙ ap (λ (i : ℕ). look_in rows i (c + 4 - shift)) s
     by_row false e =
@@ -210,7 +246,8 @@ row_above width rows n shift r c least long l lc h = by_row (nat_eq r 0) refl
 -- Rows with the columns to their left and the rows above them are the widened rows of the square.
 pub is_widened : (n : ℕ) (look : ℕ → ℕ → Bool) (olds mids news : List ℕ) → 8 ≤ n → IsMoved n n look olds →
     ((r c : ℕ) → look_in mids r c ≡ wrapped_left olds n ((n + 4) % 8) (n + 2) r c) →
-    ((r c : ℕ) → r < 2 → c < n + 4 → (n + 4) % 8 ≤ c + 4 → look_in news r c ≡ look_in mids (r + n) (c + 4 - (n + 4) % 8)) →
+    ((r c : ℕ) → r < 2 → c < n + 4 → (n + 4) % 8 ≤ c + 4 →
+    look_in news r c ≡ look_in mids (r + n) (c + 4 - (n + 4) % 8)) →
     ((r c : ℕ) → 2 ≤ r → look_in news r c ≡ look_in mids r c) → IsWidened n look news
 is_widened n look olds mids news least moved wrapped above others = record {
   inside = λ r c lr lc. others (r + 2) (c + 4) (omega arith) ∙ mid_inside r c lr lc;
@@ -218,22 +255,29 @@ is_widened n look olds mids news least moved wrapped above others = record {
   above = λ r c lr lc ls li.
       let e : c + 4 - (n + 4) % 8 ≡ c - (n + 4) % 8 + 4 = omega arith in
       let f : r + n ≡ r + n - 2 + 2 = omega arith in
-      above r c lr lc (omega arith) ∙ ap (look_in mids (r + n)) e ∙ ap (λ (i : ℕ). look_in mids i (c - (n + 4) % 8 + 4)) f ∙ mid_inside (r + n - 2) (c - (n + 4) % 8) (omega arith) li;
+      above r c lr lc (omega arith) ∙ ap (look_in mids (r + n)) e
+      ∙ ap (λ (i : ℕ). look_in mids i (c - (n + 4) % 8 + 4)) f
+      ∙ mid_inside (r + n - 2) (c - (n + 4) % 8) (omega arith) li;
   above_left = λ r c lr lc ls li.
       let e : n + (c + 4 - (n + 4) % 8) - 4 ≡ n + c - (n + 4) % 8 = omega arith in
       let m : (n + 4) % 8 < 8 = omega arith in
-      above r c lr (omega arith) ls ∙ mid_left (r + n) (c + 4 - (n + 4) % 8) (omega arith) (omega arith) (omega arith) (omega arith) li ∙ ap (look (r + n + 2 - (n + 4) % 8)) e;
+      above r c lr (omega arith) ls ∙ mid_left (r + n) (c + 4 - (n + 4) % 8) (omega arith) (omega arith) (omega arith)
+      (omega arith) li ∙ ap (look (r + n + 2 - (n + 4) % 8)) e;
 }
   where
     mid_inside : (r c : ℕ) → r < n → c < n → look_in mids (r + 2) (c + 4) ≡ look r c
-    mid_inside r c lr lc = wrapped (r + 2) (c + 4) ∙ nothing_far olds n ((n + 4) % 8) (n + 2) (r + 2) (c + 4) moved.right (omega arith) ∙ moved.inside r c lr lc
+    mid_inside r c lr lc =
+        wrapped (r + 2) (c + 4) ∙ nothing_far olds n ((n + 4) % 8) (n + 2) (r + 2) (c + 4) moved.right (omega arith)
+        ∙ moved.inside r c lr lc
 
-    mid_left : (r c : ℕ) → 2 ≤ r → r < n + 2 → c < 4 → (n + 4) % 8 ≤ r + 2 → r + 2 - (n + 4) % 8 < n → look_in mids r c ≡ look (r + 2 - (n + 4) % 8) (n + c - 4)
+    mid_left : (r c : ℕ) → 2 ≤ r → r < n + 2 → c < 4 → (n + 4) % 8 ≤ r + 2 → r + 2 - (n + 4) % 8 < n →
+        look_in mids r c ≡ look (r + 2 - (n + 4) % 8) (n + c - 4)
     mid_left r c lo hi lc ls li =
         let e : r + 4 - (n + 4) % 8 ≡ r + 2 - (n + 4) % 8 + 2 = omega arith in
         let f : n + c ≡ n + c - 4 + 4 = omega arith in
         wrapped r c
-        ∙ ap (λ (b : Bool). b || ((nat_le 2 r && nat_lt r (n + 2)) && look_in olds (r + 4 - (n + 4) % 8) (n + c))) (moved.left r c lc)
+        ∙ ap (λ (b : Bool). b || ((nat_le 2 r && nat_lt r (n + 2)) && look_in olds (r + 4 - (n + 4) % 8) (n + c)))
+        (moved.left r c lc)
         ∙ ap (λ (b : Bool). (b && nat_lt r (n + 2)) && look_in olds (r + 4 - (n + 4) % 8) (n + c)) (le-leb 2 r lo)
         ∙ ap (λ (b : Bool). b && look_in olds (r + 4 - (n + 4) % 8) (n + c)) (lt-ltb r (n + 2) hi)
         ∙ ap (λ (i : ℕ). look_in olds i (n + c)) e

@@ -18,15 +18,18 @@ pub data Kind : Type 0 where
 
 -- This cell of the mapping square lies at a row and a column of the symbol.
 abbrev pub LiesAt : SizeRow → Cell → ℕ → ℕ → Type 0
-LiesAt size cell row column = (symbol_line size.region_side cell.row ≡ row) × (symbol_line size.region_side cell.column ≡ column)
+LiesAt size cell row column =
+    (symbol_line size.region_side cell.row ≡ row) × (symbol_line size.region_side cell.column ≡ column)
 
--- The module at a row and a column is of this kind: a border's lies in a border, and any other one where a cell of the mapping square lies, one
--- of the fixed square or the place of the bit.
+-- The module at a row and a column is of this kind: a border's lies in a border, and any other one where a cell of the
+-- mapping square lies, one of the fixed square or the place of the bit.
 abbrev pub IsOfKind : SizeRow → ℕ → ℕ → Kind → Type 0
 IsOfKind size row column OfBorder = is_border size row column ≡ true
 IsOfKind size row column OfFixedSquare =
-    (cell : Cell) × (cell.row < size.mapping) × (cell.column < size.mapping) × (is_fixed size.mapping cell.row cell.column ≡ true) × LiesAt size cell row column
-IsOfKind size row column (Bit word bit) = (cell : Cell) × IsPlace size.mapping word bit cell × LiesAt size cell row column
+    (cell : Cell) × (cell.row < size.mapping) × (cell.column < size.mapping)
+    × (is_fixed size.mapping cell.row cell.column ≡ true) × LiesAt size cell row column
+IsOfKind size row column (Bit word bit) =
+    (cell : Cell) × IsPlace size.mapping word bit cell × LiesAt size cell row column
 
 -- ---- laws
 

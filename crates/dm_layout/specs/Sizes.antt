@@ -145,10 +145,12 @@ IsGreatest = symbols.IsGreatestOf size_table
 -- A square of the table of all symbols is this row.
 abbrev pub row_of_entry : SizeEntry → SizeRow
 row_of_entry size =
-    row_of size.rows (size.regions_down * size.regions_across) size.region_rows (symbols.mapping_rows size) size.data_count
+    row_of size.rows (size.regions_down * size.regions_across) size.region_rows (symbols.mapping_rows size)
+    size.data_count
     size.check_count size.blocks (symbols.limit size)
 
 -- The table has the squares of the table of all symbols whose sides are at most the largest, in the same order.
 abbrev pub TableIsOfSquares : Type 0
 TableIsOfSquares =
-    size_table ≡ map row_of_entry (filter (λ size. symbols.is_square size && nat_le size.rows largest_side) symbols.size_table)
+    size_table ≡
+    map row_of_entry (filter (λ size. symbols.is_square size && nat_le size.rows largest_side) symbols.size_table)

@@ -1,5 +1,5 @@
--- The codewords of a square, which are those of a symbol of its size, in the symbol's order (ISO/IEC 16022, symbol sizes
--- and capacities).
+-- The codewords of a square, which are those of a symbol of its size, in the symbol's order (ISO/IEC 16022, symbol
+-- sizes and capacities).
 use Rattle.std.specs.Prelude.{◌≡◌, ℕ, ◌<◌, List, length, All}
 use Rattle.dm_modules.specs.Words as symbols
 use Rattle.dm_layout.specs.Sizes.{SizeRow, IsRow, symbol_size, codeword_count}
@@ -13,7 +13,8 @@ pub record WordsView : Type 0 where
 abbrev pub symbol_words : WordsView → symbols.WordsView
 symbol_words words = record { size = symbol_size words.size; list = words.list }
 
--- Codewords are well formed if their size stands in the table of squares and they are well-formed codewords of a symbol.
+-- Codewords are well formed if their size stands in the table of squares and they are well-formed codewords of a
+-- symbol.
 pub record IsWords (words : WordsView) : Type 0 where
   pub row : IsRow words.size
   pub count : length words.list ≡ codeword_count words.size

@@ -1,5 +1,5 @@
--- Definitions that the contracts and the invariants of private functions and types cite, and the views and invariants of public types; no
--- contract of a public function and no law does.
+-- Definitions that the contracts and the invariants of private functions and types cite, and the views and invariants
+-- of public types; no contract of a public function and no law does.
 pub mod Keeping
 pub mod Walking
 pub mod Wrapped

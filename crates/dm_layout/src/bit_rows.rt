@@ -1,10 +1,11 @@
 //! Rows of bits as numbers, as wide and as many as a mapping square asks for.
 //!
-//! The codewords are lifted and laid by the same functions in two widths: 64 bits serve all mapping squares up to side 48, and
-//! 128 bits the larger ones. A small symbol thus pays neither for the rows nor for the columns of the largest; only its slots are
-//! those of the largest, and are all cleared.
+//! The codewords are lifted and laid by the same functions in two widths: 64 bits serve all mapping squares up to side
+//! 48, and 128 bits the larger ones. A small symbol thus pays neither for the rows nor for the columns of the largest;
+//! only its slots are those of the largest, and are all cleared.
 
-ghost use Rattle.std.specs.Prelude.{◌≡◌, ℕ, ◌+◌, ◌*◌, ◌/◌, ◌%◌, ◌^◌, ◌<◌, ◌≤◌, List, get_or, length, set, replicate, bit_or};
+ghost use Rattle.std.specs.Prelude.{◌≡◌, ℕ, ◌+◌, ◌*◌, ◌/◌, ◌%◌, ◌^◌, ◌<◌, ◌≤◌, List, get_or, length, set, replicate};
+ghost use Rattle.std.specs.Prelude.{bit_or};
 ghost use Rattle.std.specs.Int.{bit_at};
 ghost use Rattle.std.proofs.Common.{rules};
 ghost use Rattle.dm_layout.specs.Grid.{is_dark_in};
@@ -82,8 +83,8 @@ pub(crate) trait BitRows: Sized + Drop {
             ≡ set (numbers self.old) row
             (get_or (numbers self.old) from 0 * 2 ^ shift % 2 ^ width / 16) };
 
-    /// Gives the codewords of the anchors of a row, a byte each, from it and the two rows below: the anchors' shapes begin in
-    /// this column and every eighth after it.
+    /// Gives the codewords of the anchors of a row, a byte each, from it and the two rows below: the anchors' shapes
+    /// begin in this column and every eighth after it.
     fn join(&self, row: usize, column: u16) -> u128
         requires row { row + 2 < length (numbers self.now) }
         requires column { column ≤ 9 }

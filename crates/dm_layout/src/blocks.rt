@@ -9,8 +9,8 @@ use crate::size::LONGEST_BLOCK;
 use crate::words::Words;
 use arrayvec::ArrayVec;
 
-/// Gives the codewords of block `b`, counted from 0 and below the number of blocks B: those at the places j of the symbol with
-/// j mod B = b, in order. The block's data codewords come first.
+/// Gives the codewords of block `b`, counted from 0 and below the number of blocks B: those at the places j of the
+/// symbol with j mod B = b, in order. The block's data codewords come first.
 pub fn block(words: &Words, b: usize) -> ArrayVec<u8, LONGEST_BLOCK>
     requires { b < words.now.size.blocks }
     ensures value { result.items ≡ block_of words.now.size.blocks b words.now.list }

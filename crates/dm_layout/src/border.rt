@@ -1,4 +1,5 @@
-//! Borders, which are the finder pattern and the alignment patterns, and the fixed square: ISO/IEC 16022, symbol structure.
+//! Borders, which are the finder pattern and the alignment patterns, and the fixed square: ISO/IEC 16022, symbol
+//! structure.
 
 ghost use Rattle.std.specs.Prelude.{◌≡◌, ℕ, ◌+◌, ◌%◌, ◌^◌, ◌<◌, ◌≤◌, ◌&&◌, count_by};
 ghost use Rattle.std.specs.List.{range_with_len};
@@ -30,8 +31,9 @@ pub fn border_faults(grid: &Grid) -> u16
 /// A row in which the cells of even columns are dark.
 const EVEN_COLUMNS: u128 = 0x5555_5555_5555_5555_5555_5555_5555_5555;
 
-/// The border cells of a symbol's rows, as bits: the cell of column `c` is the bit of weight 2^c. Which row it is doesn't matter, but
-/// only its place inside the square of a region and its border, counted from 0 at the top; functions call this place `inner`.
+/// The border cells of a symbol's rows, as bits: the cell of column `c` is the bit of weight 2^c. Which row it is
+/// doesn't matter, but only its place inside the square of a region and its border, counted from 0 at the top;
+/// functions call this place `inner`.
 #[derive(Drop)]
 struct Borders {
     size: Size,
@@ -113,8 +115,8 @@ impl Borders {
         }
     }
 
-    /// Darkens those border cells of one row of regions that are to be dark. The squares of these regions begin at the row `first` of the
-    /// symbol, from which on all cells are light.
+    /// Darkens those border cells of one row of regions that are to be dark. The squares of these regions begin at the
+    /// row `first` of the symbol, from which on all cells are light.
     #[inline(always)]
     fn draw_squares(&self, grid: &mut Grid, first: u16)
         requires first { first % (self.now.region_side + 2) ≡ 0 }

@@ -12,8 +12,8 @@ pub use dm_place::Place;
 use dm_place::Shapes;
 use std::marker::Model;
 
-/// The places of all bits of all codewords of a symbol, by codeword and then by bit: an iterator, which ends
-/// after 8 places for each codeword (ISO/IEC 16022, module placement). In contracts it is the list of the places that are left.
+/// The places of all bits of all codewords of a symbol, by codeword and then by bit: an iterator, which ends after 8
+/// places for each codeword (ISO/IEC 16022, module placement). In contracts it is the list of the places that are left.
 #[derive(Drop)]
 pub struct Cells {
     shapes: Shapes,

@@ -1,6 +1,7 @@
 //! A grid: the square of cells of a symbol.
 
-ghost use Rattle.std.specs.Prelude.{◌≡◌, ℕ, nat_eq, ◌&&◌, ◌||◌, ◌≢◌, ◌*◌, ◌^◌, ◌<◌, ◌↔◌, All, IfOk, OnErr, OnOk, IsNone, length};
+ghost use Rattle.std.specs.Prelude.{◌≡◌, ℕ, nat_eq, ◌&&◌, ◌||◌, ◌≢◌, ◌*◌, ◌^◌, ◌<◌, ◌↔◌, All, IfOk, OnErr, OnOk};
+ghost use Rattle.std.specs.Prelude.{IsNone, length};
 ghost use Rattle.dm_layout.specs.Sizes.{row_with_side};
 ghost use Rattle.dm_layout.specs.Grid.{IsGrid, is_dark_in, cell_at, square_of, square_of_rows};
 ghost use Rattle.dm_layout.specs.inner.Drawing.{IsLight};
@@ -44,8 +45,9 @@ impl Model for Grid {
 }
 
 impl Grid {
-    /// Gives the grid of `side` rows of `side` cells; `cells` has them row by row from the top, true for dark. The error is
-    /// `NotSquare` if the number of cells is not the side times itself, and otherwise `NoSuchSize` if no size has this side.
+    /// Gives the grid of `side` rows of `side` cells; `cells` has them row by row from the top, true for dark. The
+    /// error is `NotSquare` if the number of cells is not the side times itself, and otherwise `NoSuchSize` if no size
+    /// has this side.
     pub fn new(side: u16, cells: &[bool]) -> Result<Grid, GridFault>
         ensures not_square { (result ≡ Err GridFault.NotSquare) ↔ (length cells.now ≢ side * side) }
         ensures no_such_size { (result ≡ Err GridFault.NoSuchSize)
@@ -67,9 +69,10 @@ impl Grid {
         Ok(Grid { size, rows })
     }
 
-    /// Gives the grid of `side` rows of `side` cells; `rows` has a number for each row from the top, in which the cell of
-    /// column `c`, counted from 0 at the left, is the bit of weight 2^c, 1 for dark. The bits from the side on may be anything.
-    /// The error is `NotSquare` if the number of rows is not the side, and otherwise `NoSuchSize` if no size has this side.
+    /// Gives the grid of `side` rows of `side` cells; `rows` has a number for each row from the top, in which the cell
+    /// of column `c`, counted from 0 at the left, is the bit of weight 2^c, 1 for dark. The bits from the side on may
+    /// be anything. The error is `NotSquare` if the number of rows is not the side, and otherwise `NoSuchSize` if no
+    /// size has this side.
     pub fn of_rows(side: u16, rows: &[u128]) -> Result<Grid, GridFault>
         ensures not_square { (result ≡ Err GridFault.NotSquare) ↔ (length rows.now ≢ side) }
         ensures no_such_size { (result ≡ Err GridFault.NoSuchSize)
@@ -154,8 +157,8 @@ impl Grid {
         is_dark(self.rows[row as usize], column)
     }
 
-    /// Gives a row, counted from 0 at the top and below the side, as a number: the cell of column `c`, counted from 0 at the
-    /// left, is the bit of weight 2^c, 1 for dark. The bits from the side on are 0.
+    /// Gives a row, counted from 0 at the top and below the side, as a number: the cell of column `c`, counted from 0
+    /// at the left, is the bit of weight 2^c, 1 for dark. The bits from the side on are 0.
     pub fn row(&self, row: u16) -> u128
         requires { row < self.now.size.side }
         ensures width { result < 2 ^ self.now.size.side }

@@ -1,9 +1,11 @@
 //! The codewords laid into the mapping square, those of a row of anchors at once.
 //!
-//! Their bits are scattered into widened rows, in which no standard shape wraps; what lies above the square and left of it is then folded
-//! back into it. Row r of the square is row r + 2 of the widened rows, and its column c is their column c + 4.
+//! Their bits are scattered into widened rows, in which no standard shape wraps; what lies above the square and left of
+//! it is then folded back into it. Row r of the square is row r + 2 of the widened rows, and its column c is their
+//! column c + 4.
 
-ghost use Rattle.std.specs.Prelude.{◌≡◌, ℕ, ◌+◌, ◌-◌, ◌%◌, ◌<◌, ◌≤◌, ◌&&◌, ◌||◌, nat_le, nat_lt, get_or, length, replicate};
+ghost use Rattle.std.specs.Prelude.{◌≡◌, ℕ, ◌+◌, ◌-◌, ◌%◌, ◌<◌, ◌≤◌, ◌&&◌, ◌||◌, nat_le, nat_lt, get_or, length};
+ghost use Rattle.std.specs.Prelude.{replicate};
 ghost use Rattle.dm_layout.specs.Sizes.{largest_mapping};
 ghost use Rattle.dm_layout.specs.inner.Laying.{scattered, lowered, folded, corner_marks};
 ghost use Rattle.dm_layout.specs.inner.Reading.{look_in, marks_in};
@@ -15,7 +17,8 @@ use crate::shape::{Cell, Shape, wrap_shift};
 use crate::slot_rows::Slots;
 use crate::slots::{CORNER_SLOT, codeword, first_column};
 
-/// Makes the cells of all standard shapes dark where the bits of their codewords are 1, in widened rows without a dark cell.
+/// Makes the cells of all standard shapes dark where the bits of their codewords are 1, in widened rows without a dark
+/// cell.
 fn scatter<R: BitRows>(rows: &mut R, slots: &Slots, mapping: u16)
     requires most { mapping ≤ R.most }
     requires light { R.numbers rows.old ≡ replicate (R.most + 6) 0 }

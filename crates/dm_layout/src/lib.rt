@@ -1,20 +1,23 @@
 //! Sizes, borders and placement of the square Data Matrix symbols (ISO/IEC 16022, ECC 200).
 //!
-//! A [`Size`] is a row of the standard's table of sizes, which is [`table()`]. A [`Grid`] is a square of dark and light cells of a size;
-//! [`Grid::new()`], [`Grid::of_rows()`] and [`Grid::set_rows()`] give a [`GridFault`] where cells make none. [`Words`] are the codewords of a
-//! symbol, given all at once ([`Words::new()`]), or the data codewords first ([`Words::with_data()`]) and the check codewords later
-//! ([`Words::put_checks()`]).
+//! A [`Size`] is a row of the standard's table of sizes, which is [`table()`]. A [`Grid`] is a square of dark and light
+//! cells of a size; [`Grid::new()`], [`Grid::of_rows()`] and [`Grid::set_rows()`] give a [`GridFault`] where cells make
+//! none. [`Words`] are the codewords of a symbol, given all at once ([`Words::new()`]), or the data codewords first
+//! ([`Words::with_data()`]) and the check codewords later ([`Words::put_checks()`]).
 //!
-//! [`lay()`] gives the one grid with correct borders and the fixed square that holds given codewords, and [`lift()`] the codewords that a
-//! grid holds, whatever stands in its borders and its fixed square. [`lay_to()`] and [`lift_to()`] leave the same in a grid, or in codewords,
-//! of the caller's, whatever these were before and whatever their size, so that one of each serves any number of symbols.
+//! [`lay()`] gives the one grid with correct borders and the fixed square that holds given codewords, and [`lift()`]
+//! the codewords that a grid holds, whatever stands in its borders and its fixed square. [`lay_to()`] and [`lift_to()`]
+//! leave the same in a grid, or in codewords, of the caller's, whatever these were before and whatever their size, so
+//! that one of each serves any number of symbols.
 //!
-//! [`block()`] reads one Reed-Solomon block of the codewords, and [`put_block()`] writes one. [`border_faults()`] counts the border cells of a
-//! grid that have the wrong colour. Cell by cell, [`border_colour()`] gives the colour that a border prescribes, [`symbol_line()`] leads from a
-//! row or column of the mapping square to that of the symbol, and [`Cells`] goes through the [`Place`]s of all bits of all codewords.
+//! [`block()`] reads one Reed-Solomon block of the codewords, and [`put_block()`] writes one. [`border_faults()`]
+//! counts the border cells of a grid that have the wrong colour. Cell by cell, [`border_colour()`] gives the colour
+//! that a border prescribes, [`symbol_line()`] leads from a row or column of the mapping square to that of the symbol,
+//! and [`Cells`] goes through the [`Place`]s of all bits of all codewords.
 //!
-//! There are [`SIZE_COUNT`] sizes; limits: [`LARGEST_SIDE`], [`MOST_DATA`], [`MOST_CODEWORDS`], [`MOST_BLOCKS`] and [`LONGEST_BLOCK`]. What the
-//! contracts say is defined in `specs/`; [`laws`] states what holds of these definitions. No call allocates memory.
+//! There are [`SIZE_COUNT`] sizes; limits: [`LARGEST_SIDE`], [`MOST_DATA`], [`MOST_CODEWORDS`], [`MOST_BLOCKS`] and
+//! [`LONGEST_BLOCK`]. What the contracts say is defined in `specs/`; [`laws`] states what holds of these definitions.
+//! No call allocates memory.
 #![tactic(auto)]
 
 mod bit_rows;

@@ -1,6 +1,7 @@
 //! The mapping square as rows of bits, and the codewords in it.
 
-ghost use Rattle.std.specs.Prelude.{◌≡◌, ◌⊎◌, ℕ, ◌+◌, ◌-◌, ◌*◌, ◌%◌, ◌^◌, ◌<◌, ◌≤◌, ◌||◌, false, true, get_or, length, replicate};
+ghost use Rattle.std.specs.Prelude.{◌≡◌, ◌⊎◌, ℕ, ◌+◌, ◌-◌, ◌*◌, ◌%◌, ◌^◌, ◌<◌, ◌≤◌, ◌||◌, false, true, get_or, length};
+ghost use Rattle.std.specs.Prelude.{replicate};
 ghost use Rattle.dm_layout.specs.Border.{mapped_cell, symbol_line, is_border, border_is_dark, is_fixed};
 ghost use Rattle.dm_layout.specs.Grid.{IsGrid, cell_at, is_dark_in};
 ghost use Rattle.dm_layout.specs.Placement.{IsPlace};
@@ -43,7 +44,8 @@ pub(crate) fn paint<R: BitRows>(words: &Words, rows: &mut R)
 /// The most regions that stand side by side, without the last one.
 const MOST_BEFORE_LAST: usize = MOST_ACROSS - 1;
 
-/// Gives for each of `across` regions but the last, as bits, the columns of a row of the symbol left of the region's right border.
+/// Gives for each of `across` regions but the last, as bits, the columns of a row of the symbol left of the region's
+/// right border.
 fn prefixes(region_side: u16, across: u16) -> [u128; MOST_BEFORE_LAST]
     requires some { 1 ≤ across }
     requires few { across ≤ most_across }
@@ -58,8 +60,8 @@ fn prefixes(region_side: u16, across: u16) -> [u128; MOST_BEFORE_LAST]
     prefixes
 }
 
-/// Gives the row of the symbol in which a row of the mapping square lies between the borders of `across` regions: after each
-/// region but the last, what lies to the right is moved by two columns.
+/// Gives the row of the symbol in which a row of the mapping square lies between the borders of `across` regions: after
+/// each region but the last, what lies to the right is moved by two columns.
 fn outer_row(
     inner: u128,
     region_side: u16,
@@ -87,7 +89,8 @@ fn outer_row(
     outer
 }
 
-/// Puts the rows of the mapping square that lie in one row of regions, counted from 0 at the top, into a grid with correct borders.
+/// Puts the rows of the mapping square that lie in one row of regions, counted from 0 at the top, into a grid with
+/// correct borders.
 #[inline(always)]
 fn draw_regions<R: BitRows>(
     grid: &mut Grid,

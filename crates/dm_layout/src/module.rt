@@ -6,9 +6,10 @@ ghost use Rattle.dm_layout.specs.Modules.{border_colour as border_colour_by};
 
 use crate::size::Size;
 
-/// Gives the prescribed colour of a module in a border, true for dark; None for a module in no border. Row and column count
-/// from 0, from the top and from the left; beyond the side the pattern goes on. The left column and the bottom row of each
-/// region's border are dark; its top row and its right column alternate, and are dark at the left and at the bottom.
+/// Gives the prescribed colour of a module in a border, true for dark; None for a module in no border. Row and column
+/// count from 0, from the top and from the left; beyond the side the pattern goes on. The left column and the bottom
+/// row of each region's border are dark; its top row and its right column alternate, and are dark at the left and at
+/// the bottom.
 pub fn border_colour(size: Size, row: u16, column: u16) -> Option<bool>
     ensures { result ≡ border_colour_by size row column }
 {
@@ -26,8 +27,8 @@ pub fn border_colour(size: Size, row: u16, column: u16) -> Option<bool>
     }
 }
 
-/// Gives the row of the symbol in which this row of the mapping square lies, and likewise for columns. Both count from 0, and
-/// `line` is below the side of the mapping square.
+/// Gives the row of the symbol in which this row of the mapping square lies, and likewise for columns. Both count from
+/// 0, and `line` is below the side of the mapping square.
 pub fn symbol_line(size: Size, line: u16) -> u16
     requires { line < size.mapping }
     ensures value { result ≡ symbol_line_by size.region_side line }

@@ -1,6 +1,7 @@
 //! Where the codewords of a symbol stand, row by row: tables for each side of the mapping square.
 //!
-//! For each codeword in order there is its slot: 16 times the row of its anchor and an eighth of the anchor's column, or that of a corner.
+//! For each codeword in order there is its slot: 16 times the row of its anchor and an eighth of the anchor's column,
+//! or that of a corner.
 //! `tools/tables` makes this file: change it there.
 
 use crate::slots::CORNER_SLOT as CORNER;

@@ -2,7 +2,9 @@
 #![tactic(auto, unfolding(crate::specs::Sizes::size_table))]
 
 ghost use Rattle.std.specs.Prelude.{◌≡◌, ◌+◌, ◌*◌, ◌/◌, ◌%◌, ◌<◌, ◌≤◌, All, IfSome, IfNone};
-ghost use Rattle.dm_layout.specs.Sizes.{size_table, row_with_side, row_for_words, IsRow, codeword_count, block_data, block_check, block_length, regions_across, largest_side, most_across, most_data, most_codewords, most_blocks, most_block_check, longest_block};
+ghost use Rattle.dm_layout.specs.Sizes.{size_table, row_with_side, row_for_words, IsRow, codeword_count, block_data};
+ghost use Rattle.dm_layout.specs.Sizes.{block_check, block_length, regions_across, largest_side, most_across};
+ghost use Rattle.dm_layout.specs.Sizes.{most_data, most_codewords, most_blocks, most_block_check, longest_block};
 
 use std::marker::Model;
 
@@ -27,9 +29,9 @@ pub const MOST_CODEWORDS: usize = 1152;
 /// The most blocks of a size of the table.
 pub const MOST_BLOCKS: usize = 6;
 
-/// No block has more codewords than this: as many as the field has elements other than 0. `dm_code` has the same number as
-/// `LONGEST_WORD`, and neither crate stands on the other: in `dm_symbol`, `codeword_near` has each block corrected, and its proof
-/// shows that no block is longer than a word may be.
+/// No block has more codewords than this: as many as the field has elements other than 0. `dm_code` has the same number
+/// as `LONGEST_WORD`, and neither crate stands on the other: in `dm_symbol`, `codeword_near` has each block corrected,
+/// and its proof shows that no block is longer than a word may be.
 pub const LONGEST_BLOCK: usize = 255;
 
 /// A size of a square symbol: a row of the standard's table of sizes and capacities. In contracts it is a `SizeRow` of
@@ -53,14 +55,27 @@ impl Model for Size {
 
     ghost view = { λ s. row_of s.side s.regions s.region_side s.mapping s.data_count s.check_count s.blocks s.limit };
 
-    ghost invariant = { λ s. IsRow (row_of s.side s.regions s.region_side s.mapping s.data_count s.check_count s.blocks s.limit) };
+    ghost invariant = { λ s. IsRow (row_of s.side s.regions s.region_side s.mapping s.data_count
+        s.check_count s.blocks s.limit) };
 
-    ghost inverse = { λ r. record { side = r.side; regions = r.regions; region_side = r.region_side; mapping = r.mapping; data_count = r.data_count; check_count = r.check_count; blocks = r.blocks; limit = r.limit } };
+    ghost inverse = { λ r. record {
+      side = r.side;
+      regions = r.regions;
+      region_side = r.region_side;
+      mapping = r.mapping;
+      data_count = r.data_count;
+      check_count = r.check_count;
+      blocks = r.blocks;
+      limit = r.limit;
+    } };
 }
 
 /// A row of the table: side, regions, region side, mapping side, data, check, blocks, limit.
 macro_rules! row {
-    ($side:literal $regions:literal $region_side:literal $mapping:literal $data:literal $check:literal $blocks:literal $limit:literal) => {
+    (
+        $side:literal $regions:literal $region_side:literal $mapping:literal
+        $data:literal $check:literal $blocks:literal $limit:literal
+    ) => {
         Size {
             side: $side,
             regions: $regions,

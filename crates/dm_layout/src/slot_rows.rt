@@ -1,7 +1,7 @@
 //! The codewords of a mapping square in their slots, as rows of bytes.
 //!
-//! A single codeword is read or written as one byte. The codewords of a row of anchors are read or written together as one number, whose
-//! lowest byte is that of the first anchor.
+//! A single codeword is read or written as one byte. The codewords of a row of anchors are read or written together as
+//! one number, whose lowest byte is that of the first anchor.
 
 ghost use Rattle.std.specs.Prelude.{◌≡◌, ◌+◌, ◌≤◌, get_or, set, replicate};
 ghost use Rattle.dm_layout.specs.Sizes.{largest_mapping};

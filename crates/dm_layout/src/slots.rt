@@ -5,7 +5,8 @@
 ghost use Rattle.std.specs.Prelude.{◌≡◌, ◌+◌, ◌%◌, ◌<◌, ◌≤◌, length};
 ghost use Rattle.dm_layout.specs.Placement.{cells_of};
 ghost use Rattle.dm_layout.specs.Sizes.{largest_mapping};
-ghost use Rattle.dm_layout.specs.inner.Slots.{first_column as first_column_by, reversed_bits, word_in, order_of, slot_byte, AreJoined, HasSlot, HasSlots};
+ghost use Rattle.dm_layout.specs.inner.Slots.{first_column as first_column_by, reversed_bits, word_in, order_of};
+ghost use Rattle.dm_layout.specs.inner.Slots.{slot_byte, AreJoined, HasSlot, HasSlots};
 ghost use Rattle.dm_layout.specs.inner.Walking.{CellsInside};
 ghost use Rattle.dm_place.specs.declared.shape.Shape.TheVariants.{Corner1, Corner2};
 

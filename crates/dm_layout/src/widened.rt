@@ -1,9 +1,11 @@
 //! The mapping square as rows of bits, widened so that no standard shape wraps.
 //!
-//! Row r of the mapping square is row r + 2, and its column c is the bit of weight 2^(c + 4). In the two rows above it and in the four
-//! lowest bits, which are the columns left of it, stand the modules to which shapes at its upper and its left edge wrap.
+//! Row r of the mapping square is row r + 2, and its column c is the bit of weight 2^(c + 4). In the two rows above it
+//! and in the four lowest bits, which are the columns left of it, stand the modules to which shapes at its upper and
+//! its left edge wrap.
 
-ghost use Rattle.std.specs.Prelude.{◌≡◌, ℕ, ◌+◌, ◌-◌, ◌*◌, ◌%◌, ◌^◌, ◌<◌, ◌≤◌, ◌&&◌, ◌||◌, nat_le, nat_lt, false, length, replicate};
+ghost use Rattle.std.specs.Prelude.{◌≡◌, ℕ, ◌+◌, ◌-◌, ◌*◌, ◌%◌, ◌^◌, ◌<◌, ◌≤◌, ◌&&◌, ◌||◌, nat_le, nat_lt, false};
+ghost use Rattle.std.specs.Prelude.{length, replicate};
 ghost use Rattle.dm_layout.specs.Border.{mapped_cell, symbol_line};
 ghost use Rattle.dm_layout.specs.Grid.{is_dark_in};
 ghost use Rattle.dm_layout.specs.Sizes.{largest_mapping, regions_across};

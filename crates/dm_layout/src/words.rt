@@ -28,8 +28,8 @@ impl Model for Words {
 }
 
 impl Words {
-    /// Gives the codewords `list` of a symbol of this size, data and then checks, in the order of the symbol: as many as the
-    /// size's data and check codewords together.
+    /// Gives the codewords `list` of a symbol of this size, data and then checks, in the order of the symbol: as many
+    /// as the size's data and check codewords together.
     pub fn new(size: Size, list: &[u8]) -> Words
         requires { length list.now ≡ codeword_count size }
         ensures value { result ≡ record { size = size; list = list.now } }
@@ -42,8 +42,8 @@ impl Words {
         Words { size, kept }
     }
 
-    /// Gives codewords of this size with these data codewords, as many as the size has. The check codewords are 0 until they
-    /// are put.
+    /// Gives codewords of this size with these data codewords, as many as the size has. The check codewords are 0 until
+    /// they are put.
     pub fn with_data(size: Size, prefix: &[u8]) -> Words
         requires { length prefix.now ≡ size.data_count }
         ensures value { result

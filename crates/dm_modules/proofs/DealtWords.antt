@@ -19,21 +19,26 @@ codeword_at size blocks j = get_or (blocks (j % size.blocks)) (j / size.blocks) 
 
 -- The codewords of a size that are made of these blocks.
 dealt : SizeEntry → (ℕ → List ℕ) → WordsView
-dealt size blocks = record { size = size; list = map (codeword_at size blocks) (range_with_len 0 (codeword_count size)) }
+dealt size blocks =
+    record { size = size; list = map (codeword_at size blocks) (range_with_len 0 (codeword_count size)) }
 
 -- Place j of the codewords made of blocks has codeword j div B of block j mod B.
 dealt_at : (size : SizeEntry) (blocks : ℕ → List ℕ) (j : ℕ) → j < codeword_count size
-    → get_or (map (codeword_at size blocks) (range_with_len 0 (codeword_count size))) j 0 ≡ get_or (blocks (j % size.blocks)) (j / size.blocks) 0
+    → get_or (map (codeword_at size blocks) (range_with_len 0 (codeword_count size))) j 0 ≡
+    get_or (blocks (j % size.blocks)) (j / size.blocks) 0
 unfolding codeword_at
-dealt_at size blocks j l = get_or-map-range_with_len (codeword_at size blocks) 0 (codeword_count size) j j 0 l (omega arith)
+dealt_at size blocks j l =
+    get_or-map-range_with_len (codeword_at size blocks) 0 (codeword_count size) j j 0 l (omega arith)
 
 -- Codewords made of the blocks of a size are well-formed codewords of that size.
-dealt_words : (size : SizeEntry) (blocks : ℕ → List ℕ) → IsSize size → AreBlocks size blocks → IsWords (dealt size blocks)
+dealt_words : (size : SizeEntry) (blocks : ℕ → List ℕ) → IsSize size → AreBlocks size blocks →
+    IsWords (dealt size blocks)
 unfolding dealt
 dealt_words size blocks entry are =
     let list = map (codeword_at size blocks) (range_with_len 0 (codeword_count size)) in
     let facts = size_facts size entry in
-    let count : length list ≡ codeword_count size = length-map-range_with_len (codeword_at size blocks) 0 (codeword_count size) in
+    let count : length list ≡ codeword_count size =
+    length-map-range_with_len (codeword_at size blocks) 0 (codeword_count size) in
     record {
       size = entry;
       count = count;
@@ -42,7 +47,8 @@ dealt_words size blocks entry are =
           let parts = place_parts size.blocks (codeword_count size) j (omega (arith, facts.blocks)) inside in
           let block = are (j % size.blocks) parts.block in
           subst (λ word. word < 256) (sym (dealt_at size blocks j inside))
-          (All-get_or (λ word. word < 256) (blocks (j % size.blocks)) (j / size.blocks) 0 (subst (λ (n : ℕ). j / size.blocks < n) (sym block.0) parts.step) block.1));
+          (All-get_or (λ word. word < 256) (blocks (j % size.blocks)) (j / size.blocks) 0
+          (subst (λ (n : ℕ). j / size.blocks < n) (sym block.0) parts.step) block.1));
     }
 
 -- Codewords made of blocks have these blocks.
@@ -55,12 +61,16 @@ dealt_block size blocks entry are b lb =
     same_number_lists _ (blocks b) (long ∙ sym (are b lb).0) (λ k l.
     let lk : k < block_length size b = subst (λ (n : ℕ). k < n) long l in
     let j = k * size.blocks + b in
-    let inside : j < codeword_count size = subst (λ (n : ℕ). j < n) words.count (place_inside (dealt size blocks) b k words lb lk) in
+    let inside : j < codeword_count size =
+    subst (λ (n : ℕ). j < n) words.count (place_inside (dealt size blocks) b k words lb lk) in
     word_of_block (dealt size blocks) b k words lb lk ∙ dealt_at size blocks j inside
-    ∙ ap (λ r. get_or (blocks r) (j / size.blocks) 0) (mod-mul-add k size.blocks b lb) ∙ ap (λ q. get_or (blocks b) q 0) (div-mul-add k size.blocks b lb))
+    ∙ ap (λ r. get_or (blocks r) (j / size.blocks) 0) (mod-mul-add k size.blocks b lb)
+    ∙ ap (λ q. get_or (blocks b) q 0) (div-mul-add k size.blocks b lb))
 
 -- Lists that can be the blocks of a size are the blocks of some codewords of that size.
 pub blocks_make_words : (size : SizeEntry) (blocks : ℕ → List ℕ) → IsSize size → AreBlocks size blocks
-    → (w : WordsView) × IsWords w × (w.size ≡ size) × ((b : ℕ) → b < size.blocks → block_of size.blocks b w.list ≡ blocks b)
+    → (w : WordsView) × IsWords w × (w.size ≡ size)
+    × ((b : ℕ) → b < size.blocks → block_of size.blocks b w.list ≡ blocks b)
 unfolding dealt
-blocks_make_words size blocks entry are = (dealt size blocks, dealt_words size blocks entry are, refl, dealt_block size blocks entry are)
+blocks_make_words size blocks entry are =
+    (dealt size blocks, dealt_words size blocks entry are, refl, dealt_block size blocks entry are)

@@ -16,21 +16,30 @@ use Rattle.dm_modules.proofs.SymbolLines.{no_border, mapping_line-symbol_line}
 -- ---- the colour of one module
 
 -- A module of a border has its colour.
-pub on_border : (size : SizeEntry) (mapping : List Bool) (r c : ℕ) → is_border size r c ≡ true → drawn_colour size mapping r c ≡ border_is_dark size r c
+pub on_border : (size : SizeEntry) (mapping : List Bool) (r c : ℕ) → is_border size r c ≡ true →
+    drawn_colour size mapping r c ≡ border_is_dark size r c
 on_border size mapping r c h =
-    ap (λ (b : Bool). if b then border_is_dark size r c else inner_colour size mapping (mapping_line size.region_rows r) (mapping_line size.region_columns c)) h
+    ap (λ (b : Bool). if b then border_is_dark size r c else inner_colour size mapping (mapping_line size.region_rows r)
+    (mapping_line size.region_columns c)) h
 
 -- Any other module has the colour of a cell of the mapping matrix.
-pub in_mapping : (size : SizeEntry) (mapping : List Bool) (r c : ℕ) → is_border size r c ≡ false → drawn_colour size mapping r c ≡ inner_colour size mapping (mapping_line size.region_rows r) (mapping_line size.region_columns c)
+pub in_mapping : (size : SizeEntry) (mapping : List Bool) (r c : ℕ) → is_border size r c ≡ false →
+    drawn_colour size mapping r c ≡ inner_colour size mapping (mapping_line size.region_rows r)
+    (mapping_line size.region_columns c)
 in_mapping size mapping r c h =
-    ap (λ (b : Bool). if b then border_is_dark size r c else inner_colour size mapping (mapping_line size.region_rows r) (mapping_line size.region_columns c)) h
+    ap (λ (b : Bool). if b then border_is_dark size r c else inner_colour size mapping (mapping_line size.region_rows r)
+    (mapping_line size.region_columns c)) h
 
 -- The module at which a cell of the mapping matrix lies has the colour of that cell.
-pub at_cell : (size : SizeEntry) (mapping : List Bool) (r c : ℕ) → IsSize size → drawn_colour size mapping (symbol_line size.region_rows r) (symbol_line size.region_columns c) ≡ inner_colour size mapping r c
+pub at_cell : (size : SizeEntry) (mapping : List Bool) (r c : ℕ) → IsSize size →
+    drawn_colour size mapping (symbol_line size.region_rows r) (symbol_line size.region_columns c) ≡
+    inner_colour size mapping r c
 at_cell size mapping r c entry =
     let facts = size_facts size entry in
-    in_mapping size mapping (symbol_line size.region_rows r) (symbol_line size.region_columns c) (no_border size r c entry)
-    ∙ ap (λ i. inner_colour size mapping i (mapping_line size.region_columns (symbol_line size.region_columns c))) (mapping_line-symbol_line size.region_rows r facts.least_rows)
+    in_mapping size mapping (symbol_line size.region_rows r) (symbol_line size.region_columns c)
+    (no_border size r c entry)
+    ∙ ap (λ i. inner_colour size mapping i (mapping_line size.region_columns (symbol_line size.region_columns c)))
+    (mapping_line-symbol_line size.region_rows r facts.least_rows)
     ∙ ap (inner_colour size mapping r) (mapping_line-symbol_line size.region_columns c facts.least_columns)
 
 -- ---- all modules, one after the other
@@ -51,15 +60,20 @@ place_at rows columns place some l =
 
 -- The modules before this place have these colours.
 abbrev pub DrawnBefore : SizeEntry → (ℕ → ℕ → Bool) → ℕ → ModulesView → Type 0
-DrawnBefore size colour place modules = (r c : ℕ) → r < size.rows → c < size.columns → r * size.columns + c < place → module_at modules r c ≡ colour r c
+DrawnBefore size colour place modules = (r c : ℕ) → r < size.rows → c < size.columns → r * size.columns + c < place →
+    module_at modules r c ≡ colour r c
 
 -- Once the module at this place has its colour, one more is drawn.
-pub drawn_more : (size : SizeEntry) (colour : ℕ → ℕ → Bool) (place row column : ℕ) (dark : Bool) (old new : ModulesView) → old.size ≡ size → column < size.columns → row * size.columns + column ≡ place → dark ≡ colour row column →
+pub drawn_more : (size : SizeEntry) (colour : ℕ → ℕ → Bool) (place row column : ℕ) (dark : Bool)
+    (old new : ModulesView) → old.size ≡ size → column < size.columns → row * size.columns + column ≡ place →
+    dark ≡ colour row column →
     DrawnBefore size colour place old →
-    ((r c : ℕ) → r < old.size.rows → c < old.size.columns → module_at new r c ≡ (if nat_eq r row && nat_eq c column then dark else module_at old r c)) →
+    ((r c : ℕ) → r < old.size.rows → c < old.size.columns →
+    module_at new r c ≡ (if nat_eq r row && nat_eq c column then dark else module_at old r c)) →
     DrawnBefore size colour (place + 1) new
 drawn_more size colour place row column dark old new same small at right before put r c lr lc l =
-    put r c (subst (λ (s : SizeEntry). r < s.rows) (sym same) lr) (subst (λ (s : SizeEntry). c < s.columns) (sym same) lc) ∙ by_test (nat_eq r row && nat_eq c column) refl
+    put r c (subst (λ (s : SizeEntry). r < s.rows) (sym same) lr)
+    (subst (λ (s : SizeEntry). c < s.columns) (sym same) lc) ∙ by_test (nat_eq r row && nat_eq c column) refl
   where
     by_test : (t : Bool) → (nat_eq r row && nat_eq c column) ≡ t → (if t then dark else module_at old r c) ≡ colour r c
     by_test true t =
@@ -73,5 +87,7 @@ drawn_more size colour place row column dark old new same small at right before 
         elsewhere : (nat_eq r row && nat_eq c column) ≡ false → r * size.columns + c ≡ place → ⊥
         elsewhere f e =
             let here = same_place size.columns r c row column lc small (e ∙ sym at) in
-            let g : false ≡ true = sym f ∙ ap (λ i. nat_eq i row && nat_eq c column) here.0 ∙ ap (λ j. nat_eq row row && nat_eq j column) here.1 ∙ both_same row column in
+            let g : false ≡ true =
+            sym f ∙ ap (λ i. nat_eq i row && nat_eq c column) here.0
+            ∙ ap (λ j. nat_eq row row && nat_eq j column) here.1 ∙ both_same row column in
             cc

@@ -12,5 +12,6 @@ sum_more f n =
     ap (sum_by f) (range-append 0 n 1 ∙ ap (λ k. range_with_len 0 n ++ k ∷ []) z) ∙ sum_by_push f (range_with_len 0 n) n
 
 -- Of one more number, one more or as many pass a test.
-pub count_more : (p : ℕ → Bool) (n : ℕ) → count_by p (range_with_len 0 (n + 1)) ≡ count_by p (range_with_len 0 n) + cond (p n) 1 0
+pub count_more : (p : ℕ → Bool) (n : ℕ) → count_by p (range_with_len 0 (n + 1)) ≡
+    count_by p (range_with_len 0 n) + cond (p n) 1 0
 count_more p n = sum_more (λ (k : ℕ). cond (p k) 1 0) n

@@ -59,7 +59,8 @@ prefix_kept room size prefix entry fits short bytes =
 -- The codewords of the size are then these data codewords and zeros.
 pub zeros_behind : (room : ℕ) (size : SizeEntry) (prefix : List ℕ) → codeword_count size ≤ room →
     length prefix ≡ size.data_count →
-    take (codeword_count size) (prefix ++ drop (length prefix) (replicate room 0)) ≡ prefix ++ replicate size.check_count 0
+    take (codeword_count size) (prefix ++ drop (length prefix) (replicate room 0)) ≡ prefix
+    ++ replicate size.check_count 0
 zeros_behind room size prefix fits count =
     let all : codeword_count size ≡ length prefix + size.check_count = omega (arith, count) in
     ap (λ n. take n (prefix ++ drop (length prefix) (replicate room 0))) all

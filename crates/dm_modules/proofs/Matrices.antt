@@ -20,7 +20,8 @@ told_matrix : (m n : SidesRow) → same_matrix m n ≡ true → m ≡ n
 told_matrix m n h =
     let both = and_parts (nat_eq m.rows n.rows && nat_eq m.columns n.columns) (nat_eq m.count n.count) h in
     let two = and_parts (nat_eq m.rows n.rows) (nat_eq m.columns n.columns) both.0 in
-    ap (λ k. sides_of k m.columns m.count) (eqb-true _ _ two.0) ∙ ap (λ k. sides_of n.rows k m.count) (eqb-true _ _ two.1)
+    ap (λ k. sides_of k m.columns m.count) (eqb-true _ _ two.0)
+    ∙ ap (λ k. sides_of n.rows k m.count) (eqb-true _ _ two.1)
     ∙ ap (λ k. sides_of n.rows n.columns k) (eqb-true _ _ both.1)
 
 -- Whether this is the matrix that was found.
@@ -44,7 +45,8 @@ unfolding size_table sides_table is_found is_placed
 all_placed = refl
 
 -- A size that passes the test is one that `dm_place` has.
-told_placed : (size : SizeEntry) → is_placed size ≡ true → row_with_sides (mapping_rows size) (mapping_columns size) ≡ Some (matrix_of size)
+told_placed : (size : SizeEntry) → is_placed size ≡ true →
+    row_with_sides (mapping_rows size) (mapping_columns size) ≡ Some (matrix_of size)
 unfolding is_placed
 told_placed size h = told_found (row_with_sides (mapping_rows size) (mapping_columns size)) (matrix_of size) h
 
@@ -53,10 +55,14 @@ pub placed_size : (s : SizeEntry) → IsSize s → row_with_sides (mapping_rows 
 placed_size s h = told_placed s (passed_at_size is_placed s all_placed h)
 
 -- So is one with as many rows, columns and codewords.
-pub placed_as : (s : SizeEntry) (rows columns count : ℕ) → IsSize s → rows ≡ mapping_rows s → columns ≡ mapping_columns s → count ≡ codeword_count s → row_with_sides rows columns ≡ Some (sides_of rows columns count)
+pub placed_as : (s : SizeEntry) (rows columns count : ℕ) → IsSize s → rows ≡ mapping_rows s →
+    columns ≡ mapping_columns s → count ≡ codeword_count s →
+    row_with_sides rows columns ≡ Some (sides_of rows columns count)
 placed_as s rows columns count h er ec en =
     ap (λ r. row_with_sides r columns) er ∙ ap (row_with_sides (mapping_rows s)) ec ∙ placed_size s h
-    ∙ ap (λ r. Some (sides_of r (mapping_columns s) (codeword_count s))) (sym er) ∙ ap (λ c. Some (sides_of rows c (codeword_count s))) (sym ec) ∙ ap (λ n. Some (sides_of rows columns n)) (sym en)
+    ∙ ap (λ r. Some (sides_of r (mapping_columns s) (codeword_count s))) (sym er)
+    ∙ ap (λ c. Some (sides_of rows c (codeword_count s))) (sym ec)
+    ∙ ap (λ n. Some (sides_of rows columns n)) (sym en)
 
 -- Whether some size has this mapping matrix.
 is_of_size : SidesRow → Bool
@@ -77,6 +83,11 @@ told_of_size matrix h =
 -- The matrices of `dm_place` are those of the sizes.
 pub matrices_agree : MatricesAgree
 matrices_agree = record {
-  each = All-weaker (λ size. is_placed size ≡ true) (λ size. row_with_sides (mapping_rows size) (mapping_columns size) ≡ Some (matrix_of size)) told_placed size_table (AllPass-from_list_all is_placed size_table all_placed);
-  no_other = All-weaker (λ matrix. is_of_size matrix ≡ true) (λ matrix. Any (λ size. matrix_of size ≡ matrix) size_table) told_of_size sides_table (AllPass-from_list_all is_of_size sides_table all_of_sizes);
+  each =
+      All-weaker (λ size. is_placed size ≡ true)
+      (λ size. row_with_sides (mapping_rows size) (mapping_columns size) ≡ Some (matrix_of size)) told_placed size_table
+      (AllPass-from_list_all is_placed size_table all_placed);
+  no_other =
+      All-weaker (λ matrix. is_of_size matrix ≡ true) (λ matrix. Any (λ size. matrix_of size ≡ matrix) size_table)
+      told_of_size sides_table (AllPass-from_list_all is_of_size sides_table all_of_sizes);
 }

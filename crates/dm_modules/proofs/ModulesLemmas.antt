@@ -16,55 +16,72 @@ use Rattle.dm_modules.specs.Modules.{ModulesView, IsModules, module_at, rows_by,
 use Rattle.dm_modules.specs.inner.Keeping.{kept_modules}
 
 -- Modules that are drawn by colours are well formed.
-pub modules_by : (size : SizeEntry) (colour : ℕ → ℕ → Bool) → IsSize size → IsModules (record { size = size; rows = rows_by size.rows size.columns colour })
+pub modules_by : (size : SizeEntry) (colour : ℕ → ℕ → Bool) → IsSize size →
+    IsModules (record { size = size; rows = rows_by size.rows size.columns colour })
 modules_by size colour entry =
     record {
       size = entry;
       height = length-map-range_with_len (λ (r : ℕ). map (colour r) (range_with_len 0 size.columns)) 0 size.rows;
       width =
-          All-map (λ (line : List Bool). length line ≡ size.columns) (λ (r : ℕ). map (colour r) (range_with_len 0 size.columns)) (range_with_len 0 size.rows)
+          All-map (λ (line : List Bool). length line ≡ size.columns)
+          (λ (r : ℕ). map (colour r) (range_with_len 0 size.columns)) (range_with_len 0 size.rows)
           (λ k d l. length-map-range_with_len (colour (get_or (range_with_len 0 size.rows) k d)) 0 size.columns);
     }
 
 -- Modules that are drawn by colours have these colours.
-pub module_by : (rows columns : ℕ) (colour : ℕ → ℕ → Bool) (r c : ℕ) → r < rows → c < columns → get_or (get_or (rows_by rows columns colour) r []) c false ≡ colour r c
+pub module_by : (rows columns : ℕ) (colour : ℕ → ℕ → Bool) (r c : ℕ) → r < rows → c < columns →
+    get_or (get_or (rows_by rows columns colour) r []) c false ≡ colour r c
 module_by rows columns colour r c lr lc =
-    ap (λ (line : List Bool). get_or line c false) (get_or-map-range_with_len (λ (q : ℕ). map (colour q) (range_with_len 0 columns)) 0 rows r r [] lr (omega arith))
+    ap (λ (line : List Bool). get_or line c false)
+    (get_or-map-range_with_len (λ (q : ℕ). map (colour q) (range_with_len 0 columns)) 0 rows r r [] lr
+    (omega arith))
     ∙ get_or-map-range_with_len (colour r) 0 columns c c false lc (omega arith)
 
 -- Colours that agree at all rows and columns draw the same rows.
-pub same_rows_by : (rows columns : ℕ) (f g : ℕ → ℕ → Bool) → ((r c : ℕ) → r < rows → c < columns → f r c ≡ g r c) → rows_by rows columns f ≡ rows_by rows columns g
+pub same_rows_by : (rows columns : ℕ) (f g : ℕ → ℕ → Bool) → ((r c : ℕ) → r < rows → c < columns → f r c ≡ g r c) →
+    rows_by rows columns f ≡ rows_by rows columns g
 same_rows_by rows columns f g agree =
-    mapped rows (λ (r : ℕ). map (f r) (range_with_len 0 columns)) (λ (r : ℕ). map (g r) (range_with_len 0 columns)) [] (λ r lr. mapped columns (f r) (g r) false (λ c lc. agree r c lr lc))
+    mapped rows (λ (r : ℕ). map (f r) (range_with_len 0 columns)) (λ (r : ℕ). map (g r) (range_with_len 0 columns)) []
+    (λ r lr. mapped columns (f r) (g r) false (λ c lc. agree r c lr lc))
   where
-    mapped : {X : Type 0} (n : ℕ) (f g : ℕ → X) (d : X) → ((k : ℕ) → k < n → f k ≡ g k) → map f (range_with_len 0 n) ≡ map g (range_with_len 0 n)
-    mapped n f g d same = fill_by_all g (map f (range_with_len 0 n)) n d (length-map-range_with_len f 0 n) (λ k l. get_or-map-range_with_len f 0 n k k d l (omega arith) ∙ same k l)
+    mapped : {X : Type 0} (n : ℕ) (f g : ℕ → X) (d : X) → ((k : ℕ) → k < n → f k ≡ g k) →
+        map f (range_with_len 0 n) ≡ map g (range_with_len 0 n)
+    mapped n f g d same =
+        fill_by_all g (map f (range_with_len 0 n)) n d (length-map-range_with_len f 0 n)
+        (λ k l. get_or-map-range_with_len f 0 n k k d l (omega arith) ∙ same k l)
 
 -- ---- modules that stand row by row in a list
 
 -- The place of a module is below the number of modules.
 pub place_below : (rows columns r c : ℕ) → r < rows → c < columns → r * columns + c < rows * columns
-place_below rows columns r c lr lc = let l = mul-add-lt r columns c rows lr lc in let m = mul_comm columns rows in omega (arith, l, m)
+place_below rows columns r c lr lc = let l = mul-add-lt r columns c rows lr lc in let m = mul_comm columns rows in
+    omega (arith, l, m)
 
 -- Different modules have different places.
-pub same_place : (columns r c q k : ℕ) → c < columns → k < columns → r * columns + c ≡ q * columns + k → (r ≡ q) × (c ≡ k)
+pub same_place : (columns r c q k : ℕ) → c < columns → k < columns → r * columns + c ≡ q * columns + k →
+    (r ≡ q) × (c ≡ k)
 same_place columns r c q k lc lk e = (
   sym (div-mul-add r columns c lc) ∙ ap (λ (j : ℕ). j / columns) e ∙ div-mul-add q columns k lk,
   sym (mod-mul-add r columns c lc) ∙ ap (λ (j : ℕ). j % columns) e ∙ mod-mul-add q columns k lk,
 )
 
 -- What stands behind the modules means nothing.
-pub rows_of-take : (rows columns n : ℕ) (list : List Bool) → rows * columns ≤ n → rows_of rows columns (take n list) ≡ rows_of rows columns list
+pub rows_of-take : (rows columns n : ℕ) (list : List Bool) → rows * columns ≤ n →
+    rows_of rows columns (take n list) ≡ rows_of rows columns list
 rows_of-take rows columns n list room =
-    same_rows_by rows columns _ _ (λ r c lr lc. get_or-take n list (r * columns + c) false (let l = place_below rows columns r c lr lc in omega (arith, l, room)))
+    same_rows_by rows columns _ _ (λ r c lr lc. get_or-take n list (r * columns + c) false (let l =
+    place_below rows columns r c lr lc in omega (arith, l, room)))
 
 -- So it does if it is put there.
-pub rows_of-append : (rows columns : ℕ) (list behind : List Bool) → rows * columns ≤ length list → rows_of rows columns (list ++ behind) ≡ rows_of rows columns list
+pub rows_of-append : (rows columns : ℕ) (list behind : List Bool) → rows * columns ≤ length list →
+    rows_of rows columns (list ++ behind) ≡ rows_of rows columns list
 rows_of-append rows columns list behind room =
-    same_rows_by rows columns _ _ (λ r c lr lc. get_or-append list behind false (r * columns + c) (let l = place_below rows columns r c lr lc in omega (arith, l, room)))
+    same_rows_by rows columns _ _ (λ r c lr lc. get_or-append list behind false (r * columns + c) (let l =
+    place_below rows columns r c lr lc in omega (arith, l, room)))
 
 -- Lists of the same rows are the same.
-pub same_list : (rows columns : ℕ) (xs ys : List Bool) → 0 < columns → length xs ≡ rows * columns → length ys ≡ rows * columns → rows_of rows columns xs ≡ rows_of rows columns ys → xs ≡ ys
+pub same_list : (rows columns : ℕ) (xs ys : List Bool) → 0 < columns → length xs ≡ rows * columns →
+    length ys ≡ rows * columns → rows_of rows columns xs ≡ rows_of rows columns ys → xs ≡ ys
 same_list rows columns xs ys some hx hy same =
     same_lists xs ys (hx ∙ sym hy) (λ k d l.
     let parts = div-add-mod k columns in
@@ -92,15 +109,20 @@ pub modules_of_kept : (size : SizeEntry) (kept : List Bool) → IsSize size → 
 modules_of_kept size kept entry = modules_by size (λ r c. get_or kept (r * size.columns + c) false) entry
 
 -- The colour of a kept module stands at its place.
-pub kept_at : (size : SizeEntry) (kept : List Bool) (r c : ℕ) → r < size.rows → c < size.columns → module_at (kept_modules size kept) r c ≡ get_or kept (r * size.columns + c) false
-kept_at size kept r c lr lc = module_by size.rows size.columns (λ r c. get_or kept (r * size.columns + c) false) r c lr lc
+pub kept_at : (size : SizeEntry) (kept : List Bool) (r c : ℕ) → r < size.rows → c < size.columns →
+    module_at (kept_modules size kept) r c ≡ get_or kept (r * size.columns + c) false
+kept_at size kept r c lr lc =
+    module_by size.rows size.columns (λ r c. get_or kept (r * size.columns + c) false) r c lr lc
 
 -- A module that is put has its new colour, and the others theirs.
-pub put_at : (size : SizeEntry) (kept : List Bool) (row column : ℕ) (dark : Bool) → row < size.rows → column < size.columns → size.rows * size.columns ≤ length kept →
+pub put_at : (size : SizeEntry) (kept : List Bool) (row column : ℕ) (dark : Bool) → row < size.rows →
+    column < size.columns → size.rows * size.columns ≤ length kept →
     (r c : ℕ) → r < size.rows → c < size.columns →
-    module_at (kept_modules size (set kept (row * size.columns + column) dark)) r c ≡ (if nat_eq r row && nat_eq c column then dark else module_at (kept_modules size kept) r c)
+    module_at (kept_modules size (set kept (row * size.columns + column) dark)) r c ≡
+    (if nat_eq r row && nat_eq c column then dark else module_at (kept_modules size kept) r c)
 put_at size kept row column dark hr hc room r c lr lc =
-    kept_at size (set kept (row * size.columns + column) dark) r c lr lc ∙ by_test (nat_eq r row && nat_eq c column) refl
+    kept_at size (set kept (row * size.columns + column) dark) r c lr lc
+    ∙ by_test (nat_eq r row && nat_eq c column) refl
   where
     there : (nat_eq r row && nat_eq c column) ≡ true → r * size.columns + c ≡ row * size.columns + column
     there t =
@@ -110,34 +132,48 @@ put_at size kept row column dark hr hc room r c lr lc =
     elsewhere : (nat_eq r row && nat_eq c column) ≡ false → r * size.columns + c ≡ row * size.columns + column → ⊥
     elsewhere f e =
         let same = same_place size.columns r c row column lc hc e in
-        let t : (nat_eq r row && nat_eq c column) ≡ true = ap (λ i. nat_eq i row && nat_eq c column) same.0 ∙ ap (λ j. nat_eq row row && nat_eq j column) same.1 ∙ both_same row column in
+        let t : (nat_eq r row && nat_eq c column) ≡ true =
+        ap (λ i. nat_eq i row && nat_eq c column) same.0 ∙ ap (λ j. nat_eq row row && nat_eq j column) same.1
+        ∙ both_same row column in
         let g : false ≡ true = sym f ∙ t in
         cc
       where
         both_same : (a b : ℕ) → (nat_eq a a && nat_eq b b) ≡ true
         both_same a b = grind arith
 
-    by_test : (t : Bool) → (nat_eq r row && nat_eq c column) ≡ t → get_or (set kept (row * size.columns + column) dark) (r * size.columns + c) false ≡ (if t then dark else module_at (kept_modules size kept) r c)
+    by_test : (t : Bool) → (nat_eq r row && nat_eq c column) ≡ t →
+        get_or (set kept (row * size.columns + column) dark) (r * size.columns + c) false ≡
+        (if t then dark else module_at (kept_modules size kept) r c)
     by_test true t =
         ap (λ i. get_or (set kept (row * size.columns + column) dark) i false) (there t)
-        ∙ get_or-set_same kept (row * size.columns + column) dark false (let l = place_below size.rows size.columns row column hr hc in omega (arith, l, room))
-    by_test false t = get_or-set_other kept (row * size.columns + column) (r * size.columns + c) dark false (elsewhere t) ∙ sym (kept_at size kept r c lr lc)
+        ∙ get_or-set_same kept (row * size.columns + column) dark false (let l =
+        place_below size.rows size.columns row column hr hc in omega (arith, l, room))
+    by_test false t =
+        get_or-set_other kept (row * size.columns + column) (r * size.columns + c) dark false (elsewhere t)
+        ∙ sym (kept_at size kept r c lr lc)
 
 -- The same, as it is seen.
-pub put_seen : (size : SizeEntry) (kept : List Bool) (row column : ℕ) (dark : Bool) (n : ℕ) (v : ModulesView) → n ≡ size.columns → kept_modules size kept ≡ v → row < v.size.rows → column < v.size.columns →
+pub put_seen : (size : SizeEntry) (kept : List Bool) (row column : ℕ) (dark : Bool) (n : ℕ) (v : ModulesView) →
+    n ≡ size.columns → kept_modules size kept ≡ v → row < v.size.rows → column < v.size.columns →
     size.rows * size.columns ≤ length kept → (r c : ℕ) → r < v.size.rows → c < v.size.columns →
-    module_at (kept_modules size (set kept (row * n + column) dark)) r c ≡ (if nat_eq r row && nat_eq c column then dark else module_at v r c)
+    module_at (kept_modules size (set kept (row * n + column) dark)) r c ≡
+    (if nat_eq r row && nat_eq c column then dark else module_at v r c)
 put_seen size kept row column dark n v en ev =
-    subst (λ (v : ModulesView). row < v.size.rows → column < v.size.columns → size.rows * size.columns ≤ length kept → (r c : ℕ) → r < v.size.rows → c < v.size.columns →
-    module_at (kept_modules size (set kept (row * n + column) dark)) r c ≡ (if nat_eq r row && nat_eq c column then dark else module_at v r c)) ev
-    (subst (λ (n : ℕ). row < size.rows → column < size.columns → size.rows * size.columns ≤ length kept → (r c : ℕ) → r < size.rows → c < size.columns →
-    module_at (kept_modules size (set kept (row * n + column) dark)) r c ≡ (if nat_eq r row && nat_eq c column then dark else module_at (kept_modules size kept) r c)) (sym en)
+    subst (λ (v : ModulesView). row < v.size.rows → column < v.size.columns → size.rows * size.columns ≤ length kept →
+    (r c : ℕ) → r < v.size.rows → c < v.size.columns →
+    module_at (kept_modules size (set kept (row * n + column) dark)) r c ≡
+    (if nat_eq r row && nat_eq c column then dark else module_at v r c)) ev
+    (subst (λ (n : ℕ). row < size.rows → column < size.columns → size.rows * size.columns ≤ length kept → (r c : ℕ) →
+    r < size.rows → c < size.columns →
+    module_at (kept_modules size (set kept (row * n + column) dark)) r c ≡
+    (if nat_eq r row && nat_eq c column then dark else module_at (kept_modules size kept) r c)) (sym en)
     (put_at size kept row column dark))
 
 -- ---- modules that are the same
 
 -- Rows with the same colours are the same.
-pub same_rows : (rows columns : ℕ) (xs ys : List (List Bool)) → length xs ≡ rows → length ys ≡ rows → All (λ line. length line ≡ columns) xs → All (λ line. length line ≡ columns) ys →
+pub same_rows : (rows columns : ℕ) (xs ys : List (List Bool)) → length xs ≡ rows → length ys ≡ rows →
+    All (λ line. length line ≡ columns) xs → All (λ line. length line ≡ columns) ys →
     ((r c : ℕ) → r < rows → c < columns → get_or (get_or xs r []) c false ≡ get_or (get_or ys r []) c false) → xs ≡ ys
 same_rows rows columns xs ys hx hy wx wy cells =
     same_lists xs ys (hx ∙ sym hy) (λ r d lr. line r d lr)
@@ -175,8 +211,11 @@ pub same_parts : (s t : SizeEntry) (xs ys : List (List Bool)) → s ≡ t → xs
 same_parts s t xs ys p q = cc
 
 -- Modules of the same size with the same colours are the same.
-pub same_modules : (m n : ModulesView) → IsModules m → IsModules n → m.size ≡ n.size → ((r c : ℕ) → r < m.size.rows → c < m.size.columns → module_at m r c ≡ module_at n r c) → m ≡ n
+pub same_modules : (m n : ModulesView) → IsModules m → IsModules n → m.size ≡ n.size →
+    ((r c : ℕ) → r < m.size.rows → c < m.size.columns → module_at m r c ≡ module_at n r c) → m ≡ n
 same_modules m n a b e cells =
     let height : length n.rows ≡ m.size.rows = b.height ∙ ap (λ (s : SizeEntry). s.rows) (sym e) in
-    let width : All (λ line. length line ≡ m.size.columns) n.rows = subst (λ (s : SizeEntry). All (λ line. length line ≡ s.columns) n.rows) (sym e) b.width in
-    same_parts m.size n.size m.rows n.rows e (same_rows m.size.rows m.size.columns m.rows n.rows a.height height a.width width cells)
+    let width : All (λ line. length line ≡ m.size.columns) n.rows =
+    subst (λ (s : SizeEntry). All (λ line. length line ≡ s.columns) n.rows) (sym e) b.width in
+    same_parts m.size n.size m.rows n.rows e (same_rows m.size.rows m.size.columns m.rows n.rows a.height height a.width
+    width cells)

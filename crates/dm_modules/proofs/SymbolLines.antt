@@ -45,7 +45,8 @@ lt_cases a k false e f = absurd (f (ltb-false a k e))
 
 -- A quotient is below k where the number is below k times the divisor.
 below_by : (a k d m : ℕ) → a * d + m < k * d → a < k
-below_by a k d m l = lt_cases a k (nat_lt a k) refl (λ g. let h : k * d ≤ a * d = mul-le-mul_right d g in omega (arith, h))
+below_by a k d m l =
+    lt_cases a k (nat_lt a k) refl (λ g. let h : k * d ≤ a * d = mul-le-mul_right d g in omega (arith, h))
 
 -- A line within k regions of d lines lies in one of these regions.
 pub region_below : (d r k : ℕ) → 6 ≤ d → r < k * d → r / d < k
@@ -70,7 +71,8 @@ pub record ComesFrom (d k line : ℕ) : Type 0 where
 
 -- Each line of the symbol that is neither first nor last in its region with its border holds a line of the mapping
 -- matrix.
-pub comes_from : (d k line : ℕ) → 6 ≤ d → line < k * (d + 2) → line % (d + 2) ≢ 0 → line % (d + 2) ≢ d + 1 → ComesFrom d k line
+pub comes_from : (d k line : ℕ) → 6 ≤ d → line < k * (d + 2) → line % (d + 2) ≢ 0 → line % (d + 2) ≢ d + 1 →
+    ComesFrom d k line
 comes_from d k line h l first last =
     let p : 0 < d + 2 = omega arith in
     let q : ℕ = line / (d + 2) in
@@ -93,16 +95,20 @@ comes_from d k line h l first last =
 -- ---- the lines of a size
 
 -- Each row of the mapping matrix lies in a row of the symbol.
-pub row_inside : (size : SizeEntry) (r : ℕ) → IsSize size → r < mapping_rows size → symbol_line size.region_rows r < size.rows
+pub row_inside : (size : SizeEntry) (r : ℕ) → IsSize size → r < mapping_rows size →
+    symbol_line size.region_rows r < size.rows
 row_inside size r entry l =
     let facts = size_facts size entry in
-    subst (λ (n : ℕ). symbol_line size.region_rows r < n) (sym facts.rows) (line_inside size.region_rows size.regions_down r facts.least_rows l)
+    subst (λ (n : ℕ). symbol_line size.region_rows r < n) (sym facts.rows)
+    (line_inside size.region_rows size.regions_down r facts.least_rows l)
 
 -- Each column of it lies in a column of the symbol.
-pub column_inside : (size : SizeEntry) (c : ℕ) → IsSize size → c < mapping_columns size → symbol_line size.region_columns c < size.columns
+pub column_inside : (size : SizeEntry) (c : ℕ) → IsSize size → c < mapping_columns size →
+    symbol_line size.region_columns c < size.columns
 column_inside size c entry l =
     let facts = size_facts size entry in
-    subst (λ (n : ℕ). symbol_line size.region_columns c < n) (sym facts.columns) (line_inside size.region_columns size.regions_across c facts.least_columns l)
+    subst (λ (n : ℕ). symbol_line size.region_columns c < n) (sym facts.columns)
+    (line_inside size.region_columns size.regions_across c facts.least_columns l)
 
 -- A module between the first and the last lines of a region with its border doesn't lie on its edge.
 on_no_edge : (d e i j a b : ℕ) → i < d → j < e → a ≡ i + 1 → b ≡ j + 1 → is_on_edge d e a b ≡ false
@@ -134,7 +140,8 @@ no_border size r c entry =
     off_edge size r c facts.least_rows facts.least_columns
 
 -- A module of the symbol that lies on no border is in a row and a column that hold lines of the mapping matrix.
-pub off_border : (size : SizeEntry) (row column : ℕ) → IsSize size → row < size.rows → column < size.columns → is_border size row column ≡ false →
+pub off_border : (size : SizeEntry) (row column : ℕ) → IsSize size → row < size.rows → column < size.columns →
+    is_border size row column ≡ false →
     ComesFrom size.region_rows size.regions_down row × ComesFrom size.region_columns size.regions_across column
 off_border size row column entry l k h =
     let facts = size_facts size entry in
@@ -143,6 +150,8 @@ off_border size row column entry l k h =
     let a = or_parts _ (nat_eq (column % (e + 2)) (e + 1)) h in
     let b = or_parts _ (nat_eq (row % (d + 2)) 0) a.0 in
     let c = or_parts (nat_eq (column % (e + 2)) 0) (nat_eq (row % (d + 2)) (d + 1)) b.0 in (
-      comes_from d size.regions_down row facts.least_rows (subst (λ (n : ℕ). row < n) facts.rows l) (eqb-false _ _ b.1) (eqb-false _ _ c.1),
-      comes_from e size.regions_across column facts.least_columns (subst (λ (n : ℕ). column < n) facts.columns k) (eqb-false _ _ c.0) (eqb-false _ _ a.1),
+      comes_from d size.regions_down row facts.least_rows (subst (λ (n : ℕ). row < n) facts.rows l) (eqb-false _ _ b.1)
+          (eqb-false _ _ c.1),
+      comes_from e size.regions_across column facts.least_columns (subst (λ (n : ℕ). column < n) facts.columns k)
+          (eqb-false _ _ c.0) (eqb-false _ _ a.1),
     )

@@ -14,19 +14,22 @@ use Rattle.dm_modules.specs.Sizes.{longest_block, IsGreatest, IsGreatestOf, Agre
 use Rattle.dm_place.proofs.Exported.{all_below}
 
 -- What holds of the first item, and of what is found among the others, holds of what is found among all.
-found_case : {X : Type 0} (P : X → Type 0) (y x : X) (o : Option X) (b : Bool) → P y → (o ≡ Some x → P x) → cond b (Some y) o ≡ Some x → P x
+found_case : {X : Type 0} (P : X → Type 0) (y x : X) (o : Option X) (b : Bool) → P y → (o ≡ Some x → P x) →
+    cond b (Some y) o ≡ Some x → P x
 found_case P y x o true h k e =
     let g : y ≡ x = cc in
     subst P g h
 found_case P y x o false h k e = k e
 
 -- What holds of each item of a list holds of the one that is found.
-pub at_found : {X : Type 0} (P : X → Type 0) (p : X → Bool) (xs : List X) (x : X) → AllByRecursion P xs → find p xs ≡ Some x → P x
+pub at_found : {X : Type 0} (P : X → Type 0) (p : X → Bool) (xs : List X) (x : X) → AllByRecursion P xs →
+    find p xs ≡ Some x → P x
 at_found P p [] x h e = cc
 at_found P p (y ∷ ys) x h e = found_case P y x (find p ys) (p y) h.0 (at_found P p ys x h.1) e
 
 -- What is found passes the test, if it does so among the other items.
-passes_case : {X : Type 0} (p : X → Bool) (y x : X) (o : Option X) (b : Bool) → p y ≡ b → (o ≡ Some x → p x ≡ true) → cond b (Some y) o ≡ Some x → p x ≡ true
+passes_case : {X : Type 0} (p : X → Bool) (y x : X) (o : Option X) (b : Bool) → p y ≡ b → (o ≡ Some x → p x ≡ true) →
+    cond b (Some y) o ≡ Some x → p x ≡ true
 passes_case p y x o true t k e =
     let g : y ≡ x = cc in
     subst (λ z. p z ≡ true) g t
@@ -38,9 +41,12 @@ found_passes p [] x e = cc
 found_passes p (y ∷ ys) x e = passes_case p y x (find p ys) (p y) refl (found_passes p ys x) e
 
 -- The size that is found for rows and columns has them.
-pub found_sides : (rows columns : ℕ) (s : SizeEntry) → entry_with rows columns ≡ Some s → (s.rows ≡ rows) × (s.columns ≡ columns)
+pub found_sides : (rows columns : ℕ) (s : SizeEntry) → entry_with rows columns ≡ Some s →
+    (s.rows ≡ rows) × (s.columns ≡ columns)
 found_sides rows columns s h =
-    let both = and_parts (nat_eq s.rows rows) (nat_eq s.columns columns) (found_passes (λ size. nat_eq size.rows rows && nat_eq size.columns columns) size_table s h) in
+    let both =
+    and_parts (nat_eq s.rows rows) (nat_eq s.columns columns)
+    (found_passes (λ size. nat_eq size.rows rows && nat_eq size.columns columns) size_table s h) in
     (eqb-true _ _ both.0, eqb-true _ _ both.1)
 
 -- Sizes of the table with the same rows and columns are the same.
@@ -52,25 +58,30 @@ same_size s t h k e f =
 -- ---- what the checker computes for each size of the table
 
 -- A test that each size of the table passes is passed by a size that stands in it.
-pub passed_at_size : (test : SizeEntry → Bool) (s : SizeEntry) → list_all test size_table ≡ true → IsSize s → test s ≡ true
+pub passed_at_size : (test : SizeEntry → Bool) (s : SizeEntry) → list_all test size_table ≡ true → IsSize s →
+    test s ≡ true
 passed_at_size test s h size =
     at_found (λ r. test r ≡ true) (λ r. nat_eq r.rows s.rows && nat_eq r.columns s.columns) size_table s
     (recursion_from_All (λ r. test r ≡ true) size_table (AllPass-from_list_all test size_table h)) size
 
 -- Two numbers that are the same in each size of the table are the same for a size that stands in it.
-same_at_size : (x y : SizeEntry → ℕ) (s : SizeEntry) → IsSize s → list_all (λ r. nat_eq (x r) (y r)) size_table ≡ true → x s ≡ y s
+same_at_size : (x y : SizeEntry → ℕ) (s : SizeEntry) → IsSize s → list_all (λ r. nat_eq (x r) (y r)) size_table ≡ true →
+    x s ≡ y s
 same_at_size x y s size h = eqb-true _ _ (passed_at_size (λ r. nat_eq (x r) (y r)) s h size)
 
 -- A number that is at most another one in each size of the table is so for a size that stands in it.
-most_at_size : (x y : SizeEntry → ℕ) (s : SizeEntry) → IsSize s → list_all (λ r. nat_le (x r) (y r)) size_table ≡ true → x s ≤ y s
+most_at_size : (x y : SizeEntry → ℕ) (s : SizeEntry) → IsSize s → list_all (λ r. nat_le (x r) (y r)) size_table ≡ true →
+    x s ≤ y s
 most_at_size x y s size h = leb-true _ _ (passed_at_size (λ r. nat_le (x r) (y r)) s h size)
 
 -- A number that is at most another one for each block of each size is so for each block of a size that stands in the
 -- table.
-most_at_block : (x y : SizeEntry → ℕ → ℕ) (s : SizeEntry) → IsSize s → list_all (λ r. list_all (λ b. nat_le (x r b) (y r b)) (range_with_len 0 r.blocks)) size_table ≡ true →
+most_at_block : (x y : SizeEntry → ℕ → ℕ) (s : SizeEntry) → IsSize s →
+    list_all (λ r. list_all (λ b. nat_le (x r b) (y r b)) (range_with_len 0 r.blocks)) size_table ≡ true →
     (b : ℕ) → b < s.blocks → x s b ≤ y s b
 most_at_block x y s size h b l =
-    leb-true _ _ (all_below (λ b. nat_le (x s b) (y s b)) s.blocks b (passed_at_size (λ r. list_all (λ b. nat_le (x r b) (y r b)) (range_with_len 0 r.blocks)) s h size) l)
+    leb-true _ _ (all_below (λ b. nat_le (x s b) (y s b)) s.blocks b
+    (passed_at_size (λ r. list_all (λ b. nat_le (x r b) (y r b)) (range_with_len 0 r.blocks)) s h size) l)
 
 -- The numbers of a size are related in these ways.
 pub record SizeFacts (s : SizeEntry) : Type 0 where
@@ -144,11 +155,14 @@ unfolding size_table
 some_block_data s h = most_at_block (λ r b. 1) block_data s h refl
 
 -- A block has its data codewords and the check codewords that each block has.
-pub block_parts : (s : SizeEntry) → IsSize s → (b : ℕ) → b < s.blocks → block_data s b + block_check s ≡ block_length s b
+pub block_parts : (s : SizeEntry) → IsSize s → (b : ℕ) → b < s.blocks →
+    block_data s b + block_check s ≡ block_length s b
 unfolding size_table
 block_parts s h b l =
-    let f : SizeEntry → Bool = λ r. list_all (λ b. nat_eq (block_data r b + block_check r) (block_length r b)) (range_with_len 0 r.blocks) in
-    eqb-true _ _ (all_below (λ b. nat_eq (block_data s b + block_check s) (block_length s b)) s.blocks b (passed_at_size f s refl h) l)
+    let f : SizeEntry → Bool =
+    λ r. list_all (λ b. nat_eq (block_data r b + block_check r) (block_length r b)) (range_with_len 0 r.blocks) in
+    eqb-true _ _ (all_below (λ b. nat_eq (block_data s b + block_check s) (block_length s b)) s.blocks b
+    (passed_at_size f s refl h) l)
 
 -- ---- the greatest numbers of the columns
 
@@ -161,12 +175,14 @@ greatest_of sizes column number some none =
     record {
       met = (met.0, met.1, met.2, met.3, eqb-true _ _ met.4);
       most =
-          All-weaker (λ size. nat_le (column size) number ≡ true) (λ size. column size ≤ number) (λ size h. leb-true _ _ h)
+          All-weaker (λ size. nat_le (column size) number ≡ true) (λ size. column size ≤ number)
+          (λ size h. leb-true _ _ h)
           sizes (AllPass-from_list_all (λ size. nat_le (column size) number) sizes none);
     }
 
 -- So it is with a column of the table.
-pub greatest : (column : SizeEntry → ℕ) (number : ℕ) → list_any (λ size. nat_eq (column size) number) size_table ≡ true →
+pub greatest : (column : SizeEntry → ℕ) (number : ℕ) →
+    list_any (λ size. nat_eq (column size) number) size_table ≡ true →
     list_all (λ size. nat_le (column size) number) size_table ≡ true → IsGreatest column number
 greatest = greatest_of size_table
 
@@ -176,16 +192,26 @@ greatest = greatest_of size_table
 abbrev agrees : SizeEntry → Bool
 agrees r =
     nat_eq r.rows (r.regions_down * (r.region_rows + 2)) && nat_eq r.columns (r.regions_across * (r.region_columns + 2))
-    && nat_eq (codeword_count r) (mapping_rows r * mapping_columns r / 8) && nat_eq r.check_count (r.blocks * block_check r)
+    && nat_eq (codeword_count r) (mapping_rows r * mapping_columns r / 8)
+    && nat_eq r.check_count (r.blocks * block_check r)
 
 -- Each size of the table passes it, and so its numbers agree.
 pub all_agree : All Agrees size_table
 unfolding size_table
-all_agree = All-weaker (λ r. agrees r ≡ true) Agrees (λ r h. told r h) size_table (AllPass-from_list_all agrees size_table refl)
+all_agree =
+    All-weaker (λ r. agrees r ≡ true) Agrees (λ r h. told r h) size_table (AllPass-from_list_all agrees size_table refl)
   where
     told : (r : SizeEntry) → agrees r ≡ true → Agrees r
     told r h =
         let three = and_parts _ (nat_eq r.check_count (r.blocks * block_check r)) h in
         let two = and_parts _ (nat_eq (codeword_count r) (mapping_rows r * mapping_columns r / 8)) three.0 in
-        let one = and_parts (nat_eq r.rows (r.regions_down * (r.region_rows + 2))) (nat_eq r.columns (r.regions_across * (r.region_columns + 2))) two.0 in
-        record { rows = eqb-true _ _ one.0; columns = eqb-true _ _ one.1; codewords = eqb-true _ _ two.1; checks = eqb-true _ _ three.1 }
+        let one =
+        and_parts (nat_eq r.rows (r.regions_down * (r.region_rows + 2)))
+        (nat_eq r.columns (r.regions_across * (r.region_columns + 2))) two.0 in
+        record {
+          rows = eqb-true _ _ one.0;
+          columns = eqb-true _ _ one.1;
+          codewords = eqb-true _ _ two.1;
+          checks =
+              eqb-true _ _ three.1;
+        }

@@ -31,8 +31,8 @@ BeginAlike count v w =
     (b : ℕ) → b < v.size.blocks →
     take (count b) (block_of v.size.blocks b v.list) ≡ take (count b) (block_of v.size.blocks b w.list)
 
--- The first codewords of a block, as many as `count` says of it, are those of the symbol's data codewords that are dealt
--- to the block.
+-- The first codewords of a block, as many as `count` says of it, are those of the symbol's data codewords that are
+-- dealt to the block.
 abbrev pub BeginsWithData : (ℕ → ℕ) → WordsView → ℕ → Type 0
 BeginsWithData count w b =
     take (count b) (block_of w.size.blocks b w.list) ≡ block_of w.size.blocks b (data_of w)

@@ -201,8 +201,8 @@ most_block_check = 68
 
 -- ---- the bound of a block
 
--- No block may have more codewords than this: as many as the field has elements other than 0. The laws of codewords hold
--- up to this length. The longest block of the table has 243.
+-- No block may have more codewords than this: as many as the field has elements other than 0. The laws of codewords
+-- hold up to this length. The longest block of the table has 243.
 abbrev pub longest_block : ℕ
 longest_block = 255
 

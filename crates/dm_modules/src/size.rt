@@ -72,17 +72,33 @@ impl Model for SymbolSize {
 
     ghost Value = { SizeEntry };
 
-    ghost view = { λ s. entry_of s.rows s.columns s.region_rows s.region_columns s.regions_down s.regions_across s.data_count s.check_count s.blocks s.extended };
+    ghost view = { λ s. entry_of s.rows s.columns s.region_rows s.region_columns s.regions_down
+        s.regions_across s.data_count s.check_count s.blocks s.extended };
 
-    ghost invariant = { λ s. IsSize (entry_of s.rows s.columns s.region_rows s.region_columns s.regions_down s.regions_across s.data_count s.check_count s.blocks s.extended) };
+    ghost invariant = { λ s. IsSize (entry_of s.rows s.columns s.region_rows s.region_columns s.regions_down
+        s.regions_across s.data_count s.check_count s.blocks s.extended) };
 
-    ghost inverse = { λ e. record { rows = e.rows; columns = e.columns; region_rows = e.region_rows; region_columns = e.region_columns; regions_down = e.regions_down; regions_across = e.regions_across; data_count = e.data_count; check_count = e.check_count; blocks = e.blocks; extended = e.extended } };
+    ghost inverse = { λ e. record {
+      rows = e.rows;
+      columns = e.columns;
+      region_rows = e.region_rows;
+      region_columns = e.region_columns;
+      regions_down = e.regions_down;
+      regions_across = e.regions_across;
+      data_count = e.data_count;
+      check_count = e.check_count;
+      blocks = e.blocks;
+      extended = e.extended;
+    } };
 }
 
 /// An entry of the table: rows and columns, of the symbol and of a region; regions down and across; data, check,
 /// blocks; whether it is one of the extension.
 macro_rules! row {
-    ($rows:literal $columns:literal, $region_rows:literal $region_columns:literal, $down:literal $across:literal, $data:literal $check:literal $blocks:literal, $extended:literal) => {
+    (
+        $rows:literal $columns:literal, $region_rows:literal $region_columns:literal,
+        $down:literal $across:literal, $data:literal $check:literal $blocks:literal, $extended:literal
+    ) => {
         SymbolSize {
             rows: $rows,
             columns: $columns,

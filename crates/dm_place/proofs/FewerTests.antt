@@ -1,6 +1,7 @@
 -- The shapes of a mapping matrix by fewer tests: the anchors of one sum lie all in even rows or all in odd ones, and a
 -- sum that isn't a multiple of 4 has none.
-use Rattle.std.proofs.Common.{◌≡◌, ℕ, ◌+◌, ◌-◌, ◌*◌, ◌%◌, Bool, true, false, ◌&&◌, nat_eq, nat_lt, nat_le, List, [], ◌∷◌, ◌++◌, flat_map, refl, ap, ◌∙◌, arith}
+use Rattle.std.proofs.Common.{◌≡◌, ℕ, ◌+◌, ◌-◌, ◌*◌, ◌%◌, Bool, true, false, ◌&&◌, nat_eq, nat_lt, nat_le, List, []}
+use Rattle.std.proofs.Common.{◌∷◌, ◌++◌, flat_map, refl, ap, ◌∙◌, arith}
 use Rattle.std.specs.List.{range_with_len}
 use Rattle.std.proofs.lemmas.Bool.{and_parts, eqb-true, eqb-false, leb-true}
 use Rattle.dm_place.specs.declared.shape.Shape.{Shape}
@@ -26,21 +27,27 @@ none_of f (x ∷ xs) h = ap (λ (ys : List Shape). ys ++ flat_map f xs) (h x) �
 -- Where two lists agree in each part, they are equal.
 same_parts : (f g : ℕ → List Shape) (xs : List ℕ) → ((x : ℕ) → f x ≡ g x) → flat_map f xs ≡ flat_map g xs
 same_parts f g [] h = refl
-same_parts f g (x ∷ xs) h = ap (λ (ys : List Shape). ys ++ flat_map f xs) (h x) ∙ ap (λ (ys : List Shape). g x ++ ys) (same_parts f g xs h)
+same_parts f g (x ∷ xs) h =
+    ap (λ (ys : List Shape). ys ++ flat_map f xs) (h x) ∙ ap (λ (ys : List Shape). g x ++ ys) (same_parts f g xs h)
 
 -- A cell where 5r + c doesn't leave 4 when divided by 8 has no shape.
 no_shape : (rows columns r c : ℕ) → ((5 * r + c) % 8 ≡ 4 → ⊥) → shape_at rows columns r c ≡ []
 no_shape rows columns r c f = by_test (is_anchor rows columns r c) refl
   where
-    by_test : (t : Bool) → is_anchor rows columns r c ≡ t → elim t as (λ _. List Shape) [ true ↦ Standard r c ∷ [] | false ↦ [] ] ≡ []
-    by_test true h = absurd (f (eqb-true _ _ (and_parts (nat_lt r rows && nat_lt c columns) _ (and_parts (nat_lt r rows && nat_lt c columns && nat_eq ((5 * r + c) % 8) 4) _ h).0).1))
+    by_test : (t : Bool) → is_anchor rows columns r c ≡ t →
+        elim t as (λ _. List Shape) [ true ↦ Standard r c ∷ [] | false ↦ [] ] ≡ []
+    by_test true h =
+        absurd
+        (f (eqb-true _ _ (and_parts (nat_lt r rows && nat_lt c columns) _
+        (and_parts (nat_lt r rows && nat_lt c columns && nat_eq ((5 * r + c) % 8) 4) _ h).0).1))
     by_test false h = refl
 
 -- A sum that doesn't leave 4 when divided by 8 has no anchor in an even row.
 pub none_even : (rows columns s c : ℕ) → (s % 8 ≡ 4 → ⊥) → in_even_row rows columns s c ≡ []
 none_even rows columns s c f = by_test (nat_le c s && nat_eq ((s - c) % 2) 0) refl
   where
-    by_test : (t : Bool) → (nat_le c s && nat_eq ((s - c) % 2) 0) ≡ t → elim t as (λ _. List Shape) [ true ↦ shape_at rows columns (s - c) c | false ↦ [] ] ≡ []
+    by_test : (t : Bool) → (nat_le c s && nat_eq ((s - c) % 2) 0) ≡ t →
+        elim t as (λ _. List Shape) [ true ↦ shape_at rows columns (s - c) c | false ↦ [] ] ≡ []
     by_test true h =
         let both = and_parts (nat_le c s) _ h in
         let l = leb-true c s both.0 in
@@ -52,7 +59,8 @@ none_even rows columns s c f = by_test (nat_le c s && nat_eq ((s - c) % 2) 0) re
 pub none_odd : (rows columns s r : ℕ) → (s % 8 ≡ 0 → ⊥) → in_odd_row rows columns s r ≡ []
 none_odd rows columns s r f = by_test (nat_le r s && nat_eq (r % 2) 1) refl
   where
-    by_test : (t : Bool) → (nat_le r s && nat_eq (r % 2) 1) ≡ t → elim t as (λ _. List Shape) [ true ↦ shape_at rows columns r (s - r) | false ↦ [] ] ≡ []
+    by_test : (t : Bool) → (nat_le r s && nat_eq (r % 2) 1) ≡ t →
+        elim t as (λ _. List Shape) [ true ↦ shape_at rows columns r (s - r) | false ↦ [] ] ≡ []
     by_test true h =
         let both = and_parts (nat_le r s) _ h in
         let l = leb-true r s both.0 in
@@ -61,7 +69,8 @@ none_odd rows columns s r f = by_test (nat_le r s && nat_eq (r % 2) 1) refl
     by_test false h = refl
 
 -- Where a list is empty if a test fails, the choice between it and the empty list is the list.
-chosen : (t : Bool) (xs : List Shape) → (t ≡ false → xs ≡ []) → xs ≡ elim t as (λ _. List Shape) [ true ↦ xs | false ↦ [] ]
+chosen : (t : Bool) (xs : List Shape) → (t ≡ false → xs ≡ []) →
+    xs ≡ elim t as (λ _. List Shape) [ true ↦ xs | false ↦ [] ]
 chosen true xs h = refl
 chosen false xs h = h refl
 
@@ -70,12 +79,19 @@ same_of_sum : (rows columns s : ℕ) → shapes_of_sum rows columns s ≡ few_of
 same_of_sum rows columns s =
     let evens : List Shape = flat_map (in_even_row rows columns s) (range_with_len 0 columns) in
     let odds : List Shape = flat_map (in_odd_row rows columns s) (range_with_len 0 rows) in
-    let a = chosen (nat_eq (s % 8) 4) evens (λ h. none_of (in_even_row rows columns s) (range_with_len 0 columns) (λ c. none_even rows columns s c (eqb-false (s % 8) 4 h))) in
-    let b = chosen (nat_eq (s % 8) 0) odds (λ h. none_of (in_odd_row rows columns s) (range_with_len 0 rows) (λ r. none_odd rows columns s r (eqb-false (s % 8) 0 h))) in
+    let a =
+    chosen (nat_eq (s % 8) 4) evens (λ h. none_of (in_even_row rows columns s) (range_with_len 0 columns)
+    (λ c. none_even rows columns s c (eqb-false (s % 8) 4 h))) in
+    let b =
+    chosen (nat_eq (s % 8) 0) odds (λ h. none_of (in_odd_row rows columns s) (range_with_len 0 rows)
+    (λ r. none_odd rows columns s r (eqb-false (s % 8) 0 h))) in
     ap (λ (xs : List Shape). corner_before rows columns s ++ xs ++ odds) a
-    ∙ ap (λ (xs : List Shape). corner_before rows columns s ++ elim (nat_eq (s % 8) 4) as (λ _. List Shape) [ true ↦ evens | false ↦ [] ] ++ xs) b
+    ∙ ap (λ (xs : List Shape). corner_before rows columns s
+    ++ elim (nat_eq (s % 8) 4) as (λ _. List Shape) [ true ↦ evens | false ↦ [] ] ++ xs) b
 
 -- The shapes of a mapping matrix are found by few tests.
 pub shapes-few : (rows columns : ℕ) → shapes rows columns ≡ few_shapes rows columns
 unfolding shapes few_shapes
-shapes-few rows columns = same_parts (shapes_of_sum rows columns) (few_of_sum rows columns) (range_with_len 0 (rows + columns - 1)) (same_of_sum rows columns)
+shapes-few rows columns =
+    same_parts (shapes_of_sum rows columns) (few_of_sum rows columns) (range_with_len 0 (rows + columns - 1))
+    (same_of_sum rows columns)

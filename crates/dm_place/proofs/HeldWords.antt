@@ -1,5 +1,6 @@
 -- A mapping matrix holds one list of codewords.
-use Rattle.std.proofs.Common.{◌≡◌, ℕ, ◌-◌, ◌/◌, ◌%◌, ◌^◌, ◌<◌, ◌≤◌, Bool, false, nat_eq, List, [], ◌∷◌, map, length, get_or, refl, sym, ◌∙◌, ap, arith}
+use Rattle.std.proofs.Common.{◌≡◌, ℕ, ◌-◌, ◌/◌, ◌%◌, ◌^◌, ◌<◌, ◌≤◌, Bool, false, nat_eq, List, [], ◌∷◌, map, length}
+use Rattle.std.proofs.Common.{get_or, refl, sym, ◌∙◌, ap, arith}
 use Rattle.std.specs.List.{All}
 use Rattle.std.proofs.lemmas.Grind.{same_number_lists}
 use Rattle.std.proofs.lemmas.List.{length-map, get_or-map}
@@ -17,17 +18,21 @@ abbrev pub words_of : (ℕ → ℕ → Bool) → ℕ → ℕ → List ℕ
 words_of look rows columns = map (λ sh. word_at look (cells_of rows columns sh)) (shapes rows columns)
 
 -- They are as many as the shapes.
-pub length-words_of : (look : ℕ → ℕ → Bool) (rows columns : ℕ) → length (words_of look rows columns) ≡ length (shapes rows columns)
+pub length-words_of : (look : ℕ → ℕ → Bool) (rows columns : ℕ) →
+    length (words_of look rows columns) ≡ length (shapes rows columns)
 length-words_of look rows columns = length-map (shapes rows columns) (λ sh. word_at look (cells_of rows columns sh))
 
 -- The codeword that is read at the cells of a shape has the bits that are seen there.
 pub bit_in : (look : ℕ → ℕ → Bool) (rows columns : ℕ) (sh : Shape) (bit : ℕ) → 1 ≤ bit → bit ≤ 8 →
-    nat_eq (word_at look (cells_of rows columns sh) / 2 ^ (8 - bit) % 2) 1 ≡ look (get_or (cells_of rows columns sh) (bit - 1) (At 0 0)).row (get_or (cells_of rows columns sh) (bit - 1) (At 0 0)).column
+    nat_eq (word_at look (cells_of rows columns sh) / 2 ^ (8 - bit) % 2) 1 ≡
+    look (get_or (cells_of rows columns sh) (bit - 1) (At 0 0)).row
+    (get_or (cells_of rows columns sh) (bit - 1) (At 0 0)).column
 bit_in look rows columns sh bit lo hi =
     let k : bit - 1 < length (cells_of rows columns sh) = omega (arith, eight rows columns sh) in
     by_shape sh ∙ get_or-map (λ (x : Cell). look x.row x.column) (cells_of rows columns sh) (bit - 1) (At 0 0) false k
   where
-    by_shape : (sh : Shape) → nat_eq (word_at look (cells_of rows columns sh) / 2 ^ (8 - bit) % 2) 1 ≡ get_or (map (λ (x : Cell). look x.row x.column) (cells_of rows columns sh)) (bit - 1) false
+    by_shape : (sh : Shape) → nat_eq (word_at look (cells_of rows columns sh) / 2 ^ (8 - bit) % 2) 1 ≡
+        get_or (map (λ (x : Cell). look x.row x.column) (cells_of rows columns sh)) (bit - 1) false
     by_shape (Standard r c) = bits_of_byte _ _ _ _ _ _ _ _ bit lo hi
     by_shape Corner1 = bits_of_byte _ _ _ _ _ _ _ _ bit lo hi
     by_shape Corner2 = bits_of_byte _ _ _ _ _ _ _ _ bit lo hi
@@ -46,10 +51,21 @@ holds_words_of look rows columns word bit cell p =
 -- Eight digits make a byte.
 eight_digits : (a b c d e f g h : Bool) → number_of 0 (a ∷ b ∷ c ∷ d ∷ e ∷ f ∷ g ∷ h ∷ []) < 256
 eight_digits a b c d e f g h =
-    omega (arith, digit_small a, digit_small b, digit_small c, digit_small d, digit_small e, digit_small f, digit_small g, digit_small h)
+    omega (
+      arith,
+      digit_small a,
+      digit_small b,
+      digit_small c,
+      digit_small d,
+      digit_small e,
+      digit_small f,
+      digit_small g,
+      digit_small h,
+    )
 
 -- The codeword of a shape is a byte.
-word_is_byte : (look : ℕ → ℕ → Bool) (rows columns : ℕ) (shape : Shape) → word_at look (cells_of rows columns shape) < 256
+word_is_byte : (look : ℕ → ℕ → Bool) (rows columns : ℕ) (shape : Shape) →
+    word_at look (cells_of rows columns shape) < 256
 word_is_byte look rows columns (Standard r c) = eight_digits _ _ _ _ _ _ _ _
 word_is_byte look rows columns Corner1 = eight_digits _ _ _ _ _ _ _ _
 word_is_byte look rows columns Corner2 = eight_digits _ _ _ _ _ _ _ _
@@ -60,12 +76,20 @@ word_is_byte look rows columns Corner4 = eight_digits _ _ _ _ _ _ _ _
 pub words_are_bytes : (look : ℕ → ℕ → Bool) (rows columns : ℕ) → All (λ w. w < 256) (words_of look rows columns)
 words_are_bytes look rows columns =
     All-map (λ w. w < 256) (λ shape. word_at look (cells_of rows columns shape)) (shapes rows columns)
-    (All-from_get_or (λ shape. word_at look (cells_of rows columns shape) < 256) (shapes rows columns) Corner1 (λ i hi. word_is_byte look rows columns _))
+    (All-from_get_or (λ shape. word_at look (cells_of rows columns shape) < 256) (shapes rows columns) Corner1
+    (λ i hi. word_is_byte look rows columns _))
 
 -- Each matrix holds some codewords.
 pub some_list : EachMatrixHolds
-some_list rows columns look =
-    (words_of look rows columns, record { count = length-words_of look rows columns; bytes = words_are_bytes look rows columns }, holds_words_of look rows columns)
+some_list rows columns look = (
+  words_of look rows columns,
+  record {
+    count = length-words_of look rows columns;
+    bytes =
+        words_are_bytes look rows columns;
+  },
+  holds_words_of look rows columns,
+)
 
 -- A matrix holds only one list of codewords.
 pub one_list : HeldWordsAreOne
@@ -77,8 +101,12 @@ one_list rows columns look u v hu hv bu bv = same_number_lists u v (hu.count ∙
         let m : i < length v = omega (arith, l, hu.count, hv.count) in
         let at : (bit : ℕ) → 1 ≤ bit → bit ≤ 8 → bit_of u i bit ≡ bit_of v i bit =
         λ (bit : ℕ) lo hi.
-        let p : IsPlace rows columns i bit (place rows columns i bit) = record { word_in = k; from_one = lo; to_eight = hi; there = refl } in
+        let p : IsPlace rows columns i bit (place rows columns i bit) =
+        record { word_in = k; from_one = lo; to_eight = hi; there = refl } in
         sym (bu i bit (place rows columns i bit) p) ∙ bv i bit (place rows columns i bit) p in
-        same_byte (get_or u i 0) (get_or v i 0) (All-get_or (λ (w : ℕ). w < 256) u i 0 l hu.bytes) (All-get_or (λ (w : ℕ). w < 256) v i 0 m hv.bytes)
-        (at 1 (omega arith) (omega arith)) (at 2 (omega arith) (omega arith)) (at 3 (omega arith) (omega arith)) (at 4 (omega arith) (omega arith))
-        (at 5 (omega arith) (omega arith)) (at 6 (omega arith) (omega arith)) (at 7 (omega arith) (omega arith)) (at 8 (omega arith) (omega arith))
+        same_byte (get_or u i 0) (get_or v i 0) (All-get_or (λ (w : ℕ). w < 256) u i 0 l hu.bytes)
+        (All-get_or (λ (w : ℕ). w < 256) v i 0 m hv.bytes)
+        (at 1 (omega arith) (omega arith)) (at 2 (omega arith) (omega arith)) (at 3 (omega arith) (omega arith))
+        (at 4 (omega arith) (omega arith))
+        (at 5 (omega arith) (omega arith)) (at 6 (omega arith) (omega arith)) (at 7 (omega arith) (omega arith))
+        (at 8 (omega arith) (omega arith))

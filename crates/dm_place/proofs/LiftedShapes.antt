@@ -1,5 +1,6 @@
 -- What is lifted from a mapping matrix, shape by shape.
-use Rattle.std.proofs.Common.{◌≡◌, ℕ, zero, suc, ◌+◌, ◌-◌, ◌/◌, ◌%◌, ◌^◌, ◌<◌, ◌≤◌, Bool, true, ◌&&◌, nat_eq, nat_lt, nat_le, List, [], ◌∷◌, set, length, refl, sym, ◌∙◌, ap, arith, get_or}
+use Rattle.std.proofs.Common.{◌≡◌, ℕ, zero, suc, ◌+◌, ◌-◌, ◌/◌, ◌%◌, ◌^◌, ◌<◌, ◌≤◌, Bool, true, ◌&&◌, nat_eq, nat_lt}
+use Rattle.std.proofs.Common.{nat_le, List, [], ◌∷◌, set, length, refl, sym, ◌∙◌, ap, arith, get_or}
 use Rattle.std.specs.Prelude.{Some}
 use Rattle.std.specs.List.{list_all}
 use Rattle.std.proofs.lemmas.Bool.{and_parts, ltb-true, leb-true}
@@ -18,17 +19,20 @@ use Rattle.dm_place.proofs.PlacementRows.{passes_at_row}
 -- The codewords after those of these shapes are put, from number k on.
 abbrev pub lifted : (ℕ → ℕ → Bool) → ℕ → ℕ → List Shape → ℕ → List ℕ → List ℕ
 lifted look rows columns [] k words = words
-lifted look rows columns (s ∷ rest) k words = lifted look rows columns rest (k + 1) (set words k (word_at look (cells_of rows columns s)))
+lifted look rows columns (s ∷ rest) k words =
+    lifted look rows columns rest (k + 1) (set words k (word_at look (cells_of rows columns s)))
 
 -- A codeword before those that are put stays.
-lifted-before : (look : ℕ → ℕ → Bool) (rows columns : ℕ) (ss : List Shape) (k : ℕ) (words : List ℕ) (j : ℕ) → j < k → get_or (lifted look rows columns ss k words) j 0 ≡ get_or words j 0
+lifted-before : (look : ℕ → ℕ → Bool) (rows columns : ℕ) (ss : List Shape) (k : ℕ) (words : List ℕ) (j : ℕ) → j < k →
+    get_or (lifted look rows columns ss k words) j 0 ≡ get_or words j 0
 lifted-before look rows columns [] k words j l = refl
 lifted-before look rows columns (s ∷ ss) k words j l =
     lifted-before look rows columns ss (k + 1) (set words k (word_at look (cells_of rows columns s))) j (omega arith)
     ∙ get_or-set_other words k j (word_at look (cells_of rows columns s)) 0 (λ e. omega (arith, e, l))
 
 -- Each of the codewords is that of its shape.
-lifted-at : (look : ℕ → ℕ → Bool) (rows columns : ℕ) (ss : List Shape) (k : ℕ) (words : List ℕ) (i : ℕ) → i < length ss → k + length ss ≤ length words →
+lifted-at : (look : ℕ → ℕ → Bool) (rows columns : ℕ) (ss : List Shape) (k : ℕ) (words : List ℕ) (i : ℕ) →
+    i < length ss → k + length ss ≤ length words →
     get_or (lifted look rows columns ss k words) (k + i) 0 ≡ word_at look (cells_of rows columns (get_or ss i Corner1))
 lifted-at look rows columns [] k words i l room = absurd (omega arith)
 lifted-at look rows columns (s ∷ ss) k words zero l room =
@@ -45,12 +49,15 @@ lifted-at look rows columns (s ∷ ss) k words (suc i) l room =
     ∙ lifted-at look rows columns ss (k + 1) (set words k w) i (omega arith) (omega (arith, room, n))
 
 -- A matrix holds the codewords that are lifted from it.
-pub holds_lifted : (look : ℕ → ℕ → Bool) (rows columns : ℕ) (old new : List ℕ) → length (shapes rows columns) ≡ length old → new ≡ lifted look rows columns (shapes rows columns) 0 old → HoldsBits rows columns look new
+pub holds_lifted : (look : ℕ → ℕ → Bool) (rows columns : ℕ) (old new : List ℕ) →
+    length (shapes rows columns) ≡ length old → new ≡ lifted look rows columns (shapes rows columns) 0 old →
+    HoldsBits rows columns look new
 unfolding place
 holds_lifted look rows columns old new count e word bit cell p =
     let z : word ≡ 0 + word = omega arith in
     let at : get_or new word 0 ≡ word_at look (cells_of rows columns (get_or (shapes rows columns) word Corner1)) =
-    ap (λ (ws : List ℕ). get_or ws word 0) e ∙ ap (λ (j : ℕ). get_or (lifted look rows columns (shapes rows columns) 0 old) j 0) z
+    ap (λ (ws : List ℕ). get_or ws word 0) e ∙ ap
+    (λ (j : ℕ). get_or (lifted look rows columns (shapes rows columns) 0 old) j 0) z
     ∙ lifted-at look rows columns (shapes rows columns) 0 old word p.word_in (omega (arith, count)) in
     sym (ap (λ (x : ℕ). nat_eq (x / 2 ^ (8 - bit) % 2) 1) at
     ∙ bit_in look rows columns (get_or (shapes rows columns) word Corner1) bit p.from_one p.to_eight
@@ -59,7 +66,8 @@ holds_lifted look rows columns old new count e word bit cell p =
 -- ---- all cells lie inside
 
 -- Cells that pass the test lie in the matrix.
-pub cells_inside : (rows columns : ℕ) (xs : List Cell) → inside_test rows columns xs ≡ true → CellsInside rows columns xs
+pub cells_inside : (rows columns : ℕ) (xs : List Cell) → inside_test rows columns xs ≡ true →
+    CellsInside rows columns xs
 cells_inside rows columns [] h = tt
 cells_inside rows columns (x ∷ xs) h =
     let both = and_parts (nat_lt x.row rows && nat_lt x.column columns) (inside_test rows columns xs) h in
@@ -77,12 +85,16 @@ anchor_in rows columns Corner3 h = tt
 anchor_in rows columns Corner4 h = tt
 
 -- Shapes that pass the test lie in the matrix.
-all_inside : (rows columns : ℕ) (ss : List Shape) → list_all (fits_test rows columns) ss ≡ true → ShapesInside rows columns ss
+all_inside : (rows columns : ℕ) (ss : List Shape) → list_all (fits_test rows columns) ss ≡ true →
+    ShapesInside rows columns ss
 all_inside rows columns [] h = tt
 all_inside rows columns (s ∷ ss) h =
     let both = and_parts (fits_test rows columns s) (list_all (fits_test rows columns) ss) h in
-    let here = and_parts (anchor_inside rows columns s) (inside_test rows columns (cells_of rows columns s)) both.0 in
-    (anchor_in rows columns s here.0, cells_inside rows columns (cells_of rows columns s) here.1, all_inside rows columns ss both.1)
+    let here = and_parts (anchor_inside rows columns s) (inside_test rows columns (cells_of rows columns s)) both.0 in (
+      anchor_in rows columns s here.0,
+      cells_inside rows columns (cells_of rows columns s) here.1,
+      all_inside rows columns ss both.1,
+    )
 
 -- What holds of a matrix whose sides stand in the table.
 pub record MatrixFacts (rows columns count : ℕ) : Type 0 where
@@ -91,7 +103,8 @@ pub record MatrixFacts (rows columns count : ℕ) : Type 0 where
   pub safe : SidesAreSafe rows columns
 
 -- These facts hold of each matrix of the table.
-pub matrix_facts : (rows columns count : ℕ) → row_with_sides rows columns ≡ Some (sides_of rows columns count) → MatrixFacts rows columns count
+pub matrix_facts : (rows columns count : ℕ) → row_with_sides rows columns ≡ Some (sides_of rows columns count) →
+    MatrixFacts rows columns count
 matrix_facts rows columns count row =
     let passed = passes_at_row rows columns (sides_of rows columns count) row in
     let sides = and_parts (nat_le 6 rows && nat_le 6 columns) (nat_le rows 132 && nat_le columns 132) passed.sides in
@@ -100,5 +113,12 @@ matrix_facts rows columns count row =
     record {
       counted = passed.counted;
       inside = all_inside rows columns (shapes rows columns) passed.fits;
-      safe = record { rows_low = leb-true 6 rows low.0; columns_low = leb-true 6 columns low.1; rows_most = leb-true rows 132 most.0; columns_most = leb-true columns 132 most.1 };
+      safe =
+          record {
+            rows_low = leb-true 6 rows low.0;
+            columns_low = leb-true 6 columns low.1;
+            rows_most =
+                leb-true rows 132 most.0;
+            columns_most = leb-true columns 132 most.1;
+          };
     }

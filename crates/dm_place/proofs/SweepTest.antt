@@ -1,6 +1,7 @@
 -- A test that the sweep places these shapes and that each cell of the mapping matrix is one place. It keeps the filled
 -- cells as one number, whose bit r * columns + c is set where cell (r, c) is filled.
-use Rattle.std.proofs.Common.{ℕ, ◌+◌, ◌-◌, ◌*◌, ◌/◌, ◌%◌, ◌^◌, Bool, true, false, not, ◌&&◌, nat_eq, nat_lt, List, [], ◌∷◌, flat_map}
+use Rattle.std.proofs.Common.{ℕ, ◌+◌, ◌-◌, ◌*◌, ◌/◌, ◌%◌, ◌^◌, Bool, true, false, not, ◌&&◌, nat_eq, nat_lt, List, []}
+use Rattle.std.proofs.Common.{◌∷◌, flat_map}
 use Rattle.std.specs.Bool.{beq}
 use Rattle.std.specs.Int.RustNames.{bit_or}
 use Prim.Native.Nat.{bit_and}
@@ -40,7 +41,11 @@ with_new rows columns t x = t + 2 ^ number_of rows columns x
 -- These cells are new when they are filled one after the other, and with them filled what comes next passes its test.
 abbrev pub fill_new : ℕ → ℕ → ℕ → List Cell → (ℕ → Bool) → Bool
 fill_new rows columns t [] next = next t
-fill_new rows columns t (x ∷ rest) next = elim (is_new rows columns t x) [ true ↦ fill_new rows columns (with_new rows columns t x) rest next | false ↦ false ]
+fill_new rows columns t (x ∷ rest) next =
+    elim (is_new rows columns t x) [
+      | true ↦ fill_new rows columns (with_new rows columns t x) rest next
+      | false ↦ false
+    ]
 
 -- The anchor of a standard shape lies in the matrix.
 abbrev pub anchor_inside : ℕ → ℕ → Shape → Bool
@@ -61,14 +66,16 @@ left_out rows columns t Corner4 = false
 -- The shape is the next one to be placed, and its cells are new.
 abbrev pub places_next : ℕ → ℕ → ℕ → Shape → List Shape → (ℕ → List Shape → Bool) → Bool
 places_next rows columns t s [] next = false
-places_next rows columns t s (p ∷ ps) next = elim (same_shape s p) [ true ↦ fill_new rows columns t (cells_of rows columns s) (λ u. next u ps) | false ↦ false ]
+places_next rows columns t s (p ∷ ps) next =
+    elim (same_shape s p) [ true ↦ fill_new rows columns t (cells_of rows columns s) (λ u. next u ps) | false ↦ false ]
 
 -- The cells outside the fixed square are filled, and no others. Where there is no fixed square, the number that has all
 -- bits is compared as a whole.
 unfoldable pub all_filled : ℕ → ℕ → ℕ → Bool
 all_filled rows columns t =
     elim (nat_eq (rows % 4) 2 && nat_eq (columns % 4) 2) [
-      | true ↦ list_all (λ k. beq (is_free t k) (is_fixed rows columns (k / columns) (k % columns))) (range_with_len 0 (rows * columns))
+      | true ↦ list_all (λ k. beq (is_free t k) (is_fixed rows columns (k / columns) (k % columns)))
+          (range_with_len 0 (rows * columns))
       | false ↦ nat_eq t (2 ^ (rows * columns) - 1)
     ]
 
@@ -79,6 +86,10 @@ sweep_test rows columns t [] [] = all_filled rows columns t
 sweep_test rows columns t [] (p ∷ ps) = false
 sweep_test rows columns t (s ∷ rest) ps =
     elim (anchor_inside rows columns s) [
-      | true ↦ elim (left_out rows columns t s) [ true ↦ sweep_test rows columns t rest ps | false ↦ places_next rows columns t s ps (λ u qs. sweep_test rows columns u rest qs) ]
+      | true ↦ elim (left_out rows columns t s) [
+        | true ↦ sweep_test rows columns t rest ps
+        | false ↦ places_next rows
+            columns t s ps (λ u qs. sweep_test rows columns u rest qs)
+      ]
       | false ↦ false
     ]

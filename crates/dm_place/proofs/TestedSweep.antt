@@ -1,5 +1,6 @@
 -- The test of the sweep, computed for the mapping matrix of each size.
-use Rattle.std.proofs.Common.{zero, suc, [], ◌∷◌, ◌∙◌, ap, ◌≡◌, ℕ, ◌*◌, Bool, true, ◌&&◌, nat_eq, nat_lt, nat_le, List, take, drop, length, refl}
+use Rattle.std.proofs.Common.{zero, suc, [], ◌∷◌, ◌∙◌, ap, ◌≡◌, ℕ, ◌*◌, Bool, true, ◌&&◌, nat_eq, nat_lt, nat_le, List}
+use Rattle.std.proofs.Common.{take, drop, length, refl}
 use Rattle.std.specs.Prelude.{pos}
 use Rattle.std.specs.List.{list_all}
 use Rattle.std.proofs.lemmas.Bool.{and_parts}
@@ -40,7 +41,8 @@ size_test size =
     && sides_test size.rows size.columns
 
 -- A list passes a test if its first n items and those after them do.
-pass_parts : (p : SidesRow → Bool) (n : ℕ) (xs : List SidesRow) → list_all p (take n xs) ≡ true → list_all p (drop n xs) ≡ true → list_all p xs ≡ true
+pass_parts : (p : SidesRow → Bool) (n : ℕ) (xs : List SidesRow) → list_all p (take n xs) ≡ true →
+    list_all p (drop n xs) ≡ true → list_all p xs ≡ true
 pass_parts p zero xs h g = g
 pass_parts p (suc n) [] h g = refl
 pass_parts p (suc n) (x ∷ xs) h g =

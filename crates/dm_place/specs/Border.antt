@@ -6,7 +6,8 @@ use Rattle.std.specs.Prelude.{◌≡◌, ℕ, ◌+◌, ◌*◌, ◌/◌, ◌%◌
 
 -- A cell of it belongs to the border if it lies in the left or right column or in the top or bottom row.
 abbrev pub is_on_edge : ℕ → ℕ → ℕ → ℕ → Bool
-is_on_edge rows columns row column = nat_eq column 0 || nat_eq row (rows + 1) || nat_eq row 0 || nat_eq column (columns + 1)
+is_on_edge rows columns row column =
+    nat_eq column 0 || nat_eq row (rows + 1) || nat_eq row 0 || nat_eq column (columns + 1)
 
 -- A border cell of the left column or the bottom row is dark; another one of the top row is dark if its column is
 -- even, and another one of the right column if its row is odd.

@@ -1,5 +1,6 @@
 -- Which codewords a mapping matrix holds, whose cells may be kept in any form: ISO/IEC 16022, module placement.
-use Rattle.std.specs.Prelude.{◌≡◌, ℕ, ◌+◌, ◌-◌, ◌*◌, ◌/◌, ◌%◌, ◌^◌, ◌<◌, Bool, true, false, List, [], ◌∷◌, get_or, length, map, nat_eq}
+use Rattle.std.specs.Prelude.{◌≡◌, ℕ, ◌+◌, ◌-◌, ◌*◌, ◌/◌, ◌%◌, ◌^◌, ◌<◌, Bool, true, false, List, [], ◌∷◌, get_or}
+use Rattle.std.specs.Prelude.{length, map, nat_eq}
 use Rattle.std.specs.List.{All}
 use Rattle.dm_place.specs.declared.shape.Cell.{Cell}
 use Rattle.dm_place.specs.Border.{is_fixed}
@@ -19,7 +20,8 @@ bit_of words word bit = nat_eq (get_or words word 0 / 2 ^ (8 - bit) % 2) 1
 -- a rule of this project.
 abbrev pub HoldsBits : ℕ → ℕ → (ℕ → ℕ → Bool) → List ℕ → Type 0
 HoldsBits rows columns look words =
-    (word bit : ℕ) (cell : Cell) → IsPlace rows columns word bit cell → look cell.row cell.column ≡ bit_of words word bit
+    (word bit : ℕ) (cell : Cell) → IsPlace rows columns word bit cell →
+    look cell.row cell.column ≡ bit_of words word bit
 
 -- A list has the codewords of a matrix if it has one for each shape, of 0 to 255.
 pub record AreWords (rows columns : ℕ) (words : List ℕ) : Type 0 where
@@ -47,13 +49,16 @@ word_at look cells = number_of 0 (map (λ x. look x.row x.column) cells)
 -- The cells of the fixed square are the same after as before.
 abbrev pub KeepsFixedSquare : ℕ → ℕ → (ℕ → ℕ → Bool) → (ℕ → ℕ → Bool) → Type 0
 KeepsFixedSquare rows columns before after =
-    (row column : ℕ) → row < rows → column < columns → is_fixed rows columns row column ≡ true → after row column ≡ before row column
+    (row column : ℕ) → row < rows → column < columns → is_fixed rows columns row column ≡ true →
+    after row column ≡ before row column
 
 -- ---- laws
 
 -- Each matrix holds some codewords, whatever its rows and columns and whichever of its cells are dark.
 abbrev pub EachMatrixHolds : Type 0
-EachMatrixHolds = (rows columns : ℕ) (look : ℕ → ℕ → Bool) → (words : List ℕ) × AreWords rows columns words × HoldsBits rows columns look words
+EachMatrixHolds =
+    (rows columns : ℕ) (look : ℕ → ℕ → Bool) → (words : List ℕ) × AreWords rows columns words
+    × HoldsBits rows columns look words
 
 -- No matrix holds two different lists of codewords.
 abbrev pub HeldWordsAreOne : Type 0

@@ -1,7 +1,8 @@
 -- Where the codewords lie in a mapping matrix of so many rows and columns: ISO/IEC 16022, module placement. The
 -- standard gives it as a sweep over the matrix; here it is a closed form of our own, and that both are the same for
 -- every size is a law.
-use Rattle.std.specs.Prelude.{◌≡◌, ℕ, suc, ◌+◌, ◌-◌, ◌*◌, ◌%◌, ◌<◌, ◌≤◌, Bool, true, false, not, ◌&&◌, ◌||◌, nat_eq, nat_lt, nat_le, List, [], ◌∷◌, ◌++◌, get_or, length, flat_map, slice_get, Some}
+use Rattle.std.specs.Prelude.{◌≡◌, ℕ, suc, ◌+◌, ◌-◌, ◌*◌, ◌%◌, ◌<◌, ◌≤◌, Bool, true, false, not, ◌&&◌, ◌||◌, nat_eq}
+use Rattle.std.specs.Prelude.{nat_lt, nat_le, List, [], ◌∷◌, ◌++◌, get_or, length, flat_map, slice_get, Some}
 use Rattle.std.specs.Bool.{MatchBool}
 use Rattle.std.specs.List.{range_with_len}
 use Rattle.dm_place.specs.Border.{is_fixed}
@@ -27,7 +28,10 @@ wrapped_twice rows columns r c up left =
         | true ↦ At (r + rows + 4 - (up + (columns + 4) % 8)) (c + 4 + columns - (left + (rows + 4) % 8))
         | false ↦ At (r + rows - up) (c + 4 - (left + (rows + 4) % 8))
       ]
-      | false ↦ elim (nat_lt c left) [ true ↦ At (r + 4 - (up + (columns + 4) % 8)) (c + columns - left) | false ↦ At (r - up) (c - left) ]
+      | false ↦ elim (nat_lt c left) [
+        | true ↦ At (r + 4 - (up + (columns + 4) % 8)) (c + columns - left)
+        | false ↦ At (r - up) (c - left)
+      ]
     ]
 
 -- A cell below the matrix is wrapped round the bottom edge, and loses the matrix's rows.
@@ -53,13 +57,17 @@ standard rows columns r c = standard_by (wrapped_cell rows columns r c)
 abbrev pub cells_of : ℕ → ℕ → Shape → List Cell
 cells_of rows columns (Standard r c) = standard rows columns r c
 cells_of rows columns Corner1 =
-    At (rows - 1) 0 ∷ At (rows - 1) 1 ∷ At (rows - 1) 2 ∷ At 0 (columns - 2) ∷ At 0 (columns - 1) ∷ At 1 (columns - 1) ∷ At 2 (columns - 1) ∷ At 3 (columns - 1) ∷ []
+    At (rows - 1) 0 ∷ At (rows - 1) 1 ∷ At (rows - 1) 2 ∷ At 0 (columns - 2) ∷ At 0 (columns - 1) ∷ At 1 (columns - 1) ∷
+    At 2 (columns - 1) ∷ At 3 (columns - 1) ∷ []
 cells_of rows columns Corner2 =
-    At (rows - 3) 0 ∷ At (rows - 2) 0 ∷ At (rows - 1) 0 ∷ At 0 (columns - 4) ∷ At 0 (columns - 3) ∷ At 0 (columns - 2) ∷ At 0 (columns - 1) ∷ At 1 (columns - 1) ∷ []
+    At (rows - 3) 0 ∷ At (rows - 2) 0 ∷ At (rows - 1) 0 ∷ At 0 (columns - 4) ∷ At 0 (columns - 3) ∷ At 0 (columns - 2) ∷
+    At 0 (columns - 1) ∷ At 1 (columns - 1) ∷ []
 cells_of rows columns Corner3 =
-    At (rows - 3) 0 ∷ At (rows - 2) 0 ∷ At (rows - 1) 0 ∷ At 0 (columns - 2) ∷ At 0 (columns - 1) ∷ At 1 (columns - 1) ∷ At 2 (columns - 1) ∷ At 3 (columns - 1) ∷ []
+    At (rows - 3) 0 ∷ At (rows - 2) 0 ∷ At (rows - 1) 0 ∷ At 0 (columns - 2) ∷ At 0 (columns - 1) ∷ At 1 (columns - 1) ∷
+    At 2 (columns - 1) ∷ At 3 (columns - 1) ∷ []
 cells_of rows columns Corner4 =
-    At (rows - 1) 0 ∷ At (rows - 1) (columns - 1) ∷ At 0 (columns - 3) ∷ At 0 (columns - 2) ∷ At 0 (columns - 1) ∷ At 1 (columns - 3) ∷ At 1 (columns - 2) ∷ At 1 (columns - 1) ∷ []
+    At (rows - 1) 0 ∷ At (rows - 1) (columns - 1) ∷ At 0 (columns - 3) ∷ At 0 (columns - 2) ∷ At 0 (columns - 1) ∷
+    At 1 (columns - 3) ∷ At 1 (columns - 2) ∷ At 1 (columns - 1) ∷ []
 
 -- The anchor of a standard shape lies in the matrix; a corner always does.
 abbrev pub AnchorInside : ℕ → ℕ → Shape → Type 0
@@ -77,7 +85,8 @@ CellsInside rows columns (x ∷ rest) = (x.row < rows) × (x.column < columns) �
 -- The anchors and the cells of these shapes lie in the matrix.
 abbrev pub ShapesInside : ℕ → ℕ → List Shape → Type 0
 ShapesInside rows columns [] = Unit {0}
-ShapesInside rows columns (s ∷ rest) = AnchorInside rows columns s × CellsInside rows columns (cells_of rows columns s) × ShapesInside rows columns rest
+ShapesInside rows columns (s ∷ rest) =
+    AnchorInside rows columns s × CellsInside rows columns (cells_of rows columns s) × ShapesInside rows columns rest
 
 -- ---- the shapes, in the order of the codewords
 
@@ -93,7 +102,8 @@ is_absent rows columns r c =
 -- A cell of the matrix is the anchor of a standard shape if 5r + c leaves 4 when divided by 8 and the cell isn't
 -- absent.
 abbrev pub is_anchor : ℕ → ℕ → ℕ → ℕ → Bool
-is_anchor rows columns r c = nat_lt r rows && nat_lt c columns && nat_eq ((5 * r + c) % 8) 4 && not (is_absent rows columns r c)
+is_anchor rows columns r c =
+    nat_lt r rows && nat_lt c columns && nat_eq ((5 * r + c) % 8) 4 && not (is_absent rows columns r c)
 
 -- A standard shape stands at each anchor, and none at any other cell.
 abbrev pub shape_at : ℕ → ℕ → ℕ → ℕ → List Shape
@@ -101,11 +111,13 @@ shape_at rows columns r c = elim (is_anchor rows columns r c) [ true ↦ Standar
 
 -- This is the standard shape of sum s = r + c whose anchor lies in column c and in an even row, if there is one.
 abbrev pub in_even_row : ℕ → ℕ → ℕ → ℕ → List Shape
-in_even_row rows columns s c = elim (nat_le c s && nat_eq ((s - c) % 2) 0) [ true ↦ shape_at rows columns (s - c) c | false ↦ [] ]
+in_even_row rows columns s c =
+    elim (nat_le c s && nat_eq ((s - c) % 2) 0) [ true ↦ shape_at rows columns (s - c) c | false ↦ [] ]
 
 -- This is the standard shape of sum s = r + c whose anchor lies in row r, if that row is odd and there is one.
 abbrev pub in_odd_row : ℕ → ℕ → ℕ → ℕ → List Shape
-in_odd_row rows columns s r = elim (nat_le r s && nat_eq (r % 2) 1) [ true ↦ shape_at rows columns r (s - r) | false ↦ [] ]
+in_odd_row rows columns s r =
+    elim (nat_le r s && nat_eq (r % 2) 1) [ true ↦ shape_at rows columns r (s - r) | false ↦ [] ]
 
 -- A corner comes just before the anchors of sum s by what rows and columns leave when divided by 8: corner 1 at 4 and 4
 -- where s is the number of rows, corner 2 at 6 and 6 and corner 3 at 6 and 4 where s is rows - 2, corner 4 at 6 and 0
@@ -118,7 +130,10 @@ corner_before rows columns s =
         | true ↦ Corner2 ∷ []
         | false ↦ elim (nat_eq (rows % 8) 6 && nat_eq (columns % 8) 4 && nat_eq s (rows - 2)) [
           | true ↦ Corner3 ∷ []
-          | false ↦ elim (nat_eq (rows % 8) 6 && nat_eq (columns % 8) 0 && nat_eq s (rows + 6)) [ true ↦ Corner4 ∷ [] | false ↦ [] ]
+          | false ↦ elim (nat_eq (rows % 8) 6 && nat_eq (columns % 8) 0 && nat_eq s (rows + 6)) [
+            | true ↦ Corner4 ∷ []
+            | false ↦ []
+          ]
         ]
       ]
     ]
@@ -126,7 +141,9 @@ corner_before rows columns s =
 -- The shapes of sum s are the corner that comes before its anchors, if any, then those with anchors in even rows by
 -- rising column, and then those with anchors in odd rows by rising row.
 abbrev pub shapes_of_sum : ℕ → ℕ → ℕ → List Shape
-shapes_of_sum rows columns s = corner_before rows columns s ++ flat_map (in_even_row rows columns s) (range_with_len 0 columns) ++ flat_map (in_odd_row rows columns s) (range_with_len 0 rows)
+shapes_of_sum rows columns s =
+    corner_before rows columns s ++ flat_map (in_even_row rows columns s) (range_with_len 0 columns)
+    ++ flat_map (in_odd_row rows columns s) (range_with_len 0 rows)
 
 -- The shapes of a mapping matrix are ordered by rising sum of row and column; each takes the next codeword.
 unfoldable pub shapes : ℕ → ℕ → List Shape
@@ -137,7 +154,8 @@ shapes rows columns = flat_map (shapes_of_sum rows columns) (range_with_len 0 (r
 -- The place of a bit of a codeword is a cell of the mapping matrix. `word` counts codewords from 0 and is below the
 -- number of shapes, and bit 1 is the highest and 8 the lowest; outside these ranges a place means nothing.
 unfoldable pub place : ℕ → ℕ → ℕ → ℕ → Cell
-place rows columns word bit = get_or (cells_of rows columns (get_or (shapes rows columns) word Corner1)) (bit - 1) (At 0 0)
+place rows columns word bit =
+    get_or (cells_of rows columns (get_or (shapes rows columns) word Corner1)) (bit - 1) (At 0 0)
 
 -- This bit of this codeword lies in the cell.
 pub record IsPlace (rows columns word bit : ℕ) (cell : Cell) : Type 0 where
@@ -159,20 +177,24 @@ OnePlace rows columns cell =
 -- Each cell of the mapping matrix holds exactly one bit, or belongs to
 -- the fixed square and holds none; and each bit lies in the matrix.
 pub record EachCellOnce (rows columns : ℕ) : Type 0 where
-  pub once : (r c : ℕ) → r < rows → c < columns → MatchBool (is_fixed rows columns r c) (NoPlace rows columns (At r c)) (OnePlace rows columns (At r c))
-  pub inside : (word bit : ℕ) (cell : Cell) → IsPlace rows columns word bit cell → (cell.row < rows) × (cell.column < columns)
+  pub once : (r c : ℕ) → r < rows → c < columns →
+      MatchBool (is_fixed rows columns r c) (NoPlace rows columns (At r c)) (OnePlace rows columns (At r c))
+  pub inside : (word bit : ℕ) (cell : Cell) → IsPlace rows columns word bit cell →
+      (cell.row < rows) × (cell.column < columns)
 
 -- ---- all places, by word and then by bit
 
 -- These are the places of the bits of a codeword from bit b + 1 on, which lie in these cells.
 abbrev pub bits_from : ℕ → ℕ → List Cell → List Place
 bits_from word b [] = []
-bits_from word b (x ∷ rest) = record { word = word; bit = b + 1; row = x.row; column = x.column } ∷ bits_from word (suc b) rest
+bits_from word b (x ∷ rest) =
+    record { word = word; bit = b + 1; row = x.row; column = x.column } ∷ bits_from word (suc b) rest
 
 -- These are the places of all bits of the codewords from number `word` on, which have these shapes.
 abbrev pub places_from : ℕ → ℕ → ℕ → List Shape → List Place
 places_from rows columns word [] = []
-places_from rows columns word (s ∷ rest) = bits_from word 0 (cells_of rows columns s) ++ places_from rows columns (suc word) rest
+places_from rows columns word (s ∷ rest) =
+    bits_from word 0 (cells_of rows columns s) ++ places_from rows columns (suc word) rest
 
 -- The places of all bits are ordered by codeword and then by bit.
 unfoldable pub places_in_order : ℕ → ℕ → List Place
@@ -182,4 +204,5 @@ places_in_order rows columns = places_from rows columns 0 (shapes rows columns)
 pub record IsPlaceList (rows columns : ℕ) (places : List Place) : Type 0 where
   pub count : length places ≡ 8 * length (shapes rows columns)
   pub in_order : (word bit : ℕ) (cell : Cell) → IsPlace rows columns word bit cell →
-      slice_get places (8 * word + (bit - 1)) ≡ Some (record { word = word; bit = bit; row = cell.row; column = cell.column })
+      slice_get places (8 * word + (bit - 1)) ≡
+      Some (record { word = word; bit = bit; row = cell.row; column = cell.column })

@@ -1,7 +1,8 @@
 -- The sweep by which ISO/IEC 16022 (module placement) fills a mapping matrix, turn by turn, over a table of filled
 -- cells. It knows nothing of the sums r + c and of the congruence of 5r + c, by which the closed form is given; both
 -- share the cells of a shape. That the sweep places the shapes of the closed form is a law.
-use Rattle.std.specs.Prelude.{◌≡◌, ℕ, zero, suc, ◌+◌, ◌*◌, ◌%◌, Bool, true, false, not, ◌&&◌, ◌||◌, nat_eq, nat_lt, List, [], ◌∷◌, ◌++◌, get_or, set, replicate, ℤ, pos, negsuc, ◌+ℤ◌, ◌-ℤ◌, int_lt, int_le}
+use Rattle.std.specs.Prelude.{◌≡◌, ℕ, zero, suc, ◌+◌, ◌*◌, ◌%◌, Bool, true, false, not, ◌&&◌, ◌||◌, nat_eq, nat_lt}
+use Rattle.std.specs.Prelude.{List, [], ◌∷◌, ◌++◌, get_or, set, replicate, ℤ, pos, negsuc, ◌+ℤ◌, ◌-ℤ◌, int_lt, int_le}
 use Rattle.std.specs.List.{list_any}
 use Rattle.dm_place.specs.declared.shape.Cell.{Cell}
 use Rattle.dm_place.specs.declared.shape.Shape.{Shape}
@@ -19,7 +20,10 @@ corner_at rows columns r c =
         | true ↦ Corner2 ∷ []
         | false ↦ elim (nat_eq (r + 2) rows && nat_eq c 0 && nat_eq (columns % 8) 4) [
           | true ↦ Corner3 ∷ []
-          | false ↦ elim (nat_eq r (rows + 4) && nat_eq c 2 && nat_eq (columns % 8) 0) [ true ↦ Corner4 ∷ [] | false ↦ [] ]
+          | false ↦ elim (nat_eq r (rows + 4) && nat_eq c 2 && nat_eq (columns % 8) 0) [
+            | true ↦ Corner4 ∷ []
+            | false ↦ []
+          ]
         ]
       ]
     ]
@@ -32,7 +36,8 @@ corner_of_turn rows columns (negsuc r) c = []
 
 -- At a cell inside the matrix the sweep comes by the standard shape that has its anchor there, and elsewhere by none.
 abbrev pub inside_at : ℕ → ℕ → ℤ → ℤ → List Shape
-inside_at rows columns (pos r) (pos c) = elim (nat_lt r rows && nat_lt c columns) [ true ↦ Standard r c ∷ [] | false ↦ [] ]
+inside_at rows columns (pos r) (pos c) =
+    elim (nat_lt r rows && nat_lt c columns) [ true ↦ Standard r c ∷ [] | false ↦ [] ]
 inside_at rows columns (pos r) (negsuc c) = []
 inside_at rows columns (negsuc r) c = []
 
@@ -50,7 +55,10 @@ pub data Part : Type 0 where
 unfoldable pub comes_by : ℕ → ℕ → ℕ → Part → ℤ → ℤ → List Shape
 comes_by zero rows columns part r c = []
 comes_by (suc k) rows columns Corner r c =
-    elim (int_lt r (pos rows) || int_lt c (pos columns)) [ true ↦ corner_of_turn rows columns r c ++ comes_by k rows columns Upwards r c | false ↦ [] ]
+    elim (int_lt r (pos rows) || int_lt c (pos columns)) [
+      | true ↦ corner_of_turn rows columns r c ++ comes_by k rows columns Upwards r c
+      | false ↦ []
+    ]
 comes_by (suc k) rows columns Upwards r c =
     inside_at rows columns r c
     ++ elim (int_lt (r -ℤ pos 2) (pos 0) || int_le (pos columns) (c +ℤ pos 2)) [
@@ -91,11 +99,15 @@ is_left_out table Corner4 = false
 unfoldable pub placed : ℕ → ℕ → List (List ℕ) → List Shape → List Shape
 placed rows columns table [] = []
 placed rows columns table (s ∷ rest) =
-    elim (is_left_out table s) [ true ↦ placed rows columns table rest | false ↦ s ∷ placed rows columns (fill table (cells_of rows columns s)) rest ]
+    elim (is_left_out table s) [
+      | true ↦ placed rows columns table rest
+      | false ↦ s ∷ placed rows columns (fill table (cells_of rows columns s)) rest
+    ]
 
 -- The sweep begins at row 4, column 0 with nothing filled, and places these shapes in at most this many moves.
 unfoldable pub sweep_within : ℕ → ℕ → ℕ → List Shape
-sweep_within moves rows columns = placed rows columns (nothing_filled rows) (comes_by moves rows columns Corner (pos 4) (pos 0))
+sweep_within moves rows columns =
+    placed rows columns (nothing_filled rows) (comes_by moves rows columns Corner (pos 4) (pos 0))
 
 -- The sweep places these shapes; for every matrix of the table it ends within as many moves as there are cells, so
 -- further moves place nothing.

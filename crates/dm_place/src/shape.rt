@@ -1,7 +1,8 @@
 //! The shapes in which codewords lie in the mapping matrix: ISO/IEC 16022, module placement.
 
 ghost use Rattle.std.specs.Prelude.{◌≡◌, ◌+◌, ◌%◌, ◌<◌, ◌≤◌};
-ghost use Rattle.dm_place.specs.Placement.{At, cells_of, wrapped_twice as wrapped_twice_by, lowered_cell, wrapped_cell, AnchorInside};
+ghost use Rattle.dm_place.specs.Placement.{At, cells_of, wrapped_twice as wrapped_twice_by, lowered_cell, wrapped_cell};
+ghost use Rattle.dm_place.specs.Placement.{AnchorInside};
 
 /// A cell of the mapping matrix; row and column count from 0, from the top and from the left.
 #[derive(Clone, Copy, Debug, PartialEq, Eq)]

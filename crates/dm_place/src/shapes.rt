@@ -3,7 +3,8 @@
 ghost use Rattle.std.specs.Prelude.{◌≡◌, ℕ, List, ◌+◌, ◌-◌, ◌<◌, ◌≤◌, ◌++◌, IfSome};
 ghost use Rattle.std.specs.Option.{option_to_list};
 ghost use Rattle.std.specs.Iterator.{YieldsFirst, item_count};
-ghost use Rattle.dm_place.specs.Placement.{shapes as shapes_by, corner_before, in_even_row, in_odd_row, shape_at as shape_at_by, AnchorInside};
+ghost use Rattle.dm_place.specs.Placement.{shapes as shapes_by, corner_before, in_even_row, in_odd_row};
+ghost use Rattle.dm_place.specs.Placement.{shape_at as shape_at_by, AnchorInside};
 ghost use Rattle.dm_place.specs.Sides.{SidesAreSafe};
 ghost use Rattle.dm_place.specs.inner.Walking.{shapes_left, steps_left, StepsAreSafe};
 ghost use Rattle.dm_place.specs.declared.shape.Shape.{Shape};

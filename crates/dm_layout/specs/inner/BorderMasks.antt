@@ -11,7 +11,9 @@ pub record AreBorders (size : SizeRow) (last left both even all : ℕ) : Type 0 
   pub row : IsRow size
   pub last_row : last ≡ size.region_side + 1
   pub left_columns : (c : ℕ) → c < size.side → is_dark_in left c ≡ nat_eq (c % (size.region_side + 2)) 0
-  pub both_columns : (c : ℕ) → c < size.side → is_dark_in both c ≡ nat_eq (c % (size.region_side + 2)) 0 || nat_eq (c % (size.region_side + 2)) (size.region_side + 1)
+  pub both_columns : (c : ℕ) → c < size.side →
+      is_dark_in both c ≡
+      nat_eq (c % (size.region_side + 2)) 0 || nat_eq (c % (size.region_side + 2)) (size.region_side + 1)
   pub even_columns : (c : ℕ) → c < size.side → is_dark_in even c ≡ nat_eq (c % 2) 0
   pub all_columns : (c : ℕ) → c < size.side → is_dark_in all c ≡ true
   pub left_width : left < 2 ^ size.side
@@ -22,4 +24,5 @@ pub record AreBorders (size : SizeRow) (last left both even all : ℕ) : Type 0 
 -- A cell of row `inner` of a region's square, whose side is d + 2, is
 -- wrong if it belongs to the border and has the other colour.
 abbrev pub is_wrong : ℕ → ℕ → ℕ → ℕ → Bool
-is_wrong d inner row column = is_on_edge d inner (column % (d + 2)) && not (beq (is_dark_in row column) (edge_is_dark d inner (column % (d + 2))))
+is_wrong d inner row column =
+    is_on_edge d inner (column % (d + 2)) && not (beq (is_dark_in row column) (edge_is_dark d inner (column % (d + 2))))

@@ -1,4 +1,5 @@
--- How the grid of a symbol is drawn: light, then with correct borders and the fixed square, then with the rows of the mapping square put in between.
+-- How the grid of a symbol is drawn: light, then with correct borders and the fixed square, then with the rows of the
+-- mapping square put in between.
 use Rattle.std.specs.Prelude.{◌≡◌, ℕ, ◌<◌, Bool, true, false, ◌&&◌, ◌||◌, nat_lt, if◌then◌else◌}
 pub use Rattle.dm_modules.specs.inner.Drawing.{mapping_line}
 use Rattle.dm_layout.specs.Sizes.{SizeRow}
@@ -26,11 +27,13 @@ empty_colour size row column =
 abbrev pub empty_grid : SizeRow → GridView
 empty_grid size = record { size = size; rows = square_by size.side (empty_colour size) }
 
--- In a grid whose borders are drawn as far as `row`, the border cells above it have their colours, and all other cells are light.
+-- In a grid whose borders are drawn as far as `row`, the border cells above it have their colours, and all other cells
+-- are light.
 pub record HasBorders (size : SizeRow) (row : ℕ) (grid : GridView) : Type 0 where
   pub same_size : grid.size ≡ size
   pub square : IsGrid grid
-  pub cells : (r c : ℕ) → r < size.side → c < size.side → cell_at grid r c ≡ nat_lt r row && is_border size r c && border_is_dark size r c
+  pub cells : (r c : ℕ) → r < size.side → c < size.side →
+      cell_at grid r c ≡ nat_lt r row && is_border size r c && border_is_dark size r c
 
 -- ---- the rows of the mapping square
 
@@ -38,6 +41,8 @@ pub record HasBorders (size : SizeRow) (row : ℕ) (grid : GridView) : Type 0 wh
 pub record IsDrawn (size : SizeRow) (look : ℕ → ℕ → Bool) (line : ℕ) (grid : GridView) : Type 0 where
   pub same_size : grid.size ≡ size
   pub square : IsGrid grid
-  pub border : (u v : ℕ) → u < size.side → v < size.side → is_border size u v ≡ true → cell_at grid u v ≡ border_is_dark size u v
+  pub border : (u v : ℕ) → u < size.side → v < size.side → is_border size u v ≡ true →
+      cell_at grid u v ≡ border_is_dark size u v
   pub mapped : (r c : ℕ) → r < size.mapping → c < size.mapping →
-      cell_at grid (symbol_line size.region_side r) (symbol_line size.region_side c) ≡ (is_fixed_dark size.mapping r c || (nat_lt r line && look r c))
+      cell_at grid (symbol_line size.region_side r) (symbol_line size.region_side c) ≡
+      (is_fixed_dark size.mapping r c || (nat_lt r line && look r c))

@@ -10,4 +10,5 @@ look_in rows r c = is_dark_in (get_or rows r 0) c
 -- One of these cells, for the bits of a codeword from bit k + 1 on, lies at this row and column, and its bit is 1.
 abbrev pub marks_in : ℕ → ℕ → List Cell → ℕ → ℕ → Bool
 marks_in word k [] r c = false
-marks_in word k (x ∷ rest) r c = (nat_eq r x.row && nat_eq c x.column && nat_eq (word / 2 ^ (8 - (k + 1)) % 2) 1) || marks_in word (suc k) rest r c
+marks_in word k (x ∷ rest) r c =
+    (nat_eq r x.row && nat_eq c x.column && nat_eq (word / 2 ^ (8 - (k + 1)) % 2) 1) || marks_in word (suc k) rest r c

@@ -1,6 +1,7 @@
--- The codewords of the anchors of a row as the bytes of one number, with their bits in the opposite order, and where each codeword stands.
--- The anchors of row r have columns that leave (3r + 4) mod 8 when divided by 8.
-use Rattle.std.specs.Prelude.{◌≡◌, ◌⊎◌, ℕ, ◌+◌, ◌-◌, ◌*◌, ◌/◌, ◌%◌, ◌^◌, ◌<◌, Bool, ◌&&◌, ◌||◌, nat_eq, nat_le, nat_lt, List, [], ◌∷◌, map, get_or, length, if◌then◌else◌}
+-- The codewords of the anchors of a row as the bytes of one number, with their bits in the opposite order, and where
+-- each codeword stands. The anchors of row r have columns that leave (3r + 4) mod 8 when divided by 8.
+use Rattle.std.specs.Prelude.{◌≡◌, ◌⊎◌, ℕ, ◌+◌, ◌-◌, ◌*◌, ◌/◌, ◌%◌, ◌^◌, ◌<◌, Bool, ◌&&◌, ◌||◌, nat_eq, nat_le, nat_lt}
+use Rattle.std.specs.Prelude.{List, [], ◌∷◌, map, get_or, length, if◌then◌else◌}
 use Rattle.std.specs.Int.{bit_at, from_le_bytes, w128}
 use Rattle.dm_layout.specs.Grid.{is_dark_in}
 use Rattle.dm_layout.specs.inner.Reading.{look_in}
@@ -9,7 +10,10 @@ use Rattle.dm_layout.specs.Placement.{cells_of}
 use Rattle.dm_place.specs.declared.shape.Cell.{Cell}
 use Rattle.dm_place.specs.declared.shape.Shape.{Shape}
 use Rattle.dm_place.specs.declared.shape.Shape.TheVariants.{Standard, Corner1, Corner2, Corner3, Corner4}
-use Rattle.dm_layout.specs.declared.order_rows.TheConstants.{ORDER_8, ORDER_10, ORDER_12, ORDER_14, ORDER_16, ORDER_18, ORDER_20, ORDER_22, ORDER_24, ORDER_28, ORDER_32, ORDER_36, ORDER_40, ORDER_44, ORDER_48, ORDER_56, ORDER_64, ORDER_72, ORDER_80, ORDER_88, ORDER_96}
+use Rattle.dm_layout.specs.declared.order_rows.TheConstants.{ORDER_8, ORDER_10, ORDER_12, ORDER_14, ORDER_16, ORDER_18}
+use Rattle.dm_layout.specs.declared.order_rows.TheConstants.{ORDER_20, ORDER_22, ORDER_24, ORDER_28, ORDER_32, ORDER_36}
+use Rattle.dm_layout.specs.declared.order_rows.TheConstants.{ORDER_40, ORDER_44, ORDER_48, ORDER_56, ORDER_64, ORDER_72}
+use Rattle.dm_layout.specs.declared.order_rows.TheConstants.{ORDER_80, ORDER_88, ORDER_96}
 
 -- A number goes on with the bits of these cells, in widened rows.
 abbrev pub bits_in : List ℕ → ℕ → List Cell → ℕ
@@ -22,13 +26,16 @@ word_in rows cells = bits_in rows 0 cells
 
 -- A reversed byte has its bits in the opposite order.
 abbrev pub reversed_bits : ℕ → ℕ
-reversed_bits x = 128 * (x % 2) + 64 * (x / 2 % 2) + 32 * (x / 4 % 2) + 16 * (x / 8 % 2) + 8 * (x / 16 % 2) + 4 * (x / 32 % 2) + 2 * (x / 64 % 2) + x / 128 % 2
+reversed_bits x =
+    128 * (x % 2) + 64 * (x / 2 % 2) + 32 * (x / 4 % 2) + 16 * (x / 8 % 2) + 8 * (x / 16 % 2) + 4 * (x / 32 % 2)
+    + 2 * (x / 64 % 2) + x / 128 % 2
 
 -- Three rows are joined in one: of each byte the lowest two bits are those of the first row, the next three those of
 -- the second, and the highest three those of the third.
 abbrev pub is_joined : ℕ → ℕ → ℕ → ℕ → Bool
 is_joined first second third column =
-    ((is_dark_in first column && nat_lt (column % 8) 2) || (nat_le 2 column && (is_dark_in second (column - 2) && nat_lt ((column - 2) % 8) 3)))
+    ((is_dark_in first column && nat_lt (column % 8) 2)
+    || (nat_le 2 column && (is_dark_in second (column - 2) && nat_lt ((column - 2) % 8) 3)))
     || (nat_le 5 column && (is_dark_in third (column - 5) && nat_lt ((column - 5) % 8) 3))
 
 -- The codewords whose anchors lie in row r begin at this column of the widened rows.
@@ -38,9 +45,12 @@ first_column r = (4 + 3 * r) % 8 + 2
 -- The bytes of this number are the codewords whose anchors lie in row r of the mapping square of side n, with their
 -- bits in the opposite order, as widened rows have them.
 pub record IsJoined (n : ℕ) (rows : List ℕ) (r x : ℕ) : Type 0 where
-  pub first : (k t : ℕ) → 8 * k < n → t < 2 → is_dark_in (x / 2 ^ (8 * k) % 256) t ≡ look_in rows r (first_column r + (8 * k + t))
-  pub second : (k t : ℕ) → 8 * k < n → t < 3 → is_dark_in (x / 2 ^ (8 * k) % 256) (2 + t) ≡ look_in rows (r + 1) (first_column r + (8 * k + t))
-  pub third : (k t : ℕ) → 8 * k < n → t < 3 → is_dark_in (x / 2 ^ (8 * k) % 256) (5 + t) ≡ look_in rows (r + 2) (first_column r + (8 * k + t))
+  pub first : (k t : ℕ) → 8 * k < n → t < 2 → is_dark_in (x / 2 ^ (8 * k) % 256) t ≡
+      look_in rows r (first_column r + (8 * k + t))
+  pub second : (k t : ℕ) → 8 * k < n → t < 3 → is_dark_in (x / 2 ^ (8 * k) % 256) (2 + t) ≡
+      look_in rows (r + 1) (first_column r + (8 * k + t))
+  pub third : (k t : ℕ) → 8 * k < n → t < 3 → is_dark_in (x / 2 ^ (8 * k) % 256) (5 + t) ≡
+      look_in rows (r + 2) (first_column r + (8 * k + t))
 
 -- Each row of the square is joined in its number.
 abbrev pub AreJoined : ℕ → List ℕ → List ℕ → Type 0

@@ -1,5 +1,6 @@
--- Rows of the mapping square of side n as numbers, widened so that no standard shape wraps: row r of the square is row r + 2, and its column c
--- is the bit of weight 2^(c + 4). The cell of the square at a row and a column is `look row column`.
+-- Rows of the mapping square of side n as numbers, widened so that no standard shape wraps: row r of the square is row
+-- r + 2, and its column c is the bit of weight 2^(c + 4). The cell of the square at a row and a column is `look row
+-- column`.
 use Rattle.std.specs.Prelude.{◌≡◌, ℕ, ◌+◌, ◌-◌, ◌%◌, ◌<◌, ◌≤◌, Bool, false, List}
 use Rattle.dm_layout.specs.inner.Reading.{look_in}
 
@@ -13,6 +14,9 @@ pub record IsMoved (n row : ℕ) (look : ℕ → ℕ → Bool) (rows : List ℕ)
 -- 4 - ((n + 4) mod 8) rows further down; above it cells of the last rows, from as many columns further right.
 pub record IsWidened (n : ℕ) (look : ℕ → ℕ → Bool) (rows : List ℕ) : Type 0 where
   pub inside : (r c : ℕ) → r < n → c < n → look_in rows (r + 2) (c + 4) ≡ look r c
-  pub left : (r c : ℕ) → 2 ≤ r → r < n + 2 → c < 4 → (n + 4) % 8 ≤ r + 2 → r + 2 - (n + 4) % 8 < n → look_in rows r c ≡ look (r + 2 - (n + 4) % 8) (n + c - 4)
-  pub above : (r c : ℕ) → r < 2 → c < n + 4 → (n + 4) % 8 ≤ c → c - (n + 4) % 8 < n → look_in rows r c ≡ look (r + n - 2) (c - (n + 4) % 8)
-  pub above_left : (r c : ℕ) → r < 2 → c < (n + 4) % 8 → (n + 4) % 8 ≤ c + 4 → r + n + 2 - (n + 4) % 8 < n → look_in rows r c ≡ look (r + n + 2 - (n + 4) % 8) (n + c - (n + 4) % 8)
+  pub left : (r c : ℕ) → 2 ≤ r → r < n + 2 → c < 4 → (n + 4) % 8 ≤ r + 2 → r + 2 - (n + 4) % 8 < n →
+      look_in rows r c ≡ look (r + 2 - (n + 4) % 8) (n + c - 4)
+  pub above : (r c : ℕ) → r < 2 → c < n + 4 → (n + 4) % 8 ≤ c → c - (n + 4) % 8 < n →
+      look_in rows r c ≡ look (r + n - 2) (c - (n + 4) % 8)
+  pub above_left : (r c : ℕ) → r < 2 → c < (n + 4) % 8 → (n + 4) % 8 ≤ c + 4 → r + n + 2 - (n + 4) % 8 < n →
+      look_in rows r c ≡ look (r + n + 2 - (n + 4) % 8) (n + c - (n + 4) % 8)

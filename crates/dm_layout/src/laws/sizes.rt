@@ -2,14 +2,16 @@
 #![tactic(auto, unfolding(crate::specs::Sizes::size_table))]
 
 ghost use Rattle.std.specs.Prelude.{◌≡◌, length};
-ghost use Rattle.dm_layout.specs.Sizes.{IsGreatest, codeword_count, regions_across, largest_side, largest_mapping, most_across, most_data, most_codewords, most_blocks, most_block_check, longest_block, block_check, size_table};
+ghost use Rattle.dm_layout.specs.Sizes.{IsGreatest, codeword_count, regions_across, largest_side, largest_mapping};
+ghost use Rattle.dm_layout.specs.Sizes.{most_across, most_data, most_codewords, most_blocks, most_block_check};
+ghost use Rattle.dm_layout.specs.Sizes.{longest_block, block_check, size_table};
 
 use crate::size::{
     LARGEST_SIDE, LONGEST_BLOCK, MOST_BLOCKS, MOST_CODEWORDS, MOST_DATA, SIZE_COUNT,
 };
 
-/// The largest side and mapping side, and the most regions side by side, data codewords, codewords, blocks and check codewords of
-/// a block are those of the table: some size has as many, and none has more.
+/// The largest side and mapping side, and the most regions side by side, data codewords, codewords, blocks and check
+/// codewords of a block are those of the table: some size has as many, and none has more.
 pub fn limits_are_those_of_the_table()
     ensures side { IsGreatest (λ row. row.side) largest_side }
     ensures mapping { IsGreatest (λ row. row.mapping) largest_mapping }

@@ -1,7 +1,8 @@
 //! Facts about the definitions of the sizes.
 
 ghost use Rattle.std.specs.Prelude.{◌≡◌, All, length};
-ghost use Rattle.dm_modules.specs.Sizes.{IsGreatest, Agrees, MatricesAgree, area, codeword_count, mapping_rows, mapping_columns};
+ghost use Rattle.dm_modules.specs.Sizes.{IsGreatest, Agrees, MatricesAgree, area, codeword_count, mapping_rows};
+ghost use Rattle.dm_modules.specs.Sizes.{mapping_columns};
 ghost use Rattle.dm_modules.specs.Sizes.{most_rows, most_columns, most_modules, most_cells, most_data, most_codewords};
 ghost use Rattle.dm_modules.specs.Sizes.{most_blocks, most_block_check, longest_block, block_check, size_table};
 ghost use Rattle.std.specs.Prelude.{◌*◌};
@@ -16,7 +17,8 @@ pub fn sizes_agree()
     ensures { All Agrees size_table }
 {}
 
-/// The mapping matrices of the sizes are those for which `dm_place` shows the laws of placement, and there are no others.
+/// The mapping matrices of the sizes are those for which `dm_place` shows the laws of placement, and there are no
+/// others.
 pub fn matrices_are_those_of_placement()
     ensures { MatricesAgree }
 {}

@@ -6,4 +6,5 @@ use Rattle.dm_place.specs.declared.shape.Cell.{Cell}
 -- cells of this list.
 abbrev pub with_word : ℕ → ℕ → ℕ → List Cell → List Bool → List Bool
 with_word columns word k [] cells = cells
-with_word columns word k (x ∷ xs) cells = with_word columns word (suc k) xs (set cells (x.row * columns + x.column) (nat_eq (word / 2 ^ (8 - (k + 1)) % 2) 1))
+with_word columns word k (x ∷ xs) cells =
+    with_word columns word (suc k) xs (set cells (x.row * columns + x.column) (nat_eq (word / 2 ^ (8 - (k + 1)) % 2) 1))

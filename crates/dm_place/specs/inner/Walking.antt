@@ -15,8 +15,10 @@ from_sum rows columns s = flat_map (shapes_of_sum rows columns) (range_with_len 
 -- These shapes of sum s are left in this part, from this column or row on, and those of larger sums.
 abbrev pub left_at : ℕ → ℕ → ℕ → Part → ℕ → List Shape
 left_at rows columns s Corner i = from_sum rows columns s
-left_at rows columns s Even i = flat_map (in_even_row rows columns s) (range_with_len i (columns - i)) ++ from_sum rows columns (s + 1)
-left_at rows columns s Odd i = flat_map (in_odd_row rows columns s) (range_with_len i (rows - i)) ++ from_sum rows columns (s + 1)
+left_at rows columns s Even i =
+    flat_map (in_even_row rows columns s) (range_with_len i (columns - i)) ++ from_sum rows columns (s + 1)
+left_at rows columns s Odd i =
+    flat_map (in_odd_row rows columns s) (range_with_len i (rows - i)) ++ from_sum rows columns (s + 1)
 
 -- Before the corner the sum is at most one past the last; among the anchors it is one that has some, and their column
 -- or row is at most one past the last.

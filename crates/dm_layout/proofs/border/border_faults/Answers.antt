@@ -25,5 +25,7 @@ loop-row-preserved c =
     record {
       so_far = let e = faults_above_more c.args.grid.now r in omega (arith, e, count, c.loop-row.invariant.so_far);
       most = omega (arith, small, side, c.row_faults-faults.ensures.most, c.loop-row.invariant.most);
-      place = c.below-inner.ensures ∙ ap (λ (s : SizeRow). (c.loop-row.inner + 1) % (s.region_side + 2)) same ∙ row_below (size.region_side + 2) r c.loop-row.inner c.loop-row.invariant.place;
+      place =
+          c.below-inner.ensures ∙ ap (λ (s : SizeRow). (c.loop-row.inner + 1) % (s.region_side + 2)) same
+          ∙ row_below (size.region_side + 2) r c.loop-row.inner c.loop-row.invariant.place;
     }

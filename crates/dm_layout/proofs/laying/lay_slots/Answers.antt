@@ -13,5 +13,7 @@ returns-clause-cells g c = λ r q lr lq.
     let slots = c.args.slots.now in
     c.put_corner.ensures.cells r q
     ∙ ap (λ (t : Bool). t || corner_marks n c.codeword.result r q)
-    (c.fold.ensures.cells r q lr lq ∙ folded_same n g.R.BitRows.width (look_in (rows c.scatter.new.rows)) (scattered n slots) r q lq (omega (arith, c.requires.most, g.met.R.BitRows.fits)) c.scatter.ensures.cells)
-    ∙ ap (λ (w : ℕ). folded n (scattered n slots) r q || corner_marks n w r q) (c.codeword.ensures ∙ ap reversed_bits (corner_slot_is slots))
+    (c.fold.ensures.cells r q lr lq ∙ folded_same n g.R.BitRows.width (look_in (rows c.scatter.new.rows))
+    (scattered n slots) r q lq (omega (arith, c.requires.most, g.met.R.BitRows.fits)) c.scatter.ensures.cells)
+    ∙ ap (λ (w : ℕ). folded n (scattered n slots) r q || corner_marks n w r q) (c.codeword.ensures
+    ∙ ap reversed_bits (corner_slot_is slots))

@@ -5,7 +5,13 @@ use Rattle.dm_layout.proofs.MovedRows.{moved_down, moved_none, move_more}
 use Rattle.dm_layout.proofs.laying.move_columns.Goals as goal
 
 pub loop-row-init : goal.loop-row-init
-loop-row-init g c = record { count = c.requires.room; low = omega arith; so_far = λ r q. moved_none (g.R.BitRows.numbers c.args.rows.now) c.args.mapping c.args.shift r q }
+loop-row-init g c =
+    record {
+      count = c.requires.room;
+      low = omega arith;
+      so_far =
+          λ r q. moved_none (g.R.BitRows.numbers c.args.rows.now) c.args.mapping c.args.shift r q;
+    }
 
 pub loop-row-preserved : goal.loop-row-preserved
 loop-row-preserved g c =
@@ -17,11 +23,15 @@ loop-row-preserved g c =
       low = omega (arith, i.low);
       so_far = λ r q.
           ap (λ (xs : List ℕ). look_in xs r q) c.move_left_end.ensures
-          ∙ move_more g.R.BitRows.width (g.R.BitRows.numbers c.args.rows.now) rows c.args.mapping c.args.shift row c.requires.least (omega (arith, c.requires.most, g.met.R.BitRows.fits)) (omega (arith, c.requires.shift)) i.low
-          (omega (arith, i.count, c.loop-row-test.true, c.requires.most, c.requires.shift, c.requires.even)) i.so_far r q;
+          ∙ move_more g.R.BitRows.width (g.R.BitRows.numbers c.args.rows.now) rows c.args.mapping c.args.shift row
+          c.requires.least (omega (arith, c.requires.most, g.met.R.BitRows.fits)) (omega (arith, c.requires.shift))
+          i.low
+          (omega (arith, i.count, c.loop-row-test.true, c.requires.most, c.requires.shift, c.requires.even)) i.so_far r
+          q;
     }
 
 pub returns-clause-cells : goal.returns-clause-cells
 returns-clause-cells g c = λ r q.
     let e : c.loop-row.row ≡ c.args.mapping + 2 = omega (arith, c.loop-row-test.false, c.loop-row.auto.row-end) in
-    c.loop-row.invariant.so_far r q ∙ ap (λ (i : ℕ). moved_down (g.R.BitRows.numbers c.args.rows.now) c.args.mapping c.args.shift i r q) e
+    c.loop-row.invariant.so_far r q ∙ ap (λ (i : ℕ). moved_down (g.R.BitRows.numbers c.args.rows.now) c.args.mapping
+    c.args.shift i r q) e

@@ -10,7 +10,8 @@ use Rattle.dm_layout.proofs.laying.put_corner.Goals as goal
 -- Which corner is marked, if this is the rest of the side when it's divided by 8.
 abbrev marks_by : ℕ → ℕ → ℕ → ℕ → ℕ → Bool
 marks_by n word r c rest =
-    (nat_eq rest 4 && marks_in word 0 (cells_of n Corner1) r c) || (nat_eq rest 6 && marks_in word 0 (cells_of n Corner2) r c)
+    (nat_eq rest 4 && marks_in word 0 (cells_of n Corner1) r c)
+    || (nat_eq rest 6 && marks_in word 0 (cells_of n Corner2) r c)
 
 first_marks : (n word r c : ℕ) → n % 8 ≡ 4 → corner_marks n word r c ≡ marks_in word 0 (cells_of n Corner1) r c
 first_marks n word r c e = ap (marks_by n word r c) e ∙ or-false _

@@ -11,7 +11,8 @@ pub loop-row-init : goal.loop-row-init
 loop-row-init g c = record {
   count = ap length c.requires.light ∙ length-replicate (g.R.BitRows.most + 6) 0;
   so_far = λ r q l.
-      scattered_none (g.R.BitRows.numbers c.args.rows.now) c.args.slots.now (λ i j. ap (λ (rows : List ℕ). look_in rows i j) c.requires.light ∙ light_at (g.R.BitRows.most + 6) i j) r q;
+      scattered_none (g.R.BitRows.numbers c.args.rows.now) c.args.slots.now
+      (λ i j. ap (λ (rows : List ℕ). look_in rows i j) c.requires.light ∙ light_at (g.R.BitRows.most + 6) i j) r q;
 }
 
 pub loop-row-preserved : goal.loop-row-preserved
@@ -22,7 +23,8 @@ loop-row-preserved g c =
       count = c.scatter.ensures.room ∙ c.loop-row.invariant.count;
       so_far = λ r q l.
           c.scatter.ensures.cells r q l
-          ∙ ap (λ (i : ℕ). with_scattered (look_in (g.R.BitRows.numbers c.loop-row.rows) r q) slots row i r q) c.first_column.ensures
+          ∙ ap (λ (i : ℕ). with_scattered (look_in (g.R.BitRows.numbers c.loop-row.rows) r q) slots row i r q)
+          c.first_column.ensures
           ∙ ap (λ (b : Bool). with_scattered b slots row (first_column row) r q) (c.loop-row.invariant.so_far r q l)
           ∙ scatter_more slots row r q;
     }

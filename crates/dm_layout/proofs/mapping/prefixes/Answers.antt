@@ -1,4 +1,5 @@
-use Rattle.std.proofs.Common.{◌≡◌, ℕ, ◌+◌, ◌-◌, ◌*◌, ◌^◌, ◌<◌, ◌≤◌, ◌%◌, List, get_or, set, ap, ◌∙◌, arith, below_more, get_or-set_same, get_or-set_other}
+use Rattle.std.proofs.Common.{◌≡◌, ℕ, ◌+◌, ◌-◌, ◌*◌, ◌^◌, ◌<◌, ◌≤◌, ◌%◌, List, get_or, set, ap, ◌∙◌, arith, below_more}
+use Rattle.std.proofs.Common.{get_or-set_same, get_or-set_other}
 use Rattle.std.proofs.Math.Nat.{mul-le-mul_right}
 use Rattle.std.proofs.Math.Pow.{pow_pos}
 use Rattle.std.proofs.lemmas.List.{length-set}
@@ -7,17 +8,22 @@ use Rattle.dm_layout.proofs.PackedRows.{weight}
 use Rattle.dm_layout.proofs.mapping.prefixes.Goals as goal
 
 -- Each region but the last ends within the row.
-inside : (region across d : ℕ) → region + 1 < across → across ≤ most_across → across * d ≤ largest_mapping → region * (d + 2) + 1 + d < 128
-inside region across d l few fits = let m : (region + 1) * d ≤ across * d = mul-le-mul_right d (omega (arith, l)) in omega (arith, m, few, fits, l)
+inside : (region across d : ℕ) → region + 1 < across → across ≤ most_across → across * d ≤ largest_mapping →
+    region * (d + 2) + 1 + d < 128
+inside region across d l few fits = let m : (region + 1) * d ≤ across * d = mul-le-mul_right d (omega (arith, l)) in
+    omega (arith, m, few, fits, l)
 
 -- Where the region ends, the weight of a column is kept whole.
-ends : (region across d : ℕ) → region < across - 1 → across ≤ most_across → across * d ≤ largest_mapping → 1 * 2 ^ (region * (d + 2) + 1 + d) % 2 ^ 128 ≡ 2 ^ (region * (d + 2) + 1 + d)
+ends : (region across d : ℕ) → region < across - 1 → across ≤ most_across → across * d ≤ largest_mapping →
+    1 * 2 ^ (region * (d + 2) + 1 + d) % 2 ^ 128 ≡ 2 ^ (region * (d + 2) + 1 + d)
 ends region across d l few fits = weight (region * (d + 2) + 1 + d) (inside region across d (omega (arith, l)) few fits)
 
 pub overflow_sub-prefixes : goal.overflow_sub-prefixes
 overflow_sub-prefixes c =
     let k : ℕ = c.loop-region.region * (c.args.region_side + 2) + 1 + c.args.region_side in
-    let w = ends c.loop-region.region c.args.across c.args.region_side c.loop-region-test.true c.requires.few c.requires.fits in
+    let w =
+    ends c.loop-region.region c.args.across c.args.region_side c.loop-region-test.true c.requires.few
+    c.requires.fits in
     let p = pow_pos k in
     omega (arith, w, p)
 
@@ -32,6 +38,7 @@ loop-region-preserved c =
     record {
       count = ap (λ (n : ℕ). n + 1) (length-set prefixes region _) ∙ i.count;
       so_far =
-          below_more (λ k. get_or (set prefixes region _) k 0 ≡ 2 ^ (k * (d + 2) + 1 + d) - 1) region (λ k h. get_or-set_other prefixes region k _ 0 (λ e. omega (arith, e, h)) ∙ i.so_far k h)
+          below_more (λ k. get_or (set prefixes region _) k 0 ≡ 2 ^ (k * (d + 2) + 1 + d) - 1) region
+          (λ k h. get_or-set_other prefixes region k _ 0 (λ e. omega (arith, e, h)) ∙ i.so_far k h)
           (get_or-set_same prefixes region _ 0 (omega (arith, i.count, l, c.requires.few)) ∙ ap (λ (x : ℕ). x - 1) w);
     }

@@ -5,7 +5,8 @@ use Rattle.dm_layout.proofs.TableRows.{row_facts}
 use Rattle.dm_layout.proofs.module.symbol_line.Goals as goal
 
 pub returns-clause-inside : goal.returns-clause-inside
-returns-clause-inside c = rw c.region_side.ensures.value (lies_inside c.args.size c.args.line c.mapping-mapping.ensures.row c.requires)
+returns-clause-inside c =
+    rw c.region_side.ensures.value (lies_inside c.args.size c.args.line c.mapping-mapping.ensures.row c.requires)
 
 pub overflow_add-result-2 : goal.overflow_add-result-2
 overflow_add-result-2 c =

@@ -7,10 +7,12 @@ use Rattle.dm_layout.proofs.packed.with_colour.Goals as goal
 
 pub returns-then-dark-clause-cells : goal.returns-then-dark-clause-cells
 returns-then-dark-clause-cells c = λ other below.
-    darkened_cell c.args.row c.args.column other (omega (arith, c.requires)) ∙ ap (λ (d : Bool). cond (nat_eq other c.args.column) d (is_dark_in c.args.row other)) (sym c.if-dark.true)
+    darkened_cell c.args.row c.args.column other (omega (arith, c.requires))
+    ∙ ap (λ (d : Bool). cond (nat_eq other c.args.column) d (is_dark_in c.args.row other)) (sym c.if-dark.true)
 
 pub returns-then-dark-clause-width : goal.returns-then-dark-clause-width
-returns-then-dark-clause-width c = λ side inside narrow. darkened_narrow c.args.row c.args.column side (omega (arith, c.requires)) inside narrow
+returns-then-dark-clause-width c =
+    λ side inside narrow. darkened_narrow c.args.row c.args.column side (omega (arith, c.requires)) inside narrow
 
 pub returns-else-dark-clause-cells : goal.returns-else-dark-clause-cells
 returns-else-dark-clause-cells c = λ other below.

@@ -11,5 +11,6 @@ draw_rows-requires-clause-fits g c =
 
 pub returns : goal.returns
 returns g c =
-    laid_by c.args.words.now c.size.result (λ r q. look_in (g.R.BitRows.numbers c.paint.new.rows) (r + 2) (q + 4)) c.draw_rows.new.grid c.size.ensures.words c.size.ensures.value c.draw_rows.ensures.size c.draw_rows.ensures.grid
+    laid_by c.args.words.now c.size.result (λ r q. look_in (g.R.BitRows.numbers c.paint.new.rows) (r + 2) (q + 4))
+    c.draw_rows.new.grid c.size.ensures.words c.size.ensures.value c.draw_rows.ensures.size c.draw_rows.ensures.grid
     c.draw_rows.ensures.border c.draw_rows.ensures.mapped c.paint.ensures.bits c.paint.ensures.fixed

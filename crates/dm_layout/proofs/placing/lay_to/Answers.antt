@@ -11,15 +11,24 @@ lay_rows-requires-else-mapping-le-NARROW_MAPPING c =
     let most = side_at_row c.size.result c.mapping.result c.mapping.ensures.row c.mapping.ensures.value in
     omega (arith, e, most)
 
-pub returns-then-mapping-le-NARROW_MAPPING-clause-no_other_grid : goal.returns-then-mapping-le-NARROW_MAPPING-clause-no_other_grid
-returns-then-mapping-le-NARROW_MAPPING-clause-no_other_grid c = λ other h. one_laid c.args.words.now other c.lay_rows.new.grid h c.lay_rows.ensures
+pub returns-then-mapping-le-NARROW_MAPPING-clause-no_other_grid :
+    goal.returns-then-mapping-le-NARROW_MAPPING-clause-no_other_grid
+returns-then-mapping-le-NARROW_MAPPING-clause-no_other_grid c =
+    λ other h. one_laid c.args.words.now other c.lay_rows.new.grid h c.lay_rows.ensures
 
-pub returns-then-mapping-le-NARROW_MAPPING-clause-no_other_words : goal.returns-then-mapping-le-NARROW_MAPPING-clause-no_other_words
-returns-then-mapping-le-NARROW_MAPPING-clause-no_other_words c = λ other h. one_list c.lay_rows.new.grid other c.args.words.now h c.lay_rows.ensures.holds
+pub returns-then-mapping-le-NARROW_MAPPING-clause-no_other_words :
+    goal.returns-then-mapping-le-NARROW_MAPPING-clause-no_other_words
+returns-then-mapping-le-NARROW_MAPPING-clause-no_other_words c =
+    λ other h. one_list c.lay_rows.new.grid other c.args.words.now h c.lay_rows.ensures.holds
 
-pub returns-else-mapping-le-NARROW_MAPPING-clause-no_other_grid : goal.returns-else-mapping-le-NARROW_MAPPING-clause-no_other_grid
-returns-else-mapping-le-NARROW_MAPPING-clause-no_other_grid c = λ other h. one_laid c.args.words.now other c.lay_rows-else-mapping-le-NARROW_MAPPING.new.grid h c.lay_rows-else-mapping-le-NARROW_MAPPING.ensures
+pub returns-else-mapping-le-NARROW_MAPPING-clause-no_other_grid :
+    goal.returns-else-mapping-le-NARROW_MAPPING-clause-no_other_grid
+returns-else-mapping-le-NARROW_MAPPING-clause-no_other_grid c =
+    λ other h. one_laid c.args.words.now other c.lay_rows-else-mapping-le-NARROW_MAPPING.new.grid h
+    c.lay_rows-else-mapping-le-NARROW_MAPPING.ensures
 
-pub returns-else-mapping-le-NARROW_MAPPING-clause-no_other_words : goal.returns-else-mapping-le-NARROW_MAPPING-clause-no_other_words
+pub returns-else-mapping-le-NARROW_MAPPING-clause-no_other_words :
+    goal.returns-else-mapping-le-NARROW_MAPPING-clause-no_other_words
 returns-else-mapping-le-NARROW_MAPPING-clause-no_other_words c = λ other h.
-    one_list c.lay_rows-else-mapping-le-NARROW_MAPPING.new.grid other c.args.words.now h c.lay_rows-else-mapping-le-NARROW_MAPPING.ensures.holds
+    one_list c.lay_rows-else-mapping-le-NARROW_MAPPING.new.grid other c.args.words.now h
+    c.lay_rows-else-mapping-le-NARROW_MAPPING.ensures.holds

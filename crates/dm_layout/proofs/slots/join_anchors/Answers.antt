@@ -11,8 +11,17 @@ loop-row-preserved g c =
     record {
       count = ap length c.put_row.ensures ∙ length-set c.loop-row.slots c.loop-row.row _ ∙ c.loop-row.invariant.count;
       so_far =
-          join_more c.args.mapping g.R.BitRows.width rows c.loop-row.slots c.put_row.new.self c.join.result c.loop-row.row (omega (arith, c.requires.small, g.met.R.BitRows.fits.1)) (omega (arith, c.loop-row.invariant.count, c.requires.small, g.met.R.BitRows.fits.0, c.loop-row-test.true)) c.put_row.ensures
+          join_more c.args.mapping g.R.BitRows.width rows c.loop-row.slots c.put_row.new.self c.join.result
+          c.loop-row.row (omega (arith, c.requires.small, g.met.R.BitRows.fits.1))
+          (omega (
+            arith,
+            c.loop-row.invariant.count,
+            c.requires.small,
+            g.met.R.BitRows.fits.0,
+            c.loop-row-test.true,
+          )) c.put_row.ensures
           (subst (λ (i : ℕ). (q : ℕ) → q < g.R.BitRows.width → is_dark_in c.join.result q
-          ≡ is_joined (get_or rows c.loop-row.row 0 / 2 ^ i) (get_or rows (c.loop-row.row + 1) 0 / 2 ^ i) (get_or rows (c.loop-row.row + 2) 0 / 2 ^ i) q) c.first_column.ensures c.join.ensures)
+          ≡ is_joined (get_or rows c.loop-row.row 0 / 2 ^ i) (get_or rows (c.loop-row.row + 1) 0 / 2 ^ i)
+          (get_or rows (c.loop-row.row + 2) 0 / 2 ^ i) q) c.first_column.ensures c.join.ensures)
           c.loop-row.invariant.so_far;
     }

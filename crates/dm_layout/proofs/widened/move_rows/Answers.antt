@@ -25,7 +25,9 @@ pub returns-clause-moved : goal.returns-clause-moved
 returns-clause-moved g c =
     let size : SizeRow = c.args.grid.now.size in
     let row : IsRow size = subst IsRow c.size-size.ensures.value c.regions_across-region-end.ensures.row in
-    let all : c.loop-region.region ≡ c.regions_across-region-end.result = omega (arith, c.loop-region-test.false, c.loop-region.auto.region-end) in
+    let all : c.loop-region.region ≡ c.regions_across-region-end.result =
+    omega (arith, c.loop-region-test.false, c.loop-region.auto.region-end) in
     let across = all ∙ c.regions_across-region-end.ensures.value ∙ ap regions_across c.size-size.ensures.value in
-    subst (λ (lines : ℕ). IsMoved size.mapping lines (mapped_cell c.args.grid.now) (g.R.BitRows.numbers c.loop-region.rows))
+    subst (λ (lines : ℕ). IsMoved size.mapping lines (mapped_cell c.args.grid.now)
+    (g.R.BitRows.numbers c.loop-region.rows))
     (across_covers size c.loop-region.region size.region_side row across refl) c.loop-region.invariant.moved

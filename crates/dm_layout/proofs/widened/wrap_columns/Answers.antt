@@ -12,7 +12,8 @@ loop-row-preserved g c =
       count = ap length c.wrap_left.ensures ∙ length-set rows (c.loop-row.row + 2) _ ∙ c.loop-row.invariant.count;
       so_far = λ r q.
           ap (λ (xs : List ℕ). look_in xs r q) c.wrap_left.ensures
-          ∙ wrap_more olds rows c.args.mapping c.args.shift c.loop-row.row c.requires.least c.requires.shift (omega (arith, c.loop-row.invariant.count, c.loop-row-test.true, c.requires.most)) c.requires.width
+          ∙ wrap_more olds rows c.args.mapping c.args.shift c.loop-row.row c.requires.least c.requires.shift
+          (omega (arith, c.loop-row.invariant.count, c.loop-row-test.true, c.requires.most)) c.requires.width
           c.loop-row.invariant.so_far r q;
     }
 
@@ -20,4 +21,5 @@ pub returns-clause-wrapped : goal.returns-clause-wrapped
 returns-clause-wrapped g c = λ r q.
     let olds = g.R.BitRows.numbers c.args.rows.now in
     let e : c.loop-row.row ≡ c.args.mapping = omega (arith, c.loop-row-test.false, c.loop-row.auto.row-end) in
-    c.loop-row.invariant.so_far r q ∙ ap (λ (i : ℕ). look_in olds r q || ((nat_le 2 r && nat_lt r (i + 2)) && look_in olds (r + 4 - c.args.shift) (c.args.mapping + q))) e
+    c.loop-row.invariant.so_far r q ∙ ap (λ (i : ℕ). look_in olds r q
+    || ((nat_le 2 r && nat_lt r (i + 2)) && look_in olds (r + 4 - c.args.shift) (c.args.mapping + q))) e

@@ -9,34 +9,48 @@ use Rattle.dm_modules.proofs.blocks.block.Goals as goal
 pub push-requires : goal.push-requires
 push-requires c =
     let words = c.size.ensures.words in
-    let same : c.blocks-blocks.result ≡ c.args.words.now.size.blocks = c.blocks-blocks.ensures.value ∙ ap (λ (s : SizeEntry). s.blocks) c.size.ensures.value in
-    let steps = steps_of_block c.args.words.now c.blocks-blocks.result c.args.b c.list-list.result.now words same c.list-list.ensures.value in
+    let same : c.blocks-blocks.result ≡ c.args.words.now.size.blocks =
+    c.blocks-blocks.ensures.value ∙ ap (λ (s : SizeEntry). s.blocks) c.size.ensures.value in
+    let steps =
+    steps_of_block c.args.words.now c.blocks-blocks.result c.args.b c.list-list.result.now words same
+    c.list-list.ensures.value in
     let far = short_block c.args.words.now.size words.size c.args.b c.requires in
     let so_far : length c.loop-i.block.items ≡ c.loop-i.i =
-    ap length c.loop-i.invariant ∙ length-map-range_with_len (λ k. get_or c.list-list.result.now (k * c.blocks-blocks.result + c.args.b) 0) 0 c.loop-i.i in
+    ap length c.loop-i.invariant ∙ length-map-range_with_len
+    (λ k. get_or c.list-list.result.now (k * c.blocks-blocks.result + c.args.b) 0) 0 c.loop-i.i in
     (lit< tt, omega (arith, steps, far, so_far))
 
 pub loop-i-preserved : goal.loop-i-preserved
 loop-i-preserved c =
     c.push.ensures.items
-    ∙ ap (λ xs. xs ++ get_or c.list-list.result.now (c.loop-i.i * c.blocks-blocks.result + c.args.b) 0 ∷ []) c.loop-i.invariant
-    ∙ sym (map-range_with_len_more (λ k. get_or c.list-list.result.now (k * c.blocks-blocks.result + c.args.b) 0) 0 c.loop-i.i c.loop-i.i (omega arith))
+    ∙ ap (λ xs. xs ++ get_or c.list-list.result.now (c.loop-i.i * c.blocks-blocks.result + c.args.b) 0 ∷ [])
+    c.loop-i.invariant
+    ∙ sym (map-range_with_len_more (λ k. get_or c.list-list.result.now (k * c.blocks-blocks.result + c.args.b) 0) 0
+    c.loop-i.i c.loop-i.i (omega arith))
 
 pub returns-clause-value : goal.returns-clause-value
 returns-clause-value c =
-    let same : c.blocks-blocks.result ≡ c.args.words.now.size.blocks = c.blocks-blocks.ensures.value ∙ ap (λ (s : SizeEntry). s.blocks) c.size.ensures.value in
+    let same : c.blocks-blocks.result ≡ c.args.words.now.size.blocks =
+    c.blocks-blocks.ensures.value ∙ ap (λ (s : SizeEntry). s.blocks) c.size.ensures.value in
     let all : c.loop-i.i ≡ share (length c.list-list.result.now) c.blocks-blocks.result c.args.b = omega arith in
     c.loop-i.invariant
-    ∙ ap (λ m. map (λ k. get_or c.list-list.result.now (k * c.blocks-blocks.result + c.args.b) 0) (range_with_len 0 m)) all
-    ∙ walk_of_block c.args.words.now c.blocks-blocks.result c.args.b c.list-list.result.now c.requires same c.list-list.ensures.value
+    ∙ ap (λ m. map (λ k. get_or c.list-list.result.now (k * c.blocks-blocks.result + c.args.b) 0) (range_with_len 0 m))
+    all
+    ∙ walk_of_block c.args.words.now c.blocks-blocks.result c.args.b c.list-list.result.now c.requires same
+    c.list-list.ensures.value
 
 pub returns-clause-length : goal.returns-clause-length
 returns-clause-length c =
-    let same : c.blocks-blocks.result ≡ c.args.words.now.size.blocks = c.blocks-blocks.ensures.value ∙ ap (λ (s : SizeEntry). s.blocks) c.size.ensures.value in
+    let same : c.blocks-blocks.result ≡ c.args.words.now.size.blocks =
+    c.blocks-blocks.ensures.value ∙ ap (λ (s : SizeEntry). s.blocks) c.size.ensures.value in
     let all : c.loop-i.i ≡ share (length c.list-list.result.now) c.blocks-blocks.result c.args.b = omega arith in
     ap length c.loop-i.invariant
-    ∙ length-map-range_with_len (λ k. get_or c.list-list.result.now (k * c.blocks-blocks.result + c.args.b) 0) 0 c.loop-i.i
-    ∙ all ∙ steps_of_block c.args.words.now c.blocks-blocks.result c.args.b c.list-list.result.now c.size.ensures.words same c.list-list.ensures.value
+    ∙ length-map-range_with_len (λ k. get_or c.list-list.result.now (k * c.blocks-blocks.result + c.args.b) 0) 0
+    c.loop-i.i
+    ∙ all ∙ steps_of_block c.args.words.now c.blocks-blocks.result c.args.b c.list-list.result.now c.size.ensures.words
+    same c.list-list.ensures.value
 
 pub returns-clause-data : goal.returns-clause-data
-returns-clause-data c = ap (take (block_data c.args.words.now.size c.args.b)) (returns-clause-value c) ∙ data_of_block c.args.words.now c.args.b c.size.ensures.words c.requires
+returns-clause-data c =
+    ap (take (block_data c.args.words.now.size c.args.b)) (returns-clause-value c)
+    ∙ data_of_block c.args.words.now c.args.b c.size.ensures.words c.requires

@@ -7,6 +7,7 @@ use Rattle.dm_modules.proofs.border.border_faults.Given as goal
 
 abbrev pub invariant-loop-row : goal.invariant-loop-row
 invariant-loop-row l = record {
-  so_far : l.faults ≡ sum_by (λ r. count_by (is_fault l.modules r) (range_with_len 0 l.modules.size.columns)) (range_with_len 0 l.row);
+  so_far : l.faults ≡ sum_by (λ r. count_by (is_fault l.modules r) (range_with_len 0 l.modules.size.columns))
+      (range_with_len 0 l.row);
   most : l.faults ≤ l.row * most_columns;
 }

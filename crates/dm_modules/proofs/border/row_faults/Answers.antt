@@ -14,9 +14,19 @@ loop-column-preserved c =
     let more = count_more (is_fault c.args.modules.now c.args.row) n in
     elim c.if-is_fault.branch [
       | then-is_fault w ↦
-          let one : cond (is_fault c.args.modules.now c.args.row n) 1 0 ≡ 1 = ap (λ (b : Bool). flag b) (sym c.is_fault.ensures ∙ w.if-is_fault.true) in
-          record { so_far = omega (arith, w.faults-is, more, one, c.loop-column.invariant.so_far); most = omega (arith, w.faults-is, c.loop-column.invariant.most) }
+          let one : cond (is_fault c.args.modules.now c.args.row n) 1 0 ≡ 1 =
+          ap (λ (b : Bool). flag b) (sym c.is_fault.ensures ∙ w.if-is_fault.true) in
+          record {
+            so_far = omega (arith, w.faults-is, more, one, c.loop-column.invariant.so_far);
+            most =
+                omega (arith, w.faults-is, c.loop-column.invariant.most);
+          }
       | else-is_fault w ↦
-          let none : cond (is_fault c.args.modules.now c.args.row n) 1 0 ≡ 0 = ap (λ (b : Bool). flag b) (sym c.is_fault.ensures ∙ w.if-is_fault.false) in
-          record { so_far = omega (arith, w.faults-is, more, none, c.loop-column.invariant.so_far); most = omega (arith, w.faults-is, c.loop-column.invariant.most) }
+          let none : cond (is_fault c.args.modules.now c.args.row n) 1 0 ≡ 0 =
+          ap (λ (b : Bool). flag b) (sym c.is_fault.ensures ∙ w.if-is_fault.false) in
+          record {
+            so_far = omega (arith, w.faults-is, more, none, c.loop-column.invariant.so_far);
+            most =
+                omega (arith, w.faults-is, c.loop-column.invariant.most);
+          }
     ]

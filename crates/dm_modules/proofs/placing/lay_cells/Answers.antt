@@ -6,10 +6,14 @@ use Rattle.dm_modules.proofs.placing.lay_cells.Goals as goal
 
 pub lay-requires-clause-row : goal.lay-requires-clause-row
 lay-requires-clause-row c =
-    placed_as c.args.words.now.size _ _ _ c.size-size.ensures.words.size (c.mapping_rows.ensures.value ∙ ap mapping_rows c.size-size.ensures.value) (c.mapping_columns.ensures.value ∙ ap mapping_columns c.size-size.ensures.value)
+    placed_as c.args.words.now.size _ _ _ c.size-size.ensures.words.size (c.mapping_rows.ensures.value
+    ∙ ap mapping_rows c.size-size.ensures.value) (c.mapping_columns.ensures.value
+    ∙ ap mapping_columns c.size-size.ensures.value)
     (ap length c.list.ensures.value ∙ c.size-size.ensures.words.count)
 
 pub returns : goal.returns
 returns c =
-    laid_by c.args.words.now c.draw.new.modules c.size-size.result c.mapping_rows.result c.mapping_columns.result c.list.result.now c.lay.new.cells c.size-size.ensures.words c.size-size.ensures.value
-    c.draw.ensures.size c.draw.ensures.modules c.mapping_rows.ensures.value c.mapping_columns.ensures.value c.list.ensures.value c.lay.ensures.holds c.draw.ensures.colours
+    laid_by c.args.words.now c.draw.new.modules c.size-size.result c.mapping_rows.result c.mapping_columns.result
+    c.list.result.now c.lay.new.cells c.size-size.ensures.words c.size-size.ensures.value
+    c.draw.ensures.size c.draw.ensures.modules c.mapping_rows.ensures.value c.mapping_columns.ensures.value
+    c.list.ensures.value c.lay.ensures.holds c.draw.ensures.colours

@@ -2,7 +2,9 @@ use Rattle.dm_modules.proofs.LaidModules.{one_held, one_laid}
 use Rattle.dm_modules.proofs.placing.lay_to.Goals as goal
 
 pub returns-clause-no_other_modules : goal.returns-clause-no_other_modules
-returns-clause-no_other_modules c = λ other laid. one_laid c.args.words.now other c.lay_cells.new.modules laid c.lay_cells.ensures
+returns-clause-no_other_modules c =
+    λ other laid. one_laid c.args.words.now other c.lay_cells.new.modules laid c.lay_cells.ensures
 
 pub returns-clause-no_other_words : goal.returns-clause-no_other_words
-returns-clause-no_other_words c = λ other holds. one_held c.lay_cells.new.modules other c.args.words.now holds c.lay_cells.ensures.holds
+returns-clause-no_other_words c =
+    λ other holds. one_held c.lay_cells.new.modules other c.args.words.now holds c.lay_cells.ensures.holds

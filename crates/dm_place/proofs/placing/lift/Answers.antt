@@ -11,12 +11,16 @@ new-shape-items-requires c = (matrix_facts c.args.rows c.args.columns _ c.requir
 pub loop-shape-init : goal.loop-shape-init
 loop-shape-init c =
     let facts = matrix_facts c.args.rows c.args.columns _ c.requires.row in
-    let all : c.into_iter-shape-iterator.result ≡ shapes c.args.rows c.args.columns = c.into_iter-shape-iterator.ensures.into_iter_gives ∙ c.new-shape-items.ensures in
+    let all : c.into_iter-shape-iterator.result ≡ shapes c.args.rows c.args.columns =
+    c.into_iter-shape-iterator.ensures.into_iter_gives ∙ c.new-shape-items.ensures in
     record {
       inside = subst (ShapesInside c.args.rows c.args.columns) (sym all) facts.inside;
-      so_far = ap (λ (ss : List Shape). lifted (look_at c.args.cells.now c.args.columns) c.args.rows c.args.columns ss 0 c.args.words.now) all;
+      so_far =
+          ap (λ (ss : List Shape). lifted (look_at c.args.cells.now c.args.columns) c.args.rows c.args.columns ss 0
+          c.args.words.now) all;
       room = refl;
-      left = let e : length c.into_iter-shape-iterator.result ≡ length c.args.words.now = ap length all ∙ facts.counted in omega (arith, e);
+      left = let e : length c.into_iter-shape-iterator.result ≡ length c.args.words.now =
+          ap length all ∙ facts.counted in omega (arith, e);
     }
 
 pub cells-requires-clause-rows : goal.cells-requires-clause-rows
@@ -36,4 +40,5 @@ returns-clause-holds c =
     let look = look_at c.args.cells.now c.args.columns in
     let facts = matrix_facts c.args.rows c.args.columns _ c.requires.row in
     holds_lifted look c.args.rows c.args.columns c.args.words.now c.loop-shape.words facts.counted
-    (ap (λ (ss : List Shape). lifted look c.args.rows c.args.columns ss c.loop-shape.word c.loop-shape.words) (sym c.in-None.ensures.steps.0) ∙ c.loop-shape.invariant.so_far)
+    (ap (λ (ss : List Shape). lifted look c.args.rows c.args.columns ss c.loop-shape.word c.loop-shape.words)
+    (sym c.in-None.ensures.steps.0) ∙ c.loop-shape.invariant.so_far)

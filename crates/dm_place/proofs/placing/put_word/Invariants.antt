@@ -8,5 +8,6 @@ invariant-loop-cell l = record {
   inside : CellsInside l.rows l.columns (drop l.cell-index l.places);
   shifted : l.shift + l.cell-index ≡ 8;
   room : length l.cells ≡ length l.fn.cells;
-  so_far : with_word l.columns l.word l.cell-index (drop l.cell-index l.places) l.cells ≡ with_word l.columns l.word 0 l.places l.fn.cells;
+  so_far : with_word l.columns l.word l.cell-index (drop l.cell-index l.places) l.cells ≡
+      with_word l.columns l.word 0 l.places l.fn.cells;
 }

@@ -9,6 +9,8 @@ returns-then-inner-self-clause-cells c =
     let i = c.self.inside in
     rw (← c.self.view_is)
     (elim c.if-inner-eq0.branch [
-      | then-inner-eq0 w ↦ cells_all i.size i.last i.left i.both i.even i.all c.self.invariant c.args.inner (inl w.if-inner-eq0.true)
-      | else-inner-eq0 w ↦ cells_all i.size i.last i.left i.both i.even i.all c.self.invariant c.args.inner (inr (eqb-true _ _ (sym w.value-is ∙ c.if-inner-self.true)))
+      | then-inner-eq0 w ↦ cells_all i.size i.last i.left i.both i.even i.all c.self.invariant c.args.inner
+          (inl w.if-inner-eq0.true)
+      | else-inner-eq0 w ↦ cells_all i.size i.last i.left i.both i.even i.all c.self.invariant c.args.inner
+          (inr (eqb-true _ _ (sym w.value-is ∙ c.if-inner-self.true)))
     ])

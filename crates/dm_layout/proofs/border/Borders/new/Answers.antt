@@ -12,7 +12,8 @@ inside side s a l =
 
 pub overflow_shl-both-in-loop-region : goal.overflow_shl-both-in-loop-region
 overflow_shl-both-in-loop-region c =
-    let fits = inside c.side-side.result (c.region_side-last.result + 1 + 1) c.loop-region.region c.loop-region-test.true in
+    let fits =
+    inside c.side-side.result (c.region_side-last.result + 1 + 1) c.loop-region.region c.loop-region-test.true in
     omega (arith, fits, c.side-side.ensures.most, c.side-side.ensures.value)
 
 pub overflow_shl-left : goal.overflow_shl-left
@@ -25,11 +26,13 @@ pub loop-region-preserved : goal.loop-region-preserved
 loop-region-preserved c =
     let last : ℕ = c.region_side-last.result + 1 in
     let fits = inside c.side-side.result (last + 1) c.loop-region.region c.loop-region-test.true in
-    one_ruled last c.loop-region.region c.loop-region.left c.loop-region.both (omega arith) (omega (arith, fits, c.side-side.ensures.most, c.side-side.ensures.value)) c.loop-region.invariant
+    one_ruled last c.loop-region.region c.loop-region.left c.loop-region.both (omega arith)
+    (omega (arith, fits, c.side-side.ensures.most, c.side-side.ensures.value)) c.loop-region.invariant
 
 pub invariant_of-result : goal.invariant_of-result
 invariant_of-result c =
     let last : ℕ = c.region_side-last.result + 1 in
-    are_borders c.args.size c.side-side.result last c.loop-region.region c.loop-region.left c.loop-region.both c.prefix.result c.prefix-2.result c.side-side.ensures.row c.side-side.ensures.value
+    are_borders c.args.size c.side-side.result last c.loop-region.region c.loop-region.left c.loop-region.both
+    c.prefix.result c.prefix-2.result c.side-side.ensures.row c.side-side.ensures.value
     (ap (λ (i : ℕ). i + 1) c.region_side-last.ensures.value) (omega arith) c.loop-region.invariant
     c.prefix.ensures.cells c.prefix.ensures.width c.prefix-2.ensures.cells c.prefix-2.ensures.width

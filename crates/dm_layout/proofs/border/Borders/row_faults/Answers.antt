@@ -11,10 +11,12 @@ narrow x mask n l = let a = and_le_r x mask in omega (arith, a, l)
 pub returns-clause-count : goal.returns-clause-count
 returns-clause-count c =
     let n : ℕ = c.args.self.now.side in
-    wrong_cells c.args.self.now.region_side c.args.inner n c.args.row c.dark.result c.cells.result (narrow (bit_xor c.args.row c.dark.result) c.cells.result n c.cells.ensures.width)
+    wrong_cells c.args.self.now.region_side c.args.inner n c.args.row c.dark.result c.cells.result
+    (narrow (bit_xor c.args.row c.dark.result) c.cells.result n c.cells.ensures.width)
     c.cells.ensures.cells c.dark.ensures.cells
 
 pub returns-clause-most : goal.returns-clause-most
 returns-clause-most c =
     let n : ℕ = c.args.self.now.side in
-    ones-le n (bit_and (bit_xor c.args.row c.dark.result) c.cells.result) (narrow (bit_xor c.args.row c.dark.result) c.cells.result n c.cells.ensures.width)
+    ones-le n (bit_and (bit_xor c.args.row c.dark.result) c.cells.result)
+    (narrow (bit_xor c.args.row c.dark.result) c.cells.result n c.cells.ensures.width)

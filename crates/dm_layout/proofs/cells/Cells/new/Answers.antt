@@ -11,7 +11,8 @@ use Rattle.dm_layout.proofs.TableRows.{row_facts}
 use Rattle.dm_layout.proofs.cells.Cells.new.Goals as goal
 
 -- The iterator is safe before its first place.
-safe_at_first : (s : SizeRow) (m : ℕ) (ss : List Shape) (cells : List Cell) → IsRow s → m ≡ s.mapping → ss ≡ shapes m → CellsAreSafe m cells 0 8 ss
+safe_at_first : (s : SizeRow) (m : ℕ) (ss : List Shape) (cells : List Cell) → IsRow s → m ≡ s.mapping → ss ≡ shapes m →
+    CellsAreSafe m cells 0 8 ss
 safe_at_first s m ss cells row e f =
     let facts = row_facts s row in
     let here = facts_at_row s row in
@@ -34,7 +35,8 @@ new-requires c =
     subst (λ (k : ℕ). SidesAreSafe k k) (sym e) safe
 
 pub invariant_of-result : goal.invariant_of-result
-invariant_of-result c = safe_at_first c.args.size _ _ _ c.mapping-mapping.ensures.row c.mapping-mapping.ensures.value c.new.ensures
+invariant_of-result c =
+    safe_at_first c.args.size _ _ _ c.mapping-mapping.ensures.row c.mapping-mapping.ensures.value c.new.ensures
 
 pub returns : goal.returns
 unfolding general.places_in_order

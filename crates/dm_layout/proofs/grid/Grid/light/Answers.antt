@@ -10,7 +10,9 @@ invariant_of-result c = record {
   row = c.side-side.ensures.row;
   fits = c.side-side.ensures.most;
   height = refl;
-  width = All-take (λ (row : ℕ). row < 2 ^ c.args.size.side) c.args.size.side (replicate largest_side 0) (All-replicate (λ (row : ℕ). row < 2 ^ c.args.size.side) largest_side 0 (pow_pos c.args.size.side));
+  width =
+      All-take (λ (row : ℕ). row < 2 ^ c.args.size.side) c.args.size.side (replicate largest_side 0)
+      (All-replicate (λ (row : ℕ). row < 2 ^ c.args.size.side) largest_side 0 (pow_pos c.args.size.side));
 }
 
 pub returns-clause-grid : goal.returns-clause-grid
@@ -18,4 +20,5 @@ returns-clause-grid c = grid_of_kept c.args.size (replicate largest_side 0) c.si
 
 pub returns-clause-light : goal.returns-clause-light
 returns-clause-light c = λ row column below inside.
-    cell_of_kept c.args.size (replicate largest_side 0) row column below inside ∙ none_dark largest_side row column (omega (arith, c.side-side.ensures.most))
+    cell_of_kept c.args.size (replicate largest_side 0) row column below inside
+    ∙ none_dark largest_side row column (omega (arith, c.side-side.ensures.most))

@@ -1,5 +1,7 @@
 use Rattle.std.proofs.Common.{refl}
-use Rattle.dm_layout.specs.Sizes.{size_table, block_check, codeword_count, regions_across, largest_side, largest_mapping, most_across, most_data, most_codewords, most_blocks, most_block_check}
+use Rattle.dm_layout.specs.Sizes.{size_table, block_check, codeword_count, regions_across, largest_side}
+use Rattle.dm_layout.specs.Sizes.{largest_mapping, most_across, most_data, most_codewords, most_blocks}
+use Rattle.dm_layout.specs.Sizes.{most_block_check}
 use Rattle.dm_layout.proofs.TableRows.{greatest}
 use Rattle.dm_layout.proofs.laws.sizes.limits_are_those_of_the_table.Goals as goal
 

@@ -9,7 +9,8 @@ returns c =
     let t = c.self.told in
     let r : ℕ = c.args.slot / 16 in
     let room : r < length c.self.inside.rows = let h = slot_inside c.args.slot c.requires in omega (arith, h) in
-    byte_added c.self.inside.rows r room (c.self.invariant.wide r room) (λ i. c.self.invariant.bytes r i room) (c.args.slot % 16) c.args.byte (omega arith) c.ranges.byte.fits
+    byte_added c.self.inside.rows r room (c.self.invariant.wide r room) (λ i. c.self.invariant.bytes r i room)
+    (c.args.slot % 16) c.args.byte (omega arith) c.ranges.byte.fits
     ∙ ap (λ (xs : List ℕ). with_byte xs c.args.slot c.args.byte) c.self.view_is
 
 pub invariant_of-self : goal.invariant_of-self
@@ -19,4 +20,6 @@ invariant_of-self c =
     let k : ℕ = c.args.slot % 16 in
     let room : r < length c.self.inside.rows = let h = slot_inside c.args.slot c.requires in omega (arith, h) in
     let wide = c.self.invariant.wide r room in
-    slots_set c.self.inside.rows r _ c.self.invariant room (length-set (get_or c.self.inside.rows r []) k _ ∙ wide) (over_bytes (get_or c.self.inside.rows r []) k c.args.byte (λ i. c.self.invariant.bytes r i room) (omega (arith, wide)) c.ranges.byte.fits)
+    slots_set c.self.inside.rows r _ c.self.invariant room (length-set (get_or c.self.inside.rows r []) k _ ∙ wide)
+    (over_bytes (get_or c.self.inside.rows r []) k c.args.byte (λ i. c.self.invariant.bytes r i room)
+    (omega (arith, wide)) c.ranges.byte.fits)

@@ -8,5 +8,6 @@ returns c =
     let t = c.self.told in
     let r : ℕ = c.args.slot / 16 in
     let room : r < length c.self.inside.rows = let h = slot_inside c.args.slot c.requires in omega (arith, h) in
-    sym (byte_is c.self.inside.rows r room (c.self.invariant.wide r room) (λ i. c.self.invariant.bytes r i room) (c.args.slot % 16))
+    sym (byte_is c.self.inside.rows r room (c.self.invariant.wide r room) (λ i. c.self.invariant.bytes r i room)
+    (c.args.slot % 16))
     ∙ ap (λ (xs : List ℕ). slot_byte xs c.args.slot) c.self.view_is

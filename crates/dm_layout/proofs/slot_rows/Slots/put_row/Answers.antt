@@ -15,4 +15,5 @@ pub invariant_of-self : goal.invariant_of-self
 invariant_of-self c =
     let t = c.self.told in
     subst (λ (bs : List ℕ). AreSlotRows (set c.self.inside.rows c.args.row bs)) (sym c.to_le_bytes.ensures)
-    (slots_set c.self.inside.rows c.args.row (to_le_bytes w128 c.args.number) c.self.invariant (omega (arith, c.requires)) refl (low_first_small 16 0 c.args.number))
+    (slots_set c.self.inside.rows c.args.row (to_le_bytes w128 c.args.number) c.self.invariant
+    (omega (arith, c.requires)) refl (low_first_small 16 0 c.args.number))

@@ -14,4 +14,5 @@ pub returns-clause-light : goal.returns-clause-light
 returns-clause-light c = λ row column below inside.
     kept_at c.args.size (replicate most_modules false) row column below inside
     ∙ get_or-replicate most_modules (row * c.args.size.columns + column) false false
-    (let l = place_below c.args.size.rows c.args.size.columns row column below inside in omega (arith, l, c.rows-rows.ensures.modules))
+    (let l = place_below c.args.size.rows c.args.size.columns row column below inside in
+    omega (arith, l, c.rows-rows.ensures.modules))

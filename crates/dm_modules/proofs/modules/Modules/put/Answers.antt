@@ -7,5 +7,6 @@ returns-clause-modules c = modules_of_kept c.self.inside.size _ c.self.invariant
 
 pub returns-clause-colours : goal.returns-clause-colours
 returns-clause-colours c =
-    put_seen c.self.inside.size c.self.inside.kept c.args.row c.args.column c.args.dark c.columns.result c.args.self.now c.columns.ensures.value c.self.view_is c.requires.row c.requires.column
+    put_seen c.self.inside.size c.self.inside.kept c.args.row c.args.column c.args.dark c.columns.result c.args.self.now
+    c.columns.ensures.value c.self.view_is c.requires.row c.requires.column
     (omega (arith, c.self.invariant.fits, c.self.invariant.count))

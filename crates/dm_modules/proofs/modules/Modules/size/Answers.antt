@@ -4,4 +4,5 @@ use Rattle.dm_modules.proofs.ModulesLemmas.{modules_of_kept}
 use Rattle.dm_modules.proofs.modules.Modules.size.Goals as goal
 
 pub returns-clause-modules : goal.returns-clause-modules
-returns-clause-modules c = subst IsModules c.self.view_is (modules_of_kept c.self.inside.size c.self.inside.kept c.self.invariant.entry)
+returns-clause-modules c =
+    subst IsModules c.self.view_is (modules_of_kept c.self.inside.size c.self.inside.kept c.self.invariant.entry)

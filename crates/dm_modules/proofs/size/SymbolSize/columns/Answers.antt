@@ -7,4 +7,5 @@ pub returns-clause-most : goal.returns-clause-most
 returns-clause-most c = (size_facts c.args.self (subst IsSize c.self.view_is c.self.invariant)).columns_fit
 
 pub returns-clause-some : goal.returns-clause-some
-returns-clause-some c = omega (arith, (size_facts c.args.self (subst IsSize c.self.view_is c.self.invariant)).columns_below)
+returns-clause-some c =
+    omega (arith, (size_facts c.args.self (subst IsSize c.self.view_is c.self.invariant)).columns_below)

@@ -4,7 +4,8 @@ use Rattle.dm_modules.proofs.TableEntries.{size_facts}
 use Rattle.dm_modules.proofs.size.SymbolSize.mapping_rows.Goals as goal
 
 pub overflow_mul-result : goal.overflow_mul-result
-overflow_mul-result c = omega (arith, (size_facts _ c.self.invariant).rows_below, (size_facts _ c.self.invariant).rows_fit)
+overflow_mul-result c =
+    omega (arith, (size_facts _ c.self.invariant).rows_below, (size_facts _ c.self.invariant).rows_fit)
 
 pub returns-clause-below : goal.returns-clause-below
 returns-clause-below c = (size_facts c.args.self (subst IsSize c.self.view_is c.self.invariant)).rows_below

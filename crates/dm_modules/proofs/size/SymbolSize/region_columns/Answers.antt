@@ -7,7 +7,8 @@ pub returns-clause-even : goal.returns-clause-even
 returns-clause-even c = (size_facts c.args.self (subst IsSize c.self.view_is c.self.invariant)).even_columns
 
 pub returns-clause-some : goal.returns-clause-some
-returns-clause-some c = omega (arith, (size_facts c.args.self (subst IsSize c.self.view_is c.self.invariant)).least_columns)
+returns-clause-some c =
+    omega (arith, (size_facts c.args.self (subst IsSize c.self.view_is c.self.invariant)).least_columns)
 
 pub returns-clause-columns : goal.returns-clause-columns
 returns-clause-columns c = (size_facts c.args.self (subst IsSize c.self.view_is c.self.invariant)).columns

@@ -7,7 +7,8 @@ pub returns-clause-even : goal.returns-clause-even
 returns-clause-even c = (size_facts c.args.self (subst IsSize c.self.view_is c.self.invariant)).even_rows
 
 pub returns-clause-some : goal.returns-clause-some
-returns-clause-some c = omega (arith, (size_facts c.args.self (subst IsSize c.self.view_is c.self.invariant)).least_rows)
+returns-clause-some c =
+    omega (arith, (size_facts c.args.self (subst IsSize c.self.view_is c.self.invariant)).least_rows)
 
 pub returns-clause-rows : goal.returns-clause-rows
 returns-clause-rows c = (size_facts c.args.self (subst IsSize c.self.view_is c.self.invariant)).rows

@@ -9,13 +9,17 @@ pub invariant_of-result : goal.invariant_of-result
 invariant_of-result c =
     let list = c.args.list.now in
     rw c.copy_from_slice.ensures.after
-    (prefix_kept most_codewords c.args.size list c.check_count-checks.ensures.size c.check_count-checks.ensures.most (omega (arith, c.requires, c.check_count-checks.ensures.most)) (All-from_get_or (λ word. word < 256) list 0 (λ i h. omega (arith, c.type_inv.list i))))
+    (prefix_kept most_codewords c.args.size list c.check_count-checks.ensures.size c.check_count-checks.ensures.most
+    (omega (arith, c.requires, c.check_count-checks.ensures.most))
+    (All-from_get_or (λ word. word < 256) list 0 (λ i h. omega (arith, c.type_inv.list i))))
 
 pub returns-clause-value : goal.returns-clause-value
 returns-clause-value c =
     let list = c.args.list.now in
     let behind = drop (length list) (replicate most_codewords 0) in
-    ap (λ words. record { size = c.args.size; list = words }) (rw c.copy_from_slice.ensures.after (ap (λ n. take n (list ++ behind)) (sym c.requires) ∙ take-append_seam list behind))
+    ap (λ words. record { size = c.args.size; list = words })
+    (rw c.copy_from_slice.ensures.after (ap (λ n. take n (list ++ behind)) (sym c.requires)
+    ∙ take-append_seam list behind))
 
 pub returns-clause-words : goal.returns-clause-words
 returns-clause-words c = words_of_kept c.args.size _ (invariant_of-result c)
