@@ -35,4 +35,5 @@ mod PartBudget
 mod UnitWritten
 mod Frames
 mod SmallestSymbols
+mod SmallestLaws
 pub mod Exported

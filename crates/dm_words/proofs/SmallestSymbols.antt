@@ -114,7 +114,7 @@ unfolding size_table
 table_most = refl
 
 -- No size has more data codewords than the most.
-count_most : (n : ℕ) → IsDataCount n → n ≤ most_data
+pub count_most : (n : ℕ) → IsDataCount n → n ≤ most_data
 count_most n a =
     let le : (get_or size_table a.0 a.1).data_count ≤ most_data = leb-true _ _ (AllPass-from_list_all (λ r. nat_le r.data_count most_data) size_table table_most a.0 a.1 a.2) in
     omega (arith, le, ap (λ (s : SizeRow). s.data_count) a.3, a.4)

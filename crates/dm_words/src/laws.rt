@@ -17,6 +17,7 @@ ghost use Rattle.dm_words.specs.NormalForm.{normal_form, one_segment, shorter};
 ghost use Rattle.dm_words.specs.Pads.{padded};
 ghost use Rattle.dm_words.specs.Values.{IsRest};
 ghost use Rattle.dm_words.specs.Macros.{macro_text};
+ghost use Rattle.dm_words.specs.Smallest.{IsDataCount, IsPlainest, IsSmallestFor};
 ghost use Rattle.dm_words.specs.Spells.{Spells};
 ghost use Rattle.dm_words.specs.Refused.{Refused};
 ghost use Rattle.dm_words.specs.Laws.{HasOneResult, AreCodewords, AreRunValues, BeginsNoSpelling, CanBeLeftOut, AreMacro, SomeSpell};
@@ -111,6 +112,28 @@ pub fn shorter_is_no_longer()
 pub fn normal_form_holds_two_items()
     ensures { (profile : Profile) (m : List Item)
         → length m ≤ 2 * length (normal_form profile m) }
+{}
+
+/// How far the smallest codewords of a message in an extent are determined, as [`crate::smallest_words()`] gives them: how
+/// many they are, pads counted; all of them, where there is room for the ASCII form; and whether the usual extent reads
+/// them. The wide extent never needs more than the usual one, and neither needs more than a normal form. Which of several
+/// other lists of that size is chosen, no clause says: compare messages by their normal grids.
+pub fn smallest_words_are_alike()
+    ensures count { (extent : Extent) (m : List Item) (words other : List ℕ)
+        → IsSmallestFor extent words m → IsSmallestFor extent other m
+        → length words ≡ length other }
+    ensures ascii { (m : List Item) (words other : List ℕ)
+        → IsPlainest words m → IsPlainest other m → length words ≡ length other
+        → length (ascii m) ≤ length words → words ≡ other }
+    ensures usual { (m : List Item) (words other : List ℕ)
+        → IsPlainest words m → IsPlainest other m → length words ≡ length other
+        → Spells Extent.Usual words m ↔ Spells Extent.Usual other m }
+    ensures wide { (m : List Item) (words other : List ℕ)
+        → IsSmallestFor Extent.Usual words m → IsSmallestFor Extent.Wide other m
+        → length other ≤ length words }
+    ensures normal { (extent : Extent) (profile : Profile) (m : List Item) (words : List ℕ)
+        (count : ℕ) → IsMessage m → IsSmallestFor extent words m → IsDataCount count
+        → length (normal_form profile m) ≤ count → length words ≤ count }
 {}
 
 /// What can follow the last whole spelling of a run is exactly what has no whole spelling as a prefix.
