@@ -1,4 +1,4 @@
-"""The hard kinds of pictures that bench/photographs makes: what each changes in how a symbol is drawn, lit and taken."""
+"""The hard kinds of pictures that bench/photographs makes: what each changes in how a symbol is drawn and taken."""
 import math
 
 import cv2
