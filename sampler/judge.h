@@ -18,6 +18,7 @@ struct judge {
     const struct plane *picture, *smooth;   /* as it is, and smoothed */
     const ecc200_sample_options *options;
     struct layouts *layouts;
+    struct layout *places;                  /* room for the places between modules of any size */
     int64_t end;                            /* when to stop */
     bool has_no_memory;                     /* whether memory was wanted that isn't there */
     bool is_inverted;                       /* whether `picture` is the picture inverted */

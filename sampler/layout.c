@@ -31,6 +31,21 @@ static void find_witnesses(struct layout *layout) {
         }
 }
 
+void lay_out_places(struct layout *layout, struct part part) {
+    int wide = part.last_x - part.first_x, high = part.last_y - part.first_y, every = 2 * wide * high / MOST_WITNESSES + 1, seen = 0;
+    layout->side = layout->region = wide > high ? wide : high;
+    layout->witness_count = 0;
+    for (int y = 0; y <= high; y++)
+        for (int x = 0; x <= wide; x++)
+            for (int is_upright = 0; is_upright < 2; is_upright++) {
+                bool is_inside = is_upright ? y < high : x < wide;
+                if (!is_inside || seen++ % every > 0 || layout->witness_count == MOST_WITNESSES)
+                    continue;
+                float right = (float)(part.first_x + x + (is_upright ? 0 : 0.5)), down = (float)(part.first_y + y + (is_upright ? 0.5 : 0));
+                layout->witnesses[layout->witness_count++] = (struct witness){right, down, (int8_t)is_upright, UNKNOWN};
+            }
+}
+
 static struct layout *make_layout(int side) {
     static const uint8_t colours[] = {
         [ECC200_NO_MODULE] = UNKNOWN, [ECC200_BIT] = UNKNOWN,       [ECC200_BORDER_LIGHT] = LIGHT,

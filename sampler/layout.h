@@ -8,11 +8,11 @@
 
 enum { SIZES = ECC200_SIZE_COUNT, MOST_SIDE = ECC200_MOST_SIDE, LIGHT = 0, DARK = 1, UNKNOWN = 2, MOST_WITNESSES = 3072 };
 
-/* An edge between two modules of known and different colours, of which one may lie outside the symbol. */
+/* An edge between two modules of known and different colours, of which one may lie outside the symbol; or a place where there may be one. */
 struct witness {
     float x, y;          /* the middle of the edge */
     int8_t is_upright;   /* 1: an edge along y, whose place is its x; 0: one along x */
-    int8_t darkens;      /* 1: what follows, to the right or below, is dark; 0: it is light */
+    int8_t darkens;      /* DARK: what follows, to the right or below, is dark; LIGHT: it is light; UNKNOWN: either, or there is no edge */
 };
 
 struct layout {
@@ -32,6 +32,15 @@ struct layouts {
 };
 const struct layout *layout_of(struct layouts *layouts, int side);
 void layouts_free(struct layouts *layouts);
+
+/* Columns and rows of modules from `first` up to, not including, `last`. */
+struct part {
+    int first_x, last_x, first_y, last_y;
+};
+
+/* Makes a layout of the places between modules of a part of a lattice, as many of them as there is room for, evenly: nothing is known of its
+ * modules. */
+void lay_out_places(struct layout *layout, struct part part);
 
 /* The colour of a module; outside, where the quiet zone is, LIGHT. */
 int colour_at(const struct layout *layout, int x, int y);

@@ -55,6 +55,17 @@ bool plane_halve(const struct plane *from, int64_t end, struct plane *out) {
     return is_made(to != NULL && y == out->height, out);
 }
 
+bool plane_steepen(const struct plane *from, int64_t end, struct plane *out) {
+    uint8_t *to = plane_make(from->width, from->height, 0, out);
+    int y = 0;
+    for (; to != NULL && y + 1 < from->height && has_time(end, y); y++, to += out->stride) {
+        const uint8_t *row = pixel_of(from, 0, y), *below = row + from->stride;
+        for (int x = 0; x + 1 < from->width; x++)
+            to[x] = (uint8_t)((abs(row[x] - below[x + 1]) + abs(row[x + 1] - below[x])) / 2);
+    }
+    return is_made(to != NULL && y + 1 >= from->height, out);
+}
+
 /* ---- Smooth, and framed */
 
 /* A side of a plane: its first pixel, the way to the next one along it, and the way inwards, in bytes. */

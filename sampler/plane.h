@@ -25,6 +25,9 @@ bool plane_smooth(const struct plane *from, int64_t end, struct plane *out);
 /* The median of each pixel of a plane with a frame, and of the eight around it; framed as the smooth one is. */
 bool plane_calm(const struct plane *from, int64_t end, struct plane *out);
 
+/* How much each four pixels differ along the diagonals between them; kept as the upper left one's. */
+bool plane_steepen(const struct plane *from, int64_t end, struct plane *out);
+
 /* 1 where a pixel is darker than its surroundings, else 0, and in the frame. The surroundings are `around` tiles of eight pixels each way. */
 bool plane_darken(const struct plane *from, int around, int64_t end, struct plane *out);
 

@@ -7,10 +7,10 @@
 #include "ecc200_sample.h"
 #pragma GCC visibility pop
 
-#include "judge.h"
 #include "regions.h"
+#include "search.h"
 
-enum { LEVELS = 6, CALM_LEVELS = 3, LEAST_LEVEL = 24, LINES = 800, ELBOWS = 128, AROUND = 2, CLOSE_AROUND = 1 };
+enum { CALM_LEVELS = 3, LATTICE_LEVELS = 4, LEAST_LEVEL = 24, AROUND = 2, CLOSE_AROUND = 1 };
 static const double LEAST_LINE = 10; /* pixels of a level */
 
 uint16_t ecc200_sample_abi(void) {
@@ -21,33 +21,9 @@ ecc200_sample_options ecc200_sample_usual(void) {
     return (ecc200_sample_options){.milliseconds = ECC200_SAMPLE_USUAL_TIME};
 }
 
-/* Where solid borders may be, the lively ones first. */
-struct elbows {
-    struct elbow items[ELBOWS];
-    int count, lively;
-};
-
-/* The picture as it is, or inverted: symbols are looked for as dark on light in both. */
-struct sight {
-    struct plane picture;
-    struct plane levels[LEVELS];  /* the picture smoothed, and each after it half as large */
-    int level_count;
-    struct elbows elbows[LEVELS]; /* of each level that was searched */
-    bool is_inverted;
-};
-
 /* ---- What has been found */
 
-struct search {
-    struct judge judge;
-    struct sight sights[2];       /* as it is, and inverted */
-    struct line lines[LINES];
-    struct elbows calm;           /* of the calm level that is being searched */
-    ecc200_sample *found;
-    size_t count, room;
-};
-
-static bool is_over(const struct search *search) {
+bool is_over(const struct search *search) {
     return search->count == search->room || search->judge.has_no_memory || clock_reached(search->judge.end);
 }
 
@@ -87,26 +63,24 @@ static bool darken(const struct search *search, const struct plane *grey, int le
     return is_made;
 }
 
-/* Takes note of a plane that wasn't made: there was no memory, if there was time. */
-static void note_lack(struct search *search, bool is_made) {
+void note_lack(struct search *search, bool is_made) {
     search->judge.has_no_memory |= !is_made && !clock_reached(search->judge.end);
 }
 
-static bool is_known(const struct search *search, struct point at) {
+bool is_known(const struct search *search, struct point at) {
     for (size_t k = 0; k < search->count; k++)
         if (lies_within(&search->found[k], at))
             return true;
     return false;
 }
 
-/* Judges placements from the likeliest on, until one is read. */
-static bool judge_all(struct search *search, const struct sight *sight, struct placement *placements, int count, double scale) {
+bool judge_all(struct search *search, const struct sight *sight, struct placement *placements, int count, double scale) {
     search->judge.picture = &sight->picture, search->judge.smooth = &sight->levels[0], search->judge.is_inverted = sight->is_inverted;
     for (int k = 0; k < count && !is_over(search); k++) {
         struct placement *placement = &placements[k];
         for (int column = 0; column < 3; column++)
-            placement->to_picture.m[0][column] *= scale, placement->to_picture.m[1][column] *= scale;
-        struct point middle = map_point(&placement->to_picture, placement->side / 2.0, placement->side / 2.0);
+            placement->warp.to_picture.m[0][column] *= scale, placement->warp.to_picture.m[1][column] *= scale;
+        struct point middle = warp_point(&placement->warp, placement->side / 2.0, placement->side / 2.0);
         if (!is_known(search, middle) && judge_placement(&search->judge, placement, &search->found[search->count])) {
             search->count++;
             return true;
@@ -181,6 +155,13 @@ static void search_calm(struct search *search, struct sight *sight, int level) {
     note_lack(search, is_made);
     plane_free(&grey);
     plane_free(&dark);
+}
+
+/* Looks for lattices in a level. */
+static void search_woven(struct search *search, struct sight *sight, int level) {
+    (void)sight;
+    if (level < LATTICE_LEVELS)
+        search_lattices(search, level);
 }
 
 /* Searches all levels in one of these ways. */
@@ -259,6 +240,7 @@ static void search_picture(struct search *search, const struct plane *picture) {
     if (!is_over(search)) {
         note_lack(search, plane_invert(picture, end, &inverted->picture) && make_levels(inverted, end));
         search_levels(search, inverted, search_lively);
+        search_levels(search, plain, search_woven);
         search_levels(search, plain, search_calm);
         search_levels(search, inverted, search_calm);
         search_levels(search, plain, search_still);
@@ -284,6 +266,7 @@ uint16_t ecc200_sample_picture(const uint8_t *luminance, size_t width, size_t he
         search->found = out, search->room = room;
         search->judge.options = options != NULL ? options : &usual;
         search->judge.layouts = &layouts;
+        search->judge.places = &search->places;
         search->judge.end = clock_now() + search->judge.options->milliseconds;
         search->judge.trial = trials;
         search->judge.unread = search->judge.options->keep_unread ? trials + 1 : NULL;

@@ -1,22 +1,22 @@
 #include "sampling.h"
 
 #include <math.h>
-#include <string.h>
+#include <stdlib.h>
 
 enum { POINTS = 4 };
 static const double FIRST = -0.27, APART = 0.18; /* modules: where the points of a module are */
 static const double LEAST_AROUND = 0.15;         /* of the contrast of the symbol, below which a window shows one colour only */
 
-void sample_modules(const struct plane *plane, const struct layout *layout, const struct bent *bent, double x, double y, struct brightnesses *out) {
-    int side = layout->side, region = side / bent->across;
+void sample_modules(const struct plane *plane, const struct layout *layout, const struct lie *lie, double x, double y, struct brightnesses *out) {
+    int side = layout->side, region = side / lie->across;
     out->side = side;
     for (int row = 0; row < side; row++)
         for (int column = 0; column < side; column++) {
-            const struct homography *to_picture = &bent->to_picture[row / region * bent->across + column / region];
+            const struct warp *warp = &lie->warps[row / region * lie->across + column / region];
             double total = 0;
             for (int k = 0; k < POINTS * POINTS; k++) {
                 double right = column + 0.5 + x + FIRST + APART * (k % POINTS), down = row + 0.5 + y + FIRST + APART * (k / POINTS);
-                total += brightness(plane, map_point(to_picture, right, down));
+                total += brightness(plane, warp_point(warp, right, down));
             }
             out->of[row * side + column] = (float)(total / (POINTS * POINTS));
         }
@@ -137,6 +137,64 @@ static void divide_around(const float *of, int side, double contrast, int around
             modules[k] = 2 * of[k] < squares[0][k] + squares[1][k];
 }
 
+/* ---- Where the light changes suddenly, by the squares that it leaves clear */
+
+enum { SQUARE = 5, MODULES = SQUARE * SQUARE };
+
+/* Where the brightnesses of a square are divided best, and how much of their variance that takes away. */
+struct division {
+    float middle, share, contrast;
+};
+
+static int by_brightness(const void *one, const void *other) {
+    float a = *(const float *)one, b = *(const float *)other;
+    return a < b ? -1 : a > b;
+}
+
+static struct division division_of(const float *of, int side) {
+    struct division best = {0};
+    float sorted[MODULES], total = 0, squares = 0, below = 0;
+    for (int k = 0; k < MODULES; k++) {
+        float here = of[k / SQUARE * side + k % SQUARE];
+        sorted[k] = here, total += here, squares += here * here;
+    }
+    qsort(sorted, MODULES, sizeof *sorted, by_brightness);
+    float variance = squares - total * total / MODULES;
+    for (int k = 1; k < MODULES; k++) {
+        below += sorted[k - 1];
+        float least = below / (float)k, most = (total - below) / (float)(MODULES - k), contrast = most - least;
+        float share = variance > 0 ? contrast * contrast * (float)(k * (MODULES - k)) / (MODULES * variance) : 0;
+        if (share > best.share)
+            best = (struct division){(least + most) / 2, share, contrast};
+    }
+    return best;
+}
+
+/* The first of `squares` squares in a line that a module lies in, or the last. */
+static int square_of(int module, bool is_last, int squares) {
+    int at = is_last ? module : module - SQUARE + 1;
+    return at < 0 ? 0 : at < squares ? at : squares - 1;
+}
+
+/* Divides by that of the squares around each module whose brightnesses fall most clearly into two. */
+static void divide_cleanly(const float *of, int side, double contrast, uint8_t *modules) {
+    struct division divisions[MOST_SIDE * MOST_SIDE];
+    int squares = side - SQUARE + 1;
+    for (int k = 0; k < squares * squares; k++)
+        divisions[k] = division_of(of + k / squares * side + k % squares, side);
+    for (int k = 0; k < side * side; k++) {
+        struct division best = {0};
+        for (int y = square_of(k / side, false, squares); y <= square_of(k / side, true, squares); y++)
+            for (int x = square_of(k % side, false, squares); x <= square_of(k % side, true, squares); x++) {
+                const struct division *here = &divisions[y * squares + x];
+                if (here->share > best.share && here->contrast >= LEAST_AROUND * contrast)
+                    best = *here;
+            }
+        if (best.share > 0)
+            modules[k] = of[k] < best.middle;
+    }
+}
+
 bool tell_apart(const struct brightnesses *from, const struct layout *layout, struct rule rule, uint8_t *modules) {
     float sharp[MOST_SIDE * MOST_SIDE];
     const float *of = from->of;
@@ -156,7 +214,9 @@ bool tell_apart(const struct brightnesses *from, const struct layout *layout, st
         divide(of, from->side, &levels, 0, modules);
     }
     divide(of, from->side, &levels, rule.offset, modules);
-    if (rule.around > 0)
+    if (rule.is_cleanest)
+        divide_cleanly(of, from->side, levels.of[LIGHT].a - levels.of[DARK].a, modules);
+    else if (rule.around > 0)
         divide_around(of, from->side, levels.of[LIGHT].a - levels.of[DARK].a, rule.around, modules);
     return true;
 }

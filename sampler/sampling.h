@@ -4,21 +4,22 @@
 
 #include "layout.h"
 #include "plane.h"
+#include "warp.h"
 
 struct brightnesses {
     int side;
     float of[MOST_SIDE * MOST_SIDE];
 };
 
-/* How a symbol may bend: a transformation for each of its regions, region by region from the top, each row from the left. */
+/* How a symbol lies: a warp for all of it, or for each of its regions, region by region from the top, each row from the left. */
 enum { MOST_REGIONS = 16 };
-struct bent {
+struct lie {
     int across;            /* regions in a row */
-    struct homography to_picture[MOST_REGIONS];
+    struct warp warps[MOST_REGIONS];
 };
 
 /* The mean brightness of each module's middle. The grid is moved by (x, y) modules. */
-void sample_modules(const struct plane *plane, const struct layout *layout, const struct bent *bent, double x, double y, struct brightnesses *out);
+void sample_modules(const struct plane *plane, const struct layout *layout, const struct lie *lie, double x, double y, struct brightnesses *out);
 
 /* How dark modules are told from light ones. */
 struct rule {
@@ -26,6 +27,7 @@ struct rule {
     double offset;         /* of the threshold, as a share of the contrast: above 0, more modules are dark */
     bool is_by_all;        /* whether the levels are those of all modules; else of the border alone */
     int around;            /* not 0: each module's threshold is that of a square of modules, so many around it each way */
+    bool is_cleanest;      /* whether that is the clearest square that the module lies in, not the one around it */
 };
 
 /* Writes 1 for each dark module. False if the border shows no contrast. */

@@ -203,7 +203,7 @@ static struct placement best_near(const struct scene *scene, const struct frame 
             double track = (double)fit.right / fit.counted, solid = (double)fit.solid / fit.solid_counted;
             double score = solid < LEAST_SOLID || track < LEAST_TRACK ? 0 : 0.75 * track + 0.25 * solid;
             if (score > best.score)
-                best.score = score, best.to_picture = to_picture;
+                best.score = score, best.warp = flat_warp(&to_picture);
         }
     return best;
 }

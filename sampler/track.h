@@ -4,6 +4,7 @@
 
 #include "finder.h"
 #include "layout.h"
+#include "warp.h"
 
 /* A picture in grey, and where it is dark. */
 struct scene {
@@ -13,9 +14,10 @@ struct scene {
 
 /* Where a symbol may be. */
 struct placement {
-    struct homography to_picture; /* from modules to pixels */
+    struct warp warp;             /* from modules to pixels */
     int side;
     double score;                 /* the share of border modules that have the right colour */
+    bool shows_border;            /* whether nearly all have, though edges may be missing where something touches it */
 };
 
 enum { MOST_PLACEMENTS = 4 };

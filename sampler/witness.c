@@ -5,30 +5,35 @@
 
 /* An edge is looked for along a line across it, on which the picture is sampled TICK modules apart: the steepest place within REACH ticks
  * of where it should be, by the difference of the means of WINDOW ticks on both sides. */
-enum { REACH = 6, WINDOW = 5, SAMPLES = 2 * (REACH + WINDOW) + 1, PARAMETERS = 8, MOST_LOOKED_AT = 700 };
+enum { REACH = 6, WINDOW = 5, SAMPLES = 2 * (REACH + WINDOW) + 1, PARAMETERS = 8, MOST_LOOKED_AT = 700, MOST_PLACE = 1000 };
 static const double TICK = 0.1, BESIDE = 0.25, HUBER = 0.12;
+static const double LEAST_SHARE = 0.35, LEAST_CONTRAST = 4; /* of an edge: of the mean contrast, and of 255 */
+static const double NEAR = 0.2;                             /* modules */
+static const double STIFF = 0.002;                          /* how much a bend is held back */
+
+static const struct part EVERYWHERE = {-MOST_PLACE, MOST_PLACE, -MOST_PLACE, MOST_PLACE};
 
 /* The brightness across an edge, at each tick the mean of three places along it. */
-static void profile_of(const struct plane *plane, const struct homography *to_picture, const struct witness *witness, double profile[SAMPLES]) {
-    for (int k = 0; k < SAMPLES; k++) {
-        double way = TICK * (k - REACH - WINDOW);
-        profile[k] = 0;
-        for (int line = -1; line <= 1; line++) {
-            double x = witness->x + (witness->is_upright ? way : BESIDE * line), y = witness->y + (witness->is_upright ? BESIDE * line : way);
-            profile[k] += brightness(plane, map_point(to_picture, x, y)) / 3;
-        }
-    }
+static void profile_of(const struct plane *plane, const struct warp *warp, const struct witness *witness, double profile[SAMPLES]) {
+    /* So small a part of a warp is as good as even. */
+    double far = TICK * (REACH + WINDOW), x = witness->is_upright ? far : 0, y = witness->is_upright ? 0 : far, by = BESIDE / far;
+    struct point from = warp_point(warp, witness->x - x, witness->y - y), to = warp_point(warp, witness->x + x, witness->y + y);
+    struct point middle = warp_point(warp, witness->x, witness->y);
+    struct point beside = difference(warp_point(warp, witness->x + by * y, witness->y + by * x), middle);
+    struct point step = scale_by(difference(to, from), 1.0 / (SAMPLES - 1));
+    for (int k = 0; k < SAMPLES; k++, from = sum(from, step))
+        profile[k] = (brightness(plane, from) + brightness(plane, sum(from, beside)) + brightness(plane, difference(from, beside))) / 3;
 }
 
 /* How far the edge is from where it should be, in modules; returns its contrast, 0 or less if there is none. */
-static double offset_of(const double profile[SAMPLES], bool darkens, double *offset) {
+static double offset_of(const double profile[SAMPLES], int darkens, double *offset) {
     double rises[2 * REACH + 1];
     int best = 0;
     for (int k = 0; k <= 2 * REACH; k++) {
         double before = 0, after = 0;
         for (int j = 0; j < WINDOW; j++)
             before += profile[k + j], after += profile[k + WINDOW + 1 + j];
-        rises[k] = (darkens ? before - after : after - before) / WINDOW;
+        rises[k] = (darkens == UNKNOWN ? fabs(before - after) : darkens == DARK ? before - after : after - before) / WINDOW;
         if (rises[k] > rises[best])
             best = k;
     }
@@ -75,8 +80,7 @@ struct edge {
 };
 
 /* Looks at the edges of a part, at most MOST_LOOKED_AT; returns their number. */
-static int look_at(const struct plane *plane, const struct layout *layout, struct part part, const struct homography *to_picture,
-                   struct edge *edges) {
+static int look_at(const struct plane *plane, const struct layout *layout, struct part part, const struct warp *warp, struct edge *edges) {
     int inside = 0, count = 0, seen = 0;
     for (int k = 0; k < layout->witness_count; k++)
         inside += lies_in(&layout->witnesses[k], part);
@@ -86,7 +90,7 @@ static int look_at(const struct plane *plane, const struct layout *layout, struc
         if (!lies_in(witness, part) || seen++ % every > 0)
             continue;
         double profile[SAMPLES];
-        profile_of(plane, to_picture, witness, profile);
+        profile_of(plane, warp, witness, profile);
         edges[count].witness = witness;
         edges[count].contrast = offset_of(profile, witness->darkens, &edges[count].offset);
         count++;
@@ -94,17 +98,17 @@ static int look_at(const struct plane *plane, const struct layout *layout, struc
     return count;
 }
 
-double refine(const struct plane *plane, const struct layout *layout, struct part part, double stiff, int rounds, struct homography *to_picture) {
+double refine(const struct plane *plane, const struct layout *layout, struct part part, double stiff, int rounds, struct warp *warp) {
     double share = 0;
     for (int round = 0; round < rounds; round++) {
         struct edge edges[MOST_LOOKED_AT];
         struct equations equations = {0};
-        int count = look_at(plane, layout, part, to_picture, edges), near = 0;
+        int count = look_at(plane, layout, part, warp, edges), near = 0;
         double mean = 0;
         for (int k = 0; k < count; k++)
             mean += fmax(edges[k].contrast, 0) / count;
         for (int k = 0; k < count; k++) {
-            if (edges[k].contrast < 0.35 * mean || edges[k].contrast < 4)
+            if (edges[k].contrast < LEAST_SHARE * mean || edges[k].contrast < LEAST_CONTRAST)
                 continue;
             double off = fabs(edges[k].offset), huber = HUBER * (rounds - round);
             near += off < 0.35;
@@ -115,7 +119,81 @@ double refine(const struct plane *plane, const struct layout *layout, struct par
             equations.matrix[k * PARAMETERS + k] += stiff * (k < 6 ? 1 : 4);
         if (near < PARAMETERS || !solve(equations.matrix, equations.values, PARAMETERS))
             break;
-        *to_picture = changed(to_picture, equations.values, layout->side);
+        warp->to_picture = changed(&warp->to_picture, equations.values, layout->side);
     }
     return share;
+}
+
+/* ---- Bent surfaces */
+
+/* The equations of least squares for what is to be added to the polynomials. */
+struct bending {
+    double matrix[2][TERMS * TERMS], values[2][TERMS];
+};
+
+static void add_bend(struct bending *bending, const struct witness *witness, const struct warp *warp, double offset, double weight) {
+    double terms[TERMS];
+    double *matrix = bending->matrix[witness->is_upright ? 0 : 1], *values = bending->values[witness->is_upright ? 0 : 1];
+    find_terms((witness->x - warp->middle) / warp->unit, (witness->y - warp->middle) / warp->unit, terms);
+    for (int k = 0; k < TERMS; k++) {
+        values[k] += weight * terms[k] * offset / warp->unit;
+        for (int j = 0; j < TERMS; j++)
+            matrix[k * TERMS + j] += weight * terms[k] * terms[j];
+    }
+}
+
+static bool add_solution(struct bending *bending, struct warp *warp) {
+    for (int way = 0; way < 2; way++) {
+        for (int k = 0; k < TERMS; k++)
+            bending->matrix[way][k * TERMS + k] += STIFF;
+        if (!solve(bending->matrix[way], bending->values[way], TERMS))
+            return false;
+        for (int k = 0; k < TERMS; k++)
+            *(way == 0 ? &warp->right[k] : &warp->down[k]) += bending->values[way][k];
+    }
+    return true;
+}
+
+static double mean_of(const struct edge *edges, int count) {
+    double mean = 0;
+    for (int k = 0; k < count; k++)
+        mean += fmax(edges[k].contrast, 0) / count;
+    return mean;
+}
+
+double bend(const struct plane *plane, const struct layout *layout, int rounds, struct warp *warp) {
+    double share = 0;
+    for (int round = 0; round < rounds; round++) {
+        struct edge edges[MOST_LOOKED_AT];
+        struct bending bending = {0};
+        int count = look_at(plane, layout, EVERYWHERE, warp, edges), clear = 0, near = 0;
+        double least = fmax(LEAST_SHARE * mean_of(edges, count), LEAST_CONTRAST), huber = HUBER * (rounds - round);
+        for (int k = 0; k < count; k++) {
+            double off = fabs(edges[k].offset);
+            if (edges[k].contrast < least)
+                continue;
+            clear++, near += off < NEAR;
+            add_bend(&bending, edges[k].witness, warp, edges[k].offset, off < huber ? 1 : huber / off);
+        }
+        share = clear > 0 ? (double)near / clear : 0;
+        if (clear < 2 * TERMS || !add_solution(&bending, warp))
+            break;
+    }
+    return share;
+}
+
+/* ---- How well edges lie where they should */
+
+double mean_contrast(const struct plane *plane, const struct layout *layout, const struct warp *warp) {
+    struct edge edges[MOST_LOOKED_AT];
+    return mean_of(edges, look_at(plane, layout, EVERYWHERE, warp, edges));
+}
+
+struct support support_of(const struct plane *plane, const struct layout *layout, const struct warp *warp, double least) {
+    struct edge edges[MOST_LOOKED_AT];
+    int count = look_at(plane, layout, EVERYWHERE, warp, edges), clear = 0, near = 0;
+    for (int k = 0; k < count; k++)
+        if (edges[k].contrast >= least)
+            clear++, near += fabs(edges[k].offset) < NEAR;
+    return (struct support){(double)clear / (count > 0 ? count : 1), (double)near / (clear > 0 ? clear : 1)};
 }

@@ -3,7 +3,7 @@ and statuses, hostile files, and the shared library from C and C++. Nothing is p
 under it is."""
 import os
 
-from tests.sampler import limits, options, reading, timing
+from tests.sampler import hard, limits, options, reading, timing
 from tests.sampler.pictures import CAREFUL, left_out, results
 from tests.support import commands, needs, places
 from tests.support.case import Case
@@ -61,6 +61,24 @@ class Sampler(Case):
 
     def test_glare(self):
         self.told(reading.glare, self.sampler)
+
+    def test_touching(self):
+        self.told(hard.touching, self.sampler)
+
+    def test_torn(self):
+        self.told(hard.torn, self.sampler)
+
+    def test_wider_border(self):
+        self.told(hard.wider_border, self.sampler)
+
+    def test_dots(self):
+        self.told(hard.dots, self.sampler)
+
+    def test_bent(self):
+        self.told(hard.bent, self.sampler)
+
+    def test_bands(self):
+        self.told(hard.bands, self.sampler)
 
     def test_formats(self):
         self.told(reading.formats, self.room, self.sampler)

@@ -1,0 +1,60 @@
+/* The second finder: edges that lie on a lattice, whatever is around them, and in it the borders of a symbol. */
+#include <stdlib.h>
+
+#include "field.h"
+#include "search.h"
+#include "spectrum.h"
+#include "texture.h"
+
+enum { SPOTS = 12, BORDERS = 6, LEAST_EXTENT = 8, CLEAR = 6 };
+
+/* Judges the symbols whose borders the lattice's modules show. */
+static void search_field(struct search *search, int level, const struct lattice *lattice, struct field *field) {
+    struct border borders[BORDERS];
+    int first_x, first_y;
+    sample_field(&search->sights[0].levels[level], lattice, field, &first_x, &first_y);
+    int count = find_borders(field, borders, BORDERS);
+    search->judge.has_no_memory |= count < 0;
+    for (int k = 0; k < count && !is_over(search); k++) {
+        struct placement placement = {.side = borders[k].side, .score = borders[k].score};
+        placement.shows_border = borders[k].score >= CLEAR;
+        if (symbol_in(lattice, first_x, first_y, &borders[k], &placement.warp) &&
+            judge_all(search, &search->sights[borders[k].is_inverted], &placement, 1, 1 << level))
+            return;
+    }
+}
+
+static bool is_large(const struct lattice *lattice) {
+    return lattice->part.last_x - lattice->part.first_x >= LEAST_EXTENT &&
+           lattice->part.last_y - lattice->part.first_y >= LEAST_EXTENT;
+}
+
+static void search_spot(struct search *search, int level, const struct plane *steep, const struct spot *spot,
+                        struct field *field) {
+    struct homography lattices[2 * MOST_LATTICES];
+    struct lattice lattice;
+    const struct plane *grey = &search->sights[0].levels[level];
+    struct point middle = point_at((spot->x + WINDOW_SIDE / 2) << level, (spot->y + WINDOW_SIDE / 2) << level);
+    if (is_known(search, middle))
+        return;
+    /* Edges are seen by what is steep, and dots that don't touch by what is dark. */
+    int count = find_lattices(steep, spot->x, spot->y, 0.5, lattices);
+    count += find_lattices(grey, spot->x, spot->y, 0, lattices + count);
+    size_t before = search->count;
+    for (int k = 0; k < count && !is_over(search) && search->count == before; k++)
+        if (grow_lattice(grey, &lattices[k], search->judge.places, search->judge.end, &lattice) && is_large(&lattice))
+            search_field(search, level, &lattice, field);
+}
+
+void search_lattices(struct search *search, int level) {
+    struct spot spots[SPOTS];
+    struct plane steep;
+    struct field *field = malloc(sizeof *field);
+    bool is_made = plane_steepen(&search->sights[0].levels[level], search->judge.end, &steep) && field != NULL;
+    int count = is_made ? find_spots(&steep, search->judge.end, spots, SPOTS) : 0;
+    for (int k = 0; k < count && !is_over(search); k++)
+        search_spot(search, level, &steep, &spots[k], field);
+    note_lack(search, is_made && count >= 0);
+    free(field);
+    plane_free(&steep);
+}

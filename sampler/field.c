@@ -1,0 +1,58 @@
+#include "field.h"
+
+enum { MARGIN = 4, AROUND = 3, POINTS = 3 };
+static const double APART = 0.2; /* modules: how far the points of a module are from one another */
+
+static float brightness_of(const struct plane *grey, const struct warp *warp, int x, int y) {
+    double total = 0;
+    for (int k = 0; k < POINTS * POINTS; k++) {
+        double right = x + 0.5 + APART * (k % POINTS - 1), down = y + 0.5 + APART * (k / POINTS - 1);
+        total += brightness(grey, warp_point(warp, right, down));
+    }
+    return (float)(total / (POINTS * POINTS));
+}
+
+/* The first of at most `most` modules that has those from `first` to `last` in the middle. */
+static int begin(int first, int last, int *count) {
+    *count = last - first + 2 * MARGIN < MOST_FIELD ? last - first + 2 * MARGIN : MOST_FIELD;
+    return (first + last - *count) / 2;
+}
+
+/* Writes the middle between the least and the most of the numbers around each. */
+static void find_middles(const float *of, int wide, int high, float *middles) {
+    for (int y = 0; y < high; y++)
+        for (int x = 0; x < wide; x++) {
+            float least = of[y * MOST_FIELD + x], most = least;
+            for (int row = y - AROUND; row <= y + AROUND; row++)
+                for (int column = x - AROUND; column <= x + AROUND; column++) {
+                    if (row < 0 || column < 0 || row >= high || column >= wide)
+                        continue;
+                    float here = of[row * MOST_FIELD + column];
+                    least = here < least ? here : least, most = here > most ? here : most;
+                }
+            middles[y * MOST_FIELD + x] = (least + most) / 2;
+        }
+}
+
+void sample_field(const struct plane *grey, const struct lattice *lattice, struct field *out, int *first_x,
+                  int *first_y) {
+    float of[MOST_FIELD * MOST_FIELD], middles[MOST_FIELD * MOST_FIELD];
+    *first_x = begin(lattice->part.first_x, lattice->part.last_x, &out->wide);
+    *first_y = begin(lattice->part.first_y, lattice->part.last_y, &out->high);
+    for (int y = 0; y < out->high; y++)
+        for (int x = 0; x < out->wide; x++)
+            of[y * MOST_FIELD + x] = brightness_of(grey, &lattice->warp, *first_x + x, *first_y + y);
+    find_middles(of, out->wide, out->high, middles);
+    for (int y = 0; y < out->high; y++)
+        for (int x = 0; x < out->wide; x++)
+            out->dark[y * MOST_FIELD + x] = of[y * MOST_FIELD + x] < middles[y * MOST_FIELD + x];
+}
+
+bool symbol_in(const struct lattice *lattice, int first_x, int first_y, const struct border *border, struct warp *out) {
+    static const double turned[4][4] = {{1, 0, 0, 1}, {0, -1, 1, 0}, {-1, 0, 0, -1}, {0, 1, -1, 0}};
+    const double *turn = turned[border->turns], side = border->side;
+    double x = first_x + border->x + (turn[0] + turn[1] < 0 ? side : 0),
+           y = first_y + border->y + (turn[2] + turn[3] < 0 ? side : 0);
+    struct homography inner = {{{turn[0], turn[1], x}, {turn[2], turn[3], y}, {0, 0, 1}}};
+    return compose_warp(&lattice->warp, &inner, border->side, out);
+}

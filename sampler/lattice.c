@@ -1,0 +1,89 @@
+#include "lattice.h"
+
+#include "witness.h"
+
+enum { FIRST_REACH = 4, STEP = 2, SIDES_OF_A_PART = 4 };
+static const double LEAST_CLEAR = 0.12; /* of the places between modules, of which about half have an edge */
+static const double LEAST_NEAR = 0.5;   /* of the clear edges */
+static const double LEAST_SHARE = 0.35; /* of the mean contrast, for an edge to be clear */
+static const double STIFF = 0.1, UNIT = 32;
+
+/* How much the brightness differs from module to module around the origin, at points so far from their corners. */
+static double variance_at(const struct plane *grey, const struct homography *to_picture, double beside) {
+    double count = 0, total = 0, squares = 0;
+    for (int y = -FIRST_REACH; y < FIRST_REACH; y++)
+        for (int x = -FIRST_REACH; x < FIRST_REACH; x++) {
+            double here = brightness(grey, map_point(to_picture, x + beside, y + beside));
+            count++, total += here, squares += here * here;
+        }
+    return squares / count - total / count * total / count;
+}
+
+/* The edges of small dots are nearer to the dots' middles than to the corners of modules: there the lattice is half a
+ * module beside. */
+static struct warp settled(const struct plane *grey, const struct homography *to_picture) {
+    static const struct homography half = {{{1, 0, 0.5}, {0, 1, 0.5}, {0, 0, 1}}};
+    bool is_beside = variance_at(grey, to_picture, 0) > variance_at(grey, to_picture, 0.5);
+    return (struct warp){.to_picture = is_beside ? compose(to_picture, &half) : *to_picture, .unit = UNIT};
+}
+
+/* Whether a part of a lattice has edges that lie on it, of this contrast at least. */
+static bool holds(const struct plane *grey, struct layout *room, const struct lattice *lattice, struct part part,
+                  double least) {
+    lay_out_places(room, part);
+    struct support support = support_of(grey, room, &lattice->warp, least);
+    return support.clear >= LEAST_CLEAR && support.near >= LEAST_NEAR;
+}
+
+/* The strip of modules just outside one side of a part. */
+static struct part strip_beside(struct part part, int side) {
+    switch (side) {
+    case 0: return (struct part){part.first_x - STEP, part.first_x, part.first_y, part.last_y};
+    case 1: return (struct part){part.last_x, part.last_x + STEP, part.first_y, part.last_y};
+    case 2: return (struct part){part.first_x, part.last_x, part.first_y - STEP, part.first_y};
+    default: return (struct part){part.first_x, part.last_x, part.last_y, part.last_y + STEP};
+    }
+}
+
+static struct part both_of(struct part one, struct part other) {
+    return (struct part){one.first_x < other.first_x ? one.first_x : other.first_x,
+                         one.last_x > other.last_x ? one.last_x : other.last_x,
+                         one.first_y < other.first_y ? one.first_y : other.first_y,
+                         one.last_y > other.last_y ? one.last_y : other.last_y};
+}
+
+/* Grows the lattice to those sides that still fit; false if none does. */
+static bool grow(const struct plane *grey, struct layout *room, double least, bool fits[SIDES_OF_A_PART],
+                 struct lattice *lattice) {
+    struct part before = lattice->part;
+    bool grows = false;
+    for (int side = 0; side < SIDES_OF_A_PART; side++) {
+        struct part strip = strip_beside(before, side);
+        fits[side] = fits[side] && holds(grey, room, lattice, strip, least);
+        if (fits[side])
+            grows = true, lattice->part = both_of(lattice->part, strip);
+    }
+    return grows;
+}
+
+static bool has_room(struct part part) {
+    return part.last_x - part.first_x + 2 * STEP <= MOST_EXTENT && part.last_y - part.first_y + 2 * STEP <= MOST_EXTENT;
+}
+
+bool grow_lattice(const struct plane *grey, const struct homography *to_picture, struct layout *room, int64_t end,
+                  struct lattice *out) {
+    struct lattice lattice = {settled(grey, to_picture), {-FIRST_REACH, FIRST_REACH, -FIRST_REACH, FIRST_REACH}};
+    bool fits[SIDES_OF_A_PART] = {true, true, true, true};
+    lay_out_places(room, lattice.part);
+    refine(grey, room, lattice.part, STIFF, 3, &lattice.warp);
+    double least = LEAST_SHARE * mean_contrast(grey, room, &lattice.warp);
+    if (!holds(grey, room, &lattice, lattice.part, least))
+        return false;
+    lattice.warp.is_bent = true;
+    while (!clock_reached(end) && has_room(lattice.part) && grow(grey, room, least, fits, &lattice)) {
+        lay_out_places(room, lattice.part);
+        bend(grey, room, 1, &lattice.warp);
+    }
+    *out = lattice;
+    return true;
+}

@@ -1,0 +1,22 @@
+/* A lattice of modules that grows from a small part of a picture over all that fits it. */
+#ifndef LATTICE_H
+#define LATTICE_H
+
+#include "clock.h"
+#include "layout.h"
+#include "plane.h"
+#include "warp.h"
+
+enum { MOST_EXTENT = MOST_SIDE + 16 }; /* modules each way */
+
+struct lattice {
+    struct warp warp; /* from modules to pixels */
+    struct part part; /* the modules that it has */
+};
+
+/* Grows a lattice around the origin of the map as far as edges lie on it, or until the time `end`. `room` is for its
+ * places. False if even the first modules don't fit. */
+bool grow_lattice(const struct plane *grey, const struct homography *to_picture, struct layout *room, int64_t end,
+                  struct lattice *out);
+
+#endif

@@ -1,0 +1,17 @@
+/* Where a picture has texture, as modules make it: many steep places close together. */
+#ifndef TEXTURE_H
+#define TEXTURE_H
+
+#include "clock.h"
+#include "plane.h"
+
+/* The upper left corner of a window of WINDOW_SIDE pixels each way, around the middle of what is steep there. */
+struct spot {
+    int x, y;
+    double steepness;
+};
+
+/* Writes at most `room` spots, the steepest first, and returns their number, or -1 if there is no memory. */
+int find_spots(const struct plane *steep, int64_t end, struct spot *out, int room);
+
+#endif

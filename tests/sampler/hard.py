@@ -1,0 +1,135 @@
+"""What a camera sees where marks are made: symbols that touch others, torn, of dots, bent, and in uneven light."""
+import json
+import math
+import random
+
+from tests.sampler.pictures import check, grid_of, message_of, pgm, pixels_of, record, run, tool
+
+
+def sizes():
+    """Of each size: its side, its data codewords, and how many wrong codewords can be corrected in each block."""
+    rows = (list(map(int, line.split())) for line in tool(["table"], "").splitlines())
+    return [(row[0], row[4], row[7]) for row in rows]
+
+
+def crowded(grid, chance, among=(0, 1), around=5):
+    """The modules of a grid, with others on all sides that touch it."""
+    side = len(grid)
+    field = [[chance.choice(among) for _ in range(side + 2 * around)] for _ in range(side + 2 * around)]
+    for row in range(side):
+        field[around + row][around:around + side] = grid[row]
+    return field
+
+
+def touching(sampler):
+    """Symbols among random modules, without a quiet zone, and in a dark ground, dark on light and light on dark."""
+    chance = random.Random(11)
+    for side, count, _ in sizes()[2:]:
+        grid = grid_of(message_of(count))
+        for name, among in (("others", (0, 1)), ("dark", (1,))):
+            rows = pixels_of(crowded(grid, chance, among), 4 if side < 50 else 3)
+            if side % 4:
+                rows = [[250 - level for level in row] for row in rows]
+            done = run([sampler, "--time=30000"], pgm(rows))
+            check(f"side {side} among {name}", (done.returncode, done.stdout.decode()), (0, record(grid)))
+
+
+def torn(sampler):
+    """Symbols without a corner, of which each is read though more of the border is wrong than usual."""
+    for at, (side, count, _) in enumerate(sizes()[3:12]):
+        message = message_of(count)
+        reach, turn = int(0.36 * side), at % 4
+        grid = grid_of(message)
+        for row in range(side):
+            for column in range(side):
+                right, down = (column, side - 1 - column)[turn % 2], (row, side - 1 - row)[turn // 2]
+                if right + down < reach:
+                    grid[row][column] = 0
+        done = run([sampler, "--json", "--time=30000"], pgm(pixels_of(grid, 5)))
+        told = json.loads(done.stdout or b"{}")
+        check(f"side {side} without corner {turn}", (told.get("message"), told.get("border", 0) > side // 4),
+              (message, reach > side // 4))
+
+
+def wider_border(sampler):
+    """A symbol whose border is more damaged than usual is read if each block leaves a correction unused, and only
+    then."""
+    chance = random.Random(12)
+    for side, count, limit in sizes()[1:6]:
+        message = message_of(count)
+        grid, kept = grid_of(message), {}
+        while limit not in kept:
+            done = run([sampler, "--json", "--time=30000"], pgm(pixels_of(grid)))
+            corrected = json.loads(done.stdout)["corrected"][0] if done.returncode == 0 else None
+            if corrected is None:  # one flip has made two codewords wrong, or too many
+                grid = grid_of(message)
+            else:
+                kept[corrected] = [row[:] for row in grid]
+            row, column = chance.randrange(1, side - 1), chance.randrange(1, side - 1)
+            grid[row][column] ^= 1
+        for wrong in sorted(kept):
+            spoilt = [row[:] for row in kept[wrong]]
+            for k in range(side // 4 + 1):
+                spoilt[2 + k][0] ^= 1
+            done = run([sampler, "--json", "--time=30000"], pgm(pixels_of(spoilt)))
+            told = json.loads(done.stdout)["message"] if done.returncode == 0 else None
+            check(f"side {side}, {wrong} of {limit} corrections and a border beyond the limit", told,
+                  message if wrong < limit else None)
+
+
+def drawn(wide, high, level):
+    return [[int(level(x + 0.5, y + 0.5)) for x in range(wide)] for y in range(high)]
+
+
+def dots(sampler):
+    """Dots of three fifths of a module, which don't touch, turned a little, with some so faint that they are lost."""
+    chance = random.Random(13)
+    for side, count, _ in sizes()[:9]:
+        grid, message, scale = grid_of(message_of(count)), message_of(count), 6
+        faint = {(row, column) for row in range(side) for column in range(side) if chance.random() < 0.02}
+        wide, turn = int((side + 8) * scale * 1.15), 0.1 * (side % 5)
+
+        def level(x, y):
+            right, down = (x - wide / 2) / scale, (y - wide / 2) / scale
+            across = math.cos(turn) * right + math.sin(turn) * down + side / 2
+            along = math.cos(turn) * down - math.sin(turn) * right + side / 2
+            row, column = math.floor(along), math.floor(across)
+            if not (0 <= row < side and 0 <= column < side and grid[row][column]):
+                return 200
+            away = math.hypot(across - column - 0.5, along - row - 0.5) - 0.3
+            depth = 30 if (row, column) in faint else 150
+            return 200 - depth * min(1, max(0, 0.5 - away * scale))
+        done = run([sampler, "--json", "--time=30000"], pgm(drawn(wide, wide, level)))
+        check(f"dots of side {side}", json.loads(done.stdout or b"{}").get("message"), message)
+
+
+def bent(sampler):
+    """Symbols around a cylinder, up to forty degrees each way, upright and on their sides."""
+    for at, (side, count, _) in enumerate(sizes()[4:18:2]):
+        grid, scale = grid_of(message_of(count)), 6
+        reach, wide = math.radians(40), (side + 8) * scale
+        radius = side * scale / 2 / reach
+
+        def level(x, y):
+            across, along = (x, y) if at % 2 else (y, x)
+            sine = (across - wide / 2) / radius
+            if abs(sine) >= 1:
+                return 230
+            column, row = (math.floor(math.asin(sine) * radius / scale + side / 2),
+                           math.floor((along - wide / 2) / scale + side / 2))
+            inside = 0 <= row < side and 0 <= column < side
+            return 30 if inside and grid[row][column] else 230
+        done = run([sampler, "--json", "--time=30000"], pgm(drawn(wide, wide, level)))
+        check(f"side {side} around a cylinder", json.loads(done.stdout or b"{}").get("message"), message_of(count))
+
+
+def bands(sampler):
+    """In the light of a lamp that flickers while the rows are read one by one."""
+    for at, (side, count, _) in enumerate(sizes()[3:12]):
+        grid = grid_of(message_of(count))
+        rows = pixels_of(grid, 5)
+        period, depth = 5 * (5 + at), 0.4 + 0.03 * at
+        lit = [[int(level * (1 - depth * (0.5 + 0.5 * math.sin(2 * math.pi * y / period)))) for level in row]
+               for y, row in enumerate(rows)]
+        done = run([sampler, "--time=30000"], pgm(lit))
+        check(f"side {side} in bands of {period} pixels", (done.returncode, done.stdout.decode()), (0, record(grid)))
