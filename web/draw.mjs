@@ -16,7 +16,7 @@ export function drawAll() {
   drawWords(); drawAbout(); drawElements(); drawLesson();
 }
 
-const GIVING = ["copy", "save-svg", "save-png", "print", "copy-link"];
+const GIVING = ["copy", "save-svg", "save-png", "save-pdf", "print", "copy-link"];
 // What can be done with the mark now.
 export function drawStage() {
   const it = mark(), isValid = it.stage === VALID, canAct = isValid || (it.stage === WORKING && it.modules !== null);

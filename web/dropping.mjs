@@ -90,6 +90,7 @@ async function takeFile(file, note, isSheet = false) {
 /** @type {(name: string, text: string, why: string, note: string) => void} */
 function takeLines(name, text, why, note) {
   if (!why) $("messages").value = text;
+  if (!why) $("lines-as").value = /\.csv$/i.test(name) ? "csv" : "messages";
   hint("sheet-hint", why || `The lines of ${name}.${note}`, Boolean(why), "messages");
 }
 function pasted(event) {

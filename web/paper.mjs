@@ -22,8 +22,12 @@ export function tooWide(millimetres) {
 /** @type {(millimetres: number) => void} */
 export function setPage(millimetres) {
   const paper = paperNow();
-  const size = paper ? `${paper.width}mm ${paper.height}mm` : `${millimetres}mm ${millimetres}mm`;
-  rule.textContent = `@page { size: ${size}; margin: ${paper ? MARGIN : 0}mm; }`;
+  if (paper) setPageSize(paper.width, paper.height, MARGIN); else setPageSize(millimetres, millimetres);
+}
+// Sets the page to these millimetres.
+/** @type {(width: number, height: number, margin?: number) => void} */
+export function setPageSize(width, height, margin = 0) {
+  rule.textContent = `@page { size: ${width}mm ${height}mm; margin: ${margin}mm; }`;
 }
 /** @type {(changed: () => void) => void} */
 export function wirePaper(changed) {

@@ -1,17 +1,21 @@
 // Printing: the symbol at its size with its text, on one page; or a sheet of many messages; or each on a label as large
 // as itself.
 import { FNC1, SHORTER, plural, sideOf } from "./common.mjs";
+import { linesOfCsv } from "./csv.mjs";
 import { $, hint, made } from "./dom.mjs";
 import { elementsOf } from "./elements.mjs";
 import { desks } from "./flow.mjs";
 import { elementString } from "./gs1.mjs";
+import { laidOut, stockNow } from "./labels.mjs";
 import { spelled } from "./messages.mjs";
 import { brokenWords, isBroken } from "./order.mjs";
-import { paperNow, setPage, tooWide } from "./paper.mjs";
+import { paperNow, setPage, setPageSize, tooWide } from "./paper.mjs";
+import { pdfOf } from "./pdf.mjs";
 import { itemsNow, profileNow } from "./source.mjs";
 import { VALID, WORKING, mark } from "./state.mjs";
 import { QUIET } from "./symbol.mjs";
-import { drawingOf, given, giving, lengthNow, millimetres, toast } from "./taking.mjs";
+import { drawingOf, given, giving, lengthNow, millimetres, pageOf, pngOf, save, svgOf, toast } from "./taking.mjs";
+import { zipOf } from "./zip.mjs";
 
 const MOST_ON_SHEET = 500;
 const LINE = 5.5, CHARACTER = 2.5; // millimetres of the text below a symbol, a little more than they are
@@ -74,44 +78,108 @@ function printOne() {
   if (why) toast(why); else window.print();
 }
 
-// ---- A sheet
+// ---- Many symbols
 
-// Why a message of a sheet isn't printed, or "".
+/** @typedef {{ modules: Uint8Array, text: string }} Entry */
+const isCsv = () => $("lines-as").value === "csv";
+/** @type {() => import("./csv.mjs").Line[]} */
+function linesNow() {
+  const { value } = $("messages");
+  if (isCsv()) return linesOfCsv(value);
+  return value.split("\n").filter((line) => line.trim()).map((message) => ({ message, text: null }));
+}
+// Why a message of many isn't taken, or "".
 /** @type {(read: import("./messages.mjs").Taken) => string} */
 function whyNotOnSheet({ items, column, why }) {
   return items ? wrongGs1(items) : column ? `column ${column} ${why}` : why;
 }
-/** @type {(profile: number) => Promise<string>} */
-async function fillSheet(profile) {
-  const lines = $("messages").value.split("\n").filter((line) => line.trim());
-  const reads = lines.slice(0, MOST_ON_SHEET).map(itemsNow), faults = reads.map(whyNotOnSheet);
-  const bad = faults.findIndex(Boolean), count = plural(lines.length, "message", "messages");
-  if (!lines.length) return "Enter a message on each line.";
-  if (lines.length > MOST_ON_SHEET) return `${count}, and a sheet takes no more than ${MOST_ON_SHEET}.`;
-  if (bad >= 0) return `Message ${bad + 1}: ${faults[bad]}`;
+// The symbols of all lines, with their texts; or why there are none.
+/** @type {(profile: number) => Promise<{ why?: string, entries?: Entry[] }>} */
+async function entriesNow(profile) {
+  const lines = linesNow(), count = plural(lines.length, "message", "messages");
+  const reads = lines.slice(0, MOST_ON_SHEET).map(({ message }) => itemsNow(message));
+  const faults = reads.map(whyNotOnSheet), bad = faults.findIndex(Boolean);
+  if (!lines.length) return { why: isCsv() ? "Enter headings, and below them a row for each message."
+    : "Enter a message on each line." };
+  if (lines.length > MOST_ON_SHEET) return { why: `${count}, and a sheet takes no more than ${MOST_ON_SHEET}.` };
+  if (bad >= 0) return { why: `Message ${bad + 1}: ${faults[bad]}` };
   const symbols = await desks.quick.ask("sheet", { messages: reads.map(({ items }) => items), profile }, "sheet");
-  if (!symbols || isBroken(symbols)) return brokenWords(symbols ?? { stopped: true });
+  if (!symbols || isBroken(symbols)) return { why: brokenWords(symbols ?? { stopped: true }) };
   const long = symbols.findIndex((modules) => !modules);
-  if (long >= 0) return `Message ${long + 1} fits no size.`;
-  const lengths = symbols.map(lengthOf), wide = lengths.findIndex(tooWide);
+  if (long >= 0) return { why: `Message ${long + 1} fits no size.` };
+  const hasText = $("label-text").checked;
+  const textOf = ({ message, text }) => (hasText ? text ?? message : "");
+  return { entries: symbols.map((modules, k) => ({ modules, text: textOf(lines[k]) })) };
+}
+// The pages of labels that are chosen; none if symbols follow one another; or why there are none.
+/** @type {(entries: Entry[]) => { why?: string, pages?: import("./pdf.mjs").Page[] | null }} */
+function pagesNow(entries) {
+  const stock = stockNow();
+  if (!stock) return { pages: null };
+  return "why" in stock ? stock : laidOut(entries, stock, millimetres());
+}
+// A label on a page, at its place.
+function labelled({ modules, x, y, text, width }) {
+  const node = made("figure", {}, drawingOf(modules), made("figcaption", { textContent: text }));
+  Object.assign(node.style, { left: `${x}mm`, top: `${y}mm` });
+  const length = lengthOf(modules);
+  Object.assign(node.lastChild.style, { width: `${width}mm`, left: `${(length - width) / 2}mm`, top: `${length}mm` });
+  return node;
+}
+/** @type {(pages: import("./pdf.mjs").Page[]) => void} */
+function layOutLabels(pages) {
+  const [{ width, height }] = pages;
+  const nodes = pages.map(({ placed }) => made("div", { className: "page" }, ...placed.map(labelled)));
+  for (const node of nodes) Object.assign(node.style, { width: `${width}mm`, height: `${height}mm` });
+  $("paper").className = "stock";
+  setPageSize(width, height);
+  $("paper").replaceChildren(...nodes);
+}
+// One symbol after another on the paper; why not, or "".
+/** @type {(entries: Entry[]) => string} */
+function layOutSheet(entries) {
+  const lengths = entries.map(({ modules }) => lengthOf(modules)), wide = lengths.findIndex(tooWide);
   if (wide >= 0) return `Message ${wide + 1} makes a symbol of ${lengths[wide]} mm: ${tooWide(lengths[wide])}`;
-  const figures = symbols.map((modules, k) => figure(modules, [captionOf(lines[k])]));
+  const figures = entries.map(({ modules, text }) => figure(modules, text ? [captionOf(text)] : []));
   layOut("sheet", figures, Math.max(...lengths));
   return "";
 }
-async function printSheet() {
-  const profile = profileNow(), why = await fillSheet(profile);
-  hint("sheet-hint", why, Boolean(why), "messages");
-  if (why) return;
-  isSheet = true;
+// Does something with all symbols and their pages, and says how many there are, or why not.
+/** @type {(act: (entries: Entry[], pages: import("./pdf.mjs").Page[] | null) => any, where: string) => any} */
+const withAll = (act, where) => async () => {
+  const profile = profileNow(), { why, entries } = await entriesNow(profile);
+  const laid = entries ? pagesNow(entries) : { why };
+  const fault = laid.why || await act(entries, laid.pages);
+  hint("sheet-hint", fault || "", Boolean(fault), "messages");
+  if (fault) return false;
   const how = profile === SHORTER ? ", stored as bytes where that is smaller" : "";
-  const count = plural($("paper").childElementCount, "symbol is", "symbols are");
-  hint("sheet-hint", `${count} on the sheet${how}.`, false, "messages");
+  hint("sheet-hint", `${plural(entries.length, "symbol is", "symbols are")} ${where}${how}.`, false, "messages");
+  return true;
+};
+const layAll = withAll((entries, pages) => (pages ? layOutLabels(pages) : layOutSheet(entries)), "on the sheet");
+async function printSheet() {
+  if (!await layAll()) return;
+  isSheet = true;
   window.print();
 }
+const fileName = (k, modules, ending) => `${String(k + 1).padStart(3, "0")}-symbol-${sideOf(modules)}.${ending}`;
+// Saves a file for each symbol, in one archive.
+/** @type {(ending: string, bytesOf: (modules: Uint8Array) => Uint8Array | Promise<Uint8Array>) => any} */
+const zipping = (ending, bytesOf) => withAll(async (entries) => {
+  const files = [];
+  for (const [k, { modules }] of entries.entries())
+    files.push({ name: fileName(k, modules, ending), bytes: await bytesOf(modules) });
+  save(zipOf(files), `symbols-${ending}.zip`);
+}, "in the archive");
+const savePdf = withAll((entries, pages) => {
+  save(pdfOf(pages ?? entries.map(({ modules, text }) => pageOf(modules, text))), "symbols.pdf");
+}, "in the PDF");
 export function wirePrinting() {
   addEventListener("beforeprint", fillPaper);
   addEventListener("afterprint", () => { isSheet = false; });
   $("print").addEventListener("click", giving(printOne));
   $("print-sheet").addEventListener("click", printSheet);
+  $("many-pdf").addEventListener("click", savePdf);
+  $("many-png").addEventListener("click", zipping("png", pngOf));
+  $("many-svg").addEventListener("click", zipping("svg", (modules) => new TextEncoder().encode(svgOf(modules))));
 }

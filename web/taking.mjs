@@ -7,8 +7,10 @@ import { linkNow } from "./link.mjs";
 import { spelled, utf8Of } from "./messages.mjs";
 import { settled } from "./order.mjs";
 import { tooWide, wirePaper } from "./paper.mjs";
+import { TEXT_HEIGHT, pdfOf } from "./pdf.mjs";
 import { VALID, isDamaged, mark } from "./state.mjs";
 import { QUIET, runs, viewBox } from "./symbol.mjs";
+import { crcOf } from "./zip.mjs";
 
 /** @typedef {{ modules: Uint8Array, isDamagedOne: boolean, items: number[] | null }} Given */
 let toasted = null; // the timer that ends it
@@ -108,49 +110,47 @@ export function drawingOf(modules) {
     shape("path", { d: runs(side, (k) => modules[k]) }));
 }
 
-// ---- PNG
+// ---- Files
 
-/** @type {(bytes: Uint8Array) => number} */
-function crcOf(bytes) {
-  let crc = -1;
-  for (const byte of bytes) {
-    crc ^= byte;
-    for (let bit = 0; bit < 8; bit++) crc = (crc >>> 1) ^ (crc & 1 ? 0xedb88320 : 0);
-  }
-  return ~crc >>> 0;
-}
 // A PNG with its pixels per metre, in a chunk after the first.
-/** @type {(png: Uint8Array, perMetre: number) => Uint8Array[]} */
+/** @type {(png: Uint8Array, perMetre: number) => Uint8Array} */
 function withResolution(png, perMetre) {
-  const chunk = new Uint8Array(21), view = new DataView(chunk.buffer);
+  const chunk = new Uint8Array(21), view = new DataView(chunk.buffer), all = new Uint8Array(png.length + chunk.length);
   view.setUint32(0, 9);
   chunk.set([112, 72, 89, 115], 4); // pHYs
   view.setUint32(8, perMetre); view.setUint32(12, perMetre); chunk[16] = 1;
   view.setUint32(17, crcOf(chunk.subarray(4, 17)));
-  return [png.subarray(0, 33), chunk, png.subarray(33)];
+  all.set(png.subarray(0, 33));
+  all.set(chunk, 33);
+  all.set(png.subarray(33), 33 + chunk.length);
+  return all;
 }
-/** @param {Given} what */
-function savePng(what) {
-  const side = sideOf(what.modules), millimetre = millimetres();
+/** @type {(modules: Uint8Array) => Promise<Uint8Array>} */
+export async function pngOf(modules) {
+  const side = sideOf(modules), millimetre = millimetres();
   const each = Math.min(32, Math.max(8, Math.round(24 * millimetre))); // about 600 an inch
   const all = (side + 2 * QUIET) * each;
   const canvas = made("canvas", { width: all, height: all }), pen = canvas.getContext("2d");
   pen.fillStyle = "#fff"; pen.fillRect(0, 0, all, all); pen.fillStyle = "#000";
   const at = (line) => (line + QUIET) * each;
-  what.modules.forEach((dark, k) => { if (dark) pen.fillRect(at(k % side), at(Math.floor(k / side)), each, each); });
-  canvas.toBlob(async (blob) => {
-    const png = new Uint8Array(await blob.arrayBuffer());
-    const parts = withResolution(png, Math.round((1000 * each) / millimetre));
-    save(new Blob(parts, { type: "image/png" }), nameOf(what, "png"));
-  }, "image/png");
+  modules.forEach((dark, k) => { if (dark) pen.fillRect(at(k % side), at(Math.floor(k / side)), each, each); });
+  const blob = await new Promise((then) => canvas.toBlob(then, "image/png"));
+  return withResolution(new Uint8Array(await blob.arrayBuffer()), Math.round((1000 * each) / millimetre));
 }
-function saveSvg(what) {
-  const text = `${new XMLSerializer().serializeToString(drawingOf(what.modules))}\n`;
-  save(new Blob([text], { type: "image/svg+xml" }), nameOf(what, "svg"));
+/** @type {(modules: Uint8Array) => string} */
+export const svgOf = (modules) => `${new XMLSerializer().serializeToString(drawingOf(modules))}\n`;
+// A page that is as large as a symbol, with a text below it if there is one.
+/** @type {(modules: Uint8Array, text: string) => import("./pdf.mjs").Page} */
+export function pageOf(modules, text) {
+  const width = (sideOf(modules) + 2 * QUIET) * millimetres(), height = width + (text ? TEXT_HEIGHT : 0);
+  return { width, height, placed: [{ modules, x: 0, y: 0, module: millimetres(), text, width }] };
 }
+const saving = (ending, type, bodyOf) => async (what) =>
+  save(new Blob([await bodyOf(what.modules)], { type }), nameOf(what, ending));
 export function wireTaking() {
-  const actions = { copy: copySymbol, "copy-link": copyLink, "copy-message": copyMessage, "save-svg": saveSvg,
-    "save-png": savePng };
+  const actions = { copy: copySymbol, "copy-link": copyLink, "copy-message": copyMessage,
+    "save-svg": saving("svg", "image/svg+xml", svgOf), "save-png": saving("png", "image/png", pngOf),
+    "save-pdf": saving("pdf", "application/pdf", (modules) => pdfOf([pageOf(modules, "")])) };
   for (const [id, action] of Object.entries(actions)) $(id).addEventListener("click", giving(action));
   $("millimetres").addEventListener("input", drawPrintSize);
   wirePaper(drawPrintSize);

@@ -1,17 +1,58 @@
 """The parts of the page's test, and how one is run in the browser."""
 import pathlib
 
-from tests.page import (bounds, conduct, damage, elements, endurance, everyone, history, order, paper, photographs,
-                        pictures, tasks, texts)
+from tests.page import (
+    bounds,
+    conduct,
+    damage,
+    elements,
+    endurance,
+    everyone,
+    history,
+    labels,
+    order,
+    paper,
+    photographs,
+    pictures,
+    tasks,
+    texts,
+)
 from tests.page.stage import Failed, count, on, run, settle, text_of, to_top, wait_for
 
 # (the longest last)
-PARTS = [everyone.one_file, damage.codewords, damage.by_keys, damage.dragged, damage.touched, damage.border,
-         damage.fixed_square, damage.another_message, texts.pasted, pictures.pictures, texts.compared,
-         pictures.saved, texts.spellings, damage.small_symbol, everyone.to_be_seen_by_all, texts.profiles,
-         *conduct.PARTS, *tasks.PARTS, *order.PARTS, *history.PARTS, *elements.PARTS, *paper.PARTS, *bounds.PARTS,
-         damage.blocks, damage.sizes, *endurance.PARTS, damage.much_damage, *photographs.PARTS, texts.other_encoders,
-         everyone.old_browser]
+PARTS = [
+    everyone.one_file,
+    damage.codewords,
+    damage.by_keys,
+    damage.dragged,
+    damage.touched,
+    damage.border,
+    damage.fixed_square,
+    damage.another_message,
+    texts.pasted,
+    pictures.pictures,
+    texts.compared,
+    pictures.saved,
+    texts.spellings,
+    damage.small_symbol,
+    everyone.to_be_seen_by_all,
+    texts.profiles,
+    *conduct.PARTS,
+    *tasks.PARTS,
+    *order.PARTS,
+    *history.PARTS,
+    *elements.PARTS,
+    *paper.PARTS,
+    *labels.PARTS,
+    *bounds.PARTS,
+    damage.blocks,
+    damage.sizes,
+    *endurance.PARTS,
+    damage.much_damage,
+    *photographs.PARTS,
+    texts.other_encoders,
+    everyone.old_browser,
+]
 
 
 def load(file):

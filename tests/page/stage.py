@@ -22,8 +22,14 @@ except ImportError:
 
 QUIET = 2
 LIBRARY = pathlib.Path(__file__).resolve().parents[2] / "library"
-LEFT_OUT = {"structured append": 233, "reader programming": 234, "macro 05": 236, "macro 06": 237, "EDIFACT": 240,
-            "an ECI": 241}
+LEFT_OUT = {
+    "structured append": 233,
+    "reader programming": 234,
+    "macro 05": 236,
+    "macro 06": 237,
+    "EDIFACT": 240,
+    "an ECI": 241,
+}
 
 # What the page shows, as plain text: the verdict, the meters and the facts. Elements are told from a text that looks like
 # some by their identifiers, which have a colour.
@@ -73,6 +79,7 @@ count = Count()
 
 # ---- The program
 
+
 def ran(task, text, *more):
     words = [on.program, *task.split(), *more]
     done = subprocess.run(words, input=text.encode(), stdout=subprocess.PIPE, timeout=300, check=False)
@@ -106,6 +113,7 @@ def told(grids, *more):
 
 # ---- Element strings
 
+
 def rules():
     """The module gs1 of library/python over the common table, without the library below it, in a package of another
     name: ecc200 is the one that the tests of the Python package import in this process."""
@@ -132,6 +140,7 @@ def line_of(text):
 
 
 # ---- The page
+
 
 def as_program(shown):
     """What the page shows, in the program's words: message and counts, or the refusal. Its parts have to agree."""
@@ -164,14 +173,20 @@ def as_program(shown):
 
 REFUSALS = [
     (5, r"(\d+) modules? of the border ha(?:s|ve) the wrong colour, and (\d+) may"),
-    (6, r"More than \d+ codewords are wrong(?: in block (\d+) of \d+)?\. (?:Its|The) \d+ check codewords correct no more"),
+    (
+        6,
+        r"More than \d+ codewords are wrong(?: in block (\d+) of \d+)?\. (?:Its|The) \d+ check codewords correct no more",
+    ),
     (7, r"The value of data codeword (\d+), 0 or 242 to 255, is one that the standard reserves\."),
     (8, r"Data codeword (\d+) begins (structured append|reader programming|macro 05|macro 06|EDIFACT|an ECI)"),
     (9, r"No character follows the Upper Shift that data codeword (\d+), or the pair that begins there, holds\."),
     (10, r"A pair of C40, Text or X12 codewords doesn’t stand for three values: data codeword (\d+)"),
     (11, r"A value in a pair of C40 or Text has no meaning: data codeword (\d+)"),
     (12, r"The length of the Base 256 segment at data codeword (\d+) is missing"),
-    (13, r"The run or the symbol ends before the character that is due after the Upper Shift that data codeword (\d+), or"),
+    (
+        13,
+        r"The run or the symbol ends before the character that is due after the Upper Shift that data codeword (\d+), or",
+    ),
 ]
 
 
@@ -198,9 +213,13 @@ def settle():
 
 def put(name, text):
     """Gives a field a value as typing does, but all at once."""
-    run("""const node = document.getElementById(arguments[0]);
+    run(
+        """const node = document.getElementById(arguments[0]);
            node.value = arguments[1];
-           node.dispatchEvent(new Event('input', { bubbles: true }))""", name, text)
+           node.dispatchEvent(new Event('input', { bubbles: true }))""",
+        name,
+        text,
+    )
     settle()
 
 
@@ -278,7 +297,9 @@ def metrics(width, height, mobile=False, scale=1):
     """Makes the window of this size, or a phone's."""
     how = {"width": width, "height": height, "deviceScaleFactor": scale, "mobile": mobile}
     on.page.execute_cdp_cmd("Emulation.setDeviceMetricsOverride", how)
-    wait_for(lambda: run("return innerWidth === arguments[0] && innerHeight === arguments[1]", width, height), seconds=5)
+    wait_for(
+        lambda: run("return innerWidth === arguments[0] && innerHeight === arguments[1]", width, height), seconds=5
+    )
 
 
 def usual_metrics():
@@ -290,8 +311,13 @@ def media(**features):
     named = {name.replace("_", "-"): value for name, value in features.items()}
     each = [{"name": name, "value": value} for name, value in named.items()]
     on.page.execute_cdp_cmd("Emulation.setEmulatedMedia", {"features": each})
-    wait_for(lambda: run("""return Object.entries(arguments[0])
-        .every(([name, value]) => matchMedia(`(${name}: ${value})`).matches)""", named))
+    wait_for(
+        lambda: run(
+            """return Object.entries(arguments[0])
+        .every(([name, value]) => matchMedia(`(${name}: ${value})`).matches)""",
+            named,
+        )
+    )
 
 
 @contextlib.contextmanager
@@ -307,14 +333,16 @@ def unseen():
 
 def to_top():
     """Scrolls to the top of the page, where it stays: what a swipe has set going has come to rest."""
-    on.page.execute_async_script("""
+    on.page.execute_async_script(
+        """
         const [done] = arguments;
         let frames = 0;
         const look = () => {
             if (scrollY) { scrollTo(0, 0); frames = 0; } else frames++;
             if (frames > 10) done(); else requestAnimationFrame(look);
         };
-        look();""")
+        look();"""
+    )
 
 
 def acting():
@@ -347,7 +375,8 @@ def drawn(side):
     """The grid according to the pixels of the screen, taken at a corner of each module, away from crosses and numbers;
     also checks the quiet zone."""
     picture = find("symbol").screenshot_as_base64
-    text = on.page.execute_async_script("""
+    text = on.page.execute_async_script(
+        """
         const [picture, side, quiet, done] = arguments, image = new Image(), all = side + 2 * quiet;
         image.src = "data:image/png;base64," + picture;
         image.decode().then(() => {
@@ -365,31 +394,58 @@ def drawn(side):
                 rows.push(row);
             }
             done(rows.join("\\n"));
-        });""", picture, side, QUIET)
+        });""",
+        picture,
+        side,
+        QUIET,
+    )
     lines = text.split("\n")
     around = lines[:QUIET] + lines[-QUIET:] + [line[:QUIET] + line[-QUIET:] for line in lines]
     assert "1" not in "".join(around), "a quiet zone that isn't"
     return "\n".join(line[QUIET:-QUIET] for line in lines[QUIET:-QUIET])
 
 
+def drawn_rows(content, height, scale):
+    """Where a symbol stands that is drawn in a PDF as rectangles, and its grid: [left, top, module, rows], in millimetres
+    from the upper left corner of a page of this height."""
+    numbers = [
+        [float(number) * scale for number in line.split()[:4]] for line in content.split("\n") if line.endswith(" re")
+    ]
+    module, left, right = numbers[0][3], min(x for x, *_ in numbers), max(x + width for x, _, width, _ in numbers)
+    top = height - max(y + tall for _, y, _, tall in numbers)
+    side = round((right - left) / module)
+    rows = [["0"] * side for _ in range(side)]
+    for x, y, width, tall in numbers:
+        assert abs(tall - module) < 0.001, content
+        row, column = round((height - y - tall - top) / module), round((x - left) / module)
+        for k in range(round(width / module)):
+            rows[row][column + k] = "1"
+    return [left, top, module, "\n".join("".join(row) for row in rows)]
+
+
 def coloured():
     """The colours in the symbol other than dark and light, and what is marked: turned over, or wrong from the start."""
-    return run("""
+    return run(
+        """
         const fills = [...document.querySelectorAll("#symbol > path")].map((path) => path.getAttribute("fill"))
             .filter((fill) => !["none", "#14181f", "url(#hatch)"].includes(fill));
-        return [...fills, ...["turned", "wrong"].filter((it) => document.querySelector(`#symbol .${it}`))];""")
+        return [...fills, ...["turned", "wrong"].filter((it) => document.querySelector(`#symbol .${it}`))];"""
+    )
 
 
 def cells():
     """What each codeword's cell shows: its value, what it is corrected to, and its colour."""
-    got = run("""return [...document.querySelectorAll('#words > b')]
-        .map((b) => [b.firstChild.textContent, (b.querySelector('small') || b).textContent, b.className])""")
+    got = run(
+        """return [...document.querySelectorAll('#words > b')]
+        .map((b) => [b.firstChild.textContent, (b.querySelector('small') || b).textContent, b.className])"""
+    )
     return [(int(held), int(below[1:]) if below.startswith("→") else int(held), kind) for held, below, kind in got]
 
 
 def pointed(words=None):
     """Points at these codewords, or at all: what is told of each, and the numbers in the symbol with their places."""
-    return run("""
+    return run(
+        """
         const [words] = arguments, cells = [...document.querySelectorAll("#words > b")];
         const number = (bit, name) => Math.floor(bit.getAttribute(name));
         return cells.filter((_, w) => !words || words.includes(w)).map((cell) => {
@@ -397,7 +453,9 @@ def pointed(words=None):
             const bits = [...document.querySelectorAll("#symbol .bits text")];
             return [document.getElementById("about").textContent,
                 bits.map((bit) => [bit.textContent, number(bit, "x"), number(bit, "y")])];
-        });""", words)
+        });""",
+        words,
+    )
 
 
 def value_at(bits, text):

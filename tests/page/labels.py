@@ -1,0 +1,273 @@
+"""Labels: many symbols on stock sizes, measured in the PDF that is saved and in the one that is printed; CSV with one
+column a field; and files of many symbols in one archive."""
+import io
+import re
+import struct
+import zipfile
+import zlib
+
+from tests.page.paper import POINT, paper_is, printed
+from tests.page.pictures import opened
+from tests.page.stage import (
+    count,
+    drawn_rows,
+    find,
+    grid,
+    on,
+    push,
+    put,
+    run,
+    shown,
+    text_of,
+    unfold,
+    wait_for,
+    write,
+    written,
+)
+
+
+def chosen(name, value):
+    run(
+        """const choice = document.getElementById(arguments[0]);
+           choice.value = arguments[1];
+           choice.dispatchEvent(new Event('change', { bubbles: true }))""",
+        name,
+        value,
+    )
+
+
+def saved(name, button):
+    """The file that a button saves."""
+    file = on.folder / name
+    file.unlink(missing_ok=True)
+    push(button)
+    wait_for(lambda: file.exists() and file.stat().st_size)
+    return file.read_bytes() if file.exists() else b""
+
+
+def pages_of(pdf):
+    """Of each page its millimetres, and of each symbol on it where it stands and the grid of its rectangles: as
+    [left, top, module, rows], in the order in which they are drawn; and its texts."""
+    text = pdf.decode("latin-1")
+    places = [int(at) for at in re.findall(r"^(\d{10}) 00000 n $", text, re.M)]
+    count.expect(
+        "the table of the PDF", [text[at:].split(" ", 1)[0] for at in places], [str(k + 1) for k in range(len(places))]
+    )
+    table = int(re.search(r"startxref\n(\d+)\n", text)[1])
+    count.expect("where the table stands", text[table : table + 5], "xref\n")
+    found = []
+    boxes = re.findall(r"/MediaBox \[0 0 ([\d.]+) ([\d.]+)\].*?/Contents (\d+) 0 R", text)
+    for width, height, content in boxes:
+        whole = rf"(?s)\n{content} 0 obj\n<< /Length (\d+) >>\nstream\n(.*?)endstream"
+        length, stream = re.search(whole, text).groups()
+        count.expect("the length of a page's content", len(stream), int(length))
+        scale = float(stream.split()[0]) * POINT
+        size = [float(width) * POINT, float(height) * POINT]
+        symbols = [drawn_rows(part, size[1], scale) for part in stream.split("\nf\n")[:-1]]
+        found.append(([round(side, 2) for side in size], symbols, re.findall(r"\((.*?)\) Tj", stream)))
+    return found
+
+
+def centred(label, side, module, has_text):
+    """Where a symbol has to stand on a label at this place."""
+    x, y, width, height = label
+    length, below = (side + 4) * module, 3 if has_text else 0
+    return [round(x + (width - length) / 2 + 2 * module, 2), round(y + (height - length - below) / 2 + 2 * module, 2)]
+
+
+def labels_of(columns, rows, width, height, across, page=(210, 297)):
+    left, top = (page[0] - (columns - 1) * across - width) / 2, (page[1] - rows * height) / 2
+    return [(left + k % columns * across, top + k // columns * height, width, height) for k in range(columns * rows)]
+
+
+STOCK = {
+    "a4-2x4": labels_of(2, 4, 99.1, 67.7, 101.6),
+    "a4-2x7": labels_of(2, 7, 99.1, 38.1, 101.6),
+    "a4-3x7": labels_of(3, 7, 63.5, 38.1, 66.04),
+    "a4-3x8": labels_of(3, 8, 70, 37, 70),
+    "a4-5x13": labels_of(5, 13, 38.1, 21.2, 40.6),
+    "25x25": [(0, 0, 25, 25)],
+    "38x25": [(0, 0, 38, 25)],
+    "50x30": [(0, 0, 50, 30)],
+    "100x50": [(0, 0, 100, 50)],
+    "own": [(0, 0, 60, 40)],
+}
+
+
+def on_labels():
+    """On each stock size each symbol stands in the middle of its label, has its size and is what the program writes."""
+    write("123456")
+    unfold("sheet")
+    paper_is("a4", "0.4")
+    for name, labels in STOCK.items():
+        chosen("stock", name)
+        messages = [f"label {k}" for k in range(len(labels) + 2)]
+        put("messages", "\n".join(messages))
+        pages = pages_of(saved("symbols.pdf", "many-pdf"))
+        page = [210, 297] if len(labels) > 1 else list(labels[0][2:])
+        count.expect(f"{name}: pages", [size for size, _, _ in pages], [page] * -(-len(messages) // len(labels)))
+        symbols = [symbol for _, some, _ in pages for symbol in some]
+        wanted = [written(message) for message in messages]
+        count.expect(f"{name}: symbols", [rows for *_, rows in symbols], wanted)
+        count.expect(f"{name}: modules", {round(module, 3) for _, _, module, _ in symbols}, {0.4})
+        places = [centred(labels[k % len(labels)], text.index("\n"), 0.4, True) for k, text in enumerate(wanted)]
+        count.expect(f"{name}: places", [[round(x, 2), round(y, 2)] for x, y, _, _ in symbols], places)
+        count.expect(f"{name}: texts", [text for *_, texts in pages for text in texts], messages)
+        count.expect(f"{name}: what is said", text_of("sheet-hint"), f"{len(messages)} symbols are in the PDF.")
+
+
+def labels_printed():
+    """What the browser prints has the same millimetres."""
+    run("globalThis.printed = 0; window.print = () => { printed++; }")
+    write("123456")
+    paper_is("a4", "0.5")
+    for name, per_page, page in (("a4-3x7", 21, [210, 297]), ("50x30", 1, [50, 30]), ("own", 1, [60, 40])):
+        chosen("stock", name)
+        put("messages", "\n".join(["123456"] * (per_page + 1)))
+        push("print-sheet")
+        boxes, widths = printed()
+        count.expect(f"{name}: printed pages", [[round(side) for side in box] for box in boxes], [page] * 2)
+        across = 5 if per_page == 1 else 2 * 66.04 + 5  # from the first symbol's left to the last one's right
+        off = [round(abs(width - wanted), 2) for width, wanted in zip(widths, (across, 5))]
+        count.expect(f"{name}: printed millimetres", (len(widths), [each for each in off if each > 0.1]), (2, []))
+        box = run(
+            """const [svg] = document.querySelectorAll('#paper svg'), page = svg.closest('.page');
+                     return [svg.parentElement.style.left, svg.parentElement.style.top, page.style.width]"""
+        )
+        x, y = centred(STOCK[name][0], 10, 0.5, True)
+        place = [round(float(length[:-2]) + 1, 2) for length in box[:2]]
+        count.expect(f"{name}: its place on the page", place, [x, y])
+        run("dispatchEvent(new Event('afterprint'))")
+    for name, value, message, why in (
+        (
+            "a4-5x13",
+            "1",
+            "123456789012345678901234567890",
+            "Message 1 takes 22 mm and 3 mm of text, and a label is "
+            "38.1 × 21.2 mm. Take narrower modules or larger labels.",
+        ),
+        (
+            "25x25",
+            "2",
+            "123456",
+            "Message 1 takes 28 mm and 3 mm of text, and a label is 25 × 25 mm. "
+            "Take narrower modules or larger labels.",
+        ),
+    ):
+        chosen("stock", name)
+        paper_is("a4", value)
+        put("messages", message)
+        push("print-sheet")
+        count.expect(f"what doesn't fit {name}", (run("return printed"), text_of("sheet-hint")), (3, why))
+    chosen("stock", "own")
+    put("label-width", "2")
+    push("many-pdf")
+    count.expect("no size of a label", text_of("sheet-hint"), "A label has 5 to 300 mm on each side.")
+    put("label-width", "60")
+    paper_is("a4", "0.5")
+    chosen("stock", "none")
+    put("messages", "")
+
+
+CSV = {
+    "headings of GS1": (
+        '(01);(17);10\n09506000134352;271231;AB-42\n09506000134352;;"x;""(1)"""\n',
+        ["\\F010950600013435217271231" + "10AB-42", "\\F0109506000134352" + '10x;"(1)"'],
+        ["(01)09506000134352(17)271231(10)AB-42", '(01)09506000134352(10)x;"\\(1)"'],
+    ),
+    "a column of messages": ('text,Message\nfirst,123\n"a, b","4""5"\n\n', ["123", '4"5'], ["first", "a, b"]),
+    "other headings": ("part\tplace\r\nA1\tleft\r\nB2\tright", ["A1", "B2"], ["A1", "B2"]),
+}
+
+
+def by_columns():
+    """A file of CSV with one column a field, and what is wrong in one."""
+    write("123456")
+    unfold("sheet")
+    chosen("stock", "50x30")
+    paper_is("a4", "0.4")
+    for name, (text, lines, texts) in CSV.items():
+        file = on.folder / "fields.csv"
+        file.write_bytes(text.encode())
+        find("lines").send_keys(str(file))
+        wait_for(lambda: find("messages").get_attribute("value").strip() == text.replace("\r", "").strip())
+        count.expect(f"{name}: taken as CSV", run("return document.getElementById('lines-as').value"), "csv")
+        pages = pages_of(saved("symbols.pdf", "many-pdf"))
+        symbols = [rows for _, some, _ in pages for *_, rows in some]
+        count.expect(f"{name}: symbols", symbols, [written(line) for line in lines])
+        said = [re.sub(r"\\(.)", r"\1", each) for *_, some in pages for each in some]
+        count.expect(f"{name}: texts", said, texts)
+    for text, why in (
+        ("(01)\n123", "Message 1: It isn’t right as GS1 data: (01) GTIN, too short: 14 digits are due."),
+        ("(01),(98)\n09506000134352,", ""),
+        ("part\n", "Enter headings, and below them a row for each message."),
+        ("part\ncaf\u00e9", "Message 1: column 4 is \u00e9, which has no spelling of its own"),
+    ):
+        put("messages", text)
+        push("many-pdf")
+        count.expect(f"{text!r} is said", text_of("sheet-hint"), why or "1 symbol is in the PDF.")
+    chosen("lines-as", "messages")
+    chosen("stock", "none")
+    paper_is("a4", "0.5")
+    put("messages", "")
+
+
+def in_archives():
+    """Many symbols in one archive, each as it would be saved alone; one symbol, and many without labels, as PDF."""
+    write("123456")
+    unfold("sheet")
+    paper_is("a4", "0.4")
+    messages = ["one", "two", "Mitsubadoor and more"]
+    put("messages", "\n".join(messages))
+    sides = [written(message).index("\n") for message in messages]
+    for ending in ("svg", "png"):
+        with zipfile.ZipFile(io.BytesIO(saved(f"symbols-{ending}.zip", f"many-{ending}"))) as archive:
+            names = archive.namelist()
+            count.expect(
+                f"names in the archive of {ending}",
+                (archive.testzip(), names),
+                (None, [f"{k + 1:03}-symbol-{side}.{ending}" for k, side in enumerate(sides)]),
+            )
+            bodies = [archive.read(name) for name in names]
+        count.expect(f"{ending}: what is said", text_of("sheet-hint"), "3 symbols are in the archive.")
+        for message, side, body in zip(messages, sides, bodies):
+            if ending == "svg":
+                length = f"{round((side + 4) * 0.4, 2):g}mm"
+                count.expect(f"SVG of {message}", f'width="{length}" height="{length}"' in body.decode(), True)
+            else:
+                at = body.index(b"pHYs") + 4
+                width, across = struct.unpack(">I", body[16:20])[0], struct.unpack(">I", body[at : at + 4])[0]
+                sum_of = (zlib.crc32(body[at - 4 : at + 9]), struct.unpack(">I", body[at + 9 : at + 13])[0])
+                count.expect(
+                    f"PNG of {message}",
+                    (round(1000 * width / across, 2), sum_of[0]),
+                    (round((side + 4) * 0.4, 2), sum_of[1]),
+                )
+            push("tab-read")
+            opened(f"from-archive.{ending}", body)
+            count.expect(f"{ending} of {message}, opened again", (grid(), shown()["says"]), (written(message), message))
+            push("tab-make")
+    pages = pages_of(saved("symbols.pdf", "many-pdf"))
+    lengths = [round((side + 4) * 0.4, 2) for side in sides]
+    count.expect(
+        "a PDF of many", [size for size, _, _ in pages], [[length, round(length + 3, 2)] for length in lengths]
+    )
+    symbols = [rows for _, some, _ in pages for *_, rows in some]
+    count.expect("its symbols", symbols, [written(each) for each in messages])
+    run("document.getElementById('label-text').click()")
+    pages = pages_of(saved("symbols.pdf", "many-pdf"))
+    count.expect(
+        "without texts", [(size, texts) for size, _, texts in pages], [([length] * 2, []) for length in lengths]
+    )
+    run("document.getElementById('label-text').click()")
+    ((size, [(x, y, module, rows)], texts),) = pages_of(saved("symbol-10.pdf", "save-pdf"))
+    count.expect(
+        "a PDF of one",
+        (size, round(x, 3), round(y, 3), round(module, 3), rows, texts),
+        ([5.6, 5.6], 0.8, 0.8, 0.4, written("123456"), []),
+    )
+    put("messages", "")
+    paper_is("a4", "0.5")
+
+
+PARTS = [on_labels, labels_printed, by_columns, in_archives]

@@ -1,0 +1,66 @@
+// A PDF of pages in millimetres, on which symbols are drawn as rectangles of exact size, with texts below them.
+import { sideOf } from "./common.mjs";
+import { QUIET } from "./symbol.mjs";
+
+/** @typedef {{ modules: Uint8Array, x: number, y: number, module: number, text: string, width: number }} Placed
+    the upper left corner of a symbol's quiet zone, in millimetres from that of the page; a module's width; a text below
+    and how wide that may be */
+/** @typedef {{ width: number, height: number, placed: Placed[] }} Page */
+const MILLIMETRES = 25.4 / 72; // of a point
+export const TEXT_HEIGHT = 3; // millimetres of the text below a symbol, with the gap above it
+const SIZE = 2.4, WIDTH_OF_LETTER = 0.6; // of a letter of Courier: its height in millimetres, and its width as a share
+
+const number = (value) => String(+value.toFixed(4));
+// The rectangles of a symbol, runs of dark modules along its rows; y grows upwards.
+/** @type {(placed: Placed, height: number) => string} */
+function symbolDrawn({ modules, x, y, module }, height) {
+  const side = sideOf(modules), lines = [];
+  for (let r = 0; r < side; r++) {
+    for (let c = 0; c < side; c++) {
+      let end = c;
+      while (end < side && modules[r * side + end]) end++;
+      const place = [x + (c + QUIET) * module, height - y - (r + QUIET + 1) * module, (end - c) * module, module];
+      if (end > c) lines.push(`${place.map(number).join(" ")} re`);
+      c = Math.max(c, end);
+    }
+  }
+  return `${lines.join("\n")}\nf\n`;
+}
+const escaped = (text) => text.replace(/[\\()]/g, "\\$&").replace(/[^ -~\u00a1-\u00ff]/g, "?");
+// A text below a symbol, in the middle; smaller, and then cut, where it is too wide.
+/** @type {(placed: Placed, height: number) => string} */
+function textDrawn({ modules, x, y, module, text, width }, height) {
+  if (!text) return "";
+  const length = (sideOf(modules) + 2 * QUIET) * module, least = SIZE * 0.6;
+  const size = Math.max(least, Math.min(SIZE, width / (WIDTH_OF_LETTER * text.length)));
+  const most = Math.floor(width / (WIDTH_OF_LETTER * size));
+  const cut = text.length > most ? `${text.slice(0, most - 3)}...` : text;
+  const left = x + length / 2 - (cut.length * WIDTH_OF_LETTER * size) / 2, base = height - y - length - SIZE;
+  return `BT /F ${number(size)} Tf ${number(left)} ${number(base)} Td (${escaped(cut)}) Tj ET\n`;
+}
+/** @type {(page: Page) => string} */
+function contentOf({ height, placed }) {
+  const drawn = placed.map((each) => symbolDrawn(each, height) + textDrawn(each, height));
+  return `${number(1 / MILLIMETRES)} 0 0 ${number(1 / MILLIMETRES)} 0 0 cm\n0 0 0 rg\n${drawn.join("")}`;
+}
+/** @type {(pages: Page[]) => Blob} */
+export function pdfOf(pages) {
+  const first = 4, kids = pages.map((_, k) => `${first + 2 * k} 0 R`).join(" ");
+  const objects = ["<< /Type /Catalog /Pages 2 0 R >>", `<< /Type /Pages /Kids [${kids}] /Count ${pages.length} >>`,
+    "<< /Type /Font /Subtype /Type1 /BaseFont /Courier /Encoding /WinAnsiEncoding >>"];
+  for (const [k, page] of pages.entries()) {
+    const content = contentOf(page), box = `0 0 ${number(page.width / MILLIMETRES)} ${number(page.height / MILLIMETRES)}`;
+    objects.push(`<< /Type /Page /Parent 2 0 R /MediaBox [${box}] /Resources << /Font << /F 3 0 R >> >> `
+      + `/Contents ${first + 2 * k + 1} 0 R >>`, `<< /Length ${content.length} >>\nstream\n${content}endstream`);
+  }
+  let text = "%PDF-1.4\n";
+  const places = [];
+  for (const [k, body] of objects.entries()) {
+    places.push(text.length);
+    text += `${k + 1} 0 obj\n${body}\nendobj\n`;
+  }
+  const table = places.map((at) => `${String(at).padStart(10, "0")} 00000 n \n`).join("");
+  const end = `trailer\n<< /Size ${places.length + 1} /Root 1 0 R >>\nstartxref\n${text.length}\n%%EOF\n`;
+  const all = `${text}xref\n0 ${places.length + 1}\n0000000000 65535 f \n${table}${end}`;
+  return new Blob([Uint8Array.from(Array.from(all, (c) => c.charCodeAt(0)))], { type: "application/pdf" });
+}
