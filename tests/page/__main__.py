@@ -16,8 +16,24 @@ import time
 
 from tests.page import browser
 from tests.page.parts import PARTS, fault_of, load
-from tests.page.stage import (By, Failed, acting, agree, cells, click, count, find, learn, on, push, run, unfold, wait_for,
-                              webdriver, write)
+from tests.page.stage import (
+    By,
+    Failed,
+    acting,
+    agree,
+    cells,
+    click,
+    count,
+    find,
+    learn,
+    on,
+    push,
+    run,
+    unfold,
+    wait_for,
+    webdriver,
+    write,
+)
 from tests.support import needs, places
 
 sys.path.insert(0, places.path("web"))
@@ -88,8 +104,10 @@ def in_pictures():
     damaged = [w for w, (_, _, kind) in enumerate(cells()) if kind == "corrected"]
     acting().move_to_element(find(f"word-{damaged[1]}")).perform()
     shoot("page-read.png", bench)
-    write("Bearing 7731-22-B of batch 0042 was looked at and found to be good; it is to be fitted by 2027, greased with"
-          " what the drawing names, and kept dry and below forty degrees until then, in the box in which it came.")
+    write(
+        "Bearing 7731-22-B of batch 0042 was looked at and found to be good; it is to be fitted by 2027, greased with"
+        " what the drawing names, and kept dry and below forty degrees until then, in the box in which it came."
+    )
     push("tab-learn", "to-limit", "one-more")
     agree("the second picture")
     acting().move_to_element(find("state")).perform()
@@ -101,7 +119,9 @@ def main():
     options.add_argument("word", metavar="WORD", nargs="?", default="")
     options.add_argument("--pictures", metavar="FOLDER", type=pathlib.Path)
     given = options.parse_args()
-    if problem := needs.lacking("chromium", "chromedriver", "wasm-opt") or ("" if webdriver else "selenium isn't installed"):
+    if problem := needs.lacking("chromium", "chromedriver", "wasm-opt") or (
+        "" if webdriver else "selenium isn't installed"
+    ):
         sys.exit(problem)
     if problem := needs.made("page"):
         sys.exit(problem)

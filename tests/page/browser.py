@@ -8,7 +8,14 @@ from tests.page.stage import RemoteConnection, Service, UselessFileDetector, Web
 from tests.support import commands
 
 PATIENCE = 900  # seconds in which each command to the browser has to be answered
-WORDS = ("--headless=new", "--no-sandbox", "--disable-gpu", "--disable-dev-shm-usage", "--hide-scrollbars", "--window-size=1240,1500")
+WORDS = (
+    "--headless=new",
+    "--no-sandbox",
+    "--disable-gpu",
+    "--disable-dev-shm-usage",
+    "--hide-scrollbars",
+    "--window-size=1240,1500",
+)
 started = []  # the drivers, of which each leads a session of processes
 
 
@@ -16,8 +23,14 @@ def options_of(folder):
     options = webdriver.ChromeOptions()
     for word in (*WORDS, f"--user-data-dir={folder}"):
         options.add_argument(word)
-    options.add_experimental_option("prefs", {"download.default_directory": str(on.folder), "profile.default_content_setting_values.automatic_downloads": 1,
-                                              "profile.content_settings.exceptions.clipboard": {"*": {"setting": 1}}})
+    options.add_experimental_option(
+        "prefs",
+        {
+            "download.default_directory": str(on.folder),
+            "profile.default_content_setting_values.automatic_downloads": 1,
+            "profile.content_settings.exceptions.clipboard": {"*": {"setting": 1}},
+        },
+    )
     options.set_capability("goog:loggingPrefs", {"browser": "ALL"})
     return options
 
@@ -73,7 +86,8 @@ def first_line(fault):
 
 
 def end():
-    """Ends the browser. What a lost driver has left is ended by its number: all processes of the session that the driver leads."""
+    """Ends the browser. What a lost driver has left is ended by its number: all processes of the session that the
+    driver leads."""
     try:
         on.page.quit()
     except Exception:

@@ -1,11 +1,7 @@
-"""How the page conducts itself: no verdict outlives its input, what is given is what it says, nothing freezes, links, GS1, print, the lesson."""
-import base64
-import re
-
+"""How the page conducts itself: no verdict outlives its input, nothing freezes, phones, GS1, links."""
 from tests.page.pictures import chunks, opened, png
-from tests.page.stage import (By, Keys, acting, agree, cells, changed, click, count, find, grid, learn, media, metrics, on,
-                              pointed, push, put, run, settle, shown, text_of, unfold, unseen, usable, usual_metrics,
-                              wait_for, write, written)
+from tests.page.stage import (By, agree, cells, changed, click, count, find, grid, metrics, on, pointed, push, put,
+                              run, settle, shown, text_of, unseen, usable, usual_metrics, wait_for, write, written)
 
 NOTHING = ("Nothing is read", "")
 GIVING = ("copy", "save-svg", "save-png", "print")
@@ -28,7 +24,11 @@ def never_stale():
         put("message", text)
         name = f"{text[:8]!r} leaves no verdict"
         count.expect(name, (verdict(), [usable(it) for it in GIVING]), (NOTHING, [False] * 4))
-        count.expect(f"{name}, and dims the symbol", float(run("return getComputedStyle(document.getElementById('easel')).opacity")) < 0.5, True)
+        count.expect(
+            f"{name}, and dims the symbol",
+            float(run("return getComputedStyle(document.getElementById('easel')).opacity")) < 0.5,
+            True,
+        )
         before = grid()
         click(33)
         push("to-limit", "copy")
@@ -45,7 +45,9 @@ def never_stale():
         run(fill, area, "")
         push("tab-read", "example-c40")
         put("grid", many)
-        count.expect("130,000 lines in the grid", (verdict(), find("grid").get_attribute("aria-invalid")), (NOTHING, "true"))
+        count.expect(
+            "130,000 lines in the grid", (verdict(), find("grid").get_attribute("aria-invalid")), (NOTHING, "true")
+        )
         push("example-c40")
     count.expect("a grid again", shown()["state"], "Read")
     put("grid", "")
@@ -53,7 +55,9 @@ def never_stale():
     write("123456")
     run("mitsubadoor.desks.quick.worker.postMessage = () => { throw new Error('broken off'); }")
     put("message", "654321")
-    count.expect("a worker that throws", (verdict(), "broken off" in shown()["why"], usable("save-svg")), (NOTHING, True, False))
+    count.expect(
+        "a worker that throws", (verdict(), "broken off" in shown()["why"], usable("save-svg")), (NOTHING, True, False)
+    )
     run("mitsubadoor.desks.quick.end({ stopped: true })")
     write("123456")
     count.expect("after a new worker", verdict(), ("Read", "123456"))
@@ -71,9 +75,15 @@ def each_pane_keeps_its_state():
     push("tab-read", "example-c40", "to-limit")
     second = grid()
     push("tab-make")
-    count.expect("back at the message", (shown()["state"], grid(), usable("undo")), ("Read as another message", damaged, True))
+    count.expect(
+        "back at the message", (shown()["state"], grid(), usable("undo")), ("Read as another message", damaged, True)
+    )
     push("tab-read")
-    count.expect("back at the grid", (shown()["state"], shown()["says"], grid(), usable("undo")), ("Read", "Every answer is proved.", second, True))
+    count.expect(
+        "back at the grid",
+        (shown()["state"], shown()["says"], grid(), usable("undo")),
+        ("Read", "Every answer is proved.", second, True),
+    )
     push("undo", "tab-make", "undo-all")
     count.expect("undone in each", verdict(), ("Read", "123456"))
 
@@ -83,9 +93,14 @@ def a_picture_does_not_win():
     push("tab-read")
     begin = "const { pictures } = mitsubadoor.desks; (pictures.ready ?? pictures.start()).then(() => arguments[0]())"
     on.page.execute_async_script(begin)  # its worker has the library before there are gates
-    run("""const { pictures } = mitsubadoor.desks, ask = pictures.ask;
+    run(
+        """const { pictures } = mitsubadoor.desks, ask = pictures.ask;
            globalThis.gates = [];
-           pictures.ask = async function (...rest) { await new Promise((open) => gates.push(open)); return ask.apply(this, rest); };""")
+           pictures.ask = async function (...rest) {
+               await new Promise((open) => gates.push(open));
+               return ask.apply(this, rest);
+           };"""
+    )
     file = on.folder / "late.png"
     file.write_bytes(png(written("late").split("\n"), 4, 2))
 
@@ -98,9 +113,18 @@ def a_picture_does_not_win():
         settle()
 
     meanwhile("document.getElementById('example-c40').click()", ("Read", "Every answer is proved."))
-    count.expect("a late picture", (verdict(), "given up" in text_of("picture-hint")), (("Read", "Every answer is proved."), True))
-    meanwhile("""document.getElementById('tab-make').click();
-                 const area = document.getElementById('message'); area.value = 'meanwhile'; area.dispatchEvent(new Event('input', { bubbles: true }))""", ("Read", "meanwhile"))
+    count.expect(
+        "a late picture",
+        (verdict(), "given up" in text_of("picture-hint")),
+        (("Read", "Every answer is proved."), True),
+    )
+    meanwhile(
+        """document.getElementById('tab-make').click();
+           const area = document.getElementById('message');
+           area.value = 'meanwhile';
+           area.dispatchEvent(new Event('input', { bubbles: true }))""",
+        ("Read", "meanwhile"),
+    )
     count.expect("a late picture doesn't change the message", verdict(), ("Read", "meanwhile"))
     push("tab-read")
     count.expect("it is in its own pane", verdict(), ("Read", "late"))
@@ -121,48 +145,12 @@ def names_follow():
     count.expect("name of another codeword", label(1), "data codeword 2: 173, the digits 43")
 
 
-# ---- Save and Copy say what they give
-
-def saved_as(name, button):
-    file = on.folder / name
-    file.unlink(missing_ok=True)
-    push(button)
-    wait_for(lambda: file.exists() and file.read_text().endswith("</svg>\n"))
-    return file.read_text() if file.exists() else None
-
-
-def gives_what_it_says():
-    write("123456")
-    clean = saved_as("symbol-10.svg", "save-svg")
-    count.expect("no choice without damage", find("which").is_displayed(), False)
-    click(33, 44)
-    count.expect("the undamaged one by default", saved_as("symbol-10.svg", "save-svg"), clean)
-    copied = "globalThis.copied = null; navigator.clipboard.writeText = async (text) => { globalThis.copied = text; }"
-    run(copied)
-    push("copy")
-    count.expect("copied undamaged", (run("return copied").strip(), wait_for(lambda: text_of("toast"))), (written("123456"), "Copied: the symbol, a line for each row"))
-    push("which-damaged")
-    damaged = saved_as("symbol-10-damaged.svg", "save-svg")
-    count.expect("the damaged one by its own choice", (damaged is not None, damaged != clean), (True, True))
-    push("copy")
-    count.expect("copied damaged", (run("return copied").strip(), text_of("toast")), (grid(), "Copied: the damaged symbol, a line for each row"))
-    run("navigator.clipboard.writeText = async () => { throw new Error('no'); }; document.execCommand = () => false")
-    push("copy")
-    count.expect("not copied", (wait_for(lambda: "doesn’t let" in text_of("toast")), "Copied" in text_of("toast")), (True, False))
-    run("delete navigator.clipboard.writeText; delete document.execCommand")
-    push("undo-all")
-    count.expect("undamaged again", (find("which").is_displayed(), find("which-undamaged").get_attribute("checked")), (False, "true"))
-    push("tab-read", "example-c40")
-    click(100, side=22)
-    count.expect("a grid is given as it was opened", text_of("which-first"), "take the symbol as it was opened")
-    push("undo-all", "tab-make")
-
-
 # ---- Nothing freezes
 
 def noise(side):
     """A picture of noise in squares, with which the search for symbols is long at work."""
     import random
+
     chance = random.Random(5)
     row = lambda: b"\0" + b"".join(bytes([chance.choice((40, 90, 200))]) * 9 for _ in range(side // 9))
     lines = b"".join(row() * 9 for _ in range(side // 9))
@@ -177,29 +165,58 @@ def nothing_freezes():
     write("123456")
     for name, text in (("message", "\u00e9" * 1000000), ("grid", "1" * 1000000)):
         push("tab-make" if name == "message" else "tab-read")
-        taken = run("""const area = document.getElementById(arguments[0]), begun = performance.now();
-                       area.value = arguments[1]; area.dispatchEvent(new Event('input', { bubbles: true })); return performance.now() - begun""", name, text)
+        taken = run(
+            """const area = document.getElementById(arguments[0]), begun = performance.now();
+               area.value = arguments[1];
+               area.dispatchEvent(new Event('input', { bubbles: true }));
+               return performance.now() - begun""",
+            name,
+            text,
+        )
         settle()
-        count.expect(f"a megabyte in the {name} is bounded", (verdict(), "1,000,000 characters" in text_of(f"{name}-hint"), taken < 2000), (NOTHING, True, True))
+        count.expect(
+            f"a megabyte in the {name} is bounded",
+            (verdict(), "1,000,000 characters" in text_of(f"{name}-hint"), taken < 2000),
+            (NOTHING, True, True),
+        )
         put(name, "" if name == "grid" else "123456")
-    count.expect("too large a picture", opened("huge.png", chunks(6400, 6400, (b"\0" + b"\xff" * 6400) * 6400)), "huge.png: The picture has more than 40 million pixels.")
-    run("""globalThis.longest = 0;
-           globalThis.watch = new PerformanceObserver((list) => { for (const task of list.getEntries()) longest = Math.max(longest, task.duration); });
-           watch.observe({ type: 'longtask' })""")
+    count.expect(
+        "too large a picture",
+        opened("huge.png", chunks(6400, 6400, (b"\0" + b"\xff" * 6400) * 6400)),
+        "huge.png: The picture has more than 40 million pixels.",
+    )
+    run(
+        """globalThis.longest = 0;
+           const lengths = (list) => list.getEntries().map((task) => task.duration);
+           globalThis.watch = new PerformanceObserver((list) => { longest = Math.max(longest, ...lengths(list)); });
+           watch.observe({ type: 'longtask' })"""
+    )
     file = on.folder / "noise.png"
     file.write_bytes(noise(6300))
     find("picture").send_keys(str(file))
     count.expect("what runs shows that it runs", bool(wait_for(lambda: find("busy").is_displayed())), True)
-    run("""document.getElementById('tab-make').click();
-           const area = document.getElementById('message'); area.value = 'meanwhile'; area.dispatchEvent(new Event('input', { bubbles: true }))""")
+    run(
+        """document.getElementById('tab-make').click();
+           const area = document.getElementById('message');
+           area.value = 'meanwhile';
+           area.dispatchEvent(new Event('input', { bubbles: true }))"""
+    )
     count.expect("one can go on meanwhile", wait_for(lambda: verdict() == ("Read", "meanwhile")), True)
     count.expect("it still runs", find("busy").is_displayed(), True)
     run("document.getElementById('stop').click()")
     settle()
     count.expect("the page was never held up", run("watch.disconnect(); return longest") < HELD_UP, True)
     push("tab-read")
-    count.expect("stopped", (verdict(), "stopped" in text_of("picture-hint"), find("busy").is_displayed()), (NOTHING, True, False))
-    count.expect("after that pictures are opened", opened("next.png", png(written("next").split("\n"), 4, 2)).split(":")[0], "next.png")
+    count.expect(
+        "stopped",
+        (verdict(), "stopped" in text_of("picture-hint"), find("busy").is_displayed()),
+        (NOTHING, True, False),
+    )
+    count.expect(
+        "after that pictures are opened",
+        opened("next.png", png(written("next").split("\n"), 4, 2)).split(":")[0],
+        "next.png",
+    )
     count.expect("and read", verdict(), ("Read", "next"))
     push("tab-make")
     write("123456")
@@ -212,24 +229,41 @@ def phones():
     push("tab-read", "example-c40")
     write("Hello")
     metrics(390, 844, True)
-    for task, acts in (("read", ["camera", "copy-message"]), ("make", ["message", "save-png"]), ("learn", ["to-limit"])):
+    for task, acts in (
+        ("read", ["camera", "copy-message"]),
+        ("make", ["message", "save-png"]),
+        ("learn", ["to-limit"]),
+    ):
         push(f"tab-{task}")
         run("scrollTo(0, 0)")
-        ends = run("""return arguments[0].map((id) => document.getElementById(id).getBoundingClientRect())
+        ends = run(
+            """return arguments[0].map((id) => document.getElementById(id).getBoundingClientRect())
             .map(({ top, bottom, height }) => [Math.round(top), Math.round(bottom), height > 0])""",
-            ["verdict", "easel", *acts])
+            ["verdict", "easel", *acts],
+        )
         out = [end for end in ends if end[0] < 0 or end[1] > 844 or not end[2]]
         count.expect(f"{task}: symbol, act and verdict together on a phone", out, [])
     write("\\F010123456789012810AB-42")
     before = find("symbol").rect["width"]
     push("zoom-in", "zoom-in")
-    count.expect("a symbol can be larger", (find("symbol").rect["width"] > 2.5 * before, run("return document.documentElement.scrollWidth <= innerWidth")), (True, True))
+    count.expect(
+        "a symbol can be larger",
+        (find("symbol").rect["width"] > 2.5 * before, run("return document.documentElement.scrollWidth <= innerWidth")),
+        (True, True),
+    )
     push("zoom-out", "zoom-out")
     for width, height in ((320, 640), (640, 450)):
         metrics(width, height, width == 320)
         run("document.querySelector('.bench').scrollIntoView(); scrollBy(0, 60)")
-        fixed = run("const box = document.getElementById('verdict'); return getComputedStyle(box).position === 'sticky' ? box.getBoundingClientRect().height : 0")
-        count.expect(f"{width} by {height}", (run("return document.documentElement.scrollWidth <= innerWidth"), fixed < height / 3), (True, True))
+        fixed = run(
+            """const box = document.getElementById('verdict'), isFixed = getComputedStyle(box).position === 'sticky';
+               return isFixed ? box.getBoundingClientRect().height : 0"""
+        )
+        count.expect(
+            f"{width} by {height}",
+            (run("return document.documentElement.scrollWidth <= innerWidth"), fixed < height / 3),
+            (True, True),
+        )
     usual_metrics()
     run("scrollTo(0, 0)")
 
@@ -237,7 +271,10 @@ def phones():
 # ---- GS1
 
 def rows():
-    return run("return [...document.querySelectorAll('#elements tbody tr')].map((row) => [...row.children].map((it) => it.innerText.replace(/\\s+/g, ' ').trim()))")
+    return run(
+        """const text = (it) => it.innerText.replace(/\\s+/g, ' ').trim();
+           return [...document.querySelectorAll('#elements tbody tr')].map((row) => [...row.children].map(text))"""
+    )
 
 
 def gs1():
@@ -254,18 +291,43 @@ def gs1():
         count.expect(f"{text} as a symbol", grid(), written(line))
         agree(f"{text} read")
     write(f"(01){fine}(17)280200(10)AB-42(3103)001250")
-    count.expect("table", rows(), [["(01)", "GTIN", f"{fine} the check digit is right"], ["(17)", "USE BY OR EXPIRY", "280200 the end of February 2028"], ["(10)", "BATCH/LOT", "AB-42"],
-                                   ["(3103)", "NET WEIGHT (kg)", "001250 1.250"]])
-    count.expect("right", (shown()["state"], find("verdict").get_attribute("class")), ("Read, as GS1 data", "card verdict good"))
+    count.expect(
+        "table",
+        rows(),
+        [
+            ["(01)", "GTIN", f"{fine} the check digit is right"],
+            ["(17)", "USE BY OR EXPIRY", "280200 the end of February 2028"],
+            ["(10)", "BATCH/LOT", "AB-42"],
+            ["(3103)", "NET WEIGHT (kg)", "001250 1.250"],
+        ],
+    )
+    count.expect(
+        "right", (shown()["state"], find("verdict").get_attribute("class")), ("Read, as GS1 data", "card verdict good")
+    )
     write("(414)9506000134352")
-    count.expect("a check digit over an even number of digits", (rows()[0][2], shown()["state"]), ("9506000134352 the check digit is right", "Read, as GS1 data"))
-    for text, fault in (("(01)09506000134353", "wrong: the check digit 3 should be 2"), ("(17)271301", "wrong: 13 is no month"), ("(17)270230", "wrong: 30 is no day of that month"),
-                        ("(01)0950600013435", "wrong: too short: 14 digits are due"), ("(17)27AB01", "wrong: it has something other than digits"), ("(11)271201(10)" + "A" * 21, "wrong: too long by 1 character"),
-                        ("\\F0512", "wrong: unknown"), ("\\F", "wrong: empty"), ("(8010)ab", "wrong: it has a character that isn’t allowed here")):
+    count.expect(
+        "a check digit over an even number of digits",
+        (rows()[0][2], shown()["state"]),
+        ("9506000134352 the check digit is right", "Read, as GS1 data"),
+    )
+    for text, fault in (
+        ("(01)09506000134353", "wrong: the check digit 3 should be 2"),
+        ("(17)271301", "wrong: 13 is no month"),
+        ("(17)270230", "wrong: 30 is no day of that month"),
+        ("(01)0950600013435", "wrong: too short: 14 digits are due"),
+        ("(17)27AB01", "wrong: it has something other than digits"),
+        ("(11)271201(10)" + "A" * 21, "wrong: too long by 1 character"),
+        ("\\F0512", "wrong: unknown"),
+        ("\\F", "wrong: empty"),
+        ("(8010)ab", "wrong: it has a character that isn’t allowed here"),
+    ):
         write(text)
         said = " ".join(cell for row in rows() for cell in row)
-        count.expect(f"{text[:20]} is wrong", (fault.split(": ", 1)[1] in said, shown()["state"], find("verdict").get_attribute("class")),
-                     (True, "Read, but it isn’t right as GS1 data", "card verdict other"))
+        count.expect(
+            f"{text[:20]} is wrong",
+            (fault.split(": ", 1)[1] in said, shown()["state"], find("verdict").get_attribute("class")),
+            (True, "Read, but it isn’t right as GS1 data", "card verdict other"),
+        )
     write("123456")
     count.expect("no table without GS1", find("elements").is_displayed(), False)
     push("tab-read")
@@ -285,17 +347,28 @@ def linked():
 def links():
     write("A & b=\\F #", 1)
     push("to-limit")
-    damaged, fetched = grid(), "return performance.getEntriesByType('resource').filter((it) => !/^(data|blob):/.test(it.name)).length"
+    damaged, fetched = (
+        grid(),
+        "return performance.getEntriesByType('resource').filter((it) => !/^(data|blob):/.test(it.name)).length",
+    )
     push("tab-read", "example-c40", "scratch")
     second = grid()
     linked()
     address = on.page.current_url
-    for name, go in (("reload", on.page.refresh), ("Back", lambda: (on.page.get("about:blank"), on.page.back())), ("bookmark", lambda: (on.page.get("about:blank"), on.page.get(address)))):
+    for name, go in (
+        ("reload", on.page.refresh),
+        ("Back", lambda: (on.page.get("about:blank"), on.page.back())),
+        ("bookmark", lambda: (on.page.get("about:blank"), on.page.get(address))),
+    ):
         go()
         started()
         count.expect(f"{name}: the grid", (find("pane-read").is_displayed(), grid()), (True, second))
         push("tab-make")
-        count.expect(f"{name}: the message", (find("message").get_attribute("value"), find("profile-1").is_selected(), grid()), ("A & b=\\F #", True, damaged))
+        count.expect(
+            f"{name}: the message",
+            (find("message").get_attribute("value"), find("profile-1").is_selected(), grid()),
+            ("A & b=\\F #", True, damaged),
+        )
         agree(f"{name}: what is read")
         push("undo")
         count.expect(f"{name}: the damage can be undone", grid(), written("A & b=\\F #", 1))
@@ -308,12 +381,19 @@ def links():
     push("tab-read")
     linked()
     on.page.back()
-    count.expect_soon("Back within the page", lambda: (find("pane-make").is_displayed(), verdict()), (True, ("Read", "one")))
+    count.expect_soon(
+        "Back within the page", lambda: (find("pane-make").is_displayed(), verdict()), (True, ("Read", "one"))
+    )
     linked()
     run("location.hash = '#message=another&damage=5'")
     linked()
     count.expect("another link in the same page", (verdict()[1], changed(written("another"), grid())), ("another", [5]))
-    for bad in ("#message=x&damage=zzzz.zzzz.1", "#grid=10&pane=read", "#grid=999AAAA&message=x", "#border=99999&message=x&grid-border=x"):
+    for bad in (
+        "#message=x&damage=zzzz.zzzz.1",
+        "#grid=10&pane=read",
+        "#grid=999AAAA&message=x",
+        "#border=99999&message=x&grid-border=x",
+    ):
         run("location.hash = arguments[0]", bad)
         linked()
         count.expect(f"{bad} is no fault", find("broken").is_displayed(), False)
@@ -321,206 +401,5 @@ def links():
     write("123456")
 
 
-# ---- Print
-
-def pages():
-    body = base64.b64decode(on.page.execute_cdp_cmd("Page.printToPDF", {"preferCSSPageSize": True})["data"])
-    return len(re.findall(rb"/Type\s*/Page\b(?!s)", body))
-
-
-def print_():
-    run("globalThis.printed = 0; window.print = () => { printed++; }")
-    write("123456")
-    put("millimetres", "1")
-    push("print")
-    count.expect("printing is asked for", run("return printed"), 1)
-    count.expect("one page", pages(), 1)
-    width, text, seen = run("const svg = document.querySelector('#paper svg'); return [svg.getAttribute('width'), document.getElementById('paper').innerText || document.getElementById('paper').textContent, svg.innerHTML]")
-    count.expect("at its size with its text", (width, "123456" in text, "10 × 10 modules of 1 mm" in text), ("14mm", True, True))
-    on.page.execute_cdp_cmd("Emulation.setEmulatedMedia", {"media": "print"})
-    count.expect("nothing else is printed", run("return [...document.body.children].filter((it) => it.checkVisibility() && it.tagName !== 'SCRIPT').map((it) => it.id)"), ["paper"])
-    count.expect("in millimetres", round(run("return document.querySelector('#paper svg').getBoundingClientRect().width") / 96 * 25.4, 1), 14.0)
-    on.page.execute_cdp_cmd("Emulation.setEmulatedMedia", {"media": ""})
-    click(33)
-    pages()
-    count.expect("the undamaged one is printed", run("return document.querySelector('#paper svg').innerHTML"), seen)
-    push("undo-all")
-    run("document.getElementById('sheet').open = true")
-    put("messages", "first\n(01)09506000134352\n\nthird\n")
-    push("print-sheet")
-    sheet = run("return [...document.querySelectorAll('#paper figure')].map((it) => [it.querySelector('svg').getAttribute('width'), it.querySelector('figcaption').textContent])")
-    count.expect("a sheet", sheet, [["16mm", "first"], ["20mm", "(01)09506000134352"], ["16mm", "third"]])
-    count.expect("printing of the sheet is asked for", (run("return printed"), text_of("sheet-hint")), (2, "3 symbols are on the sheet."))
-    put("messages", "fine\ncaf\u00e9")
-    push("print-sheet")
-    count.expect("a wrong line of a sheet", (run("return printed"), text_of("sheet-hint")), (2, "Message 2: column 4 is \u00e9, which has no spelling of its own"))
-    run("document.getElementById('sheet').open = false; dispatchEvent(new Event('afterprint'))")
-    put("millimetres", "0.5")
-
-
-# ---- The lesson
-
-def lesson():
-    write("A" * 10 + "123")
-    learn()
-    unfold("lesson")
-    step = lambda: find("step").get_attribute("textContent")
-    chips = lambda: run("return [...document.querySelectorAll('#step .chip')].map((it) => it.firstChild.textContent)")
-    values = [held for held, _, _ in cells()]
-    count.expect("the message", (text_of("step-count"), chips()), ("Step 1 of 6: The message", [str(ord(c)) for c in "A" * 10 + "123"]))
-    push("step-on")
-    count.expect("codewords", ("12 data codewords" in step(), chips()), (True, [str(value) for value in values[:12]]))
-    push("step-on")
-    count.expect("blocks", ("are one block" in step(), chips()), (True, [str(value) for value in values[:12]]))
-    push("step-on")
-    sums = lambda: run("return document.querySelector('#step .sums').textContent")
-    count.expect("check codewords", (chips(), sums()), ([str(value) for value in values[12:]], " ".join(["0"] * 12)))
-    push("to-limit")
-    count.expect("damage shows in the sums", sums().split().count("0") < 12, True)
-    push("undo", "step-on")
-    run("const walk = document.getElementById('walk'); walk.value = walk.max; walk.dispatchEvent(new Event('input', { bubbles: true }))")
-    path = run("return document.querySelector('#path .way').getAttribute('d')")
-    points = [(int(float(x)), int(float(y))) for x, y in re.findall(r"[ML]([\d.]+) ([\d.]+)", path)]
-    last_bits = [next((x, y) for number, x, y in bits if number == "8") for _, bits in pointed()]
-    count.expect("the path of the placement", points, last_bits)
-    push("step-on")
-    count.expect("the border", "16 × 16 modules" in step(), True)
-    count.expect("the last step", (usable("step-on"), usable("step-back")), (False, True))
-    run("document.getElementById('lesson').open = false")
-
-
-def slider():
-    """The slider of the lesson follows the mouse as long as it is held."""
-    write("A" * 10 + "123")
-    learn()
-    unfold("lesson")
-    while text_of("step-count") != "Step 5 of 6: Places":
-        push("step-on" if usable("step-on") else "step-back")
-    slide, width = find("walk"), find("walk").rect["width"]
-    run("""globalThis.walked = [];
-           const one = (where) => document.querySelector(where);
-           const now = () => [+one('#walk').value, one('#step output').textContent,
-               one('#walk-words').textContent.split(',')[0], one('#path .way').getAttribute('d').split('L').length];
-           one('#step').addEventListener('input', () => walked.push(now()));""")
-    chain = acting().move_to_element_with_offset(slide, 8 - width / 2, 0).click_and_hold()
-    for share in (0.3, 0.6, 0.99):
-        chain.move_to_element_with_offset(slide, (share - 0.5) * width, 0).pause(0.1)
-    chain.release().perform()
-    walked = run("return walked")
-    last = [24, "24 of 24", "Codeword 24", 24]
-    count.expect("the slider goes on while it is held", (len(walked) >= 3, walked[-1]), (True, last))
-    odd = [it for it in walked if it[1:] != [f"{it[0]} of 24", f"Codeword {it[0]}", it[0]]]
-    count.expect("what it shows goes along", odd, [])
-    slide.send_keys(Keys.ARROW_LEFT)
-    count.expect("by keys", run("return walked.at(-1)"), [23, "23 of 24", "Codeword 23", 23])
-    run("document.getElementById('lesson').open = false")
-
-
-# ---- Words and looks
-
-def words_and_looks():
-    write("C:\\new")
-    button = find("message-hint").find_element(By.TAG_NAME, "button")
-    count.expect("a way to double the backslash", button.text, "Spell it with the backslash doubled")
-    button.click()
-    settle()
-    count.expect("the backslash is doubled", (find("message").get_attribute("value"), verdict()[1], on.page.switch_to.active_element.get_attribute("id")), ("C:\\\\new", "C:\\\\new", "message"))
-    for text, name in (("a\u200bb", "the invisible character U+200B"), ("a\u00a0b", "the invisible character U+00A0"), ("a\x01b", "the control character U+0001"), ("a\u20acb", "\u20ac"), ("a\tb", "a tab")):
-        write(text)
-        count.expect(f"{text!r} is named", text_of("message-hint").startswith(f"Column 2 is {name}, which has no spelling of its own."), True)
-    for text, more in (("A" * 817, "1 character"), ("0" * 1640, "8 characters"), ("A" * 900, "84 characters")):
-        write(text)
-        count.expect(f"{len(text)} of {text[0]} are too long", f"It is {more} too long." in text_of("message-hint"), True)
-    write("123456")
-    for name, bad, good in (("millimetres", "0", "0.5"), ("millimetres", "99", "0.5"), ("border-limit", "-1", "2"), ("border-limit", "70000", "2")):
-        put(name, bad)
-        marked = find(name).get_attribute("aria-invalid")
-        put(name, good)
-        count.expect(f"{bad} in {name} is marked", (marked, find(name).get_attribute("aria-invalid")), ("true", None))
-    push("usual")
-    legend = lambda: [it.text for it in find("legend").find_elements(By.TAG_NAME, "li")]
-    count.expect("no legend without need", legend(), [])
-    click(33)
-    count.expect("a legend for what there is", legend(), ["turned over", "corrected, or border of the wrong colour"])
-    count.expect("meters have roles", run("return [...document.querySelectorAll('[role=meter]')].map((it) => [it.ariaLabel, it.ariaValueNow, it.ariaValueMax])"),
-                 [["Codewords", "1", "2"], ["Border", "0", "2"]])
-    count.expect("what is said of pictures is spoken", [find(it).get_attribute("aria-live") for it in ("picture-hint", "grid-hint", "verdict", "same")], ["polite"] * 4)
-    click(55)
-    damaged = grid()
-    push("undo-all")
-    count.expect("everything is undone", grid(), written("123456"))
-    push("undo")
-    count.expect("that can be undone too, in one step", grid(), damaged)
-    push("undo", "undo")
-    count.expect("back at the beginning", (grid(), usable("undo")), (written("123456"), False))
-    push("redo", "redo", "redo")
-    count.expect("redone", (grid(), usable("redo")), (written("123456"), False))
-    run("document.getElementById('undo').focus()")
-    push("undo", "undo", "undo")
-    count.expect("focus stays", on.page.switch_to.active_element.get_attribute("id"), "undo")
-    metrics(1280, 900)
-    count.expect("the symbol on the first screen", run("scrollTo(0, 0); return document.getElementById('easel').getBoundingClientRect().bottom <= 900"), True)
-    usual_metrics()
-    media(forced_colors="active")
-    looks = run("return ['tab-learn', 'tab-read'].map((id) => { const s = getComputedStyle(document.getElementById(id)); return s.textDecorationLine + s.borderBottomColor; })")
-    count.expect("forced colours tell the tabs apart", looks[0] != looks[1], True)
-    media(forced_colors="none")
-
-
-def dropped():
-    """Text can be dropped into the message, and pictures anywhere."""
-    drop = """const data = new DataTransfer(); if (arguments[1]) data.setData('text/plain', arguments[1]);
-              document.getElementById(arguments[0]).dispatchEvent(new DragEvent('drop', { dataTransfer: data, bubbles: true, cancelable: true }))"""
-    write("123456")
-    run(drop, "facts", "dropped")
-    settle()
-    count.expect("text is dropped", verdict(), ("Read", "dropped"))
-    run("const m = document.getElementById('message'); m.focus(); m.setSelectionRange(0, 0)")
-    run(drop, "message", "now ")
-    settle()
-    count.expect("text is dropped into the message", verdict(), ("Read", "now dropped"))
-    run(drop, "facts", written("a grid"))
-    settle()
-    count.expect("a grid is dropped", (find("pane-read").is_displayed(), verdict()), (True, ("Read", "a grid")))
-    run("""const bytes = Uint8Array.from(atob(arguments[0]), (c) => c.charCodeAt(0)), data = new DataTransfer();
-           data.items.add(new File([bytes], 'dropped.png', { type: 'image/png' }));
-           document.body.dispatchEvent(new DragEvent('drop', { dataTransfer: data, bubbles: true, cancelable: true }))""",
-        base64.b64encode(png(written("a picture").split("\n"), 3, 2)).decode())
-    count.expect_soon("a picture is dropped", verdict, ("Read", "a picture"))
-    settle()
-    push("tab-make")
-
-
-COPY_PICTURE = """const [body, done] = arguments, bytes = Uint8Array.from(atob(body), (c) => c.charCodeAt(0));
-    navigator.clipboard.write([new ClipboardItem({ 'image/png': new Blob([bytes], { type: 'image/png' }) })]).then(() => done(''), (why) => done(why.message));"""
-
-
-def pasted_pictures():
-    """A picture on the clipboard is pasted: in the message, in no field, and in a slot of the comparison, which takes it itself."""
-    def copy(message):
-        count.expect(f"{message} on the clipboard", on.page.execute_async_script(COPY_PICTURE, base64.b64encode(png(written(message).split("\n"), 3, 2)).decode()), "")
-
-    paste = (Keys.CONTROL, "v", Keys.NULL)
-    write("123456")
-    copy("pasted")
-    find("message").send_keys(*paste)
-    count.expect_soon("a picture pasted in the message", lambda: (verdict(), find("pane-read").is_displayed()), (("Read", "pasted"), True))
-    settle()
-    count.expect("the message stays", find("message").get_attribute("value"), "123456")
-    copy("pasted again")
-    run("document.activeElement.blur()")
-    on.page.find_element(By.TAG_NAME, "body").send_keys(*paste)
-    count.expect_soon("a picture pasted in no field", verdict, ("Read", "pasted again"))
-    settle()
-    copy("pasted below")
-    unfold("comparison")
-    find("slot-b").find_element(By.TAG_NAME, "textarea").send_keys(*paste)
-    count.expect_soon("a picture pasted in a slot", lambda: "pasted below" in text_of("slot-b"), True)
-    settle()
-    count.expect("it isn't taken above", verdict(), ("Read", "pasted again"))
-    push("tab-make")
-    count.expect("the message has its symbol", verdict(), ("Read", "123456"))
-
-
-PARTS = [never_stale, each_pane_keeps_its_state, a_picture_does_not_win, names_follow, gives_what_it_says,
-         nothing_freezes, phones, gs1, links, print_, lesson, slider, words_and_looks, dropped, pasted_pictures]
+PARTS = [never_stale, each_pane_keeps_its_state, a_picture_does_not_win, names_follow, nothing_freezes, phones, gs1,
+         links]

@@ -77,7 +77,10 @@ WATCH = """
         globalThis[name] = (...given) => { calls.push(name); return kept[name].call(globalThis, ...given); };
     }
     kept.post = Worker.prototype.postMessage;
-    Worker.prototype.postMessage = function (...given) { calls.push("postMessage"); return kept.post.apply(this, given); };
+    Worker.prototype.postMessage = function (...given) {
+        calls.push("postMessage");
+        return kept.post.apply(this, given);
+    };
     globalThis.again = () => {
         for (const [name, value] of Object.entries(kept)) if (name !== "post") globalThis[name] = value;
         Worker.prototype.postMessage = kept.post;
@@ -93,9 +96,11 @@ def out_of_sight():
     run(SLOW_CAMERA)
     run("document.getElementById('camera').click(); for (const each of allowed.splice(0)) each()")
     wait_for(lambda: find("viewfinder").is_displayed())
-    run("""clearInterval(painter);
+    run(
+        """clearInterval(painter);
            Object.defineProperty(document, 'hidden', { configurable: true, value: true });
-           document.dispatchEvent(new Event('visibilitychange'));""")
+           document.dispatchEvent(new Event('visibilitychange'));"""
+    )
     settle()
     run(WATCH)
     count.expect("what is done out of sight", on.page.execute_async_script(LATER), [])

@@ -11,19 +11,47 @@ import pack
 
 def one_file():
     """The page is one file: it fetches nothing, and its policy allows no connection."""
-    count.expect("resources", run("return performance.getEntriesByType('resource').map((it) => it.name).filter((it) => !/^(data|blob):/.test(it))"), [])
+    count.expect(
+        "resources",
+        run(
+            """return performance.getEntriesByType('resource').map((it) => it.name)
+                .filter((it) => !/^(data|blob):/.test(it))"""
+        ),
+        [],
+    )
     policy = on.page.find_element(By.CSS_SELECTOR, "meta[http-equiv=Content-Security-Policy]").get_attribute("content")
-    count.expect("policy", (policy.startswith("default-src 'none'; script-src 'sha256-"), "connect-src" in policy, "'unsafe-inline'" in policy.split("style-src")[0]), (True, False, False))
+    count.expect(
+        "policy",
+        (
+            policy.startswith("default-src 'none'; script-src 'sha256-"),
+            "connect-src" in policy,
+            "'unsafe-inline'" in policy.split("style-src")[0],
+        ),
+        (True, False, False),
+    )
     count.expect("no failure", find("broken").is_displayed(), False)
 
 
 CONTRAST = """
-    const channels = (text) => text.match(/[\\d.]+/g).map(Number), over = (node) => { for (let it = node; it; it = it.parentElement) { const c = channels(getComputedStyle(it).backgroundColor); if (c.length < 4 || c[3] > 0.5) return c; } return [255, 255, 255]; };
-    const light = (c) => { const [r, g, b] = c.map((v) => { v /= 255; return v <= 0.03928 ? v / 12.92 : ((v + 0.055) / 1.055) ** 2.4; }); return 0.2126 * r + 0.7152 * g + 0.0722 * b; };
-    const low = [];
+    const channels = (text) => text.match(/[\\d.]+/g).map(Number);
+    const over = (node) => {
+        for (let it = node; it; it = it.parentElement) {
+            const c = channels(getComputedStyle(it).backgroundColor);
+            if (c.length < 4 || c[3] > 0.5) return c;
+        }
+        return [255, 255, 255];
+    };
+    const linear = (v) => (v <= 0.03928 ? v / 12.92 : ((v + 0.055) / 1.055) ** 2.4);
+    const light = (c) => {
+        const [r, g, b] = c.map((v) => linear(v / 255));
+        return 0.2126 * r + 0.7152 * g + 0.0722 * b;
+    };
+    const others = "svg, button[aria-disabled=true], .unseen, .toast, .skip, noscript, script, style", low = [];
+    const hasText = (node) => [...node.childNodes].some((it) => it.nodeType === 3 && it.textContent.trim());
     for (const node of document.querySelectorAll("body *")) {
-        if (![...node.childNodes].some((it) => it.nodeType === 3 && it.textContent.trim()) || !node.checkVisibility() || node.closest("svg, button[aria-disabled=true], .unseen, .toast, .skip, noscript, script, style")) continue;
-        const [a, b] = [light(channels(getComputedStyle(node).color)), light(over(node))].sort((x, y) => y - x), ratio = (a + 0.05) / (b + 0.05);
+        if (!hasText(node) || !node.checkVisibility() || node.closest(others)) continue;
+        const both = [light(channels(getComputedStyle(node).color)), light(over(node))];
+        const [a, b] = both.sort((x, y) => y - x), ratio = (a + 0.05) / (b + 0.05);
         if (ratio < 4.5) low.push(`${node.tagName} ${node.className} ${node.id} ${ratio.toFixed(2)}`);
     }
     return [...new Set(low)];"""
@@ -51,25 +79,44 @@ def to_be_seen_by_all():
         for tab in ("tab-read", "tab-make", "tab-learn"):
             push(tab)
             unfold("details")
-            count.expect(f"width {width}, {tab}", run("return document.documentElement.scrollWidth <= innerWidth"), True)
+            count.expect(
+                f"width {width}, {tab}", run("return document.documentElement.scrollWidth <= innerWidth"), True
+            )
         push("tab-make")
-        too_wide = run("return [...document.querySelectorAll('#facts dt, #facts dd')].filter((it) => it.scrollWidth > it.clientWidth).map((it) => it.textContent)")
+        too_wide = run(
+            """return [...document.querySelectorAll('#facts dt, #facts dd')]
+                .filter((it) => it.scrollWidth > it.clientWidth).map((it) => it.textContent)"""
+        )
         count.expect(f"width {width}: each fact has its place", too_wide, [])
     usual_metrics()
 
 
 def nameless():
     """The roles of what has a role, and no name for a screen reader."""
-    roles = {"button", "textbox", "spinbutton", "radio", "tab", "tabpanel", "listbox", "application", "region",
-             "heading", "combobox"}
-    nodes = [node for node in on.page.execute_cdp_cmd("Accessibility.getFullAXTree", {})["nodes"]
-             if not node.get("ignored")]
+    roles = {
+        "button",
+        "textbox",
+        "spinbutton",
+        "radio",
+        "tab",
+        "tabpanel",
+        "listbox",
+        "application",
+        "region",
+        "heading",
+        "combobox",
+    }
+    nodes = [
+        node for node in on.page.execute_cdp_cmd("Accessibility.getFullAXTree", {})["nodes"] if not node.get("ignored")
+    ]
     value_of = lambda node, name: node.get(name, {}).get("value")
     return [value_of(node, "role") for node in nodes if value_of(node, "role") in roles and not value_of(node, "name")]
 
 
-SENTENCE = ("This browser can’t run the page, which needs WebAssembly with SIMD. Chrome, Edge and Firefox have had that since 2021,"
-            " Safari since 2023.")
+SENTENCE = (
+    "This browser can’t run the page, which needs WebAssembly with SIMD. Chrome, Edge and Firefox have had that since "
+    "2021, Safari since 2023."
+)
 OTHERS = "main > .bench, main > details, .tabs"
 LACKS = {"SIMD": "WebAssembly.validate = () => false", "WebAssembly": "delete globalThis.WebAssembly"}
 
@@ -108,6 +155,8 @@ def old_browser():
             says_so(f"without {name}")
     open_unreadable()
     says_so("with a script that it can't read")
-    count.expect("what the console says", ["SyntaxError" in entry["message"] for entry in on.page.get_log("browser")], [True])
+    count.expect(
+        "what the console says", ["SyntaxError" in entry["message"] for entry in on.page.get_log("browser")], [True]
+    )
     on.page.get(own)
     wait_for(lambda: run("return 'mitsubadoor' in globalThis"))

@@ -1,6 +1,7 @@
-// Puts calls that tests/page/recorded.c wrote down to the library for WebAssembly: node module.mjs LIBRARY.wasm < CALLS. Each has to
-// answer as it did there, and to write nothing but its output; input and output lie in turn directly before the end of the memory, behind
-// which each access traps. Prints how many calls there were, or the first that differs, with status 1.
+// Puts calls that tests/page/recorded.c wrote down to the library for WebAssembly:
+// node module.mjs LIBRARY.wasm < CALLS. Each has to answer as it did there, and to write nothing but its output; input
+// and output lie in turn directly before the end of the memory, behind which each access traps. Prints how many calls
+// there were, or the first that differs, with status 1.
 import { readFileSync, readSync } from "node:fs";
 
 const HEAD = 56, NAME = 20, PAGE = 65536, PAGES = 3, FIRST = 4096, FILLED = 0xee;
@@ -30,7 +31,8 @@ function nextCall() {
   const head = taken(HEAD);
   if (!head) return null;
   const name = head.toString("latin1", 0, NAME).replace(/\0.*/s, "");
-  const [width, count, numberCount, ...rest] = Array.from({ length: (HEAD - NAME) / 4 }, (_, k) => head.readUInt32LE(NAME + 4 * k));
+  const told = Array.from({ length: (HEAD - NAME) / 4 }, (_, k) => head.readUInt32LE(NAME + 4 * k));
+  const [width, count, numberCount, ...rest] = told;
   const numbers = rest.slice(0, numberCount), [answer, size] = rest.slice(-2);
   return { name, width, count, numbers, answer, input: taken(width * count), output: taken(size) };
 }
@@ -46,7 +48,9 @@ class Room {
   part(at, size) { return this.bytes.subarray(at - this.begin, at - this.begin + size); }
   // What is wrong about a call, or null.
   fault({ name, width, count, numbers, answer, input, output }, isInputLast) {
-    const first = this.begin + FIRST, inputAt = isInputLast ? this.end - input.length : first, outputAt = isInputLast ? first : this.end - output.length;
+    const first = this.begin + FIRST;
+    const inputAt = isInputLast ? this.end - input.length : first;
+    const outputAt = isInputLast ? first : this.end - output.length;
     const given = this.part(inputAt, input.length), made = this.part(outputAt, output.length);
     given.set(input);
     const list = width ? [BigInt(inputAt), BigInt(count)] : [], out = output.length ? [BigInt(outputAt)] : [];

@@ -325,7 +325,8 @@ class Generator:
 
     def burst(self, has_waits):
         acts = [self.change(self.chance.choice(["read", "make"])), self.enter()]
-        some = [self.enter] * 2 + [self.tap] * 3 + [self.press] * 3 + [self.accept, self.change, self.change, self.store]
+        some = [self.enter] * 2 + [self.tap] * 3 + [self.press] * 3
+        some += [self.accept, self.change, self.change, self.store]
         for _ in range(self.chance.randrange(1, MOST_ACTS)):
             act = self.chance.choice(some)
             if act != self.store or self.task == "make":

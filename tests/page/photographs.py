@@ -1,4 +1,5 @@
-"""Photographs: the share of the set of bench/photographs that the page reads, beside what dmtxread reads of it; and the camera."""
+"""Photographs: the share of the set of bench/photographs that the page reads, beside what dmtxread reads of it; and the
+camera."""
 import base64
 import json
 import pathlib
@@ -25,7 +26,9 @@ def made():
         if subprocess.run([DEBIANS, "-c", "import cv2, numpy"], stderr=subprocess.DEVNULL, check=False).returncode:
             print("left out: photographs; not installed: python3-opencv or python3-numpy")
             return folder, []
-        subprocess.run([DEBIANS, MAKER, "--program", on.program, "--share", str(SHARE), folder], check=True, timeout=1800)
+        subprocess.run(
+            [DEBIANS, MAKER, "--program", on.program, "--share", str(SHARE), folder], check=True, timeout=1800
+        )
     return folder, json.loads((folder / "index.json").read_text())
 
 
@@ -42,14 +45,17 @@ def photographs():
         if is_read and not said.startswith(f"{file.name}: side "):
             count.expect(f"{file.name}: what is said", said, "side")
     if pictures:
-        count.expect(f"{read} of {len(pictures)} photographs read, at least nine of ten", 10 * read >= 9 * len(pictures), True)
+        count.expect(
+            f"{read} of {len(pictures)} photographs read, at least nine of ten", 10 * read >= 9 * len(pictures), True
+        )
         count.expect("at least as many as dmtxread", dmtxread_misses(folder, pictures, len(pictures) - read), True)
         print(f"photographs: {read} of {len(pictures)} read")
     push("tab-make")
 
 
 def dmtxread_misses(folder, pictures, least):
-    """Whether dmtxread misses so many of the pictures. Each that it misses takes it a second, so no more are looked for."""
+    """Whether dmtxread misses so many of the pictures. Each that it misses takes it a second, so no more are looked
+    for."""
     missed = 0
     if not shutil.which("dmtxread"):
         print("left out: photographs beside dmtxread, which isn't installed")
@@ -68,24 +74,41 @@ def turned_about():
     push("tab-read")
     rows = written("Turned about").split("\n")
     side, scale = len(rows), 7
-    for name, dark, light, mirrored, specks in (("slanted.png", 40, 220, False, 0), ("slanted-light.png", 220, 60, False, 0),
-                                                ("slanted-mirrored.png", 40, 220, True, 0), ("slanted-specked.png", 40, 220, False, 19)):
+    for name, dark, light, mirrored, specks in (
+        ("slanted.png", 40, 220, False, 0),
+        ("slanted-light.png", 220, 60, False, 0),
+        ("slanted-mirrored.png", 40, 220, True, 0),
+        ("slanted-specked.png", 40, 220, False, 19),
+    ):
         grid = [row[::-1] for row in rows] if mirrored else rows
         body = slanted(grid, scale, dark, light, specks)
         said = opened(name, body)
-        count.expect(name, (shown()["state"], shown()["says"], said.startswith(f"{name}: side {side}. Found in the picture")), ("Read", "Turned about", True))
+        count.expect(
+            name,
+            (shown()["state"], shown()["says"], said.startswith(f"{name}: side {side}. Found in the picture")),
+            ("Read", "Turned about", True),
+        )
 
 
 def slanted(rows, scale, dark, light, specks):
-    """The picture of a grid that is turned by some 25 degrees; of every so many pixels one is a dark speck, or none if that is 0."""
+    """The picture of a grid that is turned by some 25 degrees; of every so many pixels one is a dark speck, or none if
+    that is 0."""
     side, width = len(rows), int(len(rows) * scale * 1.9)
     cosine, sine, lines = 0.9063, 0.4226, []
     for y in range(width):
         line = bytearray(b"\0")
         for x in range(width):
             across, down = x - width / 2, y - width / 2
-            c, r = (across * cosine + down * sine) / scale + side / 2, (down * cosine - across * sine) / scale + side / 2
-            is_dark = 0 <= c < side and 0 <= r < side and rows[int(r)][int(c)] == "1" or specks and (7 * x + 13 * y) % specks == 0
+            c, r = (across * cosine + down * sine) / scale + side / 2, (
+                down * cosine - across * sine
+            ) / scale + side / 2
+            is_dark = (
+                0 <= c < side
+                and 0 <= r < side
+                and rows[int(r)][int(c)] == "1"
+                or specks
+                and (7 * x + 13 * y) % specks == 0
+            )
             line.append(dark if is_dark else light)
         lines.append(bytes(line))
     return chunks(width, width, b"".join(lines))
@@ -95,23 +118,40 @@ def camera():
     """A camera that shows a symbol after a while."""
     push("tab-read", "example-c40")
     file = png(written("by the camera").split("\n"), 12, 4)
-    run("""globalThis.shows = false;
-           const canvas = Object.assign(document.createElement('canvas'), { width: 480, height: 480 }), pen = canvas.getContext('2d'), image = new Image();
+    run(
+        """globalThis.shows = false;
+           const canvas = Object.assign(document.createElement('canvas'), { width: 480, height: 480 });
+           const pen = canvas.getContext('2d'), image = new Image();
            image.src = 'data:image/png;base64,' + arguments[0];
-           globalThis.painter = setInterval(() => { pen.fillStyle = '#bbb'; pen.fillRect(0, 0, 480, 480); if (globalThis.shows) pen.drawImage(image, 60, 60); }, 50);
+           globalThis.painter = setInterval(() => {
+               pen.fillStyle = '#bbb';
+               pen.fillRect(0, 0, 480, 480);
+               if (globalThis.shows) pen.drawImage(image, 60, 60);
+           }, 50);
            const stream = canvas.captureStream(20);
            globalThis.track = stream.getVideoTracks()[0];
-           Object.defineProperty(navigator, 'mediaDevices', { configurable: true, value: { getUserMedia: async () => stream } });""", base64.b64encode(file).decode())
+           const value = { getUserMedia: async () => stream };
+           Object.defineProperty(navigator, 'mediaDevices', { configurable: true, value });""",
+        base64.b64encode(file).decode(),
+    )
     asked = lambda: run("return mitsubadoor.desks.pictures.count")
     before = asked()
     run("document.getElementById('camera').hidden = false; document.getElementById('camera').click()")
     wait_for(lambda: asked() > before + 1)
-    count.expect("the camera looks on", (find("viewfinder").is_displayed(), shown()["says"]), (True, "Every answer is proved."))
+    count.expect(
+        "the camera looks on", (find("viewfinder").is_displayed(), shown()["says"]), (True, "Every answer is proved.")
+    )
     run("globalThis.shows = true")
     wait_for(lambda: shown()["says"] == "by the camera")
     settle()
-    count.expect("the camera reads", (shown()["state"], shown()["says"], text_of("picture-hint").startswith("The camera: side")), ("Read", "by the camera", True))
-    count.expect("the camera is off", (find("viewfinder").is_displayed(), run("return track.readyState")), (False, "ended"))
+    count.expect(
+        "the camera reads",
+        (shown()["state"], shown()["says"], text_of("picture-hint").startswith("The camera: side")),
+        ("Read", "by the camera", True),
+    )
+    count.expect(
+        "the camera is off", (find("viewfinder").is_displayed(), run("return track.readyState")), (False, "ended")
+    )
     run("clearInterval(painter); delete navigator.mediaDevices")
     write("123456")
 
@@ -160,9 +200,11 @@ def camera_ends():
     why = "The camera is off, since something else was entered."
     count.expect("a grid that was typed", (tracks(), said(), shown()["says"]), (["ended"], why, "typed"))
     on_again()
-    run("""Object.defineProperty(document, 'hidden', { configurable: true, value: true });
+    run(
+        """Object.defineProperty(document, 'hidden', { configurable: true, value: true });
            document.dispatchEvent(new Event('visibilitychange'));
-           delete document.hidden;""")
+           delete document.hidden;"""
+    )
     why = "The camera is off, since the page was out of sight."
     count.expect("out of sight", (tracks(), said()), (["ended"], why))
     run("streams.length = 0; document.getElementById('camera').click()")

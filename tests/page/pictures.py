@@ -5,26 +5,58 @@ import struct
 import subprocess
 import zlib
 
-from tests.page.stage import (Keys, agree, count, find, grid, on, push, put, run, settle, shown, text_of, turned, unfold,
-                              usable, wait_for, write, written)
+from tests.page.stage import (
+    Keys,
+    agree,
+    count,
+    find,
+    grid,
+    on,
+    push,
+    put,
+    run,
+    settle,
+    shown,
+    text_of,
+    turned,
+    unfold,
+    usable,
+    wait_for,
+    write,
+    written,
+)
 
 
 def png(rows, scale, around, light=255, dark=0):
     """A grey picture of a grid."""
     side = len(rows) + 2 * around
     blank = [bytes([light]) * (side * scale)] * (around * scale)
-    lines = blank + [b"".join(bytes([dark if module == "1" else light]) * scale for module in "0" * around + row + "0" * around) for row in rows for _ in range(scale)] + blank
+    lines = (
+        blank
+        + [
+            b"".join(bytes([dark if module == "1" else light]) * scale for module in "0" * around + row + "0" * around)
+            for row in rows
+            for _ in range(scale)
+        ]
+        + blank
+    )
     return chunks(side * scale, side * scale, b"".join(b"\0" + line for line in lines))
 
 
 def chunks(width, height, lines):
     """The file of a grey picture, of lines with a zero in front of each."""
     chunk = lambda kind, body: struct.pack(">I", len(body)) + kind + body + struct.pack(">I", zlib.crc32(kind + body))
-    return b"\x89PNG\r\n\x1a\n" + chunk(b"IHDR", struct.pack(">IIBBBBB", width, height, 8, 0, 0, 0, 0)) + chunk(b"IDAT", zlib.compress(lines, 1)) + chunk(b"IEND", b"")
+    return (
+        b"\x89PNG\r\n\x1a\n"
+        + chunk(b"IHDR", struct.pack(">IIBBBBB", width, height, 8, 0, 0, 0, 0))
+        + chunk(b"IDAT", zlib.compress(lines, 1))
+        + chunk(b"IEND", b"")
+    )
 
 
 def specked(rows, others, scale):
-    """The picture of a grid in which the pixels that are looked at for another side show another grid: both sides fit it about equally well."""
+    """The picture of a grid in which the pixels that are looked at for another side show another grid: both sides fit
+    it about equally well."""
     width, side = len(rows) * scale, len(others)
     pixels = [[row[x // scale] for x in range(width)] for row in rows for _ in range(scale)]
     looked_at = [[int((k + (0.2 + 0.6 * (look + 0.5) / 5)) * (width / side)) for look in range(5)] for k in range(side)]
@@ -51,25 +83,61 @@ def pictures():
     push("tab-read")
     short, long = written("Mitsubadoor"), written("Pictures of larger symbols are opened too. " * 4)
     for name, text, scale, around, light, dark, stand in [
-        ("a.png", short, 1, 0, 255, 0, (0, False, False)), ("b.png", short, 3, 2, 255, 0, (0, False, False)), ("c.png", short, 8, 4, 200, 90, (1, False, False)),
-        ("d.png", short, 5, 1, 255, 0, (2, True, False)), ("e.png", short, 4, 3, 255, 0, (3, False, True)), ("f.png", long, 1, 2, 255, 0, (0, False, False)),
-        ("g.png", long, 4, 2, 255, 0, (1, True, True)), ("h.png", long, 2, 0, 255, 0, (2, False, False)),
+        ("a.png", short, 1, 0, 255, 0, (0, False, False)),
+        ("b.png", short, 3, 2, 255, 0, (0, False, False)),
+        ("c.png", short, 8, 4, 200, 90, (1, False, False)),
+        ("d.png", short, 5, 1, 255, 0, (2, True, False)),
+        ("e.png", short, 4, 3, 255, 0, (3, False, True)),
+        ("f.png", long, 1, 2, 255, 0, (0, False, False)),
+        ("g.png", long, 4, 2, 255, 0, (1, True, True)),
+        ("h.png", long, 2, 0, 255, 0, (2, False, False)),
     ]:
         quarters, mirrored, inverted = stand
         grey = (dark, light) if inverted else (light, dark)
         said = opened(name, png(turned(text, quarters, mirrored, False).split("\n"), scale, around, *grey))
         count.expect(f"picture {name}", grid(), text)
         agree(f"picture {name}")
-        how = ", and ".join(filter(None, [inverted and "inverted, light for dark", mirrored and "mirrored left to right", ["", "turned a quarter to the right", "turned upside down", "turned a quarter to the left"][quarters]]))
+        how = ", and ".join(
+            filter(
+                None,
+                [
+                    inverted and "inverted, light for dark",
+                    mirrored and "mirrored left to right",
+                    ["", "turned a quarter to the right", "turned upside down", "turned a quarter to the left"][
+                        quarters
+                    ],
+                ],
+            )
+        )
         side = text.index("\n")
-        count.expect(f"picture {name}: said", said, f"{name}: side {side}. " + (f"The symbol is {how}: found by trying, and shown upright." if how else "Read as it stands."))
+        count.expect(
+            f"picture {name}: said",
+            said,
+            f"{name}: side {side}. "
+            + (f"The symbol is {how}: found by trying, and shown upright." if how else "Read as it stands."),
+        )
     rows = written("123456").split("\n")
     said = opened("specked.png", specked(rows, written("12345678").split("\n"), 47))
-    count.expect("of two sides that fit about equally well the smaller is taken", (shown()["says"], said), ("123456", "specked.png: side 10. Read as it stands."))
-    spoilt = [rows[0], *(row[0] + row[1:9].translate(str.maketrans("01", "10")) + row[9] for row in rows[1:5]), *rows[5:]]
+    count.expect(
+        "of two sides that fit about equally well the smaller is taken",
+        (shown()["says"], said),
+        ("123456", "specked.png: side 10. Read as it stands."),
+    )
+    spoilt = [
+        rows[0],
+        *(row[0] + row[1:9].translate(str.maketrans("01", "10")) + row[9] for row in rows[1:5]),
+        *rows[5:],
+    ]
     said = opened("i.png", png(spoilt, 8, 3))
-    count.expect("a symbol that isn't read is shown as it stands", (said, shown()["state"]),
-                 ("i.png: side 10. It can’t be read as it stands, nor turned, mirrored or inverted. It is shown as it stands.", "Refused"))
+    count.expect(
+        "a symbol that isn't read is shown as it stands",
+        (said, shown()["state"]),
+        (
+            "i.png: side 10. It can’t be read as it stands, nor turned, mirrored or inverted. It is shown as it "
+            "stands.",
+            "Refused",
+        ),
+    )
     before = grid()
     noise = ["".join(random.choice("01") for _ in range(23)) for _ in range(23)]
     no_symbol = "No symbol that can be read was found in the picture."
@@ -78,11 +146,19 @@ def pictures():
     count.expect_soon("a picture without a symbol in a slot", lambda: no_symbol in text_of("slot-a"), True)
     count.expect("what is said of a picture stays, whatever is looked at in a slot", text_of("picture-hint"), said)
     whole = png(rows, 8, 3)
-    for name, body, why in (("noise.png", png(noise, 5, 2), no_symbol), ("white.png", png(["0" * 10] * 10, 2, 2), "The picture has only one colour."),
-                            ("square.png", png(["1" * 10] * 10, 8, 3), no_symbol), ("text.png", b"no picture", "The file can’t be opened as a picture."),
-                            ("half.png", whole[: len(whole) // 2], "The file is cut off: the end of the picture is missing.")):
+    for name, body, why in (
+        ("noise.png", png(noise, 5, 2), no_symbol),
+        ("white.png", png(["0" * 10] * 10, 2, 2), "The picture has only one colour."),
+        ("square.png", png(["1" * 10] * 10, 8, 3), no_symbol),
+        ("text.png", b"no picture", "The file can’t be opened as a picture."),
+        ("half.png", whole[: len(whole) // 2], "The file is cut off: the end of the picture is missing."),
+    ):
         count.expect(f"{name} is no symbol", opened(name, body), f"{name}: {why}")
-        count.expect(f"{name}: no verdict of the one before", (shown()["state"], shown()["says"], usable("save-png")), ("Nothing is read", "", False))
+        count.expect(
+            f"{name}: no verdict of the one before",
+            (shown()["state"], shown()["says"], usable("save-png")),
+            ("Nothing is read", "", False),
+        )
     count.expect("what isn't opened changes nothing", grid(), before)
     push("tab-make")
 
@@ -95,20 +171,39 @@ def saved():
     for file in (svg, picture):
         file.unlink(missing_ok=True)
     push("save-svg", "save-png")
-    wait_for(lambda: svg.exists() and svg.read_bytes().endswith(b"</svg>\n") and picture.exists() and picture.read_bytes()[-8:-4] == b"IEND")
+    wait_for(
+        lambda: svg.exists()
+        and svg.read_bytes().endswith(b"</svg>\n")
+        and picture.exists()
+        and picture.read_bytes()[-8:-4] == b"IEND"
+    )
     text = svg.read_text()
-    count.expect("SVG", text.startswith('<svg xmlns="http://www.w3.org/2000/svg" width="5.6mm" height="5.6mm" viewBox="-2 -2 14 14"'), True)
+    count.expect(
+        "SVG",
+        text.startswith('<svg xmlns="http://www.w3.org/2000/svg" width="5.6mm" height="5.6mm" viewBox="-2 -2 14 14"'),
+        True,
+    )
     body = picture.read_bytes()
     at = body.index(b"pHYs") + 4
     width, across, down, unit = (*struct.unpack(">I", body[16:20]), *struct.unpack(">IIB", body[at : at + 9]))
-    count.expect("PNG: pixels a metre", (across, down, unit, zlib.crc32(body[at - 4 : at + 9])), (25000, 25000, 1, struct.unpack(">I", body[at + 9 : at + 13])[0]))
+    count.expect(
+        "PNG: pixels a metre",
+        (across, down, unit, zlib.crc32(body[at - 4 : at + 9])),
+        (25000, 25000, 1, struct.unpack(">I", body[at + 9 : at + 13])[0]),
+    )
     count.expect("PNG: millimetres", round(1000 * width / across, 3), 5.6)
     push("tab-read")
     write("other")
     for name, file in (("SVG", svg), ("PNG", picture)):
-        count.expect(f"{name} opened again", (opened(f"again{file.suffix}", file.read_bytes()), grid()), (f"again{file.suffix}: side 10. Read as it stands.", written("123456")))
+        count.expect(
+            f"{name} opened again",
+            (opened(f"again{file.suffix}", file.read_bytes()), grid()),
+            (f"again{file.suffix}: side 10. Read as it stands.", written("123456")),
+        )
     if shutil.which("dmtxread"):
-        out = subprocess.run(["dmtxread", "-n", str(picture)], stdout=subprocess.PIPE, timeout=300, check=False).stdout.decode()
+        out = subprocess.run(
+            ["dmtxread", "-n", str(picture)], stdout=subprocess.PIPE, timeout=300, check=False
+        ).stdout.decode()
         count.expect("PNG by dmtxread", out.strip(), "123456")
     else:
         print("left out: the saved picture read by another reader, since dmtxread isn't installed")
@@ -124,5 +219,7 @@ def saved():
     push("tab-make")
     find("message").send_keys(Keys.CONTROL, "a", Keys.NULL)
     find("message").send_keys(Keys.CONTROL, "v", Keys.NULL)
-    count.expect("a grid that is pasted as a message", (find("pane-read").is_displayed(), shown()["says"]), (True, "Mitsubadoor"))
+    count.expect(
+        "a grid that is pasted as a message", (find("pane-read").is_displayed(), shown()["says"]), (True, "Mitsubadoor")
+    )
     push("tab-make")

@@ -1,5 +1,6 @@
-/* The rounds of tests/library/hostile.c, of which each call is written to standard output, with what the library answers, so that the same
- * calls can be put to another build of it: a head, the bytes of the input, and those of the output. */
+/* The rounds of tests/library/hostile.c, of which each call is written to standard output, with what the library
+ * answers, so that the same calls can be put to another build of it: a head, the bytes of the input, and those of the
+ * output. */
 #define _GNU_SOURCE
 #include <ecc200.h>
 #include <stdio.h>
@@ -22,16 +23,18 @@ static void record(head made, const void *input, const void *output) {
         exit(2);
 }
 
-static uint16_t recorded_read(const uint8_t *modules, size_t count, uint16_t side, uint16_t limit, uint16_t extent, ecc200_reading *out) {
+static uint16_t recorded_read(const uint8_t *modules, size_t count, uint16_t side, uint16_t limit, uint16_t extent,
+                              ecc200_reading *out) {
     uint16_t code = ecc200_read(modules, count, side, limit, extent, out);
     record((head){"ecc200_read", 1, (uint32_t)count, 3, {side, limit, extent}, code, sizeof *out}, modules, out);
     return code;
 }
 
-static uint16_t recorded_normal(const uint8_t *modules, size_t count, uint16_t side, uint16_t limit, uint16_t extent, uint16_t profile,
-                                ecc200_symbol *out) {
+static uint16_t recorded_normal(const uint8_t *modules, size_t count, uint16_t side, uint16_t limit, uint16_t extent,
+                                uint16_t profile, ecc200_symbol *out) {
     uint16_t code = ecc200_normal(modules, count, side, limit, extent, profile, out);
-    record((head){"ecc200_normal", 1, (uint32_t)count, 4, {side, limit, extent, profile}, code, sizeof *out}, modules, out);
+    head made = {"ecc200_normal", 1, (uint32_t)count, 4, {side, limit, extent, profile}, code, sizeof *out};
+    record(made, modules, out);
     return code;
 }
 

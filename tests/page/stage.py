@@ -31,8 +31,8 @@ LEFT_OUT = {
     "an ECI": 241,
 }
 
-# What the page shows, as plain text: the verdict, the meters and the facts. Elements are told from a text that looks like
-# some by their identifiers, which have a colour.
+# What the page shows, as plain text: the verdict, the meters and the facts. Elements are told from a text that looks
+# like some by their identifiers, which have a colour.
 SHOWN = """
     const text = (id) => document.getElementById(id).textContent, one = (where) => document.querySelector(where);
     const meters = [...document.querySelectorAll("#meters .count")].map((it) => it.textContent);
@@ -175,7 +175,8 @@ REFUSALS = [
     (5, r"(\d+) modules? of the border ha(?:s|ve) the wrong colour, and (\d+) may"),
     (
         6,
-        r"More than \d+ codewords are wrong(?: in block (\d+) of \d+)?\. (?:Its|The) \d+ check codewords correct no more",
+        r"More than \d+ codewords are wrong(?: in block (\d+) of \d+)?\. "
+        r"(?:Its|The) \d+ check codewords correct no more",
     ),
     (7, r"The value of data codeword (\d+), 0 or 242 to 255, is one that the standard reserves\."),
     (8, r"Data codeword (\d+) begins (structured append|reader programming|macro 05|macro 06|EDIFACT|an ECI)"),
@@ -185,7 +186,8 @@ REFUSALS = [
     (12, r"The length of the Base 256 segment at data codeword (\d+) is missing"),
     (
         13,
-        r"The run or the symbol ends before the character that is due after the Upper Shift that data codeword (\d+), or",
+        r"The run or the symbol ends before the character that is due after the Upper Shift "
+        r"that data codeword (\d+), or",
     ),
 ]
 
@@ -406,8 +408,8 @@ def drawn(side):
 
 
 def drawn_rows(content, height, scale):
-    """Where a symbol stands that is drawn in a PDF as rectangles, and its grid: [left, top, module, rows], in millimetres
-    from the upper left corner of a page of this height."""
+    """Where a symbol stands that is drawn in a PDF as rectangles, and its grid: [left, top, module, rows], in
+    millimetres from the upper left corner of a page of this height."""
     numbers = [
         [float(number) * scale for number in line.split()[:4]] for line in content.split("\n") if line.endswith(" re")
     ]

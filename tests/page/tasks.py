@@ -2,8 +2,29 @@
 stands, what GS1 data looks like, and that only where one learns a symbol is damaged."""
 from tests.page.conduct import linked, started, verdict
 from tests.page.history import afresh, fields
-from tests.page.stage import (acting, agree, changed, click, count, find, grid, learn, offset, on, push, put, run, settle,
-                              shown, task, text_of, unfold, usable, write, written)
+from tests.page.stage import (
+    acting,
+    agree,
+    changed,
+    click,
+    count,
+    find,
+    grid,
+    learn,
+    offset,
+    on,
+    push,
+    put,
+    run,
+    settle,
+    shown,
+    task,
+    text_of,
+    unfold,
+    usable,
+    write,
+    written,
+)
 
 ELEMENTS = "(01)09506000134352(17)271231(10)AB-42"
 LINE = "\\F010950600013435217271231" + "10AB-42"
@@ -42,10 +63,14 @@ def tasks_are_linked():
         linked()
         put("message", f"at {name}")
         go(f"#{name}")
-        count.expect(f"#{name} within the page", (seen_panes(), find("message").get_attribute("value")),
-                     ([name], f"at {name}"))
-        count.expect(f"#{name} is what the address says", (on.page.current_url.partition("#")[2].split("&")[0],
-                                                           fields().get("message")), (name, f"at {name}"))
+        count.expect(
+            f"#{name} within the page", (seen_panes(), find("message").get_attribute("value")), ([name], f"at {name}")
+        )
+        count.expect(
+            f"#{name} is what the address says",
+            (on.page.current_url.partition("#")[2].split("&")[0], fields().get("message")),
+            (name, f"at {name}"),
+        )
         selected = run("return [...document.querySelectorAll('[role=tab]')].map((it) => it.ariaSelected)")
         count.expect(f"#{name}: its tab", selected, [str(each == name).lower() for each in ("read", "make", "learn")])
 
@@ -57,20 +82,26 @@ def earlier_links():
     linked()
     letters = fields()["grid"]
     for fragment, name, says, turned in (
-        ("message=old", "make", "old", []), ("message=old&damage=5", "learn", "old", [5]),
+        ("message=old", "make", "old", []),
+        ("message=old&damage=5", "learn", "old", [5]),
         ("message=old&border=3", "learn", "old", []),
         (f"message=old&grid={letters}&pane=read", "read", "Every answer is proved.", []),
         (f"message=old&grid={letters}&grid-damage=3.4&pane=read", "learn", "Every answer is proved.", [3, 8]),
         (f"message=old&damage=5&grid={letters}&pane=read", "read", "Every answer is proved.", []),
     ):
         go(f"#{fragment}")
-        damage = run("const { modules, original } = mitsubadoor.mark;"
-                     "return [...modules.keys()].filter((k) => modules[k] !== original[k])")
+        damage = run(
+            "const { modules, original } = mitsubadoor.mark;"
+            "return [...modules.keys()].filter((k) => modules[k] !== original[k])"
+        )
         count.expect(fragment.replace(letters, "..."), (seen_panes(), shown()["says"], damage), ([name], says, turned))
     for side in (105, 120, 999):
         go(f"#read&grid={side}{'A' * -(-side * side // 6)}")
-        count.expect(f"a grid of side {side}", (find("grid").get_attribute("value"), verdict()),
-                     ("", ("Nothing is entered yet", "")))
+        count.expect(
+            f"a grid of side {side}",
+            (find("grid").get_attribute("value"), verdict()),
+            ("", ("Nothing is entered yet", "")),
+        )
     push("tab-make")
     write("123456")
 
@@ -84,8 +115,11 @@ def text_and_gs1():
     settle()
     count.expect("text", (grid(), find("kind-text").is_selected()), (written(spelled_bytes(TEXT)), True))
     agree("text, as it is read")
-    count.expect("text is said", (shown()["says"], f"In UTF-8 it is \u201c{TEXT}\u201d." in shown()["why"]),
-                 (spelled_bytes(TEXT), True))
+    count.expect(
+        "text is said",
+        (shown()["says"], f"In UTF-8 it is \u201c{TEXT}\u201d." in shown()["why"]),
+        (spelled_bytes(TEXT), True),
+    )
     push("copy-message")
     linked()
     count.expect("text in the link", (fields()["message"], fields()["as"]), (TEXT, "text"))
@@ -93,15 +127,20 @@ def text_and_gs1():
     started()
     count.expect("text after a reload", (grid(), find("kind-text").is_selected()), (written(spelled_bytes(TEXT)), True))
     put("message", "a\\b (01) \\F\n2")
-    count.expect("nothing is spelled in text", (shown()["says"], text_of("message-hint")), ("a\\\\b (01) \\\\F\\x0A2", ""))
+    count.expect(
+        "nothing is spelled in text", (shown()["says"], text_of("message-hint")), ("a\\\\b (01) \\\\F\\x0A2", "")
+    )
     put("message", "~" * 20001)
-    count.expect("too much text", (verdict(), "20,001 characters" in text_of("message-hint")),
-                 (("Nothing is read", ""), True))
+    count.expect(
+        "too much text", (verdict(), "20,001 characters" in text_of("message-hint")), (("Nothing is read", ""), True)
+    )
     run(COLLECT)
     find("pane-make").find_element("css selector", "[data-message^='(01)']").click()
     settle()
     agree("GS1 data, as it is read")
-    count.expect("GS1 data", (grid(), shown()["says"], find("kind-message").is_selected()), (written(LINE), ELEMENTS, True))
+    count.expect(
+        "GS1 data", (grid(), shown()["says"], find("kind-message").is_selected()), (written(LINE), ELEMENTS, True)
+    )
     push("copy-message", "print")
     for name in ("read", "make", "learn"):
         push(f"tab-{name}")
@@ -117,8 +156,20 @@ def text_and_gs1():
     settle()
     count.expect("taken as text", (grid(), shown()["state"]), (written("caf\\xC3\\xA9"), "Read"))
     run("delete navigator.clipboard.writeText")
-    for line in ("\\F01095060001343521" + "0AB\\F", "\\F0512", "\\F10A\\F\\F21B", "\\F10A\\x1D21B", "\\F10A(B)", "\\F10\\\\(",
-                 "\\F", "\\FAB\\x1D", "A\\FB", "\\F9112\\F", "\\F91\\x80", "(01)5\\F"):
+    for line in (
+        "\\F01095060001343521" + "0AB\\F",
+        "\\F0512",
+        "\\F10A\\F\\F21B",
+        "\\F10A\\x1D21B",
+        "\\F10A(B)",
+        "\\F10\\\\(",
+        "\\F",
+        "\\FAB\\x1D",
+        "A\\FB",
+        "\\F9112\\F",
+        "\\F91\\x80",
+        "(01)5\\F",
+    ):
         write(line if not line.startswith("(") else "\\x28" + line[1:])
         agree(f"{line} as it is shown")
     write("123456")
@@ -136,8 +187,9 @@ def damaged_only_where_one_learns():
         on.page.switch_to.active_element.send_keys(" ")
         settle()
         symbol = find("symbol")
-        count.expect(f"{name}: a click and a key", (grid(), usable("undo"), symbol.get_attribute("role")),
-                     (clean, False, "img"))
+        count.expect(
+            f"{name}: a click and a key", (grid(), usable("undo"), symbol.get_attribute("role")), (clean, False, "img")
+        )
         count.expect(f"{name}: no buttons for damage", find("to-limit").is_displayed(), False)
     learn()
     where = lambda: [run("return mitsubadoor.store.pane"), find("learn-read").is_selected()]
@@ -151,7 +203,9 @@ def damaged_only_where_one_learns():
         find(name).click()
         settle()
         count.expect(f"{name} keeps its damage", changed(clean, grid()), [module])
-    top, bottom = run("""return ['to-limit', 'easel'].map((id) => document.getElementById(id).getBoundingClientRect().top)""")
+    top, bottom = run(
+        """return ['to-limit', 'easel'].map((id) => document.getElementById(id).getBoundingClientRect().top)"""
+    )
     count.expect("damage is above the symbol", top < bottom, True)
     push("undo-all", "learn-read", "undo-all", "tab-make")
 

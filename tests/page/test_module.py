@@ -1,5 +1,5 @@
-"""The page's library, lowered to 32-bit memory, in Node.js: each of the calls that tests/library/hostile.c makes, against
-what the library for C answers."""
+"""The page's library, lowered to 32-bit memory, in Node.js: each of the calls that tests/library/hostile.c makes,
+against what the library for C answers."""
 import os
 import re
 import shutil

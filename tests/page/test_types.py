@@ -1,5 +1,5 @@
-"""The page's modules have the types that their comments say, as TypeScript's checker sees them: what is called is there,
-and is given what it takes. ESLint isn't asked: what it would say of unused names, this does too."""
+"""The page's modules have the types that their comments say, as TypeScript's checker sees them: what is called is
+there, and is given what it takes. ESLint isn't asked: what it would say of unused names, this does too."""
 import pathlib
 import shutil
 
@@ -10,7 +10,7 @@ HERE, WEB = pathlib.Path(places.path("tests", "page")), pathlib.Path(places.path
 # Each a module, a text of it, and what stands there instead in a copy that has to be refused.
 WRONG = [
     ("flow.mjs", "it.limit = limit;", "it.limits = limit;"),
-    ("link.mjs", "fromLetters(fields.get(\"grid\") ?? \"\")", "fromLetters(7)"),
+    ("link.mjs", 'fromLetters(fields.get("grid") ?? "")', "fromLetters(7)"),
     ("order.mjs", "it.changed = own;", "it.changed = 'own';"),
     ("gs1.mjs", "name: entry.name, items: value", "name: entry.title, items: value"),
 ]

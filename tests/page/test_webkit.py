@@ -1,5 +1,5 @@
-"""The page in WebKit, the engine of Safari, against the program: it opens, writes, reads, corrects and refuses. What is on
-the screen isn't compared, since the driver's pictures of a part of it are black in places."""
+"""The page in WebKit, the engine of Safari, against the program: it opens, writes, reads, corrects and refuses. What is
+on the screen isn't compared, since the driver's pictures of a part of it are black in places."""
 import pathlib
 import random
 import subprocess
@@ -26,9 +26,13 @@ class WebKit(Case):
             raise AssertionError(problem)
         on.program, on.folder = places.PROGRAM, pathlib.Path(cls.folder_of_class())
         cls.addClassCleanup(browser.end)
-        screen = cls.enterClassContext(commands.started(
-            ["Xvfb", "-displayfd", "1", "-screen", "0", "1240x1500x24", "-nolisten", "tcp"],
-            stdout=subprocess.PIPE, stderr=subprocess.DEVNULL))
+        screen = cls.enterClassContext(
+            commands.started(
+                ["Xvfb", "-displayfd", "1", "-screen", "0", "1240x1500x24", "-nolisten", "tcp"],
+                stdout=subprocess.PIPE,
+                stderr=subprocess.DEVNULL,
+            )
+        )
         browser.start_webkit(f":{screen.stdout.readline().decode().strip()}")
 
     def setUp(self):
@@ -51,7 +55,7 @@ class WebKit(Case):
         sound = written(MESSAGES[0]).replace("\n", "")
         for name, modules in DAMAGE.items():
             turned = "".join(str(int(module) ^ (k in modules)) for k, module in enumerate(sound))
-            text = "\n".join(turned[k:k + 10] for k in range(0, 100, 10))
+            text = "\n".join(turned[k : k + 10] for k in range(0, 100, 10))
             put("grid", text)
             count.expect(name, grid(), text)
             agree(f"{name}, as it is read")
@@ -66,8 +70,14 @@ class WebKit(Case):
         self.told()
 
     def test_parts_that_need_nothing_of_chromium(self):
-        for part in (damage.by_keys, damage.fixed_square, conduct.a_picture_does_not_win, tasks.tasks_are_linked,
-                     tasks.earlier_links, tasks.text_and_gs1):
+        for part in (
+            damage.by_keys,
+            damage.fixed_square,
+            conduct.a_picture_does_not_win,
+            tasks.tasks_are_linked,
+            tasks.earlier_links,
+            tasks.text_and_gs1,
+        ):
             random.seed(1)
             load(PAGE)
             part()
