@@ -154,7 +154,8 @@ def torn(look, chance):
 # ---- what it stands on, and how it is taken
 
 def rolled(ink, chance):
-    """The ink as it stands on a cylinder, whose middle is nearest, as seen from so many radii and somewhat from above."""
+    """The ink as it stands on a cylinder, whose middle is nearest, as seen from so many radii and somewhat from
+    above."""
     side = ink.shape[0]
     reach, away, tilt = math.radians(chance.uniform(25, 40)), chance.uniform(5, 12), chance.uniform(-0.25, 0.25)
     angles = numpy.linspace(-1.25 * reach, 1.25 * reach, 400)
