@@ -19,7 +19,8 @@ import javax.imageio.ImageIO;
 
 /**
  * Reads the first Data Matrix symbol in each picture whose path comes on standard input, trying hard, and prints for
- * each a line: the nanoseconds of this thread's processor time, and then, if there is a symbol, a space and its message.
+ * each a line: the nanoseconds of this thread's processor time, and then, if there is a symbol, a space and its
+ * message.
  */
 public final class ZxingFinds {
     private ZxingFinds() {}
