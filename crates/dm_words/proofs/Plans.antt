@@ -1,5 +1,5 @@
 -- The plan and the cost that the loop finds are those of the definition.
-use Rattle.std.proofs.Common.{◌≡◌, ℕ, suc, ◌+◌, ◌-◌, ◌*◌, ◌<◌, ◌≤◌, List, [], ◌∷◌, length, drop, get_or, refl, sym, ap, subst, ◌∙◌, arith, Bool, true, false, cond, ltb, inl, inr}
+use Rattle.std.proofs.Common.{◌≡◌, ℕ, zero, suc, ◌+◌, ◌-◌, ◌*◌, ◌<◌, ◌≤◌, List, [], ◌∷◌, length, drop, get_or, refl, sym, ap, subst, ◌∙◌, arith, Bool, true, false, cond, ltb, inl, inr}
 use Rattle.std.specs.Prelude.{nat_le}
 use Prim.Native.Nat.{min}
 use Rattle.std.proofs.lemmas.Bool.{cases_lt}
@@ -10,12 +10,16 @@ use Rattle.std.proofs.Math.Seq.{drop-cons}
 use Rattle.dm_words.specs.declared.extent.Extent.{Extent}
 use Rattle.dm_words.specs.declared.item.Item.{Item}
 use Rattle.dm_words.specs.declared.item.Item.TheVariants.{Byte, Fnc1}
+use Rattle.dm_words.specs.declared.c40.set.CodeSet.{CodeSet}
+use Rattle.dm_words.specs.declared.c40.set.CodeSet.TheVariants.{C40, Text, X12}
+use Rattle.dm_words.specs.declared.smallest.row.Pairs.{Pairs}
+use Rattle.dm_words.specs.declared.smallest.row.Groups.{Groups}
 use Rattle.dm_words.specs.declared.smallest.row.Going.{Going}
 use Rattle.dm_words.specs.declared.smallest.row.Row.{Row}
 use Rattle.dm_words.specs.declared.smallest.plan.Begin.{Begin}
 use Rattle.dm_words.specs.declared.smallest.plan.Begin.TheVariants.{One}
 use Rattle.dm_words.specs.declared.smallest.plan.Step.{Step}
-use Rattle.dm_words.specs.inner.Costs.{never, least, cost_of, going_over, with_ascii, none_going, row, parts_cost, pair_first, IsWithin, IsRightStep, step_of}
+use Rattle.dm_words.specs.inner.Costs.{never, is_basic, low_values, shift_values, set_values, has_edifact, stay, stay_edifact, ArePaid, ArePaidGroups, least, cost_of, going_over, with_ascii, none_going, row, parts_cost, pair_first, IsWithin, IsRightStep, step_of}
 use Rattle.dm_words.proofs.CostsMet.{least_is}
 use Rattle.dm_words.proofs.SpellingCounts.{unit_few}
 
@@ -25,6 +29,44 @@ or_right f old new chosen n k cost is_old is_new least taken = by_test (ltb k n)
   by_test : (t : Bool) → ltb k n ≡ t → f chosen ≡ cost
   by_test true e = let lt : k < n = grind (arith, nat_tests) in let c : chosen ≡ new = taken ∙ (rw e refl) in ap f c ∙ sym is_new ∙ (omega (arith, least, lt))
   by_test false e = let le : n ≤ k = grind (arith, nat_tests) in let c : chosen ≡ old = taken ∙ (rw e refl) in ap f c ∙ is_old ∙ (omega (arith, least, le))
+
+-- A byte below 128 has at most two values in a set that has shifts.
+low_few : (set : CodeSet) (b : ℕ) → low_values set b ≤ 2
+low_few set b = by_test (is_basic set b) where
+  by_test : (t : Bool) → cond t 1 2 ≤ 2
+  by_test true = omega arith
+  by_test false = omega arith
+
+-- An item has at most four there.
+shifts_few : (set : CodeSet) (x : Item) → shift_values set x ≤ 4
+shifts_few set Fnc1 = omega arith
+shifts_few set (Byte b) = by_test (ltb b 128) where
+  by_test : (t : Bool) → cond t (low_values set b) (2 + low_values set (b - 128)) ≤ 4
+  by_test true = omega (arith, low_few set b)
+  by_test false = omega (arith, low_few set (b - 128))
+
+-- An item has at most four values.
+values_few : (set : CodeSet) (x : Item) → set_values set x ≤ 4
+values_few C40 x = shifts_few C40 x
+values_few Text x = shifts_few Text x
+values_few X12 Fnc1 = omega arith
+values_few X12 (Byte b) = by_test (is_basic X12 b) where
+  by_test : (t : Bool) → cond t 1 0 ≤ 4
+  by_test true = omega arith
+  by_test false = omega arith
+
+-- Costs of a run grow by at most four over an item.
+stay_paid : (count most : ℕ) (next : Pairs) → count ≤ 4 → ArePaid most next → never ≤ most → ArePaid (most + 4) (stay count next)
+stay_paid zero most next few h big = (omega (arith, big), omega (arith, big), omega (arith, big))
+stay_paid (suc zero) most next few h big = (omega (arith, h.1), omega (arith, h.2), omega (arith, h.0))
+stay_paid (suc (suc zero)) most next few h big = (omega (arith, h.2), omega (arith, h.0), omega (arith, h.1))
+stay_paid (suc (suc (suc zero))) most next few h big = (omega (arith, h.0), omega (arith, h.1), omega (arith, h.2))
+stay_paid (suc (suc (suc (suc zero)))) most next few h big = (omega (arith, h.1), omega (arith, h.2), omega (arith, h.0))
+stay_paid (suc (suc (suc (suc (suc n))))) most next few h big = absurd (omega (arith, few))
+
+stay_edifact_paid : (has : Bool) (most : ℕ) (next : Groups) → ArePaidGroups most next → never ≤ most → ArePaidGroups (most + 4) (stay_edifact has next)
+stay_edifact_paid true most next h big = (omega (arith, h.1), omega (arith, h.2), omega (arith, h.3), omega (arith, h.0))
+stay_edifact_paid false most next h big = (omega (arith, big), omega (arith, big), omega (arith, big), omega (arith, big))
 
 -- No cost is too great.
 pub row_within : (extent : Extent) (m : List Item) → length m ≤ 2000 → IsWithin (length m) (row extent m)
@@ -45,13 +87,18 @@ row_within extent (x ∷ m) few =
     let a : parts_cost extent (x ∷ m) ≤ 2 * length (x ∷ m) = omega (arith, least_is extent x m One, unit_few x, h.ascii) in
     let l = leaves (parts_cost extent (x ∷ m)) in
     let s = in_segment x h in
+    let most = never + 4 * length m in
+    let c = stay_paid (set_values C40 x) most (row extent m).c40 (values_few C40 x) h.c40 (omega arith) in
+    let t = stay_paid (set_values Text x) most (row extent m).text (values_few Text x) h.text (omega arith) in
+    let y = stay_paid (set_values X12 x) most (row extent m).x12 (values_few X12 x) h.x12 (omega arith) in
+    let e = stay_edifact_paid (has_edifact extent x) most (row extent m).edifact h.edifact (omega arith) in
     record {
       ascii = a;
       second = omega (arith, h.ascii, few);
-      c40 = (omega (arith, a, few, l), omega arith, omega arith);
-      text = (omega (arith, a, few, l), omega arith, omega arith);
-      x12 = (omega (arith, a, few, l), omega arith, omega arith);
-      edifact = (omega (arith, a, few, l), omega arith, omega arith, omega (arith, a, few));
+      c40 = (omega (arith, a, few, l), omega (arith, c.1), omega (arith, c.2));
+      text = (omega (arith, a, few, l), omega (arith, t.1), omega (arith, t.2));
+      x12 = (omega (arith, a, few, l), omega (arith, y.1), omega (arith, y.2));
+      edifact = (omega (arith, a, few, l), omega (arith, e.1), omega (arith, e.2), omega (arith, a, few));
       bytes = s.0;
       near = s.1;
       rest = s.2;
@@ -63,9 +110,10 @@ row_within extent (x ∷ m) few =
         by_test false = omega arith
 
       in_segment : (x : Item) → IsWithin (length m) (row extent m)
-          → ((going_over extent x (row extent m)).segment.bytes ≤ never) × ((going_over extent x (row extent m)).segment.near ≤ length (x ∷ m)) × ((going_over extent x (row extent m)).segment.rest ≤ never)
+          → ((going_over extent x (row extent m)).segment.bytes ≤ never) × ((going_over extent x (row extent m)).segment.near ≤ length (x ∷ m))
+          × ((going_over extent x (row extent m)).segment.rest ≤ never + 4 * length (x ∷ m))
       in_segment Fnc1 h = (omega arith, omega arith, omega arith)
-      in_segment (Byte b) h = (omega (arith, h.ascii, few), by_test (nat_le (row extent m).ascii (row extent m).segment.bytes), omega arith) where
+      in_segment (Byte b) h = (omega (arith, h.ascii, few), by_test (nat_le (row extent m).ascii (row extent m).segment.bytes), omega (arith, h.rest)) where
         by_test : (t : Bool) → cond t 1 (1 + (row extent m).segment.near) ≤ suc (length m)
         by_test true = omega arith
         by_test false = omega (arith, h.near)
@@ -74,16 +122,17 @@ row_within extent (x ∷ m) few =
 pub within : (extent : Extent) (m : List Item) (at : ℕ) (r : Row) → length m ≤ 1639 → r ≡ row extent (drop at m) → length (drop at m) ≤ length m → IsWithin 2000 r
 within extent m at r few is shorter =
     let h = row_within extent (drop at m) (omega (arith, few, shorter)) in
+    let n : length (drop at m) ≤ 2000 = omega (arith, few, shorter) in
     let w : IsWithin 2000 (row extent (drop at m)) = record {
-      ascii = omega (arith, h.ascii, few, shorter);
+      ascii = omega (arith, h.ascii, n);
       second = h.second;
-      c40 = h.c40;
-      text = h.text;
-      x12 = h.x12;
-      edifact = h.edifact;
+      c40 = (omega (arith, h.c40.0, n), omega (arith, h.c40.1, n), omega (arith, h.c40.2, n));
+      text = (omega (arith, h.text.0, n), omega (arith, h.text.1, n), omega (arith, h.text.2, n));
+      x12 = (omega (arith, h.x12.0, n), omega (arith, h.x12.1, n), omega (arith, h.x12.2, n));
+      edifact = (omega (arith, h.edifact.0, n), omega (arith, h.edifact.1, n), omega (arith, h.edifact.2, n), omega (arith, h.edifact.3, n));
       bytes = h.bytes;
-      near = omega (arith, h.near, few, shorter);
-      rest = h.rest;
+      near = omega (arith, h.near, n);
+      rest = omega (arith, h.rest, n);
     } in
     subst (IsWithin 2000) (sym is) w
 

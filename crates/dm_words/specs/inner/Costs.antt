@@ -19,7 +19,7 @@ use Rattle.dm_words.specs.declared.smallest.plan.Begin.TheVariants.{One, Two, Ru
 use Rattle.dm_words.specs.declared.smallest.plan.Step.{Step}
 use Rattle.dm_words.specs.Ascii.{is_digit}
 
--- More than any cost.
+-- More than any cost. What can't be written costs this much, or more.
 abbrev pub never : ℕ
 never = 16384
 
@@ -81,7 +81,7 @@ leave limit cost = if nat_le cost limit then cost else 1 + cost
 
 -- The costs of a run, from those where it goes on and the cost of what follows in ASCII. It ends between pairs alone.
 abbrev pub or_leave : ℕ → Pairs → Pairs
-or_leave cost going = record { none = min (leave 1 cost) going.none; one = min never going.one; two = min never going.two }
+or_leave cost going = record { none = min (leave 1 cost) going.none; one = going.one; two = going.two }
 
 -- ---- EDIFACT
 
@@ -118,8 +118,8 @@ stay_edifact has next = if has then byte_before next else no_groups
 abbrev pub or_leave_edifact : ℕ → Groups → Groups
 or_leave_edifact cost going = record {
   none = min (leave 2 cost) going.none;
-  one = min never going.one;
-  two = min never going.two;
+  one = going.one;
+  two = going.two;
   three = min cost going.three;
 }
 
@@ -150,7 +150,7 @@ segment_before Fnc1 next = record { bytes = never; near = 0; rest = never }
 segment_before (Byte byte) next = record {
   bytes = 1 + min next.ascii next.segment.bytes;
   near = if nat_le next.ascii next.segment.bytes then 1 else 1 + next.segment.near;
-  rest = min never (1 + next.segment.rest);
+  rest = 1 + next.segment.rest;
 }
 
 -- The costs where runs and segments go on over an item.
@@ -255,24 +255,24 @@ IsRightPlan extent items plan = (i : ℕ) (other : Step) → i ≤ length items 
 
 -- Where runs go on, no cost is too great.
 pub record AreSmall (going : Going) : Type 0 where
-  pub c40 : ArePaid 17000 going.c40
-  pub text : ArePaid 17000 going.text
-  pub x12 : ArePaid 17000 going.x12
-  pub edifact : ArePaidGroups 17000 going.edifact
+  pub c40 : ArePaid 25000 going.c40
+  pub text : ArePaid 25000 going.text
+  pub x12 : ArePaid 25000 going.x12
+  pub edifact : ArePaidGroups 25000 going.edifact
   pub bytes : going.segment.bytes ≤ 17000
-  pub rest : going.segment.rest ≤ 17000
+  pub rest : going.segment.rest ≤ 25000
 
--- No cost of a row is too great.
+-- No cost of a row is too great: over an item, what can't be grows by at most four values.
 pub record IsWithin (most : ℕ) (r : Row) : Type 0 where
   pub ascii : r.ascii ≤ 2 * most
   pub second : r.second ≤ never
-  pub c40 : ArePaid never r.c40
-  pub text : ArePaid never r.text
-  pub x12 : ArePaid never r.x12
-  pub edifact : ArePaidGroups never r.edifact
+  pub c40 : ArePaid (never + 4 * most) r.c40
+  pub text : ArePaid (never + 4 * most) r.text
+  pub x12 : ArePaid (never + 4 * most) r.x12
+  pub edifact : ArePaidGroups (never + 4 * most) r.edifact
   pub bytes : r.segment.bytes ≤ never
   pub near : r.segment.near ≤ most
-  pub rest : r.segment.rest ≤ never
+  pub rest : r.segment.rest ≤ never + 4 * most
 
 -- A run of a set goes on so.
 abbrev pub going_pairs : CodeSet → Going → Pairs

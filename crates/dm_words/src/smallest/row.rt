@@ -7,7 +7,7 @@ use crate::c40::set::CodeSet;
 use crate::extent::Extent;
 use crate::item::Item;
 
-/// More than any cost.
+/// More than any cost. What can't be written costs this much, or more.
 pub const NEVER: u16 = 16384;
 
 /// In a run of C40, Text or X12: the cost where this many values of a pair stand already and are paid.
@@ -123,7 +123,7 @@ pub(crate) fn set_values(set: CodeSet, item: Item) -> u8
 
 /// Gives the costs before one more value, from those behind it.
 fn value_before(next: Pairs) -> Pairs
-    requires { ArePaid 20000 next }
+    requires { ArePaid 30000 next }
     ensures before { result ≡ value_before next }
     ensures paid { (most : ℕ) → ArePaid most next → ArePaid (most + 2) result }
 {
@@ -137,9 +137,9 @@ fn value_before(next: Pairs) -> Pairs
 /// Gives the costs of a run that goes on over an item, from the number of its values.
 fn stay(count: u8, next: Pairs) -> Pairs
     requires few { count ≤ 4 }
-    requires paid { ArePaid 16384 next }
+    requires paid { ArePaid 24384 next }
     ensures going { result ≡ stay count next }
-    ensures paid { ArePaid 17000 result }
+    ensures paid { ArePaid 25000 result }
 {
     match count {
         0 => Pairs {
@@ -169,8 +169,8 @@ fn or_leave(cost: u16, going: Pairs) -> Pairs
 {
     Pairs {
         none: leave(1, cost).min(going.none),
-        one: NEVER.min(going.one),
-        two: NEVER.min(going.two),
+        one: going.one,
+        two: going.two,
     }
 }
 
@@ -186,9 +186,9 @@ fn has_edifact(extent: Extent, item: Item) -> bool
 
 /// Gives the costs of a run of EDIFACT that goes on over an item.
 fn stay_edifact(has: bool, next: Groups) -> Groups
-    requires { ArePaidGroups 16384 next }
+    requires { ArePaidGroups 24384 next }
     ensures going { result ≡ stay_edifact has next }
-    ensures paid { ArePaidGroups 17000 result }
+    ensures paid { ArePaidGroups 25000 result }
 {
     if has {
         Groups {
@@ -214,8 +214,8 @@ fn or_leave_edifact(cost: u16, going: Groups) -> Groups
 {
     Groups {
         none: leave(2, cost).min(going.none),
-        one: NEVER.min(going.one),
-        two: NEVER.min(going.two),
+        one: going.one,
+        two: going.two,
         three: cost.min(going.three),
     }
 }
@@ -236,10 +236,10 @@ fn segment_before(item: Item, next: &Row) -> Bytes
     requires ascii { next.now.ascii ≤ 16384 }
     requires bytes { next.now.segment.bytes ≤ 16384 }
     requires near { next.now.segment.near ≤ 16384 }
-    requires rest { next.now.segment.rest ≤ 16384 }
+    requires rest { next.now.segment.rest ≤ 24384 }
     ensures going { result ≡ segment_before item next.now }
     ensures bytes { result.bytes ≤ 17000 }
-    ensures rest { result.rest ≤ 17000 }
+    ensures rest { result.rest ≤ 25000 }
 {
     match item {
         Item::Fnc1 => Bytes {
@@ -254,7 +254,7 @@ fn segment_before(item: Item, next: &Row) -> Bytes
             } else {
                 1 + next.segment.near
             },
-            rest: NEVER.min(1 + next.segment.rest),
+            rest: 1 + next.segment.rest,
         },
     }
 }
