@@ -179,6 +179,7 @@ export function wirePrinting() {
   addEventListener("afterprint", () => { isSheet = false; });
   $("print").addEventListener("click", giving(printOne));
   $("print-sheet").addEventListener("click", printSheet);
+  $("stock").addEventListener("change", () => { $("own-size").hidden = $("stock").value !== "own"; });
   $("many-pdf").addEventListener("click", savePdf);
   $("many-png").addEventListener("click", zipping("png", pngOf));
   $("many-svg").addEventListener("click", zipping("svg", (modules) => new TextEncoder().encode(svgOf(modules))));

@@ -113,7 +113,8 @@ def on_labels():
         places = [centred(labels[k % len(labels)], text.index("\n"), 0.4, True) for k, text in enumerate(wanted)]
         count.expect(f"{name}: places", [[round(x, 2), round(y, 2)] for x, y, _, _ in symbols], places)
         count.expect(f"{name}: texts", [text for *_, texts in pages for text in texts], messages)
-        count.expect(f"{name}: what is said", text_of("sheet-hint"), f"{len(messages)} symbols are in the PDF.")
+        said = (text_of("sheet-hint"), find("own-size").is_displayed())
+        count.expect(f"{name}: what is said", said, (f"{len(messages)} symbols are in the PDF.", name == "own"))
 
 
 def labels_printed():
