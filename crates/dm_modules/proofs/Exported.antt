@@ -13,3 +13,12 @@ pub use Rattle.dm_modules.proofs.NoFaults.{IsBordered, bordered_of_no_faults, no
 pub use Rattle.dm_modules.proofs.SymbolLines.{mapping_line-symbol_line, off_border, off_edge, region_below, row_inside}
 pub use Rattle.dm_modules.proofs.SymbolLines.{symbol_line-form, symbol_line-mod, symbol_line-one}
 pub use Rattle.dm_modules.proofs.TableEntries.{at_found, found_passes, greatest_of}
+-- What the crates above cite of the proofs of this one: facts of its definitions.
+pub use Rattle.dm_modules.proofs.BlockLemmas.{data_of_block, length_of_block, place_inside, same_by_blocks}
+pub use Rattle.dm_modules.proofs.BlockLemmas.{same_data_by_blocks, word_of_block}
+pub use Rattle.dm_modules.proofs.BlockPlaces.{length-block_of}
+pub use Rattle.dm_modules.proofs.DealtWords.{blocks_make_words}
+pub use Rattle.dm_modules.proofs.FaultCounts.{count_more, sum_more}
+pub use Rattle.dm_modules.proofs.LaidModules.{one_held, one_laid, some_held, some_laid}
+pub use Rattle.dm_modules.proofs.SmallestSize.{enough}
+pub use Rattle.dm_modules.proofs.TableEntries.{at_found, block_parts, placed_size, short_block, size_facts, some_block_data}

@@ -14,4 +14,9 @@ mod ReadSteps
 mod Choosing
 mod CompletedWords
 mod EachGrid
+mod SymbolBelow
+mod SymbolDoubt
+mod SymbolSteps
+mod SymbolReadings
+mod SymbolReadSteps
 pub mod Exported

@@ -4,6 +4,13 @@ pub mod Reading
 pub mod Normal
 pub mod Inspection
 pub mod Laws
+pub mod Doubt
+pub mod SymbolBlocks
+pub mod SymbolReading
+pub mod NormalSymbol
+pub mod SymbolNormal
+pub mod SymbolInspection
+pub mod inner
 -- Modules of the layers below, which crates above this one find under its name too: `Rattle.dm_symbol.specs.Grid` is dm_layout/specs/Grid.antt.
 pub use Rattle.dm_layout.specs.Sizes
 pub use Rattle.dm_layout.specs.Grid

@@ -49,7 +49,7 @@ fn is_only_codeword(words: &Words) -> bool
 }
 
 /// Whether a word is a codeword with k check codewords: the last k are the check codewords of those before them.
-fn is_codeword(word: &[u8], k: usize) -> bool
+pub(crate) fn is_codeword(word: &[u8], k: usize) -> bool
     requires some { 1 ≤ k }
     requires most { k ≤ MOST_CHECKS }
     requires whole { k ≤ length word.now }

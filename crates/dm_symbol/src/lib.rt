@@ -19,11 +19,17 @@
 //! There are no calls that write into a target under the ASCII profile alone, so `write_to` and `normal_to` take the profile. [`usual_limit()`] is the number of wrong border modules that is
 //! usually accepted.
 //!
+//! These calls are for squares of 10 to 104 rows. Symbols of every size, squares and rectangles, are [`Modules`] of a
+//! [`SymbolSize`]. [`read_symbol_to()`] leaves what they say in a [`SymbolReading`], with a [`BlockReading`] for each
+//! block; how they are read is said by [`ReadOptions`], among these which of their modules are doubtful.
+//! [`inspect_symbol_to()`] leaves their codewords, before and after they are restored, in a [`SymbolInspection`].
+//!
 //! The types of the layers below are given on: [`Grid`] with [`GridFault`], [`Size`] with its [`table()`] of [`SIZE_COUNT`], [`Words`], and the limits
 //! [`LARGEST_SIDE`] and [`MOST_BLOCKS`]; [`Message`] of [`Item`]s, [`WordFault`], and the limits [`MOST_ITEMS`] and [`MESSAGE_ROOM`].
 //!
 //! What the contracts say is defined in `specs/`: `Blocks`, `NormalGrid`, `Reading`, `Normal` and `Inspection`; `Laws` has the laws of
-//! these definitions, which the functions of [`laws`] prove. No call allocates memory.
+//! these definitions, which the functions of [`laws`] prove. For symbols of every size it is in `Doubt`, `SymbolBlocks`,
+//! `SymbolReading`, `NormalSymbol`, `SymbolNormal` and `SymbolInspection`. No call allocates memory.
 #![tactic(auto)]
 
 mod correction;
@@ -32,9 +38,11 @@ pub mod laws;
 mod limit;
 mod normalising;
 mod reading;
+mod symbol;
 mod writing;
 
 pub use dm_layout::{Grid, GridFault, LARGEST_SIDE, MOST_BLOCKS, SIZE_COUNT, Size, Words, table};
+pub use dm_modules::{Modules, ModulesFault, SizeChoice, SymbolSize, SymbolWords};
 pub use dm_words::{Extent, Item, MESSAGE_ROOM, MOST_ITEMS, Message, Profile, TooLong, WordFault};
 pub use inspection::{Inspection, inspect};
 pub use limit::usual_limit;
@@ -42,4 +50,6 @@ pub use normalising::{
     NormalFault, normal, normal_as, normal_read_as, normal_read_as_to, normal_to,
 };
 pub use reading::{ReadFault, Reading, read, read_as, read_as_to, read_to};
+pub use symbol::inspection::{SymbolInspection, inspect_symbol_to};
+pub use symbol::reading::{BlockReading, ReadOptions, SymbolReading, read_symbol_to};
 pub use writing::{light_grid, write, write_as, write_to};

@@ -1,0 +1,136 @@
+-- What the layers below promise of symbols of any size, as the proofs here cite it.
+use Rattle.std.proofs.Common.{◌≡◌, ℕ, ◌+◌, ◌*◌, ◌/◌, ◌<◌, ◌≤◌, List, [], length, get_or, refl, sym, ap, subst, ◌∙◌}
+use Rattle.std.proofs.Common.{arith}
+use Rattle.std.specs.List.{All}
+use Rattle.std.proofs.lemmas.List.{ext_get_or}
+use Rattle.dm_code.specs.Codeword.{IsNear, distance}
+use Rattle.dm_code.specs.Erased.{IsNearBut, blank, distance_but}
+use Rattle.dm_code.proofs.Exported.{near_but_one, near_but_none, near_none_but}
+use Rattle.dm_modules.specs.Sizes.{SizeEntry, IsSize, share, codeword_count, block_data, block_check, block_length}
+use Rattle.dm_modules.specs.Blocks.{AreBlocks}
+use Rattle.dm_modules.specs.Holding.{Holds, IsLaid}
+use Rattle.dm_modules.specs.Modules.{ModulesView, IsModules}
+use Rattle.dm_modules.specs.Words.{WordsView, IsWords}
+use Rattle.dm_modules.proofs.Exported.{length_of_block, word_of_block}
+use Rattle.dm_modules.proofs.Exported.{blocks_make_words as blocks_make_words_of}
+use Rattle.dm_modules.proofs.Exported.{one_held, some_held, one_laid, some_laid}
+use Rattle.dm_modules.proofs.Exported.{size_facts, short_block, some_block_data, block_parts}
+use Rattle.dm_symbol.specs.SymbolBlocks.{words_with, AreOfSize, AreHeldBy, block_in}
+
+-- Place i of block b is place i * B + b of the symbol.
+pub block_places : (size : SizeEntry) (words : List ℕ) → AreOfSize size words → (b i : ℕ) → b < size.blocks
+    → i < block_length size b → get_or (block_in size words b) i 0 ≡ get_or words (i * size.blocks + b) 0
+block_places size words h b i hb hi = word_of_block (words_with size words) b i h hb hi
+
+-- A block has the length of its size.
+pub block_lengths : (size : SizeEntry) (words : List ℕ) → AreOfSize size words → (b : ℕ) → b < size.blocks
+    → length (block_in size words b) ≡ block_length size b
+block_lengths size words h b hb = length_of_block (words_with size words) b h hb
+
+-- A block is as long as a word can be, or shorter, and longer than its check codewords; of these there are 5 to 68.
+pub record BlockFacts (size : SizeEntry) (b : ℕ) : Type 0 where
+  pub short : block_length size b ≤ 255
+  pub some_data : block_check size < block_length size b
+  pub parts : block_data size b + block_check size ≡ block_length size b
+  pub some_checks : 5 ≤ block_check size
+  pub few_checks : block_check size ≤ 68
+
+-- Each block of a size has these numbers.
+pub block_facts : (size : SizeEntry) → IsSize size → (b : ℕ) → b < size.blocks → BlockFacts size b
+block_facts size h b hb =
+    let f = size_facts size h in
+    let parts = block_parts size h b hb in
+    record {
+      short = short_block size h b hb;
+      some_data = omega (arith, some_block_data size h b hb, parts);
+      parts = parts;
+      some_checks = f.some_checks;
+      few_checks = f.few_checks;
+    }
+
+-- The only block of a symbol is as long as all of its codewords.
+only_length : (size : SizeEntry) (b : ℕ) → size.blocks ≡ 1 → b < size.blocks → block_length size b ≡ codeword_count size
+only_length size b one hb =
+    let first : b ≡ 0 = omega (arith, one, hb) in
+    let all : share (codeword_count size) 1 b ≡ codeword_count size = omega (arith, first) in
+    ap (λ n. share (codeword_count size) n b) one ∙ all
+
+-- The only block of a symbol is all of its codewords.
+pub only_block : (size : SizeEntry) (words : List ℕ) → AreOfSize size words → size.blocks ≡ 1 → (b : ℕ)
+    → b < size.blocks → block_in size words b ≡ words
+only_block size words h one b hb =
+    let whole : block_length size b ≡ codeword_count size = only_length size b one hb in
+    let long : length (block_in size words b) ≡ length words =
+    omega (arith, block_lengths size words h b hb, whole, h.count) in
+    ext_get_or 0 (block_in size words b) words long (λ i hi.
+    let here : i * size.blocks + b ≡ i = omega (arith, ap (λ n. i * n) one, one, hb) in
+    block_places size words h b i hb (omega (arith, hi, long, whole, h.count)) ∙ ap (λ j. get_or words j 0) here)
+
+-- Where a symbol has one block, it has few codewords.
+pub only_short : (size : SizeEntry) (words : List ℕ) → AreOfSize size words → size.blocks ≡ 1
+    → (length words ≤ 255) × (block_check size < length words)
+only_short size words h one =
+    let hb : 0 < size.blocks = omega (arith, one) in
+    let f = block_facts size h.size 0 hb in
+    let whole = only_length size 0 one hb in
+    (omega (arith, f.short, whole, h.count), omega (arith, f.some_data, whole, h.count))
+
+-- Equal sizes have the same number of blocks.
+pub blocks_are : (s t : SizeEntry) → s ≡ t → s.blocks ≡ t.blocks
+blocks_are s t e = ap (λ r. r.blocks) e
+
+-- ---- near with no place erased
+
+-- What is near is near but for no place.
+pub near_plain : (k : ℕ) (word other : List ℕ) → IsNear k word other → IsNearBut k word [] other
+near_plain k word other h = near_none_but k word other h
+
+-- What is near but for no place is near.
+pub plain_near : (k : ℕ) (word other : List ℕ) → IsNearBut k word [] other → IsNear k word other
+plain_near k word other h = near_but_none k word other h
+
+-- But for no place, words differ at as many places as they do.
+pub distance_plain : (word other : List ℕ) → distance_but [] word other ≡ distance word other
+unfolding blank
+distance_plain word other = refl
+
+-- At most one codeword is near to a block but for places of it.
+pub near_but_is_one : (k : ℕ) (word places first second : List ℕ) → k < 255 → All (λ a. a < 256) word → k ≤ length word
+    → length word ≤ 255 → ((i : ℕ) → i < length places → get_or places i 0 < length word)
+    → IsNearBut k word places first → IsNearBut k word places second → first ≡ second
+near_but_is_one k word places first second small bytes room short within hf hs =
+    near_but_one k word places first second small bytes room short within hf hs
+
+-- ---- codewords and modules
+
+-- A symbol has codewords whose blocks are these.
+pub record HasBlocks (size : SizeEntry) (blocks : ℕ → List ℕ) : Type 0 where
+  pub list : List ℕ
+  pub of_size : AreOfSize size list
+  pub are : (b : ℕ) → b < size.blocks → block_in size list b ≡ blocks b
+
+-- There are codewords of a symbol with any blocks of the right lengths.
+pub blocks_make_words : (size : SizeEntry) (blocks : ℕ → List ℕ) → IsSize size → AreBlocks size blocks
+    → HasBlocks size blocks
+blocks_make_words size blocks entry are =
+    let made = blocks_make_words_of size blocks entry are in
+    record { list = made.0.list; of_size = subst (λ s. AreOfSize s made.0.list) made.2 made.1; are = made.3 }
+
+-- Modules hold some codewords.
+pub modules_hold : (modules : ModulesView) → IsModules modules → (words : List ℕ) × AreHeldBy modules words
+modules_hold modules h =
+    let made = some_held modules h in
+    (made.0.list, subst (λ x. Holds modules x) (ap (λ s. words_with s made.0.list) made.1.same_size) made.1)
+
+-- Modules hold only one list of codewords.
+pub held_is_one : (modules : ModulesView) (u v : List ℕ) → AreHeldBy modules u → AreHeldBy modules v → u ≡ v
+held_is_one modules u v hu hv =
+    ap (λ (w : WordsView). w.list) (one_held modules (words_with modules.size u) (words_with modules.size v) hu hv)
+
+-- Codewords are laid in some modules.
+pub laid_in_some : (words : WordsView) → IsWords words → (modules : ModulesView) × IsLaid words modules
+laid_in_some = some_laid
+
+-- Codewords are laid in only one symbol.
+pub laid_is_one : (m n : ModulesView) (words : WordsView) → IsLaid words m → IsLaid words n → m ≡ n
+laid_is_one m n words hm hn = one_laid words m n hm hn

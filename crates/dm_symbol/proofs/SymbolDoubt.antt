@@ -1,0 +1,178 @@
+-- Which codewords are erased, by the marks of a symbol, and that none is where no module is doubtful.
+use Rattle.std.proofs.Common.{◌≡◌, ℕ, zero, suc, ◌+◌, ◌-◌, ◌/◌, ◌%◌, ◌^◌, ◌<◌, ◌≤◌, Bool, true, false, not, cond, ◌||◌}
+use Rattle.std.proofs.Common.{◌&&◌, nat_eq, List, [], ◌∷◌}
+use Rattle.std.proofs.Common.{length, get_or, map, filter, Option, Some, None, refl, sym, ap, subst, ◌∙◌, arith}
+use Rattle.std.specs.Prelude.{sum_by, count_by}
+use Rattle.std.specs.List.{range_with_len, list_any}
+use Rattle.std.proofs.lemmas.Bool.{agree_below_at}
+use Rattle.std.proofs.lemmas.List.{length-map}
+use Rattle.std.proofs.lemmas.List.Sums.{sum_by-cons}
+use Rattle.std.proofs.lemmas.List.FromFn.{length-range_with_len}
+use Rattle.dm_place.specs.Holding.{bit_of}
+use Rattle.dm_place.specs.Placement.{place, shapes}
+use Rattle.dm_place.proofs.Exported.{count_at_sides}
+use Rattle.dm_code.specs.Erased.{erased_from, erased_places}
+use Rattle.dm_code.proofs.Exported.{erased_within}
+use Rattle.dm_modules.specs.Sizes.{SizeEntry, IsSize, share, mapping_rows, mapping_columns, codeword_count}
+use Rattle.dm_modules.specs.Sizes.{block_length}
+use Rattle.dm_modules.specs.Modules.{ModulesView}
+use Rattle.dm_modules.specs.Words.{WordsView}
+use Rattle.dm_modules.specs.Blocks.{places_of_block, block_of}
+use Rattle.dm_modules.specs.Holding.{Holds}
+use Rattle.dm_modules.proofs.Exported.{length-block_of}
+use Rattle.dm_modules.proofs.Exported.{placed_size}
+use Rattle.dm_modules.specs.Border.{is_fault, border_fault_count}
+use Rattle.dm_symbol.specs.Doubt.{is_doubtful_bit, is_erased, erased_in, is_sure_fault, sure_fault_count}
+use Rattle.dm_symbol.specs.inner.Marks.{is_mark, marked_in}
+
+-- ---- how many places a block has
+
+-- A block has as many places as its share of the codewords.
+places_count : (B b count : ℕ) → b < B → length (places_of_block B b count) ≡ share count B b
+places_count B b count hb =
+    let words : List ℕ = range_with_len 0 count in
+    let long : length words ≡ count = length-range_with_len 0 count in
+    ap (λ n. length (places_of_block B b n)) (sym long)
+    ∙ sym (length-map (places_of_block B b (length words)) (λ j. get_or words j 0))
+    ∙ length-block_of B b words hb ∙ ap (λ n. share n B b) long
+
+-- The erased places of a block lie in it.
+pub erased_inside : (size : SizeEntry) (doubtful : Option ModulesView) (b i : ℕ) → b < size.blocks
+    → i < length (erased_in size doubtful b) → get_or (erased_in size doubtful b) i 0 < block_length size b
+erased_inside size doubtful b i hb hi =
+    let places = places_of_block size.blocks b (codeword_count size) in
+    let long : length (map (is_erased size doubtful) places) ≡ block_length size b =
+    length-map places (is_erased size doubtful) ∙ places_count size.blocks b (codeword_count size) hb in
+    erased_within 0 (block_length size b) (map (is_erased size doubtful) places) (omega (arith, long)) i 0 hi
+
+-- ---- none is doubtful
+
+-- Where no place is erased, the list of the erased places is empty.
+erased_nowhere : (n : ℕ) (f : ℕ → Bool) → ((j : ℕ) → f j ≡ false) → (xs : List ℕ) → erased_from n (map f xs) ≡ []
+unfolding erased_from
+erased_nowhere n f none [] = refl
+erased_nowhere n f none (x ∷ xs) =
+    ap (λ b. cond b (n ∷ erased_from (suc n) (map f xs)) (erased_from (suc n) (map f xs))) (none x)
+    ∙ erased_nowhere (suc n) f none xs
+
+-- Where no module is doubtful, no place is erased.
+pub erased_by_none : (size : SizeEntry) (b : ℕ) → erased_in size None b ≡ []
+erased_by_none size b =
+    erased_nowhere 0 (is_erased size None) (λ j. refl) (places_of_block size.blocks b (codeword_count size))
+
+-- ---- by marks
+
+-- A byte that isn't 0 has a bit that is 1.
+byte_has_bit : (x : ℕ) → x < 256 → list_any (λ bit. nat_eq (x / 2 ^ (8 - bit) % 2) 1) (range_with_len 1 8) ≡ is_mark x
+byte_has_bit x h = agree_below_at (λ n. list_any (λ bit. nat_eq (n / 2 ^ (8 - bit) % 2) 1) (range_with_len 1 8))
+    is_mark 256 x refl h
+
+-- Two tests that agree on a range agree on whether some number of it passes.
+same_any : (p q : ℕ → Bool) (a n : ℕ) → ((j : ℕ) → a ≤ j → j < a + n → p j ≡ q j)
+    → list_any p (range_with_len a n) ≡ list_any q (range_with_len a n)
+same_any p q a zero same = refl
+same_any p q a (suc n) same =
+    ap (λ b. b || list_any p (range_with_len (a + 1) n)) (same a (omega arith) (omega arith))
+    ∙ ap (λ b. q a || b) (same_any p q (a + 1) n (λ j low high. same j (omega arith) (omega arith)))
+
+-- Two tests that agree on a range give the same where they are asked at those numbers of it that pass a third.
+same_filtered : (f g p : ℕ → Bool) (a n : ℕ) → ((j : ℕ) → a ≤ j → j < a + n → f j ≡ g j)
+    → map f (filter p (range_with_len a n)) ≡ map g (filter p (range_with_len a n))
+same_filtered f g p a zero same = refl
+same_filtered f g p a (suc n) same =
+    first (p a) (same a (omega arith) (omega arith))
+    (same_filtered f g p (a + 1) n (λ j low high. same j (omega arith) (omega arith)))
+  where
+    first : (b : Bool) → f a ≡ g a
+        → map f (filter p (range_with_len (a + 1) n)) ≡ map g (filter p (range_with_len (a + 1) n))
+        → map f (cond b (a ∷ filter p (range_with_len (a + 1) n)) (filter p (range_with_len (a + 1) n)))
+        ≡ map g (cond b (a ∷ filter p (range_with_len (a + 1) n)) (filter p (range_with_len (a + 1) n)))
+    first true e rest = ap (λ x. x ∷ map f (filter p (range_with_len (a + 1) n))) e ∙ ap (λ xs. g a ∷ xs) rest
+    first false e rest = rest
+
+-- What is asked of what is got is asked at once.
+map_twice : (f : ℕ → Bool) (g : ℕ → ℕ) (xs : List ℕ) → map f (map g xs) ≡ map (λ x. f (g x)) xs
+map_twice f g [] = refl
+map_twice f g (x ∷ xs) = ap (λ ys. f (g x) ∷ ys) (map_twice f g xs)
+
+module _ (size : SizeEntry) (rows : List (List Bool)) (marks : List ℕ)
+    (h : Holds (record { size = size; rows = rows }) (record { size = size; list = marks })) where
+  -- These are the doubtful modules.
+  abbrev doubt : ModulesView
+  doubt = record { size = size; rows = rows }
+
+  -- A codeword is erased where its mark isn't 0.
+  erased_by_mark : (j : ℕ) → j < codeword_count size → is_erased size (Some doubt) j ≡ is_mark (get_or marks j 0)
+  erased_by_mark j hj =
+      let R = mapping_rows size in
+      let C = mapping_columns size in
+      let count : length (shapes R C) ≡ codeword_count size =
+      count_at_sides R C (codeword_count size) (placed_size size h.codewords.size) in
+      same_any (is_doubtful_bit size (Some doubt) j) (bit_of marks j) 1 8 (λ bit low high.
+      h.bits j bit (place R C j bit) (record {
+        word_in = omega (arith, hj, count);
+        from_one = low;
+        to_eight =
+            omega arith;
+        there = refl;
+      }))
+      ∙ byte_has_bit (get_or marks j 0) (h.codewords.bytes j 0 (omega (arith, hj, h.codewords.count)))
+
+  -- The erased places of a block are those with a mark.
+  erased_by_marks : (b : ℕ)
+      → erased_in size (Some doubt) b ≡ marked_in size (Some (record { size = size; list = marks })) b
+  erased_by_marks b =
+      let places = places_of_block size.blocks b in
+      let at_mark = λ (j : ℕ). get_or marks j 0 in
+      ap erased_places (same_filtered (is_erased size (Some doubt)) (λ j. is_mark (get_or marks j 0))
+      (λ j. nat_eq (j % size.blocks) b) 0 (codeword_count size)
+      (λ j low high. erased_by_mark j (omega (arith, high)))
+      ∙ ap (λ n. map (λ j. is_mark (get_or marks j 0)) (places n)) (sym h.codewords.count)
+      ∙ sym (map_twice is_mark at_mark (places (length marks))))
+
+-- Doubtful modules of the size of a symbol hold the marks.
+pub erased_by_held : (size : SizeEntry) (doubtful : ModulesView) (marks : WordsView) (b : ℕ) → doubtful.size ≡ size
+    → Holds doubtful marks
+    → erased_in size (Some doubtful) b ≡ marked_in size (Some marks) b
+erased_by_held size doubtful marks b of_size h =
+    let to_size : marks.size ≡ size = h.same_size ∙ of_size in
+    let here : Holds (record { size = size; rows = doubtful.rows }) (record { size = size; list = marks.list }) =
+    subst (λ s. Holds (record { size = s; rows = doubtful.rows }) (record { size = size; list = marks.list })) of_size
+    (subst (λ s. Holds doubtful (record { size = s; list = marks.list })) to_size h) in
+    ap (λ s. erased_in size (Some (record { size = s; rows = doubtful.rows })) b) of_size
+    ∙ erased_by_marks size doubtful.rows marks.list here b
+    ∙ ap (λ s. marked_in size (Some (record { size = s; list = marks.list })) b) (sym to_size)
+
+-- ---- borders
+
+-- A fault of which there is no doubt is a fault.
+nothing_doubted : (b : Bool) → b ≡ (b && not false)
+nothing_doubted true = refl
+nothing_doubted false = refl
+
+-- Where no module is doubtful, each border fault is sure.
+pub faults_by_none : (modules : ModulesView) → border_fault_count modules ≡ sure_fault_count modules None
+faults_by_none modules = rows 0 modules.size.rows
+  where
+    line : (row a n : ℕ) → count_by (is_fault modules row) (range_with_len a n) ≡ count_by
+        (is_sure_fault modules None row) (range_with_len a n)
+    line row a zero = refl
+    line row a (suc n) =
+        sum_by-cons (λ c. cond (is_fault modules row c) 1 0) a (range_with_len (a + 1) n)
+        ∙ ap (λ x. cond x 1 0 + count_by (is_fault modules row) (range_with_len (a + 1) n))
+        (nothing_doubted (is_fault modules row a))
+        ∙ ap (λ x. cond (is_sure_fault modules None row a) 1 0 + x) (line row (a + 1) n)
+        ∙ sym (sum_by-cons (λ c. cond (is_sure_fault modules None row c) 1 0) a (range_with_len (a + 1) n))
+
+    rows : (a n : ℕ) → sum_by (λ row. count_by (is_fault modules row) (range_with_len 0 modules.size.columns))
+        (range_with_len a n)
+        ≡ sum_by (λ row. count_by (is_sure_fault modules None row) (range_with_len 0 modules.size.columns))
+        (range_with_len a n)
+    rows a zero = refl
+    rows a (suc n) =
+        let plain = λ (row : ℕ). count_by (is_fault modules row) (range_with_len 0 modules.size.columns) in
+        let sure = λ (row : ℕ). count_by (is_sure_fault modules None row) (range_with_len 0 modules.size.columns) in
+        sum_by-cons plain a (range_with_len (a + 1) n)
+        ∙ ap (λ x. x + sum_by plain (range_with_len (a + 1) n)) (line a 0 modules.size.columns)
+        ∙ ap (λ x. sure a + x) (rows (a + 1) n)
+        ∙ sym (sum_by-cons sure a (range_with_len (a + 1) n))

@@ -1,0 +1,242 @@
+-- A symbol of any size is read as at most one message.
+use Rattle.std.proofs.Common.{◌≡◌, ℕ, ◌+◌, ◌*◌, ◌/◌, ◌%◌, ◌<◌, ◌≤◌, List, length, get_or, Option, Result, Ok, Err, inl}
+use Rattle.std.proofs.Common.{inr}
+use Rattle.std.proofs.Common.{refl, sym, ap, subst, ◌∙◌, arith}
+use Rattle.std.specs.List.{All}
+use Rattle.std.proofs.lemmas.Bool.{cases_order}
+use Rattle.std.proofs.lemmas.List.Elements.{All-from_get_or, All-get_or, All-take}
+use Rattle.dm_words.specs.declared.extent.Extent.{Extent}
+use Rattle.dm_words.specs.declared.extent.Extent.TheVariants.{Usual, Wide}
+use Rattle.dm_words.specs.declared.item.Item.{Item}
+use Rattle.dm_words.specs.declared.fault.WordFault.{WordFault}
+use Rattle.dm_words.specs.Spells.{Spells}
+use Rattle.dm_words.specs.Refused.{Refused}
+use Rattle.dm_words.specs.Messages.{IsMessage}
+use Rattle.dm_code.specs.Erased.{IsNearBut}
+use Rattle.dm_modules.specs.Sizes.{SizeEntry, block_check, block_length}
+use Rattle.dm_modules.specs.Modules.{ModulesView}
+use Rattle.dm_modules.proofs.Exported.{place_inside, same_by_blocks}
+use Rattle.dm_symbol.specs.declared.symbol.reading.SymbolReading.{SymbolReading}
+use Rattle.dm_symbol.specs.declared.reading.ReadFault.{ReadFault}
+use Rattle.dm_symbol.specs.declared.reading.ReadFault.TheVariants as fault
+use Rattle.dm_symbol.specs.Doubt.{sure_fault_count, erased_in}
+use Rattle.dm_symbol.specs.SymbolBlocks.{words_with, AreOfSize, AreHeldBy, AreBlocksNear, block_in, first_data}
+use Rattle.dm_symbol.specs.SymbolReading.{AreRestored, ReadsSymbol, IsFirstLost, SymbolReadResult, IsSymbolReadAs}
+use Rattle.dm_symbol.specs.SymbolReading.{block_readings, symbol_reading_of}
+use Rattle.dm_symbol.proofs.NormalGrids.{one_spelled}
+use Rattle.dm_symbol.proofs.Below.{one_result, spelled_is_message, spelled_wide}
+use Rattle.dm_symbol.proofs.SymbolBelow.{block_places, block_lengths, block_facts, held_is_one, near_but_is_one}
+use Rattle.dm_symbol.proofs.SymbolDoubt.{erased_inside}
+
+-- The codewords of a block are bytes.
+pub bytes_in_block : (size : SizeEntry) (words : List ℕ) → AreOfSize size words → (b : ℕ) → b < size.blocks
+    → All (λ w. w < 256) (block_in size words b)
+bytes_in_block size words h b hb =
+    All-from_get_or (λ w. w < 256) (block_in size words b) 0 (λ i hi.
+    let within : i < block_length size b = omega (arith, hi, block_lengths size words h b hb) in
+    subst (λ w. w < 256) (sym (block_places size words h b i hb within))
+    (All-get_or (λ w. w < 256) words (i * size.blocks + b) 0 (place_inside (words_with size words) b i h hb within)
+    h.bytes))
+
+-- The data codewords of a symbol are bytes.
+pub data_are_bytes : (size : SizeEntry) (words : List ℕ) → AreOfSize size words
+    → All (λ w. w < 256) (first_data size words)
+data_are_bytes size words h = All-take (λ w. w < 256) size.data_count words h.bytes
+
+-- Codewords of a symbol with equal blocks are equal.
+pub equal_blocks : (size : SizeEntry) (u v : List ℕ) → AreOfSize size u → AreOfSize size v
+    → ((b : ℕ) → b < size.blocks → block_in size u b ≡ block_in size v b) → u ≡ v
+equal_blocks size u v hu hv same = same_by_blocks (words_with size u) (words_with size v) hu hv refl same
+
+-- Bytes are refused with at most one fault.
+one_refused : (extent : Extent) (words : List ℕ) (a b : WordFault) → All (λ w. w < 256) words
+    → Refused extent words a → Refused extent words b → a ≡ b
+one_refused extent words a b bytes ha hb =
+    elim (one_result extent words bytes) [
+      | inl s ↦ absurd (s.not_refused a ha)
+      | inr r ↦ r.only a ha ∙ sym (r.only b hb)
+    ]
+
+-- Bytes that spell a message aren't refused.
+spelled_not_refused : (extent : Extent) (words : List ℕ) (m : List Item) (why : WordFault) → All (λ w. w < 256) words
+    → Spells extent words m → Refused extent words why → ⊥
+spelled_not_refused extent words m why bytes hm hw =
+    elim (one_result extent words bytes) [
+      | inl s ↦ s.not_refused why hw
+      | inr r ↦ r.not_spelled m hm
+    ]
+
+-- Only one block is the first to which no codeword is near.
+first_is_one : (size : SizeEntry) (erased : ℕ → List ℕ) (words : List ℕ) (a b : ℕ) → IsFirstLost size erased words a
+    → IsFirstLost size erased words b → a ≡ b
+first_is_one size erased words a b ha hb =
+    elim (cases_order a b) [
+      | inl e ↦ e
+      | inr other ↦ elim other [ inl h ↦ absurd (ha.lost (hb.first a h)) | inr h ↦ absurd (hb.lost (ha.first b h)) ]
+    ]
+
+-- A reading isn't a fault.
+ok_no_fault : (reading : SymbolReading) (why : ReadFault)
+    → ◌≡◌ {A = Result SymbolReading ReadFault} (Ok reading) (Err why) → ⊥
+ok_no_fault reading why e = cc
+
+module _ (modules : ModulesView) (doubtful : Option ModulesView) where
+  -- The erased places of a block.
+  abbrev erased : ℕ → List ℕ
+  erased = erased_in modules.size doubtful
+
+  -- The symbol has this size.
+  abbrev size : SizeEntry
+  size = modules.size
+
+  -- The surely wrong modules of the borders.
+  abbrev faults : ℕ
+  faults = sure_fault_count modules doubtful
+
+  -- A symbol holds only one list of words, and only one list of codewords is near to them.
+  pub restored_is_one : (u c v d : List ℕ) → AreRestored modules doubtful u c → AreRestored modules doubtful v d
+      → (u ≡ v) × (c ≡ d)
+  restored_is_one u c v d hu hv =
+      let same : v ≡ u = held_is_one modules v u hv.words_held hu.words_held in
+      let near : AreBlocksNear size erased u d = subst (λ w. AreBlocksNear size erased w d) same hv.near in (
+        sym same,
+        equal_blocks size c d hu.of_size hv.of_size (λ b hb.
+            let f = block_facts size hu.of_size.size b hb in
+            let long = block_lengths size u hu.words_held.codewords b hb in
+            near_but_is_one (block_check size) (block_in size u b) (erased b) (block_in size c b) (block_in size d b)
+            (omega (arith, f.few_checks)) (bytes_in_block size u hu.words_held.codewords b hb)
+            (omega (arith, long, f.some_data))
+            (omega (arith, long, f.short))
+            (λ i hi. omega (arith, erased_inside size doubtful b i hb hi, long))
+            (hu.near b hb) (near b hb)),
+      )
+
+  -- A symbol is read as at most one message, whatever the extents.
+  pub one_symbol_message : (extent other : Extent) (k l : ℕ) (m n : List Item) → ReadsSymbol extent modules doubtful k m
+      → ReadsSymbol other modules doubtful l n → m ≡ n
+  one_symbol_message extent other k l m n hm hn =
+      let same : hm.codewords ≡ hn.codewords =
+      (restored_is_one hm.words hm.codewords hn.words hn.codewords hm.restored hn.restored).1 in
+      let words = first_data size hn.codewords in
+      one_spelled Wide words m n (data_are_bytes size hn.codewords hn.restored.of_size)
+      (spelled_wide extent words m (subst (λ c. Spells extent (first_data size c) m) same hm.spelled))
+      (spelled_wide other words n hn.spelled)
+
+  -- What is read is a message.
+  pub symbol_message : (extent : Extent) (limit : ℕ) (m : List Item) → ReadsSymbol extent modules doubtful limit m
+      → IsMessage m
+  symbol_message extent limit m h = spelled_is_message extent (first_data size h.codewords) m h.spelled
+
+  -- Words that are restored have no block to which no codeword is near.
+  none_lost : (v u c : List ℕ) (b : ℕ) → AreHeldBy modules v → IsFirstLost size erased v b
+      → AreRestored modules doubtful u c → ⊥
+  none_lost v u c b hv first h =
+      let same : u ≡ v = held_is_one modules u v h.words_held hv in
+      let near : AreBlocksNear size erased v c = subst (λ w. AreBlocksNear size erased w c) same h.near in
+      first.lost (block_in size c b, near b first.in_symbol)
+
+  -- The data codewords don't spell a message if they are refused.
+  not_both : (extent : Extent) (u c v d : List ℕ) (m : List Item) (why : WordFault) → AreRestored modules doubtful u c
+      → AreRestored modules doubtful v d → Spells extent (first_data size c) m → Refused extent (first_data size d) why
+      → ⊥
+  not_both extent u c v d m why hu hv spelled refused =
+      let same = (restored_is_one u c v d hu hv).1 in
+      spelled_not_refused extent (first_data size d) m why (data_are_bytes size d hv.of_size)
+      (subst (λ w. Spells extent (first_data size w) m) same spelled) refused
+
+  -- This is said of a symbol that is read.
+  abbrev said : List Item → List ℕ → List ℕ → Result SymbolReading ReadFault
+  said m u c = Ok (symbol_reading_of m (block_readings size erased u c) faults)
+
+  -- A symbol has at most one result for a limit.
+  pub one_symbol_result : (extent : Extent) (limit : ℕ) (a b : Result SymbolReading ReadFault)
+      → SymbolReadResult extent modules doubtful limit a → SymbolReadResult extent modules doubtful limit b → a ≡ b
+  one_symbol_result extent limit a b (SymbolReadResult.border h e) (SymbolReadResult.border k f) = e ∙ sym f
+  one_symbol_result extent limit a b (SymbolReadResult.border h e) (SymbolReadResult.block v y k hv first f) =
+      absurd (omega (arith, h, k))
+  one_symbol_result extent limit a b (SymbolReadResult.border h e) (SymbolReadResult.words v d w k hv r f) =
+      absurd (omega (arith, h, k))
+  one_symbol_result extent limit a b (SymbolReadResult.border h e) (SymbolReadResult.message v d n k hv s f) =
+      absurd (omega (arith, h, k))
+  one_symbol_result extent limit a b (SymbolReadResult.block u x h hu first e) (SymbolReadResult.border k f) =
+      absurd (omega (arith, h, k))
+  one_symbol_result extent limit a b (SymbolReadResult.block u x h hu first e)
+      (SymbolReadResult.block v y k hv other f) =
+      let same : v ≡ u = held_is_one modules v u hv hu in
+      let is_first : IsFirstLost size erased u y = subst (λ w. IsFirstLost size erased w y) same other in
+      e ∙ ap (λ block. Err (fault.Block block)) (first_is_one size erased u x y first is_first) ∙ sym f
+  one_symbol_result extent limit a b (SymbolReadResult.block u x h hu first e) (SymbolReadResult.words v d w k hv r f) =
+      absurd (none_lost u v d x hu first hv)
+  one_symbol_result extent limit a b (SymbolReadResult.block u x h hu first e)
+      (SymbolReadResult.message v d n k hv s f) =
+      absurd (none_lost u v d x hu first hv)
+  one_symbol_result extent limit a b (SymbolReadResult.words u c why h hu r e) (SymbolReadResult.border k f) =
+      absurd (omega (arith, h, k))
+  one_symbol_result extent limit a b (SymbolReadResult.words u c why h hu r e)
+      (SymbolReadResult.block v y k hv first f) =
+      absurd (none_lost v u c y hv first hu)
+  one_symbol_result extent limit a b (SymbolReadResult.words u c why h hu r e)
+      (SymbolReadResult.words v d other k hv too f) =
+      let same = (restored_is_one u c v d hu hv).1 in
+      let refused : Refused extent (first_data size d) why =
+      subst (λ w. Refused extent (first_data size w) why) same r in
+      let one = one_refused extent (first_data size d) why other (data_are_bytes size d hv.of_size) refused too in
+      e ∙ ap (λ x. Err (fault.Words x)) one ∙ sym f
+  one_symbol_result extent limit a b (SymbolReadResult.words u c why h hu r e)
+      (SymbolReadResult.message v d n k hv s f) =
+      absurd (not_both extent v d u c n why hv hu s r)
+  one_symbol_result extent limit a b (SymbolReadResult.message u c m h hu s e) (SymbolReadResult.border k f) =
+      absurd (omega (arith, h, k))
+  one_symbol_result extent limit a b (SymbolReadResult.message u c m h hu s e)
+      (SymbolReadResult.block v y k hv first f) =
+      absurd (none_lost v u c y hv first hu)
+  one_symbol_result extent limit a b (SymbolReadResult.message u c m h hu s e)
+      (SymbolReadResult.words v d why k hv r f) =
+      absurd (not_both extent u c v d m why hu hv s r)
+  one_symbol_result extent limit a b (SymbolReadResult.message u c m h hu s e)
+      (SymbolReadResult.message v d n k hv t f) =
+      let same = restored_is_one u c v d hu hv in
+      let message : m ≡ n = one_symbol_message extent extent limit limit m n
+      (record { border = h; words = u; codewords = c; restored = hu; spelled = s })
+      (record { border = k; words = v; codewords = d; restored = hv; spelled = t }) in
+      e ∙ ap (λ x. said x u c) message ∙ ap (λ x. said n x c) same.0 ∙ ap (λ x. said n v x) same.1 ∙ sym f
+
+  -- The result for a symbol that is read as a message.
+  pub result_of_symbol : (extent : Extent) (limit : ℕ) (m : List Item)
+      → (r : ReadsSymbol extent modules doubtful limit m)
+      → SymbolReadResult extent modules doubtful limit (said m r.words r.codewords)
+  result_of_symbol extent limit m r = SymbolReadResult.message r.words r.codewords m r.border r.restored r.spelled refl
+
+  -- Where a symbol is read as a message, the result is a reading of it.
+  pub symbol_read_by_result : (extent : Extent) (limit : ℕ) (result : Result SymbolReading ReadFault) (m : List Item)
+      → SymbolReadResult extent modules doubtful limit result → ReadsSymbol extent modules doubtful limit m
+      → IsSymbolReadAs result m
+  symbol_read_by_result extent limit result m h r =
+      subst (λ a. IsSymbolReadAs a m)
+      (one_symbol_result extent limit (said m r.words r.codewords) result (result_of_symbol extent limit m r) h) refl
+
+  -- Where the result is a reading of a message, the symbol is read as it.
+  pub reads_symbol_by_result : (extent : Extent) (limit : ℕ) (result : Result SymbolReading ReadFault) (m : List Item)
+      → SymbolReadResult extent modules doubtful limit result → IsSymbolReadAs result m
+      → ReadsSymbol extent modules doubtful limit m
+  reads_symbol_by_result extent limit result m (SymbolReadResult.border h e) is =
+      absurd (subst (λ a. IsSymbolReadAs a m) e is)
+  reads_symbol_by_result extent limit result m (SymbolReadResult.block u x h hu f e) is =
+      absurd (subst (λ a. IsSymbolReadAs a m) e is)
+  reads_symbol_by_result extent limit result m (SymbolReadResult.words u c w h hu r e) is =
+      absurd (subst (λ a. IsSymbolReadAs a m) e is)
+  reads_symbol_by_result extent limit result m (SymbolReadResult.message u c n h hu s e) is =
+      let same : n ≡ m = subst (λ a. IsSymbolReadAs a m) e is in
+      let spelled = subst (λ x. Spells extent (first_data size c) x) same s in
+      record { border = h; words = u; codewords = c; restored = hu; spelled = spelled }
+
+  -- What is read in some extent is read in `Wide`.
+  pub reads_symbol_wide : (extent : Extent) (limit : ℕ) (m : List Item) → ReadsSymbol extent modules doubtful limit m
+      → ReadsSymbol Wide modules doubtful limit m
+  reads_symbol_wide extent limit m r = record {
+    border = r.border;
+    words = r.words;
+    codewords = r.codewords;
+    restored = r.restored;
+    spelled = spelled_wide extent (first_data size r.codewords) m r.spelled;
+  }

@@ -1,0 +1,34 @@
+use Rattle.std.proofs.Common.{◌≡◌, ◌∙◌, List, ℕ, sym, ap, subst}
+use Rattle.std.specs.Prelude.{IfSome, option_map}
+use Rattle.dm_modules.specs.Words.{WordsView}
+use Rattle.dm_symbol.specs.Doubt.{erased_in}
+use Rattle.dm_symbol.specs.SymbolBlocks.{AreOfSize}
+use Rattle.dm_symbol.specs.SymbolReading.{AreBlocksMended}
+use Rattle.dm_symbol.proofs.SymbolBelow.{blocks_are}
+use Rattle.dm_symbol.proofs.symbol.inspection.inspect_symbol_to.Goals as goal
+
+pub mend_blocks-requires : goal.mend_blocks-requires
+mend_blocks-requires c =
+    subst (λ s. IfSome c.args.doubtful (λ d. d.now.size ≡ s)) (sym c.lift_to-2.ensures.holds.same_size) c.requires
+
+pub returns : goal.returns
+returns c =
+    let m = c.args.modules.now in
+    let doubt = option_map (λ d. d.now) c.args.doubtful in
+    let held = c.lift_to.new.words in
+    let again = c.lift_to-2.new.words in
+    let new = c.mend_blocks.new.words.list in
+    let said = c.mend_blocks.new.blocks.items in
+    let size = c.lift_to-2.ensures.holds.same_size in
+    let same : again.list ≡ held.list =
+    ap (λ (w : WordsView). w.list) (c.lift_to.ensures.no_other_words again c.lift_to-2.ensures.holds) in
+    record {
+      held = c.lift_to.ensures.holds;
+      same_size = c.mend_blocks.ensures.size ∙ size;
+      of_size = subst (λ s. AreOfSize s new) size c.mend_blocks.ensures.words;
+      count = c.mend_blocks.ensures.count ∙ blocks_are again.size m.size size;
+      mended = subst (λ s. AreBlocksMended s (erased_in s doubt) held.list new said) size
+          (subst (λ list. AreBlocksMended again.size (erased_in again.size doubt) list new said) same
+          c.mend_blocks.ensures.mended);
+      border = c.sure_faults-inspection.ensures;
+    }

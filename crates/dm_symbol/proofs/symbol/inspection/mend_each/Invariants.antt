@@ -1,0 +1,22 @@
+use Rattle.std.proofs.Common.{◌≡◌, ◌<◌, ◌≤◌, ℕ, length, get_or}
+use Rattle.std.specs.Prelude.{None, option_map}
+use Rattle.dm_modules.specs.Sizes.{block_check}
+use Rattle.dm_symbol.specs.SymbolBlocks.{AreOfSize, block_in}
+use Rattle.dm_symbol.specs.SymbolReading.{IsBlockRestored}
+use Rattle.dm_symbol.specs.inner.Marks.{marked_in}
+use Rattle.dm_symbol.proofs.symbol.inspection.mend_each.Given as goal
+
+-- The blocks before b are restored, and the others are as they were.
+abbrev pub invariant-loop-b : goal.invariant-loop-b
+invariant-loop-b l = record {
+  size : l.words.size ≡ l.initial.words.size;
+  words : AreOfSize l.initial.words.size l.words.list;
+  count : length l.blocks.items ≡ l.b;
+  mended : (a : ℕ) → a < l.b
+      → IsBlockRestored (block_check l.initial.words.size)
+      (marked_in l.initial.words.size (option_map (λ m. m.now) l.fn.marks) a)
+      (block_in l.initial.words.size l.initial.words.list a) (block_in l.initial.words.size l.words.list a)
+      (get_or l.blocks.items a None);
+  later : (a : ℕ) → l.b ≤ a → a < l.initial.words.size.blocks
+      → block_in l.initial.words.size l.words.list a ≡ block_in l.initial.words.size l.initial.words.list a;
+}

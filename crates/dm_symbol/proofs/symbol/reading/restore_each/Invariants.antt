@@ -1,0 +1,26 @@
+use Rattle.std.proofs.Common.{◌≡◌, ◌<◌, ◌≤◌, ℕ, length, get_or}
+use Rattle.std.specs.Prelude.{option_map}
+use Rattle.dm_code.specs.Erased.{IsNearBut}
+use Rattle.dm_modules.specs.Sizes.{block_check}
+use Rattle.dm_symbol.specs.SymbolBlocks.{AreOfSize, block_in}
+use Rattle.dm_symbol.specs.SymbolReading.{block_reading}
+use Rattle.dm_symbol.specs.inner.Marks.{marked_in}
+use Rattle.dm_symbol.proofs.SymbolSteps.{nothing_said}
+use Rattle.dm_symbol.proofs.symbol.reading.restore_each.Given as goal
+
+-- The blocks before b are restored, with what is said of them, and the others are as they were.
+abbrev pub invariant-loop-b : goal.invariant-loop-b
+invariant-loop-b l =
+    let s = l.initial.words.size in
+    let erased = marked_in s (option_map (λ m. m.now) l.fn.marks) in
+    let old = block_in s l.initial.words.list in
+    let now = block_in s l.words.list in
+    record {
+      size : l.words.size ≡ s;
+      words : AreOfSize s l.words.list;
+      count : length l.blocks.items ≡ l.b;
+      said : (a : ℕ) → a < l.b
+          → get_or l.blocks.items a nothing_said ≡ block_reading (block_check s) (erased a) (old a) (now a);
+      near : (a : ℕ) → a < l.b → IsNearBut (block_check s) (old a) (erased a) (now a);
+      later : (a : ℕ) → l.b ≤ a → a < s.blocks → now a ≡ old a;
+    }

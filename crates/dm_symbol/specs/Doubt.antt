@@ -1,0 +1,54 @@
+-- Doubtful modules: those of which a caller knows that their colours tell nothing, since there is a blot, a glare, a
+-- torn corner, a weak dot. They are given as modules of their own, dark where a module of the symbol is doubtful and
+-- light elsewhere, in their borders as anywhere, or as `None` where no module is. They are asked by row and column; the
+-- calls ask for modules of the symbol's size. A doubtful module of the fixed square changes nothing.
+-- An erased codeword takes one check codeword, and a wrong one two (ISO/IEC 16022, error checking and correction). That
+-- a caller may name doubtful modules, that all check codewords of a block may be spent so, in every size and with none
+-- kept back for detection, and that a doubtful border module is never counted as wrong, are rules of this project. So a
+-- block that has erased places and no check codeword left tells nothing of whether it was right.
+use Rattle.std.specs.Prelude.{ℕ, Bool, false, not, ◌&&◌, List, map, sum_by, count_by, Option, Some, None}
+use Rattle.std.specs.List.{range_with_len, list_any}
+use Rattle.dm_place.specs.Border.{symbol_line}
+use Rattle.dm_place.specs.Placement.{place}
+use Rattle.dm_code.specs.Erased.{erased_places}
+use Rattle.dm_modules.specs.Sizes.{SizeEntry, mapping_rows, mapping_columns, codeword_count}
+use Rattle.dm_modules.specs.Modules.{ModulesView, module_at}
+use Rattle.dm_modules.specs.Border.{is_fault}
+use Rattle.dm_modules.specs.Blocks.{places_of_block}
+
+-- A module is doubtful if such modules are given, and the one of them at this row and column is dark.
+abbrev pub is_doubtful : Option ModulesView → ℕ → ℕ → Bool
+is_doubtful None row column = false
+is_doubtful (Some doubtful) row column = module_at doubtful row column
+
+-- ---- borders
+
+-- A border fault is sure if the module isn't doubtful: a border module has the wrong colour, and there is no doubt of
+-- its colour.
+abbrev pub is_sure_fault : ModulesView → Option ModulesView → ℕ → ℕ → Bool
+is_sure_fault modules doubtful row column = is_fault modules row column && not (is_doubtful doubtful row column)
+
+-- The sure border faults of a symbol are counted over all its modules.
+abbrev pub sure_fault_count : ModulesView → Option ModulesView → ℕ
+sure_fault_count modules doubtful =
+    sum_by (λ row. count_by (is_sure_fault modules doubtful row) (range_with_len 0 modules.size.columns))
+    (range_with_len 0 modules.size.rows)
+
+-- ---- codewords
+
+-- A bit, 1 to 8, of a codeword, which is counted from 0 in the symbol, is doubtful if the module at which the bit's
+-- place lies is. Beyond these ranges this means nothing.
+abbrev pub is_doubtful_bit : SizeEntry → Option ModulesView → ℕ → ℕ → Bool
+is_doubtful_bit size doubtful word bit =
+    is_doubtful doubtful (symbol_line size.region_rows (place (mapping_rows size) (mapping_columns size) word bit).row)
+    (symbol_line size.region_columns (place (mapping_rows size) (mapping_columns size) word bit).column)
+
+-- A codeword is erased if one of its eight modules, or more, is doubtful.
+abbrev pub is_erased : SizeEntry → Option ModulesView → ℕ → Bool
+is_erased size doubtful word = list_any (is_doubtful_bit size doubtful word) (range_with_len 1 8)
+
+-- The erased places of block b of a symbol of this size are those of its places, counted from 0 in the block, whose
+-- codewords are erased.
+abbrev pub erased_in : SizeEntry → Option ModulesView → ℕ → List ℕ
+erased_in size doubtful b =
+    erased_places (map (is_erased size doubtful) (places_of_block size.blocks b (codeword_count size)))

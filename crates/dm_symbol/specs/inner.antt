@@ -1,0 +1,2 @@
+-- Definitions that the contracts of private functions cite, and no contract of a public function.
+pub mod Marks

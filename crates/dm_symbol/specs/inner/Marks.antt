@@ -1,0 +1,19 @@
+-- The marks of a symbol: the codewords that its doubtful modules hold. One isn't 0 where the codeword at its place is
+-- erased.
+use Rattle.std.specs.Prelude.{◌≡◌, ℕ, Bool, not, nat_eq, List, [], map, Option, Some, None}
+use Rattle.dm_code.specs.Erased.{IsNearBut, erased_places}
+use Rattle.dm_modules.specs.Sizes.{SizeEntry}
+use Rattle.dm_modules.specs.Words.{WordsView}
+use Rattle.dm_modules.specs.Blocks.{block_of}
+use Rattle.dm_symbol.specs.declared.symbol.reading.BlockReading.{BlockReading}
+use Rattle.dm_symbol.specs.SymbolBlocks.{HasNearBut}
+use Rattle.dm_symbol.specs.SymbolReading.{block_reading}
+
+-- A mark says that its codeword is erased.
+abbrev pub is_mark : ℕ → Bool
+is_mark word = not (nat_eq word 0)
+
+-- The places of block b are erased that have a mark; none is where there are no marks.
+abbrev pub marked_in : SizeEntry → Option WordsView → ℕ → List ℕ
+marked_in size None b = []
+marked_in size (Some marks) b = erased_places (map is_mark (block_of size.blocks b marks.list))

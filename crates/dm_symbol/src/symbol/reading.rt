@@ -1,0 +1,160 @@
+//! Reading a symbol of any size: the message that its modules say.
+
+ghost use Rattle.std.specs.Prelude.{◌≡◌, ◌≤◌, ◌<◌, ℕ, [], None, OnOk, IfErr, IfSome, option_map};
+ghost use Rattle.dm_words.specs.Outcomes.{outcome};
+ghost use Rattle.dm_symbol.specs.Doubt.{erased_in};
+ghost use Rattle.dm_symbol.specs.inner.Marks.{marked_in};
+ghost use Rattle.dm_symbol.specs.SymbolBlocks.{AreOfSize, AreBlocksNear};
+ghost use Rattle.dm_symbol.specs.SymbolReading.{IsSymbolRead, IsFirstLost, block_readings, symbol_reading_of};
+
+use crate::reading::ReadFault;
+use crate::symbol::correction::restore_block;
+use crate::symbol::doubt::sure_faults;
+use arrayvec::ArrayVec;
+use dm_modules::{MOST_BLOCKS, Modules, SymbolWords, lift};
+use dm_words::{Extent, MOST_DATA, Message, message_to_as};
+
+/// How a symbol is read.
+#[derive(Clone, Copy)]
+pub struct ReadOptions<'a> {
+    /// Which data codewords are read.
+    pub extent: Extent,
+    /// How many modules of the borders may have the wrong colour, those not counted that are doubtful.
+    pub border_limit: u16,
+    /// The doubtful modules, if any are known: modules of the symbol's size, dark where a module of the symbol is
+    /// doubtful. None where no module is.
+    pub doubtful: Option<&'a Modules>,
+}
+
+/// What became of a block of a symbol that was read.
+#[derive(Clone, Copy, Debug, Default, PartialEq, Eq)]
+pub struct BlockReading {
+    /// The number of its codewords that were wrong, and not erased.
+    pub corrected: u8,
+    /// The number of its codewords that are erased: one of their modules, or more, is doubtful.
+    pub erased: u8,
+    /// The number of its check codewords that neither have used, of which an error uses two and an erasure one. Where
+    /// it is 0, and codewords are erased, many blocks are read as some codeword, whatever they held.
+    pub left: u8,
+}
+
+/// What a symbol says, and how much of it was wrong.
+#[derive(Clone, Debug, Default, Drop, PartialEq, Eq)]
+pub struct SymbolReading {
+    /// The message.
+    pub message: Message,
+    /// What became of each block, in order.
+    pub blocks: ArrayVec<BlockReading, MOST_BLOCKS>,
+    /// How many modules of the borders have the wrong colour and aren't doubtful.
+    pub border_faults: u16,
+}
+
+impl SymbolReading {
+    /// Gives the reading of an empty message, into which [`read_symbol_to`] can read.
+    pub fn new() -> SymbolReading
+        ensures { result ≡ symbol_reading_of [] [] 0 }
+    {
+        SymbolReading {
+            message: Message::new(),
+            blocks: ArrayVec::new(),
+            border_faults: 0,
+        }
+    }
+}
+
+/// Reads a symbol of any size (ISO/IEC 16022, decode algorithm): refuses it if more modules of its borders than
+/// `how.border_limit` have the wrong colour and aren't doubtful; restores the blocks in order; and reads the data
+/// codewords, as far as the extent goes. The first of these steps that fails gives the fault: `Border` with the number
+/// of such modules, `Block` with the first block that is beyond correction, `Words`. A block with k check codewords is
+/// restored where twice the number of its wrong codewords, and the number of its erased ones, of which a module is
+/// doubtful, are together at most k. Where no module is doubtful, that is up to half of its check codewords, rounded
+/// down.
+///
+/// The fixed square isn't looked at, nor is what follows the first pad. The symbol is taken to be upright. One with
+/// more damage may be near the codewords of another message, and is then read as that message. Where a block has erased
+/// codewords and its [`left`](BlockReading::left) is 0, that is likely. What is read at [`Extent::Usual`] is read at
+/// [`Extent::Wide`] as the same.
+///
+/// After `Ok`, `reading` holds what the symbol says, whatever it held before. After `Border` it is as it was, and
+/// after another fault it holds some reading.
+///
+/// Doubtful modules, where there are any, are modules of the symbol's size. So far a [`Message`] has room for what
+/// [`MOST_DATA`] codewords say, so only symbols are read that have no more data codewords: all but
+/// 120 x 120, 132 x 132 and 144 x 144.
+pub fn read_symbol_to(
+    modules: &Modules,
+    how: ReadOptions,
+    reading: &mut SymbolReading,
+) -> Result<(), ReadFault>
+    requires doubtful { IfSome how.doubtful (λ doubtful. doubtful.now.size ≡ modules.now.size) }
+    requires room { modules.now.size.data_count ≤ MOST_DATA }
+    ensures read { IsSymbolRead how.entry.extent modules.now (option_map (λ d. d.now) how.entry.doubtful)
+        how.entry.border_limit (outcome result reading.new) }
+    ensures same { (count : ℕ) → result ≡ Err (ReadFault.Border count)
+        → reading.new ≡ reading.old }
+{
+    let border_faults = sure_faults(modules, how.doubtful);
+    if border_faults > how.border_limit {
+        return Err(ReadFault::Border(border_faults));
+    }
+    reading.border_faults = border_faults;
+    let mut words = lift(modules);
+    match restore_blocks(&mut words, how.doubtful, &mut reading.blocks) {
+        Ok(()) => {}
+        Err(b) => return Err(ReadFault::Block(b)),
+    }
+    match message_to_as(how.extent, words.data_part(), &mut reading.message) {
+        Ok(()) => Ok(()),
+        Err(fault) => Err(ReadFault::Words(fault)),
+    }
+}
+
+/// Restores each block to the codeword that is near to it but for what is doubtful, and leaves in `blocks` what became
+/// of each; or gives the first block to which none is near.
+fn restore_blocks(
+    words: &mut SymbolWords,
+    doubtful: Option<&Modules>,
+    blocks: &mut ArrayVec<BlockReading, MOST_BLOCKS>,
+) -> Result<(), u8>
+    requires { IfSome doubtful (λ doubtful. doubtful.now.size ≡ words.old.size) }
+    ensures size { words.new.size ≡ words.old.size }
+    ensures words { AreOfSize words.old.size words.new.list }
+    ensures near { OnOk result (AreBlocksNear words.old.size
+        (erased_in words.old.size (option_map (λ d. d.now) doubtful.entry)) words.old.list words.new.list) }
+    ensures readings { OnOk result (blocks.new.items ≡ block_readings words.old.size
+        (erased_in words.old.size (option_map (λ d. d.now) doubtful.entry)) words.old.list words.new.list) }
+    ensures lost { IfErr result (λ b. IsFirstLost words.old.size
+        (erased_in words.old.size (option_map (λ d. d.now) doubtful.entry)) words.old.list b) }
+{
+    match doubtful {
+        None => restore_each(words, None, blocks),
+        Some(doubtful) => restore_each(words, Some(&lift(doubtful)), blocks),
+    }
+}
+
+/// Restores each block to the codeword that is near to it but for the places that have marks, and leaves in `blocks`
+/// what became of each; or gives the first block to which none is near.
+fn restore_each(
+    words: &mut SymbolWords,
+    marks: Option<&SymbolWords>,
+    blocks: &mut ArrayVec<BlockReading, MOST_BLOCKS>,
+) -> Result<(), u8>
+    requires { IfSome marks (λ marks. marks.now.size ≡ words.old.size) }
+    ensures size { words.new.size ≡ words.old.size }
+    ensures words { AreOfSize words.old.size words.new.list }
+    ensures near { OnOk result (AreBlocksNear words.old.size
+        (marked_in words.old.size (option_map (λ m. m.now) marks.entry)) words.old.list words.new.list) }
+    ensures readings { OnOk result (blocks.new.items ≡ block_readings words.old.size
+        (marked_in words.old.size (option_map (λ m. m.now) marks.entry)) words.old.list words.new.list) }
+    ensures lost { IfErr result (λ b. IsFirstLost words.old.size
+        (marked_in words.old.size (option_map (λ m. m.now) marks.entry)) words.old.list b) }
+{
+    blocks.clear();
+    for b in 0..words.size().blocks() as u8 {
+        match restore_block(words, marks, usize::from(b)) {
+            Some(restored) => blocks.push(restored),
+            None => return Err(b),
+        }
+    }
+    Ok(())
+}
