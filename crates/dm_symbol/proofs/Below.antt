@@ -1,5 +1,5 @@
 -- What the layers below promise, as the proofs here cite it.
-use Rattle.std.proofs.Common.{◌≡◌, ◌⊎◌, ℕ, ◌+◌, ◌*◌, ◌<◌, ◌≤◌, List, ◌++◌, length, get_or, ap, subst}
+use Rattle.std.proofs.Common.{◌≡◌, ◌⊎◌, ℕ, ◌+◌, ◌*◌, ◌<◌, ◌≤◌, List, ◌++◌, length, get_or, ap, subst, arith}
 use Rattle.std.specs.List.{All}
 use Rattle.dm_words.specs.declared.extent.Extent.{Extent}
 use Rattle.dm_words.specs.declared.extent.Extent.TheVariants.{Usual, Wide}
@@ -97,7 +97,7 @@ one_result extent words h = one_result_of extent words h
 -- The normal form of a message, with pads, spells the message.
 pub normal_form_spells : (extent : Extent) (p : Profile) (m : List Item) (count : ℕ) → IsMessage m → length (normal_form p m) ≤ count → count ≤ most_data
     → Spells extent (padded (normal_form p m) count) m
-normal_form_spells = normal_form_spells_of
+normal_form_spells extent p m count h fits most = normal_form_spells_of extent p m count h fits (omega (arith, most))
 
 -- The normal form with pads up to a count has that many codewords, each of 0 to 255.
 pub normal_form_words_are : (p : Profile) (m : List Item) (count : ℕ) → IsMessage m → length (normal_form p m) ≤ count

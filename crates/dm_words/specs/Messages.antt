@@ -24,6 +24,10 @@ IsItem item = byte_of item < 256
 abbrev pub IsMessage : List Item → Type 0
 IsMessage message = All IsItem message
 
+-- No symbol of any shape has more data codewords than this: 144 x 144 has as many.
+abbrev pub largest_data : ℕ
+largest_data = 1558
+
 -- In the usual extent a symbol says at most this many items: two for each data codeword of the largest size. A macro adds some in the wide one.
 abbrev pub most_items : ℕ
 most_items = 2 * most_data

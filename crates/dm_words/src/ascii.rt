@@ -9,7 +9,6 @@ use crate::codeword::{FIRST_DIGITS, FNC1, UPPER_SHIFT};
 use crate::item::{Item, byte};
 use crate::limits::MESSAGE_ROOM;
 use arrayvec::ArrayVec;
-use dm_layout::MOST_DATA;
 
 /// A unit of ASCII, with its codeword.
 #[derive(Clone, Copy)]
@@ -132,8 +131,8 @@ fn is_fnc1(unit: Unit) -> bool
 }
 
 /// Adds the codewords of a unit, and gives the number of its items.
-pub(crate) fn write_unit(unit: Unit, words: &mut ArrayVec<u8, MOST_DATA>) -> usize
-    requires { length words.old.items + length (unit_words unit) ≤ MOST_DATA }
+pub(crate) fn write_unit<const N: usize>(unit: Unit, words: &mut ArrayVec<u8, N>) -> usize
+    requires { length words.old.items + length (unit_words unit) ≤ N }
     ensures words { words.new.items ≡ words.old.items ++ unit_words unit }
     ensures item_count { result ≡ unit_items unit }
 {
@@ -160,8 +159,8 @@ pub(crate) fn write_unit(unit: Unit, words: &mut ArrayVec<u8, MOST_DATA>) -> usi
 
 /// Writes the ASCII codewords of the items into the target: from the left, two digits in one codeword wherever two come first. Gives what is then known
 /// of them.
-pub(crate) fn write_ascii(items: &[Item], words: &mut ArrayVec<u8, MOST_DATA>) -> AsciiForm
-    requires { length (ascii items.now) ≤ MOST_DATA }
+pub(crate) fn write_ascii<const N: usize>(items: &[Item], words: &mut ArrayVec<u8, N>) -> AsciiForm
+    requires { length (ascii items.now) ≤ N }
     ensures words { words.new.items ≡ ascii items.now }
     ensures length { result.length ≡ length (ascii items.now) }
     ensures has_fnc1 { result.has_fnc1 ≡ has_fnc1 items.now }
@@ -180,12 +179,12 @@ pub(crate) fn write_ascii(items: &[Item], words: &mut ArrayVec<u8, MOST_DATA>) -
     }
 }
 
-/// Whether the ASCII codewords of the items are surely no more than `MOST_DATA`: there are at most half as many items, or at most as many and none
-/// takes two codewords.
-pub(crate) fn surely_fits(items: &[Item]) -> bool
-    ensures { IsTrue result → length (ascii items.now) ≤ MOST_DATA }
+/// Whether the ASCII codewords of the items are surely no more than `most`: there are at most half as many items, or at
+/// most as many and none takes two codewords.
+pub(crate) fn surely_fits(items: &[Item], most: usize) -> bool
+    ensures { IsTrue result → length (ascii items.now) ≤ most }
 {
-    items.len() <= MOST_DATA / 2 || items.len() <= MOST_DATA && are_below_128(items)
+    items.len() <= most / 2 || items.len() <= most && are_below_128(items)
 }
 
 /// Whether each item has a byte below 128 or is FNC1, so that it takes at most one codeword.

@@ -10,7 +10,7 @@ ghost use Rattle.dm_words.specs.inner.Scan.Results.{HasRoomAt, IsPartTaken};
 use crate::codeword::{BASE256_LATCH, RANDOM_FACTOR};
 use crate::fault::WordFault;
 use crate::item::{Item, byte};
-use crate::limits::MESSAGE_ROOM;
+use crate::limits::{LARGEST_DATA, MESSAGE_ROOM};
 use crate::message::Message;
 use arrayvec::ArrayVec;
 use dm_layout::MOST_DATA;
@@ -20,7 +20,7 @@ pub(crate) const MOST_SHORT: usize = 249;
 
 /// Gives the pseudo-random number of a place of the symbol: 1 to 255.
 fn random(place: usize) -> u32
-    requires { place ≤ MOST_DATA + 1 }
+    requires { place ≤ LARGEST_DATA + 1 }
     ensures { result ≡ random_at place }
 {
     RANDOM_FACTOR * place as u32 % 255 + 1
@@ -90,8 +90,9 @@ pub(crate) fn segment_part(
 }
 
 /// Writes a value as the next codeword of a symbol that begins with these words.
-pub(crate) fn push_value(words: &mut ArrayVec<u8, MOST_DATA>, value: u8)
-    requires { length words.old.items < MOST_DATA }
+pub(crate) fn push_value<const N: usize>(words: &mut ArrayVec<u8, N>, value: u8)
+    requires room { length words.old.items < N }
+    requires most { N ≤ LARGEST_DATA }
     ensures { words.new.items
         ≡ words.old.items ++ randomised (length words.old.items + 1) value ∷ [] }
 {
@@ -100,9 +101,10 @@ pub(crate) fn push_value(words: &mut ArrayVec<u8, MOST_DATA>, value: u8)
 }
 
 /// Writes the length field for this many bytes: one number up to `MOST_SHORT`, else two.
-pub(crate) fn push_length(words: &mut ArrayVec<u8, MOST_DATA>, count: usize)
-    requires room { length words.old.items + 2 ≤ MOST_DATA }
-    requires few { count ≤ MOST_DATA }
+pub(crate) fn push_length<const N: usize>(words: &mut ArrayVec<u8, N>, count: usize)
+    requires room { length words.old.items + 2 ≤ N }
+    requires few { count ≤ LARGEST_DATA }
+    requires most { N ≤ LARGEST_DATA }
     ensures { words.new.items
         ≡ words.old.items ++ written (length words.old.items + 1) (length_numbers count) }
 {
@@ -141,8 +143,10 @@ fn next_random(number: u32) -> u32
 }
 
 /// Writes the bytes of the items, in one segment whose latch is the first codeword of the symbol, into the target.
-pub(crate) fn write_segment(items: &[Item], words: &mut ArrayVec<u8, MOST_DATA>)
-    requires { length (one_segment (map byte_of items.now)) ≤ MOST_DATA }
+pub(crate) fn write_segment<const N: usize>(items: &[Item], words: &mut ArrayVec<u8, N>)
+    requires fits { length (one_segment (map byte_of items.now)) ≤ N }
+    requires least { 3 ≤ N }
+    requires most { N ≤ LARGEST_DATA }
     ensures { words.new.items ≡ one_segment (map byte_of items.now) }
 {
     words.clear();
@@ -152,8 +156,9 @@ pub(crate) fn write_segment(items: &[Item], words: &mut ArrayVec<u8, MOST_DATA>)
 }
 
 /// Writes the bytes of the items, as the next codewords of a symbol that begins with these words.
-pub(crate) fn write_bytes(items: &[Item], words: &mut ArrayVec<u8, MOST_DATA>)
-    requires { length words.old.items + length items.now ≤ MOST_DATA }
+pub(crate) fn write_bytes<const N: usize>(items: &[Item], words: &mut ArrayVec<u8, N>)
+    requires room { length words.old.items + length items.now ≤ N }
+    requires most { N ≤ LARGEST_DATA }
     ensures { words.new.items
         ≡ words.old.items ++ written (length words.old.items + 1) (map byte_of items.now) }
 {

@@ -7,7 +7,7 @@ ghost use Rattle.dm_words.specs.declared.item.Item.{Item};
 ghost use Rattle.dm_words.specs.declared.fault.WordFault.{WordFault};
 ghost use Rattle.dm_words.specs.declared.c40.set.CodeSet.{CodeSet};
 ghost use Rattle.dm_words.specs.declared.c40.set.Shift.{Shift};
-ghost use Rattle.dm_words.specs.Messages.{IsMessage, most_spelled, byte_items};
+ghost use Rattle.dm_words.specs.Messages.{IsMessage, largest_data, most_spelled, byte_items};
 ghost use Rattle.dm_words.specs.Rows.{IsTable};
 ghost use Rattle.dm_words.specs.Codewords.{codeword_rows};
 ghost use Rattle.dm_words.specs.CodeSets.{basic_rows, shifted_rows};
@@ -22,7 +22,7 @@ ghost use Rattle.dm_words.specs.Spells.{Spells};
 ghost use Rattle.dm_words.specs.Refused.{Refused};
 ghost use Rattle.dm_words.specs.Laws.{HasOneResult, AreCodewords, AreRunValues, BeginsNoSpelling, CanBeLeftOut, AreMacro, SomeSpell};
 
-use crate::limits::{MESSAGE_ROOM, MOST_ITEMS};
+use crate::limits::{LARGEST_DATA, MESSAGE_ROOM, MOST_ITEMS};
 use dm_layout::MOST_DATA;
 
 /// In each extent, a list of codewords, however long, spells exactly one message and is refused with no fault, or is refused with exactly one
@@ -92,7 +92,7 @@ pub fn ascii_is_greedy()
 /// codewords, and they spell the message in each extent.
 pub fn normal_form_spells()
     ensures message { (extent : Extent) (profile : Profile) (m : List Item) (count : ℕ)
-        → IsMessage m → length (normal_form profile m) ≤ count → count ≤ most_data
+        → IsMessage m → length (normal_form profile m) ≤ count → count ≤ largest_data
         → Spells extent (padded (normal_form profile m) count) m }
     ensures count { (profile : Profile) (m : List Item) (count : ℕ)
         → length (normal_form profile m) ≤ count
@@ -154,6 +154,7 @@ pub fn tables_are_sound()
 /// `laws::sizes::constants_are_the_limits` says the same of it.
 pub fn limits_are_those_of_the_table()
     ensures data { MOST_DATA ≡ most_data }
+    ensures largest { LARGEST_DATA ≡ largest_data }
     ensures items { MOST_ITEMS ≡ most_spelled Extent.Usual most_data }
     ensures room { MESSAGE_ROOM ≡ most_spelled Extent.Wide most_data }
 {}

@@ -10,7 +10,8 @@
 //! other whatever is shorter, ASCII or one segment of Base 256 ([`shorter_words()`]). [`smallest_words()`] gives
 //! codewords of the smallest size that has any that spell the message in an extent, and [`smallest_words_to()`]
 //! writes them into a target. [`padded()`] gives codewords with pads up to the data codewords of a size, and
-//! [`add_pads()`] adds the pads in a target.
+//! [`add_pads()`] adds the pads in a target. [`normal_words_in()`] and [`pad_to()`] do the same in targets of any room up
+//! to [`LARGEST_DATA`] codewords, for symbols that are no squares or larger ones.
 //!
 //! Limits: [`MOST_DATA`] codewords, [`MOST_ITEMS`] items in the usual extent, and room for [`MESSAGE_ROOM`].
 //!
@@ -41,10 +42,10 @@ pub use dm_layout::MOST_DATA;
 pub use extent::Extent;
 pub use fault::{TooLong, WordFault};
 pub use item::Item;
-pub use limits::{MESSAGE_ROOM, MOST_ITEMS};
+pub use limits::{LARGEST_DATA, MESSAGE_ROOM, MOST_ITEMS};
 pub use message::Message;
-pub use normal_form::{ascii_words, normal_words, normal_words_to, shorter_words};
-pub use pad::{add_pads, padded};
+pub use normal_form::{ascii_words, normal_words, normal_words_in, normal_words_to, shorter_words};
+pub use pad::{add_pads, pad_to, padded};
 pub use profile::Profile;
 pub use reading::{message_of, message_of_as, message_to, message_to_as};
 pub use smallest::{smallest_words, smallest_words_to};

@@ -2,6 +2,9 @@
 
 use dm_layout::MOST_DATA;
 
+/// The most codewords that are written: the data codewords of the largest symbol of any shape, 144 x 144.
+pub const LARGEST_DATA: usize = 1558;
+
 /// The most items that are read in the usual extent, and that a profile writes: two for each data codeword.
 pub const MOST_ITEMS: usize = 2 * MOST_DATA;
 

@@ -11,7 +11,7 @@ use crate::ascii::{AsciiForm, ascii_form, surely_fits, write_ascii};
 use crate::base256::{segment_length, write_segment};
 use crate::fault::TooLong;
 use crate::item::Item;
-use crate::limits::MESSAGE_ROOM;
+use crate::limits::{LARGEST_DATA, MESSAGE_ROOM};
 use crate::message::Message;
 use crate::profile::Profile;
 use arrayvec::ArrayVec;
@@ -57,8 +57,25 @@ pub fn normal_words_to(
     ensures form { IsNormalFormResult profile message.now (outcome result words.new) }
     ensures same { OnErr result (words.new.items ≡ words.old.items) }
 {
+    normal_words_in(profile, message, words)
+}
+
+/// Does the same as [`normal_words_to()`] in a target with room for `N` codewords, at least 3 as each symbol has: after
+/// `Ok`, `words` holds the codewords of the message under the profile, whatever it held before. `TooLong` exactly where
+/// they are more than `N`; then it holds what it held before.
+pub fn normal_words_in<const N: usize>(
+    profile: Profile,
+    message: &Message,
+    words: &mut ArrayVec<u8, N>,
+) -> Result<(), TooLong>
+    requires least { 3 ≤ N }
+    requires most { N ≤ LARGEST_DATA }
+    ensures form { OnOk result (words.new.items ≡ normal_form profile message.now) }
+    ensures too_long { IsErr result ↔ (N < length (normal_form profile message.now)) }
+    ensures same { OnErr result (words.new.items ≡ words.old.items) }
+{
     let items = message.items();
-    if !surely_fits(items) {
+    if !surely_fits(items, N) {
         return write_counted(profile, items, words);
     }
     let ascii = write_ascii(items, words);
@@ -68,18 +85,21 @@ pub fn normal_words_to(
     Ok(())
 }
 
-/// Does the same as [`normal_words_to()`] with these items, whose codewords it counts before it writes any.
-fn write_counted(
+/// Does the same as [`normal_words_in()`] with these items, whose codewords it counts before it writes any.
+fn write_counted<const N: usize>(
     profile: Profile,
     items: &[Item],
-    words: &mut ArrayVec<u8, MOST_DATA>,
+    words: &mut ArrayVec<u8, N>,
 ) -> Result<(), TooLong>
-    requires { length items.now ≤ MESSAGE_ROOM }
-    ensures form { IsNormalFormResult profile items.now (outcome result words.new) }
+    requires few { length items.now ≤ MESSAGE_ROOM }
+    requires least { 3 ≤ N }
+    requires most { N ≤ LARGEST_DATA }
+    ensures form { OnOk result (words.new.items ≡ normal_form profile items.now) }
+    ensures too_long { IsErr result ↔ (N < length (normal_form profile items.now)) }
     ensures same { OnErr result (words.new.items ≡ words.old.items) }
 {
     let form = form_of(profile, items, ascii_form(items));
-    if form.length > MOST_DATA {
+    if form.length > N {
         return Err(TooLong);
     }
     if form.is_segment {

@@ -4,12 +4,13 @@ ghost use Rattle.std.specs.Prelude.{◌≡◌, ◌≤◌, length};
 ghost use Rattle.dm_words.specs.Pads.{padded, pad_at};
 
 use crate::codeword::{FIRST_PAD, RANDOM_FACTOR};
+use crate::limits::LARGEST_DATA;
 use arrayvec::ArrayVec;
 use dm_layout::{MOST_DATA, Size};
 
 /// Gives the pad at a place, where it isn't the first of the symbol.
 fn pad_word(place: u16) -> u8
-    requires { place ≤ MOST_DATA }
+    requires { place ≤ LARGEST_DATA }
     ensures { result ≡ pad_at place }
 {
     let number = FIRST_PAD as u32 + (RANDOM_FACTOR * place as u32) % 253 + 1;
@@ -41,7 +42,18 @@ pub fn add_pads(words: &mut ArrayVec<u8, MOST_DATA>, size: Size)
     ensures words { words.new.items ≡ padded words.old.items size.data_count }
     ensures count { length words.new.items ≡ size.data_count }
 {
-    let count = size.data_count() as usize;
+    pad_to(words, size.data_count() as usize);
+}
+
+/// Adds pads to the words of a message, up to `count` codewords, where they stand: the first pad is 129, each further
+/// one is randomised by its place.
+pub fn pad_to<const N: usize>(words: &mut ArrayVec<u8, N>, count: usize)
+    requires fits { length words.old.items ≤ count }
+    requires room { count ≤ N }
+    requires most { count ≤ LARGEST_DATA }
+    ensures words { words.new.items ≡ padded words.old.items count }
+    ensures count { length words.new.items ≡ count }
+{
     let used = words.len();
     if used < count {
         words.push(FIRST_PAD);

@@ -7,12 +7,12 @@ use Rattle.dm_words.proofs.NormalForms.{bytes_more}
 use Rattle.dm_words.proofs.base256.write_bytes.Goals as goal
 
 pub push-requires : goal.push-requires
-push-requires c =
+push-requires g c =
     let m = c.args.items.now in
     let i = c.loop-item.item-index in
     omega (
       arith,
-      c.requires,
+      c.requires.room,
       c.loop-item-test.true,
       ap length c.loop-item.invariant.so_far,
       length-append c.args.words.now.items (written (length c.args.words.now.items + 1) (map byte_of (take i m))),
@@ -22,7 +22,7 @@ push-requires c =
     )
 
 pub loop-item-preserved : goal.loop-item-preserved
-loop-item-preserved c =
+loop-item-preserved g c =
     let old = c.loop-item.words.items in
     let v = c.loop-item.invariant in
     let put : c.push.new.self.items ≡ old ++ randomised (length old + 1) c.byte.result ∷ [] =

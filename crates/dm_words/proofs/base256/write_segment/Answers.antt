@@ -7,17 +7,27 @@ use Rattle.dm_words.proofs.Segments.{length-written}
 use Rattle.dm_words.proofs.NormalForms.{length-one_segment, segment_whole}
 use Rattle.dm_words.proofs.base256.write_segment.Goals as goal
 
-pub push_length-requires-clause-few : goal.push_length-requires-clause-few
-push_length-requires-clause-few c =
-    let m = c.args.items.now in
-    omega (arith, c.requires, length-one_segment (map byte_of m), length-map m byte_of)
-
-pub write_bytes-requires : goal.write_bytes-requires
-write_bytes-requires c =
+pub push_length-requires : goal.push_length-requires
+push_length-requires g c =
     let m = c.args.items.now in
     omega (
       arith,
-      c.requires,
+      c.requires.fits,
+      c.requires.least,
+      c.requires.most,
+      length-one_segment (map byte_of m),
+      length-map m byte_of,
+      ap length c.push.ensures.items,
+      ap length c.clear.ensures,
+    )
+
+pub write_bytes-requires : goal.write_bytes-requires
+write_bytes-requires g c =
+    let m = c.args.items.now in
+    omega (
+      arith,
+      c.requires.fits,
+      c.requires.most,
       length-one_segment (map byte_of m),
       length-map m byte_of,
       ap (λ k. length (length_numbers k)) (length-map m byte_of),
@@ -29,7 +39,7 @@ write_bytes-requires c =
     )
 
 pub returns : goal.returns
-returns c =
+returns g c =
     let m = c.args.items.now in
     let whole = segment_whole [] c.push.new.self.items c.push_length.new.words.items c.write_bytes.new.words.items (length_numbers (length m)) (map byte_of m)
     (c.push.ensures.items ∙ ap (λ l. l ++ 231 ∷ []) c.clear.ensures) c.push_length.ensures c.write_bytes.ensures in

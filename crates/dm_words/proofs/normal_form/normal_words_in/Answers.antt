@@ -1,11 +1,11 @@
 use Rattle.std.proofs.Common.{arith, ap, length}
-use Rattle.dm_words.proofs.normal_form.normal_words_to.Goals as goal
+use Rattle.dm_words.proofs.normal_form.normal_words_in.Goals as goal
 
 pub returns-then-not-surely_fits-clause-same : goal.returns-then-not-surely_fits-clause-same
-returns-then-not-surely_fits-clause-same c = c.write_counted.ensures.same
+returns-then-not-surely_fits-clause-same g c = c.write_counted.ensures.same
 
 pub write_segment-requires : goal.write_segment-requires
-write_segment-requires c =
+write_segment-requires g c =
     let e = c.form_of.ensures in
     let form = rw c.if-form_of.true at e.form in
     let fits = rw c.if-not-surely_fits.false at c.surely_fits.ensures in

@@ -1,9 +1,9 @@
 use Rattle.std.proofs.Common.{arith}
 use Rattle.dm_words.proofs.PadWords.{pads_more}
-use Rattle.dm_words.proofs.pad.add_pads.Goals as goal
+use Rattle.dm_words.proofs.pad.pad_to.Goals as goal
 
 pub loop-place-preserved : goal.loop-place-preserved
-loop-place-preserved c =
+loop-place-preserved g c =
     let v = c.loop-place.invariant in
     let e = c.push-in-loop-place.ensures in
     record {

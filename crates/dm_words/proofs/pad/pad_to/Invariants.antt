@@ -1,9 +1,9 @@
 use Rattle.std.proofs.Common.{◌≡◌, ◌-◌, ◌+◌, ◌++◌, ◌∷◌, ◌≤◌, length}
 use Rattle.dm_words.specs.Pads.{further_pads}
-use Rattle.dm_words.proofs.pad.add_pads.Given as goal
+use Rattle.dm_words.proofs.pad.pad_to.Given as goal
 
 abbrev pub invariant-loop-place : goal.invariant-loop-place
-invariant-loop-place l = record {
+invariant-loop-place g l = record {
   start : length l.fn.words.items + 2 ≤ l.place;
   len : length l.words.items + 1 ≡ l.place;
   so_far : l.words.items ≡ l.fn.words.items ++ 129 ∷ further_pads (length l.fn.words.items + 2) (l.place - (length l.fn.words.items + 2));
