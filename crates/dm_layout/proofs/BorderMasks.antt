@@ -8,7 +8,6 @@ use Rattle.std.specs.Cmp.{booleans_Decides}
 use Rattle.std.specs.Int.{bit_at}
 use Rattle.std.specs.Int.RustNames.{bit_xor}
 use lib.Bits.{bit_and}
-use lib.Count.{ones}
 use Rattle.std.specs.List.{range_with_len, list_all}
 use Rattle.std.proofs.Math.Nat.{mul-div_cancel, mod-add-mod}
 use Rattle.std.proofs.Math.Pow.{pow_mono}

@@ -49,8 +49,9 @@ decides_run y k i b (suc m) r c =
     (decides_run y (suc k) i (b + 1) m r c))
   where
     to : (IsCell i b r c × (is_dark_in y k ≡ true)) ⊎ InRun y (suc k) i (b + 1) m r c → InRun y k i b (suc m) r c
-    to (inl ((er, ec), d)) = let e : k ≡ c - b + k =
-        omega arith in (er, omega arith, omega arith, subst (λ (t : ℕ). is_dark_in y t ≡ true) e d)
+    to (inl ((er, ec), d)) =
+        let e : k ≡ c - b + k = omega arith in
+        (er, omega arith, omega arith, subst (λ (t : ℕ). is_dark_in y t ≡ true) e d)
     to (inr (er, lo, hi, d)) = let e : c - (b + 1) + suc k ≡ c - b + k = omega arith in
         (er, omega arith, omega arith, subst (λ (t : ℕ). is_dark_in y t ≡ true) e d)
 
@@ -58,8 +59,9 @@ decides_run y k i b (suc m) r c =
     from (er, lo, hi, d) = by (cases_eq c b)
       where
         by : (c ≡ b) ⊎ (c ≡ b → ⊥) → (IsCell i b r c × (is_dark_in y k ≡ true)) ⊎ InRun y (suc k) i (b + 1) m r c
-        by (inl ec) = let e : c - b + k ≡ k =
-            omega arith in inl ((er, ec), subst (λ (t : ℕ). is_dark_in y t ≡ true) e d)
+        by (inl ec) =
+            let e : c - b + k ≡ k = omega arith in
+            inl ((er, ec), subst (λ (t : ℕ). is_dark_in y t ≡ true) e d)
         by (inr ne) = let e : c - b + k ≡ c - (b + 1) + suc k = omega arith in
             inr (er, omega arith, omega arith, subst (λ (t : ℕ). is_dark_in y t ≡ true) e d)
 

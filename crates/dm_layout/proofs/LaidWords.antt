@@ -65,8 +65,9 @@ module _ (n y : ℕ) (slots : List ℕ) (least : 8 ≤ n) (most : n ≤ largest_
 
   -- A byte that is added to the slot of a corner is laid over the last row.
   corner_byte : with_byte slots corner_slot y ≡ set slots largest_mapping (bit_or (get_or slots largest_mapping 0) y)
-  corner_byte = let same : y * 1 ≡ y =
-      omega arith in ap (λ (x : ℕ). set slots largest_mapping (bit_or (get_or slots largest_mapping 0) x)) same
+  corner_byte =
+      let same : y * 1 ≡ y = omega arith in
+      ap (λ (x : ℕ). set slots largest_mapping (bit_or (get_or slots largest_mapping 0) x)) same
 
   -- One more byte in the slot of an anchor marks the cells of the anchor's standard shape.
   put_standard : (i j r c : ℕ) → i < n → j < n → (5 * i + j) % 8 ≡ 4 → r < n → c < n →

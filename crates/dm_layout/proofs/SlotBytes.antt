@@ -146,8 +146,9 @@ byte_over bs k y count small lk ly = same_row_numbers 128 _ _ left right bits
         subst (λ (i : ℕ). in_bytes news < 2 ^ i) e (in_bytes_small news news_small)
 
     whole : in_bytes bs < 2 ^ 128
-    whole = let e : 8 * length bs ≡ 128 =
-        omega (arith, count) in subst (λ (i : ℕ). in_bytes bs < 2 ^ i) e (in_bytes_small bs small)
+    whole =
+        let e : 8 * length bs ≡ 128 = omega (arith, count) in
+        subst (λ (i : ℕ). in_bytes bs < 2 ^ i) e (in_bytes_small bs small)
 
     fits : y * 2 ^ (8 * k) % 2 ^ 128 ≡ y * 2 ^ (8 * k)
     fits = byte_fits y (8 * k) 128 ly (omega arith)

@@ -38,8 +38,9 @@ table_test f n (y ∷ ys) = nat_eq y (f n) && table_test f (suc n) ys
 table_at : (f : ℕ → ℕ) (n i : ℕ) (t : List ℕ) → table_test f n t ≡ true → i < length t → get_or t i 0 ≡ f (n + i)
 unfolding table_test
 table_at f n i [] h l = absurd (omega arith)
-table_at f n zero (y ∷ ys) h l = let z : n ≡ n + 0 =
-    omega arith in eqb-true y (f n) (and_parts (nat_eq y (f n)) (table_test f (suc n) ys) h).0 ∙ ap f z
+table_at f n zero (y ∷ ys) h l =
+    let z : n ≡ n + 0 = omega arith in
+    eqb-true y (f n) (and_parts (nat_eq y (f n)) (table_test f (suc n) ys) h).0 ∙ ap f z
 table_at f n (suc i) (y ∷ ys) h l =
     let z : suc n + i ≡ n + suc i = omega arith in
     table_at f (suc n) i ys (and_parts (nat_eq y (f n)) (table_test f (suc n) ys) h).1 (omega arith) ∙ ap f z
@@ -281,8 +282,9 @@ join_more n width rows slots news x row wide room is bits so_far =
 
 -- The slot of a corner has the lowest byte of the row behind all others.
 pub corner_slot_is : (rows : List ℕ) → slot_byte rows corner_slot ≡ get_or rows largest_mapping 0 % 256
-corner_slot_is rows = let z : get_or rows largest_mapping 0 / 1 % 256 ≡ get_or rows largest_mapping 0 % 256 =
-    omega arith in z
+corner_slot_is rows =
+    let z : get_or rows largest_mapping 0 / 1 % 256 ≡ get_or rows largest_mapping 0 % 256 = omega arith in
+    z
 
 -- Joined rows, with the codeword of a corner put behind them, have the slots of all codewords.
 pub corner_beside : (n : ℕ) (rows joined news : List ℕ) (b w : ℕ) → n ≤ largest_mapping →

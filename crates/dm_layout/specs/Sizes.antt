@@ -112,8 +112,8 @@ IsRow row = row_with_side row.side ≡ Some row
 abbrev pub regions_across : SizeRow → ℕ
 regions_across row = row.mapping / row.region_side
 
--- A size of a square is that of a symbol whose rows and columns are alike. What this crate says of a size and of
--- squares of this size, it says of this size.
+-- A row of the table stands for this size of a symbol, with as many columns as rows. What this crate says of a row, and
+-- of grids and codewords of its size, `dm_modules` says of this size.
 abbrev pub symbol_size : SizeRow → SizeEntry
 symbol_size row =
     entry_of row.side row.side row.region_side row.region_side (regions_across row) (regions_across row) row.data_count
@@ -142,12 +142,11 @@ block_length row = codeword_count row / row.blocks
 abbrev pub IsGreatest : (SizeRow → ℕ) → ℕ → Type 0
 IsGreatest = symbols.IsGreatestOf size_table
 
--- A square of the table of all symbols is this row.
+-- The row that stands for a square of the table of all symbols.
 abbrev pub row_of_entry : SizeEntry → SizeRow
 row_of_entry size =
     row_of size.rows (size.regions_down * size.regions_across) size.region_rows (symbols.mapping_rows size)
-    size.data_count
-    size.check_count size.blocks (symbols.limit size)
+    size.data_count size.check_count size.blocks (symbols.limit size)
 
 -- The table has the squares of the table of all symbols whose sides are at most the largest, in the same order.
 abbrev pub TableIsOfSquares : Type 0

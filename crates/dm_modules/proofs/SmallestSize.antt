@@ -83,7 +83,7 @@ found_first p (r ∷ sizes) size h e = first_case (p r) refl e (found_first p si
     first_case true t e later =
         let g : r ≡ size = cc in (
           (λ _.
-          subst (λ (q : SizeEntry). NoLarger q r) g (record { fewer = omega arith; narrower = λ _. omega arith })),
+              subst (λ (q : SizeEntry). NoLarger q r) g (record { fewer = omega arith; narrower = λ _. omega arith })),
           weaker sizes h.0 g,
         )
     first_case false t e later = (differ (p r) t, later e)

@@ -18,8 +18,9 @@ loop-shape-init c =
       inside = subst (ShapesInside c.args.rows c.args.columns) (sym all) facts.inside;
       so_far = ap (λ (ss : List Shape). laid c.args.rows c.args.columns c.args.words.now ss 0 c.args.cells.now) all;
       room = refl;
-      left = let e : length c.into_iter-shape-iterator.result ≡ length c.args.words.now =
-          ap length all ∙ facts.counted in omega (arith, e);
+      left =
+          let e : length c.into_iter-shape-iterator.result ≡ length c.args.words.now = ap length all ∙ facts.counted in
+          omega (arith, e);
     }
 
 pub cells-requires-clause-rows : goal.cells-requires-clause-rows

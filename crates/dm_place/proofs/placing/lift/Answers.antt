@@ -19,8 +19,9 @@ loop-shape-init c =
           ap (λ (ss : List Shape). lifted (look_at c.args.cells.now c.args.columns) c.args.rows c.args.columns ss 0
           c.args.words.now) all;
       room = refl;
-      left = let e : length c.into_iter-shape-iterator.result ≡ length c.args.words.now =
-          ap length all ∙ facts.counted in omega (arith, e);
+      left =
+          let e : length c.into_iter-shape-iterator.result ≡ length c.args.words.now = ap length all ∙ facts.counted in
+          omega (arith, e);
     }
 
 pub cells-requires-clause-rows : goal.cells-requires-clause-rows
