@@ -8,21 +8,22 @@
  *
  *     static ecc200_sample symbol;
  *     size_t count;
- *     if (ecc200_sample_picture(luminance, width, height, width, NULL, &symbol, 1, &count) == ECC200_SAMPLE_OK && count == 1)
+ *     uint16_t code = ecc200_sample_picture(luminance, width, height, width, NULL, &symbol, 1, &count);
+ *     if (code == ECC200_SAMPLE_OK && count == 1)
  *         printf("%d by %d modules, %d items\n", symbol.side, symbol.side, symbol.reading.item_count);
  *
  *     cc example.c $(pkg-config --cflags --libs ecc200_sample)
  *
- * The library reads no file formats: a PICTURE is its luminance, a byte a pixel, row by row from the top, each row `stride` bytes after the
- * one before. The symbols may be turned by any angle, in perspective, bent, mirrored, or light on dark. A grid comes out upright, as
- * ecc200_read takes it.
+ * The library reads no file formats: a PICTURE is its luminance, a byte a pixel, row by row from the top, each row
+ * `stride` bytes after the one before. The symbols may be turned by any angle, in perspective, bent, mirrored, or light
+ * on dark. A grid comes out upright, as ecc200_read takes it.
  *
- * Finding and sampling are tested, not proved. The sampler tries many candidates, and ecc200_read, which is proved, judges each: the
- * reading is what the grid says. A wrong grid gives no reading or, rarely, a wrong message, as damage to a symbol does; `margin` makes that
- * rarer still.
+ * Finding and sampling are tested, not proved. The sampler tries many candidates, and ecc200_read, which is proved,
+ * judges each: the reading is what the grid says. A wrong grid gives no reading or, rarely, a wrong message, as damage
+ * to a symbol does; `margin` makes that rarer still.
  *
- * Any number of threads may call at once. A call keeps nothing; it allocates about six bytes a pixel, and frees them. Without memory it
- * returns NO_MEMORY, unless it is libdmtx that lacks it, which may end the program. */
+ * Any number of threads may call at once. A call keeps nothing; it allocates about six bytes a pixel, and frees them.
+ * Without memory it returns NO_MEMORY. */
 #ifndef ECC200_SAMPLE_H
 #define ECC200_SAMPLE_H
 
@@ -67,8 +68,8 @@ typedef struct ecc200_sample {
     uint8_t inverted;                 /* 1: the symbol is light on dark in the picture; the grid has its dark modules as 1 all the same */
     uint8_t mirrored;                 /* 1: the picture shows it as in a mirror */
     uint8_t modules[ECC200_MOST_MODULES]; /* the first side * side count */
-    ecc200_reading reading;           /* what ecc200_read says of these modules: at the usual border limit, or, if each block leaves a
-                                         correction unused, at one of side + side / 4 */
+    ecc200_reading reading;           /* what ecc200_read says of these modules: at the usual border limit, or,
+                                         if each block leaves a correction unused, at one of side + side / 4 */
 } ecc200_sample;
 
 /* The usual options: a second, every side, no margin, nothing unread. */

@@ -7,18 +7,21 @@
 #include "witness.h"
 
 static const struct rule RULES[] = {
-    {0.00, 0.00, false, 0, false},  {0.12, 0.00, true, 0, false},   {0.00, 0.00, true, 0, false},  {0.20, 0.00, true, 0, false},
-    {0.12, 0.00, false, 0, false},  {0.30, 0.00, true, 0, false},   {0.12, 0.08, true, 0, false},  {0.12, -0.08, true, 0, false},
-    {0.00, 0.10, false, 0, false},  {0.00, -0.10, false, 0, false}, {0.20, 0.15, true, 0, false},  {0.20, -0.15, true, 0, false},
-    {0.00, 0.20, false, 0, false},  {0.00, -0.20, false, 0, false}, {0.12, 0.25, true, 0, false},  {0.12, -0.25, true, 0, false},
-    {0.00, 0.00, false, 3, false},  {0.12, 0.00, false, 2, false},  {0.12, 0.00, false, 4, false}, {0.12, 0.00, false, 0, true}};
+    {0.00, 0.00, false, 0, false},  {0.12, 0.00, true, 0, false},   {0.00, 0.00, true, 0, false},
+    {0.20, 0.00, true, 0, false},   {0.12, 0.00, false, 0, false},  {0.30, 0.00, true, 0, false},
+    {0.12, 0.08, true, 0, false},   {0.12, -0.08, true, 0, false},  {0.00, 0.10, false, 0, false},
+    {0.00, -0.10, false, 0, false}, {0.20, 0.15, true, 0, false},   {0.20, -0.15, true, 0, false},
+    {0.00, 0.20, false, 0, false},  {0.00, -0.20, false, 0, false}, {0.12, 0.25, true, 0, false},
+    {0.12, -0.25, true, 0, false},  {0.00, 0.00, false, 3, false},  {0.12, 0.00, false, 2, false},
+    {0.12, 0.00, false, 4, false},  {0.12, 0.00, false, 0, true}};
 enum { RULE_COUNT = sizeof RULES / sizeof *RULES, FEW_RULES = 4 };
 static const double LEAST_SHARE = 0.4, LEAST_SHARE_OF_CLEAR = 0.25, LEAST_BENT = 0.6;
 static const double LEAST_NEAR = 0.6; /* of the edges of a border that is bent: by chance, a third */
 
 /* ---- One candidate */
 
-/* How many wrong border modules are taken at most, where each block leaves a correction unused: as many as a torn corner may take. */
+/* How many wrong border modules are taken at most, where each block leaves a correction unused: as many as a torn
+ * corner may take. */
 static int widest_limit(int side) {
     return side + side / 4;
 }
@@ -36,7 +39,8 @@ static int cost_of(const ecc200_reading *reading) {
     return 1000 * corrected + reading->border_faults;
 }
 
-/* Whether a reading is to be trusted. Beyond the usual border limit it is only if each block leaves one correction unused at least. */
+/* Whether a reading is to be trusted. Beyond the usual border limit it is only if each block leaves one correction
+ * unused at least. */
 static bool leaves_margin(const ecc200_reading *reading, const struct layout *layout, int margin) {
     bool is_usual = reading->border_faults <= ecc200_usual_limit((uint16_t)layout->side);
     margin = margin > 0 || is_usual ? margin : 1;
@@ -80,7 +84,8 @@ struct trials {
 static void keep_if_best(struct trials *trials, bool is_mirrored) {
     const ecc200_reading *reading = &trials->judge->trial->reading;
     int cost = cost_of(reading);
-    if (!leaves_margin(reading, trials->layout, trials->judge->options->margin) || (trials->best_cost >= 0 && trials->best_cost <= cost))
+    if (!leaves_margin(reading, trials->layout, trials->judge->options->margin) ||
+        (trials->best_cost >= 0 && trials->best_cost <= cost))
         return;
     trials->best_cost = cost;
     *trials->best = *trials->judge->trial;

@@ -32,7 +32,8 @@ static void find_witnesses(struct layout *layout) {
 }
 
 void lay_out_places(struct layout *layout, struct part part) {
-    int wide = part.last_x - part.first_x, high = part.last_y - part.first_y, every = 2 * wide * high / MOST_WITNESSES + 1, seen = 0;
+    int wide = part.last_x - part.first_x, high = part.last_y - part.first_y,
+        every = 2 * wide * high / MOST_WITNESSES + 1, seen = 0;
     layout->side = layout->region = wide > high ? wide : high;
     layout->witness_count = 0;
     for (int y = 0; y <= high; y++)
@@ -41,7 +42,8 @@ void lay_out_places(struct layout *layout, struct part part) {
                 bool is_inside = is_upright ? y < high : x < wide;
                 if (!is_inside || seen++ % every > 0 || layout->witness_count == MOST_WITNESSES)
                     continue;
-                float right = (float)(part.first_x + x + (is_upright ? 0 : 0.5)), down = (float)(part.first_y + y + (is_upright ? 0.5 : 0));
+                float right = (float)(part.first_x + x + (is_upright ? 0 : 0.5)),
+                      down = (float)(part.first_y + y + (is_upright ? 0.5 : 0));
                 layout->witnesses[layout->witness_count++] = (struct witness){right, down, (int8_t)is_upright, UNKNOWN};
             }
 }

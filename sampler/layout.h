@@ -8,11 +8,13 @@
 
 enum { SIZES = ECC200_SIZE_COUNT, MOST_SIDE = ECC200_MOST_SIDE, LIGHT = 0, DARK = 1, UNKNOWN = 2, MOST_WITNESSES = 3072 };
 
-/* An edge between two modules of known and different colours, of which one may lie outside the symbol; or a place where there may be one. */
+/* An edge between two modules of known and different colours, of which one may lie outside the symbol; or a place where
+ * there may be one. */
 struct witness {
     float x, y;          /* the middle of the edge */
     int8_t is_upright;   /* 1: an edge along y, whose place is its x; 0: one along x */
-    int8_t darkens;      /* DARK: what follows, to the right or below, is dark; LIGHT: it is light; UNKNOWN: either, or there is no edge */
+    int8_t darkens;      /* DARK: what follows, to the right or below, is dark; LIGHT: it is light;
+                            UNKNOWN: either, or there is no edge */
 };
 
 struct layout {
@@ -38,8 +40,8 @@ struct part {
     int first_x, last_x, first_y, last_y;
 };
 
-/* Makes a layout of the places between modules of a part of a lattice, as many of them as there is room for, evenly: nothing is known of its
- * modules. */
+/* Makes a layout of the places between modules of a part of a lattice, as many of them as there is room for, evenly:
+ * nothing is known of its modules. */
 void lay_out_places(struct layout *layout, struct part part);
 
 /* The colour of a module; outside, where the quiet zone is, LIGHT. */

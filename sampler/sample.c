@@ -7,7 +7,6 @@
 #include "ecc200_sample.h"
 #pragma GCC visibility pop
 
-#include "regions.h"
 #include "search.h"
 
 enum { CALM_LEVELS = 3, LATTICE_LEVELS = 4, LEAST_LEVEL = 24, AROUND = 2, CLOSE_AROUND = 1 };
@@ -74,7 +73,8 @@ bool is_known(const struct search *search, struct point at) {
     return false;
 }
 
-bool judge_all(struct search *search, const struct sight *sight, struct placement *placements, int count, double scale) {
+bool judge_all(struct search *search, const struct sight *sight, struct placement *placements, int count,
+               double scale) {
     search->judge.picture = &sight->picture, search->judge.smooth = &sight->levels[0], search->judge.is_inverted = sight->is_inverted;
     for (int k = 0; k < count && !is_over(search); k++) {
         struct placement *placement = &placements[k];
@@ -172,36 +172,6 @@ static void search_levels(struct search *search, struct sight *sight, void (*sea
             search_level(search, sight, order[k]);
 }
 
-/* ---- By libdmtx, which finds symbols dark on light and light on dark */
-
-/* libdmtx gets at most a fifth of the time: where the solid borders lead nowhere, it seldom finds more, and it can take seconds. */
-static void judge_regions(struct search *search, const struct sight sights[2], const struct plane dark[2], struct regions *regions) {
-    struct point corners[4];
-    struct placement placements[MOST_PLACEMENTS];
-    int64_t fifth = clock_now() + search->judge.options->milliseconds / 5, end = fifth < search->judge.end ? fifth : search->judge.end;
-    while (!is_over(search) && regions_next(regions, end, corners))
-        for (int way = 0; way < 2 && !is_over(search); way++) {
-            struct scene scene = {&sights[way].levels[0], &dark[way], search->judge.end};
-            judge_all(search, &sights[way], placements, placements_between(&scene, corners, placements), 1);
-        }
-}
-
-static void search_regions(struct search *search, const struct sight sights[2]) {
-    if (is_over(search))
-        return;
-    struct plane dark[2] = {0};
-    struct regions *regions = regions_begin(&sights[0].levels[0]);
-    bool is_made = regions != NULL;
-    for (int way = 0; way < 2; way++)
-        is_made = is_made && plane_darken(&sights[way].levels[0], AROUND, search->judge.end, &dark[way]);
-    if (is_made)
-        judge_regions(search, sights, dark, regions);
-    note_lack(search, is_made);
-    regions_end(regions);
-    plane_free(&dark[0]);
-    plane_free(&dark[1]);
-}
-
 /* ---- A picture */
 
 /* Makes the levels of a sight, whose picture is there, by the time `end`. False if there was no memory, or no time. */
@@ -229,8 +199,8 @@ static void sight_free(struct sight *sight) {
     plane_free(&sight->picture);
 }
 
-/* First by solid borders beside which it looks like a symbol, dark on light and then light on dark, then by those that a calm picture shows,
- * then by other solid borders, and last by libdmtx, which takes longest. */
+/* First by solid borders beside which it looks like a symbol, dark on light and then light on dark, then by lattices,
+ * which show both, then by the solid borders of a calm picture, and last by other solid borders. */
 static void search_picture(struct search *search, const struct plane *picture) {
     struct sight *plain = &search->sights[0], *inverted = &search->sights[1];
     int64_t end = search->judge.end;
@@ -245,7 +215,6 @@ static void search_picture(struct search *search, const struct plane *picture) {
         search_levels(search, inverted, search_calm);
         search_levels(search, plain, search_still);
         search_levels(search, inverted, search_still);
-        search_regions(search, search->sights);
     }
     sight_free(plain);
     sight_free(inverted);

@@ -7,7 +7,8 @@ enum { POINTS = 4 };
 static const double FIRST = -0.27, APART = 0.18; /* modules: where the points of a module are */
 static const double LEAST_AROUND = 0.15;         /* of the contrast of the symbol, below which a window shows one colour only */
 
-void sample_modules(const struct plane *plane, const struct layout *layout, const struct lie *lie, double x, double y, struct brightnesses *out) {
+void sample_modules(const struct plane *plane, const struct layout *layout, const struct lie *lie, double x, double y,
+                    struct brightnesses *out) {
     int side = layout->side, region = side / lie->across;
     out->side = side;
     for (int row = 0; row < side; row++)

@@ -11,7 +11,8 @@ struct brightnesses {
     float of[MOST_SIDE * MOST_SIDE];
 };
 
-/* How a symbol lies: a warp for all of it, or for each of its regions, region by region from the top, each row from the left. */
+/* How a symbol lies: a warp for all of it, or for each of its regions, region by region from the top, each row from the
+ * left. */
 enum { MOST_REGIONS = 16 };
 struct lie {
     int across;            /* regions in a row */
@@ -19,7 +20,8 @@ struct lie {
 };
 
 /* The mean brightness of each module's middle. The grid is moved by (x, y) modules. */
-void sample_modules(const struct plane *plane, const struct layout *layout, const struct lie *lie, double x, double y, struct brightnesses *out);
+void sample_modules(const struct plane *plane, const struct layout *layout, const struct lie *lie, double x, double y,
+                    struct brightnesses *out);
 
 /* How dark modules are told from light ones. */
 struct rule {

@@ -246,16 +246,3 @@ int placements_of(const struct scene *scene, const struct elbow *elbow, struct p
     }
     return count;
 }
-
-int placements_between(const struct scene *scene, const struct point corners[4], struct placement out[MOST_PLACEMENTS]) {
-    int count = 0, sides[SIZES];
-    list_sides(sides);
-    for (int k = 0; k < SIZES; k++) {
-        double side = sides[k];
-        struct frame frame = {{{0, 0}, {0, side}, {side, side}, {side, 0}}, {corners[0], corners[3], corners[2], corners[1]}};
-        struct placement placement = best_near(scene, &frame, (int)side, 0.5, 0.5);
-        if (placement.score > 0)
-            keep_best(out, &count, placement);
-    }
-    return count;
-}

@@ -14,7 +14,7 @@ struct scene {
 
 /* Where a symbol may be. */
 struct placement {
-    struct warp warp;             /* from modules to pixels */
+    struct warp warp; /* from modules to pixels */
     int side;
     double score;                 /* the share of border modules that have the right colour */
     bool shows_border;            /* whether nearly all have, though edges may be missing where something touches it */
@@ -24,8 +24,5 @@ enum { MOST_PLACEMENTS = 4 };
 
 /* The placements of an elbow, the likeliest first; returns their number. */
 int placements_of(const struct scene *scene, const struct elbow *elbow, struct placement out[MOST_PLACEMENTS]);
-
-/* The sizes under which four corners, as in ecc200_sample.h, fit the border best. */
-int placements_between(const struct scene *scene, const struct point corners[4], struct placement out[MOST_PLACEMENTS]);
 
 #endif

@@ -5,7 +5,14 @@
 
 /* An edge is looked for along a line across it, on which the picture is sampled TICK modules apart: the steepest place within REACH ticks
  * of where it should be, by the difference of the means of WINDOW ticks on both sides. */
-enum { REACH = 6, WINDOW = 5, SAMPLES = 2 * (REACH + WINDOW) + 1, PARAMETERS = 8, MOST_LOOKED_AT = 700, MOST_PLACE = 1000 };
+enum {
+    REACH = 6,
+    WINDOW = 5,
+    SAMPLES = 2 * (REACH + WINDOW) + 1,
+    PARAMETERS = 8,
+    MOST_LOOKED_AT = 700,
+    MOST_PLACE = 1000
+};
 static const double TICK = 0.1, BESIDE = 0.25, HUBER = 0.12;
 static const double LEAST_SHARE = 0.35, LEAST_CONTRAST = 4; /* of an edge: of the mean contrast, and of 255 */
 static const double NEAR = 0.2;                             /* modules */
@@ -14,15 +21,20 @@ static const double STIFF = 0.002;                          /* how much a bend i
 static const struct part EVERYWHERE = {-MOST_PLACE, MOST_PLACE, -MOST_PLACE, MOST_PLACE};
 
 /* The brightness across an edge, at each tick the mean of three places along it. */
-static void profile_of(const struct plane *plane, const struct warp *warp, const struct witness *witness, double profile[SAMPLES]) {
+static void profile_of(const struct plane *plane, const struct warp *warp, const struct witness *witness,
+                       double profile[SAMPLES]) {
     /* So small a part of a warp is as good as even. */
-    double far = TICK * (REACH + WINDOW), x = witness->is_upright ? far : 0, y = witness->is_upright ? 0 : far, by = BESIDE / far;
-    struct point from = warp_point(warp, witness->x - x, witness->y - y), to = warp_point(warp, witness->x + x, witness->y + y);
+    double far = TICK * (REACH + WINDOW), x = witness->is_upright ? far : 0, y = witness->is_upright ? 0 : far,
+           by = BESIDE / far;
+    struct point from = warp_point(warp, witness->x - x, witness->y - y),
+                 to = warp_point(warp, witness->x + x, witness->y + y);
     struct point middle = warp_point(warp, witness->x, witness->y);
     struct point beside = difference(warp_point(warp, witness->x + by * y, witness->y + by * x), middle);
     struct point step = scale_by(difference(to, from), 1.0 / (SAMPLES - 1));
     for (int k = 0; k < SAMPLES; k++, from = sum(from, step))
-        profile[k] = (brightness(plane, from) + brightness(plane, sum(from, beside)) + brightness(plane, difference(from, beside))) / 3;
+        profile[k] = (brightness(plane, from) + brightness(plane, sum(from, beside)) +
+                      brightness(plane, difference(from, beside))) /
+                     3;
 }
 
 /* How far the edge is from where it should be, in modules; returns its contrast, 0 or less if there is none. */
@@ -33,7 +45,10 @@ static double offset_of(const double profile[SAMPLES], int darkens, double *offs
         double before = 0, after = 0;
         for (int j = 0; j < WINDOW; j++)
             before += profile[k + j], after += profile[k + WINDOW + 1 + j];
-        rises[k] = (darkens == UNKNOWN ? fabs(before - after) : darkens == DARK ? before - after : after - before) / WINDOW;
+        rises[k] = (darkens == UNKNOWN ? fabs(before - after)
+                    : darkens == DARK  ? before - after
+                                       : after - before) /
+                   WINDOW;
         if (rises[k] > rises[best])
             best = k;
     }
@@ -80,7 +95,8 @@ struct edge {
 };
 
 /* Looks at the edges of a part, at most MOST_LOOKED_AT; returns their number. */
-static int look_at(const struct plane *plane, const struct layout *layout, struct part part, const struct warp *warp, struct edge *edges) {
+static int look_at(const struct plane *plane, const struct layout *layout, struct part part, const struct warp *warp,
+                   struct edge *edges) {
     int inside = 0, count = 0, seen = 0;
     for (int k = 0; k < layout->witness_count; k++)
         inside += lies_in(&layout->witnesses[k], part);
@@ -98,7 +114,8 @@ static int look_at(const struct plane *plane, const struct layout *layout, struc
     return count;
 }
 
-double refine(const struct plane *plane, const struct layout *layout, struct part part, double stiff, int rounds, struct warp *warp) {
+double refine(const struct plane *plane, const struct layout *layout, struct part part, double stiff, int rounds,
+              struct warp *warp) {
     double share = 0;
     for (int round = 0; round < rounds; round++) {
         struct edge edges[MOST_LOOKED_AT];
@@ -131,9 +148,11 @@ struct bending {
     double matrix[2][TERMS * TERMS], values[2][TERMS];
 };
 
-static void add_bend(struct bending *bending, const struct witness *witness, const struct warp *warp, double offset, double weight) {
+static void add_bend(struct bending *bending, const struct witness *witness, const struct warp *warp, double offset,
+                     double weight) {
     double terms[TERMS];
-    double *matrix = bending->matrix[witness->is_upright ? 0 : 1], *values = bending->values[witness->is_upright ? 0 : 1];
+    double *matrix = bending->matrix[witness->is_upright ? 0 : 1],
+           *values = bending->values[witness->is_upright ? 0 : 1];
     find_terms((witness->x - warp->middle) / warp->unit, (witness->y - warp->middle) / warp->unit, terms);
     for (int k = 0; k < TERMS; k++) {
         values[k] += weight * terms[k] * offset / warp->unit;
@@ -189,7 +208,8 @@ double mean_contrast(const struct plane *plane, const struct layout *layout, con
     return mean_of(edges, look_at(plane, layout, EVERYWHERE, warp, edges));
 }
 
-struct support support_of(const struct plane *plane, const struct layout *layout, const struct warp *warp, double least) {
+struct support support_of(const struct plane *plane, const struct layout *layout, const struct warp *warp,
+                          double least) {
     struct edge edges[MOST_LOOKED_AT];
     int count = look_at(plane, layout, EVERYWHERE, warp, edges), clear = 0, near = 0;
     for (int k = 0; k < count; k++)

@@ -6,20 +6,25 @@
 #include "plane.h"
 #include "warp.h"
 
-/* Moves the projection of a warp so that the edges in the part come to lie where the picture shows them. `stiff` says how much it is held back:
- * 0.01 for a whole symbol, more for small parts. Returns the share of edges that the picture shows near where they should be. */
-double refine(const struct plane *plane, const struct layout *layout, struct part part, double stiff, int rounds, struct warp *warp);
+/* Moves the projection of a warp so that the edges in the part come to lie where the picture shows them. `stiff` says
+ * how much it is held back: 0.01 for a whole symbol, more for small parts. Returns the share of edges that the picture
+ * shows near where they should be. */
+double refine(const struct plane *plane, const struct layout *layout, struct part part, double stiff, int rounds,
+              struct warp *warp);
 
-/* Bends a warp, whose middle and unit are set, in the same way. Returns the share of clear edges that are near where they should be, before the last round. */
+/* Bends a warp, whose middle and unit are set, in the same way. Returns the share of clear edges that are near where
+ * they should be, before the last round. */
 double bend(const struct plane *plane, const struct layout *layout, int rounds, struct warp *warp);
 
 /* The mean contrast of all edges of a layout. */
 double mean_contrast(const struct plane *plane, const struct layout *layout, const struct warp *warp);
 
-/* The share of a layout's edges that are clear, and of these the share that are where they should be: by chance, a third. */
+/* The share of a layout's edges that are clear, and of these the share that are where they should be: by chance, a
+ * third. */
 struct support {
     double clear, near;
 };
-struct support support_of(const struct plane *plane, const struct layout *layout, const struct warp *warp, double least);
+struct support support_of(const struct plane *plane, const struct layout *layout, const struct warp *warp,
+                          double least);
 
 #endif
