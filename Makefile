@@ -12,8 +12,8 @@ help:
 	@echo "make build     proves the program and everything below it: ten minutes on four processors"
 	@echo "make library   proves the library for C and builds it, static and shared: a minute after make build"
 	@echo "make page      builds the page, one file for a browser: a minute after make build; binaryen is needed"
-	@echo "make sampler   builds what finds symbols in pictures, over the library: seconds; \
-	libdmtx-dev, libpng-dev and libjpeg-dev are needed"
+	@echo "make sampler   builds what finds symbols in pictures, over the library: seconds; libpng-dev and libjpeg-dev \
+	are needed"
 	@echo "make wheel     builds the Python package's wheel, with the libraries that are built: seconds"
 	@echo "make try       shows the program at work, unproved if it isn't built yet: half a minute"
 	@echo "make test      the merge gate, every proof from scratch and all tests: over 50 minutes of processor time"

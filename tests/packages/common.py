@@ -54,10 +54,10 @@ def has(program, what):
 
 def has_sampler(what):
     """Whether the sampler can be built, which has needs of its own."""
-    needed = b"#include <dmtx.h>\n#include <stdio.h>\n#include <png.h>\n#include <jpeglib.h>\n"
+    needed = b"#include <stdio.h>\n#include <png.h>\n#include <jpeglib.h>\n"
     if run(["cc", "-fsyntax-only", "-x", "c", "-"], given=needed)[0] == 0:
         return True
-    left_out.append(f"{what} (libdmtx-dev, libpng-dev or libjpeg-dev isn't installed)")
+    left_out.append(f"{what} (libpng-dev or libjpeg-dev isn't installed)")
     return False
 
 

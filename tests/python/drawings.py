@@ -123,8 +123,7 @@ def unloadable(folder):
     yield same("a library that can't be loaded", (status, output), (1, "False\n"))
     help_told = run([PYTHON, "-m", "ecc200", "read", "--help"], env=env)[1]
     for name, told in (("the module", errors), ("the command", help_told)):
-        parts = [f"{path} is there, but can't be loaded: libgone.so.7", "libdmtx0b"]
-        is_told = all(part in told for part in parts) and "isn't installed" not in told
+        is_told = f"{path} is there, but can't be loaded: libgone.so.7" in told and "isn't installed" not in told
         yield holds(f"{name} names what is lacking", is_told, told)
 
 

@@ -244,10 +244,6 @@ def _lacking(path: str) -> List[str]:
     return [] if flags is None else sorted(_INSTRUCTIONS - set(flags.split()))
 
 
-# What else must be installed for a library to be loaded.
-_NEEDS = {"ecc200_sample": "; it needs libdmtx (Debian: libdmtx0b)"}
-
-
 def _opened(name: str, needed: int, missing: Type[ImportError]) -> ctypes.CDLL:
     """The shared library of this name, with the version of its interface that is needed."""
     file, variable, faults, there = f"lib{name}.so", f"{name.upper()}_LIBRARY", [], ""
@@ -263,7 +259,7 @@ def _opened(name: str, needed: int, missing: Type[ImportError]) -> ctypes.CDLL:
             faults.append(str(why))
             is_there = os.path.isfile(path) or not str(why).startswith(f"{path}:")  # (or it names what this one needs)
             if is_there:
-                there = there or f"{path} is there, but can't be loaded: {why}{_NEEDS.get(name, '')}"
+                there = there or f"{path} is there, but can't be loaded: {why}"
             continue
         if abi != needed:
             said = f"{path} has version {abi} of the interface, but this module needs version {needed}"
