@@ -19,4 +19,6 @@ mod SymbolDoubt
 mod SymbolSteps
 mod SymbolReadings
 mod SymbolReadSteps
+mod SymbolWriteSteps
+mod SymbolNormals
 pub mod Exported

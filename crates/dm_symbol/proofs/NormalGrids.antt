@@ -20,7 +20,7 @@ use Rattle.dm_symbol.proofs.SizeFacts.{size_facts, holds_that_many}
 use Rattle.dm_symbol.proofs.Below.{one_result, normal_form_spells, held_words_are_one, laid_grid_is_one}
 
 -- Two equal results that are there say the same.
-some_is : {A : Type 0} (a b : A) → Some a ≡ Some b → a ≡ b
+pub some_is : {A : Type 0} (a b : A) → Some a ≡ Some b → a ≡ b
 some_is a b e = cc
 
 -- The data codewords of a symbol are bytes.

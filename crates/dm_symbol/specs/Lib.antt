@@ -10,6 +10,7 @@ pub mod SymbolReading
 pub mod NormalSymbol
 pub mod SymbolNormal
 pub mod SymbolInspection
+pub mod SymbolLaws
 pub mod inner
 -- Modules of the layers below, which crates above this one find under its name too: `Rattle.dm_symbol.specs.Grid` is dm_layout/specs/Grid.antt.
 pub use Rattle.dm_layout.specs.Sizes

@@ -2,6 +2,8 @@
 
 ghost use Rattle.dm_symbol.specs.Laws.{NormalGridsTellMessages, OneMessageIsRead, FewItemsAreRead, NoMoreItemsAreRead, WideReadsTheUsual, WideNormalisesTheUsual, ReadResultIsOne, NormalResultIsOne, ReadResultIsThere, NormalResultIsThere, ANormalGridIsThere, NormalGridIsRead, TurnedCellsAreRead, NormalTwiceIsOnce, TheLastProfileDecides, EqualNormalGridsMeanEqualMessages, AMacroIsItsText};
 
+pub mod symbols;
+
 /// Two normal grids under one profile are equal exactly where their messages are.
 pub fn normal_grids_tell_messages()
     ensures { NormalGridsTellMessages }

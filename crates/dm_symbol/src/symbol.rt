@@ -3,4 +3,6 @@
 pub(crate) mod correction;
 pub(crate) mod doubt;
 pub mod inspection;
+pub mod normalising;
 pub mod reading;
+pub mod writing;

@@ -1,0 +1,324 @@
+-- Symbols in which messages are written are read as these, and what follows for normal symbols.
+use Rattle.std.proofs.Common.{◌≡◌, ◌↔◌, ℕ, zero, suc, ◌+◌, ◌*◌, ◌≤◌, List, [], ◌∷◌, map, replicate, Option, None}
+use Rattle.std.proofs.Common.{IsSome}
+use Rattle.std.proofs.Common.{Result, Ok, Err, refl, sym, ap, subst, ◌∙◌, arith}
+use Rattle.std.specs.List.{range_with_len}
+use Rattle.dm_words.specs.declared.extent.Extent.{Extent}
+use Rattle.dm_words.specs.declared.extent.Extent.TheVariants.{Usual, Wide}
+use Rattle.dm_words.specs.declared.item.Item.{Item}
+use Rattle.dm_words.specs.declared.profile.Profile.{Profile}
+use Rattle.dm_words.specs.Messages.{IsMessage}
+use Rattle.dm_code.specs.Erased.{IsNearBut}
+use Rattle.dm_modules.specs.declared.size.SizeChoice.{SizeChoice}
+use Rattle.dm_modules.specs.declared.size.SizeChoice.TheVariants.{Square}
+use Rattle.dm_modules.specs.Sizes.{SizeEntry, block_check}
+use Rattle.dm_modules.specs.Modules.{ModulesView}
+use Rattle.dm_symbol.specs.declared.symbol.reading.BlockReading.{BlockReading}
+use Rattle.dm_symbol.specs.declared.symbol.reading.SymbolReading.{SymbolReading}
+use Rattle.dm_symbol.specs.declared.reading.ReadFault.{ReadFault}
+use Rattle.dm_symbol.specs.declared.normalising.NormalFault.{NormalFault}
+use Rattle.dm_symbol.specs.declared.normalising.NormalFault.TheVariants.{Read, TooLong}
+use Rattle.dm_symbol.specs.Doubt.{sure_fault_count, erased_in}
+use Rattle.dm_symbol.specs.SymbolBlocks.{AreOfSize, AreCodewordsOf, block_in, first_data}
+use Rattle.dm_symbol.specs.SymbolReading.{AreRestored, ReadsSymbol, SymbolReadResult, symbol_reading_of, block_reading}
+use Rattle.dm_symbol.specs.SymbolReading.{block_readings}
+use Rattle.dm_symbol.specs.NormalSymbol.{IsWrittenIn, IsNormalSymbol, FitsChoice}
+use Rattle.dm_symbol.specs.SymbolNormal.{HasNormalSymbol, HasNoNormalSymbol, NormalSymbolResult, IsSymbolNormalised}
+use Rattle.dm_symbol.specs.SymbolLaws.{nothing_wrong}
+use Rattle.dm_symbol.proofs.Below.{spelled_wide}
+use Rattle.dm_symbol.proofs.Distances.{distance_to_itself, near_itself}
+use Rattle.dm_symbol.proofs.SymbolBelow.{near_plain, distance_plain}
+use Rattle.dm_symbol.proofs.SymbolDoubt.{erased_by_none, faults_by_none}
+use Rattle.dm_symbol.proofs.SymbolSteps.{reading_is}
+use Rattle.dm_symbol.proofs.SymbolReadings.{one_symbol_message, one_symbol_result, result_of_symbol, symbol_message}
+use Rattle.dm_symbol.proofs.SymbolReadings.{symbol_read_by_result}
+use Rattle.dm_symbol.proofs.SymbolWriteSteps.{written_spells, written_is_one, written_tells, written_fits}
+
+-- ---- what is written is read
+
+-- A symbol in which a message is written has no sure border fault.
+no_sure_fault : (choice : SizeChoice) (p : Profile) (m : List Item) (g : ModulesView) → IsWrittenIn choice p m g
+    → sure_fault_count g None ≡ 0
+no_sure_fault choice p m g n = sym (faults_by_none g) ∙ n.laid.border
+
+-- Its words are their own restored codewords.
+written_restored : (choice : SizeChoice) (p : Profile) (m : List Item) (g : ModulesView)
+    → (n : IsWrittenIn choice p m g)
+    → AreRestored g None n.words n.words
+written_restored choice p m g n = record {
+  words_held = n.laid.holds;
+  of_size = n.laid.holds.codewords;
+  near = λ b hb.
+      let k = block_check g.size in
+      let block = block_in g.size n.words b in
+      subst (λ e. IsNearBut k block e block) (sym (erased_by_none g.size b))
+      (near_plain k block block (near_itself k block (n.checked b hb)));
+}
+
+-- It is read as its message for every limit.
+pub written_reads : (extent : Extent) (choice : SizeChoice) (p : Profile) (m : List Item) (g : ModulesView) (limit : ℕ)
+    → IsMessage m
+    → IsWrittenIn choice p m g → ReadsSymbol extent g None limit m
+written_reads extent choice p m g limit h n = record {
+  border = omega (arith, no_sure_fault choice p m g n);
+  words = n.words;
+  codewords = n.words;
+  restored = written_restored choice p m g n;
+  spelled = written_spells extent choice p m g h n;
+}
+
+-- A list that is made by a function that always gives the same has it at each place.
+map_to_one : (f : ℕ → BlockReading) (r : BlockReading) (a n : ℕ) → ((b : ℕ) → f b ≡ r)
+    → map f (range_with_len a n) ≡ replicate n r
+map_to_one f r a zero e = refl
+map_to_one f r a (suc n) e = ap (λ x. x ∷ map f (range_with_len (a + 1) n)) (e a)
+    ∙ ap (λ xs. r ∷ xs) (map_to_one f r (a + 1) n e)
+
+-- Nothing is wrong in it.
+pub written_result : (extent : Extent) (choice : SizeChoice) (p : Profile) (m : List Item) (g : ModulesView)
+    (limit : ℕ) → IsMessage m
+    → IsWrittenIn choice p m g
+    → SymbolReadResult extent g None limit
+    (Ok (symbol_reading_of m (replicate g.size.blocks (nothing_wrong (block_check g.size))) 0))
+unfolding written_reads
+written_result extent choice p m g limit h n =
+    let k = block_check g.size in
+    let by : SymbolReadResult extent g None limit
+    (Ok (symbol_reading_of m (block_readings g.size (erased_in g.size None) n.words n.words)
+    (sure_fault_count g None))) =
+    result_of_symbol g None extent limit m (written_reads extent choice p m g limit h n) in
+    let clean : (b : ℕ) → block_reading k (erased_in g.size None b) (block_in g.size n.words b)
+    (block_in g.size n.words b) ≡ nothing_wrong k =
+    λ b.
+    let block = block_in g.size n.words b in
+    let nowhere = distance_plain block block ∙ distance_to_itself block in
+    ap (λ e. block_reading k e block block) (erased_by_none g.size b)
+    ∙ sym (reading_is k 0 0 k [] block block (sym nowhere) refl (omega arith)) in
+    let all : block_readings g.size (erased_in g.size None) n.words n.words ≡ replicate g.size.blocks (nothing_wrong k)
+    =
+    map_to_one (λ b. block_reading k (erased_in g.size None b) (block_in g.size n.words b) (block_in g.size n.words b))
+    (nothing_wrong k) 0 g.size.blocks clean in
+    subst (λ faults. SymbolReadResult extent g None limit
+    (Ok (symbol_reading_of m (replicate g.size.blocks (nothing_wrong k)) faults))) (no_sure_fault choice p m g n)
+    (subst (λ said. SymbolReadResult extent g None limit (Ok (symbol_reading_of m said (sure_fault_count g None)))) all
+    by)
+
+-- It has one result.
+pub written_is_read : (extent : Extent) (choice : SizeChoice) (p : Profile) (m : List Item) (g : ModulesView)
+    (limit : ℕ)
+    (result : Result SymbolReading ReadFault) → IsMessage m → IsWrittenIn choice p m g
+    → SymbolReadResult extent g None limit result
+    ↔ (result ≡ Ok (symbol_reading_of m (replicate g.size.blocks (nothing_wrong (block_check g.size))) 0))
+written_is_read extent choice p m g limit result h n =
+    let right = written_result extent choice p m g limit h n in (
+      λ a. one_symbol_result g None extent limit _ _ a right,
+      λ e. subst (λ a. SymbolReadResult extent g None limit a) (sym e) right,
+    )
+
+-- Symbols in which messages are written are equal exactly where the messages are.
+pub written_symbols_tell : (choice : SizeChoice) (p : Profile) (m n : List Item) (g h : ModulesView) → IsMessage m
+    → IsMessage n
+    → IsWrittenIn choice p m g → IsWrittenIn choice p n h → (g ≡ h) ↔ (m ≡ n)
+written_symbols_tell choice p m n g h hm hn ng nh = (
+  λ e. written_tells choice choice p p m n h hm hn (subst (λ x. IsWrittenIn choice p m x) e ng) nh,
+  λ e. written_is_one choice p n g h (subst (λ x. IsWrittenIn choice p x g) e ng) nh,
+)
+
+-- ---- one result of normalising
+
+-- Two equal errors say the same.
+err_is : (a b : ReadFault) → ◌≡◌ {A = Result SymbolReading ReadFault} (Err a) (Err b) → a ≡ b
+err_is a b e = cc
+
+module _ (extent : Extent) (p : Profile) (modules : ModulesView) (doubtful : Option ModulesView) where
+  -- A symbol has at most one normal symbol under a profile.
+  pub one_normal_symbol : (n o : ModulesView) (k l : ℕ) → HasNormalSymbol extent p modules doubtful k n
+      → HasNormalSymbol extent p modules doubtful l o → n ≡ o
+  one_normal_symbol n o k l hn ho =
+      let same = one_symbol_message modules doubtful extent extent k l hn.message ho.message hn.read ho.read in
+      written_is_one Square p ho.message n o (subst (λ m. IsNormalSymbol p m n) same hn.normal_symbol) ho.normal_symbol
+
+  -- A symbol that is read as a message with a normal symbol isn't read as one that has none.
+  not_too_long : (n : ModulesView) (k l : ℕ) → HasNormalSymbol extent p modules doubtful k n
+      → HasNoNormalSymbol extent p modules doubtful l → ⊥
+  not_too_long n k l h none =
+      let same = one_symbol_message modules doubtful extent extent k l h.message none.message h.read none.read in
+      none.too_long (subst (FitsChoice Square p) same (written_fits Square p h.message n h.normal_symbol))
+
+  -- A symbol that is read has no fault of reading.
+  no_fault : (limit : ℕ) (m : List Item) (why : ReadFault) → ReadsSymbol extent modules doubtful limit m
+      → SymbolReadResult extent modules doubtful limit (Err why) → ⊥
+  no_fault limit m why r a = symbol_read_by_result modules doubtful extent limit (Err why) m a r
+
+  -- A symbol has at most one result of normalising.
+  pub one_normal_symbol_result : (limit : ℕ) (a b : Result ModulesView NormalFault)
+      → NormalSymbolResult extent p modules doubtful limit a
+      → NormalSymbolResult extent p modules doubtful limit b → a ≡ b
+  one_normal_symbol_result limit a b (NormalSymbolResult.normal n h e) (NormalSymbolResult.normal o k f) =
+      e ∙ ap (λ x. Ok x) (one_normal_symbol n o limit limit h k) ∙ sym f
+  one_normal_symbol_result limit a b (NormalSymbolResult.normal n h e) (NormalSymbolResult.too_long k f) =
+      absurd (not_too_long n limit limit h k)
+  one_normal_symbol_result limit a b (NormalSymbolResult.normal n h e) (NormalSymbolResult.fault why k f) =
+      absurd (no_fault limit h.message why h.read k)
+  one_normal_symbol_result limit a b (NormalSymbolResult.too_long h e) (NormalSymbolResult.normal o k f) =
+      absurd (not_too_long o limit limit k h)
+  one_normal_symbol_result limit a b (NormalSymbolResult.too_long h e) (NormalSymbolResult.too_long k f) = e ∙ sym f
+  one_normal_symbol_result limit a b (NormalSymbolResult.too_long h e) (NormalSymbolResult.fault why k f) =
+      absurd (no_fault limit h.message why h.read k)
+  one_normal_symbol_result limit a b (NormalSymbolResult.fault why h e) (NormalSymbolResult.normal o k f) =
+      absurd (no_fault limit k.message why k.read h)
+  one_normal_symbol_result limit a b (NormalSymbolResult.fault why h e) (NormalSymbolResult.too_long k f) =
+      absurd (no_fault limit k.message why k.read h)
+  one_normal_symbol_result limit a b (NormalSymbolResult.fault why h e) (NormalSymbolResult.fault other k f) =
+      let same = one_symbol_result modules doubtful extent limit (Err why) (Err other) h k in
+      let inner : why ≡ other = err_is why other same in
+      e ∙ ap (λ x. Err (Read x)) inner ∙ sym f
+
+-- A normal symbol has itself as its normal symbol, in each extent.
+normal_of_normal : (extent again : Extent) (p : Profile) (modules normal : ModulesView) (doubtful : Option ModulesView)
+    (limit other : ℕ)
+    → HasNormalSymbol extent p modules doubtful limit normal → HasNormalSymbol again p normal None other normal
+normal_of_normal extent again p modules normal doubtful limit other h = record {
+  message = h.message;
+  read = written_reads again Square p h.message normal other
+      (symbol_message modules doubtful extent limit h.message h.read) h.normal_symbol;
+  normal_symbol = h.normal_symbol;
+}
+
+-- The result of normalising for a normal symbol is the symbol itself.
+pub symbol_twice_is_once : (extent again : Extent) (p : Profile) (modules normal : ModulesView)
+    (doubtful : Option ModulesView)
+    (limit other : ℕ) (result : Result ModulesView NormalFault) → HasNormalSymbol extent p modules doubtful limit normal
+    → NormalSymbolResult again p normal None other result ↔ (result ≡ Ok normal)
+symbol_twice_is_once extent again p modules normal doubtful limit other result h =
+    let itself : NormalSymbolResult again p normal None other (Ok normal) =
+    NormalSymbolResult.normal normal (normal_of_normal extent again p modules normal doubtful limit other h) refl in (
+      λ a. one_normal_symbol_result again p normal None other result (Ok normal) a itself,
+      λ e. subst (λ a. NormalSymbolResult again p normal None other a) (sym e) itself,
+    )
+
+-- Two symbols that are read have equal normal symbols exactly where their messages are equal.
+pub equal_normal_symbols : (extent other : Extent) (p : Profile) (g h a b : ModulesView) (d e : Option ModulesView)
+    (k l : ℕ) (m n : List Item)
+    → ReadsSymbol extent g d k m → ReadsSymbol other h e l n → HasNormalSymbol extent p g d k a
+    → HasNormalSymbol other p h e l b
+    → (a ≡ b) ↔ (m ≡ n)
+equal_normal_symbols extent other p g h a b d e k l m n hm hn ha hb =
+    let na : IsNormalSymbol p m a =
+    subst (λ x. IsNormalSymbol p x a) (one_symbol_message g d extent extent k k ha.message m ha.read hm)
+    ha.normal_symbol in
+    let nb : IsNormalSymbol p n b =
+    subst (λ x. IsNormalSymbol p x b) (one_symbol_message h e other other l l hb.message n hb.read hn)
+    hb.normal_symbol in
+    written_symbols_tell Square p m n a b (symbol_message g d extent k m hm) (symbol_message h e other l n hn) na nb
+
+-- A reading isn't a fault.
+ok_no_fault : (reading : SymbolReading) (why : ReadFault)
+    → ◌≡◌ {A = Result SymbolReading ReadFault} (Ok reading) (Err why) → ⊥
+ok_no_fault reading why e = cc
+
+-- What is read in the extent `Usual` is read in `Wide` with the same result.
+pub wide_reads_the_usual_symbol : (modules : ModulesView) (doubtful : Option ModulesView) (limit : ℕ)
+    (reading : SymbolReading)
+    → SymbolReadResult Usual modules doubtful limit (Ok reading)
+    → SymbolReadResult Wide modules doubtful limit (Ok reading)
+wide_reads_the_usual_symbol modules doubtful limit reading a = moved (Ok reading) refl a
+  where
+    no_reading : (result : Result SymbolReading ReadFault) (why : ReadFault) → result ≡ Ok reading → result ≡ Err why
+        → SymbolReadResult Wide modules doubtful limit result
+    no_reading result why is e = absurd (ok_no_fault reading why (sym is ∙ e))
+
+    moved : (result : Result SymbolReading ReadFault) → result ≡ Ok reading
+        → SymbolReadResult Usual modules doubtful limit result
+        → SymbolReadResult Wide modules doubtful limit result
+    moved result is (SymbolReadResult.border h e) = no_reading result _ is e
+    moved result is (SymbolReadResult.block u x h hu first e) = no_reading result _ is e
+    moved result is (SymbolReadResult.words u c why h hu refused e) = no_reading result _ is e
+    moved result is (SymbolReadResult.message u c m h hu s e) =
+        SymbolReadResult.message u c m h hu (spelled_wide Usual (first_data modules.size c) m s) e
+
+-- ---- what a result of normalising says
+
+-- Equal results that are symbols have equal symbols.
+ok_is : (a b : ModulesView) → ◌≡◌ {A = Result ModulesView NormalFault} (Ok a) (Ok b) → a ≡ b
+ok_is a b e = cc
+
+-- A fault isn't a symbol.
+err_no_ok : (a : ModulesView) (f : NormalFault) → ◌≡◌ {A = Result ModulesView NormalFault} (Err f) (Ok a) → ⊥
+err_no_ok a f e = cc
+
+-- A symbol isn't a fault.
+ok_no_err : (a : ModulesView) (f : NormalFault) → ◌≡◌ {A = Result ModulesView NormalFault} (Ok a) (Err f) → ⊥
+ok_no_err a f e = cc
+
+-- Two equal faults of reading say the same.
+read_is : (a b : ReadFault) → ◌≡◌ {A = Result ModulesView NormalFault} (Err (Read a)) (Err (Read b)) → a ≡ b
+read_is a b e = cc
+
+-- A fault of reading isn't that the message is too long.
+read_no_too_long : (a : ReadFault) → ◌≡◌ {A = Result ModulesView NormalFault} (Err (Read a)) (Err TooLong) → ⊥
+read_no_too_long a e = cc
+
+module _ (extent : Extent) (p : Profile) (modules : ModulesView) (doubtful : Option ModulesView) (limit : ℕ) where
+  -- The result is a normal symbol exactly where the symbol has it.
+  says_normal : (result : Result ModulesView NormalFault) → NormalSymbolResult extent p modules doubtful limit result
+      → (n : ModulesView)
+      → (result ≡ Ok n) ↔ HasNormalSymbol extent p modules doubtful limit n
+  says_normal result a n = (
+    λ e. told result a e,
+    λ h. one_normal_symbol_result extent p modules doubtful limit result (Ok n) a
+        (NormalSymbolResult.normal n h refl),
+  )
+    where
+      told : (result : Result ModulesView NormalFault) → NormalSymbolResult extent p modules doubtful limit result
+          → result ≡ Ok n
+          → HasNormalSymbol extent p modules doubtful limit n
+      told result (NormalSymbolResult.normal o h e) f =
+          subst (HasNormalSymbol extent p modules doubtful limit) (ok_is o n (sym e ∙ f)) h
+      told result (NormalSymbolResult.too_long h e) f = absurd (err_no_ok n TooLong (sym e ∙ f))
+      told result (NormalSymbolResult.fault why h e) f = absurd (err_no_ok n (Read why) (sym e ∙ f))
+
+  -- The result is that there is none exactly where the symbol has none.
+  says_too_long : (result : Result ModulesView NormalFault) → NormalSymbolResult extent p modules doubtful limit result
+      → (result ≡ Err TooLong) ↔ HasNoNormalSymbol extent p modules doubtful limit
+  says_too_long result a = (
+    λ e. told result a e,
+    λ h. one_normal_symbol_result extent p modules doubtful limit result (Err TooLong) a
+        (NormalSymbolResult.too_long h refl),
+  )
+    where
+      told : (result : Result ModulesView NormalFault) → NormalSymbolResult extent p modules doubtful limit result
+          → result ≡ Err TooLong
+          → HasNoNormalSymbol extent p modules doubtful limit
+      told result (NormalSymbolResult.normal o h e) f = absurd (ok_no_err o TooLong (sym e ∙ f))
+      told result (NormalSymbolResult.too_long h e) f = h
+      told result (NormalSymbolResult.fault why h e) f = absurd (read_no_too_long why (sym e ∙ f))
+
+  -- The result is a fault of reading exactly where the symbol is refused with it.
+  says_fault : (result : Result ModulesView NormalFault) → NormalSymbolResult extent p modules doubtful limit result
+      → (why : ReadFault)
+      → (result ≡ Err (Read why)) ↔ SymbolReadResult extent modules doubtful limit (Err why)
+  says_fault result a why = (
+    λ e. told result a e,
+    λ h. one_normal_symbol_result extent p modules doubtful limit result (Err (Read why)) a
+        (NormalSymbolResult.fault why h refl),
+  )
+    where
+      told : (result : Result ModulesView NormalFault) → NormalSymbolResult extent p modules doubtful limit result
+          → result ≡ Err (Read why)
+          → SymbolReadResult extent modules doubtful limit (Err why)
+      told result (NormalSymbolResult.normal o h e) f = absurd (ok_no_err o (Read why) (sym e ∙ f))
+      told result (NormalSymbolResult.too_long h e) f = absurd (read_no_too_long why (sym f ∙ e))
+      told result (NormalSymbolResult.fault other h e) f =
+          subst (λ x. SymbolReadResult extent modules doubtful limit (Err x)) (read_is other why (sym e ∙ f)) h
+
+  -- The result defined for a symbol is what normalising it gives.
+  pub is_symbol_normalised : (result : Result ModulesView NormalFault)
+      → NormalSymbolResult extent p modules doubtful limit result
+      → IsSymbolNormalised extent p modules doubtful limit result
+  is_symbol_normalised result a = record {
+    result_is = a;
+    normal = says_normal result a;
+    too_long = says_too_long result a;
+    fault = says_fault result a;
+  }

@@ -1,0 +1,103 @@
+-- What holds of all messages and of the symbols of all sizes. The bytes of a message are numbers of 0 to 255.
+use Rattle.std.specs.Prelude.{◌≡◌, ℕ, List, Option, None, Result, Ok, replicate, ◌↔◌}
+use Rattle.dm_words.specs.declared.extent.Extent.{Extent}
+use Rattle.dm_words.specs.declared.extent.Extent.TheVariants.{Usual, Wide}
+use Rattle.dm_words.specs.declared.item.Item.{Item}
+use Rattle.dm_words.specs.declared.profile.Profile.{Profile}
+use Rattle.dm_words.specs.Messages.{IsMessage}
+use Rattle.dm_code.specs.Codeword.{IsNear}
+use Rattle.dm_code.specs.Erased.{IsNearBut}
+use Rattle.dm_modules.specs.declared.size.SizeChoice.{SizeChoice}
+use Rattle.dm_modules.specs.Sizes.{SizeEntry, block_check}
+use Rattle.dm_modules.specs.Modules.{ModulesView}
+use Rattle.dm_modules.specs.Border.{border_fault_count}
+use Rattle.dm_symbol.specs.declared.symbol.reading.BlockReading.{BlockReading}
+use Rattle.dm_symbol.specs.declared.symbol.reading.SymbolReading.{SymbolReading}
+use Rattle.dm_symbol.specs.declared.reading.ReadFault.{ReadFault}
+use Rattle.dm_symbol.specs.declared.normalising.NormalFault.{NormalFault}
+use Rattle.dm_symbol.specs.Doubt.{erased_in, sure_fault_count}
+use Rattle.dm_symbol.specs.SymbolReading.{ReadsSymbol, SymbolReadResult, symbol_reading_of}
+use Rattle.dm_symbol.specs.NormalSymbol.{IsWrittenIn, IsNormalSymbol}
+use Rattle.dm_symbol.specs.SymbolNormal.{HasNormalSymbol, NormalSymbolResult}
+
+-- With no module doubtful, a word is near to a block but for its erased places exactly where it is near to it.
+abbrev pub NoDoubtIsNearness : Type 0
+NoDoubtIsNearness =
+    (size : SizeEntry) (b k : ℕ) (block other : List ℕ)
+    → IsNearBut k block (erased_in size None b) other ↔ IsNear k block other
+
+-- With no module doubtful, the sure border faults are all border faults.
+abbrev pub NoDoubtCountsAllFaults : Type 0
+NoDoubtCountsAllFaults = (modules : ModulesView) → sure_fault_count modules None ≡ border_fault_count modules
+
+-- With the same doubtful modules, a symbol is read as at most one message, whatever the extents and the limits.
+abbrev pub OneSymbolMessage : Type 0
+OneSymbolMessage =
+    (extent other_extent : Extent) (modules : ModulesView) (doubtful : Option ModulesView) (limit other_limit : ℕ)
+    (message other : List Item) → ReadsSymbol extent modules doubtful limit message
+    → ReadsSymbol other_extent modules doubtful other_limit other → message ≡ other
+
+-- A symbol has at most one result of reading for an extent, doubtful modules and a limit.
+abbrev pub SymbolReadResultIsOne : Type 0
+SymbolReadResultIsOne =
+    (extent : Extent) (modules : ModulesView) (doubtful : Option ModulesView) (limit : ℕ)
+    (result other : Result SymbolReading ReadFault) → SymbolReadResult extent modules doubtful limit result
+    → SymbolReadResult extent modules doubtful limit other → result ≡ other
+
+-- A symbol has at most one result of normalising for an extent, a profile, doubtful modules and a limit.
+abbrev pub NormalSymbolResultIsOne : Type 0
+NormalSymbolResultIsOne =
+    (extent : Extent) (profile : Profile) (modules : ModulesView) (doubtful : Option ModulesView) (limit : ℕ)
+    (result other : Result ModulesView NormalFault) → NormalSymbolResult extent profile modules doubtful limit result
+    → NormalSymbolResult extent profile modules doubtful limit other → result ≡ other
+
+-- What is read in the extent `Usual` is read in `Wide` with the same result.
+abbrev pub WideReadsTheUsualSymbol : Type 0
+WideReadsTheUsualSymbol =
+    (modules : ModulesView) (doubtful : Option ModulesView) (limit : ℕ) (reading : SymbolReading)
+    → SymbolReadResult Usual modules doubtful limit (Ok reading)
+    → SymbolReadResult Wide modules doubtful limit (Ok reading)
+
+-- This is said of a block of k check codewords in which nothing is wrong and nothing erased.
+abbrev pub nothing_wrong : ℕ → BlockReading
+nothing_wrong k = record { corrected = 0; erased = 0; left = k }
+
+-- The symbol in which a message is written, in whatever choice of sizes, is read as that message in each extent and for
+-- every limit, with nothing wrong in any block and no border fault, and has no other result; so is the normal symbol.
+abbrev pub WrittenSymbolIsRead : Type 0
+WrittenSymbolIsRead =
+    (extent : Extent) (choice : SizeChoice) (profile : Profile) (message : List Item) (modules : ModulesView)
+    (limit : ℕ)
+    (result : Result SymbolReading ReadFault) → IsMessage message → IsWrittenIn choice profile message modules
+    → SymbolReadResult extent modules None limit result
+    ↔ (result ≡ Ok (symbol_reading_of message
+    (replicate modules.size.blocks (nothing_wrong (block_check modules.size))) 0))
+
+-- Two symbols in which messages are written in one choice and under one profile are equal exactly where the messages
+-- are.
+abbrev pub WrittenSymbolsTellMessages : Type 0
+WrittenSymbolsTellMessages =
+    (choice : SizeChoice) (profile : Profile) (message other_message : List Item) (modules other : ModulesView)
+    → IsMessage message → IsMessage other_message → IsWrittenIn choice profile message modules
+    → IsWrittenIn choice profile other_message other → (modules ≡ other) ↔ (message ≡ other_message)
+
+-- Normalising twice is the same as normalising once: a normal symbol is its own normal symbol, for every second extent
+-- and limit.
+abbrev pub NormalSymbolTwiceIsOnce : Type 0
+NormalSymbolTwiceIsOnce =
+    (extent other_extent : Extent) (profile : Profile) (modules normal : ModulesView) (doubtful : Option ModulesView)
+    (limit other : ℕ) (result : Result ModulesView NormalFault)
+    → HasNormalSymbol extent profile modules doubtful limit normal
+    → NormalSymbolResult other_extent profile normal None other result ↔ (result ≡ Ok normal)
+
+-- Two symbols that are read, each in an extent of its own and with doubtful modules of its own, have equal normal
+-- symbols under one profile exactly where their messages are equal, whatever the limits.
+abbrev pub EqualNormalSymbolsMeanEqualMessages : Type 0
+EqualNormalSymbolsMeanEqualMessages =
+    (extent other_extent : Extent) (profile : Profile) (modules other normal other_normal : ModulesView)
+    (doubtful other_doubtful : Option ModulesView) (limit other_limit : ℕ) (message other_message : List Item)
+    → ReadsSymbol extent modules doubtful limit message
+    → ReadsSymbol other_extent other other_doubtful other_limit other_message
+    → HasNormalSymbol extent profile modules doubtful limit normal
+    → HasNormalSymbol other_extent profile other other_doubtful other_limit other_normal
+    → (normal ≡ other_normal) ↔ (message ≡ other_message)

@@ -1,0 +1,44 @@
+//! Laws of the definitions of symbols of all sizes. Each function has an empty body: its contract is the law.
+
+ghost use Rattle.dm_symbol.specs.SymbolLaws.{NoDoubtIsNearness, NoDoubtCountsAllFaults, OneSymbolMessage};
+ghost use Rattle.dm_symbol.specs.SymbolLaws.{SymbolReadResultIsOne, NormalSymbolResultIsOne, WideReadsTheUsualSymbol};
+ghost use Rattle.dm_symbol.specs.SymbolLaws.{WrittenSymbolIsRead, WrittenSymbolsTellMessages, NormalSymbolTwiceIsOnce};
+ghost use Rattle.dm_symbol.specs.SymbolLaws.{EqualNormalSymbolsMeanEqualMessages};
+
+/// With no module doubtful, blocks are near to codewords as they are without any talk of doubt, and all border faults
+/// count.
+pub fn no_doubt_changes_nothing()
+    ensures near { NoDoubtIsNearness }
+    ensures border { NoDoubtCountsAllFaults }
+{}
+
+/// With the same doubtful modules, a symbol is read as at most one message, whatever the extents and the limits. For each
+/// extent and limit it has at most one result of reading and, under each profile, at most one of normalising.
+pub fn one_symbol_message_is_read()
+    ensures message { OneSymbolMessage }
+    ensures read { SymbolReadResultIsOne }
+    ensures normal { NormalSymbolResultIsOne }
+{}
+
+/// What is read in the usual extent has the same result in the wide one.
+pub fn wide_reads_the_usual_symbol()
+    ensures { WideReadsTheUsualSymbol }
+{}
+
+/// The symbol in which a message is written, in any choice of sizes, is read as that message in each extent and for every
+/// limit, with nothing corrected; so is its normal symbol. Such symbols are equal exactly where their messages are.
+pub fn written_symbol_is_read()
+    ensures read { WrittenSymbolIsRead }
+    ensures tell { WrittenSymbolsTellMessages }
+{}
+
+/// Normalising twice under one profile is the same as normalising once, whatever the second extent.
+pub fn normal_symbol_twice_is_once()
+    ensures { NormalSymbolTwiceIsOnce }
+{}
+
+/// Two symbols that are read, each in its own way, have equal normal symbols under one profile exactly where their
+/// messages are equal.
+pub fn equal_normal_symbols_mean_equal_messages()
+    ensures { EqualNormalSymbolsMeanEqualMessages }
+{}
