@@ -41,7 +41,7 @@ def prove(tally):
     """Runs tests/proofs, which ends with a line that counts what it proved and tried, and adds that. Whether all of it
     passed."""
     if not shutil.which("rt"):
-        tally.left_out["the Rattle toolchain (rt) isn't on the path"].append("tests.proofs")
+        tally.left_out["the Rattle toolchain (rt) isn't on the path, so nothing is proved"].append("tests.proofs")
         return True
     counted = (0, 0)
     how = {"stdin": subprocess.DEVNULL, "stdout": subprocess.PIPE, "text": True, "errors": "replace"}
@@ -76,6 +76,8 @@ def main():
     end_in_order(os.getpid())
     tally = Tally(lambda line: print(line, flush=True))
     cases = found(given.names, given.k)
+    if not cases.countTestCases():
+        print(f"no case has {' or '.join(given.k) or 'this'} in its name", file=sys.stderr)
     try:
         if not given.proofs or prove(tally):
             cases.run(tally)

@@ -84,7 +84,7 @@ static void put_reading(const ecc200_reading *reading) {
     fputs(",\"corrected\":[", stdout);
     for (int block = 0; block < reading->block_count; block++)
         printf("%s%d", block > 0 ? "," : "", reading->corrected[block]);
-    printf("],\"border\":%d", reading->border_faults);
+    printf("],\"border_faults\":%d", reading->border_faults);
 }
 
 void report_json(const char *file, const ecc200_sample *symbol) {

@@ -161,7 +161,7 @@ def turned(rows):
 
 
 def otherwise():
-    """Grids that stand otherwise are named, and read with --upright."""
+    """Grids that stand otherwise are named, and read with --any-way."""
     for message in (b"123456", b"Mitsubadoor" * 9):
         rows = ecc200.write(message)
         side = len(rows)
@@ -181,10 +181,10 @@ def otherwise():
                                       for row in rows for _ in "ab"],
              "has 2 by 2 characters or pixels for each module and has a light margin and is mirrored"),
         ]:
-            yield says(f"{name}, {side}", ecc("read", given=text(grid)), 1, "", [part, "--upright"])
-            yield says(f"{name}, {side}, --upright", ecc("read", "--upright", given=text(grid)),
+            yield says(f"{name}, {side}", ecc("read", given=text(grid)), 1, "", [part, "--any-way"])
+            yield says(f"{name}, {side}, --any-way", ecc("read", "--any-way", given=text(grid)),
                        output=message.decode() + "\n")
-    yield says("nothing helps", ecc("read", "--upright", given=text([bytes(10)] * 10)), 1, "", ["27 of the 36"])
+    yield says("nothing helps", ecc("read", "--any-way", given=text([bytes(10)] * 10)), 1, "", ["27 of the 36"])
 
 
 def writing(folder):
@@ -311,9 +311,9 @@ def named_alike(folder):
     first = json.loads(run([program, "--json", "--time", "2000", path])[1])
     for option in ("--time", "--milliseconds"):
         second = json.loads(ecc("read", "--json", option, "2000", path)[1])
-        for name in ("file", "side", "inverted", "mirrored", "message", "corrected", "border"):
+        for name in ("file", "side", "inverted", "mirrored", "message", "corrected", "border_faults"):
             yield same(f"{name}, with {option}", second[name], first[name])
-    yield same("what is compared", (first["message"], first["corrected"], first["border"]), ("123456", [1], 1))
+    yield same("what is compared", (first["message"], first["corrected"], first["border_faults"]), ("123456", [1], 1))
 
 
 def pages(folder):

@@ -47,7 +47,7 @@ def torn(sampler):
                     grid[row][column] = 0
         done = run([sampler, "--json", "--time=30000"], pgm(pixels_of(grid, 5)))
         told = json.loads(done.stdout or b"{}")
-        check(f"side {side} without corner {turn}", (told.get("message"), told.get("border", 0) > side // 4),
+        check(f"side {side} without corner {turn}", (told.get("message"), told.get("border_faults", 0) > side // 4),
               (message, reach > side // 4))
 
 

@@ -28,7 +28,7 @@ def options(folder, sampler):
     told = json.loads(run([sampler, "--json", path]).stdout)
     check("--json", {name: told[name] for name in told if name != "corners"}, {
         "file": path, "side": 10, "inverted": False, "mirrored": False, "message": "123456", "corrected": [0],
-        "border": 0,
+        "border_faults": 0,
         "grid": ["".join(map(str, row)) for row in grid]})
     check("corners in --json", [[round(c) for c in corner] for corner in told["corners"]],
           [[12, 12], [52, 12], [52, 52], [12, 52]])

@@ -28,14 +28,14 @@ class Answer(NamedTuple):
 
 def _refusal(source: Source, rows: Rows, why: Refused, given: argparse.Namespace) -> Answer:
     hint = None if source.found else righted(rows, given.border, given.extent)
-    if hint is not None and given.upright:
+    if hint is not None and given.any_way:
         return Answer(source, hint.reading, hint.rows, how=hint.how)
     fault = in_words(why, rows, given.extent)
     if source.found and why.code in (Code.BORDER, Code.BLOCK):
         fault = (f"what looks most like a symbol isn't read: {fault}. Rectangles and other codes, as QR codes, aren't "
                  "read at all")
     if hint is not None:
-        fault = f"it {hint.how}; --upright reads it so" + ("" if Code.SIDE >= why.code else f" (as it stands, {fault})")
+        fault = f"it {hint.how}; --any-way reads it so" + ("" if Code.SIDE >= why.code else f" (as it stands, {fault})")
     return Answer(source, None, rows, "; ".join(filter(None, (fault, source.fault))), why)
 
 
@@ -111,7 +111,7 @@ def _about(answer: Answer) -> Dict[str, Any]:
             told.update({"block": place + 1} if code == Code.BLOCK else {"value": value, "place": place})
     else:
         reading = answer.reading
-        told.update(side=len(answer.rows), border=reading.border_faults, corrected=list(reading.corrected))
+        told.update(side=len(answer.rows), border_faults=reading.border_faults, corrected=list(reading.corrected))
     return told
 
 
