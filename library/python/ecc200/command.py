@@ -59,8 +59,8 @@ def _reads(parser: argparse.ArgumentParser, most: int = 1) -> None:
     parser.add_argument("--border", type=_number(0, 65535), metavar="N",
                         help="accept N border modules of the wrong colour (a quarter of the side)")
     parser.add_argument("--any-way", action="store_true",
-                        help="read grids also that are turned, mirrored, light on dark, have a margin or several characters "
-                        "a module")
+                        help="also read grids that are turned, mirrored, light on dark, have a margin or several "
+                        "characters a module")
     parser.add_argument("--upright", dest="any_way", action="store_true", help=argparse.SUPPRESS)  # its old name
     fault = core.sampler_fault()
     looks = parser.add_argument_group("pictures", _PICTURES if fault is None else f"{_NO_SAMPLER}{fault}.")
