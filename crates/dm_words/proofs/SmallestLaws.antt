@@ -41,5 +41,6 @@ pub normal_is_no_shorter : (extent : Extent) (profile : Profile) (m : List Item)
 normal_is_no_shorter extent profile m words count fit s sized room =
     let long = normal_form_count profile m count room in
     let least = s.smallest (padded (normal_form profile m) count) (subst IsDataCount (sym long) sized)
-    (normal_form_spells extent profile m count fit room (count_most count sized)) in
+    (let most = count_most count sized in
+        normal_form_spells extent profile m count fit room (omega (arith, most))) in
     omega (arith, least, long)
