@@ -114,10 +114,10 @@ pub fn normal_form_holds_two_items()
         → length m ≤ 2 * length (normal_form profile m) }
 {}
 
-/// How far the smallest codewords of a message in an extent are determined, as [`crate::smallest_words()`] gives them: how
-/// many they are, pads counted; all of them, where there is room for the ASCII form; and whether the usual extent reads
-/// them. The wide extent never needs more than the usual one, and neither needs more than a normal form. Which of several
-/// other lists of that size is chosen, no clause says: compare messages by their normal grids.
+/// How far the smallest codewords of a message in an extent are determined, as [`crate::smallest_words()`] gives them:
+/// how many they are, pads counted; all of them, where there is room for the ASCII form; and whether the usual extent
+/// reads them. The wide extent never needs more than the usual one, and neither needs more than a normal form. Which of
+/// several other lists of that size is chosen, no clause says: compare messages by their normal grids.
 pub fn smallest_words_are_alike()
     ensures count { (extent : Extent) (m : List Item) (words other : List ℕ)
         → IsSmallestFor extent words m → IsSmallestFor extent other m
