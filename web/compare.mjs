@@ -5,8 +5,8 @@ import { bound, broughtBy, textOfFile } from "./dropping.mjs";
 import { C40, DAMAGED_GRID } from "./examples.mjs";
 import { desks } from "./flow.mjs";
 import { gridText, isGrid } from "./grids.mjs";
-import { elementString, itemsOf, whyNot } from "./gs1.mjs";
-import { spelled, tooMuch } from "./messages.mjs";
+import { itemsOf, readable, whyNot } from "./gs1.mjs";
+import { tooMuch } from "./messages.mjs";
 import { brokenWords, isBroken, settled } from "./order.mjs";
 import { lookAt } from "./source.mjs";
 import { VALID, mark, stamp } from "./state.mjs";
@@ -131,7 +131,7 @@ class Slot {
     if (!seen || seen.answer.fault) return;
     const { side, answer } = seen, stands = how ? `, ${how}` : "";
     const mended = borne(answer.corrected, answer.border) || "nothing had to be corrected";
-    const text = elementString(answer.items) || spelled(answer.items) || "the empty message";
+    const text = readable(answer.items) || "the empty message";
     this.reads.append(`${side} × ${side}${stands}; ${mended}: `, made("b", { textContent: text }));
   }
 }

@@ -5,7 +5,7 @@ import { $, hint, made, setUsable, shape } from "./dom.mjs";
 import { drawElements, elementsOf, faultsOf } from "./elements.mjs";
 import { elementString } from "./gs1.mjs";
 import { drawLesson } from "./lesson.mjs";
-import { isPlain, spelled, spelledItem, utf8Of } from "./messages.mjs";
+import { isPlain, spelled, spelledItem, visibleUtf8Of } from "./messages.mjs";
 import { BAD, EMPTY, VALID, WORKING, isDamaged, mark } from "./state.mjs";
 import { drawSymbol } from "./symbol.mjs";
 import { drawPrintSize } from "./taking.mjs";
@@ -58,9 +58,11 @@ const iconOf = ([around, sign]) => shape("svg", { viewBox: "0 0 24 24", "aria-hi
   shape("path", { d: around, fill: "currentColor" }),
   shape("path", { d: sign, fill: "none", stroke: "var(--card)", "stroke-width": 2.6 }));
 
-// A message as people read it: GS1 data by its identifiers in brackets, all else as it is spelled.
+// A message as people read it: GS1 data by its identifiers in brackets, text in UTF-8 as it is, all else as it is
+// spelled.
 /** @type {(items: number[]) => (Node | string)[]} */
 function shownItems(items) {
+  if (visibleUtf8Of(items)) return [visibleUtf8Of(items)];
   if (!items.length) return [made("span", { className: "none", textContent: "the empty message" })];
   const text = elementString(items);
   if (text) return text.split(/(\(\d+\))/).map((part, k) => (k % 2 ? made("i", { textContent: part }) : part));
@@ -73,6 +75,7 @@ function say(kind, state, why, items = null) {
   if ($("verdict").className !== `card verdict ${kind}`) $("verdict").className = `card verdict ${kind}`;
   $("state").replaceChildren(iconOf(ICONS[kind]), made("span", { textContent: state }));
   $("says").replaceChildren(...(items ? shownItems(items) : none));
+  $("says").toggleAttribute("data-text", Boolean(items && visibleUtf8Of(items)));
   $("why").textContent = why;
 }
 const NONE = { [EMPTY]: "Nothing is entered yet", [WORKING]: "Working…" };
@@ -92,7 +95,7 @@ function sayRead(it, { items, corrected, border }) {
     say("other", "Read as another message", OTHER, items);
     return;
   }
-  const text = utf8Of(items), asText = text ? ` In UTF-8 it is “${text}”.` : "";
+  const asText = visibleUtf8Of(items) ? ` It is text in UTF-8, of these bytes: ${spelled(items)}` : "";
   const within = it.items ? " Damage within the limits never changes the message." : "";
   const why = `${words ? `${words}.${within}` : "Nothing had to be corrected."}${asText}`;
   const wrong = `${plural(faults, "element is", "elements are")} wrong, as the table says.`;

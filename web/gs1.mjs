@@ -1,7 +1,7 @@
 // GS1 messages: element strings as people write them, with identifiers in parentheses, and as a symbol holds them. The
 // identifiers are those of the library's table, which is packed into the page.
 import { FNC1, isSame, plural } from "./common.mjs";
-import { parse, spelledItem, tooMuch } from "./messages.mjs";
+import { parse, spelled, spelledItem, tooMuch, visibleUtf8Of } from "./messages.mjs";
 
 /** @typedef {{ charset: string, least: number, most: number, check?: string, mayLack: boolean }} Part of a value */
 /** @typedef {{ isFixed: boolean, parts: Part[], name: string }} Entry of the table */
@@ -220,6 +220,9 @@ export function elementString(items) {
   const valueOf = (value) => value.map((item) => (item === 40 ? "\\(" : spelledItem(item))).join("");
   return elements.map(({ identifier, items: value }) => `(${identifier})${valueOf(value)}`).join("");
 }
+// A message as people read it: as an element string, as text in UTF-8, or as it is spelled.
+/** @type {(items: number[]) => string} */
+export const readable = (items) => elementString(items) || visibleUtf8Of(items) || spelled(items);
 // What a reader would take apart otherwise than it was written, in words, or "": a value of fixed length runs into what
 // follows it if it has another.
 function misread(elements, items) {

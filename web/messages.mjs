@@ -31,7 +31,14 @@ export function itemsOfText(text) {
 /** @type {(items: number[]) => string} */
 export function utf8Of(items) {
   if (!items.some((item) => item > 127) || items.includes(FNC1)) return "";
-  try { return new TextDecoder("utf-8", { fatal: true }).decode(Uint8Array.from(items)); } catch { return ""; }
+  const decoder = new TextDecoder("utf-8", { fatal: true, ignoreBOM: true });
+  try { return decoder.decode(Uint8Array.from(items)); } catch { return ""; }
+}
+// The same, if each of its characters can be seen.
+/** @type {(items: number[]) => string} */
+export function visibleUtf8Of(items) {
+  const text = utf8Of(items);
+  return Array.from(text).every((character) => character === " " || !INVISIBLE.test(character)) ? text : "";
 }
 // Why a text is more than a field takes, or "".
 /** @type {(text: string, most?: number) => string} */

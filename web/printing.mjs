@@ -5,9 +5,8 @@ import { linesOfCsv } from "./csv.mjs";
 import { $, hint, made } from "./dom.mjs";
 import { elementsOf } from "./elements.mjs";
 import { desks } from "./flow.mjs";
-import { elementString } from "./gs1.mjs";
+import { readable } from "./gs1.mjs";
 import { laidOut, stockNow } from "./labels.mjs";
-import { spelled } from "./messages.mjs";
 import { brokenWords, isBroken } from "./order.mjs";
 import { paperNow, setPage, setPageSize, tooWide } from "./paper.mjs";
 import { pdfOf } from "./pdf.mjs";
@@ -69,8 +68,7 @@ function fillPaper() {
   const { modules, isDamagedOne, items } = given(), length = lengthOf(modules), side = sideOf(modules);
   const damage = isDamagedOne ? "; damaged" : "", wrong = wrongGs1(items);
   const size = `${side} × ${side} modules of ${millimetres()} mm, ${QUIET} of quiet zone${damage}`;
-  const says = items && (elementString(items) || spelled(items));
-  const text = items ? fitted(says, length) || "the empty message" : "not read";
+  const text = items ? fitted(readable(items), length) || "the empty message" : "not read";
   layOut("one", [figure(modules, [captionOf(text), noteOf(size), ...(wrong ? [noteOf(wrong)] : [])])], length);
 }
 function printOne() {

@@ -38,6 +38,7 @@ SHOWN = """
     const meters = [...document.querySelectorAll("#meters .count")].map((it) => it.textContent);
     return { state: text("state"), says: text("says"), why: text("why"),
              areElements: one("#says i")?.textContent.startsWith("(") ?? false,
+             isText: one("#says").hasAttribute("data-text"),
              side: parseInt(one("#facts dd")?.textContent),
              meters: meters.map((it) => it.replace(/ (can be corrected|accepted)$/, "")) };"""
 
@@ -130,6 +131,12 @@ def rules():
     return gs1
 
 
+def spelled(data):
+    """Bytes as the program spells them."""
+    plain = lambda byte: 32 <= byte <= 126 and byte != 92
+    return "".join(chr(byte) if plain(byte) else "\\\\" if byte == 92 else f"\\x{byte:02X}" for byte in data)
+
+
 def line_of(text):
     """The program's line for what the page shows as an element string, whatever its values are."""
     elements, table = re.findall(r"\((\d+)\)((?:\\.|[^(\\])*)", text), rules().identifiers()
@@ -150,7 +157,7 @@ def as_program(shown):
         assert not beyond, shown
         read = "" if shown["says"] == "the empty message" else shown["says"]
         corrected = " ".join(count for count, _ in bounds[:-1])
-        read = line_of(read) if shown["areElements"] else read
+        read = line_of(read) if shown["areElements"] else spelled(read.encode()) if shown["isText"] else read
         return read, f"ok {shown['side']} border {bounds[-1][0]} corrected {corrected}"
     assert shown["says"] == "no message", shown
     why = shown["why"]

@@ -18,6 +18,7 @@ from tests.page.stage import (
     run,
     settle,
     shown,
+    spelled,
     task,
     text_of,
     unfold,
@@ -30,10 +31,6 @@ ELEMENTS = "(01)09506000134352(17)271231(10)AB-42"
 LINE = "\\F010950600013435217271231" + "10AB-42"
 TEXT = "Gr\u00f6\u00dfe: 5 \u00b5m"
 COLLECT = "globalThis.copied = []; navigator.clipboard.writeText = async (text) => { copied.push(text); }"
-
-
-def spelled_bytes(text):
-    return "".join(chr(byte) if byte < 128 else f"\\x{byte:02X}" for byte in text.encode())
 
 
 def seen_panes():
@@ -113,23 +110,30 @@ def text_and_gs1():
     chips = {it.text: it for it in find("pane-make").find_elements("css selector", "[data-message]")}
     chips["Text"].click()
     settle()
-    count.expect("text", (grid(), find("kind-text").is_selected()), (written(spelled_bytes(TEXT)), True))
+    count.expect("text", (grid(), find("kind-text").is_selected()), (written(spelled(TEXT.encode())), True))
     agree("text, as it is read")
     count.expect(
         "text is said",
-        (shown()["says"], f"In UTF-8 it is \u201c{TEXT}\u201d." in shown()["why"]),
-        (spelled_bytes(TEXT), True),
+        (shown()["says"], f"It is text in UTF-8, of these bytes: {spelled(TEXT.encode())}" in shown()["why"]),
+        (TEXT, True),
     )
     push("copy-message")
     linked()
     count.expect("text in the link", (fields()["message"], fields()["as"]), (TEXT, "text"))
     on.page.refresh()
     started()
-    count.expect("text after a reload", (grid(), find("kind-text").is_selected()), (written(spelled_bytes(TEXT)), True))
+    count.expect("text after a reload", (grid(), find("kind-text").is_selected()), (written(spelled(TEXT.encode())), True))
     put("message", "a\\b (01) \\F\n2")
     count.expect(
         "nothing is spelled in text", (shown()["says"], text_of("message-hint")), ("a\\\\b (01) \\\\F\\x0A2", "")
     )
+    for text in ("\ufeff\u00e9", "\u00e9\n", "e\u0301", "\u00a0"):
+        put("message", text)
+        count.expect(f"{text!r} isn't all to be seen", shown()["says"], spelled(text.encode()))
+        agree(f"{text!r}, as it is read")
+    put("message", "\u00e9\\(01) \u20ac")
+    count.expect("a backslash in text", shown()["says"], "\u00e9\\(01) \u20ac")
+    agree("a backslash in text, as it is read")
     put("message", "~" * 20001)
     count.expect(
         "too much text", (verdict(), "20,001 characters" in text_of("message-hint")), (("Nothing is read", ""), True)
