@@ -262,6 +262,8 @@ def sizes(folder):
                          **more
                      }))
     yield raises("a resolution", ValueError, "unlike -1", lambda: ecc200.encode(b"A").png(dpi=-1))
+    yield raises("a picture of too many dots", ValueError, "too large",
+                 lambda: ecc200.encode(b"A", module=1000).png(dpi=100000))
 
 
 def first_symbols(folder):

@@ -218,7 +218,8 @@ def writing(folder):
                               ("no kind", ("-o", "a.gif"), ".png, .svg"),
                               ("no sheet", ("--sheet", "A4"), "--sheet A4"),
                               ("a small sheet", ("--sheet", "30x20"), "doesn't fit"),
-                              ("no resolution", ("--dpi", "0"), "--dpi")]:
+                              ("no resolution", ("--dpi", "0"), "--dpi"),
+                              ("too many dots", ("--module", "1000mm", "--dpi", "100000"), "too large")]:
         yield says(name, ecc("write", "A", "-o", "a.png", *words, folder=folder), 2, "", [part])
 
 

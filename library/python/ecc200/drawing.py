@@ -14,6 +14,7 @@ A4 = (210.0, 297.0)
 DOT = 0.25  # the side of a dot of a letter in millimetres: letters are 1.75 mm high
 _INCH = 25.4
 _ADVANCE, _FEED = font.WIDTH + 1, font.HEIGHT  # from letter to letter, and from line to line, in dots
+_MOST_DOTS = 1 << 29  # of a PNG, which takes a byte for each while it is drawn: a sheet of A4 at 2,000 dots an inch
 _LEAST_COLUMNS = 20  # letters that a caption has room for below the smallest symbol
 
 
@@ -216,6 +217,8 @@ def png(page: Page, dpi: float) -> bytes:
     many = dots(page.module, dpi)
     scale = many / page.module
     width, height = round(page.width * scale), round(page.height * scale)
+    if width * height > _MOST_DOTS:
+        raise ValueError(f"a PNG of {width} by {height} dots is too large: .svg and .pdf need none")
     lines = [bytearray(b"\1" * width) for _ in range(height)]
     for rows, left, top in page.cells:
         x, y = round(left * scale), round(top * scale)

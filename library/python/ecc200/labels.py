@@ -209,7 +209,10 @@ class Output:
 
     def _drawn(self, page: drawing.Page) -> bytes:
         if self.kind == "png":
-            return drawing.png(page, self.dpi)
+            try:
+                return drawing.png(page, self.dpi)
+            except ValueError as why:
+                raise Trouble(str(why)) from None
         return drawing.svg(page) if self.kind == "svg" else drawing.pdf([page])
 
     def _name(self, label: Label, count: int) -> Optional[str]:
