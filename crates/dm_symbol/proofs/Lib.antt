@@ -21,4 +21,5 @@ mod SymbolReadings
 mod SymbolReadSteps
 mod SymbolWriteSteps
 mod SymbolNormals
+mod SymbolGrids
 pub mod Exported

@@ -7,13 +7,11 @@ use Rattle.dm_code.specs.Codeword.{IsNear, distance}
 use Rattle.dm_code.specs.Erased.{IsNearBut, blank, distance_but}
 use Rattle.dm_code.proofs.Exported.{near_but_one, near_but_none, near_none_but}
 use Rattle.dm_modules.specs.Sizes.{SizeEntry, IsSize, share, codeword_count, block_data, block_check, block_length}
-use Rattle.dm_modules.specs.Blocks.{AreBlocks}
-use Rattle.dm_modules.specs.Holding.{Holds, IsLaid}
-use Rattle.dm_modules.specs.Modules.{ModulesView, IsModules}
-use Rattle.dm_modules.specs.Words.{WordsView, IsWords}
+use Rattle.dm_modules.specs.Holding.{IsLaid}
+use Rattle.dm_modules.specs.Modules.{ModulesView}
+use Rattle.dm_modules.specs.Words.{WordsView}
 use Rattle.dm_modules.proofs.Exported.{length_of_block, word_of_block}
-use Rattle.dm_modules.proofs.Exported.{blocks_make_words as blocks_make_words_of}
-use Rattle.dm_modules.proofs.Exported.{one_held, some_held, one_laid, some_laid}
+use Rattle.dm_modules.proofs.Exported.{one_held, one_laid}
 use Rattle.dm_modules.proofs.Exported.{size_facts, short_block, some_block_data, block_parts}
 use Rattle.dm_symbol.specs.SymbolBlocks.{words_with, AreOfSize, AreHeldBy, block_in}
 
@@ -103,33 +101,10 @@ near_but_is_one k word places first second small bytes room short within hf hs =
 
 -- ---- codewords and modules
 
--- A symbol has codewords whose blocks are these.
-pub record HasBlocks (size : SizeEntry) (blocks : ℕ → List ℕ) : Type 0 where
-  pub list : List ℕ
-  pub of_size : AreOfSize size list
-  pub are : (b : ℕ) → b < size.blocks → block_in size list b ≡ blocks b
-
--- There are codewords of a symbol with any blocks of the right lengths.
-pub blocks_make_words : (size : SizeEntry) (blocks : ℕ → List ℕ) → IsSize size → AreBlocks size blocks
-    → HasBlocks size blocks
-blocks_make_words size blocks entry are =
-    let made = blocks_make_words_of size blocks entry are in
-    record { list = made.0.list; of_size = subst (λ s. AreOfSize s made.0.list) made.2 made.1; are = made.3 }
-
--- Modules hold some codewords.
-pub modules_hold : (modules : ModulesView) → IsModules modules → (words : List ℕ) × AreHeldBy modules words
-modules_hold modules h =
-    let made = some_held modules h in
-    (made.0.list, subst (λ x. Holds modules x) (ap (λ s. words_with s made.0.list) made.1.same_size) made.1)
-
 -- Modules hold only one list of codewords.
 pub held_is_one : (modules : ModulesView) (u v : List ℕ) → AreHeldBy modules u → AreHeldBy modules v → u ≡ v
 held_is_one modules u v hu hv =
     ap (λ (w : WordsView). w.list) (one_held modules (words_with modules.size u) (words_with modules.size v) hu hv)
-
--- Codewords are laid in some modules.
-pub laid_in_some : (words : WordsView) → IsWords words → (modules : ModulesView) × IsLaid words modules
-laid_in_some = some_laid
 
 -- Codewords are laid in only one symbol.
 pub laid_is_one : (m n : ModulesView) (words : WordsView) → IsLaid words m → IsLaid words n → m ≡ n

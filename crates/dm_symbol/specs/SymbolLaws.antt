@@ -5,17 +5,19 @@ use Rattle.dm_words.specs.declared.extent.Extent.TheVariants.{Usual, Wide}
 use Rattle.dm_words.specs.declared.item.Item.{Item}
 use Rattle.dm_words.specs.declared.profile.Profile.{Profile}
 use Rattle.dm_words.specs.Messages.{IsMessage}
+use Rattle.dm_layout.specs.Grid.{GridView, IsGrid}
 use Rattle.dm_code.specs.Codeword.{IsNear}
 use Rattle.dm_code.specs.Erased.{IsNearBut}
 use Rattle.dm_modules.specs.declared.size.SizeChoice.{SizeChoice}
 use Rattle.dm_modules.specs.Sizes.{SizeEntry, block_check}
-use Rattle.dm_modules.specs.Modules.{ModulesView}
+use Rattle.dm_modules.specs.Modules.{ModulesView, IsModules}
 use Rattle.dm_modules.specs.Border.{border_fault_count}
 use Rattle.dm_symbol.specs.declared.symbol.reading.BlockReading.{BlockReading}
 use Rattle.dm_symbol.specs.declared.symbol.reading.SymbolReading.{SymbolReading}
 use Rattle.dm_symbol.specs.declared.reading.ReadFault.{ReadFault}
 use Rattle.dm_symbol.specs.declared.normalising.NormalFault.{NormalFault}
 use Rattle.dm_symbol.specs.Doubt.{erased_in, sure_fault_count}
+use Rattle.dm_symbol.specs.Reading.{Reads}
 use Rattle.dm_symbol.specs.SymbolReading.{ReadsSymbol, SymbolReadResult, symbol_reading_of}
 use Rattle.dm_symbol.specs.NormalSymbol.{IsWrittenIn, IsNormalSymbol}
 use Rattle.dm_symbol.specs.SymbolNormal.{HasNormalSymbol, NormalSymbolResult}
@@ -101,3 +103,17 @@ EqualNormalSymbolsMeanEqualMessages =
     → HasNormalSymbol extent profile modules doubtful limit normal
     → HasNormalSymbol other_extent profile other other_doubtful other_limit other_normal
     → (normal ≡ other_normal) ↔ (message ≡ other_message)
+
+-- These are the modules of a symbol that has the cells of the grid: it has as many rows and columns as the grid.
+pub record AreModulesOf (grid : GridView) (modules : ModulesView) : Type 0 where
+  pub is_grid : IsGrid grid
+  pub are_modules : IsModules modules
+  pub rows : modules.size.rows ≡ grid.size.side
+  pub columns : modules.size.columns ≡ grid.size.side
+  pub cells : modules.rows ≡ grid.rows
+
+-- A grid is read as a message exactly where its modules are, with none of them doubtful.
+abbrev pub GridsAreReadAsSymbols : Type 0
+GridsAreReadAsSymbols =
+    (extent : Extent) (grid : GridView) (modules : ModulesView) (limit : ℕ) (message : List Item)
+    → AreModulesOf grid modules → Reads extent grid limit message ↔ ReadsSymbol extent modules None limit message

@@ -3,7 +3,7 @@
 ghost use Rattle.dm_symbol.specs.SymbolLaws.{NoDoubtIsNearness, NoDoubtCountsAllFaults, OneSymbolMessage};
 ghost use Rattle.dm_symbol.specs.SymbolLaws.{SymbolReadResultIsOne, NormalSymbolResultIsOne, WideReadsTheUsualSymbol};
 ghost use Rattle.dm_symbol.specs.SymbolLaws.{WrittenSymbolIsRead, WrittenSymbolsTellMessages, NormalSymbolTwiceIsOnce};
-ghost use Rattle.dm_symbol.specs.SymbolLaws.{EqualNormalSymbolsMeanEqualMessages};
+ghost use Rattle.dm_symbol.specs.SymbolLaws.{EqualNormalSymbolsMeanEqualMessages, GridsAreReadAsSymbols};
 
 /// With no module doubtful, blocks are near to codewords as they are without any talk of doubt, and all border faults
 /// count.
@@ -12,8 +12,8 @@ pub fn no_doubt_changes_nothing()
     ensures border { NoDoubtCountsAllFaults }
 {}
 
-/// With the same doubtful modules, a symbol is read as at most one message, whatever the extents and the limits. For each
-/// extent and limit it has at most one result of reading and, under each profile, at most one of normalising.
+/// With the same doubtful modules, a symbol is read as at most one message, whatever the extents and the limits. For
+/// each extent and limit it has at most one result of reading and, under each profile, at most one of normalising.
 pub fn one_symbol_message_is_read()
     ensures message { OneSymbolMessage }
     ensures read { SymbolReadResultIsOne }
@@ -25,8 +25,9 @@ pub fn wide_reads_the_usual_symbol()
     ensures { WideReadsTheUsualSymbol }
 {}
 
-/// The symbol in which a message is written, in any choice of sizes, is read as that message in each extent and for every
-/// limit, with nothing corrected; so is its normal symbol. Such symbols are equal exactly where their messages are.
+/// The symbol in which a message is written, in any choice of sizes, is read as that message in each extent and for
+/// every limit, with nothing corrected; so is its normal symbol. Such symbols are equal exactly where their messages
+/// are.
 pub fn written_symbol_is_read()
     ensures read { WrittenSymbolIsRead }
     ensures tell { WrittenSymbolsTellMessages }
@@ -41,4 +42,10 @@ pub fn normal_symbol_twice_is_once()
 /// messages are equal.
 pub fn equal_normal_symbols_mean_equal_messages()
     ensures { EqualNormalSymbolsMeanEqualMessages }
+{}
+
+/// A grid is read as a message, in each extent and for every limit, exactly where the modules of the symbol that has
+/// its cells are.
+pub fn a_grid_is_read_as_its_modules()
+    ensures { GridsAreReadAsSymbols }
 {}

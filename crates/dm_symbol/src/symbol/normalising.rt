@@ -14,10 +14,10 @@ use dm_words::{MOST_DATA, Profile, TooLong};
 /// own way, have equal normal symbols under one profile exactly where they say the same, and a normal symbol is its
 /// own.
 ///
-/// After `Ok`, `normal` is the normal symbol and `reading` is what the symbol says, whatever they were before. The fault
-/// is `Read` where [`read_symbol_to`] refuses the symbol, with its fault, and `TooLong` where no square holds the
-/// message. After a fault `normal` is as it was; `reading` is what the symbol says after `TooLong` too, and some reading
-/// after `Read`.
+/// After `Ok`, `normal` is the normal symbol and `reading` is what the symbol says, whatever they were before. The
+/// fault is `Read` where [`read_symbol_to`] refuses the symbol, with its fault, and `TooLong` where no square holds the
+/// message. After a fault `normal` is as it was; `reading` is what the symbol says after `TooLong` too, and some
+/// reading after `Read`.
 pub fn normal_symbol_to(
     profile: Profile,
     modules: &Modules,
