@@ -18,12 +18,19 @@ use Rattle.dm_words.specs.Spells.{Spells}
 use Rattle.dm_words.specs.Laws.{HasOneResult}
 use Rattle.dm_words.specs.Messages.{IsMessage}
 use Rattle.dm_symbol.specs.Blocks.{symbol, AreWordsOf, AreHeld, block_at}
-use Rattle.dm_code.proofs.Exported.{codewords_one, near_one, codeword_bytes, near_or_none as near_or_none_of, checks_are_there as checks_are_there_of}
-use Rattle.dm_layout.proofs.Exported.{every_grid_holds as every_grid_holds_of, laid_somewhere as laid_somewhere_of, blocks_make_words as blocks_make_words_of, word_of_block, length_of_block, one_list, one_laid, once_at_row, count_at_row}
-use Rattle.dm_words.proofs.Exported.{spelled_is_message as spelled_is_message_of, wide_reads_the_same, one_result as one_result_of, normal_form_codewords as normal_form_codewords_of, normal_form_count as normal_form_count_of, normal_form_spells as normal_form_spells_of}
+use Rattle.dm_code.proofs.Exported.{codewords_one, near_one, codeword_bytes, near_or_none as near_or_none_of}
+use Rattle.dm_code.proofs.Exported.{checks_are_there as checks_are_there_of}
+use Rattle.dm_layout.proofs.Exported.{every_grid_holds as every_grid_holds_of, laid_somewhere as laid_somewhere_of}
+use Rattle.dm_layout.proofs.Exported.{blocks_make_words as blocks_make_words_of, word_of_block, length_of_block}
+use Rattle.dm_layout.proofs.Exported.{one_list, one_laid, once_at_row, count_at_row}
+use Rattle.dm_words.proofs.Exported.{spelled_is_message as spelled_is_message_of, wide_reads_the_same}
+use Rattle.dm_words.proofs.Exported.{one_result as one_result_of, normal_form_codewords as normal_form_codewords_of}
+use Rattle.dm_words.proofs.Exported.{normal_form_count as normal_form_count_of}
+use Rattle.dm_words.proofs.Exported.{normal_form_spells as normal_form_spells_of}
 
 -- Two codewords of one length and of k check codewords that differ at no more than k places are equal.
-pub codewords_apart : (k : ℕ) (c d : List ℕ) → IsCodeword k c → IsCodeword k d → length c ≡ length d → length c ≤ 255 → distance c d ≤ k → c ≡ d
+pub codewords_apart : (k : ℕ) (c d : List ℕ) → IsCodeword k c → IsCodeword k d → length c ≡ length d → length c ≤ 255
+    → distance c d ≤ k → c ≡ d
 codewords_apart = codewords_one
 
 -- At most one codeword is near a block.
@@ -35,7 +42,8 @@ pub codewords_are_bytes : (k : ℕ) (w : List ℕ) → IsCodeword k w → All (�
 codewords_are_bytes = codeword_bytes
 
 -- Some codeword is near a block, or none is.
-pub near_or_none : (k : ℕ) (block : List ℕ) → k < length block → length block ≤ 255 → ((c : List ℕ) × IsNear k block c) ⊎ ((c : List ℕ) → IsNear k block c → ⊥)
+pub near_or_none : (k : ℕ) (block : List ℕ) → k < length block → length block ≤ 255
+    → ((c : List ℕ) × IsNear k block c) ⊎ ((c : List ℕ) → IsNear k block c → ⊥)
 near_or_none = near_or_none_of
 
 -- Data codewords are completed to a codeword.
@@ -44,12 +52,14 @@ pub checks_are_there : (k : ℕ) (prefix : List ℕ) → All (λ a. a < 256) pre
 checks_are_there = checks_are_there_of
 
 -- Place i of block b is place i * B + b of the symbol.
-pub block_places : (size : SizeRow) (words : List ℕ) → AreWordsOf size words → (b i : ℕ) → b < size.blocks → i < block_length size
+pub block_places : (size : SizeRow) (words : List ℕ) → AreWordsOf size words → (b i : ℕ) → b < size.blocks
+    → i < block_length size
     → get_or (block_at size words b) i 0 ≡ get_or words (i * size.blocks + b) 0
 block_places size words h b i hb hi = word_of_block (symbol size words) b i h hb hi
 
 -- A block has the length of its size.
-pub block_lengths : (size : SizeRow) (words : List ℕ) → AreWordsOf size words → (b : ℕ) → b < size.blocks → length (block_at size words b) ≡ block_length size
+pub block_lengths : (size : SizeRow) (words : List ℕ) → AreWordsOf size words → (b : ℕ) → b < size.blocks
+    → length (block_at size words b) ≡ block_length size
 block_lengths size words h b hb = length_of_block (symbol size words) b h hb
 
 -- A symbol has codewords whose blocks are these.
@@ -59,7 +69,8 @@ pub record HasBlocks (size : SizeRow) (blocks : ℕ → List ℕ) : Type 0 where
   pub are : (b : ℕ) → b < size.blocks → block_at size list b ≡ blocks b
 
 -- There are codewords of a symbol with any blocks of the right length.
-pub blocks_make_words : (size : SizeRow) (blocks : ℕ → List ℕ) → IsRow size → AreBlocks size blocks → HasBlocks size blocks
+pub blocks_make_words : (size : SizeRow) (blocks : ℕ → List ℕ) → IsRow size → AreBlocks size blocks
+    → HasBlocks size blocks
 blocks_make_words size blocks row are =
     let made = blocks_make_words_of size blocks row are in
     record { list = made.0.list; of_size = subst (λ s. AreWordsOf s made.0.list) made.2 made.1; are = made.3 }
@@ -95,7 +106,8 @@ pub one_result : (extent : Extent) (words : List ℕ) → All (λ w. w < 256) wo
 one_result extent words h = one_result_of extent words h
 
 -- The normal form of a message, with pads, spells the message.
-pub normal_form_spells : (extent : Extent) (p : Profile) (m : List Item) (count : ℕ) → IsMessage m → length (normal_form p m) ≤ count → count ≤ most_data
+pub normal_form_spells : (extent : Extent) (p : Profile) (m : List Item) (count : ℕ) → IsMessage m
+    → length (normal_form p m) ≤ count → count ≤ most_data
     → Spells extent (padded (normal_form p m) count) m
 normal_form_spells extent p m count h fits most = normal_form_spells_of extent p m count h fits (omega (arith, most))
 

@@ -3,7 +3,8 @@ use Rattle.std.proofs.Common.{ℕ, ◌<◌, ◌≤◌, ◌⊎◌, List, [], inl,
 use Rattle.std.proofs.lemmas.Bool.{cases_lt}
 
 -- Where each number below n has a list with a property, some function gives one for each.
-pub chosen : (n : ℕ) (P : ℕ → List ℕ → Type 0) → ((b : ℕ) → b < n → (list : List ℕ) × P b list) → (f : ℕ → List ℕ) × ((b : ℕ) → b < n → P b (f b))
+pub chosen : (n : ℕ) (P : ℕ → List ℕ → Type 0) → ((b : ℕ) → b < n → (list : List ℕ) × P b list)
+    → (f : ℕ → List ℕ) × ((b : ℕ) → b < n → P b (f b))
 chosen n P each = (λ b. picked b (cases_lt b n), λ b h. holds b (cases_lt b n) h)
   where
     picked : (b : ℕ) → (b < n) ⊎ (n ≤ b) → List ℕ

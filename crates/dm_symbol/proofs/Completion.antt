@@ -1,5 +1,6 @@
 -- Where check codewords are put, the data codewords stay.
-use Rattle.std.proofs.Common.{◌≡◌, ◌≢◌, ℕ, ◌+◌, ◌/◌, ◌%◌, ◌<◌, List, ◌++◌, length, get_or, take, inl, inr, sym, ap, subst, ◌∙◌, arith, mul_comm}
+use Rattle.std.proofs.Common.{◌≡◌, ◌≢◌, ℕ, ◌+◌, ◌/◌, ◌%◌, ◌<◌, List, ◌++◌, length, get_or, take, inl, inr, sym, ap}
+use Rattle.std.proofs.Common.{subst, ◌∙◌, arith, mul_comm}
 use Rattle.std.proofs.lemmas.Bool.{cases_eq}
 use Rattle.std.proofs.lemmas.List.{ext_get_or, get_or-take, get_or_append_left, length-take-le}
 use Rattle.std.proofs.lemmas.Nat.{mod_below, div_below}
@@ -12,7 +13,8 @@ use Rattle.dm_symbol.proofs.Below.{block_lengths}
 
 -- Where the data codewords of each block stay, those of the symbol do.
 pub data_stays : (size : SizeRow) (u v : List ℕ) → AreWordsOf size u → AreWordsOf size v
-    → ((b i : ℕ) → b < size.blocks → i < block_data size → get_or (block_at size v b) i 0 ≡ get_or (block_at size u b) i 0)
+    → ((b i : ℕ) → b < size.blocks → i < block_data size → get_or (block_at size v b) i 0
+    ≡ get_or (block_at size u b) i 0)
     → data_part size v ≡ data_part size u
 data_stays size u v hu hv same =
     let f = size_facts size hu.row in
@@ -25,11 +27,15 @@ data_stays size u v hu hv same =
     let b = j % size.blocks in
     let i = j / size.blocks in
     let hb : b < size.blocks = mod_below j size.blocks f.some_blocks in
-    let hi : i < block_data size = div_below j size.blocks (block_data size) f.some_blocks (omega (arith, within, f.data_dealt, mul_comm size.blocks (block_data size))) in
-    get_or-take D v j 0 within ∙ place_in_block size v hv j here ∙ same b i hb hi ∙ sym (place_in_block size u hu j here) ∙ sym (get_or-take D u j 0 within))
+    let hi : i < block_data size =
+    div_below j size.blocks (block_data size) f.some_blocks
+    (omega (arith, within, f.data_dealt, mul_comm size.blocks (block_data size))) in
+    get_or-take D v j 0 within ∙ place_in_block size v hv j here ∙ same b i hb hi
+    ∙ sym (place_in_block size u hu j here) ∙ sym (get_or-take D u j 0 within))
 
 -- Where a block gets new check codewords, the data codewords of the symbol stay.
-pub completion_keeps_data : (size : SizeRow) (u v checks : List ℕ) (b : ℕ) → AreWordsOf size u → AreWordsOf size v → b < size.blocks
+pub completion_keeps_data : (size : SizeRow) (u v checks : List ℕ) (b : ℕ) → AreWordsOf size u → AreWordsOf size v
+    → b < size.blocks
     → block_at size v b ≡ take (block_data size) (block_at size u b) ++ checks
     → ((a : ℕ) → a < size.blocks → a ≢ b → block_at size v a ≡ block_at size u a) → data_part size v ≡ data_part size u
 completion_keeps_data size u v checks b hu hv hb put others =
@@ -38,7 +44,10 @@ completion_keeps_data size u v checks b hu hv hb put others =
       | inl e ↦
           let f = size_facts size hu.row in
           let prefix = take (block_data size) (block_at size u b) in
-          let long : length prefix ≡ block_data size = length-take-le (block_data size) (block_at size u b) (omega (arith, block_lengths size u hu b hb, f.length)) in
+          let long : length prefix
+          ≡ block_data size =
+          length-take-le (block_data size) (block_at size u b)
+          (omega (arith, block_lengths size u hu b hb, f.length)) in
           ap (λ x. get_or (block_at size v x) i 0) e
           ∙ ap (λ xs. get_or xs i 0) put
           ∙ get_or_append_left prefix checks 0 i (omega (arith, hi, long))
@@ -49,15 +58,19 @@ completion_keeps_data size u v checks b hu hv hb put others =
 
 -- One more block is a codeword.
 pub next_completed : (size s : SizeRow) (u v : List ℕ) (b : ℕ) → s ≡ size → b < size.blocks
-    → ((a : ℕ) → a < b → IsCodeword (block_check size) (block_at size u a)) → IsCodeword (block_check s) (block_at s v b)
-    → ((a : ℕ) → a < s.blocks → a ≢ b → block_at s v a ≡ block_at s u a) → (a : ℕ) → a < b + 1 → IsCodeword (block_check size) (block_at size v a)
+    → ((a : ℕ) → a < b → IsCodeword (block_check size) (block_at size u a))
+    → IsCodeword (block_check s) (block_at s v b)
+    → ((a : ℕ) → a < s.blocks → a ≢ b → block_at s v a ≡ block_at s u a) → (a : ℕ) → a < b + 1
+    → IsCodeword (block_check size) (block_at size v a)
 next_completed size s u v b e hb before here others a ha =
-    let last : IsCodeword (block_check size) (block_at size v b) = subst (λ z. IsCodeword (block_check z) (block_at z v b)) e here in
+    let last : IsCodeword (block_check size) (block_at size v b) =
+    subst (λ z. IsCodeword (block_check z) (block_at z v b)) e here in
     let stay : (a : ℕ) → a < size.blocks → a ≢ b → block_at size v a ≡ block_at size u a =
     subst (λ z. (a : ℕ) → a < z.blocks → a ≢ b → block_at z v a ≡ block_at z u a) e others in
     elim (cases_eq a b) [
       | inl same ↦ subst (λ x. IsCodeword (block_check size) (block_at size v x)) (sym same) last
       | inr other ↦
           let below : a < b = omega (arith, ha, other) in
-          subst (λ xs. IsCodeword (block_check size) xs) (sym (stay a (omega (arith, below, hb)) other)) (before a below)
+          subst (λ xs. IsCodeword (block_check size) xs) (sym (stay a (omega (arith, below, hb)) other))
+          (before a below)
     ]

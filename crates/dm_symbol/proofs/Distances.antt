@@ -6,7 +6,8 @@ use Rattle.dm_code.specs.Codeword.{IsCodeword, IsNear, differs, differing, dista
 use Rattle.dm_code.proofs.Exported.{differs_same, differs_le, differs_apart}
 
 -- Words that agree at the first m places differ in at most as many of the first n places as come after those.
-pub differing_prefix : (w c : List ℕ) (m n : ℕ) → ((i : ℕ) → i < m → get_or w i 0 ≡ get_or c i 0) → differing w c n ≤ n - m
+pub differing_prefix : (w c : List ℕ) (m n : ℕ) → ((i : ℕ) → i < m → get_or w i 0 ≡ get_or c i 0)
+    → differing w c n ≤ n - m
 unfolding differing
 differing_prefix w c m zero e = omega arith
 differing_prefix w c m (suc n) e =
@@ -31,12 +32,14 @@ agrees w c (suc n) i none h =
 
 -- Words of one length that differ nowhere are equal.
 pub differing_nowhere : (w c : List ℕ) → length c ≡ length w → distance w c ≡ 0 → c ≡ w
-differing_nowhere w c long none = ext_get_or 0 c w long (λ i h. sym (agrees w c (length w) i none (omega (arith, h, long))))
+differing_nowhere w c long none =
+    ext_get_or 0 c w long (λ i h. sym (agrees w c (length w) i none (omega (arith, h, long))))
 
 -- A list of words doesn't differ from itself.
 pub distance_to_itself : (word : List ℕ) → distance word word ≡ 0
 distance_to_itself word =
-    let none : differing word word (length word) ≡ 0 = omega (arith, differing_prefix word word (length word) (length word) (λ i h. refl)) in
+    let none : differing word word (length word)
+    ≡ 0 = omega (arith, differing_prefix word word (length word) (length word) (λ i h. refl)) in
     none
 
 -- A codeword is near itself.

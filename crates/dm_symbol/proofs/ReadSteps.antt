@@ -22,12 +22,14 @@ held_words : (grid : GridView) (w : WordsView) → Holds grid w → AreHeld grid
 held_words grid w h = subst (λ x. Holds grid x) (ap (λ s. symbol s w.list) h.same_size) h
 
 -- Where a block can't be corrected, the first such block is a right result.
-pub block_result : (extent : Extent) (grid : GridView) (limit : ℕ) (w : WordsView) (b : ℕ) → border_fault_count grid ≤ limit → Holds grid w → IsFirstBeyond w.size w.list b
+pub block_result : (extent : Extent) (grid : GridView) (limit : ℕ) (w : WordsView) (b : ℕ)
+    → border_fault_count grid ≤ limit → Holds grid w → IsFirstBeyond w.size w.list b
     → ReadResult extent grid limit (Err (fault.Block b))
 block_result extent grid limit w b few h first =
     ReadResult.block w.list b few (held_words grid w h) (subst (λ s. IsFirstBeyond s w.list b) h.same_size first) refl
 
-module _ (extent : Extent) (grid : GridView) (limit : ℕ) (w v : WordsView) (few : border_fault_count grid ≤ limit) (h : Holds grid w) (same : v.size ≡ w.size)
+module _ (extent : Extent) (grid : GridView) (limit : ℕ) (w v : WordsView) (few : border_fault_count grid ≤ limit)
+    (h : Holds grid w) (same : v.size ≡ w.size)
     (of_size : AreWordsOf w.size v.list) (near : BlocksAreNear w.size w.list v.list) where
   -- The words are corrected.
   are_corrected : IsCorrected grid w.list v.list
@@ -42,20 +44,29 @@ module _ (extent : Extent) (grid : GridView) (limit : ℕ) (w v : WordsView) (fe
   data_of_grid = ap (λ s. data_part s v.list) (same ∙ h.same_size)
 
   -- Where the data part is refused, its fault is a right result.
-  pub words_result : (why : WordFault) → Refused extent (data_of v) why → ReadResult extent grid limit (Err (fault.Words why))
-  words_result why refused = ReadResult.words w.list v.list why few are_corrected (subst (λ words. Refused extent words why) data_of_grid refused) refl
+  pub words_result : (why : WordFault) → Refused extent (data_of v) why
+      → ReadResult extent grid limit (Err (fault.Words why))
+  words_result why refused =
+      ReadResult.words w.list v.list why few are_corrected
+      (subst (λ words. Refused extent words why) data_of_grid refused) refl
 
   -- Where the data part spells a message, the reading is a right result.
-  pub message_result : (m : List Item) (counts : ArrayVec ℕ) (faults : ℕ) → counts.items ≡ distances w.size w.list v.list → faults ≡ border_fault_count grid
-      → Spells extent (data_of v) m → ReadResult extent grid limit (Ok (record { message = m; corrected = counts; border_faults = faults }))
+  pub message_result : (m : List Item) (counts : ArrayVec ℕ) (faults : ℕ) → counts.items
+      ≡ distances w.size w.list v.list → faults ≡ border_fault_count grid
+      → Spells extent (data_of v) m
+      → ReadResult extent grid limit (Ok (record { message = m; corrected = counts; border_faults = faults }))
   message_result m counts faults counted border spelled =
-      let all : counts.items ≡ distances grid.size w.list v.list = subst (λ s. counts.items ≡ distances s w.list v.list) h.same_size counted in
+      let all : counts.items ≡ distances grid.size w.list v.list =
+      subst (λ s. counts.items ≡ distances s w.list v.list) h.same_size counted in
       ReadResult.message w.list v.list m few are_corrected (subst (λ words. Spells extent words m) data_of_grid spelled)
-      (ap (λ xs. Ok (reading_of m xs faults)) all ∙ ap (λ n. Ok (reading_of m (distances grid.size w.list v.list) n)) border)
+      (ap (λ xs. Ok (reading_of m xs faults)) all
+      ∙ ap (λ n. Ok (reading_of m (distances grid.size w.list v.list) n)) border)
 
 -- A result is a reading of a message exactly where the grid is read as that message.
-says_message : (extent : Extent) (grid : GridView) (limit : ℕ) (result : Result Reading ReadFault) → ReadResult extent grid limit result → (m : List Item) → IsReadAs result m ↔ Reads extent grid limit m
-says_message extent grid limit result a m = (λ is. reads_by_result extent grid limit result m a is, λ r. read_by_result extent grid limit result m a r)
+says_message : (extent : Extent) (grid : GridView) (limit : ℕ) (result : Result Reading ReadFault)
+    → ReadResult extent grid limit result → (m : List Item) → IsReadAs result m ↔ Reads extent grid limit m
+says_message extent grid limit result a m =
+    (λ is. reads_by_result extent grid limit result m a is, λ r. read_by_result extent grid limit result m a r)
 
 -- Equal faults of the border have equal numbers of modules.
 same_border : (a b : ℕ) → ◌≡◌ {A = Result Reading ReadFault} (Err (fault.Border a)) (Err (fault.Border b)) → a ≡ b
@@ -66,7 +77,8 @@ block_no_border : (n b : ℕ) → ◌≡◌ {A = Result Reading ReadFault} (Err 
 block_no_border n b e = cc
 
 -- The fault of data codewords isn't one of the border.
-words_no_border : (n : ℕ) (why : WordFault) → ◌≡◌ {A = Result Reading ReadFault} (Err (fault.Words why)) (Err (fault.Border n)) → ⊥
+words_no_border : (n : ℕ) (why : WordFault)
+    → ◌≡◌ {A = Result Reading ReadFault} (Err (fault.Words why)) (Err (fault.Border n)) → ⊥
 words_no_border n why e = cc
 
 -- A reading isn't a fault of the border.
@@ -74,19 +86,31 @@ message_no_border : (n : ℕ) (r : Reading) → ◌≡◌ {A = Result Reading Re
 message_no_border n r e = cc
 
 -- A result is a fault of the border exactly where there are more border faults than the limit, and tells their number.
-says_border : (extent : Extent) (grid : GridView) (limit : ℕ) (result : Result Reading ReadFault) → ReadResult extent grid limit result → (count : ℕ)
+says_border : (extent : Extent) (grid : GridView) (limit : ℕ) (result : Result Reading ReadFault)
+    → ReadResult extent grid limit result → (count : ℕ)
     → (result ≡ Err (fault.Border count)) ↔ ((limit < border_fault_count grid) × (count ≡ border_fault_count grid))
-says_border extent grid limit result a count = (λ e. told result a e, λ p. one_given extent grid limit result (Err (fault.Border count)) a (border_result p.0 p.1))
+says_border extent grid limit result a count =
+    (λ e. told result a e, λ p. one_given extent grid limit result (Err (fault.Border count)) a (border_result p.0 p.1))
   where
-    border_result : limit < border_fault_count grid → count ≡ border_fault_count grid → ReadResult extent grid limit (Err (fault.Border count))
+    border_result : limit < border_fault_count grid → count ≡ border_fault_count grid
+        → ReadResult extent grid limit (Err (fault.Border count))
     border_result more e = ReadResult.border more (ap (λ n. Err (fault.Border n)) e)
 
-    told : (result : Result Reading ReadFault) → ReadResult extent grid limit result → result ≡ Err (fault.Border count) → (limit < border_fault_count grid) × (count ≡ border_fault_count grid)
+    told : (result : Result Reading ReadFault) → ReadResult extent grid limit result → result
+        ≡ Err (fault.Border count) → (limit < border_fault_count grid) × (count ≡ border_fault_count grid)
     told result (ReadResult.border more e) f = (more, same_border count (border_fault_count grid) (sym f ∙ e))
     told result (ReadResult.block u b few hu first e) f = absurd (block_no_border count b (sym e ∙ f))
     told result (ReadResult.words u c why few hu refused e) f = absurd (words_no_border count why (sym e ∙ f))
-    told result (ReadResult.message u c m few hu spelled e) f = absurd (message_no_border count (reading_of m (distances grid.size u c) (border_fault_count grid)) (sym e ∙ f))
+    told result (ReadResult.message u c m few hu spelled e) f =
+        absurd (message_no_border count (reading_of m (distances grid.size u c) (border_fault_count grid)) (sym e ∙ f))
 
 -- The result defined for a grid is what reading it gives.
-pub is_read : (extent : Extent) (grid : GridView) (limit : ℕ) (result : Result Reading ReadFault) → ReadResult extent grid limit result → IsRead extent grid limit result
-is_read extent grid limit result a = record { result_is = a; message = says_message extent grid limit result a; border = says_border extent grid limit result a }
+pub is_read : (extent : Extent) (grid : GridView) (limit : ℕ) (result : Result Reading ReadFault)
+    → ReadResult extent grid limit result → IsRead extent grid limit result
+is_read extent grid limit result a =
+    record {
+      result_is = a;
+      message = says_message extent grid limit result a;
+      border =
+          says_border extent grid limit result a;
+    }

@@ -1,25 +1,31 @@
 -- How the numbers in a row of the table of sizes depend on one another.
-use Rattle.std.proofs.Common.{◌≡◌, ℕ, ◌+◌, ◌*◌, ◌/◌, ◌<◌, ◌≤◌, Bool, true, false, cond, ◌&&◌, List, [], ◌∷◌, Some, refl, ◌∙◌, ap, subst, nat_eq, nat_le, nat_lt, arith}
+use Rattle.std.proofs.Common.{◌≡◌, ℕ, ◌+◌, ◌*◌, ◌/◌, ◌<◌, ◌≤◌, Bool, true, false, cond, ◌&&◌, List, [], ◌∷◌, Some, refl}
+use Rattle.std.proofs.Common.{◌∙◌, ap, subst, nat_eq, nat_le, nat_lt, arith}
 use Rattle.std.specs.Prelude.{find}
 use Rattle.std.specs.List.{AllByRecursion, list_all}
 use Rattle.std.proofs.lemmas.Bool.{and_parts, eqb-true, eq-eqb, ltb-true, leb-true, ne_eqb}
 use Rattle.std.proofs.lemmas.List.Sums.{AllPass-from_list_all}
 use Rattle.std.proofs.lemmas.List.Elements.{recursion_from_All}
-use Rattle.dm_layout.specs.Sizes.{SizeRow, IsRow, size_table, row_for_words, row_with_side, most_data, codeword_count, block_data, block_check, block_length}
+use Rattle.dm_layout.specs.Sizes.{SizeRow, IsRow, size_table, row_for_words, row_with_side, most_data, codeword_count}
+use Rattle.dm_layout.specs.Sizes.{block_data, block_check, block_length}
 use Rattle.dm_layout.proofs.Exported.{found_row, row_facts}
 
 -- What holds of each row holds of a row that is found, which passes the test.
-found : (P : SizeRow → Type 0) (p : SizeRow → Bool) (rows : List SizeRow) (row : SizeRow) → AllByRecursion P rows → find p rows ≡ Some row → P row × (p row ≡ true)
+found : (P : SizeRow → Type 0) (p : SizeRow → Bool) (rows : List SizeRow) (row : SizeRow) → AllByRecursion P rows
+    → find p rows ≡ Some row → P row × (p row ≡ true)
 found P p [] row h e = cc
 found P p (r ∷ rows) row h e = here (p r) refl e (λ f. found P p rows row h.1 f)
   where
-    here : (b : Bool) → p r ≡ b → cond b (Some r) (find p rows) ≡ Some row → (find p rows ≡ Some row → P row × (p row ≡ true)) → P row × (p row ≡ true)
+    here : (b : Bool) → p r ≡ b → cond b (Some r) (find p rows) ≡ Some row
+        → (find p rows ≡ Some row → P row × (p row ≡ true)) → P row × (p row ≡ true)
     here true t f later = let same : r ≡ row = cc in subst (λ x. P x × (p x ≡ true)) same (h.0, t)
     here false t f later = later f
 
 -- The numbers of a row that no fact of the layer below tells of pass a test.
 abbrev row_test : SizeRow → Bool
-row_test s = nat_le 1 (block_data s) && nat_le s.data_count most_data && nat_le (block_check s) 68 && nat_eq s.limit (block_check s / 2)
+row_test s =
+    nat_le 1 (block_data s) && nat_le s.data_count most_data && nat_le (block_check s) 68 && nat_eq s.limit
+    (block_check s / 2)
 
 -- Each row of the table passes: this is computed.
 table_passes : list_all row_test size_table ≡ true
@@ -28,7 +34,8 @@ table_passes = refl
 
 -- Each row passes by itself.
 rows_pass : AllByRecursion (λ r. row_test r ≡ true) size_table
-rows_pass = recursion_from_All (λ r. row_test r ≡ true) size_table (AllPass-from_list_all row_test size_table table_passes)
+rows_pass =
+    recursion_from_All (λ r. row_test r ≡ true) size_table (AllPass-from_list_all row_test size_table table_passes)
 
 -- A row of the table passes.
 test_of_row : (s : SizeRow) → IsRow s → row_test s ≡ true
@@ -80,7 +87,8 @@ unfolding size_table
 table_rises = refl
 
 -- Where sides rise, each row is found by its side.
-found_by_side : (rows : List SizeRow) → sides_rise rows ≡ true → AllByRecursion (λ row. find (λ r. nat_eq r.side row.side) rows ≡ Some row) rows
+found_by_side : (rows : List SizeRow) → sides_rise rows ≡ true
+    → AllByRecursion (λ row. find (λ r. nat_eq r.side row.side) rows ≡ Some row) rows
 found_by_side [] h = tt
 found_by_side (r ∷ rows) h =
     let parts = and_parts (list_all (λ s. nat_lt r.side s.side) rows) (sides_rise rows) h in
@@ -92,12 +100,17 @@ found_by_side (r ∷ rows) h =
     differ : (a b : ℕ) → a < b → a ≡ b → ⊥
     differ a b l e = omega arith
 
-    behind : (later : List SizeRow) → list_all (λ s. nat_lt r.side s.side) later ≡ true → AllByRecursion (λ row. find (λ s. nat_eq s.side row.side) rows ≡ Some row) later
+    behind : (later : List SizeRow) → list_all (λ s. nat_lt r.side s.side) later ≡ true
+        → AllByRecursion (λ row. find (λ s. nat_eq s.side row.side) rows ≡ Some row) later
         → AllByRecursion (λ row. find (λ s. nat_eq s.side row.side) (r ∷ rows) ≡ Some row) later
     behind [] h found = tt
     behind (s ∷ later) h found =
-        let parts = and_parts (nat_lt r.side s.side) (list_all (λ t. nat_lt r.side t.side) later) h in
-        (ap (λ b. cond b (Some r) (find (λ t. nat_eq t.side s.side) rows)) (ne_eqb r.side s.side (λ e. differ r.side s.side (ltb-true _ _ parts.0) e)) ∙ found.0, behind later parts.1 found.1)
+        let parts = and_parts (nat_lt r.side s.side) (list_all (λ t. nat_lt r.side t.side) later) h in (
+          ap (λ b. cond b (Some r) (find (λ t. nat_eq t.side s.side) rows))
+              (ne_eqb r.side s.side (λ e. differ r.side s.side (ltb-true _ _ parts.0) e))
+              ∙ found.0,
+          behind later parts.1 found.1,
+        )
 
 -- Each row of the table is found by its side.
 rows_are_rows : AllByRecursion IsRow size_table

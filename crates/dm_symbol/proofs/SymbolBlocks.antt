@@ -16,7 +16,9 @@ place_in_block size words h j within =
     let f = size_facts size h.row in
     let B = size.blocks in
     let e : j / B * B + j % B ≡ j = div-add-mod' j B in
-    let below : j / B < block_length size = div_below j B (block_length size) f.some_blocks (omega (arith, within, f.words_dealt, mul_comm B (block_length size))) in
+    let below : j / B < block_length size =
+    div_below j B (block_length size) f.some_blocks
+    (omega (arith, within, f.words_dealt, mul_comm B (block_length size))) in
     sym (block_places size words h (j % B) (j / B) (mod_below j B f.some_blocks) below ∙ ap (λ k. get_or words k 0) e)
 
 -- Words with equal blocks are equal.
@@ -31,25 +33,32 @@ same_blocks size u v hu hv same =
     ∙ sym (place_in_block size v hv j within))
 
 -- The only block of a symbol is all of its codewords.
-pub only_block : (size : SizeRow) (words : List ℕ) → AreWordsOf size words → size.blocks ≡ 1 → (b : ℕ) → b < size.blocks → block_at size words b ≡ words
+pub only_block : (size : SizeRow) (words : List ℕ) → AreWordsOf size words → size.blocks ≡ 1 → (b : ℕ)
+    → b < size.blocks → block_at size words b ≡ words
 only_block size words h one b hb =
     let f = size_facts size h.row in
-    let whole : block_length size ≡ codeword_count size = omega (arith, f.words_dealt, ap (λ n. n * block_length size) one) in
-    let long : length (block_at size words b) ≡ length words = omega (arith, block_lengths size words h b hb, whole, h.count) in
+    let whole : block_length size
+    ≡ codeword_count size = omega (arith, f.words_dealt, ap (λ n. n * block_length size) one) in
+    let long : length (block_at size words b)
+    ≡ length words = omega (arith, block_lengths size words h b hb, whole, h.count) in
     ext_get_or 0 (block_at size words b) words long (λ i hi.
     let here : i * size.blocks + b ≡ i = omega (arith, ap (λ n. i * n) one, one, hb) in
     block_places size words h b i hb (omega (arith, hi, long, whole, h.count)) ∙ ap (λ j. get_or words j 0) here)
 
 -- A data codeword of a block is a data codeword of the symbol.
-pub data_of_block : (size : SizeRow) (words : List ℕ) → AreWordsOf size words → (b i : ℕ) → b < size.blocks → i < block_data size
+pub data_of_block : (size : SizeRow) (words : List ℕ) → AreWordsOf size words → (b i : ℕ) → b < size.blocks
+    → i < block_data size
     → get_or (block_at size words b) i 0 ≡ get_or (data_part size words) (i * size.blocks + b) 0
 data_of_block size words h b i hb hi =
     let f = size_facts size h.row in
-    let within : i * size.blocks + b < size.data_count = omega (arith, mul-add-lt i size.blocks b (block_data size) hi hb, f.data_dealt) in
-    block_places size words h b i hb (omega (arith, hi, f.length)) ∙ sym (get_or-take size.data_count words (i * size.blocks + b) 0 within)
+    let within : i * size.blocks + b < size.data_count =
+    omega (arith, mul-add-lt i size.blocks b (block_data size) hi hb, f.data_dealt) in
+    block_places size words h b i hb (omega (arith, hi, f.length))
+    ∙ sym (get_or-take size.data_count words (i * size.blocks + b) 0 within)
 
 -- Codewords with equal data parts are equal: the check codewords follow from the data.
-pub checks_are_one : (size : SizeRow) (u v : List ℕ) → AreWordsOf size u → AreWordsOf size v → BlocksAreCodewords size u → BlocksAreCodewords size v
+pub checks_are_one : (size : SizeRow) (u v : List ℕ) → AreWordsOf size u → AreWordsOf size v
+    → BlocksAreCodewords size u → BlocksAreCodewords size v
     → data_part size u ≡ data_part size v → u ≡ v
 checks_are_one size u v hu hv cu cv same =
     same_blocks size u v hu hv (λ b hb.
@@ -57,7 +66,14 @@ checks_are_one size u v hu hv cu cv same =
     let lu = block_lengths size u hu b hb in
     let lv = block_lengths size v hv b hb in
     let agree : (i : ℕ) → i < block_data size → get_or (block_at size u b) i 0 ≡ get_or (block_at size v b) i 0 =
-    λ i hi. data_of_block size u hu b i hb hi ∙ ap (λ prefix. get_or prefix (i * size.blocks + b) 0) same ∙ sym (data_of_block size v hv b i hb hi) in
+    λ i hi. data_of_block size u hu b i hb hi ∙ ap (λ prefix. get_or prefix (i * size.blocks + b) 0) same
+    ∙ sym (data_of_block size v hv b i hb hi) in
     let near : distance (block_at size u b) (block_at size v b) ≤ block_check size =
-    omega (arith, differing_prefix (block_at size u b) (block_at size v b) (block_data size) (length (block_at size u b)) agree, lu, f.length) in
-    codewords_apart (block_check size) (block_at size u b) (block_at size v b) (cu b hb) (cv b hb) (lu ∙ sym lv) (omega (arith, lu, f.short)) near)
+    omega (
+      arith,
+      differing_prefix (block_at size u b) (block_at size v b) (block_data size) (length (block_at size u b)) agree,
+      lu,
+      f.length,
+    ) in
+    codewords_apart (block_check size) (block_at size u b) (block_at size v b) (cu b hb) (cv b hb) (lu
+    ∙ sym lv) (omega (arith, lu, f.short)) near)

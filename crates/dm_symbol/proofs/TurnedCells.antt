@@ -1,5 +1,6 @@
 -- A normal grid of which some cells are turned over is still read.
-use Rattle.std.proofs.Common.{◌≡◌, ℕ, zero, suc, ◌+◌, ◌-◌, ◌*◌, ◌/◌, ◌%◌, ◌^◌, ◌<◌, ◌≤◌, Bool, true, false, not, ◌&&◌, eqb, List, get_or, inl, inr, refl, sym, ap, subst, ◌∙◌, arith}
+use Rattle.std.proofs.Common.{◌≡◌, ℕ, zero, suc, ◌+◌, ◌-◌, ◌*◌, ◌/◌, ◌%◌, ◌^◌, ◌<◌, ◌≤◌, Bool, true, false, not, ◌&&◌}
+use Rattle.std.proofs.Common.{eqb, List, get_or, inl, inr, refl, sym, ap, subst, ◌∙◌, arith}
 use Rattle.std.specs.Bool.{beq}
 use Rattle.std.specs.Int.{bit_at}
 use Rattle.std.proofs.Math.Nat.{pow-suc}
@@ -36,7 +37,9 @@ bit_differs zero x y hx hy other = absurd (other (omega (arith, hx, hy)))
 bit_differs (suc k) x y hx hy other =
     elim (cases_eq (x % 2) (y % 2)) [
       | inl e ↦
-          let rest = bit_differs k (x / 2) (y / 2) (omega (arith, hx, pow-suc 2 k)) (omega (arith, hy, pow-suc 2 k)) (λ h. other (omega (arith, e, h))) in
+          let rest =
+          bit_differs k (x / 2) (y / 2) (omega (arith, hx, pow-suc 2 k)) (omega (arith, hy, pow-suc 2 k))
+          (λ h. other (omega (arith, e, h))) in
           (suc rest.0, omega (arith, rest.1), λ h. rest.2 (sym (bit_at-suc x rest.0) ∙ h ∙ bit_at-suc y rest.0))
       | inr differ ↦ (0, omega arith, λ h. differ (sym (bit_at_lowest x) ∙ h ∙ bit_at_lowest y))
     ]
@@ -75,7 +78,8 @@ bit_is_one a b ha hb e =
     ]
 
 -- Two lists of codewords that differ in a codeword have a bit of it in which they differ.
-colour_differs : (u v : List ℕ) (word : ℕ) → get_or u word 0 < 256 → get_or v word 0 < 256 → (get_or u word 0 ≡ get_or v word 0 → ⊥)
+colour_differs : (u v : List ℕ) (word : ℕ) → get_or u word 0 < 256 → get_or v word 0 < 256
+    → (get_or u word 0 ≡ get_or v word 0 → ⊥)
     → (bit : ℕ) × (1 ≤ bit) × (bit ≤ 8) × (bit_of u word bit ≡ bit_of v word bit → ⊥)
 colour_differs u v word hu hv other =
     let d = bit_differs 8 (get_or u word 0) (get_or v word 0) hu hv other in
@@ -86,7 +90,8 @@ colour_differs u v word hu hv other =
       λ h.
           let same : eqb (bit_at (get_or u word 0) d.0) 1 ≡ eqb (bit_at (get_or v word 0) d.0) 1 =
           subst (λ j. eqb (bit_at (get_or u word 0) j) 1 ≡ eqb (bit_at (get_or v word 0) j) 1) back h in
-          d.2 (bit_is_one (bit_at (get_or u word 0) d.0) (bit_at (get_or v word 0) d.0) (omega arith) (omega arith) same),
+          d.2 (bit_is_one (bit_at (get_or u word 0) d.0) (bit_at (get_or v word 0) d.0) (omega arith) (omega arith)
+          same),
     )
 
 -- ---- the cells of a block's codewords
@@ -104,7 +109,8 @@ same_cell : (x y : Cell) → x.row ≡ y.row → x.column ≡ y.column → x ≡
 same_cell x y e f = ap (λ r. At r x.column) e ∙ ap (λ c. At y.row c) f
 
 -- A place of a block is a place of the symbol.
-in_symbol : (size : SizeRow) → Facts size → (b i : ℕ) → b < size.blocks → i < block_length size → i * size.blocks + b < codeword_count size
+in_symbol : (size : SizeRow) → Facts size → (b i : ℕ) → b < size.blocks → i < block_length size
+    → i * size.blocks + b < codeword_count size
 in_symbol size f b i hb hi = omega (arith, mul-add-lt i size.blocks b (block_length size) hi hb, f.words_dealt)
 
 -- Each bit of each codeword of a block has its place.
@@ -118,7 +124,8 @@ is_place size row b i bit hb hi low high = record {
 }
 
 -- A symbol cell holds a bit of at most one codeword of a block.
-one_lies : (size : SizeRow) → IsRow size → (b : ℕ) → b < size.blocks → (i j r c : ℕ) → i < block_length size → j < block_length size
+one_lies : (size : SizeRow) → IsRow size → (b : ℕ) → b < size.blocks → (i j r c : ℕ) → i < block_length size
+    → j < block_length size
     → LiesAt size b i r c → LiesAt size b j r c → i ≡ j
 one_lies size row b hb i j r c hi hj li lj =
     let least : 8 ≤ size.region_side = (row_facts size row).least in
@@ -126,9 +133,14 @@ one_lies size row b hb i j r c hi hj li lj =
     let y = place size.mapping (j * size.blocks + b) lj.bit in
     let px = is_place size row b i li.bit hb hi li.from_one li.to_eight in
     let py = is_place size row b j lj.bit hb hj lj.from_one lj.to_eight in
-    let same : y ≡ x = same_cell y x (symbol_line-one size.region_side y.row x.row least (lj.row ∙ sym li.row)) (symbol_line-one size.region_side y.column x.column least (lj.column ∙ sym li.column)) in
-    let py_at : IsPlace size.mapping (j * size.blocks + b) lj.bit x = subst (λ cell. IsPlace size.mapping (j * size.blocks + b) lj.bit cell) same py in
-    let both = one_bit size.mapping size.mapping x.row x.column (i * size.blocks + b) li.bit (j * size.blocks + b) lj.bit (each_cell_once size row) px py_at in
+    let same : y
+    ≡ x = same_cell y x (symbol_line-one size.region_side y.row x.row least (lj.row ∙ sym li.row))
+    (symbol_line-one size.region_side y.column x.column least (lj.column ∙ sym li.column)) in
+    let py_at : IsPlace size.mapping (j * size.blocks + b) lj.bit x =
+    subst (λ cell. IsPlace size.mapping (j * size.blocks + b) lj.bit cell) same py in
+    let both =
+    one_bit size.mapping size.mapping x.row x.column (i * size.blocks + b) li.bit (j * size.blocks + b) lj.bit
+    (each_cell_once size row) px py_at in
     (same_from_place i b j b size.blocks hb hb (sym both.0)).0
 
 -- Two numbers that equal two different ones differ.
@@ -150,7 +162,8 @@ module _ (size : SizeRow) (rows others : List (List Bool)) (u v : List ℕ) wher
 
   -- A changed codeword has a changed cell.
   changed_cell : AreHeld before u → AreHeld after v → (b : ℕ) → b < size.blocks → (i : ℕ) → i < block_length size
-      → (get_or (block_at size v b) i 0 ≡ get_or (block_at size u b) i 0 → ⊥) → IsWitness size.side (changed before after) (LiesAt size b) i
+      → (get_or (block_at size v b) i 0 ≡ get_or (block_at size u b) i 0 → ⊥)
+      → IsWitness size.side (changed before after) (LiesAt size b) i
   changed_cell held_u held_v b hb i hi other =
       let row = held_u.square.row in
       let f = size_facts size row in
@@ -160,7 +173,8 @@ module _ (size : SizeRow) (rows others : List (List Bool)) (u v : List ℕ) wher
       let at_v = block_places size v held_v.codewords b i hb hi in
       let d = colour_differs u v word (held_u.codewords.bytes word 0 (omega (arith, within, held_u.codewords.count)))
       (held_v.codewords.bytes word 0 (omega (arith, within, held_v.codewords.count)))
-      (differ_too (get_or (block_at size u b) i 0) (get_or (block_at size v b) i 0) (get_or u word 0) (get_or v word 0) at_u at_v other) in
+      (differ_too (get_or (block_at size u b) i 0) (get_or (block_at size v b) i 0) (get_or u word 0)
+      (get_or v word 0) at_u at_v other) in
       let cell = place size.mapping word d.0 in
       let here = is_place size row b i d.0 hb hi d.1 d.2 in
       let inside = (each_cell_once size row).inside word d.0 cell here in
@@ -176,7 +190,8 @@ module _ (size : SizeRow) (rows others : List (List Bool)) (u v : List ℕ) wher
       }
 
   -- A block differs in at most as many codewords as cells have changed.
-  block_changes : AreHeld before u → AreHeld after v → (b : ℕ) → b < size.blocks → distance (block_at size v b) (block_at size u b) ≤ turned_cells before after
+  block_changes : AreHeld before u → AreHeld after v → (b : ℕ) → b < size.blocks
+      → distance (block_at size v b) (block_at size u b) ≤ turned_cells before after
   block_changes held_u held_v b hb =
       let long = block_lengths size v held_v.codewords b hb in
       subst (λ k. differing (block_at size v b) (block_at size u b) k ≤ turned_cells before after) (sym long)
@@ -184,17 +199,22 @@ module _ (size : SizeRow) (rows others : List (List Bool)) (u v : List ℕ) wher
       (changed before after) (one_lies size held_u.square.row b hb) (changed_cell held_u held_v b hb))
 
 -- A grid that has no border fault gets at most as many as cells change.
-border_changes : (size : SizeRow) (rows others : List (List Bool)) → border_fault_count (record { size = size; rows = rows }) ≡ 0
-    → border_fault_count (record { size = size; rows = others }) ≤ turned_cells (record { size = size; rows = rows }) (record { size = size; rows = others })
+border_changes : (size : SizeRow) (rows others : List (List Bool))
+    → border_fault_count (record { size = size; rows = rows }) ≡ 0
+    → border_fault_count (record { size = size; rows = others }) ≤ turned_cells (record { size = size; rows = rows })
+    (record { size = size; rows = others })
 border_changes size rows others none =
     let g : GridView = record { size = size; rows = rows } in
     let h : GridView = record { size = size; rows = others } in
     cells_grow size.side (is_fault h) (changed g h) (λ r c hr hc wrong.
-    fault_shows (is_border size r c) (cell_at g r c) (cell_at h r c) (border_is_dark size r c) (none_pass size.side (is_fault g) r c none hr hc) wrong)
+    fault_shows (is_border size r c) (cell_at g r c) (cell_at h r c) (border_is_dark size r c)
+    (none_pass size.side (is_fault g) r c none hr hc) wrong)
 
 -- A normal grid of which no more cells are turned over is read as its message.
-turned_reads : (extent : Extent) (p : Profile) (m : List Item) (normal : GridView) (others : List (List Bool)) (limit : ℕ) → IsMessage m → IsNormalGrid p m normal
-    → IsGrid (record { size = normal.size; rows = others }) → turned_cells normal (record { size = normal.size; rows = others }) ≤ normal.size.limit
+turned_reads : (extent : Extent) (p : Profile) (m : List Item) (normal : GridView) (others : List (List Bool))
+    (limit : ℕ) → IsMessage m → IsNormalGrid p m normal
+    → IsGrid (record { size = normal.size; rows = others })
+    → turned_cells normal (record { size = normal.size; rows = others }) ≤ normal.size.limit
     → normal.size.limit ≤ limit → Reads extent (record { size = normal.size; rows = others }) limit m
 turned_reads extent p m normal others limit h n is_grid few at_least =
     let size = normal.size in
@@ -209,18 +229,29 @@ turned_reads extent p m normal others limit h n is_grid few at_least =
         of_size = n.laid.holds.codewords;
         near = λ b hb. record {
           codeword = n.checked b hb;
-          long = block_lengths size n.words n.laid.holds.codewords b hb ∙ sym (block_lengths size held.0 held.1.codewords b hb);
-          close = omega (arith, block_changes size normal.rows others n.words held.0 n.laid.holds held.1 b hb, few, f.half);
+          long = block_lengths size n.words n.laid.holds.codewords b hb
+              ∙ sym (block_lengths size held.0 held.1.codewords b hb);
+          close = omega (
+            arith,
+            block_changes size normal.rows others n.words held.0 n.laid.holds held.1 b hb,
+            few,
+            f.half,
+          );
         };
       };
       spelled = normal_words_spell extent p m normal h n;
     }
 
--- If no more cells of a normal grid are turned over than codewords can be corrected in a block, the grid that comes out is read as its message.
-pub turned_cells_are_read : (extent : Extent) (p : Profile) (m : List Item) (normal grid : GridView) (limit : ℕ) → IsMessage m → IsNormalGrid p m normal → IsGrid grid
-    → grid.size.side ≡ normal.size.side → turned_cells normal grid ≤ normal.size.limit → normal.size.limit ≤ limit → Reads extent grid limit m
+-- If no more cells of a normal grid are turned over than codewords can be corrected in a block, the grid that comes out
+-- is read as its message.
+pub turned_cells_are_read : (extent : Extent) (p : Profile) (m : List Item) (normal grid : GridView) (limit : ℕ)
+    → IsMessage m → IsNormalGrid p m normal → IsGrid grid
+    → grid.size.side ≡ normal.size.side → turned_cells normal grid ≤ normal.size.limit → normal.size.limit ≤ limit
+    → Reads extent grid limit m
 turned_cells_are_read extent p m normal grid limit h n is_grid side few at_least =
     let same : grid.size ≡ normal.size = same_row grid.size normal.size is_grid.row n.laid.holds.square.row side in
-    let whole : ◌≡◌ {A = GridView} grid (record { size = normal.size; rows = grid.rows }) = ap (λ (s : SizeRow). let g : GridView = record { size = s; rows = grid.rows } in g) same in
+    let whole : ◌≡◌ {A = GridView} grid (record { size = normal.size; rows = grid.rows }) =
+    ap (λ (s : SizeRow). let g : GridView = record { size = s; rows = grid.rows } in g) same in
     subst (λ g. Reads extent g limit m) (sym whole)
-    (turned_reads extent p m normal grid.rows limit h n (subst IsGrid whole is_grid) (subst (λ g. turned_cells normal g ≤ normal.size.limit) whole few) at_least)
+    (turned_reads extent p m normal grid.rows limit h n (subst IsGrid whole is_grid)
+    (subst (λ g. turned_cells normal g ≤ normal.size.limit) whole few) at_least)

@@ -1,5 +1,6 @@
 -- The steps of writing lead to the normal grid.
-use Rattle.std.proofs.Common.{◌≡◌, ℕ, ◌<◌, List, length, Option, Some, None, IsSome, Result, Ok, Err, IsErr, refl, sym, ap, subst, ◌∙◌, arith}
+use Rattle.std.proofs.Common.{◌≡◌, ℕ, ◌<◌, List, length, Option, Some, None, IsSome, Result, Ok, Err, IsErr, refl, sym}
+use Rattle.std.proofs.Common.{ap, subst, ◌∙◌, arith}
 use Rattle.dm_words.specs.declared.item.Item.{Item}
 use Rattle.dm_words.specs.declared.profile.Profile.{Profile}
 use Rattle.dm_words.specs.declared.fault.TooLong.{TooLong}
@@ -17,8 +18,10 @@ use Rattle.dm_symbol.proofs.NormalGrids.{normal_grid_is_one}
 use Rattle.dm_symbol.proofs.NormalReadings.{normal_grid_fits}
 
 -- The grid in which the completed codewords are laid is the normal grid.
-pub laid_is_normal : (p : Profile) (m : List Item) (grid : GridView) (w : WordsView) (size : SizeRow) → row_for_words (length (normal_form p m)) ≡ Some size → w.size ≡ size
-    → data_part size w.list ≡ padded (normal_form p m) size.data_count → BlocksAreCodewords size w.list → IsLaid w grid → IsNormalGrid p m grid
+pub laid_is_normal : (p : Profile) (m : List Item) (grid : GridView) (w : WordsView) (size : SizeRow)
+    → row_for_words (length (normal_form p m)) ≡ Some size → w.size ≡ size
+    → data_part size w.list ≡ padded (normal_form p m) size.data_count → BlocksAreCodewords size w.list
+    → IsLaid w grid → IsNormalGrid p m grid
 laid_is_normal p m grid w size smallest of_size prefix checked laid =
     let same : size ≡ grid.size = sym of_size ∙ laid.holds.same_size in
     let whole : w ≡ symbol grid.size w.list = ap (λ s. symbol s w.list) laid.holds.same_size in
@@ -39,7 +42,8 @@ none_for_more count None e long is = absurd (false≢true is)
 
 -- A message whose normal form is longer than the largest size holds fits no size.
 pub too_long_fits_none : (p : Profile) (m : List Item) → most_data < length (normal_form p m) → FitsSomeSize p m → ⊥
-too_long_fits_none p m long fits = none_for_more (length (normal_form p m)) (row_for_words (length (normal_form p m))) refl long fits
+too_long_fits_none p m long fits =
+    none_for_more (length (normal_form p m)) (row_for_words (length (normal_form p m))) refl long fits
 
 -- The normal grid is a right result of writing.
 pub is_written : (p : Profile) (m : List Item) (grid : GridView) → IsNormalGrid p m grid → IsWritten p m (Ok grid)
@@ -51,7 +55,8 @@ is_written p m grid n = record {
 }
 
 -- That there is none is the right result for a message that fits no size.
-pub none_is_written : (p : Profile) (m : List Item) (result : Result GridView TooLong) → IsErr result → (FitsSomeSize p m → ⊥) → IsWritten p m result
+pub none_is_written : (p : Profile) (m : List Item) (result : Result GridView TooLong) → IsErr result
+    → (FitsSomeSize p m → ⊥) → IsWritten p m result
 none_is_written p m (Ok grid) is none = absurd (false≢true is)
 none_is_written p m (Err e) is none = record {
   normal = tt;

@@ -1,4 +1,5 @@
--- The Reed-Solomon blocks of a whole symbol (ISO/IEC 16022, error correction). Of B blocks, block b has the codewords at the places j, counted
+-- The Reed-Solomon blocks of a whole symbol (ISO/IEC 16022, error correction). Of B blocks, block b has the codewords
+-- at the places j, counted
 -- from 0, with j mod B = b: first the data codewords, then the check codewords.
 use Rattle.std.specs.Prelude.{ℕ, ◌<◌, List, map, take}
 use Rattle.std.specs.List.{range_with_len}
@@ -33,11 +34,14 @@ block_at size words b = block_of size.blocks b words
 abbrev pub BlocksAreCodewords : SizeRow → List ℕ → Type 0
 BlocksAreCodewords size words = (b : ℕ) → b < size.blocks → IsCodeword (block_check size) (block_at size words b)
 
--- Each block of `words` is near the same block of `codewords`: the latter is a codeword of its Reed-Solomon code, and the two differ at
+-- Each block of `words` is near the same block of `codewords`: the latter is a codeword of its Reed-Solomon code, and
+-- the two differ at
 -- no more places than half the number of check codewords.
 abbrev pub BlocksAreNear : SizeRow → List ℕ → List ℕ → Type 0
-BlocksAreNear size words codewords = (b : ℕ) → b < size.blocks → IsNear (block_check size) (block_at size words b) (block_at size codewords b)
+BlocksAreNear size words codewords = (b : ℕ) → b < size.blocks
+    → IsNear (block_check size) (block_at size words b) (block_at size codewords b)
 
 -- The words differ from the other codewords at this many places in each block, in order.
 abbrev pub distances : SizeRow → List ℕ → List ℕ → List ℕ
-distances size words codewords = map (λ b. distance (block_at size words b) (block_at size codewords b)) (range_with_len 0 size.blocks)
+distances size words codewords =
+    map (λ b. distance (block_at size words b) (block_at size codewords b)) (range_with_len 0 size.blocks)

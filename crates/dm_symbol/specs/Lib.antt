@@ -12,7 +12,8 @@ pub mod SymbolNormal
 pub mod SymbolInspection
 pub mod SymbolLaws
 pub mod inner
--- Modules of the layers below, which crates above this one find under its name too: `Rattle.dm_symbol.specs.Grid` is dm_layout/specs/Grid.antt.
+-- Modules of the layers below, which crates above this one find under its name too: `Rattle.dm_symbol.specs.Grid` is
+-- dm_layout/specs/Grid.antt.
 pub use Rattle.dm_layout.specs.Sizes
 pub use Rattle.dm_layout.specs.Grid
 pub use Rattle.dm_layout.specs.Words

@@ -1,4 +1,5 @@
--- The normal grid of a message under a profile: the grid of its normal form in the smallest symbol that holds it. That this grid is chosen among
+-- The normal grid of a message under a profile: the grid of its normal form in the smallest symbol that holds it. That
+-- this grid is chosen among
 -- those that say the same is a rule of this project.
 use Rattle.std.specs.Prelude.{◌≡◌, ℕ, List, Some, IsSome, length, Result, IfOk, IsOk, OnErr, ◌↔◌}
 use Rattle.dm_words.specs.declared.item.Item.{Item}
@@ -19,7 +20,8 @@ FitsSomeSize profile message = IsSome (row_for_words (length (normal_form profil
 pub record IsNormalGrid (profile : Profile) (message : List Item) (grid : GridView) : Type 0 where
   -- Its size is the smallest with at least as many data codewords as the normal form of the message has codewords.
   pub smallest : row_for_words (length (normal_form profile message)) ≡ Some grid.size
-  -- Codewords of this size are laid in it: it holds them, each module of its borders has the right colour, and it has the fixed square.
+  -- Codewords of this size are laid in it: it holds them, each module of its borders has the right colour, and it has
+  -- the fixed square.
   pub words : List ℕ
   pub laid : IsLaid (symbol grid.size words) grid
   -- The data codewords are the normal form, followed by pads.

@@ -10,8 +10,8 @@ ghost use Rattle.dm_symbol.specs.Reading.{HasNear};
 use dm_code::{BeyondLimit, Fixed, LONGEST_WORD, MOST_CHECKS, Quick, correct, encode};
 use dm_layout::{Words, block, put_block};
 
-/// Corrects a block to the codeword near it, and gives in how many codewords it was wrong, or None where no codeword is near. A block without
-/// errors isn't touched.
+/// Corrects a block to the codeword near it, and gives in how many codewords it was wrong, or None where no codeword is
+/// near. A block without errors isn't touched.
 pub(crate) fn correct_block(words: &mut Words, b: usize) -> Option<u8>
     requires { b < words.old.size.blocks }
     ensures size { words.new.size ≡ words.old.size }

@@ -23,8 +23,8 @@ pub struct Inspection {
     pub border_faults: u16,
 }
 
-/// Inspects a grid. Where [`read`](crate::read()) refuses a border or a block, or finds codewords that spell no message, this goes on,
-/// so that a program can show what is wrong with a symbol.
+/// Inspects a grid. Where [`read`](crate::read()) refuses a border or a block, or finds codewords that spell no
+/// message, this goes on, so that a program can show what is wrong with a symbol.
 pub fn inspect(grid: &Grid) -> Inspection
     ensures { IsInspection grid.now result }
 {
@@ -39,8 +39,8 @@ pub fn inspect(grid: &Grid) -> Inspection
     }
 }
 
-/// Corrects each block to the codeword near it, and gives in how many codewords each was wrong, or None where no codeword is near, and the
-/// block stays as it is.
+/// Corrects each block to the codeword near it, and gives in how many codewords each was wrong, or None where no
+/// codeword is near, and the block stays as it is.
 fn correct_each(words: &mut Words) -> ArrayVec<Option<u8>, MOST_BLOCKS>
     ensures size { words.new.size ≡ words.old.size }
     ensures words { AreWordsOf words.old.size words.new.list }

@@ -1,10 +1,12 @@
-//! Whole symbols of Data Matrix ECC 200 (ISO/IEC 16022): [`read()`] gives what a grid says, a [`Reading`], or a [`ReadFault`]; [`write()`] the
-//! normal grid of a [`Message`], or [`TooLong`]; [`normal()`] the normal grid of what a grid says, or a [`NormalFault`]; and [`inspect()`] the
-//! codewords of a grid before and after correction, an [`Inspection`].
+//! Whole symbols of Data Matrix ECC 200 (ISO/IEC 16022): [`read()`] gives what a grid says, a [`Reading`], or a
+//! [`ReadFault`]; [`write()`] the normal grid of a [`Message`], or [`TooLong`]; [`normal()`] the normal grid of what a
+//! grid says, or a [`NormalFault`]; and [`inspect()`] the codewords of a grid before and after correction, an
+//! [`Inspection`].
 //!
-//! What is read depends on an [`Extent`], and which normal grid a message has on a [`Profile`]. A name with `_as` takes the one of these that
-//! the name without it has as [`Extent::Usual`] or [`Profile::Ascii`], and a name with `_to` leaves in a target, memory that
-//! the caller hands in, what the name without it returns by value, so that one [`Reading::new()`] and one [`light_grid()`] serve any number of symbols:
+//! What is read depends on an [`Extent`], and which normal grid a message has on a [`Profile`]. A name with `_as` takes
+//! the one of these that the name without it has as [`Extent::Usual`] or [`Profile::Ascii`], and a name with `_to`
+//! leaves in a target, memory that the caller hands in, what the name without it returns by value, so that one
+//! [`Reading::new()`] and one [`light_grid()`] serve any number of symbols:
 //!
 //! | | by value | in a target |
 //! |---|---|---|
@@ -16,8 +18,8 @@
 //! | normalise, usual extent, any profile | [`normal_as()`] | [`normal_to()`] |
 //! | normalise, any extent, any profile | [`normal_read_as()`] | [`normal_read_as_to()`] |
 //!
-//! There are no calls that write into a target under the ASCII profile alone, so `write_to` and `normal_to` take the profile. [`usual_limit()`] is the number of wrong border modules that is
-//! usually accepted.
+//! There are no calls that write into a target under the ASCII profile alone, so `write_to` and `normal_to` take the
+//! profile. [`usual_limit()`] is the number of wrong border modules that is usually accepted.
 //!
 //! These calls are for squares of 10 to 104 rows. Symbols of every size, squares and rectangles, are [`Modules`] of a
 //! [`SymbolSize`]. [`read_symbol_to()`] leaves what they say in a [`SymbolReading`], with a [`BlockReading`] for each
@@ -27,12 +29,14 @@
 //! [`inspect_symbol_to()`] leaves the codewords of a symbol, before and after they are restored, in a
 //! [`SymbolInspection`].
 //!
-//! The types of the layers below are given on: [`Grid`] with [`GridFault`], [`Size`] with its [`table()`] of [`SIZE_COUNT`], [`Words`], and the limits
-//! [`LARGEST_SIDE`] and [`MOST_BLOCKS`]; [`Message`] of [`Item`]s, [`WordFault`], and the limits [`MOST_ITEMS`] and [`MESSAGE_ROOM`].
+//! The types of the layers below are given on: [`Grid`] with [`GridFault`], [`Size`] with its [`table()`] of
+//! [`SIZE_COUNT`], [`Words`], and the limits [`LARGEST_SIDE`] and [`MOST_BLOCKS`]; [`Message`] of [`Item`]s,
+//! [`WordFault`], and the limits [`MOST_ITEMS`] and [`MESSAGE_ROOM`].
 //!
-//! What the contracts say is defined in `specs/`: `Blocks`, `NormalGrid`, `Reading`, `Normal` and `Inspection`; `Laws` has the laws of
-//! these definitions, which the functions of [`laws`] prove. For symbols of every size it is in `Doubt`, `SymbolBlocks`,
-//! `SymbolReading`, `NormalSymbol`, `SymbolNormal` and `SymbolInspection`; their laws are in `SymbolLaws`. No call allocates memory.
+//! What the contracts say is defined in `specs/`: `Blocks`, `NormalGrid`, `Reading`, `Normal` and `Inspection`; `Laws`
+//! has the laws of these definitions, which the functions of [`laws`] prove. For symbols of every size it is in
+//! `Doubt`, `SymbolBlocks`, `SymbolReading`, `NormalSymbol`, `SymbolNormal` and `SymbolInspection`; their laws are in
+//! `SymbolLaws`. No call allocates memory.
 #![tactic(auto)]
 
 mod correction;

@@ -16,16 +16,16 @@ pub enum NormalFault {
     TooLong,
 }
 
-/// Gives the normal grid under [`Profile::Ascii`] of the message that the grid says in the usual extent: what [`normal_as`] gives for that
-/// profile.
+/// Gives the normal grid under [`Profile::Ascii`] of the message that the grid says in the usual extent: what
+/// [`normal_as`] gives for that profile.
 pub fn normal(grid: &Grid, border_limit: u16) -> Result<Grid, NormalFault>
     ensures { IsNormalised Extent.Usual Profile.Ascii grid.now border_limit result }
 {
     normal_as(Profile::Ascii, grid, border_limit)
 }
 
-/// Gives the normal grid, under a profile, of the message that the grid says in the usual extent: what [`normal_read_as`] gives for
-/// [`Extent::Usual`].
+/// Gives the normal grid, under a profile, of the message that the grid says in the usual extent: what
+/// [`normal_read_as`] gives for [`Extent::Usual`].
 pub fn normal_as(profile: Profile, grid: &Grid, border_limit: u16) -> Result<Grid, NormalFault>
     ensures { IsNormalised Extent.Usual profile grid.now border_limit result }
 {
@@ -46,9 +46,10 @@ pub fn normal_to(
     normal_read_as_to(Extent::Usual, profile, grid, border_limit, reading, normal)
 }
 
-/// Gives the normal grid, under a profile, of the message that the grid says in an extent, whatever its size, encodation and damage. Two grids
-/// that are read, in whatever extents, have equal normal grids under one profile exactly where they say the same, and a normal grid is its own.
-/// The fault is `Read` where [`read_as`](crate::read_as()) refuses the grid in this extent, with its fault, and `TooLong` where
+/// Gives the normal grid, under a profile, of the message that the grid says in an extent, whatever its size,
+/// encodation and damage. Two grids that are read, in whatever extents, have equal normal grids under one profile
+/// exactly where they say the same, and a normal grid is its own. The fault is `Read` where
+/// [`read_as`](crate::read_as()) refuses the grid in this extent, with its fault, and `TooLong` where
 /// [`write_as`](crate::write_as()) refuses the message under this profile.
 pub fn normal_read_as(
     extent: Extent,
@@ -73,9 +74,9 @@ pub fn normal_read_as(
     }
 }
 
-/// Does the same as [`normal_read_as`] in a target: after `Ok`, `normal` holds the normal grid and `reading` what the grid says,
-/// whatever they held before. After a fault `normal` is as it was; `reading` holds what the grid says after `TooLong` too, and some
-/// reading after `Read`.
+/// Does the same as [`normal_read_as`] in a target: after `Ok`, `normal` holds the normal grid and `reading` what the
+/// grid says, whatever they held before. After a fault `normal` is as it was; `reading` holds what the grid says after
+/// `TooLong` too, and some reading after `Read`.
 pub fn normal_read_as_to(
     extent: Extent,
     profile: Profile,

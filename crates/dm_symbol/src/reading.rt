@@ -63,11 +63,12 @@ pub fn read_to(grid: &Grid, border_limit: u16, reading: &mut Reading) -> Result<
     read_as_to(Extent::Usual, grid, border_limit, reading)
 }
 
-/// Reads a grid in an extent (ISO/IEC 16022, decode algorithm): refuses it if more than `border_limit` modules of its borders have the wrong
-/// colour, corrects the blocks in order, each in up to half as many codewords as it has check codewords, and reads the data codewords, as far
-/// as the extent goes. The first of these steps that fails gives the fault. The fixed square isn't looked at, nor is what follows the first
-/// pad. The grid is taken to be upright. A grid with more damage may be near the codewords of another message, and is then read as that
-/// message. What is read at [`Extent::Usual`] is read at [`Extent::Wide`] as the same.
+/// Reads a grid in an extent (ISO/IEC 16022, decode algorithm): refuses it if more than `border_limit` modules of its
+/// borders have the wrong colour, corrects the blocks in order, each in up to half as many codewords as it has check
+/// codewords, and reads the data codewords, as far as the extent goes. The first of these steps that fails gives the
+/// fault. The fixed square isn't looked at, nor is what follows the first pad. The grid is taken to be upright. A grid
+/// with more damage may be near the codewords of another message, and is then read as that message. What is read at
+/// [`Extent::Usual`] is read at [`Extent::Wide`] as the same.
 pub fn read_as(extent: Extent, grid: &Grid, border_limit: u16) -> Result<Reading, ReadFault>
     ensures read { IsRead extent grid.now border_limit result }
 {
@@ -78,9 +79,10 @@ pub fn read_as(extent: Extent, grid: &Grid, border_limit: u16) -> Result<Reading
     }
 }
 
-/// Does the same as [`read_as`] in a target: after `Ok`, `reading` holds what the grid says, whatever it held before. After
-/// `Border` it is as it was, and after another fault it holds some reading. One `Reading` serves any number of grids, and isn't cleared for the
-/// largest symbol; the codewords are, [`MOST_CODEWORDS`](dm_layout::MOST_CODEWORDS) bytes a call.
+/// Does the same as [`read_as`] in a target: after `Ok`, `reading` holds what the grid says, whatever it held before.
+/// After `Border` it is as it was, and after another fault it holds some reading. One `Reading` serves any number of
+/// grids, and isn't cleared for the largest symbol; the codewords are, [`MOST_CODEWORDS`](dm_layout::MOST_CODEWORDS)
+/// bytes a call.
 pub fn read_as_to(
     extent: Extent,
     grid: &Grid,
@@ -107,8 +109,8 @@ pub fn read_as_to(
     }
 }
 
-/// Corrects each block to the codeword near it, and leaves in `counts` in how many codewords each was wrong; or gives the first block that no
-/// codeword is near.
+/// Corrects each block to the codeword near it, and leaves in `counts` in how many codewords each was wrong; or gives
+/// the first block that no codeword is near.
 fn correct_blocks(words: &mut Words, counts: &mut ArrayVec<u8, MOST_BLOCKS>) -> Result<(), u8>
     ensures size { words.new.size ≡ words.old.size }
     ensures words { AreWordsOf words.old.size words.new.list }

@@ -20,9 +20,10 @@ pub fn write(message: &Message) -> Result<Grid, TooLong>
     write_as(Profile::Ascii, message)
 }
 
-/// Gives the normal grid of a message under a profile: the codewords that the profile chooses, pads and check codewords, laid in the smallest
-/// symbol that holds them (ISO/IEC 16022, symbol construction). The fault is `TooLong` exactly where no size of the table
-/// holds them: where they are, without pads, more than the data codewords of the largest size.
+/// Gives the normal grid of a message under a profile: the codewords that the profile chooses, pads and check
+/// codewords, laid in the smallest symbol that holds them (ISO/IEC 16022, symbol construction). The fault is `TooLong`
+/// exactly where no size of the table holds them: where they are, without pads, more than the data codewords of the
+/// largest size.
 pub fn write_as(profile: Profile, message: &Message) -> Result<Grid, TooLong>
     ensures { IsWritten profile message.now result }
 {
@@ -33,8 +34,8 @@ pub fn write_as(profile: Profile, message: &Message) -> Result<Grid, TooLong>
     }
 }
 
-/// Does the same as [`write_as`], profile and all, in a target: after `Ok`, `grid` holds the normal grid, whatever it held
-/// before. After `TooLong` it is as it was.
+/// Does the same as [`write_as`], profile and all, in a target: after `Ok`, `grid` holds the normal grid, whatever it
+/// held before. After `TooLong` it is as it was.
 pub fn write_to(profile: Profile, message: &Message, grid: &mut Grid) -> Result<(), TooLong>
     ensures written { IsWritten profile message.now (outcome result grid.new) }
     ensures same { OnErr result (grid.new ≡ grid.old) }
@@ -52,7 +53,8 @@ pub fn write_to(profile: Profile, message: &Message, grid: &mut Grid) -> Result<
     Ok(())
 }
 
-/// Gives a grid of the smallest size with all cells light, into which [`write_to`] and [`normal_to`](crate::normal_to()) can write.
+/// Gives a grid of the smallest size with all cells light, into which [`write_to`] and
+/// [`normal_to`](crate::normal_to()) can write.
 pub fn light_grid() -> Grid
     ensures size { row_with_side 10 ≡ Some result.size }
     ensures cells { result.rows ≡ square_of_rows 10 (replicate 10 0) }
@@ -63,7 +65,8 @@ pub fn light_grid() -> Grid
     }
 }
 
-/// Gives the codewords of a symbol of this size with these data codewords: the check codewords make each block a codeword of its Reed-Solomon code.
+/// Gives the codewords of a symbol of this size with these data codewords: the check codewords make each block a
+/// codeword of its Reed-Solomon code.
 fn with_checks(list: &[u8], size: Size) -> Words
     requires { length list.now ≡ size.data_count }
     ensures size { result.size ≡ size }

@@ -242,7 +242,8 @@ last_record_ends asked facts grid answer last is task text answers s =
       rest = t.rest;
       split = t.split;
       answered =
-          answers_of_grids task (t.lines ++ last_line t.rest) (answers ++ answer ∷ []) (answers_records asked task s.0) (
+          answers_of_grids task (t.lines ++ last_line t.rest) (answers ++ answer ∷ [])
+          (answers_records asked task s.0) (
             t.records ++ these ∷ [],
             closed.0,
             matched_append (IsAnswerToRecord task) t.records (these ∷ []) answers (answer ∷ []) before (now, tt),

@@ -11,6 +11,9 @@ invariant-loop-b l = record {
   size : l.words.size ≡ l.initial.words.size;
   words : AreWordsOf l.initial.words.size l.words.list;
   count : length l.counts.items ≡ l.b;
-  corrected : (a : ℕ) → a < l.b → IsBlockCorrected (block_check l.initial.words.size) (block_at l.initial.words.size l.initial.words.list a) (block_at l.initial.words.size l.words.list a) (get_or l.counts.items a None);
-  later : (a : ℕ) → l.b ≤ a → a < l.initial.words.size.blocks → block_at l.initial.words.size l.words.list a ≡ block_at l.initial.words.size l.initial.words.list a;
+  corrected : (a : ℕ) → a < l.b
+      → IsBlockCorrected (block_check l.initial.words.size) (block_at l.initial.words.size l.initial.words.list a)
+      (block_at l.initial.words.size l.words.list a) (get_or l.counts.items a None);
+  later : (a : ℕ) → l.b ≤ a → a < l.initial.words.size.blocks → block_at l.initial.words.size l.words.list a
+      ≡ block_at l.initial.words.size l.initial.words.list a;
 }

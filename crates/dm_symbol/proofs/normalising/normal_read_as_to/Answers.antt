@@ -6,7 +6,8 @@ use Rattle.dm_symbol.proofs.normalising.normal_read_as_to.Goals as goal
 
 pub returns-in-Err : goal.returns-in-Err
 returns-in-Err c = record {
-  normal = is_normalised c.args.extent c.args.profile c.args.grid.now c.args.border_limit _ (NormalResult.fault c.in-Err.fault c.in-Err.ensures.read.result_is refl);
+  normal = is_normalised c.args.extent c.args.profile c.args.grid.now c.args.border_limit _
+      (NormalResult.fault c.in-Err.fault c.in-Err.ensures.read.result_is refl);
   reading_is = tt;
   reading_of_long = λ e. cc;
   same = refl;
@@ -16,7 +17,14 @@ pub returns-in-Ok-write_to : goal.returns-in-Ok-write_to
 returns-in-Ok-write_to c = record {
   normal =
       is_normalised c.args.extent c.args.profile c.args.grid.now c.args.border_limit _
-      (NormalResult.normal c.write_to.new.grid (record { message = c.read_as_to.new.reading.message; read = (c.in-Ok.ensures.read.message c.read_as_to.new.reading.message).0 refl; normal_grid = c.in-Ok-write_to.ensures.written.normal }) refl);
+      (NormalResult.normal c.write_to.new.grid
+      (record {
+        message = c.read_as_to.new.reading.message;
+        read =
+            (c.in-Ok.ensures.read.message c.read_as_to.new.reading.message).0 refl;
+        normal_grid =
+            c.in-Ok-write_to.ensures.written.normal;
+      }) refl);
   reading_is = c.in-Ok.ensures.read.result_is;
   reading_of_long = λ e. cc;
   same = tt;
@@ -26,7 +34,14 @@ pub returns-in-Err-write_to : goal.returns-in-Err-write_to
 returns-in-Err-write_to c = record {
   normal =
       is_normalised c.args.extent c.args.profile c.args.grid.now c.args.border_limit _
-      (NormalResult.too_long (record { message = c.read_as_to.new.reading.message; read = (c.in-Ok.ensures.read.message c.read_as_to.new.reading.message).0 refl; too_long = λ fits. false≢true (c.in-Err-write_to.ensures.written.fits.1 fits) }) refl);
+      (NormalResult.too_long
+      (record {
+        message = c.read_as_to.new.reading.message;
+        read =
+            (c.in-Ok.ensures.read.message c.read_as_to.new.reading.message).0 refl;
+        too_long =
+            λ fits. false≢true (c.in-Err-write_to.ensures.written.fits.1 fits);
+      }) refl);
   reading_is = tt;
   reading_of_long = λ e. c.in-Ok.ensures.read.result_is;
   same = c.in-Err-write_to.ensures.same;

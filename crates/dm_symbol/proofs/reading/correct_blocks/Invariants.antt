@@ -10,7 +10,11 @@ invariant-loop-b l = record {
   size : l.words.size ≡ l.initial.words.size;
   words : AreWordsOf l.initial.words.size l.words.list;
   count : length l.counts.items ≡ l.b;
-  counts : (a : ℕ) → a < l.b → get_or l.counts.items a 0 ≡ distance (block_at l.initial.words.size l.initial.words.list a) (block_at l.initial.words.size l.words.list a);
-  near : (a : ℕ) → a < l.b → IsNear (block_check l.initial.words.size) (block_at l.initial.words.size l.initial.words.list a) (block_at l.initial.words.size l.words.list a);
-  later : (a : ℕ) → l.b ≤ a → a < l.initial.words.size.blocks → block_at l.initial.words.size l.words.list a ≡ block_at l.initial.words.size l.initial.words.list a;
+  counts : (a : ℕ) → a < l.b → get_or l.counts.items a 0
+      ≡ distance (block_at l.initial.words.size l.initial.words.list a) (block_at l.initial.words.size l.words.list a);
+  near : (a : ℕ) → a < l.b
+      → IsNear (block_check l.initial.words.size) (block_at l.initial.words.size l.initial.words.list a)
+      (block_at l.initial.words.size l.words.list a);
+  later : (a : ℕ) → l.b ≤ a → a < l.initial.words.size.blocks → block_at l.initial.words.size l.words.list a
+      ≡ block_at l.initial.words.size l.initial.words.list a;
 }

@@ -11,26 +11,45 @@ use Rattle.dm_symbol.proofs.reading.read_as_to.Goals as goal
 pub message_to_as-requires : goal.message_to_as-requires
 message_to_as-requires c =
     let v = c.correct_blocks.new.words in
-    omega (arith, ap length c.data_part.ensures.value, length-take v.size.data_count v.list, (size_facts v.size c.data_part.ensures.words.row).few_data)
+    omega (
+      arith,
+      ap length c.data_part.ensures.value,
+      length-take v.size.data_count v.list,
+      (size_facts v.size c.data_part.ensures.words.row).few_data,
+    )
 
 pub returns-then-border_faults-border_limit-clause-same : goal.returns-then-border_faults-border_limit-clause-same
 returns-then-border_faults-border_limit-clause-same c = λ _ _. refl
 
 pub returns-in-Err-clause-read : goal.returns-in-Err-clause-read
 returns-in-Err-clause-read c =
-    let few : border_fault_count c.args.grid.now ≤ c.args.border_limit = omega (arith, c.if-border_faults-border_limit.false, c.border_faults-border_faults.ensures) in
-    is_read c.args.extent c.args.grid.now c.args.border_limit _ (block_result c.args.extent c.args.grid.now c.args.border_limit c.lift-words.result c.in-Err.b few c.lift-words.ensures.holds c.in-Err.ensures.beyond)
+    let few : border_fault_count c.args.grid.now ≤ c.args.border_limit =
+    omega (arith, c.if-border_faults-border_limit.false, c.border_faults-border_faults.ensures) in
+    is_read c.args.extent c.args.grid.now c.args.border_limit _
+    (block_result c.args.extent c.args.grid.now c.args.border_limit c.lift-words.result c.in-Err.b few
+    c.lift-words.ensures.holds c.in-Err.ensures.beyond)
 
 pub returns-in-Ok-message_to_as-clause-read : goal.returns-in-Ok-message_to_as-clause-read
 returns-in-Ok-message_to_as-clause-read c =
-    let few : border_fault_count c.args.grid.now ≤ c.args.border_limit = omega (arith, c.if-border_faults-border_limit.false, c.border_faults-border_faults.ensures) in
-    let spelled : Spells c.args.extent (data_of c.correct_blocks.new.words) c.message_to_as.new.message = subst (λ words. Spells c.args.extent words c.message_to_as.new.message) c.data_part.ensures.value ((c.in-Ok-message_to_as.ensures.message c.message_to_as.new.message).0 refl) in
-    is_read c.args.extent c.args.grid.now c.args.border_limit _ (message_result c.args.extent c.args.grid.now c.args.border_limit c.lift-words.result c.correct_blocks.new.words few c.lift-words.ensures.holds c.in-Ok.ensures.size c.in-Ok.ensures.words
-    c.in-Ok.ensures.near c.message_to_as.new.message c.correct_blocks.new.counts c.border_faults-border_faults.result c.in-Ok.ensures.counts c.border_faults-border_faults.ensures spelled)
+    let few : border_fault_count c.args.grid.now ≤ c.args.border_limit =
+    omega (arith, c.if-border_faults-border_limit.false, c.border_faults-border_faults.ensures) in
+    let spelled : Spells c.args.extent (data_of c.correct_blocks.new.words) c.message_to_as.new.message =
+    subst (λ words. Spells c.args.extent words c.message_to_as.new.message) c.data_part.ensures.value
+    ((c.in-Ok-message_to_as.ensures.message c.message_to_as.new.message).0 refl) in
+    is_read c.args.extent c.args.grid.now c.args.border_limit _
+    (message_result c.args.extent c.args.grid.now c.args.border_limit c.lift-words.result
+    c.correct_blocks.new.words few c.lift-words.ensures.holds c.in-Ok.ensures.size c.in-Ok.ensures.words
+    c.in-Ok.ensures.near c.message_to_as.new.message c.correct_blocks.new.counts c.border_faults-border_faults.result
+    c.in-Ok.ensures.counts c.border_faults-border_faults.ensures spelled)
 
 pub returns-in-Err-message_to_as-clause-read : goal.returns-in-Err-message_to_as-clause-read
 returns-in-Err-message_to_as-clause-read c =
-    let few : border_fault_count c.args.grid.now ≤ c.args.border_limit = omega (arith, c.if-border_faults-border_limit.false, c.border_faults-border_faults.ensures) in
-    let refused : Refused c.args.extent (data_of c.correct_blocks.new.words) c.in-Err-message_to_as.fault = subst (λ words. Refused c.args.extent words c.in-Err-message_to_as.fault) c.data_part.ensures.value ((c.in-Err-message_to_as.ensures.fault c.in-Err-message_to_as.fault).0 refl) in
-    is_read c.args.extent c.args.grid.now c.args.border_limit _ (words_result c.args.extent c.args.grid.now c.args.border_limit c.lift-words.result c.correct_blocks.new.words few c.lift-words.ensures.holds c.in-Ok.ensures.size c.in-Ok.ensures.words
+    let few : border_fault_count c.args.grid.now ≤ c.args.border_limit =
+    omega (arith, c.if-border_faults-border_limit.false, c.border_faults-border_faults.ensures) in
+    let refused : Refused c.args.extent (data_of c.correct_blocks.new.words) c.in-Err-message_to_as.fault =
+    subst (λ words. Refused c.args.extent words c.in-Err-message_to_as.fault) c.data_part.ensures.value
+    ((c.in-Err-message_to_as.ensures.fault c.in-Err-message_to_as.fault).0 refl) in
+    is_read c.args.extent c.args.grid.now c.args.border_limit _
+    (words_result c.args.extent c.args.grid.now c.args.border_limit c.lift-words.result c.correct_blocks.new.words
+    few c.lift-words.ensures.holds c.in-Ok.ensures.size c.in-Ok.ensures.words
     c.in-Ok.ensures.near c.in-Err-message_to_as.fault refused)

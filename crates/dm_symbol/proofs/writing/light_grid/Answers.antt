@@ -7,7 +7,8 @@ use Rattle.dm_layout.specs.Sizes.{row_with_side, size_table}
 use Rattle.dm_symbol.proofs.writing.light_grid.Goals as goal
 
 -- There is no third fault.
-no_other : {A : Type 0} (e : GridFault) → (◌≡◌ {A = Result A GridFault} (Err e) (Err NotSquare) → ⊥) → (◌≡◌ {A = Result A GridFault} (Err e) (Err NoSuchSize) → ⊥) → ⊥
+no_other : {A : Type 0} (e : GridFault) → (◌≡◌ {A = Result A GridFault} (Err e) (Err NotSquare) → ⊥)
+    → (◌≡◌ {A = Result A GridFault} (Err e) (Err NoSuchSize) → ⊥) → ⊥
 no_other NotSquare not_square no_such_size = not_square refl
 no_other NoSuchSize not_square no_such_size = no_such_size refl
 
@@ -18,4 +19,6 @@ ten_is_a_side none = false≢true (sym none)
 
 -- Ten rows are a square.
 pub unreachable-requires : goal.unreachable-requires
-unreachable-requires c = no_other c.in-Err.field-0 (λ e. c.in-Err.ensures.not_square.0 e refl) (λ e. ten_is_a_side (c.in-Err.ensures.no_such_size.0 e).1)
+unreachable-requires c =
+    no_other c.in-Err.field-0 (λ e. c.in-Err.ensures.not_square.0 e refl)
+    (λ e. ten_is_a_side (c.in-Err.ensures.no_such_size.0 e).1)

@@ -8,10 +8,13 @@ loop-b-preserved c =
     let size = c.args.size in
     let after = c.complete_block.new.words.list in
     let same = c.loop-b.invariant.size in
-    let kept : data_part size after ≡ data_part size c.loop-b.words.list = subst (λ s. data_part s after ≡ data_part s c.loop-b.words.list) same c.complete_block.ensures.data_words in
+    let kept : data_part size after ≡ data_part size c.loop-b.words.list =
+    subst (λ s. data_part s after ≡ data_part s c.loop-b.words.list) same c.complete_block.ensures.data_words in
     record {
       size = c.complete_block.ensures.size ∙ same;
       data_words = kept ∙ c.loop-b.invariant.data_words;
-      checked = next_completed size c.loop-b.words.size c.loop-b.words.list after c.loop-b.b same (omega (arith, c.loop-b-test.true, c.blocks-blocks.ensures.value, c.from-b-end.ensures))
+      checked =
+          next_completed size c.loop-b.words.size c.loop-b.words.list after c.loop-b.b same
+          (omega (arith, c.loop-b-test.true, c.blocks-blocks.ensures.value, c.from-b-end.ensures))
           c.loop-b.invariant.checked c.complete_block.ensures.checked c.complete_block.ensures.others;
     }

@@ -18,8 +18,18 @@ returns-clause-written c =
     let p = c.args.profile in
     let m = c.args.message.now in
     let size = c.in-Some.size in
-    let count : row_for_words (length (normal_form p m)) ≡ Some size = sym (c.in-Some.ensures.value ∙ ap row_for_words (c.len.ensures.value ∙ ap length c.in-Ok.ensures.form.words)) in
+    let count : row_for_words (length (normal_form p m))
+    ≡ Some size =
+    sym (c.in-Some.ensures.value ∙ ap row_for_words (c.len.ensures.value ∙ ap length c.in-Ok.ensures.form.words)) in
     let prefix : data_part size c.with_checks.result.list ≡ padded (normal_form p m) size.data_count =
-    c.with_checks.ensures.data_words ∙ c.deref.ensures.0 ∙ c.add_pads.ensures.words ∙ ap (λ w. padded w size.data_count) c.in-Ok.ensures.form.words in
-    is_written p m c.lay_to.new.grid (laid_is_normal p m c.lay_to.new.grid c.with_checks.result size count c.with_checks.ensures.size prefix c.with_checks.ensures.checked
-    (record { holds = c.lay_to.ensures.holds; border = c.lay_to.ensures.border; fixed_square = c.lay_to.ensures.fixed_square }))
+    c.with_checks.ensures.data_words ∙ c.deref.ensures.0 ∙ c.add_pads.ensures.words
+    ∙ ap (λ w. padded w size.data_count) c.in-Ok.ensures.form.words in
+    is_written p m c.lay_to.new.grid
+    (laid_is_normal p m c.lay_to.new.grid c.with_checks.result size count c.with_checks.ensures.size prefix
+    c.with_checks.ensures.checked
+    (record {
+      holds = c.lay_to.ensures.holds;
+      border = c.lay_to.ensures.border;
+      fixed_square =
+          c.lay_to.ensures.fixed_square;
+    }))
