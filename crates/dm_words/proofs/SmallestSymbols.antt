@@ -1,5 +1,5 @@
 -- The words that are written spell the message, and no fewer do.
-use Rattle.std.proofs.Common.{◌≡◌, ℕ, zero, suc, ◌+◌, ◌-◌, ◌<◌, ◌≤◌, List, [], ◌∷◌, length, get_or, refl, sym, ap, subst, ◌∙◌, arith, Bool, true, false, cond, Some, nat_le}
+use Rattle.std.proofs.Common.{◌≡◌, ℕ, zero, suc, ◌+◌, ◌-◌, ◌*◌, ◌<◌, ◌≤◌, List, [], ◌∷◌, length, get_or, refl, sym, ap, subst, ◌∙◌, arith, Bool, true, false, cond, Some, nat_le}
 use Rattle.std.specs.Prelude.{◌&&◌, Any, find}
 use Rattle.std.specs.List.{list_all}
 use Rattle.std.proofs.lemmas.Bool.{and_parts, leb-true, leb-false}
@@ -22,6 +22,7 @@ use Rattle.dm_words.proofs.AsciiWords.{pads_end}
 use Rattle.dm_words.proofs.LawLemmas.{ascii_spells}
 use Rattle.dm_words.proofs.Extents.{wide_reads_the_padded}
 use Rattle.dm_words.proofs.PartsWritten.{parts_whole}
+use Rattle.dm_words.proofs.SpelledBounds.{spelled_is_few}
 use Rattle.dm_words.proofs.CostsMet.{no_fewer_words}
 
 -- ---- what is written spells the message
@@ -173,4 +174,14 @@ any_plainest m words count usual fits none is more =
     record {
       ascii = λ room. absurd (omega (arith, room, long, none));
       usual = λ other same says. absurd (omega (arith, no_fewer_words Usual other m (parts_cost Usual m) (usual_cost m) says, same, long, is, more));
+    }
+
+-- So are they where a message has more than two items for each codeword.
+pub long_plainest : (m : List Item) (words : List ℕ) (count : ℕ) → length words ≤ count → count < length (ascii m)
+    → 2 * count < length m → IsPlainest (padded words count) m
+long_plainest m words count fits none more =
+    let long : length (padded words count) ≡ count = length-padded words count fits in
+    record {
+      ascii = λ room. absurd (omega (arith, room, long, none));
+      usual = λ other same says. absurd (omega (arith, spelled_is_few Usual other m says, same, long, more));
     }

@@ -184,6 +184,10 @@ fn write_usual_if_fits(
     ensures fits { length words.new.items ≤ count }
     ensures plainest { IsPlainest (padded words.new.items count) items.now }
 {
+    // In the usual extent a codeword spells at most two items.
+    if 2 * usize::from(count) < items.len() {
+        return;
+    }
     let mut plan = [Step::NONE; PLAN_ROOM];
     if plan_to(Extent::Usual, items, &mut plan) <= count {
         let _usual = write_plain(Extent::Usual, items, &plan, words, count);

@@ -1,5 +1,6 @@
+use Rattle.std.proofs.Common.{arith}
 use Rattle.dm_words.specs.Pads.{padded}
-use Rattle.dm_words.proofs.SmallestSymbols.{wider, usual_plainest, any_plainest}
+use Rattle.dm_words.proofs.SmallestSymbols.{wider, usual_plainest, any_plainest, long_plainest}
 use Rattle.dm_words.proofs.smallest.write_usual_if_fits.Goals as goal
 
 pub returns-then-plan_to-count-clause-spells : goal.returns-then-plan_to-count-clause-spells
@@ -15,3 +16,8 @@ pub returns-else-plan_to-count-clause-plainest : goal.returns-else-plan_to-count
 returns-else-plan_to-count-clause-plainest c =
     any_plainest c.args.items.now c.args.words.now.items c.args.count c.plan_to.result c.requires.fits
     c.requires.no_ascii c.plan_to.ensures.cost c.if-plan_to-count.false
+
+pub returns-then-from-items-clause-plainest : goal.returns-then-from-items-clause-plainest
+returns-then-from-items-clause-plainest c =
+    long_plainest c.args.items.now c.args.words.now.items c.args.count c.requires.fits c.requires.no_ascii
+    (omega (arith, c.from.ensures, c.if-from-items.true))
