@@ -97,7 +97,7 @@ pub near_but_is_one : (k : ℕ) (word places first second : List ℕ) → k < 25
     → length word ≤ 255 → ((i : ℕ) → i < length places → get_or places i 0 < length word)
     → IsNearBut k word places first → IsNearBut k word places second → first ≡ second
 near_but_is_one k word places first second small bytes room short within hf hs =
-    near_but_one k word places first second small bytes room short within hf hs
+    near_but_one k word places first second short hf hs
 
 -- ---- codewords and modules
 
