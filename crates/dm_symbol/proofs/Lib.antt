@@ -21,5 +21,6 @@ mod SymbolReadings
 mod SymbolReadSteps
 mod SymbolWriteSteps
 mod SymbolNormals
+mod SymbolCompletions
 mod SymbolGrids
 pub mod Exported

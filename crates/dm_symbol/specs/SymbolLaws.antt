@@ -19,7 +19,7 @@ use Rattle.dm_symbol.specs.declared.normalising.NormalFault.{NormalFault}
 use Rattle.dm_symbol.specs.Doubt.{erased_in, sure_fault_count}
 use Rattle.dm_symbol.specs.Reading.{Reads}
 use Rattle.dm_symbol.specs.SymbolReading.{ReadsSymbol, SymbolReadResult, symbol_reading_of}
-use Rattle.dm_symbol.specs.NormalSymbol.{IsWrittenIn, IsNormalSymbol}
+use Rattle.dm_symbol.specs.NormalSymbol.{IsWrittenIn, FitsChoice}
 use Rattle.dm_symbol.specs.SymbolNormal.{HasNormalSymbol, NormalSymbolResult}
 
 -- With no module doubtful, a word is near to a block but for its erased places exactly where it is near to it.
@@ -59,6 +59,12 @@ WideReadsTheUsualSymbol =
     (modules : ModulesView) (doubtful : Option ModulesView) (limit : ℕ) (reading : SymbolReading)
     → SymbolReadResult Usual modules doubtful limit (Ok reading)
     → SymbolReadResult Wide modules doubtful limit (Ok reading)
+
+-- A message that fits a size of the choice is written in some symbol; so one that fits a square has a normal symbol.
+abbrev pub AWrittenSymbolIsThere : Type 0
+AWrittenSymbolIsThere =
+    (choice : SizeChoice) (profile : Profile) (message : List Item) → IsMessage message
+    → FitsChoice choice profile message → (modules : ModulesView) × IsWrittenIn choice profile message modules
 
 -- This is said of a block of k check codewords in which nothing is wrong and nothing erased.
 abbrev pub nothing_wrong : ℕ → BlockReading

@@ -4,6 +4,7 @@ ghost use Rattle.dm_symbol.specs.SymbolLaws.{NoDoubtIsNearness, NoDoubtCountsAll
 ghost use Rattle.dm_symbol.specs.SymbolLaws.{SymbolReadResultIsOne, NormalSymbolResultIsOne, WideReadsTheUsualSymbol};
 ghost use Rattle.dm_symbol.specs.SymbolLaws.{WrittenSymbolIsRead, WrittenSymbolsTellMessages, NormalSymbolTwiceIsOnce};
 ghost use Rattle.dm_symbol.specs.SymbolLaws.{EqualNormalSymbolsMeanEqualMessages, GridsAreReadAsSymbols};
+ghost use Rattle.dm_symbol.specs.SymbolLaws.{AWrittenSymbolIsThere};
 
 /// With no module doubtful, blocks are near to codewords as they are without any talk of doubt, and all border faults
 /// count.
@@ -23,6 +24,11 @@ pub fn one_symbol_message_is_read()
 /// What is read in the usual extent has the same result in the wide one.
 pub fn wide_reads_the_usual_symbol()
     ensures { WideReadsTheUsualSymbol }
+{}
+
+/// A message that fits a size of a choice is written in some symbol; so one that fits a square has a normal symbol.
+pub fn a_written_symbol_is_there()
+    ensures { AWrittenSymbolIsThere }
 {}
 
 /// The symbol in which a message is written, in any choice of sizes, is read as that message in each extent and for
