@@ -41,10 +41,10 @@ import pack
 
 
 def tried(file, parts):
-    """Runs these parts over one page, in turn, until one fails."""
-    random.seed(1)
-    load(file)
+    """Runs these parts over a page, each over one that is loaded anew, until one fails."""
     for part in parts:
+        random.seed(1)
+        load(file)
         on.part = part.__name__
         if fault := fault_of(part):  # a part that can't go on has failed
             count.expect(f"{part.__name__}, which broke off with {type(fault).__name__}", str(fault), "no fault")

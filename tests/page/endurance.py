@@ -88,26 +88,36 @@ WATCH = """
 LATER = "const [done] = arguments; kept.setTimeout.call(globalThis, () => done(calls), 1500);"
 
 
-def out_of_sight():
-    """Nothing runs on behind another tab of the browser, but a picture that is being looked at, until that is done."""
-    noise = ["".join(random.choice("01") for _ in range(40)) for _ in range(40)]
-    push("tab-read", "example-c40")
-    drop("body", [("noise.png", "image/png", png(noise, 6, 2))])
+def begin_camera():
     run(SLOW_CAMERA)
     run("document.getElementById('camera').click(); for (const each of allowed.splice(0)) each()")
     wait_for(lambda: find("viewfinder").is_displayed())
-    run(
-        """clearInterval(painter);
-           Object.defineProperty(document, 'hidden', { configurable: true, value: true });
-           document.dispatchEvent(new Event('visibilitychange'));"""
-    )
-    settle()
-    run(WATCH)
-    count.expect("what is done out of sight", on.page.execute_async_script(LATER), [])
+    run("clearInterval(painter)")
+
+
+def begin_picture():
+    noise = ["".join(random.choice("01") for _ in range(40)) for _ in range(40)]
+    drop("body", [("noise.png", "image/png", png(noise, 6, 2))])
+
+
+def out_of_sight():
+    """Nothing runs on behind another tab of the browser, but a picture that is being looked at, until that is done."""
+    push("tab-read", "example-c40")
+    for name, begin in (("the camera", begin_camera), ("a picture", begin_picture)):
+        begin()
+        run(
+            """Object.defineProperty(document, 'hidden', { configurable: true, value: true });
+               document.dispatchEvent(new Event('visibilitychange'));"""
+        )
+        settle()
+        run(WATCH)
+        count.expect(f"{name}: what is done out of sight", on.page.execute_async_script(LATER), [])
+        moving = run("return document.getAnimations().filter((it) => it.playState === 'running').length")
+        count.expect(f"{name}: what moves", moving, 0)
+        run("again(); delete document.hidden")
     tracks = run("return streams.flatMap((stream) => stream.getTracks().map((track) => track.readyState))")
-    moving = run("return document.getAnimations().filter((it) => it.playState === 'running').length")
-    count.expect("the camera, and what moves", (tracks, moving), (["ended"], 0))
-    run("again(); delete document.hidden; delete navigator.mediaDevices")
+    count.expect("the camera is off", tracks, ["ended"])
+    run("delete navigator.mediaDevices")
     write("123456")
     count.expect("it goes on afterwards", run("return mitsubadoor.mark.stage"), "valid")
 
