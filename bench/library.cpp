@@ -94,8 +94,8 @@ static void time_ours(const std::vector<Mark> &marks) {
     timed("read", "ecc200", marks, [](const Mark &mark) { read(mark.clean, mark); });
     timed("read, damaged", "ecc200", marks, [](const Mark &mark) { read(mark.damaged, mark); });
     timed("normal, damaged", "ecc200", marks, [](const Mark &mark) {
-        if (ecc200_normal(mark.damaged.data(), mark.damaged.size(), mark.side, 0, ECC200_USUAL, ECC200_ASCII,
-                          &symbol) ||
+        const auto &damaged = mark.damaged;
+        if (ecc200_normal(damaged.data(), damaged.size(), mark.side, 0, ECC200_USUAL, ECC200_ASCII, &symbol) ||
             std::memcmp(symbol.modules, mark.clean.data(), mark.clean.size()))
             die("ecc200 normalises to something else");
     });

@@ -38,8 +38,8 @@ def in_order(top, crate, found):
     """The modules of a folder in the order in which its list names them, which goes from what is cited to what cites
     it."""
     listed = re.findall(r"^pub mod (\w+)", text(top, os.path.join("crates", crate, "specs", "Lib.antt")), re.M)
-    return sorted(found, key=lambda path: (listed.index(name_of(path)) if name_of(path) in listed else len(listed),
-                                           path))
+    places = {name: at for at, name in enumerate(listed)}
+    return sorted(found, key=lambda path: (places.get(name_of(path), len(listed)), path))
 
 
 @functools.cache
@@ -192,10 +192,10 @@ def functions_in(top, crate, path):
                 continue
             if not (owner or within[0] in opened or declared[2] in given):
                 continue
-            shown = "::".join([owner, declared[2]] if owner else [*(within if within[0] in opened else []),
-                                                                  declared[2]])
-            yield Function(crate, shown, path, at + 1, comment_above(lines, at, "///"), clauses_of(contract(lines, at)),
-                           cites)
+            outside = [owner] if owner else within if within[0] in opened else []
+            clauses = clauses_of(contract(lines, at))
+            yield Function(crate, "::".join([*outside, declared[2]]), path, at + 1, comment_above(lines, at, "///"),
+                           clauses, cites)
 
 
 @functools.cache

@@ -391,9 +391,8 @@ def explained():
     yield holds("explain beyond correction", status == 1 and "beyond correction" in output
                 and "block 1 of its 1" in errors, output + errors)
     words = json.loads(ecc("explain", "--json", given=text(ecc200.write(b"12")))[1])["codewords"]
-    yield same("explain --json", (words[0], len(words)),
-               ({"place": 1, "value": 142, "held": 142, "encodation": "ASCII", "meaning": "the digits 12"},
-                8))
+    first = {"place": 1, "value": 142, "held": 142, "encodation": "ASCII", "meaning": "the digits 12"}
+    yield same("explain --json", (words[0], len(words)), (first, 8))
     status, output, _ = ecc("explain", "--basic", given=edifact())
     yield holds("explain --basic", status == 1 and "what can't be read begins here" in output, output)
 
