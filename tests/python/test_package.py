@@ -13,8 +13,8 @@ PARTS = {
     "module": "forms strange_grids readings messages refusals many shown by_threads loading",
     "elements": "worked square faults table beside_zint beside_stdnum",
     "drawings": "png rendered unloadable taken saved in_files paged sheets symbols oriented sampled",
-    "surface": "usage reading in_words otherwise writing files named_alike pages comparing explained spellings "
-               "at_a_terminal completion",
+    "surface": "usage reading in_words otherwise writing files named_alike",
+    "comparing": "pages comparing explained spellings at_a_terminal completion",
     "batches": "numbered several walked no_picture streams interrupted bad_lines locales round_trips blocks_of_json",
     "labels": "captions captions_on_sheets names output sizes first_symbols letters_of_dots terminal "
               "no_picture_on_a_terminal",
