@@ -199,6 +199,10 @@ def damaged_only_where_one_learns():
     where = lambda: [run("return mitsubadoor.store.pane"), find("learn-read").is_selected()]
     count.expect("what is learnt about", where(), ["read", True])
     click(33)
+    linked()
+    on.page.refresh()
+    started()
+    count.expect("after a reload", (where(), changed(clean, grid())), (["read", True], [33]))
     find("learn-write").click()
     settle()
     count.expect("the other symbol", (where(), grid()), (["write", False], clean))
