@@ -63,12 +63,12 @@ BeginsWithDigit-append (Byte b ∷ x) y h = h
 BeginsWithDigit-append (Fnc1 ∷ x) y h = absurd h
 
 -- The message is what greedy units mean, whose words are these.
-record HasUnits (m : List Item) (words : List ℕ) : Type 0 where
-  units : List (Piece (List Item))
-  each : AllByRecursion (λ u. IsAsciiUnit u.words u.what) units
-  greedy : IsGreedy units
-  items : m ≡ gathered units
-  whole : words ≡ spelled units
+pub record HasUnits (m : List Item) (words : List ℕ) : Type 0 where
+  pub units : List (Piece (List Item))
+  pub each : AllByRecursion (λ u. IsAsciiUnit u.words u.what) units
+  pub greedy : IsGreedy units
+  pub items : m ≡ gathered units
+  pub whole : words ≡ spelled units
 
 -- Units stay greedy with one more before them, unless this is a single digit before a digit.
 greedy_more : (u : Piece (List Item)) (us : List (Piece (List Item))) → (IsOneDigit u.what → BeginsWithDigit (gathered us) → ⊥) → IsGreedy us → IsGreedy (u ∷ us)
@@ -92,7 +92,7 @@ not_both : (b c : ℕ) (s t : Bool) → is_digit b ≡ s → is_digit c ≡ t �
 not_both b c s t es et e hb hc = grind (arith, nat_tests)
 
 -- The form from the left of a message is a joining of such units.
-units_of : (m : List Item) → AreItems m → HasUnits m (ascii m)
+pub units_of : (m : List Item) → AreItems m → HasUnits m (ascii m)
 units_of [] fit = record { units = []; each = tt; greedy = tt; items = refl; whole = refl }
 units_of (Fnc1 ∷ m) fit = one_more (232 ∷ []) (Fnc1 ∷ []) m (ascii m) (fnc1 232 refl refl refl) (λ one begins. one) (units_of m fit.1)
 units_of (Byte b ∷ []) fit = subst (HasUnits (Byte b ∷ [])) (append-nil (single b)) (one_more (single b) (Byte b ∷ []) [] [] (single_spells b fit.0 []) (λ one begins. begins) (units_of [] tt))

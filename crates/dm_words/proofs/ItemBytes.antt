@@ -108,14 +108,14 @@ edifact_values_items [] h = tt
 edifact_values_items (v ∷ vs) h = (edifact_byte_small v h.0, edifact_values_items vs h.1)
 
 -- The items of a part are items.
-part_items : (extent : Extent) (place : ℕ) (words after : List ℕ) (items : List Item) → IsPart extent place words after items → AreItems items
+pub part_items : (extent : Extent) (place : ℕ) (words after : List ℕ) (items : List Item) → IsPart extent place words after items → AreItems items
 part_items extent place words after items (ascii u) = unit_items words items u
 part_items extent place words after items (run set r) = rw r.values.items_are (spellings_items set r.values.spellings r.values.each)
 part_items extent place words after items (segment s) = rw s.items_are (bytes_items s.bytes s.in_range)
 part_items extent place words after items (edifact is r) = rw r.items_are (edifact_values_items (gathered r.groups ++ r.last) (small-append (gathered r.groups) r.last (groups_small r.groups r.each) (end_small r.end after r.last r.ended)))
 
 -- Items, joined, are items.
-items-append : (a b : List Item) → AreItems a → AreItems b → AreItems (a ++ b)
+pub items-append : (a b : List Item) → AreItems a → AreItems b → AreItems (a ++ b)
 items-append [] b ha hb = hb
 items-append (i ∷ a) b ha hb = (ha.0, items-append a b ha.1 hb)
 
@@ -125,7 +125,7 @@ parts_items extent place [] after h = tt
 parts_items extent place (p ∷ ps) after h = items-append p.what (gathered ps) (part_items extent place p.words (spelled ps ++ after) p.what h.0) (parts_items extent (place + length p.words) ps after h.1)
 
 -- The digit of a macro is a byte.
-macro_byte : (w digit : ℕ) → codeword_of w ≡ Some (codeword.Macro digit) → digit < 256
+pub macro_byte : (w digit : ℕ) → codeword_of w ≡ Some (codeword.Macro digit) → digit < 256
 macro_byte w digit e = grind (arith, nat_tests)
 
 -- The items of all parts from a place on are items.

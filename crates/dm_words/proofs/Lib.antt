@@ -1,4 +1,16 @@
 mod Walks
+mod Designators
+mod Heads
+mod Openings
+mod Marks
+mod LetterParts
+mod WholeLetters
+mod SaidLetters
+mod LetterLoops
+mod LetterReadings
+mod WideLetters
+mod LetterForms
+mod MarkedWords
 mod Values
 mod Pairs
 mod Runs

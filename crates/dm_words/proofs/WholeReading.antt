@@ -101,7 +101,7 @@ record BeginMacro (extent : Extent) (words : List ℕ) (digit : ℕ) : Type 0 wh
   whole : words ≡ word ∷ more
 
 -- A codeword whose meaning has a digit is a macro.
-digit_is : (k : Option Codeword) (digit : ℕ) → digit_by k ≡ Some digit → k ≡ Some (codeword.Macro digit)
+pub digit_is : (k : Option Codeword) (digit : ℕ) → digit_by k ≡ Some digit → k ≡ Some (codeword.Macro digit)
 digit_is (Some (codeword.Macro d)) digit e = (let same : d ≡ digit = cc in rw same refl)
 digit_is (Some (codeword.Character b)) digit e = absurd cc
 digit_is (Some codeword.Pad) digit e = absurd cc

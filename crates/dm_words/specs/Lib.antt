@@ -18,4 +18,9 @@ pub mod Outcomes
 pub mod Results
 pub mod Laws
 pub mod Smallest
+pub mod Designators
+pub mod Heads
+pub mod Letters
+pub mod LetterResults
+pub mod LetterForm
 pub mod inner

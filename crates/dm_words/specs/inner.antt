@@ -3,3 +3,6 @@ pub mod Scan
 pub mod Costs
 pub mod Written
 pub mod Ways
+pub mod LetterScan
+pub mod LetterContents
+pub mod MarkedForms

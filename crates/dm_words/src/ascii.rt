@@ -62,7 +62,7 @@ pub(crate) fn unit_of(item: Item) -> Unit
 }
 
 /// Gives the unit that begins at an index.
-fn unit_at(items: &[Item], at: usize) -> Unit
+pub(crate) fn unit_at(items: &[Item], at: usize) -> Unit
     requires { at < length items.now }
     ensures { BeginsAscii result items.now at }
 {

@@ -13,7 +13,12 @@
 //! [`add_pads()`] adds the pads in a target. [`normal_words_in()`] and [`pad_to()`] do the same in targets of any room up
 //! to [`LARGEST_DATA`] codewords, for symbols that are no squares or larger ones.
 //!
-//! Limits: [`MOST_DATA`] codewords, [`MOST_ITEMS`] items in the usual extent, and room for [`MESSAGE_ROOM`].
+//! Letters: [`letter_of()`] gives the [`Letter`] that a list says, which is a [`Head`] or none, items and [`Mark`]s, or the
+//! [`LetterFault`] with which the list is refused, and [`letter_to()`] writes it into a target. [`letter_words()`] and
+//! [`letter_words_to()`] give the codewords of a letter. [`head_of()`], [`head_words()`], [`designator_of()`] and
+//! [`designator_words()`] read and write a head or a designator alone.
+//!
+//! Limits: [`MOST_DATA`] codewords, [`MOST_ITEMS`] items in the usual extent, and room for [`MESSAGE_ROOM`]; [`MOST_MARKS`] marks.
 //!
 //! A *target* is memory that the caller hands in. What the contracts say is defined in `specs/`; [`laws`] has what holds of the definitions. No call
 //! allocates memory.
@@ -28,6 +33,8 @@ mod extent;
 mod fault;
 mod item;
 pub mod laws;
+pub mod letter_laws;
+mod letters;
 mod limits;
 mod macros;
 mod message;
@@ -42,7 +49,16 @@ pub use dm_layout::MOST_DATA;
 pub use extent::Extent;
 pub use fault::{TooLong, WordFault};
 pub use item::Item;
-pub use limits::{LARGEST_DATA, MESSAGE_ROOM, MOST_ITEMS};
+pub use letters::designator::{
+    DESIGNATOR_ROOM, Designator, MOST_ASSIGNED, designator_of, designator_words,
+};
+pub use letters::fault::LetterFault;
+pub use letters::head::{Appended, HEAD_ROOM, Head, head_of, head_words};
+pub use letters::letter::Letter;
+pub use letters::mark::Mark;
+pub use letters::normal_form::{letter_words, letter_words_to};
+pub use letters::reading::{letter_of, letter_to};
+pub use limits::{LARGEST_DATA, MESSAGE_ROOM, MOST_ITEMS, MOST_MARKS};
 pub use message::Message;
 pub use normal_form::{ascii_words, normal_words, normal_words_in, normal_words_to, shorter_words};
 pub use pad::{add_pads, pad_to, padded};

@@ -34,7 +34,7 @@ pub(crate) fn macro_digit(extent: Extent, words: &[u8]) -> Option<u8>
 }
 
 /// Gives the digit of a macro, `None` for any other codeword.
-fn digit_of(codeword: u8) -> Option<u8>
+pub(crate) fn digit_of(codeword: u8) -> Option<u8>
     ensures { result ≡ digit_by (codeword_of codeword) }
 {
     match meaning(codeword) {

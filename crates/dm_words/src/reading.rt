@@ -28,7 +28,7 @@ use crate::numbers::number_at;
 use dm_layout::MOST_DATA;
 
 /// Takes the part at an index: adds its items to the message, and gives the number of its codewords; `None` at the end.
-fn next_part(
+pub(crate) fn next_part(
     extent: Extent,
     words: &[u8],
     at: usize,

@@ -1,0 +1,215 @@
+-- The designator that is found first is the one of the definition, and each number has one.
+use Rattle.std.proofs.Common.{◌≡◌, ℕ, zero, suc, ◌+◌, ◌-◌, ◌*◌, ◌/◌, ◌%◌, ◌<◌, ◌≤◌, List, [], ◌∷◌, ◌++◌, length, drop}
+use Rattle.std.proofs.Common.{refl, sym, ap, subst, ◌∙◌, arith, length-append, Bool, true, false, cond, leb, ltb}
+use Rattle.std.proofs.Common.{◌&&◌, Option, Some, None}
+use Rattle.std.specs.Prelude.{◌↔◌, slice_get, IfSome, IfNone, ◌==◌}
+use Rattle.std.proofs.lemmas.Bool.Decides.{nat_tests}
+use Rattle.std.proofs.lemmas.List.{drop_at}
+use Rattle.dm_words.specs.declared.letters.designator.Designator.{Designator}
+use Rattle.dm_words.specs.Designators.{most_assigned, IsFurther, IsDesignator, one, two, three, BeginsDesignator}
+use Rattle.dm_words.specs.Designators.{BeginsNoDesignator, designator}
+use Rattle.dm_words.specs.inner.LetterScan.{is_further, within_assigned, two_words, three_words, designator_by}
+use Rattle.dm_words.specs.inner.LetterScan.{first_designator}
+
+-- A designator that is there is found.
+pub designator_complete : (words more : List ℕ) (number : ℕ) → IsDesignator words number
+    → first_designator (words ++ more) ≡ Some (record { count = length words; number = number })
+designator_complete words more number (one a l h e n) = rw (e, n) (grind (arith, nat_tests))
+designator_complete words more number (two a b l h f e n) = rw (e, n) (grind (arith, nat_tests))
+designator_complete words more number (three a b c l h f g e n k) =
+    rw (e, n) (let k2 = rw n at k in grind (arith, nat_tests))
+
+-- The words begin with the designator that was found.
+pub record Found (words : List ℕ) (d : Designator) : Type 0 where
+  pub first : List ℕ
+  pub more : List ℕ
+  pub is_designator : IsDesignator first d.number
+  pub whole : words ≡ first ++ more
+  pub count : d.count ≡ length first
+  pub some : 1 ≤ d.count
+  pub few : d.count ≤ 3
+  pub assigned : d.number ≤ most_assigned
+
+-- What is found is right.
+abbrev Judged : List ℕ → Option Designator → Type 0
+Judged words None = Unit {0}
+Judged words (Some d) = Found words d
+
+-- Two words that are found are a designator.
+judged_two : (a : ℕ) (ws : List ℕ) → 128 ≤ a → a ≤ 191 → Judged (a ∷ ws) (two_words a (slice_get ws 0))
+judged_two a [] low high = tt
+judged_two a (b ∷ ws) low high = by_test (is_further b) refl where
+  by_test : (t : Bool) → is_further b ≡ t
+      → Judged (a ∷ b ∷ ws) (cond t (Some (record { count = 2; number = (a - 128) * 254 + 127 + (b - 1) })) None)
+  by_test true e =
+      let f : (1 ≤ b) × (b ≤ 254) = grind (arith, nat_tests) in
+      record {
+        first = a ∷ b ∷ [];
+        more = ws;
+        is_designator = two a b low high f refl refl;
+        whole = refl;
+        count = refl;
+        some = omega arith;
+        few = omega arith;
+        assigned = omega (arith, f.1);
+      }
+  by_test false e = tt
+
+-- Three words that are found are a designator.
+judged_three : (a : ℕ) (ws : List ℕ) → 192 ≤ a → a ≤ 207
+    → Judged (a ∷ ws) (three_words a (slice_get ws 0) (slice_get ws 1))
+judged_three a [] low high = tt
+judged_three a (b ∷ []) low high = tt
+judged_three a (b ∷ c ∷ ws) low high =
+    by_test (is_further b && is_further c) (leb ((a - 192) * 64516 + 16383 + (b - 1) * 254 + (c - 1)) most_assigned)
+    refl refl where
+      by_test : (t s : Bool) → (is_further b && is_further c) ≡ t
+          → leb ((a - 192) * 64516 + 16383 + (b - 1) * 254 + (c - 1)) most_assigned ≡ s
+          → Judged (a ∷ b ∷ c ∷ ws)
+          (cond t (cond s (Some (record { count = 3; number = (a - 192) * 64516 + 16383 + (b - 1) * 254 + (c - 1) }))
+          None) None)
+      by_test true true e k =
+          let f : (1 ≤ b) × (b ≤ 254) × (1 ≤ c) × (c ≤ 254) = grind (arith, nat_tests) in
+          let m : (a - 192) * 64516 + 16383 + (b - 1) * 254 + (c - 1) ≤ most_assigned = grind (arith, nat_tests) in
+          record {
+            first = a ∷ b ∷ c ∷ [];
+            more = ws;
+            is_designator = three a b c low high (f.0, f.1) (f.2, f.3) refl refl m;
+            whole = refl;
+            count = refl;
+            some = omega arith;
+            few = omega arith;
+            assigned = m;
+          }
+      by_test true false e k = tt
+      by_test false s e k = tt
+
+-- Where words are found, they are a designator.
+pub judged : (words : List ℕ) → Judged words (first_designator words)
+judged [] = tt
+judged (a ∷ ws) = by_test (a == 0) (leb a 127) (leb a 191) (leb a 207) refl refl refl refl where
+  by_test : (z o t h : Bool) → (a == 0) ≡ z → leb a 127 ≡ o → leb a 191 ≡ t → leb a 207 ≡ h
+      → Judged (a ∷ ws)
+      (cond z None
+      (cond o (Some (record { count = 1; number = a - 1 }))
+      (cond t (two_words a (slice_get ws 0)) (cond h (three_words a (slice_get ws 0) (slice_get ws 1)) None))))
+  by_test true o t h ez eo et eh = tt
+  by_test false true t h ez eo et eh =
+      let f : (1 ≤ a) × (a ≤ 127) = grind (arith, nat_tests) in
+      record {
+        first = a ∷ [];
+        more = ws;
+        is_designator = one a f.0 f.1 refl refl;
+        whole = refl;
+        count = refl;
+        some = omega arith;
+        few = omega arith;
+        assigned = omega (arith, f.1);
+      }
+  by_test false false true h ez eo et eh = judged_two a ws (grind (arith, nat_tests)) (grind (arith, nat_tests))
+  by_test false false false true ez eo et eh = judged_three a ws (grind (arith, nat_tests)) (grind (arith, nat_tests))
+  by_test false false false false ez eo et eh = tt
+
+-- A designator that is found is there.
+pub found : (words : List ℕ) (d : Designator) → first_designator words ≡ Some d → Found words d
+found words d e = let P : Option Designator → Type 0 = λ o. Judged words o in subst P e (judged words)
+
+-- Where none is found, there is none.
+pub none_begins : (words : List ℕ) → first_designator words ≡ None → BeginsNoDesignator words
+none_begins words e number more b =
+    let c = designator_complete b.first more number b.is_designator in
+    let w : first_designator words ≡ first_designator (b.first ++ more) = ap first_designator b.whole in
+    absurd cc
+
+-- Where there is none, none is found.
+pub none_found : (words : List ℕ) (o : Option Designator) → first_designator words ≡ o → BeginsNoDesignator words
+    → first_designator words ≡ None
+none_found words None e none = e
+none_found words (Some d) e none =
+    (let f = found words d e in absurd
+    (none d.number f.more (record { first = f.first; is_designator = f.is_designator; whole = f.whole })))
+
+-- What is found begins the words, and these follow it.
+pub begins : (words : List ℕ) (d : Designator) → Found words d → BeginsDesignator words d.number (drop d.count words)
+begins words d f = record {
+  first = f.first;
+  is_designator = f.is_designator;
+  whole = (let rest : drop d.count words ≡ f.more = ap (drop d.count) f.whole
+      ∙ drop_at f.first f.more d.count (sym f.count) in f.whole ∙ ap (λ (r : List ℕ). f.first ++ r) (sym rest));
+}
+
+-- The designator of a number says it.
+pub designator_says : (number : ℕ) → number ≤ most_assigned → IsDesignator (designator number) number
+designator_says n le = by_test (ltb n 127) (ltb n 16383) refl refl where
+  by_test : (o t : Bool) → ltb n 127 ≡ o → ltb n 16383 ≡ t
+      → IsDesignator
+      (cond o ((n + 1) ∷ [])
+      (cond t ((128 + (n - 127) / 254) ∷ (1 + (n - 127) % 254) ∷ [])
+      ((192 + (n - 16383) / 64516) ∷ (1 + (n - 16383) / 254 % 254) ∷ (1 + (n - 16383) % 254) ∷ []))) n
+  by_test true t eo et =
+      (let f : n < 127 = grind (arith, nat_tests) in one (n + 1) (omega arith) (omega arith) refl (omega arith))
+  by_test false true eo et =
+      let f : (127 ≤ n) × (n < 16383) = grind (arith, nat_tests) in
+      two (128 + (n - 127) / 254) (1 + (n - 127) % 254) (omega arith) (omega arith) (omega arith, omega arith) refl
+      (omega arith)
+  by_test false false eo et =
+      let f : 16383 ≤ n = grind (arith, nat_tests) in
+      three (192 + (n - 16383) / 64516) (1 + (n - 16383) / 254 % 254) (1 + (n - 16383) % 254) (omega arith)
+      (omega arith) (omega arith, omega arith) (omega arith, omega arith) refl (omega arith) le
+
+-- Nothing but the designator of a number says it.
+pub designator_only : (words : List ℕ) (number : ℕ) → IsDesignator words number → words ≡ designator number
+designator_only words n (one a l h e is) = e ∙ by_size (ltb n 127) refl where
+  by_size : (o : Bool) → ltb n 127 ≡ o → a ∷ [] ≡ designator n
+  by_size true t = (let first : a ≡ n + 1 = omega (arith, is, l) in rw t (ap (λ (x : ℕ). x ∷ []) first))
+  by_size false t = (let far : 127 ≤ n = grind (arith, nat_tests) in absurd (omega (arith, is, l, h, far)))
+designator_only words n (two a b l h f e is) = e ∙ by_size (ltb n 127) (ltb n 16383) refl refl where
+  by_size : (o t : Bool) → ltb n 127 ≡ o → ltb n 16383 ≡ t → a ∷ b ∷ [] ≡ designator n
+  by_size true t eo et = (let near : n < 127 = grind (arith, nat_tests) in absurd (omega (arith, is, l, h, near)))
+  by_size false true eo et =
+      let rest : n - 127 ≡ (a - 128) * 254 + (b - 1) = omega (arith, is) in
+      let first : a ≡ 128 + (n - 127) / 254 = omega (arith, rest, l, f.0, f.1) in
+      let second : b ≡ 1 + (n - 127) % 254 = omega (arith, rest, l, f.0, f.1) in
+      rw (eo, et) (ap (λ (x : ℕ). x ∷ b ∷ []) first ∙ ap (λ (y : ℕ). (128 + (n - 127) / 254) ∷ y ∷ []) second)
+  by_size false false eo et =
+      (let far : 16383 ≤ n = grind (arith, nat_tests) in absurd (omega (arith, is, l, h, f.0, f.1, far)))
+designator_only words n (three a b c l h f g e is k) = e ∙ by_size (ltb n 127) (ltb n 16383) refl refl where
+  by_size : (o t : Bool) → ltb n 127 ≡ o → ltb n 16383 ≡ t → a ∷ b ∷ c ∷ [] ≡ designator n
+  by_size true t eo et = (let near : n < 127 = grind (arith, nat_tests) in absurd (omega (arith, is, near)))
+  by_size false true eo et = (let near : n < 16383 = grind (arith, nat_tests) in absurd (omega (arith, is, near)))
+  by_size false false eo et =
+      let rest : n - 16383 ≡ (a - 192) * 64516 + (b - 1) * 254 + (c - 1) = omega (arith, is) in
+      let first : a ≡ 192 + (n - 16383) / 64516 = omega (arith, rest, l, f.0, f.1, g.0, g.1) in
+      let middle : (n - 16383) / 254 ≡ (a - 192) * 254 + (b - 1) = omega (arith, rest, g.0, g.1) in
+      let second : b ≡ 1 + (n - 16383) / 254 % 254 = omega (arith, middle, f.0, f.1) in
+      let third : c ≡ 1 + (n - 16383) % 254 = omega (arith, rest, g.0, g.1) in
+      rw (eo, et) (ap (λ (x : ℕ). x ∷ b ∷ c ∷ []) first
+      ∙ ap (λ (y : ℕ). (192 + (n - 16383) / 64516) ∷ y ∷ c ∷ []) second
+      ∙ ap (λ (z : ℕ). (192 + (n - 16383) / 64516) ∷ (1 + (n - 16383) / 254 % 254) ∷ z ∷ []) third)
+
+-- The numbers of assignments have one designator each.
+pub designator_is : (words : List ℕ) (number : ℕ) → number ≤ most_assigned
+    → IsDesignator words number ↔ (words ≡ designator number)
+designator_is words n le =
+    ((λ d. designator_only words n d), (λ e. subst (λ (w : List ℕ). IsDesignator w n) (sym e) (designator_says n le)))
+
+-- What a call gives that gives what is found.
+pub record Answered (words : List ℕ) (o : Option Designator) : Type 0 where
+  pub some : IfSome o (λ d. BeginsDesignator words d.number (drop d.count words))
+  pub within : IfSome o (λ d. d.count ≤ length words)
+  pub few : IfSome o (λ d. (1 ≤ d.count) × (d.count ≤ 3))
+  pub assigned : IfSome o (λ d. d.number ≤ most_assigned)
+  pub none : IfNone o (BeginsNoDesignator words)
+
+-- What is found answers the call.
+pub answered : (words : List ℕ) (o : Option Designator) → o ≡ first_designator words → Answered words o
+answered words None e = record { some = tt; within = tt; few = tt; assigned = tt; none = none_begins words (sym e) }
+answered words (Some d) e =
+    let f = found words d (sym e) in
+    record {
+      some = begins words d f;
+      within = omega (arith, ap length f.whole, f.count, length-append f.first f.more);
+      few = (f.some, f.few);
+      assigned = f.assigned;
+      none = tt;
+    }

@@ -1,0 +1,149 @@
+-- The head that is found first is the one of the definition, and what is written for a head says it.
+use Rattle.std.proofs.Common.{◌≡◌, ℕ, zero, suc, ◌+◌, ◌-◌, ◌*◌, ◌/◌, ◌%◌, ◌<◌, ◌≤◌, ◌↔◌, List, [], ◌∷◌, ◌++◌, length}
+use Rattle.std.proofs.Common.{drop, refl, sym, ap, subst, ◌∙◌, arith, length-append, Bool, true, false, cond, leb}
+use Rattle.std.proofs.Common.{ltb, ◌&&◌, Option, Some, None}
+use Rattle.std.specs.Prelude.{slice_get, IfSome, IfNone, IsTrue, ◌==◌}
+use Rattle.std.proofs.lemmas.Bool.Decides.{nat_tests}
+use Rattle.std.proofs.lemmas.List.{drop_at}
+use Rattle.dm_words.specs.declared.letters.head.Appended.{Appended}
+use Rattle.dm_words.specs.declared.letters.head.Head.{Head}
+use Rattle.dm_words.specs.declared.letters.head.Head.TheVariants as head
+use Rattle.dm_words.specs.Heads.{IsAppended, IsHead, SpellsHead, programming, appended, BeginsHead, BeginsNoHead}
+use Rattle.dm_words.specs.Heads.{head_words}
+use Rattle.dm_words.specs.inner.LetterScan.{is_appended, appended_symbol, append_by, head_by, first_head, head_length}
+
+-- The test finds a symbol of a sequence.
+pub appended_test : (symbol : Appended) → is_appended symbol ≡ true → IsAppended symbol
+appended_test s e =
+    let f : (1 ≤ s.index) × (s.index ≤ s.count) × (2 ≤ s.count) × (s.count ≤ 16) × (1 ≤ s.file_high) ×
+    (s.file_high ≤ 254) × (1 ≤ s.file_low) × (s.file_low ≤ 254) = grind (arith, nat_tests) in
+    record {
+      counted = f.0;
+      within = f.1;
+      some = f.2;
+      most = f.3;
+      high_some = f.4;
+      high_most = f.5;
+      low_some = f.6;
+      low_most = f.7;
+    }
+
+-- A symbol of a sequence meets the test.
+pub appended_meets : (symbol : Appended) → IsAppended symbol → is_appended symbol ≡ true
+appended_meets s a =
+    let c = a.counted in let w = a.within in let m = a.some in let n = a.most in
+    let p = a.high_some in let q = a.high_most in let r = a.low_some in let t = a.low_most in
+    grind (arith, nat_tests)
+
+-- What meets the test is what is right.
+pub test_is : (symbol : Appended) (b : Bool) → IsTrue b ↔ IsAppended symbol → b ≡ is_appended symbol
+test_is s true right = sym (appended_meets s (right.0 refl))
+test_is s false right = by_test (is_appended s) refl where
+  by_test : (t : Bool) → is_appended s ≡ t → false ≡ is_appended s
+  by_test true e = (let h = right.1 (appended_test s e) in absurd cc)
+  by_test false e = sym e
+
+-- A head that is there is found.
+pub head_complete : (words more : List ℕ) (said : Head) → SpellsHead words said → first_head (words ++ more) ≡ Some said
+head_complete words more said (programming e is) = rw (e, is) refl
+head_complete words more said (appended q s right i n e is) =
+    let index : q / 16 + 1 ≡ s.index = sym i in
+    let count : 17 - q % 16 ≡ s.count = omega (arith, n) in
+    let same : appended_symbol q s.file_high s.file_low ≡ s = rw (index, count) refl in
+    let by : Appended → Option Head = λ t. cond (is_appended t) (Some (head.Appended t)) None in
+    rw (e, is) (ap by same ∙ ap (λ (t : Bool). cond t (Some (head.Appended s)) None) (appended_meets s right))
+
+-- The words begin with the head that was found.
+pub record Found (words : List ℕ) (said : Head) : Type 0 where
+  pub first : List ℕ
+  pub more : List ℕ
+  pub spells : SpellsHead first said
+  pub whole : words ≡ first ++ more
+  pub count : head_length said ≡ length first
+
+-- What is found is right.
+abbrev Judged : List ℕ → Option Head → Type 0
+Judged words None = Unit {0}
+Judged words (Some said) = Found words said
+
+-- Behind structured append, what is found is right.
+judged_append : (ws : List ℕ) → Judged (233 ∷ ws) (append_by (slice_get ws 0) (slice_get ws 1) (slice_get ws 2))
+judged_append [] = tt
+judged_append (q ∷ []) = tt
+judged_append (q ∷ a ∷ []) = tt
+judged_append (q ∷ a ∷ b ∷ ws) = by_test (is_appended (appended_symbol q a b)) refl where
+  by_test : (t : Bool) → is_appended (appended_symbol q a b) ≡ t
+      → Judged (233 ∷ q ∷ a ∷ b ∷ ws) (cond t (Some (head.Appended (appended_symbol q a b))) None)
+  by_test true e =
+      let right = appended_test (appended_symbol q a b) e in
+      record {
+        first = 233 ∷ q ∷ a ∷ b ∷ [];
+        more = ws;
+        spells = appended q (appended_symbol q a b) right refl (omega arith) refl refl;
+        whole = refl;
+        count = refl;
+      }
+  by_test false e = tt
+
+-- What is found of the words is right.
+judged : (words : List ℕ) → Judged words (first_head words)
+judged [] = tt
+judged (w ∷ ws) = by_test (w == 234) (w == 233) refl refl where
+  by_test : (p a : Bool) → (w == 234) ≡ p → (w == 233) ≡ a
+      → Judged (w ∷ ws)
+      (cond p (Some head.Programming) (cond a (append_by (slice_get ws 0) (slice_get ws 1) (slice_get ws 2)) None))
+  by_test true a ep ea =
+      let is : w ≡ 234 = grind (arith, nat_tests) in
+      record { first = w ∷ []; more = ws; spells = programming (rw is refl) refl; whole = refl; count = refl }
+  by_test false true ep ea = (let is : w ≡ 233 = grind (arith, nat_tests) in rw is (judged_append ws))
+  by_test false false ep ea = tt
+
+-- A head that is found is there.
+pub found : (words : List ℕ) (said : Head) → first_head words ≡ Some said → Found words said
+found words said e = let P : Option Head → Type 0 = λ o. Judged words o in subst P e (judged words)
+
+-- Where none is found, there is none.
+pub none_begins : (words : List ℕ) → first_head words ≡ None → BeginsNoHead words
+none_begins words e said more b =
+    let c = head_complete b.first more said b.spells in
+    let w : first_head words ≡ first_head (b.first ++ more) = ap first_head b.whole in
+    absurd cc
+
+-- Where there is none, none is found.
+pub none_found : (words : List ℕ) (o : Option Head) → first_head words ≡ o → BeginsNoHead words → first_head words
+    ≡ None
+none_found words None e none = e
+none_found words (Some said) e none =
+    (let f = found words said e in absurd
+    (none said f.more (record { first = f.first; spells = f.spells; whole = f.whole })))
+
+-- What is found begins the words, and these follow it.
+pub begins : (words : List ℕ) (said : Head) → Found words said → BeginsHead words said (drop (head_length said) words)
+begins words said f = record {
+  first = f.first;
+  spells = f.spells;
+  whole = (let rest : drop (head_length said) words ≡ f.more = ap (drop (head_length said)) f.whole
+      ∙ drop_at f.first f.more (head_length said) (sym f.count) in f.whole
+      ∙ ap (λ (r : List ℕ). f.first ++ r) (sym rest));
+}
+
+-- What a call gives that gives what is found.
+pub answered : (words : List ℕ) (o : Option Head) → o ≡ first_head words
+    → IfSome o (λ said. (more : List ℕ) × BeginsHead words said more) × IfNone o (BeginsNoHead words)
+answered words None e = (tt, none_begins words (sym e))
+answered words (Some said) e = ((drop (head_length said) words, begins words said (found words said (sym e))), tt)
+
+-- The codewords of a head say it.
+pub head_says : (said : Head) → IsHead (Some said) → SpellsHead (head_words (Some said)) said
+head_says head.Programming right = programming refl refl
+head_says (head.Appended s) right =
+    let c = right.counted in let w = right.within in let m = right.some in let n = right.most in
+    appended (16 * (s.index - 1) + (17 - s.count)) s right (omega arith) (omega arith) refl refl
+
+-- What says a head is right, and nothing but these codewords says it.
+pub head_only : (words : List ℕ) (said : Head) → SpellsHead words said
+    → IsHead (Some said) × (words ≡ head_words (Some said))
+head_only words said (programming e is) = rw is (tt, e)
+head_only words said (appended q s right i n e is) =
+    let q_is : q ≡ 16 * (s.index - 1) + (17 - s.count) = omega (arith, i, n) in
+    rw is (right, (e ∙ ap (λ (x : ℕ). 233 ∷ x ∷ s.file_high ∷ s.file_low ∷ []) q_is))

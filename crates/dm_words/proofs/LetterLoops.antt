@@ -1,0 +1,198 @@
+-- The loop that reads one part of a letter after the other.
+use Rattle.std.proofs.Common.{◌≡◌, ℕ, suc, ◌+◌, ◌*◌, ◌<◌, ◌≤◌, List, [], ◌∷◌, ◌++◌, length, take, drop, refl, sym, ap}
+use Rattle.std.proofs.Common.{subst, ◌∙◌, append_assoc, arith, length-append, Option, Some, None, Result, Ok, Err}
+use Rattle.std.proofs.lemmas.List.{append-nil, length-drop, length-take, drop-drop}
+use Rattle.dm_words.specs.declared.extent.Extent.TheVariants.{Wide}
+use Rattle.dm_words.specs.declared.item.Item.{Item}
+use Rattle.dm_words.specs.declared.fault.WordFault.{WordFault}
+use Rattle.dm_words.specs.declared.letters.content.Content.{Content}
+use Rattle.dm_words.specs.declared.letters.designator.Designator.{Designator}
+use Rattle.dm_words.specs.declared.letters.fault.LetterFault.{LetterFault}
+use Rattle.dm_words.specs.declared.letters.fault.LetterFault.TheVariants as fault
+use Rattle.dm_words.specs.declared.letters.mark.Mark.{Mark}
+use Rattle.dm_words.specs.Designators.{most_assigned, IsDesignator, one, two, three}
+use Rattle.dm_words.specs.Letters.{LetterView, AreMarks, Said, Items, Number, IsLetterPart, part, mark, said_items}
+use Rattle.dm_words.specs.Letters.{said_marks, BeginNoEci}
+use Rattle.dm_words.specs.inner.Scan.Walk.{Step, Takes, Stops, walk}
+use Rattle.dm_words.specs.inner.Scan.Prefixes.{first_part}
+use Rattle.dm_words.specs.inner.Scan.Results.{HasRoomAt, IsPartTakenOrEnd}
+use Rattle.dm_words.specs.inner.LetterScan.{first_designator, as_said, mark_by, first_letter_part, with_said}
+use Rattle.dm_words.specs.inner.LetterScan.{extended, letter_to, letter_on}
+use Rattle.dm_words.specs.inner.LetterContents.{content_view, IsContentAt, IsLetterPartTaken}
+use Rattle.dm_words.proofs.Walks.{walk-fuel}
+use Rattle.dm_words.proofs.Pairs.{IsBytes}
+use Rattle.dm_words.proofs.Parts.{room_of}
+use Rattle.dm_words.proofs.LetterParts.{letter_part_sound, as_part}
+use Rattle.dm_words.proofs.SaidLetters.{assigned}
+use Rattle.dm_words.proofs.Marks.{more_items, one_more}
+
+-- What one part says and then others is what all of them say.
+with_extended : (l : LetterView) (s : Said) (rest : List Said) → extended (with_said l s) rest ≡ extended l (s ∷ rest)
+with_extended l (Items items) rest =
+    let count : length (l.items ++ items) ≡ length l.items + length items = length-append l.items items in
+    rw (append_assoc l.items items (said_items rest), count) refl
+with_extended l (Number number) rest =
+    let m : Mark = record { place = length l.items; number = number } in
+    rw (append_assoc l.marks (m ∷ []) (said_marks (length l.items) rest)) refl
+
+-- Reading on takes the first part.
+pub letter_on-takes : (so_far : LetterView) (place : ℕ) (words : List ℕ) (n : ℕ) (said : Said) → IsBytes words
+    → first_letter_part place words ≡ Takes n said
+    → letter_on so_far place words ≡ letter_on (with_said so_far said) (place + n) (drop n words)
+unfolding letter_on walk
+letter_on-takes so_far place words n said fit e =
+    let r = letter_part_sound.right place words n said fit e in
+    let w = walk-fuel first_letter_part IsLetterPart IsBytes None letter_part_sound (length words)
+    (suc (length (drop n words))) (place + n) (drop n words) (omega (arith, r.1, r.2, length-drop n words))
+    (omega arith) (letter_part_sound.fits n words fit) in
+    let rest = walk first_letter_part None (suc (length (drop n words))) (place + n) (drop n words) in
+    rw (e, w) (ap (λ (l : LetterView). letter_to l rest.why) (sym (with_extended so_far said rest.taken)))
+
+-- Nothing more is said.
+extended-nil : (l : LetterView) → extended l [] ≡ l
+extended-nil l = rw (append-nil l.items, append-nil l.marks) refl
+
+-- Reading on stops where no part stands.
+pub letter_on-stops : (so_far : LetterView) (place : ℕ) (words : List ℕ) (why : Option LetterFault)
+    → first_letter_part place words ≡ Stops why → letter_on so_far place words ≡ letter_to so_far why
+unfolding letter_on walk
+letter_on-stops so_far place words why e = rw e (ap (λ (l : LetterView). letter_to l why) (extended-nil so_far))
+
+-- A designator has a codeword.
+designator_some : (words : List ℕ) (number : ℕ) → IsDesignator words number → 0 < length words
+designator_some words n (one a l h e is) = rw e (omega arith)
+designator_some words n (two a b l h f e is) = rw e (omega arith)
+designator_some words n (three a b c l h f g e is k) = rw e (omega arith)
+
+-- A part of so many codewords has room: two items for each codeword, or two codewords for the number of an assignment.
+abbrev HasRoom : ℕ → Said → Type 0
+HasRoom n (Items items) = length items ≤ 2 * n
+HasRoom n (Number number) = (2 ≤ n) × (number ≤ most_assigned)
+
+-- Each part has room.
+room_by : (place : ℕ) (words after : List ℕ) (said : Said) → IsLetterPart place words after said
+    → HasRoom (length words) said
+room_by place words after said (part items p is) = rw is (room_of Wide place words after items p)
+room_by place words after said (mark d number e whole is) =
+    rw is (omega (arith, ap length whole, designator_some d number e), assigned d number e)
+
+-- A content that is a view of another one.
+abbrev View : List Item → List Mark → LetterView
+View items marks = record { head = None; items = items; marks = marks }
+
+-- What is known after a part was taken: the room that is left.
+stays : (at n : ℕ) (old new : Content) (said : Said) → IsContentAt at old → HasRoom n said → 0 < n → content_view new
+    ≡ with_said (content_view old) said → IsContentAt (at + n) new
+stays at n old new (Items items) v room some is =
+    let message : new.message ≡ old.message ++ items = ap (λ (l : LetterView). l.items) is in
+    let marks : new.marks.items ≡ old.marks.items = ap (λ (l : LetterView). l.marks) is in
+    record {
+      room = rw message (omega (arith, v.room, room, length-append old.message items));
+      mark_room = rw marks (omega (arith, v.mark_room));
+      in_order =
+          rw (message, marks)
+          (more_items 0 (length old.message) (length (old.message ++ items)) old.marks.items v.in_order
+          (omega (arith, length-append old.message items)));
+    }
+stays at n old new (Number number) v room some is =
+    let message : new.message ≡ old.message = ap (λ (l : LetterView). l.items) is in
+    let m : Mark = record { place = length old.message; number = number } in
+    let marks : new.marks.items ≡ old.marks.items ++ m ∷ [] = ap (λ (l : LetterView). l.marks) is in
+    record {
+      room = rw message (omega (arith, v.room));
+      mark_room = rw marks (omega (arith, v.mark_room, room.0, length-append old.marks.items (m ∷ [])));
+      in_order = rw (message, marks) (one_more 0 (length old.message) number old.marks.items v.in_order room.1);
+    }
+
+-- How many items there are after a part was taken.
+counted : (n : ℕ) (old new : Content) (said : Said) → HasRoom n said → content_view new
+    ≡ with_said (content_view old) said → length new.message ≤ length old.message + 2 * n
+counted n old new (Items items) room is =
+    let message : new.message ≡ old.message ++ items = ap (λ (l : LetterView). l.items) is in
+    rw message (omega (arith, room, length-append old.message items))
+counted n old new (Number number) room is =
+    let message : new.message ≡ old.message = ap (λ (l : LetterView). l.items) is in
+    rw message (omega arith)
+
+-- After a turn of the loop that takes a part, this is known.
+pub record Leaves (words : List ℕ) (start at n : ℕ) (first new : Content) (total : Result LetterView LetterFault) :
+    Type 0 where
+  pub in_range : at + n ≤ length words
+  pub some : 0 < n
+  pub content : IsContentAt (at + n) new
+  pub count : length new.message + 2 * start ≤ length first.message + 2 * (at + n)
+  pub so_far : letter_on (content_view new) (at + n + 1) (drop (at + n) words) ≡ total
+
+-- After a turn of the loop that takes a part, what is read in all is still the same.
+pub goes_on : (words : List ℕ) (start at n : ℕ) (first old new : Content) (total : Result LetterView LetterFault)
+    → IsBytes words → at ≤ length words
+    → IsContentAt at old → length old.message + 2 * start ≤ length first.message + 2 * at
+    → IsLetterPartTaken (Ok (Some n)) (content_view old) (content_view new) (first_letter_part (at + 1) (drop at words))
+    → letter_on (content_view old) (at + 1) (drop at words) ≡ total → Leaves words start at n first new total
+goes_on words start at n first old new total fit in_range v count took so_far =
+    let said = took.0 in
+    let fits = letter_part_sound.fits at words fit in
+    let r = letter_part_sound.right (at + 1) (drop at words) n said fits took.1 in
+    let long : length (take n (drop at words)) ≡ n = omega (arith, length-take n (drop at words), r.2) in
+    let room : HasRoom n said =
+    subst (λ (k : ℕ). HasRoom k said) long
+    (room_by (at + 1) (take n (drop at words)) (drop n (drop at words)) said r.0) in
+    let once = letter_on-takes (content_view old) (at + 1) (drop at words) n said fits took.1 in
+    let place : (at + 1) + n ≡ at + n + 1 = omega arith in
+    let rest : drop n (drop at words) ≡ drop (at + n) words = drop-drop n at words in
+    record {
+      in_range = omega (arith, r.2, length-drop at words);
+      some = r.1;
+      content = stays at n old new said v room r.1 took.2;
+      count = omega (arith, counted n old new said room took.2);
+      so_far = rw (took.2, ← place, ← rest) (sym once ∙ so_far);
+    }
+
+-- At the end of the loop, what is read in all is what was read so far.
+pub stops_on : (words : List ℕ) (at : ℕ) (old : Content) (why : Option LetterFault)
+    (total : Result LetterView LetterFault)
+    → first_letter_part (at + 1) (drop at words) ≡ Stops why → letter_on (content_view old) (at + 1) (drop at words)
+    ≡ total → total ≡ letter_to (content_view old) why
+stops_on words at old why total e so_far = sym so_far
+    ∙ letter_on-stops (content_view old) (at + 1) (drop at words) why e
+
+-- ---- one part
+
+-- What was taken as a part of a message was taken as a part of a letter.
+taken_by : (o : Option ℕ) (old new : List Item) (marks : List Mark) (step : Step (List Item) (Option WordFault))
+    → IsPartTakenOrEnd (Ok o) old new step
+    → IsLetterPartTaken (Ok o) (View old marks) (View new marks) (as_said step)
+taken_by None old new marks step t = (ap as_said t.0, ap (λ (items : List Item). View items marks) t.1)
+taken_by (Some n) old new marks step t = (Items t.0, ap as_said t.1, ap (λ (items : List Item). View items marks) t.2)
+
+-- Where the words don't begin with ECI, a part of a letter is one of a message.
+not_eci : (place : ℕ) (words : List ℕ) → BeginNoEci words → first_letter_part place words
+    ≡ as_said (first_part Wide place words)
+not_eci place [] none = refl
+not_eci place (w ∷ more) none = as_part place w more (λ is. none more (ap (λ (x : ℕ). x ∷ more) is))
+
+-- A part of a message is taken.
+pub item_taken : (place : ℕ) (words : List ℕ) (o : Option ℕ) (old new : List Item) (marks : List Mark)
+    → BeginNoEci words
+    → IsPartTakenOrEnd (Ok o) old new (first_part Wide place words)
+    → IsLetterPartTaken (Ok o) (View old marks) (View new marks) (first_letter_part place words)
+item_taken place words o old new marks none t =
+    rw (not_eci place words none) (taken_by o old new marks (first_part Wide place words) t)
+
+-- A fault of a message is found.
+pub fault_taken : (place : ℕ) (words : List ℕ) (f : WordFault) → BeginNoEci words → first_part Wide place words
+    ≡ Stops (Some f) → first_letter_part place words ≡ Stops (Some (fault.Word f))
+fault_taken place words f none e = not_eci place words none ∙ ap as_said e
+
+-- Behind ECI, a mark is taken.
+pub mark_taken : (place : ℕ) (d : Designator) (old new : Content) → new.message ≡ old.message
+    → new.marks.items ≡ old.marks.items ++ record { place = length old.message; number = d.number } ∷ []
+    → IsLetterPartTaken (Ok (Some (1 + d.count))) (content_view old) (content_view new) (mark_by place (Some d))
+mark_taken place d old new message marks = (Number d.number, refl, rw (message, marks) refl)
+
+-- Behind ECI, a mark is taken where a designator is found.
+pub mark_found : (place : ℕ) (o : Option Designator) (d : Designator) (old new : Content) → o ≡ Some d → new.message
+    ≡ old.message
+    → new.marks.items ≡ old.marks.items ++ record { place = length old.message; number = d.number } ∷ []
+    → IsLetterPartTaken (Ok (Some (1 + d.count))) (content_view old) (content_view new) (mark_by place o)
+mark_found place o d old new e message marks = rw e (mark_taken place d old new message marks)

@@ -1,0 +1,96 @@
+-- What the calls that read a letter leave.
+use Rattle.std.proofs.Common.{◌≡◌, ℕ, zero, suc, ◌+◌, ◌*◌, ◌≤◌, List, [], ◌∷◌, ◌++◌, length, drop, refl, sym, ap}
+use Rattle.std.proofs.Common.{subst, ◌∙◌, arith, length-append, Option, Some, None, Result, Ok, Err}
+use Rattle.std.specs.Prelude.{IfOk, OnOk, OnErr}
+use Rattle.dm_words.specs.declared.extent.Extent.TheVariants.{Wide}
+use Rattle.dm_words.specs.declared.item.Item.{Item}
+use Rattle.dm_words.specs.declared.letters.content.Content.{Content}
+use Rattle.dm_words.specs.declared.letters.fault.LetterFault.{LetterFault}
+use Rattle.dm_words.specs.declared.letters.head.Head.{Head}
+use Rattle.dm_words.specs.declared.letters.mark.Mark.{Mark}
+use Rattle.dm_words.specs.declared.letters.opening.Opened.{Opened}
+use Rattle.dm_words.specs.declared.letters.opening.Opening.{Opening}
+use Rattle.dm_words.specs.declared.letters.opening.Opening.TheVariants.{Plain, Headed, Framed}
+use Rattle.dm_words.specs.Messages.{most_spelled}
+use Rattle.dm_words.specs.Outcomes.{outcome}
+use Rattle.dm_words.specs.Letters.{LetterView, IsLetter, AreMarks, AreFrame, IsOpening, headed, framed, plain}
+use Rattle.dm_words.specs.Letters.{opening_head, opening_items, closing_items}
+use Rattle.dm_words.specs.LetterResults.{IsLetterResult}
+use Rattle.dm_words.specs.inner.LetterScan.{opened, letter_on, opening_letter, and_closing, letter_by, letter_of}
+use Rattle.dm_words.specs.inner.LetterContents.{headed_view, content_view, headed_outcome, IsContentAt}
+use Rattle.dm_words.proofs.Pairs.{IsBytes}
+use Rattle.dm_words.proofs.Openings as openings
+use Rattle.dm_words.proofs.Openings.{OpeningJudged}
+use Rattle.dm_words.proofs.Marks.{more_items}
+use Rattle.dm_words.proofs.SaidLetters.{said_is_letter}
+use Rattle.dm_words.proofs.WholeLetters.{reads, spelled_reads, refused_reads}
+
+-- An opening that is found stands in the words, and leaves room for its items.
+pub record HasOpeningRoom (words : List ℕ) (o : Opened) : Type 0 where
+  pub in_range : o.count ≤ length words
+  pub room : length (opening_items o.opening) ≤ 2 * o.count + 5
+
+-- The items of an opening have room.
+room_by : (words more : List ℕ) (opening : Opening) → IsOpening words more opening
+    → length (opening_items opening) ≤ 2 * length words + 5
+room_by words more opening (headed said s is) = rw is (omega arith)
+room_by words more opening (framed digit f is) =
+    rw is (omega (arith, ap length f.whole, length-append f.runs (f.word ∷ [])))
+room_by words more opening (plain e no_head no_frame is) = rw is (omega arith)
+
+-- What is found has room.
+pub opening_room : (words : List ℕ) (o : Opened) → opened words ≡ Some o → HasOpeningRoom words o
+opening_room words o e =
+    let j = (let P : Option Opened → Type 0 = λ x. OpeningJudged words x in subst P e (openings.judged words)) in
+    record {
+      in_range = omega (arith, j.count, ap length j.whole, length-append j.first j.more);
+      room = omega (arith, j.count, room_by j.first j.more o.opening j.is_opening);
+    }
+
+-- Behind an opening, reading begins with its items and no mark.
+pub begins_at : (words : List ℕ) (o : Opened) (old new : Content) → opened words ≡ Some o → old.message ≡ []
+    → old.marks.items ≡ [] → new.message ≡ old.message ++ opening_items o.opening
+    → new.marks.items ≡ old.marks.items → IsContentAt o.count new × (content_view new ≡ opening_letter o.opening)
+begins_at words o old new e message marks is same =
+    let r = opening_room words o e in
+    let items : new.message ≡ opening_items o.opening = is
+    ∙ ap (λ (l : List Item). l ++ opening_items o.opening) message in
+    let none : new.marks.items ≡ [] = same ∙ marks in (
+      record { room = rw items r.room; mark_room = rw none (omega arith); in_order = rw none (omega arith) },
+      rw (items, none) refl,
+    )
+
+-- Marks in order are so with the items that close a letter.
+pub closed_in_order : (opening : Opening) (old new : Content) → AreMarks 0 (length old.message) old.marks.items
+    → new.message ≡ old.message ++ closing_items opening
+    → new.marks.items ≡ old.marks.items → AreMarks 0 (length new.message) new.marks.items
+closed_in_order opening old new are is same =
+    rw (is, same)
+    (more_items 0 (length old.message) (length (old.message ++ closing_items opening)) old.marks.items are
+    (omega (arith, length-append old.message (closing_items opening))))
+
+-- At most two items close a letter.
+pub few_close : (opening : Opening) → length (closing_items opening) ≤ 2
+few_close Plain = omega arith
+few_close (Headed said) = omega arith
+few_close (Framed digit) = omega arith
+
+-- Where a call gives what is read, within the bounds, this is the right result.
+pub is_letter_result : (words : List ℕ) (result : Result LetterView LetterFault) → IsBytes words → result
+    ≡ letter_of words
+    → IfOk result (λ l. length l.items ≤ most_spelled Wide (length words))
+    → IfOk result (λ l. 2 * length l.marks ≤ length words) → IsLetterResult words result
+is_letter_result words (Ok l) fit is few marks = record {
+  letter = λ k. ((λ e. (reads words fit).letter_is k (sym is ∙ e)), (λ s. is ∙ spelled_reads words k s));
+  fault = λ why. ((λ e. (reads words fit).fault_is why (sym is ∙ e)), (λ f. is ∙ refused_reads words why f));
+  right = said_is_letter words l ((reads words fit).letter_is l (sym is));
+  most = few;
+  most_marks = marks;
+}
+is_letter_result words (Err f) fit is few marks = record {
+  letter = λ k. ((λ e. (reads words fit).letter_is k (sym is ∙ e)), (λ s. is ∙ spelled_reads words k s));
+  fault = λ why. ((λ e. (reads words fit).fault_is why (sym is ∙ e)), (λ w. is ∙ refused_reads words why w));
+  right = tt;
+  most = tt;
+  most_marks = tt;
+}

@@ -1,0 +1,202 @@
+-- The loops that count and write items with marks.
+use Rattle.std.proofs.Common.{Bool, true, false, Option, Some, None, Result}
+use Rattle.std.proofs.Common.{◌≡◌, ℕ, suc, ◌+◌, ◌-◌, ◌*◌, ◌<◌, ◌≤◌, List, [], ◌∷◌, ◌++◌, length, take, drop, get_or}
+use Rattle.std.proofs.Common.{refl, sym, ap, subst, ◌∙◌, append_assoc, arith, length-append}
+use Rattle.std.proofs.lemmas.List.{append-nil, at_drop_more, at_drop_all, drop-drop, take_rest, length-take}
+use Rattle.std.proofs.lemmas.List.{length-drop}
+use Rattle.dm_words.specs.declared.item.Item.{Item}
+use Rattle.dm_words.specs.declared.ascii.Unit.{Unit}
+use Rattle.arrayvec.specs.ArrayVec.{ArrayVec}
+use Rattle.dm_words.specs.declared.fault.TooLong.{TooLong}
+use Rattle.dm_words.specs.declared.letters.head.Head.{Head}
+use Rattle.dm_words.specs.declared.letters.mark.Mark.{Mark}
+use Rattle.dm_words.specs.declared.profile.Profile.{Profile}
+use Rattle.dm_words.specs.Heads.{head_words}
+use Rattle.dm_words.specs.Results.{IsNormalFormResult}
+use Rattle.dm_words.specs.inner.MarkedForms.{IsMarkedResult, is_plain}
+use Rattle.dm_words.specs.Ascii.{ascii}
+use Rattle.dm_words.specs.Designators.{most_assigned, eci_word, designator}
+use Rattle.dm_words.specs.Letters.{LetterView, AreMarks}
+use Rattle.dm_words.specs.LetterForm.{mark_words, marked_ascii, IsLetterFormResult}
+use Rattle.dm_words.specs.inner.Scan.Results.{unit_words, unit_items}
+use Rattle.dm_words.proofs.LetterForms.{marks_within}
+use Rattle.dm_words.proofs.NormalForms.{two_words}
+use Rattle.dm_words.proofs.UnitLoops.{HasUnit}
+
+-- What is known in a turn of the loop, whose mark has this place and number: the items up to it, the mark, and the
+-- others.
+pub record Turn (items : List Item) (marks : List Mark) (before i place number : ℕ) : Type 0 where
+  pub from : before ≤ place
+  pub within : place ≤ length items
+  pub assigned : number ≤ most_assigned
+  pub in_order : AreMarks place (length items) (drop (i + 1) marks)
+  pub words : marked_ascii before (drop before items) (drop i marks)
+      ≡ ascii (take (place - before) (drop before items))
+      ++ ((eci_word ∷ designator number) ++ marked_ascii place (drop place items) (drop (i + 1) marks))
+
+-- A turn of the loop takes the next mark.
+pub turn : (items : List Item) (marks : List Mark) (before i : ℕ) (d : Mark) → i < length marks
+    → AreMarks before (length items) (drop i marks)
+    → Turn items marks before i (get_or marks i d).place (get_or marks i d).number
+turn items marks before i d lt are =
+    let m = get_or marks i d in
+    let here : drop i marks ≡ m ∷ drop (i + 1) marks = at_drop_more (λ (r : List Mark). r) marks i d lt in
+    let a : AreMarks before (length items) (m ∷ drop (i + 1) marks) = subst (AreMarks before (length items)) here are in
+    let n = m.place - before in
+    let sum : before + n ≡ m.place = omega (arith, a.0) in
+    let rest : drop n (drop before items) ≡ drop m.place items = drop-drop n before items
+    ∙ ap (λ (k : ℕ). drop k items) sum in
+    record {
+      from = a.0;
+      within = marks_within m.place (length items) (drop (i + 1) marks) a.2;
+      assigned = a.1;
+      in_order = a.2;
+      words = ap (marked_ascii before (drop before items)) here
+          ∙ ap (λ (r : List Item). ascii (take n (drop before items))
+          ++ (mark_words m ++ marked_ascii m.place r (drop (i + 1) marks))) rest;
+    }
+
+-- Behind the last mark, the other items are written in ASCII.
+pub last : (items : List Item) (marks : List Mark) (before i : ℕ) → length marks ≤ i
+    → marked_ascii before (drop before items) (drop i marks) ≡ ascii (drop before items)
+last items marks before i le = at_drop_all (λ (r : List Mark). marked_ascii before (drop before items) r) marks i le
+
+-- The items up to a mark take at most two codewords each.
+pub piece_short : (items : List Item) (before place : ℕ) → before ≤ place → place ≤ length items
+    → length (ascii (take (place - before) (drop before items))) ≤ 2 * (place - before)
+piece_short items before place from within =
+    let s = take (place - before) (drop before items) in
+    omega (arith, two_words s, length-take (place - before) (drop before items), length-drop before items, from, within)
+
+-- The codewords up to the next mark are counted, and those of the mark.
+pub count_turn : (items : List Item) (marks : List Mark) (before i place number total sum a m : ℕ)
+    → Turn items marks before i place number
+    → a ≡ length (ascii (take (place - before) (drop before items))) → m ≡ length (eci_word ∷ designator number)
+    → total ≡ sum + length (marked_ascii before (drop before items) (drop i marks))
+    → total ≡ (sum + (a + m)) + length (marked_ascii place (drop place items) (drop (i + 1) marks))
+count_turn items marks before i place number total sum a m t first second so_far =
+    let piece = ascii (take (place - before) (drop before items)) in
+    let rest = marked_ascii place (drop place items) (drop (i + 1) marks) in
+    let mark = eci_word ∷ designator number in
+    omega (arith, so_far, first, second, ap length t.words, length-append piece (mark ++ rest), length-append mark rest)
+
+-- There is room for the items up to the next mark, and for the mark.
+pub fits_turn : (items : List Item) (marks : List Mark) (before i place number : ℕ) (base all words : List ℕ)
+    → Turn items marks before i place number
+    → base ++ all ≡ words ++ marked_ascii before (drop before items) (drop i marks)
+    → length words
+    + (length (ascii (take (place - before) (drop before items))) + length (eci_word ∷ designator number)) ≤
+    length base + length all
+fits_turn items marks before i place number base all words t so_far =
+    let piece = ascii (take (place - before) (drop before items)) in
+    let rest = marked_ascii place (drop place items) (drop (i + 1) marks) in
+    let mark = eci_word ∷ designator number in
+    let left = marked_ascii before (drop before items) (drop i marks) in
+    omega (
+      arith,
+      ap length so_far,
+      length-append base all,
+      length-append words left,
+      ap length t.words,
+      length-append piece (mark ++ rest),
+      length-append mark rest,
+    )
+
+-- There is room for the items up to the next mark.
+pub piece_fits : (items : List Item) (marks : List Mark) (before i place number most : ℕ) (base all words : List ℕ)
+    → Turn items marks before i place number
+    → base ++ all ≡ words ++ marked_ascii before (drop before items) (drop i marks) → length base + length all ≤ most
+    → length words + length (ascii (take (place - before) (drop before items))) ≤ most
+piece_fits items marks before i place number most base all words t so_far room =
+    omega (arith, fits_turn items marks before i place number base all words t so_far, room)
+
+-- There is room for the mark behind them.
+pub mark_fits : (items : List Item) (marks : List Mark) (before i place number most : ℕ) (base all words new : List ℕ)
+    → Turn items marks before i place number
+    → base ++ all ≡ words ++ marked_ascii before (drop before items) (drop i marks) → length base + length all ≤ most
+    → new ≡ words ++ ascii (take (place - before) (drop before items))
+    → length new + length (eci_word ∷ designator number) ≤ most
+mark_fits items marks before i place number most base all words new t so_far room is =
+    omega (
+      arith,
+      fits_turn items marks before i place number base all words t so_far,
+      room,
+      ap length is,
+      length-append words (ascii (take (place - before) (drop before items))),
+    )
+
+-- Behind the last mark, there is room for the other items.
+pub last_fits : (items : List Item) (marks : List Mark) (before i most : ℕ) (base all words : List ℕ) → length marks ≤ i
+    → base ++ all ≡ words ++ marked_ascii before (drop before items) (drop i marks) → length base + length all ≤ most
+    → length words + length (ascii (take (length items - before) (drop before items))) ≤ most
+last_fits items marks before i most base all words le so_far room =
+    let left = marked_ascii before (drop before items) (drop i marks) in
+    let whole : length (ascii (take (length items - before) (drop before items)))
+    ≡ length left = ap (λ (r : List Item). length (ascii r)) (take_rest items before)
+    ∙ sym (ap length (last items marks before i le)) in
+    omega (arith, ap length so_far, length-append base all, length-append words left, room, whole)
+
+-- The codewords are added up to the next mark and with it.
+pub add_turn : (items : List Item) (marks : List Mark) (before i place number : ℕ) (total words new newer : List ℕ)
+    → Turn items marks before i place number
+    → total ≡ words ++ marked_ascii before (drop before items) (drop i marks) → new ≡ words
+    ++ ascii (take (place - before) (drop before items))
+    → newer ≡ new ++ (eci_word ∷ designator number) → total ≡ newer
+    ++ marked_ascii place (drop place items) (drop (i + 1) marks)
+add_turn items marks before i place number total words new newer t so_far first second =
+    let piece = ascii (take (place - before) (drop before items)) in
+    let rest = marked_ascii place (drop place items) (drop (i + 1) marks) in
+    let mark = eci_word ∷ designator number in
+    so_far ∙ ap (λ (r : List ℕ). words ++ r) t.words ∙ sym (append_assoc words piece (mark ++ rest))
+    ∙ sym (append_assoc (words ++ piece) mark rest)
+    ∙ ap (λ (r : List ℕ). (r ++ mark) ++ rest) (sym first) ∙ ap (λ (r : List ℕ). r ++ rest) (sym second)
+
+-- ---- items in ASCII behind other codewords
+
+-- One unit more is written.
+pub unit_added : (u : Unit) (items : List Item) (at : ℕ) (total old new : List ℕ) → HasUnit u items at → total ≡ old
+    ++ ascii (drop at items) → new ≡ old ++ unit_words u
+    → total ≡ new ++ ascii (drop (at + unit_items u) items)
+unit_added u items at total old new h so_far is =
+    so_far ∙ ap (λ (r : List ℕ). old ++ r) h.words
+    ∙ (rw is (sym (append_assoc old (unit_words u) (ascii (drop (at + unit_items u) items)))))
+
+-- There is room for the unit.
+pub unit_fits : (u : Unit) (items : List Item) (at : ℕ) (total old : List ℕ) → HasUnit u items at → total ≡ old
+    ++ ascii (drop at items) → length old + length (unit_words u) ≤ length total
+unit_fits u items at total old h so_far =
+    let all = unit_added u items at total old (old ++ unit_words u) h so_far refl in
+    omega (
+      arith,
+      ap length all,
+      length-append (old ++ unit_words u) (ascii (drop (at + unit_items u) items)),
+      length-append old (unit_words u),
+    )
+
+-- At the end all of it is written.
+pub units_end : (items : List Item) (at : ℕ) (total words : List ℕ) → length items ≤ at → total ≡ words
+    ++ ascii (drop at items) → words ≡ total
+units_end items at total words le so_far =
+    sym (so_far ∙ at_drop_all (λ (r : List Item). words ++ ascii r) items at le ∙ append-nil words)
+
+-- ---- the whole form
+
+-- Without a head and marks, the normal form is that of the items.
+pub plain_result : (profile : Profile) (l : LetterView) (head : Option Head) (items : List Item) (marks : List Mark)
+    (b : Bool) (r : Result (ArrayVec ℕ) TooLong) → head ≡ l.head → items ≡ l.items → marks ≡ l.marks
+    → b ≡ is_plain head marks → b ≡ true → IsNormalFormResult profile items r → IsLetterFormResult profile l r
+plain_result profile l None items [] b r h i m test t f =
+    rw (← h, ← i, ← m) (record { words = f.words; most = f.most; too_long = f.too_long })
+plain_result profile l None items (k ∷ marks) b r h i m test t f = absurd cc
+plain_result profile l (Some head) items marks b r h i m test t f = absurd cc
+
+-- With a head or marks, it is the codewords of the head, and the items with their marks.
+pub marked_result : (profile : Profile) (l : LetterView) (head : Option Head) (items : List Item) (marks : List Mark)
+    (b : Bool) (r : Result (ArrayVec ℕ) TooLong) → head ≡ l.head → items ≡ l.items → marks ≡ l.marks
+    → b ≡ is_plain head marks → b ≡ false → IsMarkedResult (head_words head ++ marked_ascii 0 items marks) r
+    → IsLetterFormResult profile l r
+marked_result profile l None items [] b r h i m test t f = absurd cc
+marked_result profile l None items (k ∷ marks) b r h i m test t f =
+    rw (← h, ← i, ← m) (record { words = f.words; most = f.most; too_long = f.too_long })
+marked_result profile l (Some head) items marks b r h i m test t f =
+    rw (← h, ← i, ← m) (record { words = f.words; most = f.most; too_long = f.too_long })

@@ -1,0 +1,43 @@
+-- Marks in order stay so.
+use Rattle.std.proofs.Common.{◌≡◌, ℕ, ◌+◌, ◌≤◌, List, [], ◌∷◌, ◌++◌, length, refl, sym, subst, arith, length-append}
+use Rattle.std.proofs.Common.{Result, Ok, Err}
+use Rattle.std.specs.Prelude.{OnOk, OnErr}
+use Rattle.dm_words.specs.declared.letters.content.Content.{Content}
+use Rattle.dm_words.specs.declared.item.Item.{Item}
+use Rattle.dm_words.specs.declared.letters.mark.Mark.{Mark}
+use Rattle.dm_words.specs.Designators.{most_assigned}
+use Rattle.dm_words.specs.Letters.{AreMarks}
+
+-- Marks in order are so with more items behind them.
+pub more_items : (least most more : ℕ) (marks : List Mark) → AreMarks least most marks → most ≤ more
+    → AreMarks least more marks
+more_items least most more [] are le = omega arith
+more_items least most more (m ∷ marks) are le = (are.0, are.1, more_items m.place most more marks are.2 le)
+
+-- Marks in order are so with one more at the last place.
+pub one_more : (least most number : ℕ) (marks : List Mark) → AreMarks least most marks → number ≤ most_assigned
+    → AreMarks least most (marks ++ record { place = most; number = number } ∷ [])
+one_more least most number [] are le = (are, le, omega arith)
+one_more least most number (m ∷ marks) are le = (are.0, are.1, one_more m.place most number marks are.2 le)
+
+-- Marks in order are so from a lower first place on.
+pub lower : (least low most : ℕ) (marks : List Mark) → AreMarks least most marks → low ≤ least → AreMarks low most marks
+lower least low most [] are le = omega arith
+lower least low most (m ∷ marks) are le = (omega (arith, are.0), are.1, are.2)
+
+-- Marks are in order after one more was added.
+pub one_more_mark : (old new : Content) (number : ℕ) → AreMarks 0 (length old.message) old.marks.items
+    → number ≤ most_assigned → new.message ≡ old.message
+    → new.marks.items ≡ old.marks.items ++ record { place = length old.message; number = number } ∷ []
+    → AreMarks 0 (length new.message) new.marks.items
+one_more_mark old new number are le message marks =
+    rw (message, marks) (one_more 0 (length old.message) number old.marks.items are le)
+
+-- Marks are in order after an item was added, or none.
+pub one_more_item : {U E : Type 0} (r : Result U E) (old new : List Item) (item : Item) (marks : List Mark)
+    → AreMarks 0 (length old) marks
+    → OnOk r (new ≡ old ++ item ∷ []) → OnErr r (new ≡ old) → AreMarks 0 (length new) marks
+one_more_item (Ok u) old new item marks are added same =
+    rw added (more_items 0 (length old) (length (old ++ item ∷ [])) marks are
+    (omega (arith, length-append old (item ∷ []))))
+one_more_item (Err e) old new item marks are added same = rw same are

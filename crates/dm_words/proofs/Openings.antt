@@ -1,0 +1,365 @@
+-- The opening that is found first is the one of the definition.
+use Rattle.std.proofs.Common.{get_or, drop-cons, ◌≡◌, ◌≢◌, ℕ, zero, suc, ◌+◌, ◌<◌, ◌≤◌, List, [], ◌∷◌, ◌++◌, length}
+use Rattle.std.proofs.Common.{drop, refl, sym, ap, subst, ◌∙◌, append_assoc, arith, length-append, Bool, true, false}
+use Rattle.std.proofs.Common.{cond, Option, Some, None, inl, inr}
+use Rattle.std.specs.Prelude.{◌==◌, ◌&&◌, ◌⊎◌, slice_get}
+use Rattle.std.proofs.lemmas.Option.{slice_get_within, slice_get_past, get_or_from_slice_get}
+use Rattle.std.proofs.lemmas.Bool.Decides.{nat_tests}
+use Rattle.dm_words.specs.declared.codeword.Codeword.{Codeword}
+use Rattle.dm_words.specs.declared.codeword.Codeword.TheVariants as codeword
+use Rattle.dm_words.specs.declared.c40.set.CodeSet.{CodeSet}
+use Rattle.dm_words.specs.declared.letters.head.Head.{Head}
+use Rattle.dm_words.specs.declared.letters.head.Head.TheVariants as head
+use Rattle.dm_words.specs.declared.letters.opening.Frame.{Frame}
+use Rattle.dm_words.specs.declared.letters.opening.Opened.{Opened}
+use Rattle.dm_words.specs.declared.letters.opening.Opening.{Opening}
+use Rattle.dm_words.specs.declared.letters.opening.Opening.TheVariants.{Plain, Headed, Framed}
+use Rattle.dm_words.specs.Codewords.{codeword_of, unlatch_word}
+use Rattle.dm_words.specs.Heads.{SpellsHead, programming, appended, BeginsNoHead}
+use Rattle.dm_words.specs.Letters.{AreEmptyRuns, AreFrame, BeginsFrame, BeginsWithHeadWord, IsOpening, headed, framed}
+use Rattle.dm_words.specs.Letters.{plain}
+use Rattle.dm_words.specs.inner.Scan.Prefixes.{digit_by}
+use Rattle.dm_words.specs.inner.LetterScan.{first_head, head_length, is_latch, moved, is_empty_run, frame_by}
+use Rattle.dm_words.specs.inner.LetterScan.{first_frame, begins_append, opened_by, opened}
+use Rattle.dm_words.proofs.WholeReading.{digit_is}
+use Rattle.dm_words.proofs.Heads as heads
+
+-- ---- frames
+
+-- The words begin with the frame that was found.
+record FrameFound (words : List ℕ) (f : Frame) : Type 0 where
+  first : List ℕ
+  more : List ℕ
+  is_frame : AreFrame first f.digit
+  whole : words ≡ first ++ more
+  count : f.count ≡ length first
+
+-- What is found is right.
+abbrev FrameJudged : List ℕ → Option Frame → Type 0
+FrameJudged words None = Unit {0}
+FrameJudged words (Some f) = FrameFound words f
+
+-- A macro is a frame.
+one_macro : (w d : ℕ) (more : List ℕ) → digit_by (codeword_of w) ≡ Some d
+    → FrameJudged (w ∷ more) (Some (record { count = 1; digit = d }))
+one_macro w d more e = record {
+  first = w ∷ [];
+  more = more;
+  is_frame = record { runs = []; word = w; are_empty = tt; is_macro = digit_is (codeword_of w) d e; whole = refl };
+  whole = refl;
+  count = refl;
+}
+
+-- A codeword that meets the test is a latch.
+latch_is : (k : Option Codeword) → is_latch k ≡ true → (set : CodeSet) × (k ≡ Some (codeword.Latch set))
+latch_is (Some (codeword.Latch set)) e = (set, refl)
+latch_is (Some (codeword.Character b)) e = absurd cc
+latch_is (Some codeword.Pad) e = absurd cc
+latch_is (Some (codeword.Digits n)) e = absurd cc
+latch_is (Some codeword.Base256) e = absurd cc
+latch_is (Some codeword.Fnc1) e = absurd cc
+latch_is (Some codeword.Edifact) e = absurd cc
+latch_is (Some codeword.UpperShift) e = absurd cc
+latch_is (Some (codeword.Macro d)) e = absurd cc
+latch_is (Some codeword.LeftOut) e = absurd cc
+latch_is None e = absurd cc
+
+-- An empty run before a frame makes a frame.
+one_more_run : (w n : ℕ) (more : List ℕ) (o : Option Frame) → is_latch (codeword_of w) ≡ true → n ≡ unlatch_word
+    → FrameJudged more o → FrameJudged (w ∷ n ∷ more) (moved 2 o)
+one_more_run w n more None latch is j = tt
+one_more_run w n more (Some f) latch is j =
+    let k = j.is_frame in
+    record {
+      first = w ∷ n ∷ j.first;
+      more = j.more;
+      is_frame = record {
+        runs = w ∷ n ∷ k.runs;
+        word = k.word;
+        are_empty = (latch_is (codeword_of w) latch, is, k.are_empty);
+        is_macro = k.is_macro;
+        whole = ap (λ (r : List ℕ). w ∷ n ∷ r) k.whole;
+      };
+      whole = ap (λ (r : List ℕ). w ∷ n ∷ r) j.whole;
+      count = omega (arith, j.count);
+    }
+
+-- What is found of the words is right.
+frame_judged : (words : List ℕ) → FrameJudged words (first_frame words)
+unfolding first_frame
+frame_judged [] = tt
+frame_judged (w ∷ []) = by_digit (digit_by (codeword_of w)) refl where
+  by_digit : (o : Option ℕ) → digit_by (codeword_of w) ≡ o → FrameJudged (w ∷ []) (frame_by o None)
+  by_digit None e = tt
+  by_digit (Some d) e = one_macro w d [] e
+frame_judged (w ∷ n ∷ more) =
+    by_digit (digit_by (codeword_of w)) (is_latch (codeword_of w)) (n == unlatch_word) refl refl refl
+    (frame_judged more) where
+      by_digit : (o : Option ℕ) (l u : Bool) → digit_by (codeword_of w) ≡ o → is_latch (codeword_of w) ≡ l
+          → (n == unlatch_word) ≡ u → FrameJudged more (first_frame more)
+          → FrameJudged (w ∷ n ∷ more) (frame_by o (cond (l && u) (moved 2 (first_frame more)) None))
+      by_digit (Some d) l u e el eu j = one_macro w d (n ∷ more) e
+      by_digit None true true e el eu j = one_more_run w n more (first_frame more) el (grind (arith, nat_tests)) j
+      by_digit None true false e el eu j = tt
+      by_digit None false u e el eu j = tt
+
+-- A frame that is found is there.
+frame_found : (words : List ℕ) (f : Frame) → first_frame words ≡ Some f → FrameFound words f
+frame_found words f e = let P : Option Frame → Type 0 = λ o. FrameJudged words o in subst P e (frame_judged words)
+
+-- A macro behind empty runs is found.
+macro_complete : (runs more : List ℕ) (word digit : ℕ) → AreEmptyRuns runs → codeword_of word
+    ≡ Some (codeword.Macro digit)
+    → first_frame ((runs ++ word ∷ []) ++ more) ≡ Some (record { count = length (runs ++ word ∷ []); digit = digit })
+unfolding first_frame
+macro_complete [] [] word digit are k = rw k refl
+macro_complete [] (n ∷ more) word digit are k = rw k refl
+macro_complete (l ∷ []) more word digit are k = absurd are
+macro_complete (l ∷ u ∷ runs) more word digit are k =
+    let rest = macro_complete runs more word digit are.2 k in
+    rw (are.0.1, are.1, rest)
+    (ap (λ (c : ℕ). Some (let f : Frame = record { count = c; digit = digit } in f)) (omega arith))
+
+-- A frame that is there is found.
+frame_complete : (words more : List ℕ) (digit : ℕ) → AreFrame words digit → first_frame (words ++ more)
+    ≡ Some (record { count = length words; digit = digit })
+frame_complete words more digit f = rw f.whole (macro_complete f.runs more f.word digit f.are_empty f.is_macro)
+
+-- ---- openings
+
+-- The words open with what was found.
+pub record OpeningFound (words : List ℕ) (f : Opened) : Type 0 where
+  pub first : List ℕ
+  pub more : List ℕ
+  pub is_opening : IsOpening first more f.opening
+  pub whole : words ≡ first ++ more
+  pub count : f.count ≡ length first
+
+-- The words begin with structured append and no head.
+pub record HasNoHead (words : List ℕ) : Type 0 where
+  pub more : List ℕ
+  pub whole : words ≡ 233 ∷ more
+  pub none : BeginsNoHead words
+
+-- What is found is right.
+abbrev pub OpeningJudged : List ℕ → Option Opened → Type 0
+OpeningJudged words None = HasNoHead words
+OpeningJudged words (Some f) = OpeningFound words f
+
+-- Words that begin with structured append.
+append_is : (words : List ℕ) → begins_append words ≡ true → (more : List ℕ) × (words ≡ 233 ∷ more)
+append_is [] e = absurd cc
+append_is (w ∷ more) e = (let is : w ≡ 233 = grind (arith, nat_tests) in (more, ap (λ (x : ℕ). x ∷ more) is))
+
+-- Where no head is found and the words don't begin with structured append, they begin with none of its two codewords.
+no_head_word : (words : List ℕ) → first_head words ≡ None → begins_append words ≡ false → BeginsWithHeadWord words → ⊥
+no_head_word words e a b = by_word b.is_head_word where
+  by_word : (b.word ≡ 233) ⊎ (b.word ≡ 234) → ⊥
+  by_word (inl is) =
+      let w : words ≡ 233 ∷ b.more = b.whole ∙ ap (λ (x : ℕ). x ∷ b.more) is in
+      let t : begins_append words ≡ true = ap begins_append w in
+      absurd cc
+  by_word (inr is) =
+      let w : words ≡ 234 ∷ b.more = b.whole ∙ ap (λ (x : ℕ). x ∷ b.more) is in
+      let t : first_head words ≡ Some head.Programming = ap first_head w in
+      absurd cc
+
+-- Where no frame is found, the words begin with none.
+no_frame : (words : List ℕ) → first_frame words ≡ None → BeginsFrame words → ⊥
+no_frame words e b =
+    let c = frame_complete b.first b.more b.digit b.is_frame in
+    let w : first_frame words ≡ first_frame (b.first ++ b.more) = ap first_frame b.whole in
+    absurd cc
+
+-- What is found by the head and the frame is right.
+judged_by : (words : List ℕ) (h : Option Head) (a : Bool) (f : Option Frame) → first_head words ≡ h
+    → begins_append words ≡ a → first_frame words ≡ f
+    → OpeningJudged words (opened_by h a f)
+judged_by words (Some said) a f eh ea ef =
+    let b = heads.found words said eh in
+    record { first = b.first; more = b.more; is_opening = headed said b.spells refl; whole = b.whole; count = b.count }
+judged_by words None true f eh ea ef =
+    (let b = append_is words ea in record { more = b.0; whole = b.1; none = heads.none_begins words eh })
+judged_by words None false (Some f) eh ea ef =
+    let b = frame_found words f ef in
+    record {
+      first = b.first;
+      more = b.more;
+      is_opening = framed f.digit b.is_frame refl;
+      whole = b.whole;
+      count = b.count;
+    }
+judged_by words None false None eh ea ef =
+    record {
+      first = [];
+      more = words;
+      is_opening = plain refl (no_head_word words eh ea) (no_frame words ef) refl;
+      whole = refl;
+      count = refl;
+    }
+
+-- What is found of the words is right.
+pub judged : (words : List ℕ) → OpeningJudged words (opened words)
+judged words = judged_by words (first_head words) (begins_append words) (first_frame words) refl refl refl
+
+-- What opens with a latch or a macro has no head and no structured append.
+record OpensOtherwise (words : List ℕ) : Type 0 where
+  head : first_head words ≡ None
+  append : begins_append words ≡ false
+
+-- A codeword that isn't left out is neither structured append nor reader programming.
+opens_otherwise : (w : ℕ) (more : List ℕ) (k : Codeword) → codeword_of w ≡ Some k → (k ≡ codeword.LeftOut → ⊥)
+    → OpensOtherwise (w ∷ more)
+opens_otherwise w more k e not = by_test (w == 234) (w == 233) refl refl where
+  left_out : codeword_of w ≡ Some codeword.LeftOut → ⊥
+  left_out l = (let s : Some k ≡ Some codeword.LeftOut = sym e ∙ l in let t : k ≡ codeword.LeftOut = cc in not t)
+
+  by_test : (p a : Bool) → (w == 234) ≡ p → (w == 233) ≡ a → OpensOtherwise (w ∷ more)
+  by_test true a ep ea = (let is : w ≡ 234 = grind (arith, nat_tests) in absurd (left_out (ap codeword_of is)))
+  by_test false true ep ea = (let is : w ≡ 233 = grind (arith, nat_tests) in absurd (left_out (ap codeword_of is)))
+  by_test false false ep ea = record { head = rw (ep, ea) refl; append = ea }
+
+-- A frame opens so.
+frame_opens : (runs more : List ℕ) (word digit : ℕ) → AreEmptyRuns runs → codeword_of word
+    ≡ Some (codeword.Macro digit) → OpensOtherwise ((runs ++ word ∷ []) ++ more)
+frame_opens [] more word digit are k = opens_otherwise word more (codeword.Macro digit) k (λ e. cc)
+frame_opens (l ∷ []) more word digit are k = absurd are
+frame_opens (l ∷ u ∷ runs) more word digit are k =
+    opens_otherwise l (u ∷ ((runs ++ word ∷ []) ++ more)) (codeword.Latch are.0.0) are.0.1 (λ e. cc)
+
+-- A head has as many codewords as it takes.
+head_count : (words : List ℕ) (said : Head) → SpellsHead words said → head_length said ≡ length words
+head_count words said (programming e is) = rw (e, is) refl
+head_count words said (appended q s right i n e is) = rw (e, is) refl
+
+-- A head begins with one of its two codewords.
+head_begins : (words more : List ℕ) (said : Head) → SpellsHead words said → BeginsWithHeadWord (words ++ more)
+head_begins words more said (programming e is) =
+    rw e (record { word = 234; more = more; is_head_word = inr refl; whole = refl })
+head_begins words more said (appended q s right i n e is) =
+    rw e (record { word = 233; more = q ∷ s.file_high ∷ s.file_low ∷ more; is_head_word = inl refl; whole = refl })
+
+-- Words that begin with neither a head nor a frame open with nothing.
+plain_by : (words : List ℕ) (h : Option Head) (a : Bool) (f : Option Frame) → first_head words ≡ h
+    → begins_append words ≡ a → first_frame words ≡ f
+    → (BeginsWithHeadWord words → ⊥) → (BeginsFrame words → ⊥) → opened_by h a f
+    ≡ Some (record { opening = Plain; count = 0 })
+plain_by words (Some said) a f eh ea ef no_head no_frame_there =
+    let b = heads.found words said eh in
+    absurd (no_head (subst BeginsWithHeadWord (sym b.whole) (head_begins b.first b.more said b.spells)))
+plain_by words None true f eh ea ef no_head no_frame_there =
+    let b = append_is words ea in
+    absurd (no_head (record { word = 233; more = b.0; is_head_word = inl refl; whole = b.1 }))
+plain_by words None false (Some f) eh ea ef no_head no_frame_there =
+    let b = frame_found words f ef in
+    absurd (no_frame_there (record {
+      first = b.first;
+      digit = f.digit;
+      more = b.more;
+      is_frame = b.is_frame;
+      whole = b.whole;
+    }))
+plain_by words None false None eh ea ef no_head no_frame_there = refl
+
+-- An opening that is there is found.
+pub complete : (words more : List ℕ) (opening : Opening) → IsOpening words more opening → opened (words ++ more)
+    ≡ Some (record { opening = opening; count = length words })
+complete words more opening (headed said s is) =
+    rw (is, heads.head_complete words more said s, head_count words said s) refl
+complete words more opening (framed digit f is) =
+    let o = subst (λ (r : List ℕ). OpensOtherwise (r ++ more)) (sym f.whole)
+    (frame_opens f.runs more f.word digit f.are_empty f.is_macro) in
+    rw (is, o.head, o.append, frame_complete words more digit f) refl
+complete words more opening (plain e no_head no_frame_there is) =
+    rw (e, is)
+    (plain_by more (first_head more) (begins_append more) (first_frame more) refl refl refl no_head no_frame_there)
+
+-- Where structured append begins no head, nothing opens.
+pub no_head_complete : (words more : List ℕ) → words ≡ 233 ∷ more → BeginsNoHead words → opened words ≡ None
+no_head_complete words more e none =
+    let h = heads.none_found words (first_head words) refl none in
+    let a : begins_append words ≡ true = ap begins_append e in
+    rw (h, a) refl
+
+-- ---- the loop that goes over empty runs
+
+-- A codeword that is there begins the words from its index on.
+word_there : (words : List ℕ) (at w : ℕ) → slice_get words at ≡ Some w → drop at words ≡ w ∷ drop (suc at) words
+word_there words at w e = drop-cons words at 0 (slice_get_within words at w e)
+    ∙ ap (λ (x : ℕ). x ∷ drop (suc at) words) (get_or_from_slice_get words at w 0 e)
+
+-- Frames that are moved in two steps are moved in one.
+moved-moved : (a b c : ℕ) (o : Option Frame) → a + b ≡ c → moved a (moved b o) ≡ moved c o
+moved-moved a b c None e = refl
+moved-moved a b c (Some f) e =
+    ap (λ (n : ℕ). Some (let g : Frame = record { count = n; digit = f.digit } in g)) (omega (arith, e))
+
+-- What begins the words from an index on stands there.
+at_first : (words : List ℕ) (at n : ℕ) (more : List ℕ) → drop at words ≡ n ∷ more → slice_get words at ≡ Some n
+at_first [] zero n more e = absurd cc
+at_first [] (suc at) n more e = absurd cc
+at_first (w ∷ words) zero n more e = (let same : w ≡ n = cc in ap Some same)
+at_first (w ∷ words) (suc at) n more e = at_first words at n more e
+
+-- What begins the words behind an index stands at the next one.
+at_index : (words : List ℕ) (at n : ℕ) (more : List ℕ) → drop (suc at) words ≡ n ∷ more → slice_get words (at + 1)
+    ≡ Some n
+at_index words at n more e =
+    (let next : suc at
+    ≡ at + 1 = omega arith in at_first words (at + 1) n more (ap (λ (k : ℕ). drop k words) (sym next) ∙ e))
+
+-- Where a macro comes next, the frame ends behind it.
+pub macro_next : (words : List ℕ) (at w d : ℕ) (total : Option Frame) → slice_get words at ≡ Some w
+    → digit_by (codeword_of w) ≡ Some d
+    → total ≡ moved at (first_frame (drop at words)) → Some (record { count = at + 1; digit = d }) ≡ total
+unfolding first_frame
+macro_next words at w d total e m so_far =
+    let here = word_there words at w e in
+    by_more (drop (suc at) words) here where
+      by_more : (more : List ℕ) → drop at words ≡ w ∷ more → Some (record { count = at + 1; digit = d }) ≡ total
+      by_more [] here = sym (so_far ∙ rw (here, m) refl)
+      by_more (n ∷ more) here = sym (so_far ∙ rw (here, m) refl)
+
+-- Where neither a macro nor an empty run comes next, there is no frame.
+pub none_next : (words : List ℕ) (at w : ℕ) (next : Option ℕ) (total : Option Frame) → slice_get words at ≡ Some w
+    → slice_get words (at + 1) ≡ next
+    → digit_by (codeword_of w) ≡ None → is_empty_run (codeword_of w) next ≡ false → total
+    ≡ moved at (first_frame (drop at words)) → None ≡ total
+unfolding first_frame
+none_next words at w next total e f m r so_far = by_more (drop (suc at) words) (word_there words at w e) refl where
+  by_more : (more : List ℕ) → drop at words ≡ w ∷ more → drop (suc at) words ≡ more → None ≡ total
+  by_more [] here rest = sym (so_far ∙ rw (here, m) refl)
+  by_more (n ∷ more) here rest =
+      let there : next ≡ Some n = sym f ∙ at_index words at n more rest in
+      let run : is_empty_run (codeword_of w) (Some n) ≡ false = ap (is_empty_run (codeword_of w)) (sym there) ∙ r in
+      sym (so_far ∙ rw (here, m, run) refl)
+
+-- Where an empty run comes next, the search goes on behind it.
+pub run_next : (words : List ℕ) (at w : ℕ) (next : Option ℕ) (total : Option Frame) → slice_get words at ≡ Some w
+    → slice_get words (at + 1) ≡ next
+    → digit_by (codeword_of w) ≡ None → is_empty_run (codeword_of w) next ≡ true → total
+    ≡ moved at (first_frame (drop at words))
+    → (at + 2 ≤ length words) × (total ≡ moved (at + 2) (first_frame (drop (at + 2) words)))
+unfolding first_frame
+run_next words at w None total e f m r so_far = absurd cc
+run_next words at w (Some n) total e f m r so_far =
+    let within = slice_get_within words (at + 1) n f in
+    let one : suc at ≡ at + 1 = omega arith in
+    let two : suc (at + 1) ≡ at + 2 = omega arith in
+    let behind : drop (suc at) words ≡ n ∷ drop (at + 2) words = ap (λ (k : ℕ). drop k words) one
+    ∙ word_there words (at + 1) n f ∙ ap (λ (k : ℕ). n ∷ drop k words) two in
+    let here : drop at words ≡ w ∷ n ∷ drop (at + 2) words = word_there words at w e
+    ∙ ap (λ (l : List ℕ). w ∷ l) behind in (
+      omega (arith, within),
+      so_far
+          ∙ rw (here, m, r) (moved-moved at 2 (at + 2) (first_frame (drop (at + 2) words)) refl),
+    )
+
+-- At the end there is no frame.
+pub none_at_end : (words : List ℕ) (at : ℕ) (total : Option Frame) → slice_get words at ≡ None → total
+    ≡ moved at (first_frame (drop at words)) → None ≡ total
+unfolding first_frame
+none_at_end words at total e so_far = by_more (drop at words) refl where
+  by_more : (more : List ℕ) → drop at words ≡ more → None ≡ total
+  by_more [] here = sym (so_far ∙ rw here refl)
+  by_more (n ∷ more) here = (let there = at_first words at n more here in absurd cc)

@@ -1,0 +1,321 @@
+-- A message in the wide extent is a letter.
+use Rattle.std.proofs.Common.{◌≡◌, ℕ, ◌+◌, ◌≤◌, ◌<◌, List, [], ◌∷◌, ◌++◌, length, refl, sym, subst, ap, ◌∙◌}
+use Rattle.std.proofs.Common.{append_assoc, arith, length-append, Option, Some, None, Ok, Err, inl, inr, ◌⊎◌}
+use Rattle.std.proofs.lemmas.List.{append-nil}
+use Rattle.dm_words.specs.declared.codeword.Codeword.TheVariants as codeword
+use Rattle.dm_words.specs.declared.c40.set.CodeSet.{CodeSet}
+use Rattle.dm_words.specs.declared.extent.Extent.TheVariants.{Wide}
+use Rattle.dm_words.specs.declared.item.Item.{Item}
+use Rattle.dm_words.specs.declared.fault.WordFault.TheVariants as word_fault
+use Rattle.dm_words.specs.declared.letters.fault.LetterFault.{LetterFault}
+use Rattle.dm_words.specs.declared.letters.fault.LetterFault.TheVariants as fault
+use Rattle.dm_words.specs.declared.letters.mark.Mark.{Mark}
+use Rattle.dm_words.specs.declared.letters.opening.Opening.TheVariants.{Plain, Framed}
+use Rattle.dm_words.specs.Codewords.{codeword_of, unlatch_word}
+use Rattle.dm_words.specs.Joined.{Piece, spelled, gathered, whats, AreJoined}
+use Rattle.dm_words.specs.Runs.{IsRun, unlatch}
+use Rattle.dm_words.specs.Values.{filler, nothing}
+use Rattle.dm_words.specs.Spells.{IsPart, run, AreParts, plain, by_macro, Spells}
+use Rattle.dm_words.specs.Refused.{IsFault, left_out, macro_behind}
+use Rattle.dm_words.specs.Letters.{LetterView, Said, Items, Number, IsLetterPart, part, mark, AreLetterParts}
+use Rattle.dm_words.specs.Letters.{said_items, said_marks, AreEmptyRuns, AreFrame, BeginsFrame, BeginsWithHeadWord}
+use Rattle.dm_words.specs.Letters.{IsOpening, headed, framed, plain as opens_plain, opening_head, opening_items}
+use Rattle.dm_words.specs.Letters.{closing_items, said_letter, SpellsLetter, IsLetterFault, word, HaveLetterFault}
+use Rattle.dm_words.specs.declared.letters.head.Head.{Head}
+use Rattle.dm_words.specs.declared.letters.opening.Opening.{Opening}
+use Rattle.dm_words.specs.Macros.{macro_text}
+use Rattle.dm_words.specs.LetterResults.{BeginsLateFrame}
+use Rattle.dm_words.specs.inner.Scan.Walk.{Stops}
+use Rattle.dm_words.specs.inner.LetterScan.{first_letter_part, letter_on}
+use Rattle.dm_words.proofs.LetterLoops.{letter_on-stops}
+use Rattle.dm_words.proofs.WholeLetters.{parts_read, fault_read}
+
+-- An empty run is a part of a message.
+empty_run : (place latch unlatch_there : ℕ) (set : CodeSet) (after : List ℕ) → codeword_of latch
+    ≡ Some (codeword.Latch set) → unlatch_there ≡ unlatch_word
+    → IsPart Wide place (latch ∷ unlatch_there ∷ []) after []
+empty_run place latch unlatch_there set after k is =
+    run set (record {
+      latch = latch;
+      is_latch = k;
+      pairs = [];
+      each = tt;
+      end = unlatch_word ∷ [];
+      ended = unlatch refl;
+      whole = ap (λ (u : ℕ). latch ∷ u ∷ []) is;
+      values = record {
+        spellings = [];
+        each = tt;
+        filler = [];
+        ended = filler (nothing refl);
+        whole = refl;
+        items_are = refl;
+      };
+    })
+
+-- Empty runs are parts of a letter.
+record HasRuns (place : ℕ) (runs after : List ℕ) : Type 0 where
+  parts : List (Piece Said)
+  joined : AreJoined IsLetterPart place parts after
+  whole : runs ≡ spelled parts
+
+-- Empty runs are parts of a letter, one after the other.
+runs_are : (place : ℕ) (runs after : List ℕ) → AreEmptyRuns runs → HasRuns place runs after
+runs_are place [] after are = record { parts = []; joined = tt; whole = refl }
+runs_are place (l ∷ []) after are = absurd are
+runs_are place (l ∷ u ∷ runs) after are =
+    let rest = runs_are (place + 2) runs after are.2 in
+    let p : Piece Said = record { words = l ∷ u ∷ []; what = Items [] } in
+    record {
+      parts = p ∷ rest.parts;
+      joined = (part [] (empty_run place l u are.0.0 (spelled rest.parts ++ after) are.0.1 are.1) refl, rest.joined);
+      whole = ap (λ (r : List ℕ). l ∷ u ∷ r) rest.whole;
+    }
+
+-- A macro begins no part of a letter.
+macro_faulty : (place w digit : ℕ) (more : List ℕ) → codeword_of w ≡ Some (codeword.Macro digit)
+    → IsLetterFault place (w ∷ more) (fault.Word (word_fault.LeftOut w place))
+macro_faulty place w digit more k =
+    word (word_fault.LeftOut w place)
+    (λ rest is. (let same : w ≡ 241 = cc in let l : codeword_of w ≡ Some codeword.LeftOut = ap codeword_of same in cc))
+    (left_out w more (macro_behind digit k) refl refl) refl
+
+-- A macro behind empty runs is a fault, where the parts begin with those.
+frame_faulty : (words : List ℕ) → BeginsFrame words → (f : LetterFault) × HaveLetterFault 1 words f
+frame_faulty words b =
+    let f = b.is_frame in
+    let r = runs_are 1 f.runs (f.word ∷ b.more) f.are_empty in
+    let whole : words ≡ spelled r.parts ++ (f.word ∷ b.more) =
+    b.whole ∙ ap (λ (x : List ℕ). x ++ b.more) f.whole ∙ append_assoc f.runs (f.word ∷ []) b.more
+    ∙ ap (λ (x : List ℕ). x ++ (f.word ∷ b.more)) r.whole in (
+      fault.Word (word_fault.LeftOut f.word (1 + length (spelled r.parts))),
+      record {
+        parts = r.parts;
+        after = f.word ∷ b.more;
+        joined = r.joined;
+        whole = whole;
+        faulty = macro_faulty (1 + length (spelled r.parts)) f.word b.digit b.more f.is_macro;
+      },
+    )
+
+-- Nothing was read.
+abbrev nothing_read : LetterView
+nothing_read = record { head = None; items = []; marks = [] }
+
+-- Parts of a letter begin with no macro behind empty runs.
+no_frame : (words : List ℕ) (said : List Said) → AreLetterParts 1 words said → BeginsFrame words → ⊥
+no_frame words said parts b =
+    let f = frame_faulty words b in
+    let reads = parts_read nothing_read 1 words said parts in
+    let refuses = fault_read nothing_read 1 words f.0 f.1 in
+    absurd cc
+
+-- Parts of a letter begin with neither codeword of a head.
+no_head_word : (words : List ℕ) (said : List Said) → AreLetterParts 1 words said → BeginsWithHeadWord words → ⊥
+no_head_word words said parts b = by_word b.is_head_word where
+  by_word : (b.word ≡ 233) ⊎ (b.word ≡ 234) → ⊥
+  by_word (inl is) =
+      let w : words ≡ 233 ∷ b.more = b.whole ∙ ap (λ (x : ℕ). x ∷ b.more) is in
+      let reads = parts_read nothing_read 1 words said parts in
+      let stops =
+      letter_on-stops nothing_read 1 words (Some (fault.Word (word_fault.LeftOut 233 1)))
+      (ap (first_letter_part 1) w) in
+      absurd cc
+  by_word (inr is) =
+      let w : words ≡ 234 ∷ b.more = b.whole ∙ ap (λ (x : ℕ). x ∷ b.more) is in
+      let reads = parts_read nothing_read 1 words said parts in
+      let stops =
+      letter_on-stops nothing_read 1 words (Some (fault.Word (word_fault.LeftOut 234 1)))
+      (ap (first_letter_part 1) w) in
+      absurd cc
+
+-- Parts of a letter from the first place on say a letter without a head.
+pub plain_letter : (words : List ℕ) (said : List Said) (items : List Item) → AreLetterParts 1 words said
+    → said_items said ≡ items
+    → SpellsLetter words (record { head = None; items = items; marks = said_marks 0 said })
+plain_letter words said items parts is = record {
+  opening = Plain;
+  place = 1;
+  more = words;
+  opened = record {
+    first = [];
+    is_opening = opens_plain refl (no_head_word words said parts) (no_frame words said parts) refl;
+    whole = refl;
+    place_is = refl;
+  };
+  said = said;
+  parts = parts;
+  letter_is =
+      ap (λ (i : List Item). let l : LetterView = record { head = None; items = i; marks = said_marks 0 said } in l)
+      (sym is ∙ sym (append-nil (said_items said)));
+}
+
+-- Pieces of a message, as pieces of a letter.
+abbrev as_said : List (Piece (List Item)) → List (Piece Said)
+as_said [] = []
+as_said (p ∷ ps) = record { words = p.words; what = Items p.what } ∷ as_said ps
+
+-- They have the same words.
+said_words : (ps : List (Piece (List Item))) → spelled (as_said ps) ≡ spelled ps
+said_words [] = refl
+said_words (p ∷ ps) = ap (λ (r : List ℕ). p.words ++ r) (said_words ps)
+
+-- They say the same items.
+same_items : (ps : List (Piece (List Item))) → said_items (whats (as_said ps)) ≡ gathered ps
+same_items [] = refl
+same_items (p ∷ ps) = ap (λ (r : List Item). p.what ++ r) (same_items ps)
+
+-- They say no mark.
+no_marks : (before : ℕ) (ps : List (Piece (List Item))) → said_marks before (whats (as_said ps)) ≡ []
+no_marks before [] = refl
+no_marks before (p ∷ ps) = no_marks (before + length p.what) ps
+
+-- They are parts of a letter.
+said_joined : (place : ℕ) (ps : List (Piece (List Item))) (after : List ℕ) → AreJoined (IsPart Wide) place ps after
+    → AreJoined IsLetterPart place (as_said ps) after
+said_joined place [] after h = tt
+said_joined place (p ∷ ps) after h = (
+  part p.what (subst (λ (r : List ℕ). IsPart Wide place p.words (r ++ after) p.what) (sym (said_words ps)) h.0) refl,
+  said_joined (place + length p.words) ps after h.1,
+)
+
+-- Parts of a message are parts of a letter.
+said_parts : (place : ℕ) (words : List ℕ) (items : List Item) (p : AreParts Wide place words items)
+    → AreLetterParts place words (whats (as_said p.parts))
+said_parts place words items p = record {
+  parts = as_said p.parts;
+  after = p.after;
+  joined = said_joined place p.parts p.after p.joined;
+  ended = p.ended;
+  whole = p.whole ∙ ap (λ (r : List ℕ). r ++ p.after) (sym (said_words p.parts));
+  said_are = refl;
+}
+
+-- What codewords spell in the wide extent they say as a letter without a head and marks.
+pub wide_is_letter : (words : List ℕ) (m : List Item) → Spells Wide words m
+    → SpellsLetter words (record { head = None; items = m; marks = [] })
+wide_is_letter words m (plain p) =
+    let l = plain_letter words (whats (as_said p.parts)) m (said_parts 1 words m p) (same_items p.parts
+    ∙ sym p.items_are) in
+    subst (λ (marks : List Mark). SpellsLetter words (record { head = None; items = m; marks = marks }))
+    (no_marks 0 p.parts) l
+wide_is_letter words m (by_macro w digit more text wide k whole p is) = record {
+  opening = Framed digit;
+  place = 2;
+  more = more;
+  opened = record {
+    first = w ∷ [];
+    is_opening = framed digit (record { runs = []; word = w; are_empty = tt; is_macro = k; whole = refl }) refl;
+    whole = whole;
+    place_is = refl;
+  };
+  said = whats (as_said p.parts);
+  parts = said_parts 2 more text p;
+  letter_is = rw (is, same_items p.parts, no_marks 7 p.parts, ← p.items_are) refl;
+}
+
+-- ---- the other way
+
+-- Parts of a letter that say no mark, as parts of a message.
+record Unmarked (place : ℕ) (ps : List (Piece Said)) (after : List ℕ) : Type 0 where
+  parts : List (Piece (List Item))
+  joined : AreJoined (IsPart Wide) place parts after
+  words : spelled ps ≡ spelled parts
+  items : said_items (whats ps) ≡ gathered parts
+
+-- Parts of a letter that say no mark are parts of a message.
+unmarked : (place before : ℕ) (ps : List (Piece Said)) (after : List ℕ) → AreJoined IsLetterPart place ps after
+    → said_marks before (whats ps) ≡ [] → Unmarked place ps after
+unmarked place before [] after h none = record { parts = []; joined = tt; words = refl; items = refl }
+unmarked place before (p ∷ ps) after h none =
+    by_part h.0 (λ b e. unmarked (place + length p.words) b ps after h.1 e) where
+      by_part : IsLetterPart place p.words (spelled ps ++ after) p.what
+          → ((b : ℕ) → said_marks b (whats ps) ≡ [] → Unmarked (place + length p.words) ps after)
+          → Unmarked place (p ∷ ps) after
+      by_part (mark d number e whole is) again =
+          let some : said_marks before (Number number ∷ whats ps)
+          ≡ [] = ap (λ (s : Said). said_marks before (s ∷ whats ps)) (sym is) ∙ none in
+          absurd cc
+      by_part (part items q is) again =
+          let rest : said_marks (before + length items) (whats ps)
+          ≡ [] = ap (λ (s : Said). said_marks before (s ∷ whats ps)) (sym is) ∙ none in
+          let r = again (before + length items) rest in
+          let one : Piece (List Item) = record { words = p.words; what = items } in
+          record {
+            parts = one ∷ r.parts;
+            joined = (subst (λ (w : List ℕ). IsPart Wide place p.words (w ++ after) items) r.words q, r.joined);
+            words = ap (λ (w : List ℕ). p.words ++ w) r.words;
+            items = ap (λ (s : Said). said_items (s ∷ whats ps)) is ∙ ap (λ (i : List Item). items ++ i) r.items;
+          }
+
+-- Parts that say no mark are parts of a message.
+unmarked_parts : (place before : ℕ) (words : List ℕ) (said : List Said) → AreLetterParts place words said
+    → said_marks before said ≡ [] → AreParts Wide place words (said_items said)
+unmarked_parts place before words said p none =
+    let r = unmarked place before p.parts p.after p.joined (ap (said_marks before) (sym p.said_are) ∙ none) in
+    record {
+      parts = r.parts;
+      after = p.after;
+      joined = r.joined;
+      ended = p.ended;
+      whole = p.whole ∙ ap (λ (w : List ℕ). w ++ p.after) r.words;
+      items_are = ap said_items p.said_are ∙ r.items;
+    }
+
+-- Behind a macro, parts that say no mark spell its text.
+framed_wide : (words first more : List ℕ) (digit : ℕ) (runs : List ℕ) (w : ℕ) (said : List Said) (m : List Item)
+    → AreFrame first digit → words ≡ first ++ more → first ≡ runs ++ w ∷ []
+    → codeword_of w ≡ Some (codeword.Macro digit) → AreLetterParts (1 + length first) more said → said_marks 7 said
+    ≡ [] → m ≡ macro_text digit (said_items said)
+    → Spells Wide words m ⊎ BeginsLateFrame words
+framed_wide words first more digit [] w said m f whole is k parts none text =
+    let one : 1 + length first ≡ 2 = ap (λ (l : List ℕ). 1 + length l) is in
+    inl (by_macro w digit more (said_items said) refl k (whole ∙ ap (λ (l : List ℕ). l ++ more) is)
+    (unmarked_parts 2 7 more said (subst (λ (p : ℕ). AreLetterParts p more said) one parts) none) text)
+framed_wide words first more digit (l ∷ runs) w said m f whole is k parts none text =
+    inr (record {
+      first = first;
+      digit = digit;
+      more = more;
+      is_frame = f;
+      is_late = omega (arith, ap length is, length-append runs (w ∷ []));
+      whole = whole;
+    })
+
+-- There is no head where there is none.
+no_head : (said : Head) → None ≡ Some said → ⊥
+no_head said e = cc
+
+-- What codewords say as a letter without a head and marks they spell in the wide extent, unless an empty run stands
+-- before a macro.
+pub letter_is_wide : (words : List ℕ) (m : List Item)
+    → SpellsLetter words (record { head = None; items = m; marks = [] }) → Spells Wide words m ⊎ BeginsLateFrame words
+letter_is_wide words m s = by_opening s.opened.is_opening where
+  head_is : None ≡ opening_head s.opening
+  head_is = ap (λ (l : LetterView). l.head) s.letter_is
+
+  items_are : m ≡ opening_items s.opening ++ (said_items s.said ++ closing_items s.opening)
+  items_are = ap (λ (l : LetterView). l.items) s.letter_is
+
+  marks_are : [] ≡ said_marks (length (opening_items s.opening)) s.said
+  marks_are = ap (λ (l : LetterView). l.marks) s.letter_is
+
+  by_opening : IsOpening s.opened.first s.more s.opening → Spells Wide words m ⊎ BeginsLateFrame words
+  by_opening (headed said h is) = absurd (no_head said (head_is ∙ ap opening_head is))
+  by_opening (framed digit f is) =
+      framed_wide words s.opened.first s.more digit f.runs f.word s.said m f s.opened.whole f.whole f.is_macro
+      (subst (λ (p : ℕ). AreLetterParts p s.more s.said) s.opened.place_is s.parts)
+      (sym (marks_are ∙ ap (λ (o : Opening). said_marks (length (opening_items o)) s.said) is))
+      (items_are ∙ ap (λ (o : Opening). opening_items o ++ (said_items s.said ++ closing_items o)) is)
+  by_opening (opens_plain e no_head_there no_frame_there is) =
+      let place : s.place ≡ 1 = s.opened.place_is ∙ ap (λ (l : List ℕ). 1 + length l) e in
+      let whole : words ≡ s.more = s.opened.whole ∙ ap (λ (l : List ℕ). l ++ s.more) e in
+      let none : said_marks 0 s.said
+      ≡ [] = sym (marks_are ∙ ap (λ (o : Opening). said_marks (length (opening_items o)) s.said) is) in
+      let items : m ≡ said_items s.said = items_are
+      ∙ ap (λ (o : Opening). opening_items o ++ (said_items s.said ++ closing_items o)) is
+      ∙ append-nil (said_items s.said) in
+      let parts : AreLetterParts 1 words s.said =
+      subst (λ (w : List ℕ). AreLetterParts 1 w s.said) (sym whole)
+      (subst (λ (p : ℕ). AreLetterParts p s.more s.said) place s.parts) in
+      inl (subst (Spells Wide words) (sym items) (plain (unmarked_parts 1 0 words s.said parts none)))

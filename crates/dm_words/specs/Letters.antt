@@ -1,0 +1,203 @@
+-- Which data codewords of a symbol say which letter, and which are refused (ISO/IEC 16022, ECI encodation, structured
+-- append, reader programming, 05 and 06 macro characters). The words are all data codewords of the symbol, each of 0 to
+-- 255, so their end is the end of the symbol. The extents of `Spells` are those of messages; a letter says more. What
+-- is left out, which fault is named and at which place, and that the places of marks count items, the header of a macro
+-- with them, are choices of this project.
+use Rattle.std.specs.Prelude.{◌≡◌, ◌≢◌, ℕ, ◌+◌, ◌≤◌, List, [], ◌∷◌, ◌++◌, length, Option, Some, None, ◌⊎◌}
+use Rattle.dm_words.specs.declared.extent.Extent.TheVariants.{Wide}
+use Rattle.dm_words.specs.declared.item.Item.{Item}
+use Rattle.dm_words.specs.declared.fault.WordFault.{WordFault}
+use Rattle.dm_words.specs.declared.codeword.Codeword.TheVariants as codeword
+use Rattle.dm_words.specs.declared.c40.set.CodeSet.{CodeSet}
+use Rattle.dm_words.specs.declared.letters.fault.LetterFault.{LetterFault}
+use Rattle.dm_words.specs.declared.letters.fault.LetterFault.TheVariants as fault
+use Rattle.dm_words.specs.declared.letters.head.Head.{Head}
+use Rattle.dm_words.specs.declared.letters.mark.Mark.{Mark}
+use Rattle.dm_words.specs.declared.letters.opening.Opening.{Opening}
+use Rattle.dm_words.specs.declared.letters.opening.Opening.TheVariants.{Plain, Headed, Framed}
+use Rattle.dm_words.specs.Codewords.{codeword_of, unlatch_word}
+use Rattle.dm_words.specs.Messages.{IsMessage}
+use Rattle.dm_words.specs.Joined.{Piece, spelled, whats, AreJoined}
+use Rattle.dm_words.specs.Macros.{macro_header, macro_trailer}
+use Rattle.dm_words.specs.Spells.{IsPart, IsEnd}
+use Rattle.dm_words.specs.Refused.{IsFault}
+use Rattle.dm_words.specs.Designators.{eci_word, most_assigned, IsDesignator, BeginsNoDesignator}
+use Rattle.dm_words.specs.Heads.{append_word, programming_word, IsHead, SpellsHead, BeginsNoHead}
+
+-- A letter is a head or none, items, and marks. A mark is the number of an ECI assignment at a place, which is the
+-- count of the items before it.
+pub record LetterView : Type 0 where
+  pub head : Option Head
+  pub items : List Item
+  pub marks : List Mark
+
+-- The places of the marks come in order, none is below the first number or above the second, and each mark has a number
+-- of 0 to 999999.
+abbrev pub AreMarks : ℕ → ℕ → List Mark → Type 0
+AreMarks least most [] = least ≤ most
+AreMarks least most (mark ∷ marks) =
+    (least ≤ mark.place) × (mark.number ≤ most_assigned) × AreMarks mark.place most marks
+
+-- A letter has a right head or none, items that are bytes of 0 to 255 or FNC1, and marks in order, none of which stands
+-- behind more items than there are.
+pub record IsLetter (letter : LetterView) : Type 0 where
+  pub head : IsHead letter.head
+  pub items : IsMessage letter.items
+  pub marks : AreMarks 0 (length letter.items) letter.marks
+
+-- This is the letter with one more mark of this number, behind all of its items.
+abbrev pub with_mark : LetterView → ℕ → LetterView
+with_mark letter number =
+    record letter { marks = letter.marks ++ record { place = length letter.items; number = number } ∷ [] }
+
+-- ---- parts
+
+-- A part of a letter says items, or the number of a mark.
+pub data Said : Type 0 where
+  Items : List Item → Said
+  Number : ℕ → Said
+
+-- A part of a letter is a part of a message in the wide extent; or ECI and a designator, which say a mark and no item.
+pub data IsLetterPart (place : ℕ) (words after : List ℕ) (said : Said) : Type 0 where
+  part : (items : List Item) → IsPart Wide place words after items → said ≡ Items items
+      → IsLetterPart place words after said
+  mark : (designator : List ℕ) (number : ℕ) → IsDesignator designator number → words ≡ eci_word ∷ designator
+      → said ≡ Number number → IsLetterPart place words after said
+
+-- The words from a place on, up to the end of the symbol, are parts of a letter, one after the other, and then an end.
+pub record AreLetterParts (place : ℕ) (words : List ℕ) (said : List Said) : Type 0 where
+  pub parts : List (Piece Said)
+  pub after : List ℕ
+  pub joined : AreJoined IsLetterPart place parts after
+  pub ended : IsEnd after
+  pub whole : words ≡ spelled parts ++ after
+  pub said_are : said ≡ whats parts
+
+-- The items that parts say, in order.
+abbrev pub said_items : List Said → List Item
+said_items [] = []
+said_items (Items items ∷ said) = items ++ said_items said
+said_items (Number number ∷ said) = said_items said
+
+-- The marks that parts say, in order, where this many items stand before them.
+abbrev pub said_marks : ℕ → List Said → List Mark
+said_marks before [] = []
+said_marks before (Items items ∷ said) = said_marks (before + length items) said
+said_marks before (Number number ∷ said) = record { place = before; number = number } ∷ said_marks before said
+
+-- ---- openings
+
+-- Empty runs stand one after the other, each of which is a latch to C40, Text or X12 and an unlatch.
+abbrev pub AreEmptyRuns : List ℕ → Type 0
+AreEmptyRuns [] = Unit {0}
+AreEmptyRuns (latch ∷ []) = ⊥
+AreEmptyRuns (latch ∷ unlatch ∷ words) =
+    ((set : CodeSet) × (codeword_of latch ≡ Some (codeword.Latch set))) × (unlatch ≡ unlatch_word) × AreEmptyRuns words
+
+-- The words are empty runs, or none, and then a macro of this digit. That a macro may stand behind such runs is a rule
+-- of this project; an encoder writes so.
+pub record AreFrame (words : List ℕ) (digit : ℕ) : Type 0 where
+  pub runs : List ℕ
+  pub word : ℕ
+  pub are_empty : AreEmptyRuns runs
+  pub is_macro : codeword_of word ≡ Some (codeword.Macro digit)
+  pub whole : words ≡ runs ++ word ∷ []
+
+-- The words begin with a macro, with empty runs before it or not.
+pub record BeginsFrame (words : List ℕ) : Type 0 where
+  pub first : List ℕ
+  pub digit : ℕ
+  pub more : List ℕ
+  pub is_frame : AreFrame first digit
+  pub whole : words ≡ first ++ more
+
+-- The words begin with structured append or reader programming, whether as a head or not.
+pub record BeginsWithHeadWord (words : List ℕ) : Type 0 where
+  pub word : ℕ
+  pub more : List ℕ
+  pub is_head_word : (word ≡ append_word) ⊎ (word ≡ programming_word)
+  pub whole : words ≡ word ∷ more
+
+-- A letter opens with a head; or with a macro, behind empty runs or none; or with nothing, where the first codeword of
+-- the symbol is neither 233 nor 234, and no macro begins it so. So a letter with a head has no macro, and where 233
+-- begins no head there is no opening. `more` are the words behind the opening; where it is nothing, these are all of
+-- the symbol.
+pub data IsOpening (words more : List ℕ) (opening : Opening) : Type 0 where
+  headed : (head : Head) → SpellsHead words head → opening ≡ Headed head → IsOpening words more opening
+  framed : (digit : ℕ) → AreFrame words digit → opening ≡ Framed digit → IsOpening words more opening
+  plain : words ≡ [] → (BeginsWithHeadWord more → ⊥) → (BeginsFrame more → ⊥) → opening ≡ Plain
+      → IsOpening words more opening
+
+-- An opening says this head, or none.
+abbrev pub opening_head : Opening → Option Head
+opening_head Plain = None
+opening_head (Headed head) = Some head
+opening_head (Framed digit) = None
+
+-- These items stand before those of the parts.
+abbrev pub opening_items : Opening → List Item
+opening_items Plain = []
+opening_items (Headed head) = []
+opening_items (Framed digit) = macro_header digit
+
+-- These items stand behind those of the parts.
+abbrev pub closing_items : Opening → List Item
+closing_items Plain = []
+closing_items (Headed head) = []
+closing_items (Framed digit) = macro_trailer
+
+-- ---- letters
+
+-- Behind an opening, parts that say this say this letter. The places of marks count the header of a macro too.
+abbrev pub said_letter : Opening → List Said → LetterView
+said_letter opening said = record {
+  head = opening_head opening;
+  items = opening_items opening ++ (said_items said ++ closing_items opening);
+  marks = said_marks (length (opening_items opening)) said;
+}
+
+-- The words are an opening and then words from a place on.
+pub record AreOpened (words : List ℕ) (opening : Opening) (place : ℕ) (more : List ℕ) : Type 0 where
+  pub first : List ℕ
+  pub is_opening : IsOpening first more opening
+  pub whole : words ≡ first ++ more
+  pub place_is : place ≡ 1 + length first
+
+-- The words say the letter: they are an opening and then parts that say it, with pads behind them or not.
+pub record SpellsLetter (words : List ℕ) (letter : LetterView) : Type 0 where
+  pub opening : Opening
+  pub place : ℕ
+  pub more : List ℕ
+  pub opened : AreOpened words opening place more
+  pub said : List Said
+  pub parts : AreLetterParts place more said
+  pub letter_is : letter ≡ said_letter opening said
+
+-- The words don't begin with ECI.
+abbrev pub BeginNoEci : List ℕ → Type 0
+BeginNoEci words = (more : List ℕ) → words ≢ eci_word ∷ more
+
+-- The codewords from a place on, up to the end of the symbol, have this fault: ECI has no designator behind it; or they
+-- don't begin with ECI, and have a fault of the wide extent.
+pub data IsLetterFault (place : ℕ) (words : List ℕ) (why : LetterFault) : Type 0 where
+  designator : (more : List ℕ) → BeginsNoDesignator more → words ≡ eci_word ∷ more → why ≡ fault.Designator place
+      → IsLetterFault place words why
+  word : (of_word : WordFault) → BeginNoEci words → IsFault Wide place words of_word → why ≡ fault.Word of_word
+      → IsLetterFault place words why
+
+-- The words from a place on, up to the end of the symbol, are parts of a letter, one after the other, and then
+-- codewords with this fault.
+pub record HaveLetterFault (place : ℕ) (words : List ℕ) (why : LetterFault) : Type 0 where
+  pub parts : List (Piece Said)
+  pub after : List ℕ
+  pub joined : AreJoined IsLetterPart place parts after
+  pub whole : words ≡ spelled parts ++ after
+  pub faulty : IsLetterFault (place + length (spelled parts)) after why
+
+-- The words are refused with this fault: they begin with structured append, and with no head; or they are an opening
+-- and then words that have the fault.
+pub data RefusedLetter (words : List ℕ) (why : LetterFault) : Type 0 where
+  no_head : (more : List ℕ) → words ≡ append_word ∷ more → BeginsNoHead words → why ≡ fault.Append 1
+      → RefusedLetter words why
+  behind : (opening : Opening) (place : ℕ) (more : List ℕ) → AreOpened words opening place more
+      → HaveLetterFault place more why → RefusedLetter words why

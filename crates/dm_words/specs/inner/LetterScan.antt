@@ -1,0 +1,210 @@
+-- How a letter is read from the left: its opening, a designator, and one part after the other.
+use Rattle.std.specs.Prelude.{◌≡◌, ℕ, suc, ◌+◌, ◌-◌, ◌*◌, ◌/◌, ◌%◌, ◌≤◌, List, [], ◌∷◌, ◌++◌, length, drop, Option}
+use Rattle.std.specs.Prelude.{Some, None, Result, Ok, Err, Bool, true, false, slice_get, nat_le, nat_lt, ◌==◌, ◌&&◌}
+use Rattle.std.specs.Prelude.{if◌then◌else◌}
+use Rattle.dm_words.specs.declared.extent.Extent.TheVariants.{Wide}
+use Rattle.dm_words.specs.declared.item.Item.{Item}
+use Rattle.dm_words.specs.declared.fault.WordFault.{WordFault}
+use Rattle.dm_words.specs.declared.codeword.Codeword.{Codeword}
+use Rattle.dm_words.specs.declared.codeword.Codeword.TheVariants as codeword
+use Rattle.dm_words.specs.declared.letters.designator.Designator.{Designator}
+use Rattle.dm_words.specs.declared.letters.fault.LetterFault.{LetterFault}
+use Rattle.dm_words.specs.declared.letters.fault.LetterFault.TheVariants as fault
+use Rattle.dm_words.specs.declared.letters.head.Appended.{Appended}
+use Rattle.dm_words.specs.declared.letters.head.Head.{Head}
+use Rattle.dm_words.specs.declared.letters.head.Head.TheVariants as head
+use Rattle.dm_words.specs.declared.letters.opening.Frame.{Frame}
+use Rattle.dm_words.specs.declared.letters.opening.Opened.{Opened}
+use Rattle.dm_words.specs.declared.letters.opening.Opening.{Opening}
+use Rattle.dm_words.specs.declared.letters.opening.Opening.TheVariants.{Plain, Headed, Framed}
+use Rattle.dm_words.specs.Codewords.{codeword_of, unlatch_word}
+use Rattle.dm_words.specs.Designators.{eci_word, most_assigned}
+use Rattle.dm_words.specs.Heads.{append_word, programming_word}
+use Rattle.dm_words.specs.Letters.{LetterView, with_mark, Said, Items, Number, said_items, said_marks, opening_head}
+use Rattle.dm_words.specs.Letters.{opening_items, closing_items}
+use Rattle.dm_words.specs.inner.Scan.Walk.{Step, Takes, Stops, walk}
+use Rattle.dm_words.specs.inner.Scan.Prefixes.{digit_by, first_part}
+
+-- ---- designators
+
+-- A codeword can stand behind the first one of a designator.
+abbrev pub is_further : ℕ → Bool
+is_further word = nat_le 1 word && nat_le word 254
+
+-- This many codewords say this number, unless it is too large.
+abbrev pub within_assigned : ℕ → ℕ → Option Designator
+within_assigned count number =
+    if nat_le number most_assigned then Some (record { count = count; number = number }) else None
+
+-- Behind a first codeword of 128 to 191, the next one decides which designator is there.
+abbrev pub two_words : ℕ → Option ℕ → Option Designator
+two_words first None = None
+two_words first (Some second) =
+    if is_further second then Some (record { count = 2; number = (first - 128) * 254 + 127 + (second - 1) }) else None
+
+-- Behind a first codeword of 192 to 207, the next two decide which designator is there.
+abbrev pub three_words : ℕ → Option ℕ → Option ℕ → Option Designator
+three_words first None third = None
+three_words first (Some second) None = None
+three_words first (Some second) (Some third) =
+    if is_further second && is_further third
+    then within_assigned 3 ((first - 192) * 64516 + 16383 + (second - 1) * 254 + (third - 1)) else None
+
+-- The first three words, where there are as many, decide which designator is there.
+abbrev pub designator_by : Option ℕ → Option ℕ → Option ℕ → Option Designator
+designator_by None second third = None
+designator_by (Some first) second third =
+    if first == 0 then None else
+    if nat_le first 127 then Some (record { count = 1; number = first - 1 }) else
+    if nat_le first 191 then two_words first second else
+    if nat_le first 207 then three_words first second third else None
+
+-- The words begin with this designator, or with none.
+abbrev pub first_designator : List ℕ → Option Designator
+first_designator words = designator_by (slice_get words 0) (slice_get words 1) (slice_get words 2)
+
+-- ---- heads
+
+-- The numbers are those of a symbol of a sequence.
+abbrev pub is_appended : Appended → Bool
+is_appended symbol =
+    nat_le 1 symbol.index && nat_le symbol.index symbol.count && nat_le 2 symbol.count && nat_le symbol.count 16
+    && nat_le 1 symbol.file_high && nat_le symbol.file_high 254 && nat_le 1 symbol.file_low && nat_le symbol.file_low
+    254
+
+-- The three codewords behind structured append say this.
+abbrev pub appended_symbol : ℕ → ℕ → ℕ → Appended
+appended_symbol indicator high low =
+    record { index = indicator / 16 + 1; count = 17 - indicator % 16; file_high = high; file_low = low }
+
+-- Behind structured append, the next three words decide which head is there.
+abbrev pub append_by : Option ℕ → Option ℕ → Option ℕ → Option Head
+append_by (Some indicator) (Some high) (Some low) =
+    if is_appended (appended_symbol indicator high low) then Some (head.Appended (appended_symbol indicator high low))
+    else None
+append_by _ _ _ = None
+
+-- The first word decides which head is there.
+abbrev pub head_by : Option ℕ → List ℕ → Option Head
+head_by None words = None
+head_by (Some word) words =
+    if word == programming_word then Some head.Programming else
+    if word == append_word then append_by (slice_get words 1) (slice_get words 2) (slice_get words 3) else None
+
+-- The words begin with this head, or with none.
+abbrev pub first_head : List ℕ → Option Head
+first_head words = head_by (slice_get words 0) words
+
+-- A head has this many codewords.
+abbrev pub head_length : Head → ℕ
+head_length head.Programming = 1
+head_length (head.Appended symbol) = 4
+
+-- ---- openings
+
+-- A codeword with this meaning is a latch to C40, Text or X12.
+abbrev pub is_latch : Option Codeword → Bool
+is_latch (Some (codeword.Latch set)) = true
+is_latch _ = false
+
+-- A frame has this many more codewords before it.
+abbrev pub moved : ℕ → Option Frame → Option Frame
+moved more None = None
+moved more (Some frame) = Some (record { count = more + frame.count; digit = frame.digit })
+
+-- The codewords are an empty run: a latch with this meaning, and an unlatch.
+abbrev pub is_empty_run : Option Codeword → Option ℕ → Bool
+is_empty_run latch None = false
+is_empty_run latch (Some unlatch) = is_latch latch && (unlatch == unlatch_word)
+
+-- A macro of this digit is a frame; where there is none, the other is.
+abbrev pub frame_by : Option ℕ → Option Frame → Option Frame
+frame_by (Some digit) other = Some (record { count = 1; digit = digit })
+frame_by None other = other
+
+-- The words begin with this frame, or with none.
+unfoldable pub first_frame : List ℕ → Option Frame
+first_frame [] = None
+first_frame (word ∷ []) = frame_by (digit_by (codeword_of word)) None
+first_frame (word ∷ next ∷ more) =
+    frame_by (digit_by (codeword_of word))
+    (if is_empty_run (codeword_of word) (Some next) then moved 2 (first_frame more) else None)
+
+-- The words begin with structured append.
+abbrev pub begins_append : List ℕ → Bool
+begins_append [] = false
+begins_append (word ∷ more) = word == append_word
+
+-- A head opens the letter, or a frame, or nothing; none does where structured append begins no head.
+abbrev pub opened_by : Option Head → Bool → Option Frame → Option Opened
+opened_by (Some said) append frame = Some (record { opening = Headed said; count = head_length said })
+opened_by None true frame = None
+opened_by None false (Some frame) = Some (record { opening = Framed frame.digit; count = frame.count })
+opened_by None false None = Some (record { opening = Plain; count = 0 })
+
+-- The words open with this, or are refused.
+abbrev pub opened : List ℕ → Option Opened
+opened words = opened_by (first_head words) (begins_append words) (first_frame words)
+
+-- ---- parts
+
+-- A part of a message is a part of a letter.
+abbrev pub as_said : Step (List Item) (Option WordFault) → Step Said (Option LetterFault)
+as_said (Takes count items) = Takes count (Items items)
+as_said (Stops None) = Stops None
+as_said (Stops (Some why)) = Stops (Some (fault.Word why))
+
+-- Behind ECI at a place, a designator is a mark.
+abbrev pub mark_by : ℕ → Option Designator → Step Said (Option LetterFault)
+mark_by place (Some designator) = Takes (1 + designator.count) (Number designator.number)
+mark_by place None = Stops (Some (fault.Designator place))
+
+-- The words begin with a part of a letter, the end, or a fault.
+abbrev pub first_letter_part : ℕ → List ℕ → Step Said (Option LetterFault)
+first_letter_part place [] = Stops None
+first_letter_part place (word ∷ more) =
+    if word == eci_word then mark_by place (first_designator more) else as_said (first_part Wide place (word ∷ more))
+
+-- The letter has more items or one more mark, which a part says.
+abbrev pub with_said : LetterView → Said → LetterView
+with_said letter (Items items) = record letter { items = letter.items ++ items }
+with_said letter (Number number) = with_mark letter number
+
+-- The letter has more items and marks, which parts say.
+abbrev pub extended : LetterView → List Said → LetterView
+extended letter said = record letter {
+  items = letter.items ++ said_items said;
+  marks = letter.marks ++ said_marks (length letter.items) said;
+}
+
+-- The letter is given if the walk came to the end, and else the fault.
+abbrev pub letter_to : LetterView → Option LetterFault → Result LetterView LetterFault
+letter_to letter None = Ok letter
+letter_to letter (Some why) = Err why
+
+-- This is read from a place on, behind what was read before.
+unfoldable pub letter_on : LetterView → ℕ → List ℕ → Result LetterView LetterFault
+letter_on letter place words =
+    let found =
+    walk first_letter_part None (suc (length words)) place words in letter_to (extended letter found.taken)
+    found.why
+
+-- These items stand before those of the parts, and no mark does.
+abbrev pub opening_letter : Opening → LetterView
+opening_letter opening = record { head = None; items = opening_items opening; marks = [] }
+
+-- A letter that was read behind an opening has its head, and stands before the items that close it.
+abbrev pub and_closing : Opening → Result LetterView LetterFault → Result LetterView LetterFault
+and_closing opening (Ok letter) =
+    Ok (record { head = opening_head opening; items = letter.items ++ closing_items opening; marks = letter.marks })
+and_closing opening (Err why) = Err why
+
+-- This is read behind an opening.
+abbrev pub letter_by : List ℕ → Option Opened → Result LetterView LetterFault
+letter_by words None = Err (fault.Append 1)
+letter_by words (Some found) =
+    and_closing found.opening (letter_on (opening_letter found.opening) (1 + found.count) (drop found.count words))
+
+-- This is read from all of the words.
+abbrev pub letter_of : List ℕ → Result LetterView LetterFault
+letter_of words = letter_by words (opened words)

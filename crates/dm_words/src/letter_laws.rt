@@ -1,0 +1,52 @@
+//! Laws of letters. Each function has an empty body: its contract is the law.
+
+ghost use Rattle.std.specs.Prelude.{◌≡◌, ℕ, ◌≤◌, ◌↔◌, ◌⊎◌, List, [], length, None};
+ghost use Rattle.dm_layout.specs.Sizes.{most_data};
+ghost use Rattle.dm_words.specs.declared.extent.Extent.{Extent};
+ghost use Rattle.dm_words.specs.declared.item.Item.{Item};
+ghost use Rattle.dm_words.specs.declared.profile.Profile.{Profile};
+ghost use Rattle.dm_words.specs.Laws.{AreCodewords};
+ghost use Rattle.dm_words.specs.Designators.{IsDesignator, designator, most_assigned};
+ghost use Rattle.dm_words.specs.Pads.{padded};
+ghost use Rattle.dm_words.specs.Spells.{Spells};
+ghost use Rattle.dm_words.specs.Letters.{LetterView, IsLetter, SpellsLetter};
+ghost use Rattle.dm_words.specs.LetterForm.{letter_form};
+ghost use Rattle.dm_words.specs.LetterResults.{BeginsLateFrame, HasOneLetterResult};
+
+/// A list of codewords, however long, says exactly one letter and is refused with no fault, or is refused with exactly
+/// one fault and says none.
+pub fn one_letter()
+    ensures { (words : List ℕ) → AreCodewords words → HasOneLetterResult words }
+{}
+
+/// Each number of 0 to 999999 has exactly one designator, the one that is written for it.
+pub fn designators_are_read_back()
+    ensures { (words : List ℕ) (number : ℕ) → number ≤ most_assigned
+        → IsDesignator words number ↔ (words ≡ designator number) }
+{}
+
+/// What codewords say is a letter: its head is right, its bytes are 0 to 255, and its marks come in order.
+pub fn said_is_letter()
+    ensures { (words : List ℕ) (l : LetterView) → SpellsLetter words l → IsLetter l }
+{}
+
+/// What codewords spell in the wide extent they say as a letter without a head and marks. And what they say as such a
+/// letter they spell in the wide extent, unless empty runs stand before a macro.
+pub fn wide_is_letter()
+    ensures letter { (words : List ℕ) (m : List Item) → Spells Extent.Wide words m
+        → SpellsLetter words (record { head = None; items = m; marks = [] }) }
+    ensures wide { (words : List ℕ) (m : List Item)
+        → SpellsLetter words (record { head = None; items = m; marks = [] })
+        → Spells Extent.Wide words m ⊎ BeginsLateFrame words }
+{}
+
+/// The normal form of a letter under each profile, with pads up to any number of codewords that holds it and that a
+/// symbol can have, has that many codewords, and they say the letter.
+pub fn letter_form_says()
+    ensures letter { (profile : Profile) (l : LetterView) (count : ℕ) → IsLetter l
+        → length (letter_form profile l) ≤ count → count ≤ most_data
+        → SpellsLetter (padded (letter_form profile l) count) l }
+    ensures count { (profile : Profile) (l : LetterView) (count : ℕ)
+        → length (letter_form profile l) ≤ count
+        → length (padded (letter_form profile l) count) ≡ count }
+{}

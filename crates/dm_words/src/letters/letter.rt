@@ -1,0 +1,137 @@
+//! Letters.
+
+ghost use Rattle.std.specs.Prelude.{◌≡◌, ◌<◌, ◌≤◌, ◌++◌, ◌∷◌, [], length, None, OnOk, OnErr, IfErr, IsOk, ◌↔◌};
+ghost use Rattle.dm_words.specs.Heads.{IsHead};
+ghost use Rattle.dm_words.specs.Letters.{IsLetter, AreMarks, with_mark};
+
+use crate::item::Item;
+use crate::letters::content::Content;
+use crate::letters::designator::MOST_ASSIGNED;
+use crate::letters::head::Head;
+use crate::letters::mark::Mark;
+use crate::limits::{MESSAGE_ROOM, MOST_MARKS};
+use crate::message::Message;
+use std::marker::Model;
+
+/// A head or none, items, and marks: at most `MESSAGE_ROOM` items and `MOST_MARKS` marks, in order, each at a place
+/// of the items. In contracts it is the `LetterView` (`specs/Letters.antt`).
+#[derive(Clone, Debug, Drop, PartialEq, Eq)]
+pub struct Letter {
+    pub(crate) head: Option<Head>,
+    pub(crate) content: Content,
+}
+
+impl Model for Letter {
+    ghost use Rattle.std.specs.Prelude.{length};
+    ghost use Rattle.dm_words.specs.Heads.{IsHead};
+    ghost use Rattle.dm_words.specs.Letters.{LetterView, AreMarks};
+    ghost use Rattle.dm_words.specs.inner.LetterContents.{headed_view};
+
+    ghost Value = { LetterView };
+
+    ghost view = { λ l. headed_view l.head l.content };
+
+    // That the items have bytes of 0 to 255 is known of each message.
+    ghost invariant = { λ l. IsHead l.head
+        × AreMarks 0 (length l.content.message) l.content.marks.items };
+
+    ghost inverse = { λ v. record {
+      head = v.head;
+      content = record { message = v.items; marks = record { items = v.marks } };
+    } };
+}
+
+impl Letter {
+    /// Makes the letter without a head, items and marks.
+    pub fn new() -> Self
+        ensures { result ≡ record { head = None; items = []; marks = [] } }
+    {
+        Letter {
+            head: None,
+            content: Content::new(),
+        }
+    }
+
+    /// Takes the head, all items and all marks away.
+    pub fn clear(&mut self)
+        ensures { self.new ≡ record { head = None; items = []; marks = [] } }
+    {
+        self.head = None;
+        self.content.clear();
+    }
+
+    /// Gives the letter this head, or none. [`Appended::is_right()`](crate::Appended::is_right) says whether the
+    /// numbers of a head are right.
+    pub fn set_head(&mut self, head: Option<Head>)
+        requires { IsHead head }
+        ensures { self.new ≡ record self.old { head = head } }
+    {
+        self.head = head;
+    }
+
+    /// Adds an item at the end. Gives the item back exactly where `MESSAGE_ROOM` are there, and then changes nothing.
+    pub fn push(&mut self, item: Item) -> Result<(), Item>
+        ensures room { IsOk result ↔ (length self.old.items < MESSAGE_ROOM) }
+        ensures added { OnOk result
+            (self.new ≡ record self.old { items = self.old.items ++ item ∷ [] }) }
+        ensures unchanged { OnErr result (self.new ≡ self.old) }
+        ensures given_back { IfErr result (λ i. i ≡ item) }
+    {
+        self.content.message.push(item)
+    }
+
+    /// Adds a mark of this number, 0 to 999999, behind all items that are there. Gives the number back exactly where
+    /// `MOST_MARKS` are there, and then changes nothing.
+    pub fn push_mark(&mut self, number: u32) -> Result<(), u32>
+        requires { number ≤ MOST_ASSIGNED }
+        ensures room { IsOk result ↔ (length self.old.marks < MOST_MARKS) }
+        ensures added { OnOk result (self.new ≡ with_mark self.old number) }
+        ensures unchanged { OnErr result (self.new ≡ self.old) }
+        ensures given_back { IfErr result (λ n. n ≡ number) }
+    {
+        if self.content.marks.is_full() {
+            return Err(number);
+        }
+        self.content.add_mark(number);
+        Ok(())
+    }
+
+    /// Gives the head, `None` where the letter has none.
+    pub fn head(&self) -> Option<Head>
+        ensures value { result ≡ self.now.head }
+        ensures right { IsHead result }
+    {
+        self.head
+    }
+
+    /// Gives the items, in order: at most `MESSAGE_ROOM`, with bytes of 0 to 255.
+    pub fn items(&self) -> &[Item]
+        ensures value { result.now ≡ self.now.items }
+        ensures most { length self.now.items ≤ MESSAGE_ROOM }
+        ensures letter { IsLetter self.now }
+    {
+        self.content.message.items()
+    }
+
+    /// Gives the items, as a message.
+    pub(crate) fn message(&self) -> &Message
+        ensures { result.now ≡ self.now.items }
+    {
+        &self.content.message
+    }
+
+    /// Gives the marks, in order: at most `MOST_MARKS`.
+    pub fn marks(&self) -> &[Mark]
+        ensures value { result.now ≡ self.now.marks }
+        ensures most { length self.now.marks ≤ MOST_MARKS }
+        ensures in_order { AreMarks 0 (length self.now.items) self.now.marks }
+    {
+        self.content.marks.as_slice()
+    }
+}
+
+impl Default for Letter {
+    fn default() -> Self {
+        Letter::new()
+    }
+}

@@ -1,0 +1,182 @@
+//! The normal form of a letter under a profile: its data codewords, without pads.
+
+ghost use Rattle.std.specs.Prelude.{◌≡◌, ◌+◌, ◌*◌, ◌≤◌, ◌++◌, ◌∷◌, length, OnErr};
+ghost use Rattle.dm_words.specs.Ascii.{ascii};
+ghost use Rattle.dm_words.specs.Designators.{eci_word, designator};
+ghost use Rattle.dm_words.specs.Heads.{IsHead, head_words};
+ghost use Rattle.dm_words.specs.Letters.{AreMarks};
+ghost use Rattle.dm_words.specs.LetterForm.{IsLetterFormResult, marked_ascii};
+ghost use Rattle.dm_words.specs.Outcomes.{outcome};
+ghost use Rattle.dm_words.specs.inner.MarkedForms.{IsMarkedResult, is_plain};
+
+use crate::ascii::{ascii_form, unit_at, write_unit};
+use crate::fault::TooLong;
+use crate::item::Item;
+use crate::letters::designator::{ECI, MOST_ASSIGNED, designator_words};
+use crate::letters::head::{Head, head_words};
+use crate::letters::letter::Letter;
+use crate::letters::mark::Mark;
+use crate::limits::{MESSAGE_ROOM, MOST_MARKS};
+use crate::normal_form::normal_words_to;
+use crate::profile::Profile;
+use arrayvec::ArrayVec;
+use dm_layout::MOST_DATA;
+
+/// Gives how many codewords a mark of this number has: ECI and the designator.
+fn mark_length(number: u32) -> usize
+    ensures value { result ≡ length (eci_word ∷ designator number) }
+    ensures most { result ≤ 4 }
+{
+    if number < 127 {
+        2
+    } else if number < 16383 {
+        3
+    } else {
+        4
+    }
+}
+
+/// Gives how many codewords items with marks have: the items in ASCII from mark to mark, and the marks.
+fn marked_length(items: &[Item], marks: &[Mark]) -> usize
+    requires few { length items.now ≤ MESSAGE_ROOM }
+    requires few_marks { length marks.now ≤ MOST_MARKS }
+    requires in_order { AreMarks 0 (length items.now) marks.now }
+    ensures value { result ≡ length (marked_ascii 0 items.now marks.now) }
+    ensures most { result ≤ 2 * MESSAGE_ROOM + 4 * MOST_MARKS }
+{
+    let mut length = 0;
+    let mut before = 0;
+    for mark in marks {
+        let place = mark.place as usize;
+        length += ascii_form(&items[before..place]).length + mark_length(mark.number);
+        before = place;
+    }
+    length + ascii_form(&items[before..]).length
+}
+
+/// Adds codewords, where there is room.
+fn add_words(more: &[u8], words: &mut ArrayVec<u8, MOST_DATA>)
+    requires { length words.old.items + length more.now ≤ MOST_DATA }
+    ensures { words.new.items ≡ words.old.items ++ more.now }
+{
+    let _room = words.try_extend_from_slice(more);
+}
+
+/// Adds the ASCII codewords of items.
+fn add_ascii(items: &[Item], words: &mut ArrayVec<u8, MOST_DATA>)
+    requires { length words.old.items + length (ascii items.now) ≤ MOST_DATA }
+    ensures { words.new.items ≡ words.old.items ++ ascii items.now }
+{
+    let mut at = 0;
+    while at < items.len() {
+        let unit = unit_at(items, at);
+        at += write_unit(unit, words);
+    }
+}
+
+/// Adds ECI and the designator of a number.
+fn add_mark_words(number: u32, words: &mut ArrayVec<u8, MOST_DATA>)
+    requires assigned { number ≤ MOST_ASSIGNED }
+    requires room { length words.old.items + length (eci_word ∷ designator number) ≤ MOST_DATA }
+    ensures { words.new.items ≡ words.old.items ++ (eci_word ∷ designator number) }
+{
+    words.push(ECI);
+    add_words(designator_words(number).as_slice(), words);
+}
+
+/// Adds items with marks: the items in ASCII from mark to mark, and the marks.
+fn add_marked(items: &[Item], marks: &[Mark], words: &mut ArrayVec<u8, MOST_DATA>)
+    requires in_order { AreMarks 0 (length items.now) marks.now }
+    requires room { length words.old.items + length (marked_ascii 0 items.now marks.now)
+        ≤ MOST_DATA }
+    ensures { words.new.items ≡ words.old.items ++ marked_ascii 0 items.now marks.now }
+{
+    let mut before = 0;
+    for mark in marks {
+        let place = mark.place as usize;
+        add_ascii(&items[before..place], words);
+        add_mark_words(mark.number, words);
+        before = place;
+    }
+    add_ascii(&items[before..], words);
+}
+
+/// Gives how many codewords a head has.
+pub(crate) fn head_words_length(head: Option<Head>) -> usize
+    ensures value { result ≡ length (head_words head) }
+    ensures most { result ≤ 4 }
+{
+    match head {
+        None => 0,
+        Some(Head::Programming) => 1,
+        Some(Head::Appended(_)) => 4,
+    }
+}
+
+/// Whether there is no head and no mark.
+fn is_plain(head: Option<Head>, marks: &[Mark]) -> bool
+    ensures { result ≡ is_plain head marks.now }
+{
+    match head {
+        None => marks.is_empty(),
+        Some(_) => false,
+    }
+}
+
+/// Writes a head, and items with marks, into the target, where they are at most `MOST_DATA` codewords; otherwise
+/// changes nothing.
+fn write_marked(
+    head: Option<Head>,
+    items: &[Item],
+    marks: &[Mark],
+    words: &mut ArrayVec<u8, MOST_DATA>,
+) -> Result<(), TooLong>
+    requires head { IsHead head }
+    requires few { length items.now ≤ MESSAGE_ROOM }
+    requires few_marks { length marks.now ≤ MOST_MARKS }
+    requires in_order { AreMarks 0 (length items.now) marks.now }
+    ensures form { IsMarkedResult (head_words head ++ marked_ascii 0 items.now marks.now)
+        (outcome result words.new) }
+    ensures same { OnErr result (words.new.items ≡ words.old.items) }
+{
+    let length = head_words_length(head) + marked_length(items, marks);
+    if length > MOST_DATA {
+        return Err(TooLong);
+    }
+    words.clear();
+    add_words(head_words(head).as_slice(), words);
+    add_marked(items, marks, words);
+    Ok(())
+}
+
+/// Gives the codewords of a letter under a profile, without pads. Those of a letter without a head and marks are the
+/// codewords of its items, as [`normal_words()`](crate::normal_words) gives them. Those of another letter are its
+/// head's, and its items in ASCII from mark to mark with each mark at its place, as ECI and the designator.
+/// `TooLong` exactly where they are more than `MOST_DATA`.
+pub fn letter_words(profile: Profile, letter: &Letter) -> Result<ArrayVec<u8, MOST_DATA>, TooLong>
+    ensures { IsLetterFormResult profile letter.now result }
+{
+    let mut words = ArrayVec::new();
+    match letter_words_to(profile, letter, &mut words) {
+        Ok(()) => Ok(words),
+        Err(TooLong) => Err(TooLong),
+    }
+}
+
+/// Does the same as [`letter_words()`] in a target: after `Ok`, `words` holds these codewords, whatever it held
+/// before. After `TooLong` it holds what it held before.
+pub fn letter_words_to(
+    profile: Profile,
+    letter: &Letter,
+    words: &mut ArrayVec<u8, MOST_DATA>,
+) -> Result<(), TooLong>
+    ensures form { IsLetterFormResult profile letter.now (outcome result words.new) }
+    ensures same { OnErr result (words.new.items ≡ words.old.items) }
+{
+    let head = letter.head();
+    let marks = letter.marks();
+    if is_plain(head, marks) {
+        return normal_words_to(profile, letter.message(), words);
+    }
+    write_marked(head, letter.items(), marks, words)
+}

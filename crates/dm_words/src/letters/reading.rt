@@ -1,0 +1,202 @@
+//! Reading: the letter that data codewords say, or the fault with which they are refused.
+
+ghost use Rattle.std.specs.Prelude.{◌≡◌, ◌+◌, ◌*◌, ◌≤◌, ◌<◌, ◌++◌, [], length, drop, None, Some, OnOk, OnErr};
+ghost use Rattle.dm_words.specs.Letters.{AreMarks, BeginNoEci, opening_head, opening_items, closing_items};
+ghost use Rattle.dm_words.specs.LetterResults.{IsLetterResult};
+ghost use Rattle.dm_words.specs.Outcomes.{outcome};
+ghost use Rattle.dm_words.specs.inner.LetterScan.{first_designator, mark_by, first_letter_part, letter_on, letter_by};
+ghost use Rattle.dm_words.specs.inner.LetterScan.{opened};
+ghost use Rattle.dm_words.specs.inner.LetterContents.{content_view, headed_view, headed_outcome, IsContentAt};
+ghost use Rattle.dm_words.specs.inner.LetterContents.{IsLetterPartTaken};
+
+use crate::extent::Extent;
+use crate::letters::content::Content;
+use crate::letters::designator::{ECI, first_designator};
+use crate::letters::fault::LetterFault;
+use crate::letters::head::Head;
+use crate::letters::letter::Letter;
+use crate::letters::opening::{Opened, Opening, opening_of};
+use crate::limits::MESSAGE_ROOM;
+use crate::macros::{add_header, add_trailer};
+use crate::message::Message;
+use crate::numbers::number_at;
+use crate::reading::next_part;
+use dm_layout::MOST_DATA;
+
+/// Takes the mark whose ECI stands at an index: adds it, and gives the number of its codewords.
+fn mark_part(words: &[u8], at: usize, content: &mut Content) -> Result<Option<usize>, LetterFault>
+    requires in_range { at < length words.now }
+    requires short { length words.now ≤ MOST_DATA }
+    requires so_far { IsContentAt at content.old }
+    ensures { IsLetterPartTaken result (content_view content.old) (content_view content.new)
+        (mark_by (at + 1) (first_designator (drop (at + 1) words.now))) }
+{
+    match first_designator(&words[at + 1..]) {
+        Some(designator) => {
+            content.add_mark(designator.number);
+            Ok(Some(1 + designator.count))
+        }
+        None => Err(LetterFault::Designator(at as u16 + 1)),
+    }
+}
+
+/// Takes the part at an index, which isn't a mark: adds its items, and gives the number of its codewords; `None` at
+/// the end.
+fn item_part(words: &[u8], at: usize, content: &mut Content) -> Result<Option<usize>, LetterFault>
+    requires in_range { at ≤ length words.now }
+    requires short { length words.now ≤ MOST_DATA }
+    requires so_far { IsContentAt at content.old }
+    requires other { BeginNoEci (drop at words.now) }
+    ensures { IsLetterPartTaken result (content_view content.old) (content_view content.new)
+        (first_letter_part (at + 1) (drop at words.now)) }
+{
+    match next_part(Extent::Wide, words, at, &mut content.message) {
+        Ok(count) => Ok(count),
+        Err(fault) => Err(LetterFault::Word(fault)),
+    }
+}
+
+/// Takes the part at an index: adds what it says, and gives the number of its codewords; `None` at the end.
+pub(crate) fn next_letter_part(
+    words: &[u8],
+    at: usize,
+    content: &mut Content,
+) -> Result<Option<usize>, LetterFault>
+    requires in_range { at ≤ length words.now }
+    requires short { length words.now ≤ MOST_DATA }
+    requires so_far { IsContentAt at content.old }
+    ensures { IsLetterPartTaken result (content_view content.old) (content_view content.new)
+        (first_letter_part (at + 1) (drop at words.now)) }
+{
+    match number_at(words, at) {
+        Some(ECI) => mark_part(words, at, content),
+        _ => item_part(words, at, content),
+    }
+}
+
+/// Adds what all parts from an index on say, up to the end.
+fn add_letter_parts(words: &[u8], start: usize, content: &mut Content) -> Result<(), LetterFault>
+    requires in_range { start ≤ length words.now }
+    requires short { length words.now ≤ MOST_DATA }
+    requires so_far { IsContentAt start content.old }
+    ensures read { outcome result (content_view content.new)
+        ≡ letter_on (content_view content.old) (start + 1) (drop start words.now) }
+    ensures two_for_each_codeword { OnOk result (length content.new.message + 2 * start
+        ≤ length content.old.message + 2 * length words.now) }
+    ensures marks { OnOk result (2 * length content.new.marks.items ≤ length words.now) }
+    ensures in_order { OnOk result
+        (AreMarks 0 (length content.new.message) content.new.marks.items) }
+{
+    let mut at = start;
+    while let Some(count) = next_letter_part(words, at, content)? {
+        at += count;
+    }
+    Ok(())
+}
+
+/// Adds the items that stand before those of the parts.
+fn add_opening(opening: Opening, message: &mut Message)
+    requires { length message.old + 7 ≤ MESSAGE_ROOM }
+    ensures { message.new ≡ message.old ++ opening_items opening }
+{
+    match opening {
+        Opening::Framed(digit) => add_header(digit, message),
+        Opening::Plain | Opening::Headed(_) => {}
+    }
+}
+
+/// Adds the items that stand behind those of the parts.
+fn add_closing(opening: Opening, message: &mut Message)
+    requires { length message.old + 2 ≤ MESSAGE_ROOM }
+    ensures { message.new ≡ message.old ++ closing_items opening }
+{
+    match opening {
+        Opening::Framed(_) => add_trailer(message),
+        Opening::Plain | Opening::Headed(_) => {}
+    }
+}
+
+/// Gives the head that an opening says.
+fn opening_head(opening: Opening) -> Option<Head>
+    ensures { result ≡ opening_head opening }
+{
+    match opening {
+        Opening::Headed(head) => Some(head),
+        Opening::Plain | Opening::Framed(_) => None,
+    }
+}
+
+/// Adds what an opening and all parts behind it say to what has no item and no mark.
+fn read_behind(words: &[u8], found: Opened, content: &mut Content) -> Result<(), LetterFault>
+    requires found { opened words.now ≡ Some found }
+    requires short { length words.now ≤ MOST_DATA }
+    requires no_item { content.old.message ≡ [] }
+    requires no_mark { content.old.marks.items ≡ [] }
+    ensures read { outcome result (headed_view (opening_head found.opening) content.new)
+        ≡ letter_by words.now (Some found) }
+    ensures most { OnOk result (length content.new.message ≤ 2 * length words.now + 7) }
+    ensures marks { OnOk result (2 * length content.new.marks.items ≤ length words.now) }
+    ensures in_order { OnOk result
+        (AreMarks 0 (length content.new.message) content.new.marks.items) }
+{
+    add_opening(found.opening, &mut content.message);
+    add_letter_parts(words, found.count, content)?;
+    add_closing(found.opening, &mut content.message);
+    Ok(())
+}
+
+/// Reads the words into the content, whatever it held before, and gives the head. After a fault the content is empty.
+fn read_content(words: &[u8], content: &mut Content) -> Result<Option<Head>, LetterFault>
+    requires { length words.now ≤ MOST_DATA }
+    ensures letter { IsLetterResult words.now (headed_outcome result content.new) }
+    ensures no_item { OnErr result (content.new.message ≡ []) }
+    ensures no_mark { OnErr result (content.new.marks.items ≡ []) }
+{
+    content.clear();
+    let Some(found) = opening_of(words) else {
+        return Err(LetterFault::Append(1));
+    };
+    match read_behind(words, found, content) {
+        Ok(()) => Ok(opening_head(found.opening)),
+        Err(fault) => {
+            content.clear();
+            Err(fault)
+        }
+    }
+}
+
+/// Gives the letter that the data codewords of a symbol say, or the fault with which they are refused. The list is
+/// the whole data part, at most `MOST_DATA` codewords, so its end is the end of the symbol. It is read as
+/// [`message_of_as()`](crate::message_of_as) reads at [`Extent::Wide`], and with ECI, structured append and reader
+/// programming; a macro may stand behind empty runs of C40, Text or X12 too. `LetterFault` says when each fault
+/// comes. ISO/IEC 16022, ECI encodation, structured append, reader programming.
+pub fn letter_of(words: &[u8]) -> Result<Letter, LetterFault>
+    requires { length words.now ≤ MOST_DATA }
+    ensures { IsLetterResult words.now result }
+{
+    let mut letter = Letter::new();
+    match letter_to(words, &mut letter) {
+        Ok(()) => Ok(letter),
+        Err(fault) => Err(fault),
+    }
+}
+
+/// Does the same as [`letter_of()`] in a target: after `Ok`, `letter` holds the letter, whatever it held before.
+/// After a fault it has no head, no item and no mark.
+pub fn letter_to(words: &[u8], letter: &mut Letter) -> Result<(), LetterFault>
+    requires { length words.now ≤ MOST_DATA }
+    ensures read { IsLetterResult words.now (outcome result letter.new) }
+    ensures emptied { OnErr result
+        (letter.new ≡ record { head = None; items = []; marks = [] }) }
+{
+    match read_content(words, &mut letter.content) {
+        Ok(head) => {
+            letter.head = head;
+            Ok(())
+        }
+        Err(fault) => {
+            letter.head = None;
+            Err(fault)
+        }
+    }
+}
