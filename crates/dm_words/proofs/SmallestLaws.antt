@@ -42,5 +42,5 @@ normal_is_no_shorter extent profile m words count fit s sized room =
     let long = normal_form_count profile m count room in
     let least = s.smallest (padded (normal_form profile m) count) (subst IsDataCount (sym long) sized)
     (let most = count_most count sized in
-        normal_form_spells extent profile m count fit room (omega (arith, most))) in
+    normal_form_spells extent profile m count fit room (omega (arith, most))) in
     omega (arith, least, long)
