@@ -1,14 +1,14 @@
 -- The designator that is found first is the one of the definition, and each number has one.
-use Rattle.std.proofs.Common.{◌≡◌, ℕ, zero, suc, ◌+◌, ◌-◌, ◌*◌, ◌/◌, ◌%◌, ◌<◌, ◌≤◌, List, [], ◌∷◌, ◌++◌, length, drop}
+use Rattle.std.proofs.Common.{◌≡◌, ℕ, ◌+◌, ◌-◌, ◌*◌, ◌/◌, ◌%◌, ◌<◌, ◌≤◌, List, [], ◌∷◌, ◌++◌, length, drop}
 use Rattle.std.proofs.Common.{refl, sym, ap, subst, ◌∙◌, arith, length-append, Bool, true, false, cond, leb, ltb}
 use Rattle.std.proofs.Common.{◌&&◌, Option, Some, None}
 use Rattle.std.specs.Prelude.{◌↔◌, slice_get, IfSome, IfNone, ◌==◌}
 use Rattle.std.proofs.lemmas.Bool.Decides.{nat_tests}
 use Rattle.std.proofs.lemmas.List.{drop_at}
 use Rattle.dm_words.specs.declared.letters.designator.Designator.{Designator}
-use Rattle.dm_words.specs.Designators.{most_assigned, IsFurther, IsDesignator, one, two, three, BeginsDesignator}
+use Rattle.dm_words.specs.Designators.{most_assigned, IsDesignator, one, two, three, BeginsDesignator}
 use Rattle.dm_words.specs.Designators.{BeginsNoDesignator, designator}
-use Rattle.dm_words.specs.inner.LetterScan.{is_further, within_assigned, two_words, three_words, designator_by}
+use Rattle.dm_words.specs.inner.LetterScan.{is_further, two_words, three_words}
 use Rattle.dm_words.specs.inner.LetterScan.{first_designator}
 
 -- A designator that is there is found.

@@ -1,8 +1,8 @@
 -- The head that is found first is the one of the definition, and what is written for a head says it.
-use Rattle.std.proofs.Common.{◌≡◌, ℕ, zero, suc, ◌+◌, ◌-◌, ◌*◌, ◌/◌, ◌%◌, ◌<◌, ◌≤◌, ◌↔◌, List, [], ◌∷◌, ◌++◌, length}
-use Rattle.std.proofs.Common.{drop, refl, sym, ap, subst, ◌∙◌, arith, length-append, Bool, true, false, cond, leb}
-use Rattle.std.proofs.Common.{ltb, ◌&&◌, Option, Some, None}
-use Rattle.std.specs.Prelude.{slice_get, IfSome, IfNone, IsTrue, ◌==◌}
+use Rattle.std.proofs.Common.{◌≡◌, ℕ, ◌+◌, ◌-◌, ◌*◌, ◌/◌, ◌%◌, ◌≤◌, List, [], ◌∷◌, ◌++◌, length}
+use Rattle.std.proofs.Common.{drop, refl, sym, ap, subst, ◌∙◌, arith, Bool, true, false, cond}
+use Rattle.std.proofs.Common.{Option, Some, None}
+use Rattle.std.specs.Prelude.{slice_get, IfSome, IfNone, ◌==◌}
 use Rattle.std.proofs.lemmas.Bool.Decides.{nat_tests}
 use Rattle.std.proofs.lemmas.List.{drop_at}
 use Rattle.dm_words.specs.declared.letters.head.Appended.{Appended}
@@ -10,7 +10,7 @@ use Rattle.dm_words.specs.declared.letters.head.Head.{Head}
 use Rattle.dm_words.specs.declared.letters.head.Head.TheVariants as head
 use Rattle.dm_words.specs.Heads.{IsAppended, IsHead, SpellsHead, programming, appended, BeginsHead, BeginsNoHead}
 use Rattle.dm_words.specs.Heads.{head_words}
-use Rattle.dm_words.specs.inner.LetterScan.{is_appended, appended_symbol, append_by, head_by, first_head, head_length}
+use Rattle.dm_words.specs.inner.LetterScan.{is_appended, appended_symbol, append_by, first_head, head_length}
 
 -- The test finds a symbol of a sequence.
 pub appended_test : (symbol : Appended) → is_appended symbol ≡ true → IsAppended symbol
@@ -34,14 +34,6 @@ appended_meets s a =
     let c = a.counted in let w = a.within in let m = a.some in let n = a.most in
     let p = a.high_some in let q = a.high_most in let r = a.low_some in let t = a.low_most in
     grind (arith, nat_tests)
-
--- What meets the test is what is right.
-pub test_is : (symbol : Appended) (b : Bool) → IsTrue b ↔ IsAppended symbol → b ≡ is_appended symbol
-test_is s true right = sym (appended_meets s (right.0 refl))
-test_is s false right = by_test (is_appended s) refl where
-  by_test : (t : Bool) → is_appended s ≡ t → false ≡ is_appended s
-  by_test true e = (let h = right.1 (appended_test s e) in absurd cc)
-  by_test false e = sym e
 
 -- A head that is there is found.
 pub head_complete : (words more : List ℕ) (said : Head) → SpellsHead words said → first_head (words ++ more) ≡ Some said

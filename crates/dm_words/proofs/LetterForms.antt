@@ -1,14 +1,13 @@
 -- The normal form of a letter says it.
-use Rattle.std.proofs.Common.{◌≡◌, ℕ, zero, suc, ◌+◌, ◌-◌, ◌≤◌, ◌<◌, List, [], ◌∷◌, ◌++◌, length, take, drop, refl}
+use Rattle.std.proofs.Common.{◌≡◌, ℕ, zero, suc, ◌+◌, ◌-◌, ◌≤◌, List, [], ◌∷◌, ◌++◌, length, take, drop, refl}
 use Rattle.std.proofs.Common.{sym, subst, ap, ◌∙◌, append_assoc, arith, length-append, Option, Some, None}
 use Rattle.std.specs.List.{AllByRecursion}
 use Rattle.std.proofs.lemmas.List.{append-nil, length-take, length-drop, take-append-drop}
-use Rattle.std.proofs.lemmas.List.Elements.{recursion_from_All, All-from_recursion}
+use Rattle.std.proofs.lemmas.List.Elements.{recursion_from_All}
 use Rattle.dm_layout.specs.Sizes.{most_data}
 use Rattle.dm_words.specs.declared.extent.Extent.TheVariants.{Wide}
 use Rattle.dm_words.specs.declared.item.Item.{Item}
 use Rattle.dm_words.specs.declared.letters.head.Head.{Head}
-use Rattle.dm_words.specs.declared.letters.head.Head.TheVariants as head
 use Rattle.dm_words.specs.declared.letters.mark.Mark.{Mark}
 use Rattle.dm_words.specs.declared.letters.opening.Opening.TheVariants.{Headed}
 use Rattle.dm_words.specs.declared.profile.Profile.{Profile}
@@ -17,12 +16,12 @@ use Rattle.dm_words.specs.Ascii.{IsAsciiUnit, ascii}
 use Rattle.dm_words.specs.Joined.{Piece, spelled, gathered, whats, AreJoined}
 use Rattle.dm_words.specs.Pads.{pads, padded}
 use Rattle.dm_words.specs.Spells.{ascii as ascii_part}
-use Rattle.dm_words.specs.Designators.{most_assigned, designator}
+use Rattle.dm_words.specs.Designators.{designator}
 use Rattle.dm_words.specs.Heads.{IsHead, head_words}
 use Rattle.dm_words.specs.Letters.{LetterView, AreMarks, IsLetter, Said, Items, Number, IsLetterPart, part, mark}
 use Rattle.dm_words.specs.Letters.{AreLetterParts, said_items, said_marks, headed, SpellsLetter}
 use Rattle.dm_words.specs.LetterForm.{mark_words, marked_ascii, form_by, letter_form}
-use Rattle.dm_words.proofs.AsciiWords.{AreItems, HasUnits, units_of, pads_end}
+use Rattle.dm_words.proofs.AsciiWords.{AreItems, units_of, pads_end}
 use Rattle.dm_words.proofs.Designators.{designator_says}
 use Rattle.dm_words.proofs.Heads.{head_says}
 use Rattle.dm_words.proofs.NormalForms.{normal_form_spells}

@@ -1,28 +1,23 @@
 -- The loop that reads one part of a letter after the other.
 use Rattle.std.proofs.Common.{◌≡◌, ℕ, suc, ◌+◌, ◌*◌, ◌<◌, ◌≤◌, List, [], ◌∷◌, ◌++◌, length, take, drop, refl, sym, ap}
-use Rattle.std.proofs.Common.{subst, ◌∙◌, append_assoc, arith, length-append, Option, Some, None, Result, Ok, Err}
+use Rattle.std.proofs.Common.{subst, ◌∙◌, append_assoc, arith, length-append, Option, Some, None, Result, Ok}
 use Rattle.std.proofs.lemmas.List.{append-nil, length-drop, length-take, drop-drop}
 use Rattle.dm_words.specs.declared.extent.Extent.TheVariants.{Wide}
-use Rattle.dm_words.specs.declared.item.Item.{Item}
-use Rattle.dm_words.specs.declared.fault.WordFault.{WordFault}
 use Rattle.dm_words.specs.declared.letters.content.Content.{Content}
 use Rattle.dm_words.specs.declared.letters.designator.Designator.{Designator}
 use Rattle.dm_words.specs.declared.letters.fault.LetterFault.{LetterFault}
-use Rattle.dm_words.specs.declared.letters.fault.LetterFault.TheVariants as fault
 use Rattle.dm_words.specs.declared.letters.mark.Mark.{Mark}
 use Rattle.dm_words.specs.Designators.{most_assigned, IsDesignator, one, two, three}
-use Rattle.dm_words.specs.Letters.{LetterView, AreMarks, Said, Items, Number, IsLetterPart, part, mark, said_items}
-use Rattle.dm_words.specs.Letters.{said_marks, BeginNoEci}
-use Rattle.dm_words.specs.inner.Scan.Walk.{Step, Takes, Stops, walk}
-use Rattle.dm_words.specs.inner.Scan.Prefixes.{first_part}
-use Rattle.dm_words.specs.inner.Scan.Results.{HasRoomAt, IsPartTakenOrEnd}
-use Rattle.dm_words.specs.inner.LetterScan.{first_designator, as_said, mark_by, first_letter_part, with_said}
+use Rattle.dm_words.specs.Letters.{LetterView, Said, Items, Number, IsLetterPart, part, mark, said_items}
+use Rattle.dm_words.specs.Letters.{said_marks}
+use Rattle.dm_words.specs.inner.Scan.Walk.{Takes, Stops, walk}
+use Rattle.dm_words.specs.inner.LetterScan.{mark_by, first_letter_part, with_said}
 use Rattle.dm_words.specs.inner.LetterScan.{extended, letter_to, letter_on}
 use Rattle.dm_words.specs.inner.LetterContents.{content_view, IsContentAt, IsLetterPartTaken}
 use Rattle.dm_words.proofs.Walks.{walk-fuel}
 use Rattle.dm_words.proofs.Pairs.{IsBytes}
 use Rattle.dm_words.proofs.Parts.{room_of}
-use Rattle.dm_words.proofs.LetterParts.{letter_part_sound, as_part}
+use Rattle.dm_words.proofs.LetterParts.{letter_part_sound}
 use Rattle.dm_words.proofs.SaidLetters.{assigned}
 use Rattle.dm_words.proofs.Marks.{more_items, one_more}
 
@@ -75,10 +70,6 @@ room_by : (place : ℕ) (words after : List ℕ) (said : Said) → IsLetterPart 
 room_by place words after said (part items p is) = rw is (room_of Wide place words after items p)
 room_by place words after said (mark d number e whole is) =
     rw is (omega (arith, ap length whole, designator_some d number e), assigned d number e)
-
--- A content that is a view of another one.
-abbrev View : List Item → List Mark → LetterView
-View items marks = record { head = None; items = items; marks = marks }
 
 -- What is known after a part was taken: the room that is left.
 stays : (at n : ℕ) (old new : Content) (said : Said) → IsContentAt at old → HasRoom n said → 0 < n → content_view new
@@ -157,32 +148,6 @@ stops_on words at old why total e so_far = sym so_far
     ∙ letter_on-stops (content_view old) (at + 1) (drop at words) why e
 
 -- ---- one part
-
--- What was taken as a part of a message was taken as a part of a letter.
-taken_by : (o : Option ℕ) (old new : List Item) (marks : List Mark) (step : Step (List Item) (Option WordFault))
-    → IsPartTakenOrEnd (Ok o) old new step
-    → IsLetterPartTaken (Ok o) (View old marks) (View new marks) (as_said step)
-taken_by None old new marks step t = (ap as_said t.0, ap (λ (items : List Item). View items marks) t.1)
-taken_by (Some n) old new marks step t = (Items t.0, ap as_said t.1, ap (λ (items : List Item). View items marks) t.2)
-
--- Where the words don't begin with ECI, a part of a letter is one of a message.
-not_eci : (place : ℕ) (words : List ℕ) → BeginNoEci words → first_letter_part place words
-    ≡ as_said (first_part Wide place words)
-not_eci place [] none = refl
-not_eci place (w ∷ more) none = as_part place w more (λ is. none more (ap (λ (x : ℕ). x ∷ more) is))
-
--- A part of a message is taken.
-pub item_taken : (place : ℕ) (words : List ℕ) (o : Option ℕ) (old new : List Item) (marks : List Mark)
-    → BeginNoEci words
-    → IsPartTakenOrEnd (Ok o) old new (first_part Wide place words)
-    → IsLetterPartTaken (Ok o) (View old marks) (View new marks) (first_letter_part place words)
-item_taken place words o old new marks none t =
-    rw (not_eci place words none) (taken_by o old new marks (first_part Wide place words) t)
-
--- A fault of a message is found.
-pub fault_taken : (place : ℕ) (words : List ℕ) (f : WordFault) → BeginNoEci words → first_part Wide place words
-    ≡ Stops (Some f) → first_letter_part place words ≡ Stops (Some (fault.Word f))
-fault_taken place words f none e = not_eci place words none ∙ ap as_said e
 
 -- Behind ECI, a mark is taken.
 pub mark_taken : (place : ℕ) (d : Designator) (old new : Content) → new.message ≡ old.message

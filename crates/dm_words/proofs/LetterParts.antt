@@ -1,20 +1,17 @@
 -- The part of a letter that the scan finds first is the part of the definition that begins there.
-use Rattle.std.proofs.Common.{◌≡◌, ◌≢◌, ℕ, zero, suc, ◌+◌, ◌*◌, ◌<◌, ◌≤◌, List, [], ◌∷◌, ◌++◌, length, take, drop}
-use Rattle.std.proofs.Common.{refl, sym, ap, subst, ◌∙◌, arith, length-append, Bool, true, false, cond, Option, Some}
+use Rattle.std.proofs.Common.{◌≡◌, ℕ, ◌+◌, ◌<◌, ◌≤◌, List, [], ◌∷◌, ◌++◌, length, take, drop}
+use Rattle.std.proofs.Common.{refl, ap, subst, ◌∙◌, arith, length-append, Bool, true, false, cond, Option, Some}
 use Rattle.std.proofs.Common.{None}
 use Rattle.std.specs.Prelude.{◌==◌}
 use Rattle.std.proofs.lemmas.Bool.Decides.{nat_tests}
-use Rattle.std.proofs.lemmas.List.{drop_at}
 use Rattle.dm_words.specs.declared.codeword.Codeword.TheVariants as codeword
 use Rattle.dm_words.specs.declared.extent.Extent.TheVariants.{Wide}
 use Rattle.dm_words.specs.declared.item.Item.{Item}
 use Rattle.dm_words.specs.declared.fault.WordFault.{WordFault}
-use Rattle.dm_words.specs.declared.fault.WordFault.TheVariants as word_fault
 use Rattle.dm_words.specs.declared.letters.designator.Designator.{Designator}
 use Rattle.dm_words.specs.declared.letters.fault.LetterFault.{LetterFault}
 use Rattle.dm_words.specs.declared.letters.fault.LetterFault.TheVariants as fault
 use Rattle.dm_words.specs.Codewords.{codeword_of}
-use Rattle.dm_words.specs.Designators.{eci_word, BeginsNoDesignator}
 use Rattle.dm_words.specs.Spells.{IsEnd, nothing, pad}
 use Rattle.dm_words.specs.Letters.{Said, Items, Number, IsLetterPart, part, mark, BeginNoEci, IsLetterFault}
 use Rattle.dm_words.specs.Letters.{designator, word}

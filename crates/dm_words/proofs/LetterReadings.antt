@@ -1,23 +1,20 @@
 -- What the calls that read a letter leave.
-use Rattle.std.proofs.Common.{◌≡◌, ℕ, zero, suc, ◌+◌, ◌*◌, ◌≤◌, List, [], ◌∷◌, ◌++◌, length, drop, refl, sym, ap}
-use Rattle.std.proofs.Common.{subst, ◌∙◌, arith, length-append, Option, Some, None, Result, Ok, Err}
-use Rattle.std.specs.Prelude.{IfOk, OnOk, OnErr}
+use Rattle.std.proofs.Common.{◌≡◌, ℕ, ◌+◌, ◌*◌, ◌≤◌, List, [], ◌∷◌, ◌++◌, length, refl, sym, ap}
+use Rattle.std.proofs.Common.{subst, ◌∙◌, arith, length-append, Option, Some, Result, Ok, Err}
+use Rattle.std.specs.Prelude.{IfOk}
 use Rattle.dm_words.specs.declared.extent.Extent.TheVariants.{Wide}
 use Rattle.dm_words.specs.declared.item.Item.{Item}
 use Rattle.dm_words.specs.declared.letters.content.Content.{Content}
 use Rattle.dm_words.specs.declared.letters.fault.LetterFault.{LetterFault}
-use Rattle.dm_words.specs.declared.letters.head.Head.{Head}
-use Rattle.dm_words.specs.declared.letters.mark.Mark.{Mark}
 use Rattle.dm_words.specs.declared.letters.opening.Opened.{Opened}
 use Rattle.dm_words.specs.declared.letters.opening.Opening.{Opening}
 use Rattle.dm_words.specs.declared.letters.opening.Opening.TheVariants.{Plain, Headed, Framed}
 use Rattle.dm_words.specs.Messages.{most_spelled}
-use Rattle.dm_words.specs.Outcomes.{outcome}
-use Rattle.dm_words.specs.Letters.{LetterView, IsLetter, AreMarks, AreFrame, IsOpening, headed, framed, plain}
-use Rattle.dm_words.specs.Letters.{opening_head, opening_items, closing_items}
+use Rattle.dm_words.specs.Letters.{LetterView, AreMarks, IsOpening, headed, framed, plain}
+use Rattle.dm_words.specs.Letters.{opening_items, closing_items}
 use Rattle.dm_words.specs.LetterResults.{IsLetterResult}
-use Rattle.dm_words.specs.inner.LetterScan.{opened, letter_on, opening_letter, and_closing, letter_by, letter_of}
-use Rattle.dm_words.specs.inner.LetterContents.{headed_view, content_view, headed_outcome, IsContentAt}
+use Rattle.dm_words.specs.inner.LetterScan.{opened, opening_letter, letter_of}
+use Rattle.dm_words.specs.inner.LetterContents.{content_view, IsContentAt}
 use Rattle.dm_words.proofs.Pairs.{IsBytes}
 use Rattle.dm_words.proofs.Openings as openings
 use Rattle.dm_words.proofs.Openings.{OpeningJudged}

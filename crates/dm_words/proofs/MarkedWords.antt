@@ -1,6 +1,6 @@
 -- The loops that count and write items with marks.
 use Rattle.std.proofs.Common.{Bool, true, false, Option, Some, None, Result}
-use Rattle.std.proofs.Common.{◌≡◌, ℕ, suc, ◌+◌, ◌-◌, ◌*◌, ◌<◌, ◌≤◌, List, [], ◌∷◌, ◌++◌, length, take, drop, get_or}
+use Rattle.std.proofs.Common.{◌≡◌, ℕ, ◌+◌, ◌-◌, ◌*◌, ◌<◌, ◌≤◌, List, [], ◌∷◌, ◌++◌, length, take, drop, get_or}
 use Rattle.std.proofs.Common.{refl, sym, ap, subst, ◌∙◌, append_assoc, arith, length-append}
 use Rattle.std.proofs.lemmas.List.{append-nil, at_drop_more, at_drop_all, drop-drop, take_rest, length-take}
 use Rattle.std.proofs.lemmas.List.{length-drop}

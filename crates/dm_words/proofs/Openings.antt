@@ -1,9 +1,9 @@
 -- The opening that is found first is the one of the definition.
-use Rattle.std.proofs.Common.{get_or, drop-cons, ◌≡◌, ◌≢◌, ℕ, zero, suc, ◌+◌, ◌<◌, ◌≤◌, List, [], ◌∷◌, ◌++◌, length}
-use Rattle.std.proofs.Common.{drop, refl, sym, ap, subst, ◌∙◌, append_assoc, arith, length-append, Bool, true, false}
+use Rattle.std.proofs.Common.{drop-cons, ◌≡◌, ℕ, zero, suc, ◌+◌, ◌≤◌, List, [], ◌∷◌, ◌++◌, length}
+use Rattle.std.proofs.Common.{drop, refl, sym, ap, subst, ◌∙◌, arith, Bool, true, false}
 use Rattle.std.proofs.Common.{cond, Option, Some, None, inl, inr}
 use Rattle.std.specs.Prelude.{◌==◌, ◌&&◌, ◌⊎◌, slice_get}
-use Rattle.std.proofs.lemmas.Option.{slice_get_within, slice_get_past, get_or_from_slice_get}
+use Rattle.std.proofs.lemmas.Option.{slice_get_within, get_or_from_slice_get}
 use Rattle.std.proofs.lemmas.Bool.Decides.{nat_tests}
 use Rattle.dm_words.specs.declared.codeword.Codeword.{Codeword}
 use Rattle.dm_words.specs.declared.codeword.Codeword.TheVariants as codeword
@@ -13,7 +13,7 @@ use Rattle.dm_words.specs.declared.letters.head.Head.TheVariants as head
 use Rattle.dm_words.specs.declared.letters.opening.Frame.{Frame}
 use Rattle.dm_words.specs.declared.letters.opening.Opened.{Opened}
 use Rattle.dm_words.specs.declared.letters.opening.Opening.{Opening}
-use Rattle.dm_words.specs.declared.letters.opening.Opening.TheVariants.{Plain, Headed, Framed}
+use Rattle.dm_words.specs.declared.letters.opening.Opening.TheVariants.{Plain}
 use Rattle.dm_words.specs.Codewords.{codeword_of, unlatch_word}
 use Rattle.dm_words.specs.Heads.{SpellsHead, programming, appended, BeginsNoHead}
 use Rattle.dm_words.specs.Letters.{AreEmptyRuns, AreFrame, BeginsFrame, BeginsWithHeadWord, IsOpening, headed, framed}

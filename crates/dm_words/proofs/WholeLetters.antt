@@ -1,23 +1,19 @@
 -- A letter is read from codewords exactly where they say it, and a fault is found exactly where they are refused with
 -- it.
-use Rattle.std.proofs.Common.{◌≡◌, ◌≤◌, ℕ, zero, suc, ◌+◌, ◌*◌, List, [], ◌∷◌, ◌++◌, length, drop, refl, sym, ap}
+use Rattle.std.proofs.Common.{◌≡◌, ℕ, suc, ◌+◌, List, ◌++◌, length, drop, refl, sym, ap}
 use Rattle.std.proofs.Common.{subst, ◌∙◌, append_assoc, arith, Option, Some, None, Result, Ok, Err, inl, inr}
-use Rattle.std.specs.Prelude.{IfOk}
 use Rattle.std.proofs.lemmas.List.{drop_at}
-use Rattle.dm_words.specs.declared.extent.Extent.TheVariants.{Wide}
 use Rattle.dm_words.specs.declared.item.Item.{Item}
 use Rattle.dm_words.specs.declared.letters.fault.LetterFault.{LetterFault}
 use Rattle.dm_words.specs.declared.letters.fault.LetterFault.TheVariants as fault
-use Rattle.dm_words.specs.declared.letters.mark.Mark.{Mark}
 use Rattle.dm_words.specs.declared.letters.opening.Opened.{Opened}
 use Rattle.dm_words.specs.declared.letters.opening.Opening.{Opening}
-use Rattle.dm_words.specs.Messages.{most_spelled}
-use Rattle.dm_words.specs.Joined.{spelled, whats}
+use Rattle.dm_words.specs.Joined.{spelled}
 use Rattle.dm_words.specs.Base256.{AreBytes}
-use Rattle.dm_words.specs.Letters.{LetterView, IsLetter, Said, IsLetterPart, AreLetterParts, said_items, said_marks}
+use Rattle.dm_words.specs.Letters.{LetterView, Said, IsLetterPart, AreLetterParts, said_items, said_marks}
 use Rattle.dm_words.specs.Letters.{opening_head, opening_items, closing_items, said_letter, AreOpened, SpellsLetter}
 use Rattle.dm_words.specs.Letters.{IsLetterFault, HaveLetterFault, RefusedLetter, no_head, behind}
-use Rattle.dm_words.specs.LetterResults.{IsLetterResult, HasOneLetterResult}
+use Rattle.dm_words.specs.LetterResults.{HasOneLetterResult}
 use Rattle.dm_words.specs.inner.Scan.Walk.{Stops, Walked, walk}
 use Rattle.dm_words.specs.inner.LetterScan.{opened, first_letter_part, extended, letter_to, letter_on, opening_letter}
 use Rattle.dm_words.specs.inner.LetterScan.{and_closing, letter_by, letter_of}

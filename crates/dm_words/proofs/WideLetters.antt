@@ -1,6 +1,6 @@
 -- A message in the wide extent is a letter.
-use Rattle.std.proofs.Common.{◌≡◌, ℕ, ◌+◌, ◌≤◌, ◌<◌, List, [], ◌∷◌, ◌++◌, length, refl, sym, subst, ap, ◌∙◌}
-use Rattle.std.proofs.Common.{append_assoc, arith, length-append, Option, Some, None, Ok, Err, inl, inr, ◌⊎◌}
+use Rattle.std.proofs.Common.{◌≡◌, ℕ, ◌+◌, List, [], ◌∷◌, ◌++◌, length, refl, sym, subst, ap, ◌∙◌}
+use Rattle.std.proofs.Common.{append_assoc, arith, length-append, Some, None, inl, inr, ◌⊎◌}
 use Rattle.std.proofs.lemmas.List.{append-nil}
 use Rattle.dm_words.specs.declared.codeword.Codeword.TheVariants as codeword
 use Rattle.dm_words.specs.declared.c40.set.CodeSet.{CodeSet}
@@ -13,20 +13,19 @@ use Rattle.dm_words.specs.declared.letters.mark.Mark.{Mark}
 use Rattle.dm_words.specs.declared.letters.opening.Opening.TheVariants.{Plain, Framed}
 use Rattle.dm_words.specs.Codewords.{codeword_of, unlatch_word}
 use Rattle.dm_words.specs.Joined.{Piece, spelled, gathered, whats, AreJoined}
-use Rattle.dm_words.specs.Runs.{IsRun, unlatch}
+use Rattle.dm_words.specs.Runs.{unlatch}
 use Rattle.dm_words.specs.Values.{filler, nothing}
 use Rattle.dm_words.specs.Spells.{IsPart, run, AreParts, plain, by_macro, Spells}
-use Rattle.dm_words.specs.Refused.{IsFault, left_out, macro_behind}
+use Rattle.dm_words.specs.Refused.{left_out, macro_behind}
 use Rattle.dm_words.specs.Letters.{LetterView, Said, Items, Number, IsLetterPart, part, mark, AreLetterParts}
 use Rattle.dm_words.specs.Letters.{said_items, said_marks, AreEmptyRuns, AreFrame, BeginsFrame, BeginsWithHeadWord}
 use Rattle.dm_words.specs.Letters.{IsOpening, headed, framed, plain as opens_plain, opening_head, opening_items}
-use Rattle.dm_words.specs.Letters.{closing_items, said_letter, SpellsLetter, IsLetterFault, word, HaveLetterFault}
+use Rattle.dm_words.specs.Letters.{closing_items, SpellsLetter, IsLetterFault, word, HaveLetterFault}
 use Rattle.dm_words.specs.declared.letters.head.Head.{Head}
 use Rattle.dm_words.specs.declared.letters.opening.Opening.{Opening}
 use Rattle.dm_words.specs.Macros.{macro_text}
 use Rattle.dm_words.specs.LetterResults.{BeginsLateFrame}
-use Rattle.dm_words.specs.inner.Scan.Walk.{Stops}
-use Rattle.dm_words.specs.inner.LetterScan.{first_letter_part, letter_on}
+use Rattle.dm_words.specs.inner.LetterScan.{first_letter_part}
 use Rattle.dm_words.proofs.LetterLoops.{letter_on-stops}
 use Rattle.dm_words.proofs.WholeLetters.{parts_read, fault_read}
 

@@ -1,5 +1,5 @@
 -- What the private functions that read a letter part by part give.
-use Rattle.std.specs.Prelude.{◌≡◌, ℕ, ◌+◌, ◌*◌, ◌≤◌, List, length, Option, Some, None, Result, Ok, Err}
+use Rattle.std.specs.Prelude.{◌≡◌, ℕ, ◌*◌, ◌≤◌, length, Option, Some, None, Result, Ok, Err}
 use Rattle.dm_words.specs.declared.letters.content.Content.{Content}
 use Rattle.dm_words.specs.declared.letters.fault.LetterFault.{LetterFault}
 use Rattle.dm_words.specs.declared.letters.head.Head.{Head}

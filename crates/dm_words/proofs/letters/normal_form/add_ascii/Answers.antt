@@ -1,4 +1,4 @@
-use Rattle.std.proofs.Common.{◌∙◌, ap, length, arith, length-append}
+use Rattle.std.proofs.Common.{arith, length-append}
 use Rattle.dm_words.specs.Ascii.{ascii}
 use Rattle.dm_words.proofs.UnitLoops.{has_unit}
 use Rattle.dm_words.proofs.MarkedWords.{unit_added, unit_fits, units_end}

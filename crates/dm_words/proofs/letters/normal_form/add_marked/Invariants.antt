@@ -1,4 +1,4 @@
-use Rattle.std.proofs.Common.{◌≡◌, ◌+◌, ◌≤◌, ◌++◌, length, drop}
+use Rattle.std.proofs.Common.{◌≡◌, ◌≤◌, ◌++◌, length, drop}
 use Rattle.dm_words.specs.Letters.{AreMarks}
 use Rattle.dm_words.specs.LetterForm.{marked_ascii}
 use Rattle.dm_words.proofs.letters.normal_form.add_marked.Given as goal

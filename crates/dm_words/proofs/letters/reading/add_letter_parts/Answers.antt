@@ -1,4 +1,4 @@
-use Rattle.std.proofs.Common.{◌∙◌, ◌+◌, drop, sym, arith, Some, None}
+use Rattle.std.proofs.Common.{◌+◌, drop, sym, arith, Some, None}
 use Rattle.std.proofs.lemmas.Result.{err_from_is_err_and}
 use Rattle.dm_words.specs.inner.LetterScan.{letter_on}
 use Rattle.dm_words.specs.inner.LetterContents.{content_view}
