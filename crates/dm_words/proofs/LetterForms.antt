@@ -202,7 +202,7 @@ form_says : (profile : Profile) (said : Option Head) (items : List Item) (marks 
     (record { head = said; items = items; marks = marks })
 form_says profile None items [] count right le most =
     wide_is_letter (padded (form_by profile None items []) count) items
-    (normal_form_spells Wide profile items count right.items le most)
+    (normal_form_spells Wide profile items count right.items le (omega (arith, most)))
 form_says profile None items (m ∷ marks) count right le most =
     marked_says items (m ∷ marks) count (recursion_from_All IsItem items right.items) right.marks
 form_says profile (Some said) items marks count right le most =

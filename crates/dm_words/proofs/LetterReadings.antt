@@ -13,7 +13,8 @@ use Rattle.dm_words.specs.Messages.{most_spelled}
 use Rattle.dm_words.specs.Letters.{LetterView, AreMarks, IsOpening, headed, framed, plain}
 use Rattle.dm_words.specs.Letters.{opening_items, closing_items}
 use Rattle.dm_words.specs.LetterResults.{IsLetterResult}
-use Rattle.dm_words.specs.inner.LetterScan.{opened, opening_letter, letter_of}
+use Rattle.dm_words.specs.inner.LetterScan.{opened, first_frame, letter_on, opening_letter, letter_of}
+use Rattle.dm_words.specs.inner.Scan.Walk.{walk}
 use Rattle.dm_words.specs.inner.LetterContents.{content_view, IsContentAt}
 use Rattle.dm_words.proofs.Pairs.{IsBytes}
 use Rattle.dm_words.proofs.Openings as openings
@@ -72,16 +73,28 @@ few_close Plain = omega arith
 few_close (Headed said) = omega arith
 few_close (Framed digit) = omega arith
 
+-- The items of a letter that is read, none of one that is refused.
+abbrev items_in : Result LetterView LetterFault → List Item
+items_in (Ok l) = l.items
+items_in (Err why) = []
+
+-- At most seven items more than two for each codeword are as many as can be spelled, since no codewords say no items.
+few_said : (words : List ℕ) (l : LetterView) → Ok l ≡ letter_of words → length l.items ≤ 2 * length words + 7
+    → length l.items ≤ most_spelled Wide (length words)
+unfolding first_frame letter_on walk
+few_said [] l is few = let none : l.items ≡ [] = ap items_in is in rw none (omega arith)
+few_said (w ∷ words) l is few = few
+
 -- Where a call gives what is read, within the bounds, this is the right result.
 pub is_letter_result : (words : List ℕ) (result : Result LetterView LetterFault) → IsBytes words → result
     ≡ letter_of words
-    → IfOk result (λ l. length l.items ≤ most_spelled Wide (length words))
+    → IfOk result (λ l. length l.items ≤ 2 * length words + 7)
     → IfOk result (λ l. 2 * length l.marks ≤ length words) → IsLetterResult words result
 is_letter_result words (Ok l) fit is few marks = record {
   letter = λ k. ((λ e. (reads words fit).letter_is k (sym is ∙ e)), (λ s. is ∙ spelled_reads words k s));
   fault = λ why. ((λ e. (reads words fit).fault_is why (sym is ∙ e)), (λ f. is ∙ refused_reads words why f));
   right = said_is_letter words l ((reads words fit).letter_is l (sym is));
-  most = few;
+  most = few_said words l is few;
   most_marks = marks;
 }
 is_letter_result words (Err f) fit is few marks = record {
