@@ -11,6 +11,7 @@ use dm_words::*;
 
 mod ascii;
 mod hostile;
+mod letters;
 mod lines;
 mod places;
 mod shorter;

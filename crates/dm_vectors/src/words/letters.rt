@@ -1,0 +1,329 @@
+//! Letters: heads, items and marks.
+
+use super::*;
+
+/// Codewords, and the letter that they say: its head, its items, where the byte 232 stands for FNC1, and its marks.
+type Row = (
+    &'static [u8],
+    Option<Head>,
+    &'static [u8],
+    &'static [(u16, u32)],
+);
+
+/// What the codewords say, and the fault of no codeword where there are too many of them.
+fn letter(words: &[u8]) -> Result<Letter, LetterFault> {
+    if words.len() > MOST_DATA {
+        return Err(LetterFault::Append(0));
+    }
+    letter_of(words)
+}
+
+/// Whether the items are these bytes, of which 232 stands for FNC1.
+fn are_said(items: &[Item], bytes: &[u8]) -> bool {
+    if items.len() != bytes.len() {
+        return false;
+    }
+    for i in 0..items.len() {
+        let item = if bytes[i] == 232 {
+            Item::Fnc1
+        } else {
+            Item::Byte(bytes[i])
+        };
+        if items[i] != item {
+            return false;
+        }
+    }
+    true
+}
+
+/// Whether the marks have these places and numbers.
+fn are_marks(marks: &[Mark], rows: &[(u16, u32)]) -> bool {
+    if marks.len() != rows.len() {
+        return false;
+    }
+    for i in 0..marks.len() {
+        let (place, number) = rows[i];
+        if marks[i] != (Mark { place, number }) {
+            return false;
+        }
+    }
+    true
+}
+
+/// Whether the letter has this head, these items and these marks.
+fn is_letter(letter: &Letter, row: &Row) -> bool {
+    let (_, head, items, marks) = row;
+    letter.head() == *head && are_said(letter.items(), items) && are_marks(letter.marks(), marks)
+}
+
+/// Whether the codewords of each row say its letter.
+fn are_read(rows: &[Row]) -> bool {
+    for row in rows {
+        match letter(row.0) {
+            Ok(letter) => {
+                if !is_letter(&letter, row) {
+                    return false;
+                }
+            }
+            Err(_) => return false,
+        }
+    }
+    true
+}
+
+/// Whether the codewords of each row are refused with its fault.
+fn are_refused(rows: &[(&[u8], LetterFault)]) -> bool {
+    for (words, fault) in rows {
+        match letter(words) {
+            Ok(_) => return false,
+            Err(found) => {
+                if found != *fault {
+                    return false;
+                }
+            }
+        }
+    }
+    true
+}
+
+/// A symbol of a sequence.
+fn symbol(index: u8, count: u8, file_high: u8, file_low: u8) -> Option<Head> {
+    Some(Head::Appended(Appended {
+        index,
+        count,
+        file_high,
+        file_low,
+    }))
+}
+
+/// Marks.
+static MARKED_ROWS: [Row; 15] = [
+    (&[241, 27, 66, 67, 68, 129], None, b"ABC", &[(0, 26)]),
+    (&[241, 128, 74, 66, 129], None, b"A", &[(0, 200)]),
+    (&[241, 192, 15, 62, 66, 129], None, b"A", &[(0, 20000)]),
+    (&[66, 241, 10, 241, 27, 67], None, b"AB", &[(1, 9), (1, 26)]),
+    (&[131, 241, 4, 132], None, b"0102", &[(2, 3)]),
+    (&[241, 127, 66], None, b"A", &[(0, 126)]),
+    (&[241, 128, 1, 66], None, b"A", &[(0, 127)]),
+    (&[241, 191, 254, 66], None, b"A", &[(0, 16382)]),
+    (&[241, 192, 1, 1, 66], None, b"A", &[(0, 16383)]),
+    (&[241, 207, 63, 129], None, b"", &[(0, 999_999)]),
+    (&[232, 241, 27, 66], None, b"\xE8A", &[(1, 26)]),
+    (&[66, 232, 67], None, b"A\xE8B", &[]),
+    (&[240, 241, 4, 39, 192, 67], None, b"<PP'62B", &[]),
+    (&[230, 87, 199, 254, 241, 27, 66], None, b"AA", &[(1, 26)]),
+    (
+        &[236, 241, 27, 66, 129],
+        None,
+        b"[)>\x1E05\x1DA\x1E\x04",
+        &[(7, 26)],
+    ),
+];
+
+/// Heads, and macros behind empty runs.
+static OPENED_ROWS: [Row; 7] = [
+    (
+        &[233, 28, 1, 2, 66, 129],
+        Some(Head::Appended(Appended {
+            index: 2,
+            count: 5,
+            file_high: 1,
+            file_low: 2,
+        })),
+        b"A",
+        &[],
+    ),
+    (
+        &[233, 31, 1, 1, 66],
+        Some(Head::Appended(Appended {
+            index: 2,
+            count: 2,
+            file_high: 1,
+            file_low: 1,
+        })),
+        b"A",
+        &[],
+    ),
+    (
+        &[233, 241, 254, 254, 66],
+        Some(Head::Appended(Appended {
+            index: 16,
+            count: 16,
+            file_high: 254,
+            file_low: 254,
+        })),
+        b"A",
+        &[],
+    ),
+    (
+        &[233, 15, 1, 1, 232, 66],
+        Some(Head::Appended(Appended {
+            index: 1,
+            count: 2,
+            file_high: 1,
+            file_low: 1,
+        })),
+        b"\xE8A",
+        &[],
+    ),
+    (
+        &[234, 142, 164, 186, 129],
+        Some(Head::Programming),
+        b"123456",
+        &[],
+    ),
+    (
+        &[230, 254, 237, 66, 67, 129],
+        None,
+        b"[)>\x1E06\x1DAB\x1E\x04",
+        &[],
+    ),
+    (
+        &[230, 254, 238, 254, 236, 129],
+        None,
+        b"[)>\x1E05\x1D\x1E\x04",
+        &[],
+    ),
+];
+
+/// Codewords that say no letter.
+static REFUSED_ROWS: [(&[u8], LetterFault); 16] = [
+    (&[241, 207, 63, 130], LetterFault::Designator(1)),
+    (&[241], LetterFault::Designator(1)),
+    (&[241, 0, 66], LetterFault::Designator(1)),
+    (&[241, 128], LetterFault::Designator(1)),
+    (&[241, 128, 0], LetterFault::Designator(1)),
+    (&[241, 128, 255, 66], LetterFault::Designator(1)),
+    (&[241, 208, 1, 1], LetterFault::Designator(1)),
+    (&[233, 0, 1, 1, 66], LetterFault::Append(1)),
+    (&[233, 32, 1, 1, 66], LetterFault::Append(1)),
+    (&[233, 15, 0, 1, 66], LetterFault::Append(1)),
+    (&[233, 15, 1], LetterFault::Append(1)),
+    (
+        &[66, 233, 15, 1, 1],
+        LetterFault::Word(WordFault::LeftOut(233, 2)),
+    ),
+    (&[66, 234], LetterFault::Word(WordFault::LeftOut(234, 2))),
+    (
+        &[233, 15, 1, 1, 236, 66],
+        LetterFault::Word(WordFault::LeftOut(236, 5)),
+    ),
+    (
+        &[234, 237, 66],
+        LetterFault::Word(WordFault::LeftOut(237, 2)),
+    ),
+    (
+        &[239, 254, 66, 236],
+        LetterFault::Word(WordFault::LeftOut(236, 4)),
+    ),
+];
+
+/// Codewords that are the normal form of the letter that they say. The last row has two digits and a mark between.
+static WRITTEN_ROWS: [&[u8]; 13] = [
+    &[66, 241, 10, 241, 27, 67],
+    &[131, 241, 4, 132],
+    &[241, 127, 66],
+    &[241, 128, 1, 66],
+    &[241, 191, 254, 66],
+    &[241, 192, 1, 1, 66],
+    &[241, 207, 63, 129],
+    &[232, 241, 27, 66],
+    &[233, 28, 1, 2, 66],
+    &[233, 241, 254, 254, 66],
+    &[234, 142, 164, 186],
+    &[66, 232, 67],
+    &[50, 241, 4, 51],
+];
+
+/// Whether the normal form of the letter that the codewords say is these codewords.
+fn is_written(words: &[u8]) -> bool {
+    let Ok(letter) = letter(words) else {
+        return false;
+    };
+    match letter_words(Profile::Shorter, &letter) {
+        Ok(form) => form.as_slice() == words,
+        Err(TooLong) => false,
+    }
+}
+
+/// Whether each of these lists is written as it is.
+fn are_written(rows: &[&[u8]]) -> bool {
+    for words in rows {
+        if !is_written(words) {
+            return false;
+        }
+    }
+    true
+}
+
+/// Whether a letter is written and read back.
+fn is_read_back(written: &Letter) -> bool {
+    match letter_words(Profile::Ascii, written) {
+        Ok(form) => match letter(form.as_slice()) {
+            Ok(found) => found == *written,
+            Err(_) => false,
+        },
+        Err(TooLong) => false,
+    }
+}
+
+/// A letter with a head, so many bytes, and a mark behind them.
+fn of_many_with_mark(count: usize) -> Letter {
+    let mut letter = Letter::new();
+    letter.set_head(Some(Head::Programming));
+    for _ in 0..count {
+        let _room = letter.push(Item::Byte(b'A'));
+    }
+    let _room = letter.push_mark(999_999);
+    letter
+}
+
+#[test]
+fn letters_are_written(rt: HostRuntime) {
+    holds(&rt, are_written(&WRITTEN_ROWS));
+}
+
+#[test]
+fn long_letters_are_read_back(rt: HostRuntime) {
+    holds(&rt, is_read_back(&of_many_with_mark(MOST_DATA - 5)));
+    let too_long = letter_words(Profile::Ascii, &of_many_with_mark(MOST_DATA - 4));
+    holds(&rt, too_long == Err(TooLong));
+    let mut cleared = of_many_with_mark(3);
+    cleared.clear();
+    holds(&rt, cleared == Letter::new());
+}
+
+#[test]
+fn heads_and_designators_are_read_alone(rt: HostRuntime) {
+    holds(&rt, head_of(&[233, 28, 1, 2, 66]) == symbol(2, 5, 1, 2));
+    holds(&rt, head_of(&[66, 233, 28, 1, 2]) == None);
+    holds(
+        &rt,
+        head_words(symbol(2, 5, 1, 2)).as_slice() == [233, 28, 1, 2].as_slice(),
+    );
+    let found = Designator {
+        count: 2,
+        number: 200,
+    };
+    holds(&rt, designator_of(&[128, 74, 66]) == Some(found));
+    holds(&rt, designator_of(&[128]) == None);
+    holds(
+        &rt,
+        designator_words(20_000).as_slice() == [192, 15, 62].as_slice(),
+    );
+}
+
+#[test]
+fn marks_are_read(rt: HostRuntime) {
+    holds(&rt, are_read(&MARKED_ROWS));
+}
+
+#[test]
+fn heads_and_macros_are_read(rt: HostRuntime) {
+    holds(&rt, are_read(&OPENED_ROWS));
+}
+
+#[test]
+fn other_codewords_say_no_letter(rt: HostRuntime) {
+    holds(&rt, are_refused(&REFUSED_ROWS));
+}
