@@ -33,10 +33,12 @@
 extern "C" {
 #endif
 
-/* The version of this interface. It changes when a program that was built with this file would no longer work with the library. */
+/* The version of this interface. It changes when a program that was built with this file would no longer work with the
+ * library. */
 #define ECC200_SAMPLE_ABI 1
 
-/* The version of the library's interface, to be compared with ECC200_SAMPLE_ABI if the library is loaded at run time. */
+/* The version of the library's interface, to be compared with ECC200_SAMPLE_ABI if the library is loaded at run
+ * time. */
 uint16_t ecc200_sample_abi(void);
 
 enum {
@@ -47,25 +49,30 @@ enum {
 /* What a call returns. */
 enum ecc200_sample_code {
     ECC200_SAMPLE_OK = 0,
-    ECC200_SAMPLE_PICTURE = 1,        /* width or height is 0 or above ECC200_SAMPLE_MOST_SIDE, or the stride is less than the width */
+    ECC200_SAMPLE_PICTURE = 1,        /* width or height is 0 or above ECC200_SAMPLE_MOST_SIDE, or the stride is less
+                                         than the width */
     ECC200_SAMPLE_NO_MEMORY = 2
 };
 
 typedef struct ecc200_sample_options {
-    uint32_t milliseconds;            /* how long to try at most. What is being tried is ended, so a call may take a little longer */
+    uint32_t milliseconds; /* how long to try at most. What is being tried is ended, so a call may take a little
+                              longer */
     uint16_t least_side;              /* symbols of fewer modules a side are passed over; 0: none is */
-    uint16_t margin;                  /* how many corrections each block must leave unused, of those that its size allows */
-    uint16_t keep_unread;             /* not 0: if no symbol is read, the most likely grid that has a symbol's border is given, with its fault */
+    uint16_t margin;      /* how many corrections each block must leave unused, of those that its size allows */
+    uint16_t keep_unread; /* not 0: if no symbol is read, the most likely grid that has a symbol's border is given, with
+                             its fault */
 } ecc200_sample_options;
 
 typedef struct ecc200_sample_point {
-    double x, y;                      /* pixels from the left and from the top edge of the picture: its first pixel's centre is (0.5, 0.5) */
+    double x, y; /* pixels from the left and from the top edge of the picture: its first pixel's centre is (0.5, 0.5) */
 } ecc200_sample_point;
 
 typedef struct ecc200_sample {
-    ecc200_sample_point corners[4];   /* of the upright symbol: top left, top right, bottom right, bottom left, where they are in the picture */
+    ecc200_sample_point corners[4]; /* of the upright symbol: top left, top right, bottom right, bottom left, where they
+                                       are in the picture */
     uint16_t side;                    /* modules */
-    uint8_t inverted;                 /* 1: the symbol is light on dark in the picture; the grid has its dark modules as 1 all the same */
+    uint8_t inverted;               /* 1: the symbol is light on dark in the picture; the grid has its dark modules as 1
+                                       all the same */
     uint8_t mirrored;                 /* 1: the picture shows it as in a mirror */
     uint8_t modules[ECC200_MOST_MODULES]; /* the first side * side count */
     ecc200_reading reading;           /* what ecc200_read says of these modules: at the usual border limit, or,
@@ -75,11 +82,12 @@ typedef struct ecc200_sample {
 /* The usual options: a second, every side, no margin, nothing unread. */
 ecc200_sample_options ecc200_sample_usual(void);
 
-/* Finds at most `room` symbols in a picture, writes them into `out`, and their number into *count. With room for one, the search ends with
- * the first; else it goes on until there are `room`, or nothing more is found, or the time is over. `options` may be NULL: the usual ones.
- * Returns PICTURE or NO_MEMORY with a count of 0; otherwise OK, with a count of 0 if there is none. */
-uint16_t ecc200_sample_picture(const uint8_t *luminance, size_t width, size_t height, size_t stride, const ecc200_sample_options *options,
-                               ecc200_sample *out, size_t room, size_t *count);
+/* Finds at most `room` symbols in a picture, writes them into `out`, and their number into *count. With room for one,
+ * the search ends with the first; else it goes on until there are `room`, or nothing more is found, or the time is
+ * over. `options` may be NULL: the usual ones. Returns PICTURE or NO_MEMORY with a count of 0; otherwise OK, with a
+ * count of 0 if there is none. */
+uint16_t ecc200_sample_picture(const uint8_t *luminance, size_t width, size_t height, size_t stride,
+                               const ecc200_sample_options *options, ecc200_sample *out, size_t room, size_t *count);
 
 #if defined(__cplusplus)
 }

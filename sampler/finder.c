@@ -4,8 +4,10 @@
 #include <stdlib.h>
 
 static const double LEAST_SINE = 0.7, LEAST_RATIO = 0.4, LEAST_SOLID = 0.7;
-static const double LEAST_LIVELINESS = 0.3, MOST_LIVELINESS = 2.5; /* of the turns from dark to light and back that modules of chance have */
-static const double MOST_UNEVEN = 2.5;           /* of the numbers of modules that the two borders seem to have, more over fewer */
+/* Of the turns from dark to light and back that modules of chance have. */
+static const double LEAST_LIVELINESS = 0.3, MOST_LIVELINESS = 2.5;
+/* Of the numbers of modules that the two borders seem to have, more over fewer. */
+static const double MOST_UNEVEN = 2.5;
 
 /* ---- The width of a module */
 
@@ -64,7 +66,8 @@ static int turns_along(const struct plane *dark, struct point from, struct point
 }
 
 /* Whether three rows, from `from` to `to` and beside that at each module's width, turn about as often as modules do. */
-static bool is_lively(const struct plane *dark, struct point from, struct point to, struct point inwards, double module) {
+static bool is_lively(const struct plane *dark, struct point from, struct point to, struct point inwards,
+                      double module) {
     enum { ROWS = 3 };
     int turns = 0;
     for (int row = 1; row <= ROWS; row++) {
@@ -82,12 +85,14 @@ static void look_inside(const struct plane *dark, struct elbow *elbow) {
     elbow->across = fmin(module_width(dark, elbow->corner, elbow->top, scale_by(along, 1 / wide)), 0.1 * wide);
     elbow->upwards = fmin(module_width(dark, elbow->corner, elbow->right, scale_by(up, 1 / high)), 0.1 * high);
     double uneven = wide / elbow->across / (high / elbow->upwards);
-    elbow->is_lively = uneven < MOST_UNEVEN && uneven > 1 / MOST_UNEVEN &&
-                       is_lively(dark, elbow->corner, elbow->right, scale_by(up, elbow->upwards / high), elbow->across) &&
-                       is_lively(dark, elbow->corner, elbow->top, scale_by(along, elbow->across / wide), elbow->upwards);
+    elbow->is_lively =
+        uneven < MOST_UNEVEN && uneven > 1 / MOST_UNEVEN &&
+        is_lively(dark, elbow->corner, elbow->right, scale_by(up, elbow->upwards / high), elbow->across) &&
+        is_lively(dark, elbow->corner, elbow->top, scale_by(along, elbow->across / wide), elbow->upwards);
 }
 
-/* The elbow of a bottom border, which comes to the corner, and a left border, which leaves it; with a score of 0 if there is none. */
+/* The elbow of a bottom border, which comes to the corner, and a left border, which leaves it; with a score of 0 if
+ * there is none. */
 static struct elbow elbow_of(const struct plane *dark, const struct line *bottom, const struct line *left) {
     struct elbow none = {.score = 0}, elbow = {.top = left->to, .right = bottom->from};
     struct point along = difference(bottom->to, bottom->from), up = difference(left->to, left->from);
@@ -115,7 +120,10 @@ static struct elbow elbow_of(const struct plane *dark, const struct line *bottom
 
 static int by_likelihood(const void *one, const void *other) {
     const struct elbow *a = one, *b = other;
-    return a->is_lively != b->is_lively ? b->is_lively - a->is_lively : a->score < b->score ? 1 : a->score > b->score ? -1 : 0;
+    return a->is_lively != b->is_lively ? b->is_lively - a->is_lively
+           : a->score < b->score        ? 1
+           : a->score > b->score        ? -1
+                                        : 0;
 }
 
 static bool alike(const struct elbow *one, const struct elbow *other) {
@@ -140,7 +148,8 @@ int find_elbows(const struct plane *dark, const struct lines *lines, int64_t end
     int count = 0;
     for (int k = 0; k < lines->count && !clock_reached(end); k++)
         for (int j = 0; j < lines->count; j++) {
-            struct elbow elbow = j == k ? (struct elbow){.score = 0} : elbow_of(dark, &lines->items[k], &lines->items[j]);
+            struct elbow elbow =
+                j == k ? (struct elbow){.score = 0} : elbow_of(dark, &lines->items[k], &lines->items[j]);
             if (elbow.score <= 0)
                 continue;
             if (count == room) {

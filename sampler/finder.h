@@ -13,7 +13,8 @@ struct elbow {
     double score;
 };
 
-/* Writes at most `room` elbows, the lively ones first, then by their scores, and returns their number. Stops at the time `end`. */
+/* Writes at most `room` elbows, the lively ones first, then by their scores, and returns their number. Stops at the
+ * time `end`. */
 int find_elbows(const struct plane *dark, const struct lines *lines, int64_t end, struct elbow *out, int room);
 
 #endif

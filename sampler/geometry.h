@@ -8,8 +8,8 @@ struct point {
     double x, y;
 };
 
-/* Maps a point (x, y) to the first two over the third coordinate of m (x, y, 1). Here: modules of a symbol, counted from its top left
- * corner, to pixels of a picture. */
+/* Maps a point (x, y) to the first two over the third coordinate of m (x, y, 1). Here: modules of a symbol, counted
+ * from its top left corner, to pixels of a picture. */
 struct homography {
     double m[3][3];
 };

@@ -64,7 +64,8 @@ static void set_corners(ecc200_sample *sample, const struct warp *warp, int side
 static void mirror(uint8_t *modules, int side) {
     for (int row = 0; row < side; row++)
         for (int column = 0; column < side - 1 - row; column++) {
-            uint8_t *one = modules + row * side + column, *other = modules + (side - 1 - column) * side + side - 1 - row, kept = *one;
+            uint8_t *one = modules + row * side + column,
+                    *other = modules + (side - 1 - column) * side + side - 1 - row, kept = *one;
             *one = *other;
             *other = kept;
         }

@@ -23,7 +23,7 @@ struct judge {
     bool has_no_memory;                     /* whether memory was wanted that isn't there */
     bool is_inverted;                       /* whether `picture` is the picture inverted */
     ecc200_sample *trial;                   /* room for a candidate */
-    ecc200_sample *unread;                  /* the likeliest one that has a border and isn't read, or NULL if none is wanted */
+    ecc200_sample *unread; /* the likeliest one that has a border and isn't read, or NULL if none is wanted */
     double unread_score;                    /* 0: there is none yet */
     struct tried tried[MOST_TRIED];         /* the latest ones */
     int tried_count;

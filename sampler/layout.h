@@ -6,7 +6,14 @@
 #include <stdbool.h>
 #include <stdint.h>
 
-enum { SIZES = ECC200_SIZE_COUNT, MOST_SIDE = ECC200_MOST_SIDE, LIGHT = 0, DARK = 1, UNKNOWN = 2, MOST_WITNESSES = 3072 };
+enum {
+    SIZES = ECC200_SIZE_COUNT,
+    MOST_SIDE = ECC200_MOST_SIDE,
+    LIGHT = 0,
+    DARK = 1,
+    UNKNOWN = 2,
+    MOST_WITNESSES = 3072
+};
 
 /* An edge between two modules of known and different colours, of which one may lie outside the symbol; or a place where
  * there may be one. */
@@ -28,7 +35,8 @@ struct layout {
 /* Writes the sides of all sizes, by rising size. */
 void list_sides(int sides[SIZES]);
 
-/* The layout of a side, made at the first call; NULL if there is no memory, or no such side. `made` holds those that were made. */
+/* The layout of a side, made at the first call; NULL if there is no memory, or no such side. `made` holds those that
+ * were made. */
 struct layouts {
     struct layout *made[SIZES];
 };

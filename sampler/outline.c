@@ -36,7 +36,8 @@ static bool push(struct tracing *tracing, int x, int y) {
     return true;
 }
 
-/* Goes around a dark area along the sides of its pixels, the area on the right, from the lower left corner of pixel (x, y) upwards. */
+/* Goes around a dark area along the sides of its pixels, the area on the right, from the lower left corner of pixel (x,
+ * y) upwards. */
 static bool trace(struct tracing *tracing, int x, int y) {
     static const int step_x[] = {0, 1, 0, -1}, step_y[] = {-1, 0, 1, 0};       /* up, right, down, left */
     static const int left_x[] = {-1, 0, 0, -1}, left_y[] = {-1, -1, 0, 0};      /* the pixel ahead on the left */
@@ -111,8 +112,8 @@ static double farthest(const struct tracing *tracing, int first, int last, int *
     return most;
 }
 
-/* Cuts the path, which is closed, into straight pieces, and keeps the long ones. A comb of many teeth is cut tooth by tooth, each time after
- * a look at the whole of what is left, so the time may end here, too. */
+/* Cuts the path, which is closed, into straight pieces, and keeps the long ones. A comb of many teeth is cut tooth by
+ * tooth, each time after a look at the whole of what is left, so the time may end here, too. */
 static void cut(const struct tracing *tracing) {
     int pending[MOST_PENDING][2], depth = 0, opposite;
     farthest(tracing, 0, tracing->count, &opposite);
@@ -140,7 +141,8 @@ static bool continues(const struct line *line, const struct line *piece) {
     struct point unit = scale_by(along, 1 / long_one);
     double first = dot(unit, difference(piece->from, line->from)), last = dot(unit, difference(piece->to, line->from));
     return dot(unit, way) > 0.99 * length(way) && fabs(cross(unit, difference(piece->from, line->from))) < apart &&
-           fabs(cross(unit, difference(piece->to, line->from))) < apart && last > -0.5 * long_one && first < 1.5 * long_one;
+           fabs(cross(unit, difference(piece->to, line->from))) < apart && last > -0.5 * long_one &&
+           first < 1.5 * long_one;
 }
 
 /* Adds, for each line, the line that it and the pieces that continue it make up. */
@@ -174,7 +176,8 @@ bool find_lines(const struct plane *dark, double least, int64_t end, struct line
     out->count = 0;
     for (int y = 0; enough && y < dark->height && (y % 32 > 0 || !clock_reached(end)); y++)
         for (int x = 0; enough && x < dark->width; x++) {
-            if (!is_dark(dark, x, y) || is_dark(dark, x - 1, y) || tracing.seen[(size_t)y * (size_t)dark->width + (size_t)x])
+            if (!is_dark(dark, x, y) || is_dark(dark, x - 1, y) ||
+                tracing.seen[(size_t)y * (size_t)dark->width + (size_t)x])
                 continue;
             enough = trace(&tracing, x, y);
             if (enough && tracing.count >= LEAST_STEPS)

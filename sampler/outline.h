@@ -15,8 +15,9 @@ struct lines {
     int count, room;
 };
 
-/* The longest straight pieces of at least `least` pixels in a plane of 0 and 1 with a frame of 0, at most `room` of them, the longest first.
- * The pieces that lie on one line are also there as one. Stops at the time `end`. False if there is no memory. */
+/* The longest straight pieces of at least `least` pixels in a plane of 0 and 1 with a frame of 0, at most `room` of
+ * them, the longest first. The pieces that lie on one line are also there as one. Stops at the time `end`. False if
+ * there is no memory. */
 bool find_lines(const struct plane *dark, double least, int64_t end, struct lines *out);
 
 #endif

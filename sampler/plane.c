@@ -113,12 +113,14 @@ static void frame_plane(uint8_t *first, const struct plane *plane) {
     frame_side((struct side){first + (height - 1) * down, -down, 1, height, width});
 }
 
-/* Smooths all rows that there is time for, and returns their number. `sums` has room for a row and one more pixel on each side. */
+/* Smooths all rows that there is time for, and returns their number. `sums` has room for a row and one more pixel on
+ * each side. */
 static int smooth_rows(const struct plane *from, int64_t end, uint16_t *sums, uint8_t *to, size_t stride) {
     int width = from->width, y = 0;
     for (; y < from->height && has_time(end, y); y++, to += stride) {
         const uint8_t *row = pixel_of(from, 0, y);
-        const uint8_t *above = y > 0 ? row - from->stride : row, *below = y + 1 < from->height ? row + from->stride : row;
+        const uint8_t *above = y > 0 ? row - from->stride : row,
+                      *below = y + 1 < from->height ? row + from->stride : row;
         for (int x = 0; x < width; x++)
             sums[x + 1] = (uint16_t)(above[x] + 2 * row[x] + below[x]);
         sums[0] = sums[1], sums[width + 1] = sums[width];
@@ -152,7 +154,8 @@ static inline uint8_t median_of(uint8_t a, uint8_t b, uint8_t c) {
     return most_of(least_of(a, b), least_of(most_of(a, b), c));
 }
 
-/* The median of nine is that of the most of the least, the median of the medians and the least of the most of three columns. */
+/* The median of nine is that of the most of the least, the median of the medians and the least of the most of three
+ * columns. */
 static void calm_row(const uint8_t *row, ptrdiff_t stride, int width, uint8_t *columns, uint8_t *to) {
     uint8_t *least = columns, *median = least + width + 2, *most = median + width + 2;
     for (int x = 0; x < width + 2; x++) {
@@ -162,12 +165,14 @@ static void calm_row(const uint8_t *row, ptrdiff_t stride, int width, uint8_t *c
         most[x] = most_of(most_of(above, here), below);
     }
     for (int x = 0; x < width; x++)
-        to[x] = median_of(most_of(most_of(least[x], least[x + 1]), least[x + 2]), median_of(median[x], median[x + 1], median[x + 2]),
+        to[x] = median_of(most_of(most_of(least[x], least[x + 1]), least[x + 2]),
+                          median_of(median[x], median[x + 1], median[x + 2]),
                           least_of(least_of(most[x], most[x + 1]), most[x + 2]));
 }
 
 bool plane_calm(const struct plane *from, int64_t end, struct plane *out) {
-    uint8_t *first = plane_make(from->width, from->height, 1, out), *columns = malloc(3 * ((size_t)from->width + 2)), *to = first;
+    uint8_t *first = plane_make(from->width, from->height, 1, out), *columns = malloc(3 * ((size_t)from->width + 2)),
+            *to = first;
     bool has_room = first != NULL && columns != NULL;
     int y = 0;
     for (; has_room && y < from->height && has_time(end, y); y++, to += out->stride)
@@ -228,7 +233,8 @@ static uint8_t limit_of(const struct tiles *tiles, int column, int row) {
 }
 
 /* Marks what is dark by the limits of the tiles. `to` is light all over. */
-static bool mark_dark(const struct plane *from, int64_t end, const struct tiles *tiles, uint8_t *limits, uint8_t *to, size_t stride) {
+static bool mark_dark(const struct plane *from, int64_t end, const struct tiles *tiles, uint8_t *limits, uint8_t *to,
+                      size_t stride) {
     int y = 0;
     for (; y < from->height && has_time(end, y); y++, to += stride) {
         if (y % TILE == 0)
@@ -245,7 +251,8 @@ bool plane_darken(const struct plane *from, int around, int64_t end, struct plan
     struct tiles tiles = {.across = tiles_in(from->width), .down = tiles_in(from->height), .around = around};
     uint8_t *to = plane_make(from->width, from->height, 1, out), *limits = malloc((size_t)tiles.across);
     tiles.ranges = malloc((size_t)tiles.across * (size_t)tiles.down * sizeof *tiles.ranges);
-    bool is_whole = to != NULL && limits != NULL && tiles.ranges != NULL && find_ranges(from, end, tiles.across, tiles.down, tiles.ranges) &&
+    bool is_whole = to != NULL && limits != NULL && tiles.ranges != NULL &&
+                    find_ranges(from, end, tiles.across, tiles.down, tiles.ranges) &&
                     mark_dark(from, end, &tiles, limits, to, out->stride);
     free(limits);
     free(tiles.ranges);

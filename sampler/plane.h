@@ -9,17 +9,19 @@
 
 struct plane {
     int width, height;
-    int frame;             /* how many pixels all around it may be read as well, 0 or 1: index -1, and the width or height */
+    int frame; /* how many pixels all around it may be read as well, 0 or 1: index -1, and the width or height */
     size_t stride;         /* bytes from a row to the next */
     const uint8_t *pixels; /* the first one, within the frame */
     uint8_t *owned;        /* what is freed, if anything */
 };
 
-/* Each of these makes a new plane by the time `end`. False if there was no memory, or no time, and then there is none. */
+/* Each of these makes a new plane by the time `end`. False if there was no memory, or no time, and then there is none.
+ */
 bool plane_invert(const struct plane *from, int64_t end, struct plane *out);
 bool plane_halve(const struct plane *from, int64_t end, struct plane *out); /* each pixel is the mean of four */
 
-/* By weights 1 2 1 in both directions. Its frame is as light as the lightest pixel near by, so that what is dark ends with the picture. */
+/* By weights 1 2 1 in both directions. Its frame is as light as the lightest pixel near by, so that what is dark ends
+ * with the picture. */
 bool plane_smooth(const struct plane *from, int64_t end, struct plane *out);
 
 /* The median of each pixel of a plane with a frame, and of the eight around it; framed as the smooth one is. */
@@ -28,13 +30,14 @@ bool plane_calm(const struct plane *from, int64_t end, struct plane *out);
 /* How much each four pixels differ along the diagonals between them; kept as the upper left one's. */
 bool plane_steepen(const struct plane *from, int64_t end, struct plane *out);
 
-/* 1 where a pixel is darker than its surroundings, else 0, and in the frame. The surroundings are `around` tiles of eight pixels each way. */
+/* 1 where a pixel is darker than its surroundings, else 0, and in the frame. The surroundings are `around` tiles of
+ * eight pixels each way. */
 bool plane_darken(const struct plane *from, int around, int64_t end, struct plane *out);
 
 void plane_free(struct plane *plane);
 
-/* The pixel of a row or column that a coordinate lies in; outside, the nearest one of `count` and those of the frame. The coordinate may be any
- * number, as far away as a projection takes it. */
+/* The pixel of a row or column that a coordinate lies in; outside, the nearest one of `count` and those of the frame.
+ * The coordinate may be any number, as far away as a projection takes it. */
 static inline int nearest_pixel(double at, int count, int frame) {
     return !(at > -frame) ? -frame : at < count + frame ? (int)(at + frame) - frame : count + frame - 1;
 }
@@ -56,12 +59,14 @@ static inline int dark_at(const struct plane *dark, struct point at) {
 
 /* The brightness of the pixel that a point lies in; outside, that of the nearest pixel. */
 static inline int grey_at(const struct plane *grey, struct point at) {
-    return *pixel_of(grey, nearest_pixel(at.x, grey->width, grey->frame), nearest_pixel(at.y, grey->height, grey->frame));
+    return *pixel_of(grey, nearest_pixel(at.x, grey->width, grey->frame),
+                     nearest_pixel(at.y, grey->height, grey->frame));
 }
 
 /* The brightness at a point, between the centres of pixels by their distances; outside, that of the nearest pixel. */
 static inline double brightness(const struct plane *plane, struct point at) {
-    double least = -plane->frame, x = at.x - 0.5, y = at.y - 0.5, most_x = plane->width - 1 - least, most_y = plane->height - 1 - least;
+    double least = -plane->frame, x = at.x - 0.5, y = at.y - 0.5, most_x = plane->width - 1 - least,
+           most_y = plane->height - 1 - least;
     x = !(x > least) ? least : x > most_x ? most_x : x;
     y = !(y > least) ? least : y > most_y ? most_y : y;
     int column = (int)(x - least) - plane->frame, row = (int)(y - least) - plane->frame;

@@ -75,7 +75,8 @@ bool is_known(const struct search *search, struct point at) {
 
 bool judge_all(struct search *search, const struct sight *sight, struct placement *placements, int count,
                double scale) {
-    search->judge.picture = &sight->picture, search->judge.smooth = &sight->levels[0], search->judge.is_inverted = sight->is_inverted;
+    search->judge.picture = &sight->picture, search->judge.smooth = &sight->levels[0],
+    search->judge.is_inverted = sight->is_inverted;
     for (int k = 0; k < count && !is_over(search); k++) {
         struct placement *placement = &placements[k];
         for (int column = 0; column < 3; column++)
@@ -92,8 +93,8 @@ bool judge_all(struct search *search, const struct sight *sight, struct placemen
 /* ---- By solid borders, at one level */
 
 /* Tries the elbows of a scene from `first` up to, not including, `last`. */
-static void search_elbows(struct search *search, const struct sight *sight, int level, struct scene scene, const struct elbow *first,
-                          const struct elbow *last) {
+static void search_elbows(struct search *search, const struct sight *sight, int level, struct scene scene,
+                          const struct elbow *first, const struct elbow *last) {
     struct placement placements[MOST_PLACEMENTS];
     double scale = 1 << level;
     for (const struct elbow *elbow = first; elbow < last && !is_over(search); elbow++) {
@@ -121,7 +122,8 @@ static void search_lively(struct search *search, struct sight *sight, int level)
     struct plane dark;
     bool is_made = darken(search, grey, level, AROUND, &dark) && find_all_elbows(search, &dark, elbows);
     if (is_made)
-        search_elbows(search, sight, level, (struct scene){grey, &dark, search->judge.end}, elbows->items, elbows->items + elbows->lively);
+        search_elbows(search, sight, level, (struct scene){grey, &dark, search->judge.end}, elbows->items,
+                      elbows->items + elbows->lively);
     note_lack(search, is_made);
     plane_free(&dark);
 }
@@ -135,14 +137,14 @@ static void search_still(struct search *search, struct sight *sight, int level) 
         return;
     bool is_made = darken(search, grey, level, AROUND, &dark);
     if (is_made)
-        search_elbows(search, sight, level, (struct scene){grey, &dark, search->judge.end}, elbows->items + elbows->lively,
-                      elbows->items + elbows->count);
+        search_elbows(search, sight, level, (struct scene){grey, &dark, search->judge.end},
+                      elbows->items + elbows->lively, elbows->items + elbows->count);
     note_lack(search, is_made);
     plane_free(&dark);
 }
 
-/* Finds the elbows of a fine level in another way, against noise and sudden changes of light, and tries the lively ones. That is for pictures in
- * which nothing else has been found. */
+/* Finds the elbows of a fine level in another way, against noise and sudden changes of light, and tries the lively
+ * ones. That is for pictures in which nothing else has been found. */
 static void search_calm(struct search *search, struct sight *sight, int level) {
     struct elbows *elbows = &search->calm;
     struct plane grey, dark = {0};
@@ -151,7 +153,8 @@ static void search_calm(struct search *search, struct sight *sight, int level) {
     bool is_made = plane_calm(&sight->levels[level], search->judge.end, &grey) &&
                    darken(search, &grey, level, CLOSE_AROUND, &dark) && find_all_elbows(search, &dark, elbows);
     if (is_made)
-        search_elbows(search, sight, level, (struct scene){&grey, &dark, search->judge.end}, elbows->items, elbows->items + elbows->lively);
+        search_elbows(search, sight, level, (struct scene){&grey, &dark, search->judge.end}, elbows->items,
+                      elbows->items + elbows->lively);
     note_lack(search, is_made);
     plane_free(&grey);
     plane_free(&dark);
@@ -165,7 +168,8 @@ static void search_woven(struct search *search, struct sight *sight, int level) 
 }
 
 /* Searches all levels in one of these ways. */
-static void search_levels(struct search *search, struct sight *sight, void (*search_level)(struct search *, struct sight *, int)) {
+static void search_levels(struct search *search, struct sight *sight,
+                          void (*search_level)(struct search *, struct sight *, int)) {
     static const int order[LEVELS] = {1, 0, 2, 3, 4, 5};
     for (int k = 0; k < LEVELS && !is_over(search); k++)
         if (order[k] < sight->level_count)
@@ -220,12 +224,13 @@ static void search_picture(struct search *search, const struct plane *picture) {
     sight_free(inverted);
 }
 
-uint16_t ecc200_sample_picture(const uint8_t *luminance, size_t width, size_t height, size_t stride, const ecc200_sample_options *options,
-                               ecc200_sample *out, size_t room, size_t *count) {
+uint16_t ecc200_sample_picture(const uint8_t *luminance, size_t width, size_t height, size_t stride,
+                               const ecc200_sample_options *options, ecc200_sample *out, size_t room, size_t *count) {
     ecc200_sample_options usual = ecc200_sample_usual();
     struct layouts layouts = {0};
     *count = 0;
-    if (width == 0 || height == 0 || width > ECC200_SAMPLE_MOST_SIDE || height > ECC200_SAMPLE_MOST_SIDE || stride < width)
+    if (width == 0 || height == 0 || width > ECC200_SAMPLE_MOST_SIDE || height > ECC200_SAMPLE_MOST_SIDE ||
+        stride < width)
         return ECC200_SAMPLE_PICTURE;
     struct plane picture = {.width = (int)width, .height = (int)height, .stride = stride, .pixels = luminance};
     struct search *search = calloc(1, sizeof *search);

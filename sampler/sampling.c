@@ -5,7 +5,7 @@
 
 enum { POINTS = 4 };
 static const double FIRST = -0.27, APART = 0.18; /* modules: where the points of a module are */
-static const double LEAST_AROUND = 0.15;         /* of the contrast of the symbol, below which a window shows one colour only */
+static const double LEAST_AROUND = 0.15; /* of the contrast of the symbol, below which a window shows one colour only */
 
 void sample_modules(const struct plane *plane, const struct layout *layout, const struct lie *lie, double x, double y,
                     struct brightnesses *out) {
@@ -16,7 +16,8 @@ void sample_modules(const struct plane *plane, const struct layout *layout, cons
             const struct warp *warp = &lie->warps[row / region * lie->across + column / region];
             double total = 0;
             for (int k = 0; k < POINTS * POINTS; k++) {
-                double right = column + 0.5 + x + FIRST + APART * (k % POINTS), down = row + 0.5 + y + FIRST + APART * (k / POINTS);
+                double right = column + 0.5 + x + FIRST + APART * (k % POINTS),
+                       down = row + 0.5 + y + FIRST + APART * (k / POINTS);
                 total += brightness(plane, warp_point(warp, right, down));
             }
             out->of[row * side + column] = (float)(total / (POINTS * POINTS));
@@ -37,7 +38,8 @@ static double level_at(const struct level *level, int side, int column, int row)
     return level->a + level->b * place_of(side, column) + level->c * place_of(side, row);
 }
 
-/* What is summed up to fit a level: of the modules, of their products with x and y, and of these with the brightness. */
+/* What is summed up to fit a level: of the modules, of their products with x and y, and of these with the brightness.
+ */
 struct sums {
     double n, x, y, xx, xy, yy, v, xv, yv;
 };
@@ -48,7 +50,8 @@ static void add_module(struct sums *sums, double x, double y, double v) {
 }
 
 /* The level of the modules of a class, without those that are farther than `most` from the level before. */
-static bool fit_level(const float *of, int side, const uint8_t *class, int wanted, const struct level *before, double most, struct level *out) {
+static bool fit_level(const float *of, int side, const uint8_t *class, int wanted, const struct level *before,
+                      double most, struct level *out) {
     struct sums sums = {0};
     for (int row = 0; row < side; row++) {
         double y = place_of(side, row);
@@ -58,7 +61,8 @@ static bool fit_level(const float *of, int side, const uint8_t *class, int wante
                 add_module(&sums, x, y, *of);
         }
     }
-    double stiff = 0.2, matrix[9] = {sums.n, sums.x, sums.y, sums.x, sums.xx + stiff, sums.xy, sums.y, sums.xy, sums.yy + stiff};
+    double stiff = 0.2,
+           matrix[9] = {sums.n, sums.x, sums.y, sums.x, sums.xx + stiff, sums.xy, sums.y, sums.xy, sums.yy + stiff};
     double values[3] = {sums.v, sums.xv, sums.yv};
     if (sums.n < 4 || !solve(matrix, values, 3))
         return false;
@@ -108,13 +112,16 @@ static void sharpen(const struct brightnesses *from, const struct levels *levels
 static void divide(const float *of, int side, const struct levels *levels, double offset, uint8_t *modules) {
     for (int row = 0; row < side; row++)
         for (int column = 0; column < side; column++) {
-            double light = level_at(&levels->of[LIGHT], side, column, row), dark = level_at(&levels->of[DARK], side, column, row);
+            double light = level_at(&levels->of[LIGHT], side, column, row),
+                   dark = level_at(&levels->of[DARK], side, column, row);
             *modules++ = *of++ < dark + (0.5 + offset) * (light - dark);
         }
 }
 
-/* Writes for each module of a line the least and the most of those of a window of 2 * `around` + 1 of them, which is moved into the line. */
-static void find_extremes(const float *least, const float *most, int side, int step, int around, float *out_least, float *out_most) {
+/* Writes for each module of a line the least and the most of those of a window of 2 * `around` + 1 of them, which is
+ * moved into the line. */
+static void find_extremes(const float *least, const float *most, int side, int step, int around, float *out_least,
+                          float *out_most) {
     for (int k = 0; k < side; k++) {
         int first = k - around < 0 ? 0 : k + around >= side ? side - 1 - 2 * around : k - around;
         float low = least[first * step], high = most[first * step];
@@ -126,7 +133,8 @@ static void find_extremes(const float *least, const float *most, int side, int s
     }
 }
 
-/* Divides by the middle between the darkest and the lightest module around each, where these differ by a share of the contrast. */
+/* Divides by the middle between the darkest and the lightest module around each, where these differ by a share of the
+ * contrast. */
 static void divide_around(const float *of, int side, double contrast, int around, uint8_t *modules) {
     float rows[2][MOST_SIDE * MOST_SIDE], squares[2][MOST_SIDE * MOST_SIDE];
     for (int row = 0; row < side; row++)

@@ -28,7 +28,7 @@ struct rule {
     double sharpening;     /* how much of the difference to the four neighbours is added: undoes blur */
     double offset;         /* of the threshold, as a share of the contrast: above 0, more modules are dark */
     bool is_by_all;        /* whether the levels are those of all modules; else of the border alone */
-    int around;            /* not 0: each module's threshold is that of a square of modules, so many around it each way */
+    int around; /* not 0: each module's threshold is that of a square of modules, so many around it each way */
     bool is_cleanest;      /* whether that is the clearest square that the module lies in, not the one around it */
 };
 

@@ -2,9 +2,10 @@
 
 #include <math.h>
 
-static const double WIDEST = 0.44;                 /* by how much, in radians, opposite borders may differ in direction */
+static const double WIDEST = 0.44; /* by how much, in radians, opposite borders may differ in direction */
 static const double LEAST_TRACK = 0.68, LEAST_SOLID = 0.6;
-static const double STILL_BEFORE = 12, STILL_BETWEEN = 6; /* modules without a turn after which a track is given up, at its start and later */
+/* Modules without a turn after which a track is given up, at its start and later. */
+static const double STILL_BEFORE = 12, STILL_BETWEEN = 6;
 
 /* ---- The line along an alternating border */
 
@@ -23,7 +24,8 @@ struct rhythm {
 
 /* Whether the track has ended before `way`, or hasn't begun: nothing turned for too many modules. */
 static bool is_still(const struct rhythm *rhythm, double way, double module) {
-    return rhythm->turns > 4 ? way - rhythm->last > STILL_BETWEEN * rhythm->mean : way - rhythm->last > STILL_BEFORE * module;
+    return rhythm->turns > 4 ? way - rhythm->last > STILL_BETWEEN * rhythm->mean
+                             : way - rhythm->last > STILL_BEFORE * module;
 }
 
 /* Takes a turn into account. False where the track has ended: nothing turns for too long. */
@@ -43,7 +45,8 @@ static bool add_turn(struct rhythm *rhythm, double place) {
     return true;
 }
 
-/* Follows the turns of brightness along the track, of at least `least` in brightness, and counts those that come evenly. */
+/* Follows the turns of brightness along the track, of at least `least` in brightness, and counts those that come
+ * evenly. */
 static void follow(const struct plane *grey, struct track *track, double module, double longest, int least) {
     struct rhythm rhythm = {0};
     double step = fmax(module / 7, 0.5);
@@ -52,7 +55,8 @@ static void follow(const struct plane *grey, struct track *track, double module,
     double place = 0;
     track->darks = 0;
     struct point at = track->from, move = scale_by(track->along, step);
-    for (double way = 0; way < longest && rhythm.bad < rhythm.good + 4 && !is_still(&rhythm, way, module); way += step, at = sum(at, move)) {
+    for (double way = 0; way < longest && rhythm.bad < rhythm.good + 4 && !is_still(&rhythm, way, module);
+         way += step, at = sum(at, move)) {
         int here = grey_at(grey, at);
         if (seeks_dark ? here < extreme : here > extreme) {
             extreme = here, place = way;
@@ -67,22 +71,25 @@ static void follow(const struct plane *grey, struct track *track, double module,
 }
 
 /* The share of dark pixels beside the track, outside of the symbol. */
-static double darkness_beside(const struct plane *dark, const struct track *track, struct point outwards, double module, double whole) {
+static double darkness_beside(const struct plane *dark, const struct track *track, struct point outwards, double module,
+                              double whole) {
     int count = 0;
     enum { PLACES = 40 };
     for (int k = 0; k < PLACES; k++)
-        count += dark_at(dark, sum(sum(track->from, scale_by(outwards, 1.1 * module)), scale_by(track->along, whole * (k + 0.5) / PLACES)));
+        count += dark_at(dark, sum(sum(track->from, scale_by(outwards, 1.1 * module)),
+                                   scale_by(track->along, whole * (k + 0.5) / PLACES)));
     return (double)count / PLACES;
 }
 
 /* What the tracks near one end of a solid border have in common. */
 struct start {
-    struct point end, inwards, along; /* the end; the directions back along its own border and along the other, of length 1 */
+    struct point end, inwards, along; /* the end; the directions back along its own border and the other, of length 1 */
     double whole, module;             /* pixels: the other border's length; about the width of a module */
     int least;                        /* the least turn of brightness */
 };
 
-/* A range of tracks: where they begin, in modules from the end of the solid border, and their angles, both in steps around a middle. */
+/* A range of tracks: where they begin, in modules from the end of the solid border, and their angles, both in steps
+ * around a middle. */
 struct fan {
     double shift, shift_reach, shift_step, angle, angle_reach, angle_step;
 };
@@ -93,12 +100,14 @@ static void look_around(const struct scene *scene, const struct start *start, st
     double last = from.shift + from.shift_reach + 0.01;
     for (double s = from.shift - from.shift_reach; s <= last && !clock_reached(scene->end); s += from.shift_step)
         for (double a = from.angle - from.angle_reach; a <= from.angle + from.angle_reach; a += from.angle_step) {
-            struct track track = {.from = sum(start->end, scale_by(start->inwards, s * start->module)), .along = turn_by(start->along, a)};
+            struct track track = {.from = sum(start->end, scale_by(start->inwards, s * start->module)),
+                                  .along = turn_by(start->along, a)};
             follow(scene->grey, &track, start->module, 1.4 * start->whole, start->least);
             track.score -= 0.3 * fabs(s - 0.5);
             if (track.score <= best->score)
                 continue;
-            double beside = darkness_beside(scene->dark, &track, scale_by(start->inwards, -1), start->module, start->whole);
+            double beside =
+                darkness_beside(scene->dark, &track, scale_by(start->inwards, -1), start->module, start->whole);
             track.score *= 1 - beside;
             if (track.score > best->score)
                 *best = track, fan->shift = s, fan->angle = a;
@@ -126,7 +135,8 @@ static bool is_even(const struct track *track) {
     return track->darks > 4 && track->score > track->darks;
 }
 
-/* The tracks from both ends. If one is clear and the other isn't, that border was perhaps seen too short or too long. */
+/* The tracks from both ends. If one is clear and the other isn't, that border was perhaps seen too short or too long.
+ */
 static void find_tracks(const struct scene *scene, const struct start starts[2], struct track tracks[2]) {
     for (int k = 0; k < 2; k++)
         tracks[k] = track_from(scene, &starts[k], 0.75, 1.25);
@@ -145,7 +155,8 @@ struct fit {
     int right, counted, solid, solid_counted;
 };
 
-/* Looks at a module of an alternating border between its two neighbours on it: it should be darker than these, or lighter. */
+/* Looks at a module of an alternating border between its two neighbours on it: it should be darker than these, or
+ * lighter. */
 static void look(const int of[3], bool is_dark, struct fit *fit) {
     int bend = of[0] + of[2] - 2 * of[1];
     fit->right += is_dark ? bend > 0 : bend < 0;
@@ -159,11 +170,13 @@ static struct fit fit_of(const struct scene *scene, const struct homography *to_
     for (int k = 0; k < side; k++) {
         top[k % 3] = grey_at(scene->grey, map_point(to_picture, k + 0.5, 0.5));
         right[k % 3] = grey_at(scene->grey, map_point(to_picture, side - 0.5, k + 0.5));
-        fit.solid += dark_at(scene->dark, map_point(to_picture, 0.5, k + 0.5)) + dark_at(scene->dark, map_point(to_picture, k + 0.5, side - 0.5));
+        fit.solid += dark_at(scene->dark, map_point(to_picture, 0.5, k + 0.5)) +
+                     dark_at(scene->dark, map_point(to_picture, k + 0.5, side - 0.5));
         fit.solid_counted += 2;
         if (k < 2)
             continue;
-        int along[3] = {top[(k - 2) % 3], top[(k - 1) % 3], top[k % 3]}, down[3] = {right[(k - 2) % 3], right[(k - 1) % 3], right[k % 3]};
+        int along[3] = {top[(k - 2) % 3], top[(k - 1) % 3], top[k % 3]},
+            down[3] = {right[(k - 2) % 3], right[(k - 1) % 3], right[k % 3]};
         look(along, k % 2 == 1, &fit);
         look(down, k % 2 == 0, &fit);
     }
@@ -188,7 +201,8 @@ struct frame {
 };
 
 /* The frame of a side, with the fourth point moved by so many modules each way: the best of these. */
-static struct placement best_near(const struct scene *scene, const struct frame *frame, int side, double reach, double step) {
+static struct placement best_near(const struct scene *scene, const struct frame *frame, int side, double reach,
+                                  double step) {
     struct placement best = {.side = side, .score = 0};
     struct point along = scale_by(difference(frame->pixels[3], frame->pixels[0]), 1.0 / side);
     struct point down = scale_by(difference(frame->pixels[2], frame->pixels[3]), 1.0 / side);
@@ -233,13 +247,15 @@ int placements_of(const struct scene *scene, const struct elbow *elbow, struct p
     find_tracks(scene, starts, tracks);
     if (top->score < 2 || right->score < 2 || !intersection(top->from, top->along, right->from, right->along, &meeting))
         return 0;
-    int fewer = top->darks < right->darks ? top->darks : right->darks, more = top->darks + right->darks - fewer, sides[SIZES];
+    int fewer = top->darks < right->darks ? top->darks : right->darks, more = top->darks + right->darks - fewer,
+        sides[SIZES];
     list_sides(sides);
     for (int k = 0; k < SIZES; k++) {
         double side = sides[k];
         if (side < 0.75 * 2 * fewer || side > 1.35 * 2 * more)
             continue;
-        struct frame frame = {{{0, 0.5}, {0, side}, {side - 0.5, side}, {side - 0.5, 0.5}}, {top->from, elbow->corner, right->from, meeting}};
+        struct frame frame = {{{0, 0.5}, {0, side}, {side - 0.5, side}, {side - 0.5, 0.5}},
+                              {top->from, elbow->corner, right->from, meeting}};
         struct placement placement = best_near(scene, &frame, (int)side, 1.0, 0.5);
         if (placement.score > 0)
             keep_best(out, &count, placement);

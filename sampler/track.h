@@ -1,4 +1,5 @@
-/* From the solid borders to the whole symbol: the alternating borders opposite them, and with these the size and the fourth corner. */
+/* From the solid borders to the whole symbol: the alternating borders opposite them, and with these the size and the
+ * fourth corner. */
 #ifndef TRACK_H
 #define TRACK_H
 

@@ -3,8 +3,8 @@
 #include <math.h>
 #include <string.h>
 
-/* An edge is looked for along a line across it, on which the picture is sampled TICK modules apart: the steepest place within REACH ticks
- * of where it should be, by the difference of the means of WINDOW ticks on both sides. */
+/* An edge is looked for along a line across it, on which the picture is sampled TICK modules apart: the steepest place
+ * within REACH ticks of where it should be, by the difference of the means of WINDOW ticks on both sides. */
 enum {
     REACH = 6,
     WINDOW = 5,
@@ -61,12 +61,14 @@ static double offset_of(const double profile[SAMPLES], int darkens, double *offs
     return best == 0 || best == 2 * REACH ? 0 : rises[best];
 }
 
-/* The equations of least squares for the eight parameters of a small projective change, in coordinates from -0.5 to 0.5. */
+/* The equations of least squares for the eight parameters of a small projective change, in coordinates from -0.5 to
+ * 0.5. */
 struct equations {
     double matrix[PARAMETERS * PARAMETERS], values[PARAMETERS];
 };
 
-static void add_equation(struct equations *equations, const struct witness *witness, double side, double offset, double weight) {
+static void add_equation(struct equations *equations, const struct witness *witness, double side, double offset,
+                         double weight) {
     double x = witness->x / side - 0.5, y = witness->y / side - 0.5, place = witness->is_upright ? x : y;
     double row[PARAMETERS] = {0}, *three = witness->is_upright ? row : row + 3;
     three[0] = 1, three[1] = x, three[2] = y, row[6] = place * x, row[7] = place * y;
@@ -79,14 +81,16 @@ static void add_equation(struct equations *equations, const struct witness *witn
 
 static struct homography changed(const struct homography *to_picture, const double change[PARAMETERS], double side) {
     struct homography inner = {{{1 / side, 0, -0.5}, {0, 1 / side, -0.5}, {0, 0, 1}}};
-    struct homography warp = {{{1 + change[1], change[2], change[0]}, {change[4], 1 + change[5], change[3]}, {-change[6], -change[7], 1}}};
+    struct homography warp = {
+        {{1 + change[1], change[2], change[0]}, {change[4], 1 + change[5], change[3]}, {-change[6], -change[7], 1}}};
     struct homography outer = {{{side, 0, 0.5 * side}, {0, side, 0.5 * side}, {0, 0, 1}}};
     struct homography first = compose(&warp, &inner), second = compose(&outer, &first);
     return compose(to_picture, &second);
 }
 
 static bool lies_in(const struct witness *witness, struct part part) {
-    return witness->x >= part.first_x && witness->x <= part.last_x && witness->y >= part.first_y && witness->y <= part.last_y;
+    return witness->x >= part.first_x && witness->x <= part.last_x && witness->y >= part.first_y &&
+           witness->y <= part.last_y;
 }
 
 struct edge {

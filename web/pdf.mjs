@@ -49,7 +49,8 @@ export function pdfOf(pages) {
   const objects = ["<< /Type /Catalog /Pages 2 0 R >>", `<< /Type /Pages /Kids [${kids}] /Count ${pages.length} >>`,
     "<< /Type /Font /Subtype /Type1 /BaseFont /Courier /Encoding /WinAnsiEncoding >>"];
   for (const [k, page] of pages.entries()) {
-    const content = contentOf(page), box = `0 0 ${number(page.width / MILLIMETRES)} ${number(page.height / MILLIMETRES)}`;
+    const width = number(page.width / MILLIMETRES), height = number(page.height / MILLIMETRES);
+    const content = contentOf(page), box = `0 0 ${width} ${height}`;
     objects.push(`<< /Type /Page /Parent 2 0 R /MediaBox [${box}] /Resources << /Font << /F 3 0 R >> >> `
       + `/Contents ${first + 2 * k + 1} 0 R >>`, `<< /Length ${content.length} >>\nstream\n${content}endstream`);
   }

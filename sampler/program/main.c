@@ -31,10 +31,11 @@ static void report(const struct options *options, const char *file, const ecc200
 }
 
 /* Samples a picture. `symbols` has room for MOST_SYMBOLS. */
-static enum outcome sample(const struct options *options, const char *file, const struct picture *picture, ecc200_sample *symbols) {
+static enum outcome sample(const struct options *options, const char *file, const struct picture *picture,
+                           ecc200_sample *symbols) {
     size_t count, room = options->all ? MOST_SYMBOLS : 1;
-    uint16_t code = ecc200_sample_picture(picture->luminance, picture->width, picture->height, picture->width, &options->sampling, symbols, room,
-                                          &count);
+    uint16_t code = ecc200_sample_picture(picture->luminance, picture->width, picture->height, picture->width,
+                                          &options->sampling, symbols, room, &count);
     if (code != ECC200_SAMPLE_OK)
         return complain(file, code == ECC200_SAMPLE_NO_MEMORY ? "no memory" : "a size that isn't sampled");
     for (size_t k = 0; k < count; k++)

@@ -5,15 +5,19 @@
 #include <stdio.h>
 #include <stdlib.h>
 
-static const char USAGE[] = "usage: dm_sample [--all] [--corners] [--json] [--unread] [--time MS] [--margin N] [--min-modules N] [FILE..]\n";
+static const char USAGE[] =
+    "usage: dm_sample [--all] [--corners] [--json] [--unread] [--time MS] [--margin N] [--min-modules N] [FILE..]\n";
 static const char HELP[] =
     "\n"
-    "Finds square Data Matrix symbols in pictures (PNG, JPEG, PNM), and prints their grids, upright, as `dm_tool read` takes them:\n"
+    "Finds square Data Matrix symbols in pictures (PNG, JPEG, PNM), and prints their grids, upright, as `dm_tool read` "
+    "takes them:\n"
     "a line of 0 and 1 for each row of modules, and an empty line. Without a FILE, or for -, it reads standard input.\n"
     "\n"
     "  -a, --all            all symbols of a picture, and not only the first that is found\n"
-    "  -c, --corners        before each record, its file and corners on standard error: top left, top right, bottom right, bottom left\n"
-    "  -j, --json           a line of JSON for each symbol instead of a record: also message, corrections, side and corners\n"
+    "  -c, --corners        before each record, its file and corners on standard error: top left, top right, bottom "
+    "right, bottom left\n"
+    "  -j, --json           a line of JSON for each symbol instead of a record: also message, corrections, side and "
+    "corners\n"
     "  -u, --unread         where no symbol is read, print the likeliest grid that has a symbol's border\n"
     "  -t, --time MS        how long to try at most for each picture, in milliseconds (usually 1000)\n"
     "  -m, --margin N       take only readings that leave N corrections of each block unused (usually 0)\n"
@@ -21,7 +25,8 @@ static const char HELP[] =
     "  -h, --help           print this, and end\n"
     "  -V, --version        print the version, and end\n"
     "\n"
-    "Status: 0; 1: in some picture nothing was found; 2: the command line is wrong; 3: a file couldn't be read, or a write failed.\n";
+    "Status: 0; 1: in some picture nothing was found; 2: the command line is wrong; 3: a file couldn't be read, or a "
+    "write failed.\n";
 
 _Noreturn static void refuse_usage(void) {
     fputs("dm_sample: ", stderr);
@@ -48,10 +53,16 @@ static unsigned long number(const char *text, unsigned long most) {
 
 int options_read(int count, char **words, struct options *out) {
     enum { LEAST_MODULES = 256 };
-    static const struct option names[] = {
-        {"all", no_argument, NULL, 'a'},        {"corners", no_argument, NULL, 'c'}, {"json", no_argument, NULL, 'j'},
-        {"unread", no_argument, NULL, 'u'},     {"time", required_argument, NULL, 't'}, {"margin", required_argument, NULL, 'm'},
-        {"min-modules", required_argument, NULL, LEAST_MODULES}, {"help", no_argument, NULL, 'h'}, {"version", no_argument, NULL, 'V'}, {0}};
+    static const struct option names[] = {{"all", no_argument, NULL, 'a'},
+                                          {"corners", no_argument, NULL, 'c'},
+                                          {"json", no_argument, NULL, 'j'},
+                                          {"unread", no_argument, NULL, 'u'},
+                                          {"time", required_argument, NULL, 't'},
+                                          {"margin", required_argument, NULL, 'm'},
+                                          {"min-modules", required_argument, NULL, LEAST_MODULES},
+                                          {"help", no_argument, NULL, 'h'},
+                                          {"version", no_argument, NULL, 'V'},
+                                          {0}};
     *out = (struct options){.sampling = ecc200_sample_usual()};
     opterr = 0;
     for (int option; (option = getopt_long(count, words, "acjut:m:hV", names, NULL)) != -1;) {

@@ -17,7 +17,8 @@ struct picture {
 };
 
 /* Each of these returns NULL, or in words what is wrong, and then `out` needs no freeing. */
-const char *picture_read(const char *path, struct picture *out); /* "-" is standard input; the format is seen from the first bytes */
+const char *picture_read(const char *path,
+                         struct picture *out); /* "-" is standard input; the format is seen from the first bytes */
 const char *png_read(struct bytes from, struct picture *out);
 const char *jpeg_read(struct bytes from, struct picture *out);
 const char *pnm_read(struct bytes from, struct picture *out);

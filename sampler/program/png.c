@@ -39,7 +39,8 @@ static void take(png_structp png, png_bytep to, size_t count) {
     reading->at += count;
 }
 
-/* The luminance of a pixel of one to four samples, which are grey or red, green and blue, and then perhaps opacity, on white. */
+/* The luminance of a pixel of one to four samples, which are grey or red, green and blue, and then perhaps opacity, on
+ * white. */
 static uint8_t luminance_of(const uint8_t *samples, int count) {
     unsigned grey = count < 3 ? samples[0] : (299u * samples[0] + 587u * samples[1] + 114u * samples[2] + 500) / 1000;
     unsigned opacity = count % 2 == 0 ? samples[count - 1] : 255;
@@ -70,8 +71,8 @@ static void read_passes(struct reading *reading) {
         return;
     }
     for (int k = 0; k < PNG_INTERLACE_ADAM7_PASSES; k++)
-        read_pass(reading, (struct pass){PNG_PASS_START_COL(k), (size_t)1 << PNG_PASS_COL_SHIFT(k), PNG_PASS_START_ROW(k),
-                                         (size_t)1 << PNG_PASS_ROW_SHIFT(k)});
+        read_pass(reading, (struct pass){PNG_PASS_START_COL(k), (size_t)1 << PNG_PASS_COL_SHIFT(k),
+                                         PNG_PASS_START_ROW(k), (size_t)1 << PNG_PASS_ROW_SHIFT(k)});
 }
 
 /* Samples are taken as they are stored, in eight bits, whatever gamma the file tells: a threshold needs no more. */
@@ -82,8 +83,8 @@ static const char *read_all(struct reading *reading) {
         return "no memory";
     png_set_read_fn(reading->png, reading, take);
     png_read_info(reading->png, reading->info);
-    const char *problem =
-        picture_make(png_get_image_width(reading->png, reading->info), png_get_image_height(reading->png, reading->info), &reading->picture);
+    const char *problem = picture_make(png_get_image_width(reading->png, reading->info),
+                                       png_get_image_height(reading->png, reading->info), &reading->picture);
     if (problem != NULL)
         return problem;
     png_set_expand(reading->png);

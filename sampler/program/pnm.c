@@ -4,7 +4,8 @@
 
 #include "picture.h"
 
-static const char *const CUT_SHORT = "PNM: cut short", *const HEADER = "PNM: a faulty header", *const SAMPLE = "PNM: a faulty sample";
+static const char *const CUT_SHORT = "PNM: cut short", *const HEADER = "PNM: a faulty header",
+                         *const SAMPLE = "PNM: a faulty sample";
 
 /* Where in the file reading is. */
 struct reader {
@@ -100,7 +101,8 @@ static size_t least_bytes(const struct header *header, size_t width, size_t heig
 const char *pnm_read(struct bytes from, struct picture *out) {
     struct reader reader = {from, 2};
     int kind = from.items[1] - '0';
-    struct header header = {.is_text = kind <= 3, .is_bits = kind % 3 == 1, .samples = kind % 3 == 0 ? 3 : 1, .most = 1};
+    struct header header = {
+        .is_text = kind <= 3, .is_bits = kind % 3 == 1, .samples = kind % 3 == 0 ? 3 : 1, .most = 1};
     long width = number(&reader, 1000000), height = number(&reader, 1000000);
     if (!header.is_bits)
         header.most = number(&reader, 65535);

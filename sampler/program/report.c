@@ -28,11 +28,17 @@ void report_corners(const char *file, const ecc200_sample *symbol) {
 
 /* How many bytes the UTF-8 character at the start of the text has; 0 if there is none. */
 static int utf8_length(const unsigned char *text) {
-    int more = text[0] < 0x80 ? 0 : text[0] < 0xC2 ? -1 : text[0] < 0xE0 ? 1 : text[0] < 0xF0 ? 2 : text[0] < 0xF5 ? 3 : -1;
+    int more = text[0] < 0x80   ? 0
+               : text[0] < 0xC2 ? -1
+               : text[0] < 0xE0 ? 1
+               : text[0] < 0xF0 ? 2
+               : text[0] < 0xF5 ? 3
+                                : -1;
     for (int k = 1; k <= more; k++)
         if ((text[k] & 0xC0) != 0x80)
             return 0;
-    bool is_surrogate = text[0] == 0xED && text[1] >= 0xA0, is_long = (text[0] == 0xE0 && text[1] < 0xA0) || (text[0] == 0xF0 && text[1] < 0x90);
+    bool is_surrogate = text[0] == 0xED && text[1] >= 0xA0,
+         is_long = (text[0] == 0xE0 && text[1] < 0xA0) || (text[0] == 0xF0 && text[1] < 0x90);
     return is_surrogate || is_long || (text[0] == 0xF4 && text[1] >= 0x90) ? 0 : more + 1;
 }
 
@@ -93,7 +99,8 @@ void report_json(const char *file, const ecc200_sample *symbol) {
     printf(",\"side\":%d,\"corners\":[", symbol->side);
     for (int k = 0; k < 4; k++)
         printf("%s[%.1f,%.1f]", k > 0 ? "," : "", symbol->corners[k].x, symbol->corners[k].y);
-    printf("],\"inverted\":%s,\"mirrored\":%s,", symbol->inverted ? "true" : "false", symbol->mirrored ? "true" : "false");
+    printf("],\"inverted\":%s,\"mirrored\":%s,", symbol->inverted ? "true" : "false",
+           symbol->mirrored ? "true" : "false");
     put_reading(&symbol->reading);
     fputs(",\"grid\":[", stdout);
     for (int row = 0; row < symbol->side; row++) {

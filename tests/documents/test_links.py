@@ -17,9 +17,7 @@ PATH = re.compile(r"(?:crates|tests|tools|docs|library|packaging|bench|sampler|w
                   r"|[\w/]+\.(?:rt|antt|mjs)")
 # How the files end that people write, besides documents and scripts: code, proofs, pages, manual pages, settings.
 WRITTEN = (".py", ".c", ".h", ".cpp", ".rs", ".java", ".rt", ".antt", ".mjs", ".js", ".css", ".html", ".toml", ".in",
-           ".1", ".3", ".edit", "CMakeLists.txt", ".editorconfig", "command_line")
-# The folders in which lines aren't all within 120 columns yet.
-NOT_YET = ("crates", "sampler", "tests/page", "web")
+           ".1", ".3", "CMakeLists.txt", ".editorconfig", "command_line")
 
 
 def documents():
@@ -70,11 +68,9 @@ def is_written(path):
 
 
 def written():
-    """The files that people write, but in the folders whose lines aren't all within the columns yet."""
-    left = {places.path(folder) for folder in NOT_YET}
+    """The files that people write, but for the edits, whose texts are of one line each."""
     for at, folders, names in os.walk(places.TOP):
-        folders[:] = sorted(it for it in folders if it not in (".git", "out", "__pycache__")
-                            and os.path.join(at, it) not in left)
+        folders[:] = sorted(it for it in folders if it not in (".git", "out", "__pycache__"))
         yield from (os.path.join(at, name) for name in sorted(names) if is_written(os.path.join(at, name)))
 
 

@@ -122,7 +122,8 @@ def text_and_gs1():
     count.expect("text in the link", (fields()["message"], fields()["as"]), (TEXT, "text"))
     on.page.refresh()
     started()
-    count.expect("text after a reload", (grid(), find("kind-text").is_selected()), (written(spelled(TEXT.encode())), True))
+    wanted = written(spelled(TEXT.encode())), True
+    count.expect("text after a reload", (grid(), find("kind-text").is_selected()), wanted)
     put("message", "a\\b (01) \\F\n2")
     count.expect(
         "nothing is spelled in text", (shown()["says"], text_of("message-hint")), ("a\\\\b (01) \\\\F\\x0A2", "")

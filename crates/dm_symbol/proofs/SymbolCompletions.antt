@@ -15,16 +15,8 @@ use Rattle.dm_words.specs.Pads.{padded}
 use Rattle.dm_words.specs.Messages.{IsMessage}
 use Rattle.dm_code.specs.Codeword.{IsCodeword}
 use Rattle.dm_modules.specs.declared.size.SizeChoice.{SizeChoice}
-use Rattle.dm_modules.specs.Sizes.{
-  SizeEntry,
-  IsSize,
-  entry_for,
-  takes,
-  size_table,
-  block_data,
-  block_check,
-  block_length,
-}
+use Rattle.dm_modules.specs.Sizes.{SizeEntry, IsSize, entry_for, takes}
+use Rattle.dm_modules.specs.Sizes.{size_table, block_data, block_check, block_length}
 use Rattle.dm_modules.specs.Blocks.{AreBlocks}
 use Rattle.dm_modules.specs.Modules.{ModulesView}
 use Rattle.dm_modules.proofs.Exported.{at_found, blocks_make_words, same_data_by_blocks, some_laid}

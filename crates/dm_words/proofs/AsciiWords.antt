@@ -1,5 +1,6 @@
 -- The ASCII form of a message spells it, and is the only greedy joining of units.
-use Rattle.std.proofs.Common.{◌≡◌, ℕ, zero, suc, ◌+◌, ◌-◌, ◌*◌, ◌/◌, ◌%◌, ◌<◌, ◌≤◌, List, [], ◌∷◌, ◌++◌, length, refl, sym, ap, subst, ◌∙◌, arith, Bool, true, false, cond, ltb, ◌&&◌, Some}
+use Rattle.std.proofs.Common.{◌≡◌, ℕ, zero, suc, ◌+◌, ◌-◌, ◌*◌, ◌/◌, ◌%◌, ◌<◌, ◌≤◌, List, [], ◌∷◌, ◌++◌, length, refl}
+use Rattle.std.proofs.Common.{sym, ap, subst, ◌∙◌, arith, Bool, true, false, cond, ltb, ◌&&◌, Some}
 use Rattle.std.specs.Prelude.{IsTrue}
 use Rattle.std.specs.List.{AllByRecursion}
 use Rattle.std.proofs.lemmas.Bool.Decides.{nat_tests}
@@ -10,7 +11,8 @@ use Rattle.dm_words.specs.declared.item.Item.{Item}
 use Rattle.dm_words.specs.declared.item.Item.TheVariants.{Byte, Fnc1}
 use Rattle.dm_words.specs.Codewords.{codeword_of}
 use Rattle.dm_words.specs.Joined.{Piece, spelled, gathered, AreJoined}
-use Rattle.dm_words.specs.Ascii.{IsAsciiUnit, character, digits, fnc1, raised, is_digit, digit_pair, single, ascii, IsOneDigit, BeginsWithDigit, IsGreedy, IsAscii}
+use Rattle.dm_words.specs.Ascii.{IsAsciiUnit, character, digits, fnc1, raised, is_digit, digit_pair, single, ascii}
+use Rattle.dm_words.specs.Ascii.{IsOneDigit, BeginsWithDigit, IsGreedy, IsAscii}
 use Rattle.dm_words.specs.Pads.{further_pads, pads, padded}
 use Rattle.dm_words.specs.Base256.{AreBytes}
 use Rattle.dm_words.specs.Smallest.{SpellsThenPads, plain_padded}
@@ -44,10 +46,12 @@ single_spells b lt after = by_test (ltb b 128) refl where
       let le : 128 ≤ b = grind (arith, nat_tests) in
       let w : b - 127 ≡ (b - 128) + 1 = omega arith in
       let is : Byte b ≡ Byte ((b - 128) + 128) = ap Byte (omega arith) in
-      raised 235 (b - 127) (b - 128) refl (rw w (character_of (b - 128) (omega arith))) refl (ap (λ (i : Item). i ∷ []) is)
+      raised 235 (b - 127) (b - 128) refl (rw w (character_of (b - 128) (omega arith))) refl
+      (ap (λ (i : Item). i ∷ []) is)
 
 -- The codeword of two digits is a unit that means them.
-pub pair_spells : (b c : ℕ) → is_digit b ≡ true → is_digit c ≡ true → IsAsciiUnit (digit_pair b c ∷ []) (Byte b ∷ Byte c ∷ [])
+pub pair_spells : (b c : ℕ) → is_digit b ≡ true → is_digit c ≡ true
+    → IsAsciiUnit (digit_pair b c ∷ []) (Byte b ∷ Byte c ∷ [])
 pair_spells b c hb hc =
     let lb : (48 ≤ b) × (b ≤ 57) = grind (arith, nat_tests) in
     let lc : (48 ≤ c) × (c ≤ 57) = grind (arith, nat_tests) in
@@ -71,12 +75,14 @@ pub record HasUnits (m : List Item) (words : List ℕ) : Type 0 where
   pub whole : words ≡ spelled units
 
 -- Units stay greedy with one more before them, unless this is a single digit before a digit.
-greedy_more : (u : Piece (List Item)) (us : List (Piece (List Item))) → (IsOneDigit u.what → BeginsWithDigit (gathered us) → ⊥) → IsGreedy us → IsGreedy (u ∷ us)
+greedy_more : (u : Piece (List Item)) (us : List (Piece (List Item)))
+    → (IsOneDigit u.what → BeginsWithDigit (gathered us) → ⊥) → IsGreedy us → IsGreedy (u ∷ us)
 greedy_more u [] apart g = tt
 greedy_more u (v ∷ us) apart g = ((λ one begins. apart one (BeginsWithDigit-append v.what (gathered us) begins)), g)
 
 -- A unit before a message that has units makes a message that has units, unless it is a single digit before a digit.
-one_more : (words : List ℕ) (items m : List Item) (rest : List ℕ) → IsAsciiUnit words items → (IsOneDigit items → BeginsWithDigit m → ⊥) → HasUnits m rest → HasUnits (items ++ m) (words ++ rest)
+one_more : (words : List ℕ) (items m : List Item) (rest : List ℕ) → IsAsciiUnit words items
+    → (IsOneDigit items → BeginsWithDigit m → ⊥) → HasUnits m rest → HasUnits (items ++ m) (words ++ rest)
 one_more words items m rest u apart h =
     let p : Piece (List Item) = record { words = words; what = items } in
     record {
@@ -88,24 +94,39 @@ one_more words items m rest u apart h =
     }
 
 -- Two bytes that aren't taken together aren't both digits.
-not_both : (b c : ℕ) (s t : Bool) → is_digit b ≡ s → is_digit c ≡ t → (s && t) ≡ false → IsTrue (is_digit b) → IsTrue (is_digit c) → ⊥
+not_both : (b c : ℕ) (s t : Bool) → is_digit b ≡ s → is_digit c ≡ t → (s && t) ≡ false → IsTrue (is_digit b)
+    → IsTrue (is_digit c) → ⊥
 not_both b c s t es et e hb hc = grind (arith, nat_tests)
 
 -- The form from the left of a message is a joining of such units.
 pub units_of : (m : List Item) → AreItems m → HasUnits m (ascii m)
 units_of [] fit = record { units = []; each = tt; greedy = tt; items = refl; whole = refl }
-units_of (Fnc1 ∷ m) fit = one_more (232 ∷ []) (Fnc1 ∷ []) m (ascii m) (fnc1 232 refl refl refl) (λ one begins. one) (units_of m fit.1)
-units_of (Byte b ∷ []) fit = subst (HasUnits (Byte b ∷ [])) (append-nil (single b)) (one_more (single b) (Byte b ∷ []) [] [] (single_spells b fit.0 []) (λ one begins. begins) (units_of [] tt))
-units_of (Byte b ∷ Fnc1 ∷ m) fit = one_more (single b) (Byte b ∷ []) (Fnc1 ∷ m) (ascii (Fnc1 ∷ m)) (single_spells b fit.0 []) (λ one begins. begins) (units_of (Fnc1 ∷ m) fit.1)
-units_of (Byte b ∷ Byte c ∷ m) fit = both (is_digit b) (is_digit c) refl refl (units_of m fit.1.1) (units_of (Byte c ∷ m) fit.1) where
-  both : (s t : Bool) → is_digit b ≡ s → is_digit c ≡ t → HasUnits m (ascii m) → HasUnits (Byte c ∷ m) (ascii (Byte c ∷ m))
-      → HasUnits (Byte b ∷ Byte c ∷ m) (cond (s && t) (digit_pair b c ∷ ascii m) (single b ++ ascii (Byte c ∷ m)))
-  both true true es et h k = one_more (digit_pair b c ∷ []) (Byte b ∷ Byte c ∷ []) m (ascii m) (pair_spells b c es et) (λ one begins. one) h
-  both true false es et h k = one_more (single b) (Byte b ∷ []) (Byte c ∷ m) (ascii (Byte c ∷ m)) (single_spells b fit.0 []) (not_both b c true false es et refl) k
-  both false t es et h k = one_more (single b) (Byte b ∷ []) (Byte c ∷ m) (ascii (Byte c ∷ m)) (single_spells b fit.0 []) (not_both b c false t es et refl) k
+units_of (Fnc1 ∷ m) fit =
+    one_more (232 ∷ []) (Fnc1 ∷ []) m (ascii m) (fnc1 232 refl refl refl) (λ one begins. one) (units_of m fit.1)
+units_of (Byte b ∷ []) fit =
+    subst (HasUnits (Byte b ∷ [])) (append-nil (single b))
+    (one_more (single b) (Byte b ∷ []) [] [] (single_spells b fit.0 []) (λ one begins. begins) (units_of [] tt))
+units_of (Byte b ∷ Fnc1 ∷ m) fit =
+    one_more (single b) (Byte b ∷ []) (Fnc1 ∷ m) (ascii (Fnc1 ∷ m)) (single_spells b fit.0 []) (λ one begins. begins)
+    (units_of (Fnc1 ∷ m) fit.1)
+units_of (Byte b ∷ Byte c ∷ m) fit =
+    both (is_digit b) (is_digit c) refl refl (units_of m fit.1.1) (units_of (Byte c ∷ m) fit.1) where
+      both : (s t : Bool) → is_digit b ≡ s → is_digit c ≡ t → HasUnits m (ascii m)
+          → HasUnits (Byte c ∷ m) (ascii (Byte c ∷ m))
+          → HasUnits (Byte b ∷ Byte c ∷ m) (cond (s && t) (digit_pair b c ∷ ascii m) (single b ++ ascii (Byte c ∷ m)))
+      both true true es et h k =
+          one_more (digit_pair b c ∷ []) (Byte b ∷ Byte c ∷ []) m (ascii m) (pair_spells b c es et)
+          (λ one begins. one) h
+      both true false es et h k =
+          one_more (single b) (Byte b ∷ []) (Byte c ∷ m) (ascii (Byte c ∷ m)) (single_spells b fit.0 [])
+          (not_both b c true false es et refl) k
+      both false t es et h k =
+          one_more (single b) (Byte b ∷ []) (Byte c ∷ m) (ascii (Byte c ∷ m)) (single_spells b fit.0 [])
+          (not_both b c false t es et refl) k
 
 -- Units are parts wherever they stand.
-joined_units : (extent : Extent) (place : ℕ) (us : List (Piece (List Item))) (after : List ℕ) → AllByRecursion (λ u. IsAsciiUnit u.words u.what) us → AreJoined (IsPart extent) place us after
+joined_units : (extent : Extent) (place : ℕ) (us : List (Piece (List Item))) (after : List ℕ)
+    → AllByRecursion (λ u. IsAsciiUnit u.words u.what) us → AreJoined (IsPart extent) place us after
 joined_units extent place [] after h = tt
 joined_units extent place (u ∷ us) after h = (ascii_part h.0, joined_units extent (place + length u.words) us after h.1)
 
@@ -119,19 +140,39 @@ pub ascii_spells : (extent : Extent) (m : List Item) (count : ℕ) → AreItems 
 ascii_spells extent m count fit =
     let h = units_of m fit in
     let after = pads (length (ascii m) + 1) (count - length (ascii m)) in
-    plain (record { parts = h.units; after = after; whole = ap (λ (r : List ℕ). r ++ after) h.whole; joined = joined_units extent 1 h.units after h.each; ended = pads_end (length (ascii m) + 1) (count - length (ascii m)); items_are = h.items })
+    plain (record {
+      parts = h.units;
+      after = after;
+      whole = ap (λ (r : List ℕ). r ++ after) h.whole;
+      joined =
+          joined_units extent 1 h.units after h.each;
+      ended =
+          pads_end (length (ascii m) + 1) (count - length (ascii m));
+      items_are = h.items;
+    })
 
 -- It has only pads behind it.
-pub ascii_padded : (extent : Extent) (m : List Item) (count : ℕ) → AreItems m → SpellsThenPads extent (padded (ascii m) count) m
+pub ascii_padded : (extent : Extent) (m : List Item) (count : ℕ) → AreItems m
+    → SpellsThenPads extent (padded (ascii m) count) m
 ascii_padded extent m count fit =
     let h = units_of m fit in
     let after = pads (length (ascii m) + 1) (count - length (ascii m)) in
-    plain_padded (record { parts = h.units; after = after; whole = ap (λ (r : List ℕ). r ++ after) h.whole; joined = joined_units extent 1 h.units after h.each; ended = pads_end (length (ascii m) + 1) (count - length (ascii m)); items_are = h.items })
+    plain_padded (record {
+      parts = h.units;
+      after = after;
+      whole = ap (λ (r : List ℕ). r ++ after) h.whole;
+      joined =
+          joined_units extent 1 h.units after h.each;
+      ended =
+          pads_end (length (ascii m) + 1) (count - length (ascii m));
+      items_are = h.items;
+    })
     (pads_are (ascii m) count)
 
 -- The form from the left of a message is its ASCII form.
 pub is_ascii : (m : List Item) → AreItems m → IsAscii m (ascii m)
-is_ascii m fit = let h = units_of m fit in record { units = h.units; each = h.each; greedy = h.greedy; items = h.items; whole = h.whole }
+is_ascii m fit = let h =
+    units_of m fit in record { units = h.units; each = h.each; greedy = h.greedy; items = h.items; whole = h.whole }
 
 -- The codewords of a byte by itself are 0 to 255.
 single_bytes : (b : ℕ) → b < 256 → AreBytes (single b)
@@ -152,12 +193,15 @@ pub ascii_bytes : (m : List Item) → AreItems m → AreBytes (ascii m)
 ascii_bytes [] fit = tt
 ascii_bytes (Fnc1 ∷ m) fit = (omega arith, ascii_bytes m fit.1)
 ascii_bytes (Byte b ∷ []) fit = single_bytes b fit.0
-ascii_bytes (Byte b ∷ Fnc1 ∷ m) fit = AreBytes-append (single b) (ascii (Fnc1 ∷ m)) (single_bytes b fit.0) (ascii_bytes (Fnc1 ∷ m) fit.1)
-ascii_bytes (Byte b ∷ Byte c ∷ m) fit = both (is_digit b) (is_digit c) refl refl (ascii_bytes m fit.1.1) (ascii_bytes (Byte c ∷ m) fit.1) where
-  both : (s t : Bool) → is_digit b ≡ s → is_digit c ≡ t → AreBytes (ascii m) → AreBytes (ascii (Byte c ∷ m)) → AreBytes (cond (s && t) (digit_pair b c ∷ ascii m) (single b ++ ascii (Byte c ∷ m)))
-  both true true es et h k = (pair_byte b c es et, h)
-  both true false es et h k = AreBytes-append (single b) (ascii (Byte c ∷ m)) (single_bytes b fit.0) k
-  both false t es et h k = AreBytes-append (single b) (ascii (Byte c ∷ m)) (single_bytes b fit.0) k
+ascii_bytes (Byte b ∷ Fnc1 ∷ m) fit =
+    AreBytes-append (single b) (ascii (Fnc1 ∷ m)) (single_bytes b fit.0) (ascii_bytes (Fnc1 ∷ m) fit.1)
+ascii_bytes (Byte b ∷ Byte c ∷ m) fit =
+    both (is_digit b) (is_digit c) refl refl (ascii_bytes m fit.1.1) (ascii_bytes (Byte c ∷ m) fit.1) where
+      both : (s t : Bool) → is_digit b ≡ s → is_digit c ≡ t → AreBytes (ascii m) → AreBytes (ascii (Byte c ∷ m))
+          → AreBytes (cond (s && t) (digit_pair b c ∷ ascii m) (single b ++ ascii (Byte c ∷ m)))
+      both true true es et h k = (pair_byte b c es et, h)
+      both true false es et h k = AreBytes-append (single b) (ascii (Byte c ∷ m)) (single_bytes b fit.0) k
+      both false t es et h k = AreBytes-append (single b) (ascii (Byte c ∷ m)) (single_bytes b fit.0) k
 
 -- ---- it is the only one
 
@@ -178,28 +222,35 @@ shift_is : (w : ℕ) → codeword_of w ≡ Some (codeword.UpperShift) → w ≡ 
 shift_is w e = grind (arith, nat_tests)
 
 -- A byte that isn't taken together with the next one stands alone.
-ascii_single : (b : ℕ) (rest : List Item) → (IsTrue (is_digit b) → BeginsWithDigit rest → ⊥) → ascii (Byte b ∷ rest) ≡ single b ++ ascii rest
+ascii_single : (b : ℕ) (rest : List Item) → (IsTrue (is_digit b) → BeginsWithDigit rest → ⊥) → ascii (Byte b ∷ rest)
+    ≡ single b ++ ascii rest
 ascii_single b [] apart = sym (append-nil (single b))
 ascii_single b (Fnc1 ∷ rest) apart = refl
 ascii_single b (Byte c ∷ rest) apart = not_pair (is_digit b) (is_digit c) apart where
-  not_pair : (s t : Bool) → (IsTrue s → IsTrue t → ⊥) → cond (s && t) (digit_pair b c ∷ ascii rest) (single b ++ ascii (Byte c ∷ rest)) ≡ single b ++ ascii (Byte c ∷ rest)
+  not_pair : (s t : Bool) → (IsTrue s → IsTrue t → ⊥)
+      → cond (s && t) (digit_pair b c ∷ ascii rest) (single b ++ ascii (Byte c ∷ rest)) ≡ single b
+      ++ ascii (Byte c ∷ rest)
   not_pair true true no_pair = absurd (no_pair refl refl)
   not_pair true false no_pair = refl
   not_pair false t no_pair = refl
 
 -- Two digits that come first are taken together.
-ascii_pair : (b c : ℕ) (rest : List Item) → is_digit b ≡ true → is_digit c ≡ true → ascii (Byte b ∷ Byte c ∷ rest) ≡ digit_pair b c ∷ ascii rest
+ascii_pair : (b c : ℕ) (rest : List Item) → is_digit b ≡ true → is_digit c ≡ true → ascii (Byte b ∷ Byte c ∷ rest)
+    ≡ digit_pair b c ∷ ascii rest
 ascii_pair b c rest hb hc = rw (hb, hc) refl
 
 -- Where the items of units begin with a digit, so do those of the first unit.
-first_begins : (u : Piece (List Item)) (us : List (Piece (List Item))) → IsAsciiUnit u.words u.what → BeginsWithDigit (gathered (u ∷ us)) → BeginsWithDigit u.what
+first_begins : (u : Piece (List Item)) (us : List (Piece (List Item))) → IsAsciiUnit u.words u.what
+    → BeginsWithDigit (gathered (u ∷ us)) → BeginsWithDigit u.what
 first_begins u us (character w b k e i) h = rw i (let g = rw i at h in g)
 first_begins u us (digits w n k e i) h = rw i (let g = rw i at h in g)
 first_begins u us (fnc1 w k e i) h = rw i (let g = rw i at h in g)
 first_begins u us (raised s w b k l e i) h = rw i (let g = rw i at h in g)
 
 -- No single digit stands before what the further units mean, where that begins with a digit.
-apart_from : (u : Piece (List Item)) (us : List (Piece (List Item))) → AllByRecursion (λ u. IsAsciiUnit u.words u.what) us → IsGreedy (u ∷ us) → IsOneDigit u.what → BeginsWithDigit (gathered us) → ⊥
+apart_from : (u : Piece (List Item)) (us : List (Piece (List Item)))
+    → AllByRecursion (λ u. IsAsciiUnit u.words u.what) us → IsGreedy (u ∷ us) → IsOneDigit u.what
+    → BeginsWithDigit (gathered us) → ⊥
 apart_from u [] each greedy one begins = begins
 apart_from u (v ∷ us) each greedy one begins = greedy.0 one (first_begins v us each.0 begins)
 
@@ -209,7 +260,8 @@ greedy_rest u [] g = tt
 greedy_rest u (v ∷ us) g = g.1
 
 -- The form of a message that begins with the items of a unit begins with that unit.
-unit_first : (words : List ℕ) (items rest : List Item) → IsAsciiUnit words items → (IsOneDigit items → BeginsWithDigit rest → ⊥) → ascii (items ++ rest) ≡ words ++ ascii rest
+unit_first : (words : List ℕ) (items rest : List Item) → IsAsciiUnit words items
+    → (IsOneDigit items → BeginsWithDigit rest → ⊥) → ascii (items ++ rest) ≡ words ++ ascii rest
 unit_first words items rest (character w b k e i) apart =
     let is = character_is w b k in
     let one : single b ≡ w ∷ [] = (let t : ltb b 128 ≡ true = grind (arith, nat_tests) in rw (t, is.0) refl) in
@@ -224,15 +276,20 @@ unit_first words items rest (digits w n k e i) apart =
 unit_first words items rest (fnc1 w k e i) apart = rw (i, e, fnc1_is w k) refl
 unit_first words items rest (raised s w b k l e i) apart =
     let is = character_is w b l in
-    let none : IsTrue (is_digit (b + 128)) → BeginsWithDigit rest → ⊥ = λ h g. (let t : is_digit (b + 128) ≡ false = grind (arith, nat_tests) in cc) in
-    let two : single (b + 128) ≡ s ∷ w ∷ [] = (let t : ltb (b + 128) 128 ≡ false = grind (arith, nat_tests) in let v : b + 128 - 127 ≡ w = omega (arith, is.0) in rw (t, v, shift_is s k) refl) in
+    let none : IsTrue (is_digit (b + 128)) → BeginsWithDigit rest
+    → ⊥ = λ h g. (let t : is_digit (b + 128) ≡ false = grind (arith, nat_tests) in cc) in
+    let two : single (b + 128)
+    ≡ s ∷ w ∷ [] = (let t : ltb (b + 128) 128 ≡ false = grind (arith, nat_tests) in let v : b + 128 - 127
+    ≡ w = omega (arith, is.0) in rw (t, v, shift_is s k) refl) in
     rw (i, e) (ascii_single (b + 128) rest none ∙ ap (λ (r : List ℕ). r ++ ascii rest) two)
 
 -- Greedy units are the form from the left of what they mean.
-units_are : (us : List (Piece (List Item))) → AllByRecursion (λ u. IsAsciiUnit u.words u.what) us → IsGreedy us → spelled us ≡ ascii (gathered us)
+units_are : (us : List (Piece (List Item))) → AllByRecursion (λ u. IsAsciiUnit u.words u.what) us → IsGreedy us
+    → spelled us ≡ ascii (gathered us)
 units_are [] each greedy = refl
 units_are (u ∷ us) each greedy =
-    ap (λ (r : List ℕ). u.words ++ r) (units_are us each.1 (greedy_rest u us greedy)) ∙ sym (unit_first u.words u.what (gathered us) each.0 (apart_from u us each.1 greedy))
+    ap (λ (r : List ℕ). u.words ++ r) (units_are us each.1 (greedy_rest u us greedy))
+    ∙ sym (unit_first u.words u.what (gathered us) each.0 (apart_from u us each.1 greedy))
 
 -- The ASCII form of a message is the form from its left.
 pub ascii_only : (m : List Item) (words : List ℕ) → IsAscii m words → words ≡ ascii m

@@ -1,5 +1,6 @@
 -- No run of EDIFACT is shorter than its cost, whatever the costs are, if they obey the rules of `AreEdifactCosts`.
-use Rattle.std.proofs.Common.{◌≡◌, ◌≢◌, ℕ, suc, ◌+◌, ◌*◌, ◌/◌, ◌<◌, ◌≤◌, List, [], ◌∷◌, ◌++◌, length, map, refl, ap, subst, arith, Bool, true, false, cond, ltb}
+use Rattle.std.proofs.Common.{◌≡◌, ◌≢◌, ℕ, suc, ◌+◌, ◌*◌, ◌/◌, ◌<◌, ◌≤◌, List, [], ◌∷◌, ◌++◌, length, map, refl, ap}
+use Rattle.std.proofs.Common.{subst, arith, Bool, true, false, cond, ltb}
 use Rattle.std.specs.List.{AllByRecursion}
 use Rattle.std.proofs.lemmas.Bool.Decides.{nat_tests}
 use Rattle.std.proofs.lemmas.List.{length-append}
@@ -37,57 +38,101 @@ module _ (least : List Item → ℕ) (owed : ℕ → List Item → ℕ) (costs :
   abbrev texts : List ℕ → List Item
   texts vs = byte_items (map edifact_byte vs)
 
-  telescope : (vs : List ℕ) (r : ℕ) (m : List Item) → AreSixBits vs → NoUnlatch vs → owed r (texts vs ++ m) ≤ owed (r + length vs) m
+  telescope : (vs : List ℕ) (r : ℕ) (m : List Item) → AreSixBits vs → NoUnlatch vs
+      → owed r (texts vs ++ m) ≤ owed (r + length vs) m
   telescope [] r m small none = let e : r + 0 ≡ r = omega arith in rw e (omega arith)
   telescope (v ∷ vs) r m small none =
       let b = value_byte v small.0 none.0 in
       let one = costs.goes r (edifact_byte v) (texts vs ++ m) b.0 b.1 in
       let e : (r + 1) + length vs ≡ r + suc (length vs) = omega arith in
-      let there : owed (r + 1) (texts vs ++ m) ≤ owed (r + suc (length vs)) m = subst (λ (j : ℕ). owed (r + 1) (texts vs ++ m) ≤ owed j m) e (telescope vs (r + 1) m small.1 none.1) in
+      let there : owed (r + 1) (texts vs ++ m) ≤ owed (r + suc (length vs)) m =
+      subst (λ (j : ℕ). owed (r + 1) (texts vs ++ m) ≤ owed j m) e (telescope vs (r + 1) m small.1 none.1) in
       omega (arith, one, there)
 
-  to_end : (vs : List ℕ) (n : ℕ) (m : List Item) → AreSixBits vs → NoUnlatch vs → length vs ≡ n → least (texts vs ++ m) ≤ 1 + owed n m
+  to_end : (vs : List ℕ) (n : ℕ) (m : List Item) → AreSixBits vs → NoUnlatch vs → length vs ≡ n
+      → least (texts vs ++ m) ≤ 1 + owed n m
   to_end vs n m small none e =
       let z : 0 + length vs ≡ n = omega (arith, e) in
-      let t : owed 0 (texts vs ++ m) ≤ owed n m = subst (λ (j : ℕ). owed 0 (texts vs ++ m) ≤ owed j m) z (telescope vs 0 m small none) in
+      let t : owed 0 (texts vs ++ m) ≤ owed n m =
+      subst (λ (j : ℕ). owed 0 (texts vs ++ m) ≤ owed j m) z (telescope vs 0 m small none) in
       omega (arith, costs.begins (texts vs ++ m), t)
 
   -- Whole groups.
-  whole : (vs : List ℕ) (q : ℕ) (m : List Item) → AreSixBits vs → NoUnlatch vs → length vs ≡ 4 * q → least (texts vs ++ m) ≤ 1 + 3 * q + leave 2 (least m)
+  whole : (vs : List ℕ) (q : ℕ) (m : List Item) → AreSixBits vs → NoUnlatch vs → length vs ≡ 4 * q
+      → least (texts vs ++ m) ≤ 1 + 3 * q + leave 2 (least m)
   whole vs q m small none e = omega (arith, to_end vs (4 * q) m small none e, costs.ends q m)
 
   -- The first value goes into ASCII.
-  front_one : (v : ℕ) (vs : List ℕ) (m : List Item) → v < 64 → v ≢ 31 → least (texts (v ∷ vs) ++ m) ≤ 1 + least (texts vs ++ m)
-  front_one v vs m lt none = let b = value_byte v lt none in costs.unit (edifact_byte v) (texts vs ++ m) (omega (arith, b.1))
+  front_one : (v : ℕ) (vs : List ℕ) (m : List Item) → v < 64 → v ≢ 31
+      → least (texts (v ∷ vs) ++ m) ≤ 1 + least (texts vs ++ m)
+  front_one v vs m lt none = let b =
+      value_byte v lt none in costs.unit (edifact_byte v) (texts vs ++ m) (omega (arith, b.1))
 
-  and_one : (vs : List ℕ) (q : ℕ) (m : List Item) → AreSixBits vs → NoUnlatch vs → length vs ≡ 4 * q + 1 → least (texts vs ++ m) ≤ 2 + 3 * q + leave 2 (least m)
+  and_one : (vs : List ℕ) (q : ℕ) (m : List Item) → AreSixBits vs → NoUnlatch vs → length vs ≡ 4 * q + 1
+      → least (texts vs ++ m) ≤ 2 + 3 * q + leave 2 (least m)
   and_one [] q m small none e = absurd (omega (arith, e))
-  and_one (v ∷ vs) q m small none e = let w = whole vs q m small.1 none.1 (omega (arith, e)) in omega (arith, w, front_one v vs m small.0 none.0)
+  and_one (v ∷ vs) q m small none e = let w =
+      whole vs q m small.1 none.1 (omega (arith, e)) in omega (arith, w, front_one v vs m small.0 none.0)
 
-  and_two : (vs : List ℕ) (q : ℕ) (m : List Item) → AreSixBits vs → NoUnlatch vs → length vs ≡ 4 * q + 2 → least (texts vs ++ m) ≤ 3 + 3 * q + leave 2 (least m)
+  and_two : (vs : List ℕ) (q : ℕ) (m : List Item) → AreSixBits vs → NoUnlatch vs → length vs ≡ 4 * q + 2
+      → least (texts vs ++ m) ≤ 3 + 3 * q + leave 2 (least m)
   and_two [] q m small none e = absurd (omega (arith, e))
-  and_two (v ∷ vs) q m small none e = let w = and_one vs q m small.1 none.1 (omega (arith, e)) in omega (arith, w, front_one v vs m small.0 none.0)
+  and_two (v ∷ vs) q m small none e = let w =
+      and_one vs q m small.1 none.1 (omega (arith, e)) in omega (arith, w, front_one v vs m small.0 none.0)
 
   -- The run up to its end, which has some codewords and values.
-  end_lower : (words after last vs : List ℕ) (q : ℕ) (m : List Item) → IsEdifactEnd words after last → AreSixBits vs → NoUnlatch vs → length vs ≡ 4 * q + length last
+  end_lower : (words after last vs : List ℕ) (q : ℕ) (m : List Item) → IsEdifactEnd words after last → AreSixBits vs
+      → NoUnlatch vs → length vs ≡ 4 * q + length last
       → least m ≤ length after → least (texts vs ++ m) ≤ 1 + 3 * q + length words + length after
   end_lower words after last vs q m (few_left w v few) small none e le =
-      omega (arith, whole vs q m small none (omega (arith, e, ap length v)), (leave_bounds 2 (least m)).2 (omega (arith, le, few)), le)
+      omega (
+        arith,
+        whole vs q m small none (omega (arith, e, ap length v)),
+        (leave_bounds 2 (least m)).2 (omega (arith, le, few)),
+        le,
+      )
   end_lower words after last vs q m (first word rest is lt w v two) small none e le =
-      omega (arith, whole vs q m small none (omega (arith, e, ap length v)), (leave_bounds 2 (least m)).1, le, ap length w)
+      omega (
+        arith,
+        whole vs q m small none (omega (arith, e, ap length v)),
+        (leave_bounds 2 (least m)).1,
+        le,
+        ap length w,
+      )
   end_lower words after last vs q m (second high low value rest lh sv is lr w v some) small none e le =
-      omega (arith, and_one vs q m small none (omega (arith, e, ap length v)), (leave_bounds 2 (least m)).1, le, ap length w)
+      omega (
+        arith,
+        and_one vs q m small none (omega (arith, e, ap length v)),
+        (leave_bounds 2 (least m)).1,
+        le,
+        ap length w,
+      )
   end_lower words after last vs q m (third one two rest g v) small none e le =
-      omega (arith, and_two vs q m small none (omega (arith, e, ap length v)), (leave_bounds 2 (least m)).1, le, ap length g.words_are)
+      omega (
+        arith,
+        and_two vs q m small none (omega (arith, e, ap length v)),
+        (leave_bounds 2 (least m)).1,
+        le,
+        ap length g.words_are,
+      )
   end_lower words after last vs q m (fourth one two three g v) small none e le =
-      omega (arith, to_end vs (4 * q + 3) m small none (omega (arith, e, ap length v)), costs.last q m, le, ap length g.words_are)
+      omega (
+        arith,
+        to_end vs (4 * q + 3) m small none (omega (arith, e, ap length v)),
+        costs.last q m,
+        le,
+        ap length g.words_are,
+      )
 
   -- A run of EDIFACT.
-  pub edifact_lower : (words after : List ℕ) (items m : List Item) → IsEdifactRun words after items → least m ≤ length after → least (items ++ m) ≤ length words + length after
+  pub edifact_lower : (words after : List ℕ) (items m : List Item) → IsEdifactRun words after items
+      → least m ≤ length after → least (items ++ m) ≤ length words + length after
   edifact_lower words after items m r le =
       let room = groups_room r.groups r.each in
       let vs = gathered r.groups ++ r.last in
-      let small : AreSixBits vs = small-append (gathered r.groups) r.last (groups_small r.groups r.each) (end_small r.end after r.last r.ended) in
+      let small : AreSixBits vs =
+      small-append (gathered r.groups) r.last (groups_small r.groups r.each)
+      (end_small r.end after r.last r.ended) in
       let q = length (spelled r.groups) / 3 in
       let l : length vs ≡ 4 * q + length r.last = omega (arith, room, length-append (gathered r.groups) r.last) in
       let e = end_lower r.end after r.last vs q m r.ended small r.no_unlatch l le in

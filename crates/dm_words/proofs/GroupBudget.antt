@@ -1,5 +1,6 @@
 -- A run of EDIFACT that follows the plan stays within its budget.
-use Rattle.std.proofs.Common.{◌≡◌, ◌⊎◌, inl, inr, ℕ, suc, ◌+◌, ◌<◌, ◌≤◌, List, [], ◌∷◌, length, drop, get_or, refl, sym, ap, subst, ◌∙◌, arith, Bool, true, false, cond}
+use Rattle.std.proofs.Common.{◌≡◌, ◌⊎◌, inl, inr, ℕ, suc, ◌+◌, ◌<◌, ◌≤◌, List, [], ◌∷◌, length, drop, get_or, refl, sym}
+use Rattle.std.proofs.Common.{ap, subst, ◌∙◌, arith, Bool, true, false, cond}
 use Rattle.std.specs.Prelude.{nat_le, not}
 use Rattle.std.proofs.lemmas.Bool.Decides.{nat_tests}
 use Rattle.std.proofs.lemmas.List.{length-drop, at_drop_more, length-append}
@@ -11,7 +12,8 @@ use Rattle.dm_words.specs.declared.smallest.row.Groups.{Groups}
 use Rattle.dm_words.specs.declared.smallest.plan.Step.{Step}
 use Rattle.dm_words.specs.declared.smallest.edifact.Group.{Group}
 use Rattle.dm_words.specs.declared.smallest.edifact.Group.TheVariants as group
-use Rattle.dm_words.specs.inner.Costs.{never, owed_group, no_groups, leave, or_leave_edifact, has_edifact, stay_edifact, byte_before, going_from, row, parts_cost, IsRightStep}
+use Rattle.dm_words.specs.inner.Costs.{never, owed_group, no_groups, leave, or_leave_edifact, has_edifact, stay_edifact}
+use Rattle.dm_words.specs.inner.Costs.{byte_before, going_from, row, parts_cost, IsRightStep}
 use Rattle.dm_words.specs.inner.Written.{waiting_values, whole_words, IsGroupPushed, group_stops, IsEdifactEnded}
 use Rattle.dm_words.proofs.CostsMet.{owed_byte}
 
@@ -24,38 +26,51 @@ stops_by (group.Three x y z) between behind = behind
 
 -- The plan says whether a run stops.
 stops_are : (extent : Extent) (m : List Item) (s : Step) (g : Group) → IsRightStep extent m s
-    → group_stops g s ≡ stops_by g (nat_le (leave 2 (parts_cost extent m)) (going_from extent m).edifact.none) (nat_le (parts_cost extent m) (going_from extent m).edifact.three)
+    → group_stops g s
+    ≡ stops_by g (nat_le (leave 2 (parts_cost extent m)) (going_from extent m).edifact.none)
+    (nat_le (parts_cost extent m) (going_from extent m).edifact.three)
 stops_are extent m s g r = by_group g where
-  by_group : (g : Group) → group_stops g s ≡ stops_by g (nat_le (leave 2 (parts_cost extent m)) (going_from extent m).edifact.none) (nat_le (parts_cost extent m) (going_from extent m).edifact.three)
+  by_group : (g : Group) → group_stops g s
+      ≡ stops_by g (nat_le (leave 2 (parts_cost extent m)) (going_from extent m).edifact.none)
+      (nat_le (parts_cost extent m) (going_from extent m).edifact.three)
   by_group group.Empty = ap (λ (t : Step). t.edifact_ends) r.ends
   by_group (group.One x) = refl
   by_group (group.Two x y) = refl
   by_group (group.Three x y z) = ap (λ (t : Step). t.group_ends) r.ends
 
 -- The costs of a run are those of going on, or of leaving.
-edifact_are : (extent : Extent) (m : List Item) → (row extent m).edifact ≡ or_leave_edifact (parts_cost extent m) (going_from extent m).edifact
+edifact_are : (extent : Extent) (m : List Item) → (row extent m).edifact
+    ≡ or_leave_edifact (parts_cost extent m) (going_from extent m).edifact
 unfolding row
 edifact_are extent [] = refl
 edifact_are extent (x ∷ m) = refl
 
 -- Where a run goes on, it can pay for that.
-goes_on : (g : Group) (cost words total : ℕ) (over : Groups) → words + owed_group (length (waiting_values g)) (or_leave_edifact cost over) ≤ total → total < never
-    → stops_by g (nat_le (leave 2 cost) over.none) (nat_le cost over.three) ≡ false → words + owed_group (length (waiting_values g)) over ≤ total
+goes_on : (g : Group) (cost words total : ℕ) (over : Groups)
+    → words + owed_group (length (waiting_values g)) (or_leave_edifact cost over) ≤ total → total < never
+    → stops_by g (nat_le (leave 2 cost) over.none) (nat_le cost over.three) ≡ false
+    → words + owed_group (length (waiting_values g)) over ≤ total
 unfolding owed_group
-goes_on group.Empty cost words total over b small goes = let lt : over.none < leave 2 cost = grind (arith, nat_tests) in omega (arith, lt, b)
+goes_on group.Empty cost words total over b small goes = let lt : over.none < leave 2 cost =
+    grind (arith, nat_tests) in omega (arith, lt, b)
 goes_on (group.One x) cost words total over b small goes = omega (arith, b, small)
 goes_on (group.Two x y) cost words total over b small goes = omega (arith, b, small)
-goes_on (group.Three x y z) cost words total over b small goes = let lt : over.three < cost = grind (arith, nat_tests) in omega (arith, lt, b)
+goes_on (group.Three x y z) cost words total over b small goes = let lt : over.three < cost =
+    grind (arith, nat_tests) in omega (arith, lt, b)
 
 -- Where a run ends, it can pay for leaving.
-leaves : (g : Group) (cost words total : ℕ) (over : Groups) → words + owed_group (length (waiting_values g)) (or_leave_edifact cost over) ≤ total
+leaves : (g : Group) (cost words total : ℕ) (over : Groups)
+    → words + owed_group (length (waiting_values g)) (or_leave_edifact cost over) ≤ total
     → stops_by g (nat_le (leave 2 cost) over.none) (nat_le cost over.three) ≡ true
-    → ((length (waiting_values g) ≡ 0) × (words + leave 2 cost ≤ total)) ⊎ ((length (waiting_values g) ≡ 3) × (words + 3 + cost ≤ total))
+    → ((length (waiting_values g) ≡ 0) × (words + leave 2 cost ≤ total)) ⊎
+    ((length (waiting_values g) ≡ 3) × (words + 3 + cost ≤ total))
 unfolding owed_group
-leaves group.Empty cost words total over b stops = let le : leave 2 cost ≤ over.none = grind (arith, nat_tests) in inl (refl, omega (arith, le, b))
+leaves group.Empty cost words total over b stops = let le : leave 2 cost ≤ over.none =
+    grind (arith, nat_tests) in inl (refl, omega (arith, le, b))
 leaves (group.One x) cost words total over b stops = absurd cc
 leaves (group.Two x y) cost words total over b stops = absurd cc
-leaves (group.Three x y z) cost words total over b stops = let le : cost ≤ over.three = grind (arith, nat_tests) in inr (refl, omega (arith, le, b))
+leaves (group.Three x y z) cost words total over b stops = let le : cost ≤ over.three =
+    grind (arith, nat_tests) in inr (refl, omega (arith, le, b))
 
 -- Values that stand cost nothing less than themselves.
 owed_some : (g : Group) (next : Groups) → length (waiting_values g) ≤ owed_group (length (waiting_values g)) next
@@ -66,7 +81,8 @@ owed_some (group.Two x y) next = omega arith
 owed_some (group.Three x y z) next = omega arith
 
 -- No run goes on where none can.
-never_on : (g : Group) (words total : ℕ) → total < never → words + owed_group (length (waiting_values g)) no_groups ≤ total → ⊥
+never_on : (g : Group) (words total : ℕ) → total < never
+    → words + owed_group (length (waiting_values g)) no_groups ≤ total → ⊥
 unfolding owed_group
 never_on group.Empty words total small b = omega (arith, small, b)
 never_on (group.One x) words total small b = omega (arith, small, b)
@@ -86,57 +102,72 @@ held : (extent : Extent) (x : Item) → has_edifact extent x ≡ true → IsHeld
 held Usual (Byte b) e = absurd cc
 held Usual Fnc1 e = absurd cc
 held Wide Fnc1 e = absurd cc
-held Wide (Byte b) e = record { wide = refl; byte = b; is = refl; low = grind (arith, nat_tests); high = grind (arith, nat_tests) }
+held Wide (Byte b) e =
+    record { wide = refl; byte = b; is = refl; low = grind (arith, nat_tests); high = grind (arith, nat_tests) }
 
 -- Where the costs of going on over an item are paid, the run holds the item, and the costs behind it are paid.
-over_paid : (extent : Extent) (x : Item) (g : Group) (words total : ℕ) (next : Groups) → words + owed_group (length (waiting_values g)) (stay_edifact (has_edifact extent x) next) ≤ total → total < never
+over_paid : (extent : Extent) (x : Item) (g : Group) (words total : ℕ) (next : Groups)
+    → words + owed_group (length (waiting_values g)) (stay_edifact (has_edifact extent x) next) ≤ total → total < never
     → IsHeld extent x × (words + owed_group (length (waiting_values g) + 1) next ≤ total)
 over_paid extent x g words total next b small = by_test (has_edifact extent x) refl b where
-  by_test : (t : Bool) → has_edifact extent x ≡ t → words + owed_group (length (waiting_values g)) (stay_edifact t next) ≤ total → IsHeld extent x × (words + owed_group (length (waiting_values g) + 1) next ≤ total)
+  by_test : (t : Bool) → has_edifact extent x ≡ t
+      → words + owed_group (length (waiting_values g)) (stay_edifact t next) ≤ total
+      → IsHeld extent x × (words + owed_group (length (waiting_values g) + 1) next ≤ total)
   by_test false e b = absurd (never_on g words total small b)
   by_test true e b =
       let r = length (waiting_values g) in
       let one : suc r ≡ r + 1 = omega arith in
-      let o : owed_group r (byte_before next) ≡ owed_group (r + 1) next = owed_byte r next ∙ ap (λ (n : ℕ). owed_group n next) one in
+      let o : owed_group r (byte_before next) ≡ owed_group (r + 1) next = owed_byte r next
+      ∙ ap (λ (n : ℕ). owed_group n next) one in
       (held extent x e, omega (arith, b, o))
 
 -- What is known at an index where a run goes on.
-pub record IsGroupPaidAt (extent : Extent) (m : List Item) (i : ℕ) (d : Item) (g : Group) (words total : ℕ) : Type 0 where
-  pub there : i < length m
-  pub wide : extent ≡ Wide
-  pub byte : ℕ
-  pub is : get_or m i d ≡ Byte byte
-  pub low : 32 ≤ byte
-  pub high : byte ≤ 94
-  pub budget : words + owed_group (length (waiting_values g) + 1) (row extent (drop (i + 1) m)).edifact ≤ total
+pub record IsGroupPaidAt (extent : Extent) (m : List Item) (i : ℕ) (d : Item) (g : Group) (words total : ℕ) : Type 0
+  where
+    pub there : i < length m
+    pub wide : extent ≡ Wide
+    pub byte : ℕ
+    pub is : get_or m i d ≡ Byte byte
+    pub low : 32 ≤ byte
+    pub high : byte ≤ 94
+    pub budget : words + owed_group (length (waiting_values g) + 1) (row extent (drop (i + 1) m)).edifact ≤ total
 
 -- From what is paid over the first item.
-paid_at : (extent : Extent) (m : List Item) (i : ℕ) (d : Item) (g : Group) (words total : ℕ) → i < length m → words + owed_group (length (waiting_values g)) (going_from extent (drop i m)).edifact ≤ total
+paid_at : (extent : Extent) (m : List Item) (i : ℕ) (d : Item) (g : Group) (words total : ℕ) → i < length m
+    → words + owed_group (length (waiting_values g)) (going_from extent (drop i m)).edifact ≤ total
     → total < never → IsGroupPaidAt extent m i d g words total
 paid_at extent m i d g words total lt b small =
     let cons : drop i m ≡ get_or m i d ∷ drop (i + 1) m = at_drop_more (λ (l : List Item). l) m i d lt in
-    let here : words + owed_group (length (waiting_values g)) (going_from extent (get_or m i d ∷ drop (i + 1) m)).edifact ≤ total =
-    subst (λ (l : List Item). words + owed_group (length (waiting_values g)) (going_from extent l).edifact ≤ total) cons b in
+    let here : words + owed_group (length (waiting_values g))
+    (going_from extent (get_or m i d ∷ drop (i + 1) m)).edifact ≤ total =
+    subst (λ (l : List Item). words + owed_group (length (waiting_values g)) (going_from extent l).edifact ≤ total)
+    cons b in
     let h = over_paid extent (get_or m i d) g words total (row extent (drop (i + 1) m)).edifact here small in
     record { there = lt; wide = h.0.wide; byte = h.0.byte; is = h.0.is; low = h.0.low; high = h.0.high; budget = h.1 }
 
 -- The first item of a run.
-pub first_of_groups : (extent : Extent) (m : List Item) (i : ℕ) (d : Item) (words total : ℕ) → i < length m → words + (going_from extent (drop i m)).edifact.none ≤ total → total < never
+pub first_of_groups : (extent : Extent) (m : List Item) (i : ℕ) (d : Item) (words total : ℕ) → i < length m
+    → words + (going_from extent (drop i m)).edifact.none ≤ total → total < never
     → IsGroupPaidAt extent m i d group.Empty words total
 unfolding owed_group
 first_of_groups extent m i d words total lt b small = paid_at extent m i d group.Empty words total lt b small
 
 -- Nothing is left where the items end, so a run doesn't go on there.
-some_left : (extent : Extent) (m : List Item) (g : Group) (words total : ℕ) → words + owed_group (length (waiting_values g)) (going_from extent m).edifact ≤ total → total < never → 0 < length m
+some_left : (extent : Extent) (m : List Item) (g : Group) (words total : ℕ)
+    → words + owed_group (length (waiting_values g)) (going_from extent m).edifact ≤ total → total < never
+    → 0 < length m
 some_left extent [] g words total b small = absurd (never_on g words total small b)
 some_left extent (x ∷ m) g words total b small = omega arith
 
 -- An item where a run goes on.
-pub group_at : (extent : Extent) (m : List Item) (i : ℕ) (d : Item) (s : Step) (g : Group) (words total : ℕ) (on : Bool) → IsRightStep extent (drop i m) s
-    → words + owed_group (length (waiting_values g)) (row extent (drop i m)).edifact ≤ total → total < never → on ≡ not (group_stops g s) → on ≡ true → IsGroupPaidAt extent m i d g words total
+pub group_at : (extent : Extent) (m : List Item) (i : ℕ) (d : Item) (s : Step) (g : Group) (words total : ℕ)
+    (on : Bool) → IsRightStep extent (drop i m) s
+    → words + owed_group (length (waiting_values g)) (row extent (drop i m)).edifact ≤ total → total < never → on
+    ≡ not (group_stops g s) → on ≡ true → IsGroupPaidAt extent m i d g words total
 group_at extent m i d s g words total on right budget small is so =
     let goes : group_stops g s ≡ false = by_bool (group_stops g s) (sym is ∙ so) in
-    let b = goes_on g (parts_cost extent (drop i m)) words total (going_from extent (drop i m)).edifact (rw (edifact_are extent (drop i m)) at budget) small (sym (stops_are extent (drop i m) s g right) ∙ goes) in
+    let b = goes_on g (parts_cost extent (drop i m)) words total (going_from extent (drop i m)).edifact
+    (rw (edifact_are extent (drop i m)) at budget) small (sym (stops_are extent (drop i m) s g right) ∙ goes) in
     let some = some_left extent (drop i m) g words total b small in
     paid_at extent m i d g words total (omega (arith, some, length-drop i m)) b small where
       by_bool : (b : Bool) → not b ≡ true → b ≡ false
@@ -144,29 +175,36 @@ group_at extent m i d s g words total on right budget small is so =
       by_bool false e = refl
 
 -- Leaving a run.
-pub leave_groups : (extent : Extent) (m : List Item) (s : Step) (g : Group) (words total : ℕ) (on : Bool) → IsRightStep extent m s
-    → words + owed_group (length (waiting_values g)) (row extent m).edifact ≤ total → on ≡ not (group_stops g s) → on ≡ false
-    → ((length (waiting_values g) ≡ 0) × (words + leave 2 (parts_cost extent m) ≤ total)) ⊎ ((length (waiting_values g) ≡ 3) × (words + 3 + parts_cost extent m ≤ total))
+pub leave_groups : (extent : Extent) (m : List Item) (s : Step) (g : Group) (words total : ℕ) (on : Bool)
+    → IsRightStep extent m s
+    → words + owed_group (length (waiting_values g)) (row extent m).edifact ≤ total → on ≡ not (group_stops g s) → on
+    ≡ false
+    → ((length (waiting_values g) ≡ 0) × (words + leave 2 (parts_cost extent m) ≤ total)) ⊎
+    ((length (waiting_values g) ≡ 3) × (words + 3 + parts_cost extent m ≤ total))
 leave_groups extent m s g words total on right budget is none =
     let stops : group_stops g s ≡ true = by_bool (group_stops g s) (sym is ∙ none) in
-    leaves g (parts_cost extent m) words total (going_from extent m).edifact (rw (edifact_are extent m) at budget) (sym (stops_are extent m s g right) ∙ stops) where
+    leaves g (parts_cost extent m) words total (going_from extent m).edifact (rw (edifact_are extent m) at budget)
+    (sym (stops_are extent m s g right) ∙ stops) where
       by_bool : (b : Bool) → not b ≡ false → b ≡ true
       by_bool true e = refl
       by_bool false e = cc
 
 -- The budget after an item: the codewords of a whole group are written.
-pub after_value : (g g' : Group) (v total : ℕ) (old new : List ℕ) (next : Groups) → IsGroupPushed g old v g' new → length old + owed_group (length (waiting_values g) + 1) next ≤ total
+pub after_value : (g g' : Group) (v total : ℕ) (old new : List ℕ) (next : Groups) → IsGroupPushed g old v g' new
+    → length old + owed_group (length (waiting_values g) + 1) next ≤ total
     → length new + owed_group (length (waiting_values g')) next ≤ total
 unfolding owed_group
 after_value group.Empty g' v total old new next p b = rw (p.0, p.1) b
 after_value (group.One x) g' v total old new next p b = rw (p.0, p.1) b
 after_value (group.Two x y) g' v total old new next p b = rw (p.0, p.1) b
 after_value (group.Three x y z) g' v total old new next p b =
-    let l : length new ≡ length old + 3 = omega (arith, ap length p.1.2, length-append old p.1.0, ap length p.1.1.words_are) in
+    let l : length new
+    ≡ length old + 3 = omega (arith, ap length p.1.2, length-append old p.1.0, ap length p.1.1.words_are) in
     rw p.0 (omega (arith, b, l))
 
 -- A value is pushed within the budget.
-pub value_room : (g : Group) (words total : ℕ) (next : Groups) → words + owed_group (length (waiting_values g) + 1) next ≤ total → words + whole_words g ≤ total
+pub value_room : (g : Group) (words total : ℕ) (next : Groups)
+    → words + owed_group (length (waiting_values g) + 1) next ≤ total → words + whole_words g ≤ total
 unfolding owed_group
 value_room group.Empty words total next b = omega (arith, b)
 value_room (group.One x) words total next b = omega (arith, b)
@@ -174,31 +212,41 @@ value_room (group.Two x y) words total next b = omega (arith, b)
 value_room (group.Three x y z) words total next b = omega (arith, b)
 
 -- The values that stand fit.
-pub waiting_room : (g : Group) (words total : ℕ) (next : Groups) → words + owed_group (length (waiting_values g)) next ≤ total → words + length (waiting_values g) ≤ total
+pub waiting_room : (g : Group) (words total : ℕ) (next : Groups)
+    → words + owed_group (length (waiting_values g)) next ≤ total → words + length (waiting_values g) ≤ total
 waiting_room g words total next b = omega (arith, b, owed_some g next)
 
 -- The budget behind the end of a run.
-pub ended_budget : (g : Group) (total cost : ℕ) (old new : List ℕ) → ((length (waiting_values g) ≡ 0) × (length old + leave 2 cost ≤ total)) ⊎ ((length (waiting_values g) ≡ 3) × (length old + 3 + cost ≤ total))
+pub ended_budget : (g : Group) (total cost : ℕ) (old new : List ℕ)
+    → ((length (waiting_values g) ≡ 0) × (length old + leave 2 cost ≤ total)) ⊎
+    ((length (waiting_values g) ≡ 3) × (length old + 3 + cost ≤ total))
     → IsEdifactEnded g total old new → length new + cost ≤ total
 ended_budget group.Empty total cost old new paid ended =
     elim paid [
       | inl p ↦ elim ended [
-        | inl more ↦ (let l : length new ≡ length old + 1 = omega (arith, ap length more.1, length-append old (124 ∷ [])) in by_test (nat_le cost 2) refl p.1 l more.0)
+        | inl more ↦ (let l : length new
+            ≡ length old + 1 =
+            omega (arith, ap length more.1, length-append old (124 ∷ [])) in by_test (nat_le cost 2) refl p.1 l more.0)
         | inr few ↦ (let l : length new ≡ length old = ap length few.1 in at_most (nat_le cost 2) p.1 l)
       ]
       | inr p ↦ absurd (omega (arith, p.0))
     ] where
-      by_test : (t : Bool) → nat_le cost 2 ≡ t → length old + cond t cost (1 + cost) ≤ total → length new ≡ length old + 1 → length old + 2 < total → length new + cost ≤ total
+      by_test : (t : Bool) → nat_le cost 2 ≡ t → length old + cond t cost (1 + cost) ≤ total → length new
+          ≡ length old + 1 → length old + 2 < total → length new + cost ≤ total
       by_test true e b l more = let le : cost ≤ 2 = grind (arith, nat_tests) in omega (arith, le, l, more)
       by_test false e b l more = omega (arith, b, l)
 
-      at_most : (t : Bool) → length old + cond t cost (1 + cost) ≤ total → length new ≡ length old → length new + cost ≤ total
+      at_most : (t : Bool) → length old + cond t cost (1 + cost) ≤ total → length new ≡ length old
+          → length new + cost ≤ total
       at_most true b l = omega (arith, b, l)
       at_most false b l = omega (arith, b, l)
-ended_budget (group.One x) total cost old new paid ended = absurd (elim paid [ inl p ↦ omega (arith, p.0) | inr p ↦ omega (arith, p.0) ])
-ended_budget (group.Two x y) total cost old new paid ended = absurd (elim paid [ inl p ↦ omega (arith, p.0) | inr p ↦ omega (arith, p.0) ])
+ended_budget (group.One x) total cost old new paid ended =
+    absurd (elim paid [ inl p ↦ omega (arith, p.0) | inr p ↦ omega (arith, p.0) ])
+ended_budget (group.Two x y) total cost old new paid ended =
+    absurd (elim paid [ inl p ↦ omega (arith, p.0) | inr p ↦ omega (arith, p.0) ])
 ended_budget (group.Three x y z) total cost old new paid ended =
     elim paid [
       | inl p ↦ absurd (omega (arith, p.0))
-      | inr p ↦ (let push = ended.1 in omega (arith, p.1, ap length push.1.2, length-append old push.1.0, ap length push.1.1.words_are))
+      | inr p ↦ (let push =
+          ended.1 in omega (arith, p.1, ap length push.1.2, length-append old push.1.0, ap length push.1.1.words_are))
     ]

@@ -1,5 +1,6 @@
 -- The loop that reads the groups of a run of EDIFACT, and the ways in which a group ends.
-use Rattle.std.proofs.Common.{◌≡◌, ◌≢◌, ℕ, ◌+◌, ◌-◌, ◌<◌, ◌≤◌, List, [], ◌∷◌, ◌++◌, length, map, drop, get_or, refl, sym, ap, ◌∙◌, append_assoc, add-one, arith, length-append, Some, None}
+use Rattle.std.proofs.Common.{◌≡◌, ◌≢◌, ℕ, ◌+◌, ◌-◌, ◌<◌, ◌≤◌, List, [], ◌∷◌, ◌++◌, length, map, drop, get_or, refl}
+use Rattle.std.proofs.Common.{sym, ap, ◌∙◌, append_assoc, add-one, arith, length-append, Some, None}
 use Rattle.std.proofs.lemmas.List.{append-nil, length-drop, map-append}
 use Rattle.std.proofs.Math.Seq.{drop-cons}
 use Rattle.dm_words.specs.declared.item.Item.{Item}
@@ -12,42 +13,54 @@ use Rattle.dm_words.proofs.Groups.{is_not, border_found}
 
 -- ---- the exits of the function that reads a group
 
-module _ (v w x y : ℕ) (old : List Item) (i : Item) (first_is : i ≡ Byte (edifact_byte v)) (one : List Item) (one_is : one ≡ old ++ i ∷ []) (ne : v ≢ 31) where
+module _ (v w x y : ℕ) (old : List Item) (i : Item) (first_is : i
+    ≡ Byte (edifact_byte v)) (one : List Item) (one_is : one ≡ old ++ i ∷ []) (ne : v ≢ 31) where
   -- The group ends behind its first value.
   pub ends_second : w ≡ 31 → IsGroupTaken (Some 2) old one (v ∷ w ∷ x ∷ y ∷ [])
   ends_second is = (v ∷ [], (λ rest. rw (is_not v ne, is) refl), rw first_is at one_is, omega arith)
 
-  module _ (j : Item) (second_is : j ≡ Byte (edifact_byte w)) (two : List Item) (two_is : two ≡ one ++ j ∷ []) (ne2 : w ≢ 31) where
+  module _ (j : Item) (second_is : j ≡ Byte (edifact_byte w)) (two : List Item) (two_is : two ≡ one
+      ++ j ∷ []) (ne2 : w ≢ 31) where
     -- Two characters were added.
     two_items : two ≡ old ++ edifact_items (v ∷ w ∷ [])
-    two_items = rw (two_is, one_is, first_is, second_is) (append_assoc old (Byte (edifact_byte v) ∷ []) (Byte (edifact_byte w) ∷ []))
+    two_items =
+        rw (two_is, one_is, first_is, second_is)
+        (append_assoc old (Byte (edifact_byte v) ∷ []) (Byte (edifact_byte w) ∷ []))
 
     -- The group ends behind its second value.
     pub ends_third : x ≡ 31 → IsGroupTaken (Some 3) old two (v ∷ w ∷ x ∷ y ∷ [])
     ends_third is = (v ∷ w ∷ [], (λ rest. rw (is_not v ne, is_not w ne2, is) refl), two_items, omega arith)
 
-    module _ (k : Item) (third_is : k ≡ Byte (edifact_byte x)) (three : List Item) (three_is : three ≡ two ++ k ∷ []) (ne3 : x ≢ 31) where
+    module _ (k : Item) (third_is : k ≡ Byte (edifact_byte x)) (three : List Item) (three_is : three ≡ two
+        ++ k ∷ []) (ne3 : x ≢ 31) where
       -- Three characters were added.
       three_items : three ≡ old ++ edifact_items (v ∷ w ∷ x ∷ [])
-      three_items = rw (three_is, two_items, third_is) (append_assoc old (edifact_items (v ∷ w ∷ [])) (Byte (edifact_byte x) ∷ []))
+      three_items =
+          rw (three_is, two_items, third_is)
+          (append_assoc old (edifact_items (v ∷ w ∷ [])) (Byte (edifact_byte x) ∷ []))
 
       -- The group ends behind its third value.
       pub ends_fourth : y ≡ 31 → IsGroupTaken (Some 3) old three (v ∷ w ∷ x ∷ y ∷ [])
-      ends_fourth is = (v ∷ w ∷ x ∷ [], (λ rest. rw (is_not v ne, is_not w ne2, is_not x ne3, is) refl), three_items, omega arith)
+      ends_fourth is =
+          (v ∷ w ∷ x ∷ [], (λ rest. rw (is_not v ne, is_not w ne2, is_not x ne3, is) refl), three_items, omega arith)
 
-      module _ (l : Item) (fourth_is : l ≡ Byte (edifact_byte y)) (four : List Item) (four_is : four ≡ three ++ l ∷ []) (ne4 : y ≢ 31) where
+      module _ (l : Item) (fourth_is : l ≡ Byte (edifact_byte y)) (four : List Item) (four_is : four ≡ three
+          ++ l ∷ []) (ne4 : y ≢ 31) where
         -- The group is whole.
         pub is_whole : IsGroupTaken None old four (v ∷ w ∷ x ∷ y ∷ [])
         is_whole = (
           (λ rest. rw (is_not v ne, is_not w ne2, is_not x ne3, is_not y ne4) refl),
-          rw (four_is, three_items, fourth_is) (append_assoc old (edifact_items (v ∷ w ∷ x ∷ [])) (Byte (edifact_byte y) ∷ [])),
+          rw (four_is, three_items, fourth_is)
+              (append_assoc old (edifact_items (v ∷ w ∷ x ∷ [])) (Byte (edifact_byte y) ∷ [])),
         )
 
 -- ---- the loop
 
--- What was read from an index on so far, and the run from the next index on, are together the run from the first index on.
+-- What was read from an index on so far, and the run from the next index on, are together the run from the first index
+-- on.
 pub record GroupsGoOn (words : List ℕ) (start : ℕ) (first old : List Item) (next : ℕ) : Type 0 where
-  pub items : first ++ edifact_items (edifact_run (drop start words)).1 ≡ old ++ edifact_items (edifact_run (drop next words)).1
+  pub items : first ++ edifact_items (edifact_run (drop start words)).1 ≡ old
+      ++ edifact_items (edifact_run (drop next words)).1
   pub count : start + (edifact_run (drop start words)).0 ≡ next + (edifact_run (drop next words)).0
 
 -- The words from an index on begin with the word there.
@@ -56,7 +69,9 @@ first_of words k lt = drop-cons words k 0 lt ∙ ap (λ (j : ℕ). get_or words 
 
 -- Where three words are left, the run begins with their group.
 group_first : (words : List ℕ) (next : ℕ) → next + 2 < length words
-    → edifact_run (drop next words) ≡ group_by (group_values (get_or words next 0) (get_or words (next + 1) 0) (get_or words (next + 2) 0)) (edifact_run (drop (next + 3) words))
+    → edifact_run (drop next words)
+    ≡ group_by (group_values (get_or words next 0) (get_or words (next + 1) 0) (get_or words (next + 2) 0))
+    (edifact_run (drop (next + 3) words))
 unfolding edifact_run
 group_first words next lt =
     let a = first_of words next (omega arith) in
@@ -64,19 +79,27 @@ group_first words next lt =
     let c = first_of words (next + 2) lt in
     let two : next + 1 + 1 ≡ next + 2 = omega arith in
     let three : next + 2 + 1 ≡ next + 3 = omega arith in
-    let all : drop next words ≡ get_or words next 0 ∷ get_or words (next + 1) 0 ∷ get_or words (next + 2) 0 ∷ drop (next + 3) words =
-    a ∙ ap (λ (r : List ℕ). get_or words next 0 ∷ r) (b ∙ ap (λ (r : List ℕ). get_or words (next + 1) 0 ∷ r) (ap (λ (k : ℕ). drop k words) two ∙ c ∙ ap (λ (k : ℕ). get_or words (next + 2) 0 ∷ drop k words) three)) in
+    let all : drop next words
+    ≡ get_or words next 0 ∷ get_or words (next + 1) 0 ∷ get_or words (next + 2) 0 ∷ drop (next + 3) words =
+    a ∙ ap (λ (r : List ℕ). get_or words next 0 ∷ r) (b
+    ∙ ap (λ (r : List ℕ). get_or words (next + 1) 0 ∷ r) (ap (λ (k : ℕ). drop k words) two ∙ c
+    ∙ ap (λ (k : ℕ). get_or words (next + 2) 0 ∷ drop k words) three)) in
     ap edifact_run all
 
 -- The items of values, joined, are those of each, joined.
 edifact_items-append : (a b : List ℕ) → edifact_items (a ++ b) ≡ edifact_items a ++ edifact_items b
-edifact_items-append a b = rw (map-append edifact_byte a b) (byte_items-append (map edifact_byte a) (map edifact_byte b))
+edifact_items-append a b =
+    rw (map-append edifact_byte a b) (byte_items-append (map edifact_byte a) (map edifact_byte b))
 
-module _ (words : List ℕ) (start next : ℕ) (first old new : List Item) (so_far : GroupsGoOn words start first old next) where
+module _ (words : List ℕ) (start next : ℕ) (first old new : List Item)
+    (so_far : GroupsGoOn words start first old next) where
   -- Where at most two words are left, the run ends.
-  pub border_ends : length words - next ≤ 2 → (start + (edifact_run (drop start words)).0 ≡ next) × (old ≡ first ++ edifact_items (edifact_run (drop start words)).1)
+  pub border_ends : length words - next ≤ 2
+      → (start + (edifact_run (drop start words)).0 ≡ next) × (old ≡ first
+      ++ edifact_items (edifact_run (drop start words)).1)
   border_ends le =
-      let e : edifact_run (drop next words) ≡ (0, []) = border_found (drop next words) (omega (arith, length-drop next words)) in
+      let e : edifact_run (drop next words)
+      ≡ (0, []) = border_found (drop next words) (omega (arith, length-drop next words)) in
       let here = rw e at so_far.items in
       let n = rw e at so_far.count in
       (omega (arith, n), sym (here ∙ append-nil old))
@@ -87,7 +110,9 @@ module _ (words : List ℕ) (start next : ℕ) (first old new : List Item) (so_f
     group = group_values (get_or words next 0) (get_or words (next + 1) 0) (get_or words (next + 2) 0)
 
     -- A group that ends the run ends it.
-    pub group_ends : (n : ℕ) → IsGroupTaken (Some n) old new group → (start + (edifact_run (drop start words)).0 ≡ next + n) × (new ≡ first ++ edifact_items (edifact_run (drop start words)).1) × (n ≤ 3)
+    pub group_ends : (n : ℕ) → IsGroupTaken (Some n) old new group
+        → (start + (edifact_run (drop start words)).0 ≡ next + n) × (new ≡ first
+        ++ edifact_items (edifact_run (drop start words)).1) × (n ≤ 3)
     group_ends n took =
         let e = group_first words next lt ∙ took.1 (edifact_run (drop (next + 3) words)) in
         let here = rw e at so_far.items in
@@ -95,11 +120,17 @@ module _ (words : List ℕ) (start next : ℕ) (first old new : List Item) (so_f
         (count, took.2 ∙ sym here, took.3)
 
     -- After a whole group, the run is still the same.
-    pub group_goes_on : IsGroupTaken None old new group → GroupsGoOn words start first new (next + 3) × (length new ≡ length old + 4)
+    pub group_goes_on : IsGroupTaken None old new group
+        → GroupsGoOn words start first new (next + 3) × (length new ≡ length old + 4)
     group_goes_on took =
         let rest = edifact_run (drop (next + 3) words) in
         let e = group_first words next lt ∙ took.0 rest in
         let here = rw e at so_far.items in
         let count = rw e at so_far.count in
-        let joined : old ++ edifact_items (group ++ rest.1) ≡ new ++ edifact_items rest.1 = rw took.1 (ap (λ (r : List Item). old ++ r) (edifact_items-append group rest.1) ∙ sym (append_assoc old (edifact_items group) (edifact_items rest.1))) in
-        (record { items = here ∙ joined; count = omega (arith, count) }, omega (arith, ap length took.1, length-append old (edifact_items group)))
+        let joined : old ++ edifact_items (group ++ rest.1) ≡ new
+        ++ edifact_items rest.1 =
+        rw took.1 (ap (λ (r : List Item). old ++ r) (edifact_items-append group rest.1)
+        ∙ sym (append_assoc old (edifact_items group) (edifact_items rest.1))) in (
+          record { items = here ∙ joined; count = omega (arith, count) },
+          omega (arith, ap length took.1, length-append old (edifact_items group)),
+        )

@@ -1,5 +1,6 @@
 -- A run of EDIFACT that the scan finds is a run of the definition.
-use Rattle.std.proofs.Common.{◌≡◌, ◌≢◌, ℕ, suc, ◌+◌, ◌*◌, ◌/◌, ◌%◌, ◌<◌, ◌≤◌, List, [], ◌∷◌, ◌++◌, length, map, take, drop, refl, sym, ap, ◌∙◌, append_assoc, arith, Bool, true, false, eqb, Some, zero-add}
+use Rattle.std.proofs.Common.{◌≡◌, ◌≢◌, ℕ, suc, ◌+◌, ◌*◌, ◌/◌, ◌%◌, ◌<◌, ◌≤◌, List, [], ◌∷◌, ◌++◌, length, map, take}
+use Rattle.std.proofs.Common.{drop, refl, sym, ap, ◌∙◌, append_assoc, arith, Bool, true, false, eqb, Some, zero-add}
 use Rattle.std.specs.List.{AllByRecursion}
 use Rattle.std.proofs.lemmas.Bool.{eqb-true}
 use Rattle.std.proofs.lemmas.Bool.Decides.{nat_tests}
@@ -8,7 +9,8 @@ use Rattle.dm_words.specs.declared.item.Item.{Item}
 use Rattle.dm_words.specs.declared.codeword.Codeword.TheVariants as codeword
 use Rattle.dm_words.specs.Codewords.{codeword_of}
 use Rattle.dm_words.specs.Joined.{Piece, spelled, gathered}
-use Rattle.dm_words.specs.Edifact.{IsGroup, unlatch_value, edifact_byte, IsEdifactEnd, few_left, first, second, third, fourth, IsEdifactRun}
+use Rattle.dm_words.specs.Edifact.{IsGroup, unlatch_value, edifact_byte, IsEdifactEnd, few_left, first, second, third}
+use Rattle.dm_words.specs.Edifact.{fourth, IsEdifactRun}
 use Rattle.dm_words.specs.inner.Scan.Prefixes.{group_values, group_by, edifact_run, edifact_items}
 use Rattle.dm_words.proofs.Pairs.{IsBytes}
 use Rattle.dm_words.proofs.Runs.{cut_behind_prefix}
@@ -64,7 +66,8 @@ is_group a b c la lb lc = record {
 }
 
 -- A run that ends at once has no groups.
-ends_at_once : (words end after last : List ℕ) (n : ℕ) → IsEdifactEnd end after last → words ≡ end ++ after → n ≡ length end → NoUnlatch last → HasRun words n last
+ends_at_once : (words end after last : List ℕ) (n : ℕ) → IsEdifactEnd end after last → words ≡ end ++ after → n
+    ≡ length end → NoUnlatch last → HasRun words n last
 ends_at_once words end after last n ended whole count none = record {
   groups = [];
   each = tt;
@@ -80,7 +83,8 @@ ends_at_once words end after last n ended whole count none = record {
 
 module _ (a b c : ℕ) (more : List ℕ) (la : a < 256) (lb : b < 256) (lc : c < 256) where
   -- Three codewords whose values are not the unlatch are a group before a run.
-  one_group_more : (n : ℕ) (values : List ℕ) → NoUnlatch (group_values a b c) → HasRun more n values → HasRun (a ∷ b ∷ c ∷ more) (3 + n) (group_values a b c ++ values)
+  one_group_more : (n : ℕ) (values : List ℕ) → NoUnlatch (group_values a b c) → HasRun more n values
+      → HasRun (a ∷ b ∷ c ∷ more) (3 + n) (group_values a b c ++ values)
   one_group_more n values none r =
       let p : Piece (List ℕ) = record { words = a ∷ b ∷ c ∷ []; what = group_values a b c } in
       record {
@@ -97,25 +101,38 @@ module _ (a b c : ℕ) (more : List ℕ) (la : a < 256) (lb : b < 256) (lc : c <
       }
 
   -- What is found at three codewords is right, whichever of their values is the first unlatch.
-  by_group : (s t u v : Bool) → eqb (a / 4) 31 ≡ s → eqb (a % 4 * 16 + b / 16) 31 ≡ t → eqb (b % 16 * 4 + c / 64) 31 ≡ u → eqb (c % 64) 31 ≡ v
+  by_group : (s t u v : Bool) → eqb (a / 4) 31 ≡ s → eqb (a % 4 * 16 + b / 16) 31 ≡ t → eqb (b % 16 * 4 + c / 64) 31
+      ≡ u → eqb (c % 64) 31 ≡ v
       → (rest : ℕ × List ℕ) → HasRun more rest.0 rest.1
       → (let found : ℕ × List ℕ = group_by (group_values a b c) rest in HasRun (a ∷ b ∷ c ∷ more) found.0 found.1)
   by_group true t u v es et eu ev rest r =
       let is : a / 4 ≡ 31 = eqb-true _ _ es in
-      rw es (ends_at_once (a ∷ b ∷ c ∷ more) (a ∷ []) (b ∷ c ∷ more) [] 1 (first a (a % 4) (omega (arith, is)) (omega arith) refl refl (omega arith)) refl refl tt)
+      rw es (ends_at_once (a ∷ b ∷ c ∷ more) (a ∷ []) (b ∷ c ∷ more) [] 1
+      (first a (a % 4) (omega (arith, is)) (omega arith) refl refl (omega arith)) refl refl tt)
   by_group false true u v es et eu ev rest r =
       let is : a % 4 * 16 + b / 16 ≡ 31 = eqb-true _ _ et in
-      rw (es, et) (ends_at_once (a ∷ b ∷ c ∷ more) (a ∷ b ∷ []) (c ∷ more) ((a / 4) ∷ []) 2 (second a b (a / 4) (b % 16) lb (omega arith) (omega (arith, is)) (omega arith) refl refl (omega arith)) refl refl (not_unlatch _ es, tt))
+      rw (es, et)
+      (ends_at_once (a ∷ b ∷ c ∷ more) (a ∷ b ∷ []) (c ∷ more) ((a / 4) ∷ []) 2
+      (second a b (a / 4) (b % 16) lb (omega arith) (omega (arith, is)) (omega arith) refl refl (omega arith))
+      refl refl (not_unlatch _ es, tt))
   by_group false false true v es et eu ev rest r =
       let is : b % 16 * 4 + c / 64 ≡ 31 = eqb-true _ _ eu in
-      let g : IsGroup (a ∷ b ∷ c ∷ []) ((a / 4) ∷ (a % 4 * 16 + b / 16) ∷ 31 ∷ (c % 64) ∷ []) = rw is at (is_group a b c la lb lc) in
-      rw (es, et, eu) (ends_at_once (a ∷ b ∷ c ∷ more) (a ∷ b ∷ c ∷ []) more _ 3 (third _ _ _ g refl) refl refl (not_unlatch _ es, (not_unlatch _ et, tt)))
+      let g : IsGroup (a ∷ b ∷ c ∷ []) ((a / 4) ∷ (a % 4 * 16 + b / 16) ∷ 31 ∷ (c % 64) ∷ []) =
+      rw is at (is_group a b c la lb lc) in
+      rw (es, et, eu)
+      (ends_at_once (a ∷ b ∷ c ∷ more) (a ∷ b ∷ c ∷ []) more _ 3 (third _ _ _ g refl) refl refl
+      (not_unlatch _ es, (not_unlatch _ et, tt)))
   by_group false false false true es et eu ev rest r =
       let is : c % 64 ≡ 31 = eqb-true _ _ ev in
-      let g : IsGroup (a ∷ b ∷ c ∷ []) ((a / 4) ∷ (a % 4 * 16 + b / 16) ∷ (b % 16 * 4 + c / 64) ∷ 31 ∷ []) = rw is at (is_group a b c la lb lc) in
-      rw (es, et, eu, ev) (ends_at_once (a ∷ b ∷ c ∷ more) (a ∷ b ∷ c ∷ []) more _ 3 (fourth _ _ _ g refl) refl refl (not_unlatch _ es, (not_unlatch _ et, (not_unlatch _ eu, tt))))
+      let g : IsGroup (a ∷ b ∷ c ∷ []) ((a / 4) ∷ (a % 4 * 16 + b / 16) ∷ (b % 16 * 4 + c / 64) ∷ 31 ∷ []) =
+      rw is at (is_group a b c la lb lc) in
+      rw (es, et, eu, ev)
+      (ends_at_once (a ∷ b ∷ c ∷ more) (a ∷ b ∷ c ∷ []) more _ 3 (fourth _ _ _ g refl) refl refl
+      (not_unlatch _ es, (not_unlatch _ et, (not_unlatch _ eu, tt))))
   by_group false false false false es et eu ev rest r =
-      rw (es, et, eu, ev) (one_group_more rest.0 rest.1 (not_unlatch _ es, (not_unlatch _ et, (not_unlatch _ eu, (not_unlatch _ ev, tt)))) r)
+      rw (es, et, eu, ev)
+      (one_group_more rest.0 rest.1
+      (not_unlatch _ es, (not_unlatch _ et, (not_unlatch _ eu, (not_unlatch _ ev, tt)))) r)
 
 -- At the border of a group, where at most two codewords are left, the run ends.
 at_border : (words : List ℕ) → length words ≤ 2 → HasRun words 0 []
@@ -128,7 +145,8 @@ run_found [] fit = at_border [] (omega arith)
 run_found (a ∷ []) fit = at_border (a ∷ []) (omega arith)
 run_found (a ∷ b ∷ []) fit = at_border (a ∷ b ∷ []) (omega arith)
 run_found (a ∷ b ∷ c ∷ more) fit =
-    by_group a b c more (fit 0) (fit 1) (fit 2) _ _ _ _ refl refl refl refl (edifact_run more) (run_found more (λ i. fit (suc (suc (suc i)))))
+    by_group a b c more (fit 0) (fit 1) (fit 2) _ _ _ _ refl refl refl refl (edifact_run more)
+    (run_found more (λ i. fit (suc (suc (suc i)))))
 
 -- The first n codewords are a run, by what follows them.
 pub record EdifactTakes (words : List ℕ) (n : ℕ) (items : List Item) : Type 0 where
@@ -137,12 +155,15 @@ pub record EdifactTakes (words : List ℕ) (n : ℕ) (items : List Item) : Type 
   pub within : n ≤ length words
 
 -- A run that is found behind a latch is a run.
-pub edifact_judged : (w : ℕ) (words : List ℕ) → codeword_of w ≡ Some codeword.Edifact → IsBytes words → EdifactTakes (w ∷ words) (1 + (edifact_run words).0) (edifact_items (edifact_run words).1)
+pub edifact_judged : (w : ℕ) (words : List ℕ) → codeword_of w ≡ Some codeword.Edifact → IsBytes words
+    → EdifactTakes (w ∷ words) (1 + (edifact_run words).0) (edifact_items (edifact_run words).1)
 edifact_judged w words is_latch fit =
     let r = run_found words fit in
     let prefix : List ℕ = w ∷ (spelled r.groups ++ r.end) in
-    let whole : w ∷ words ≡ prefix ++ r.after = ap (λ (x : List ℕ). w ∷ x) (r.whole ∙ sym (append_assoc (spelled r.groups) r.end r.after)) in
-    let c = cut_behind_prefix (w ∷ words) prefix r.after (1 + (edifact_run words).0) whole (omega (arith, r.count, length-append (spelled r.groups) r.end)) in
+    let whole : w ∷ words ≡ prefix
+    ++ r.after = ap (λ (x : List ℕ). w ∷ x) (r.whole ∙ sym (append_assoc (spelled r.groups) r.end r.after)) in
+    let c = cut_behind_prefix (w ∷ words) prefix r.after (1 + (edifact_run words).0) whole
+    (omega (arith, r.count, length-append (spelled r.groups) r.end)) in
     let run : IsEdifactRun prefix r.after (edifact_items (edifact_run words).1) = record {
       latch = w;
       is_latch = is_latch;
@@ -160,15 +181,18 @@ edifact_judged w words is_latch fit =
 -- ---- what is right is found
 
 -- The values of a group are those of its codewords.
-group_again : (a b c v w x y : ℕ) → b < 256 → c < 256 → v < 64 → w < 64 → x < 64 → y < 64 → 65536 * a + 256 * b + c ≡ 262144 * v + 4096 * w + 64 * x + y
+group_again : (a b c v w x y : ℕ) → b < 256 → c < 256 → v < 64 → w < 64 → x < 64 → y < 64 → 65536 * a + 256 * b + c
+    ≡ 262144 * v + 4096 * w + 64 * x + y
     → (a / 4 ≡ v) × (a % 4 * 16 + b / 16 ≡ w) × (b % 16 * 4 + c / 64 ≡ x) × (c % 64 ≡ y)
 group_again a b c v w x y lb lc lv lw lx ly e = (omega arith, omega arith, omega arith, omega arith)
 
 -- The values of codewords that are a group are found.
-values_found : (words values more : List ℕ) → IsGroup words values → edifact_run (words ++ more) ≡ group_by values (edifact_run more)
+values_found : (words values more : List ℕ) → IsGroup words values → edifact_run (words ++ more)
+    ≡ group_by values (edifact_run more)
 unfolding edifact_run
 values_found words values more g =
-    let is = group_again g.high g.middle g.low g.first g.second g.third g.fourth g.middle_is_byte g.low_is_byte g.first_small g.second_small g.third_small g.fourth_small g.number in
+    let is = group_again g.high g.middle g.low g.first g.second g.third g.fourth g.middle_is_byte g.low_is_byte
+    g.first_small g.second_small g.third_small g.fourth_small g.number in
     rw (g.words_are, g.values_are, is.0, is.1, is.2, is.3) refl
 
 -- A value that isn't the unlatch is found not to be.
@@ -184,14 +208,16 @@ border_found (a ∷ b ∷ []) le = refl
 border_found (a ∷ b ∷ c ∷ more) le = absurd (omega arith)
 
 -- An unlatch that is the first value of a group is found.
-first_found : (word rest : ℕ) (after : List ℕ) → word ≡ 4 * 31 + rest → rest < 4 → 2 ≤ length after → edifact_run (word ∷ after) ≡ (1, [])
+first_found : (word rest : ℕ) (after : List ℕ) → word ≡ 4 * 31 + rest → rest < 4 → 2 ≤ length after
+    → edifact_run (word ∷ after) ≡ (1, [])
 unfolding edifact_run
 first_found word rest [] is lt le = absurd (omega arith)
 first_found word rest (b ∷ []) is lt le = absurd (omega arith)
 first_found word rest (b ∷ c ∷ more) is lt le = let e : word / 4 ≡ 31 = omega (arith, is) in rw e refl
 
 -- An unlatch that is the second value of a group is found.
-second_found : (high low value rest : ℕ) (after : List ℕ) → low < 256 → 256 * high + low ≡ 1024 * value + 16 * 31 + rest → rest < 16 → value ≢ 31 → 1 ≤ length after
+second_found : (high low value rest : ℕ) (after : List ℕ) → low < 256 → 256 * high + low
+    ≡ 1024 * value + 16 * 31 + rest → rest < 16 → value ≢ 31 → 1 ≤ length after
     → edifact_run (high ∷ low ∷ after) ≡ (2, value ∷ [])
 unfolding edifact_run
 second_found high low value rest [] small is lt ne le = absurd (omega arith)
@@ -201,10 +227,12 @@ second_found high low value rest (c ∷ more) small is lt ne le =
     rw (e, f, is_not value ne) refl
 
 -- The end of a run is found.
-end_found : (end after last : List ℕ) → IsEdifactEnd end after last → NoUnlatch last → edifact_run (end ++ after) ≡ (length end, last)
+end_found : (end after last : List ℕ) → IsEdifactEnd end after last → NoUnlatch last → edifact_run (end ++ after)
+    ≡ (length end, last)
 end_found end after last (few_left w v le) none = rw (w, v) (border_found after le)
 end_found end after last (first word rest is lt w v le) none = rw (w, v) (first_found word rest after is lt le)
-end_found end after last (second high low value rest small six is lt w v le) none = let n : NoUnlatch (value ∷ []) = rw v at none in rw (w, v) (second_found high low value rest after small is lt n.0 le)
+end_found end after last (second high low value rest small six is lt w v le) none = let n : NoUnlatch (value ∷ []) =
+    rw v at none in rw (w, v) (second_found high low value rest after small is lt n.0 le)
 end_found end after last (third one two rest g v) none =
     let n : NoUnlatch (one ∷ two ∷ []) = rw v at none in
     values_found end _ after g ∙ rw (is_not one n.0, is_not two n.1.0, g.words_are, v) refl
@@ -218,24 +246,43 @@ NoUnlatch-right [] y none = none
 NoUnlatch-right (v ∷ x) y none = NoUnlatch-right x y none.1
 
 -- Where none of its values is the unlatch, a group is taken.
-whole_group : (words values more : List ℕ) (n : ℕ) (rest others : List ℕ) → IsGroup words values → NoUnlatch (values ++ others) → edifact_run more ≡ (n, rest)
+whole_group : (words values more : List ℕ) (n : ℕ) (rest others : List ℕ) → IsGroup words values
+    → NoUnlatch (values ++ others) → edifact_run more ≡ (n, rest)
     → (edifact_run (words ++ more) ≡ (length words + n, values ++ rest))
 whole_group words values more n rest others g none e =
     let d : NoUnlatch (g.first ∷ g.second ∷ g.third ∷ g.fourth ∷ others) = rw g.values_are at none in
-    values_found words values more g ∙ rw (e, g.values_are, is_not g.first d.0, is_not g.second d.1.0, is_not g.third d.1.1.0, is_not g.fourth d.1.1.1.0, g.words_are) refl
+    values_found words values more g
+    ∙ rw (
+      e,
+      g.values_are,
+      is_not g.first d.0,
+      is_not g.second d.1.0,
+      is_not g.third d.1.1.0,
+      is_not g.fourth d.1.1.1.0,
+      g.words_are,
+    ) refl
 
 -- Groups and the end of a run behind them are found.
-groups_found : (groups : List (Piece (List ℕ))) (end after last : List ℕ) → AllByRecursion (λ p. IsGroup p.words p.what) groups → IsEdifactEnd end after last → NoUnlatch (gathered groups ++ last)
+groups_found : (groups : List (Piece (List ℕ))) (end after last : List ℕ)
+    → AllByRecursion (λ p. IsGroup p.words p.what) groups → IsEdifactEnd end after last
+    → NoUnlatch (gathered groups ++ last)
     → edifact_run (spelled groups ++ (end ++ after)) ≡ (length (spelled groups) + length end, gathered groups ++ last)
-groups_found [] end after last each ended none = end_found end after last ended none ∙ ap (λ (k : ℕ). (let r : ℕ × List ℕ = (k, last) in r)) (sym (zero-add (length end)))
+groups_found [] end after last each ended none = end_found end after last ended none
+    ∙ ap (λ (k : ℕ). (let r : ℕ × List ℕ = (k, last) in r)) (sym (zero-add (length end)))
 groups_found (p ∷ groups) end after last each ended none =
     let assoc = append_assoc p.what (gathered groups) last in
     let all : NoUnlatch (p.what ++ (gathered groups ++ last)) = rw assoc at none in
     let rest = groups_found groups end after last each.1 ended (NoUnlatch-right p.what (gathered groups ++ last) all) in
-    let one = whole_group p.words p.what (spelled groups ++ (end ++ after)) _ _ (gathered groups ++ last) each.0 all rest in
-    let grouped : (p.words ++ spelled groups) ++ (end ++ after) ≡ p.words ++ (spelled groups ++ (end ++ after)) = append_assoc p.words (spelled groups) (end ++ after) in
-    let len : length p.words + (length (spelled groups) + length end) ≡ length (p.words ++ spelled groups) + length end = omega (arith, length-append p.words (spelled groups)) in
-    ap edifact_run grouped ∙ one ∙ ap (λ (k : ℕ). (let r : ℕ × List ℕ = (k, p.what ++ (gathered groups ++ last)) in r)) len ∙ ap (λ (x : List ℕ). (let r : ℕ × List ℕ = (length (p.words ++ spelled groups) + length end, x) in r)) (sym assoc)
+    let one =
+    whole_group p.words p.what (spelled groups ++ (end ++ after)) _ _ (gathered groups ++ last) each.0 all rest in
+    let grouped : (p.words ++ spelled groups) ++ (end ++ after) ≡ p.words ++ (spelled groups ++ (end ++ after)) =
+    append_assoc p.words (spelled groups) (end ++ after) in
+    let len : length p.words + (length (spelled groups) + length end)
+    ≡ length (p.words ++ spelled groups) + length end = omega (arith, length-append p.words (spelled groups)) in
+    ap edifact_run grouped ∙ one
+    ∙ ap (λ (k : ℕ). (let r : ℕ × List ℕ = (k, p.what ++ (gathered groups ++ last)) in r)) len
+    ∙ ap (λ (x : List ℕ). (let r : ℕ × List ℕ = (length (p.words ++ spelled groups) + length end, x) in r))
+    (sym assoc)
 
 -- The words begin with a latch to EDIFACT, and a run with this many words and these items is found there.
 pub record EdifactFound (words : List ℕ) (n : ℕ) (items : List Item) : Type 0 where
@@ -247,14 +294,17 @@ pub record EdifactFound (words : List ℕ) (n : ℕ) (items : List Item) : Type 
   pub found : edifact_items (edifact_run others).1 ≡ items
 
 -- A run that is a prefix is found.
-pub edifact_complete : (words after : List ℕ) (items : List Item) → IsEdifactRun words after items → EdifactFound (words ++ after) (length words) items × (0 < length words)
+pub edifact_complete : (words after : List ℕ) (items : List Item) → IsEdifactRun words after items
+    → EdifactFound (words ++ after) (length words) items × (0 < length words)
 edifact_complete words after items r =
     let again = groups_found r.groups r.end after r.last r.each r.ended r.no_unlatch in
-    let len : 1 + (length (spelled r.groups) + length r.end) ≡ length words = omega (arith, ap length r.whole, length-append (spelled r.groups) r.end) in (
+    let len : 1 + (length (spelled r.groups) + length r.end)
+    ≡ length words = omega (arith, ap length r.whole, length-append (spelled r.groups) r.end) in (
       record {
         latch = r.latch;
         others = spelled r.groups ++ (r.end ++ after);
-        whole = ap (λ (x : List ℕ). x ++ after) r.whole ∙ ap (λ (x : List ℕ). r.latch ∷ x) (append_assoc (spelled r.groups) r.end after);
+        whole = ap (λ (x : List ℕ). x ++ after) r.whole
+            ∙ ap (λ (x : List ℕ). r.latch ∷ x) (append_assoc (spelled r.groups) r.end after);
         is_latch = r.is_latch;
         count = rw again len;
         found = rw again (sym r.items_are);
@@ -265,7 +315,8 @@ edifact_complete words after items r =
 -- ---- how many items a run has
 
 -- Three codewords have four values.
-pub groups_room : (ps : List (Piece (List ℕ))) → AllByRecursion (λ p. IsGroup p.words p.what) ps → 3 * length (gathered ps) ≡ 4 * length (spelled ps)
+pub groups_room : (ps : List (Piece (List ℕ))) → AllByRecursion (λ p. IsGroup p.words p.what) ps
+    → 3 * length (gathered ps) ≡ 4 * length (spelled ps)
 groups_room [] h = refl
 groups_room (p ∷ ps) h =
     let one = group_room p.words p.what h.0 in
@@ -282,7 +333,8 @@ end_room end after last (third one two rest g v) = rw (g.words_are, v) (omega ar
 end_room end after last (fourth one two three g v) = rw (g.words_are, v) (omega arith)
 
 -- A run has at most two items for each word.
-pub edifact_room : (words after : List ℕ) (items : List Item) → IsEdifactRun words after items → length items ≤ 2 * length words
+pub edifact_room : (words after : List ℕ) (items : List Item) → IsEdifactRun words after items
+    → length items ≤ 2 * length words
 edifact_room words after items r =
     omega (
       arith,

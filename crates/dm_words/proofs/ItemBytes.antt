@@ -1,5 +1,6 @@
 -- What codewords spell is a message: its bytes are 0 to 255.
-use Rattle.std.proofs.Common.{◌≡◌, ℕ, ◌+◌, ◌<◌, List, [], ◌∷◌, ◌++◌, length, map, sym, subst, arith, Some, Bool, true, false, cond, ltb}
+use Rattle.std.proofs.Common.{◌≡◌, ℕ, ◌+◌, ◌<◌, List, [], ◌∷◌, ◌++◌, length, map, sym, subst, arith, Some, Bool, true}
+use Rattle.std.proofs.Common.{false, cond, ltb}
 use Rattle.std.specs.List.{AllByRecursion}
 use Rattle.std.proofs.lemmas.Bool.Decides.{nat_tests}
 use Rattle.std.proofs.lemmas.List.Elements.{All-from_recursion}
@@ -22,7 +23,8 @@ use Rattle.dm_words.specs.Codewords.{codeword_of}
 use Rattle.dm_words.specs.Base256.{AreBytes}
 use Rattle.dm_words.specs.Edifact.{IsGroup, edifact_byte, IsEdifactEnd, few_left, first, second, third, fourth}
 use Rattle.dm_words.specs.Macros.{macro_header, macro_trailer, macro_text}
-use Rattle.dm_words.specs.Spells.{IsPart, ascii, run, segment, edifact, AreParts, plain as plain_parts, by_macro, Spells}
+use Rattle.dm_words.specs.Spells.{IsPart, ascii, run, segment, edifact, AreParts, plain as plain_parts, by_macro}
+use Rattle.dm_words.specs.Spells.{Spells}
 use Rattle.dm_words.proofs.AsciiWords.{AreItems, character_is, digits_are}
 
 -- A byte of a basic set is below 128.
@@ -50,10 +52,12 @@ character_byte set vs b (by_shift s) = shifted_byte set s.shift s.second b s.mea
 spelling_item : (set : CodeSet) (vs : List ℕ) (item : Item) → IsSpelling set vs item → IsItem item
 spelling_item set vs item (values.character b c i) = let lt = character_byte set vs b c in rw i (omega (arith, lt))
 spelling_item set vs item (values.fnc1 s i) = rw i (omega arith)
-spelling_item set vs item (values.raised upper more b u c w i) = let lt = character_byte set more b c in rw i (omega (arith, lt))
+spelling_item set vs item (values.raised upper more b u c w i) = let lt =
+    character_byte set more b c in rw i (omega (arith, lt))
 
 -- The items of all spellings are items.
-spellings_items : (set : CodeSet) (ps : List (Piece Item)) → AllByRecursion (λ p. IsSpelling set p.words p.what) ps → AreItems (whats ps)
+spellings_items : (set : CodeSet) (ps : List (Piece Item)) → AllByRecursion (λ p. IsSpelling set p.words p.what) ps
+    → AreItems (whats ps)
 spellings_items set [] h = tt
 spellings_items set (p ∷ ps) h = (spelling_item set p.words p.what h.0, spellings_items set ps h.1)
 
@@ -65,7 +69,8 @@ bytes_items (b ∷ bs) h = (h.0, bytes_items bs h.1)
 -- The items of a unit are items.
 unit_items : (words : List ℕ) (items : List Item) → IsAsciiUnit words items → AreItems items
 unit_items words items (character w b k e i) = let is = character_is w b k in rw i (omega (arith, is.1), tt)
-unit_items words items (digits w n k e i) = let is = digits_are w n k in rw i (omega (arith, is.1), (omega (arith, is.1), tt))
+unit_items words items (digits w n k e i) = let is =
+    digits_are w n k in rw i (omega (arith, is.1), (omega (arith, is.1), tt))
 unit_items words items (fnc1 w k e i) = rw i (omega arith, tt)
 unit_items words items (raised s w b k l e i) = let is = character_is w b l in rw i (omega (arith, is.1), tt)
 
@@ -83,7 +88,8 @@ group_small : (words values : List ℕ) → IsGroup words values → AreSixBits 
 group_small words values g = rw g.values_are (g.first_small, (g.second_small, (g.third_small, (g.fourth_small, tt))))
 
 -- The values of groups are below 64.
-pub groups_small : (ps : List (Piece (List ℕ))) → AllByRecursion (λ p. IsGroup p.words p.what) ps → AreSixBits (gathered ps)
+pub groups_small : (ps : List (Piece (List ℕ))) → AllByRecursion (λ p. IsGroup p.words p.what) ps
+    → AreSixBits (gathered ps)
 groups_small [] h = tt
 groups_small (p ∷ ps) h = small-append p.what (gathered ps) (group_small p.words p.what h.0) (groups_small ps h.1)
 
@@ -108,11 +114,17 @@ edifact_values_items [] h = tt
 edifact_values_items (v ∷ vs) h = (edifact_byte_small v h.0, edifact_values_items vs h.1)
 
 -- The items of a part are items.
-pub part_items : (extent : Extent) (place : ℕ) (words after : List ℕ) (items : List Item) → IsPart extent place words after items → AreItems items
+pub part_items : (extent : Extent) (place : ℕ) (words after : List ℕ) (items : List Item)
+    → IsPart extent place words after items → AreItems items
 part_items extent place words after items (ascii u) = unit_items words items u
-part_items extent place words after items (run set r) = rw r.values.items_are (spellings_items set r.values.spellings r.values.each)
+part_items extent place words after items (run set r) =
+    rw r.values.items_are (spellings_items set r.values.spellings r.values.each)
 part_items extent place words after items (segment s) = rw s.items_are (bytes_items s.bytes s.in_range)
-part_items extent place words after items (edifact is r) = rw r.items_are (edifact_values_items (gathered r.groups ++ r.last) (small-append (gathered r.groups) r.last (groups_small r.groups r.each) (end_small r.end after r.last r.ended)))
+part_items extent place words after items (edifact is r) =
+    rw r.items_are
+    (edifact_values_items (gathered r.groups
+    ++ r.last)
+    (small-append (gathered r.groups) r.last (groups_small r.groups r.each) (end_small r.end after r.last r.ended)))
 
 -- Items, joined, are items.
 pub items-append : (a b : List Item) → AreItems a → AreItems b → AreItems (a ++ b)
@@ -120,19 +132,25 @@ items-append [] b ha hb = hb
 items-append (i ∷ a) b ha hb = (ha.0, items-append a b ha.1 hb)
 
 -- The items of all parts are items.
-parts_items : (extent : Extent) (place : ℕ) (ps : List (Piece (List Item))) (after : List ℕ) → AreJoined (IsPart extent) place ps after → AreItems (gathered ps)
+parts_items : (extent : Extent) (place : ℕ) (ps : List (Piece (List Item))) (after : List ℕ)
+    → AreJoined (IsPart extent) place ps after → AreItems (gathered ps)
 parts_items extent place [] after h = tt
-parts_items extent place (p ∷ ps) after h = items-append p.what (gathered ps) (part_items extent place p.words (spelled ps ++ after) p.what h.0) (parts_items extent (place + length p.words) ps after h.1)
+parts_items extent place (p ∷ ps) after h =
+    items-append p.what (gathered ps) (part_items extent place p.words (spelled ps ++ after) p.what h.0)
+    (parts_items extent (place + length p.words) ps after h.1)
 
 -- The digit of a macro is a byte.
 pub macro_byte : (w digit : ℕ) → codeword_of w ≡ Some (codeword.Macro digit) → digit < 256
 macro_byte w digit e = grind (arith, nat_tests)
 
 -- The items of all parts from a place on are items.
-items_of_parts : (extent : Extent) (place : ℕ) (words : List ℕ) (m : List Item) → AreParts extent place words m → AreItems m
-items_of_parts extent place words m s = subst AreItems (sym s.items_are) (parts_items extent place s.parts s.after s.joined)
+items_of_parts : (extent : Extent) (place : ℕ) (words : List ℕ) (m : List Item) → AreParts extent place words m
+    → AreItems m
+items_of_parts extent place words m s =
+    subst AreItems (sym s.items_are) (parts_items extent place s.parts s.after s.joined)
 
--- The text of a macro is made of items, where its digit is a byte and what stands between the header and the trailer is.
+-- The text of a macro is made of items, where its digit is a byte and what stands between the header and the trailer
+-- is.
 macro_items : (digit : ℕ) (text : List Item) → digit < 256 → AreItems text → AreItems (macro_text digit text)
 macro_items digit text lt h =
     items-append (macro_header digit) (text ++ macro_trailer)
@@ -142,11 +160,16 @@ macro_items digit text lt h =
 -- What words spell are items.
 spelled_items : (extent : Extent) (words : List ℕ) (m : List Item) → Spells extent words m → AreItems m
 spelled_items extent words m (plain_parts p) = items_of_parts extent 1 words m p
-spelled_items extent words m (by_macro word digit more text wide k whole p is) = rw is (macro_items digit text (macro_byte word digit k) (items_of_parts extent 2 more text p))
+spelled_items extent words m (by_macro word digit more text wide k whole p is) =
+    rw is (macro_items digit text (macro_byte word digit k) (items_of_parts extent 2 more text p))
 
 -- The text of a macro is a message, where what stands between the header and the trailer is spelled.
-pub macro_text_is_message : (extent : Extent) (place word digit : ℕ) (words : List ℕ) (text : List Item) → codeword_of word ≡ Some (codeword.Macro digit) → AreParts extent place words text → IsMessage (macro_text digit text)
-macro_text_is_message extent place word digit words text k p = All-from_recursion IsItem (macro_text digit text) (macro_items digit text (macro_byte word digit k) (items_of_parts extent place words text p))
+pub macro_text_is_message : (extent : Extent) (place word digit : ℕ) (words : List ℕ) (text : List Item)
+    → codeword_of word ≡ Some (codeword.Macro digit) → AreParts extent place words text
+    → IsMessage (macro_text digit text)
+macro_text_is_message extent place word digit words text k p =
+    All-from_recursion IsItem (macro_text digit text)
+    (macro_items digit text (macro_byte word digit k) (items_of_parts extent place words text p))
 
 -- What words spell is a message.
 pub spelled_is_message : (extent : Extent) (words : List ℕ) (m : List Item) → Spells extent words m → IsMessage m

@@ -1,6 +1,7 @@
 -- No list of codewords that spells a message is shorter than its cost, whatever the costs are, if they obey the rules
 -- of `AreCosts`.
-use Rattle.std.proofs.Common.{◌≡◌, ◌≢◌, inl, inr, ℕ, zero, suc, ◌+◌, ◌-◌, ◌*◌, ◌/◌, ◌%◌, ◌<◌, ◌≤◌, List, [], ◌∷◌, ◌++◌, length, append_assoc, refl, ap, subst, arith, Bool, true, false, cond, ltb}
+use Rattle.std.proofs.Common.{◌≡◌, ◌≢◌, inl, inr, ℕ, zero, suc, ◌+◌, ◌-◌, ◌*◌, ◌/◌, ◌%◌, ◌<◌, ◌≤◌, List, [], ◌∷◌, ◌++◌}
+use Rattle.std.proofs.Common.{length, append_assoc, refl, ap, subst, arith, Bool, true, false, cond, ltb}
 use Rattle.std.specs.List.{AllByRecursion}
 use Rattle.std.specs.Prelude.{nat_le}
 use Rattle.std.proofs.lemmas.Bool.{cases_lt}
@@ -31,18 +32,23 @@ pub record AreCosts (least : List Item → ℕ) (owed : CodeSet → ℕ → List
   pub unit : (x : Item) (m : List Item) → least (x ∷ m) ≤ unit_cost x + least m
   pub pair : (n : ℕ) (m : List Item) → n < 100 → least (Byte (48 + n / 10) ∷ Byte (48 + n % 10) ∷ m) ≤ 1 + least m
   pub begins : (set : CodeSet) (m : List Item) → least m ≤ 1 + owed set 0 m
-  pub goes : (set : CodeSet) (r : ℕ) (x : Item) (m : List Item) → 0 < set_values set x → owed set r (x ∷ m) ≤ owed set (r + set_values set x) m
+  pub goes : (set : CodeSet) (r : ℕ) (x : Item) (m : List Item) → 0 < set_values set x
+      → owed set r (x ∷ m) ≤ owed set (r + set_values set x) m
   pub ends : (set : CodeSet) (q : ℕ) (m : List Item) → owed set (3 * q) m ≤ 2 * q + leave 1 (least m)
-  pub any_segment : (bytes : List ℕ) (m : List Item) → 0 < length bytes → least (byte_items bytes ++ m) ≤ 3 + length bytes + least m
-  pub short_segment : (bytes : List ℕ) (m : List Item) → 0 < length bytes → length bytes ≤ 249 → least (byte_items bytes ++ m) ≤ 2 + length bytes + least m
+  pub any_segment : (bytes : List ℕ) (m : List Item) → 0 < length bytes
+      → least (byte_items bytes ++ m) ≤ 3 + length bytes + least m
+  pub short_segment : (bytes : List ℕ) (m : List Item) → 0 < length bytes → length bytes ≤ 249
+      → least (byte_items bytes ++ m) ≤ 2 + length bytes + least m
   pub last_segment : (bytes : List ℕ) (m : List Item) → least m ≤ 0 → least (byte_items bytes ++ m) ≤ 2 + length bytes
 
 -- Leaving costs at least what follows, at most one more, and no more where that is little.
 pub leave_bounds : (limit c : ℕ) → (c ≤ leave limit c) × (leave limit c ≤ 1 + c) × (c ≤ limit → leave limit c ≡ c)
 leave_bounds limit c = by_test (nat_le c limit) refl where
-  by_test : (t : Bool) → nat_le c limit ≡ t → (c ≤ cond t c (1 + c)) × (cond t c (1 + c) ≤ 1 + c) × (c ≤ limit → cond t c (1 + c) ≡ c)
+  by_test : (t : Bool) → nat_le c limit ≡ t
+      → (c ≤ cond t c (1 + c)) × (cond t c (1 + c) ≤ 1 + c) × (c ≤ limit → cond t c (1 + c) ≡ c)
   by_test true e = (omega arith, omega arith, λ le. refl)
-  by_test false e = (omega arith, omega arith, λ le. absurd (let lt : limit < c = grind (arith, nat_tests) in omega (arith, lt, le)))
+  by_test false e =
+      (omega arith, omega arith, λ le. absurd (let lt : limit < c = grind (arith, nat_tests) in omega (arith, lt, le)))
 
 module _ (least : List Item → ℕ) (owed : CodeSet → ℕ → List Item → ℕ) (costs : AreCosts least owed) where
   -- ---- a unit of ASCII
@@ -50,11 +56,13 @@ module _ (least : List Item → ℕ) (owed : CodeSet → ℕ → List Item → �
   unit_low : (b : ℕ) (m : List Item) → b < 128 → least (Byte b ∷ m) ≤ 1 + least m
   unit_low b m lt = let t : ltb b 128 ≡ true = grind (arith, nat_tests) in rw t at (costs.unit (Byte b) m)
 
-  unit_lower : (words : List ℕ) (items m : List Item) → IsAsciiUnit words items → least (items ++ m) ≤ length words + least m
+  unit_lower : (words : List ℕ) (items m : List Item) → IsAsciiUnit words items
+      → least (items ++ m) ≤ length words + least m
   unit_lower words items m (character w b k e i) = rw (e, i) (unit_low b m (character_is w b k).1)
   unit_lower words items m (digits w n k e i) = rw (e, i) (costs.pair n m (digits_are w n k).1)
   unit_lower words items m (fnc1 w k e i) = rw (e, i) (costs.unit Fnc1 m)
-  unit_lower words items m (raised s w b k l e i) = rw (e, i) (omega (arith, costs.unit (Byte (b + 128)) m, unit_few (Byte (b + 128))))
+  unit_lower words items m (raised s w b k l e i) =
+      rw (e, i) (omega (arith, costs.unit (Byte (b + 128)) m, unit_few (Byte (b + 128))))
 
   -- ---- a run
 
@@ -62,7 +70,8 @@ module _ (least : List Item → ℕ) (owed : CodeSet → ℕ → List Item → �
   AreSpellings set ps = AllByRecursion (λ p. IsSpelling set p.words p.what) ps
 
   -- The values of a run are paid at its end.
-  telescope : (set : CodeSet) (ps : List (Piece Item)) (r : ℕ) (m : List Item) → AreSpellings set ps → owed set r (whats ps ++ m) ≤ owed set (r + length (spelled ps)) m
+  telescope : (set : CodeSet) (ps : List (Piece Item)) (r : ℕ) (m : List Item) → AreSpellings set ps
+      → owed set r (whats ps ++ m) ≤ owed set (r + length (spelled ps)) m
   telescope set [] r m h = let e : r + 0 ≡ r = omega arith in rw e (omega arith)
   telescope set (p ∷ ps) r m h =
       let a = held set p.words p.what h.0 in
@@ -70,33 +79,44 @@ module _ (least : List Item → ℕ) (owed : CodeSet → ℕ → List Item → �
       let k = set_values set p.what in
       let one = costs.goes set r p.what (whats ps ++ m) a.some in
       let rest = telescope set ps (r + k) m h.1 in
-      let e : (r + k) + length (spelled ps) ≡ r + length (p.words ++ spelled ps) = omega (arith, n, length-append p.words (spelled ps)) in
-      let there : owed set (r + k) (whats ps ++ m) ≤ owed set (r + length (p.words ++ spelled ps)) m = subst (λ (j : ℕ). owed set (r + k) (whats ps ++ m) ≤ owed set j m) e rest in
+      let e : (r + k) + length (spelled ps) ≡ r + length (p.words ++ spelled ps) =
+      omega (arith, n, length-append p.words (spelled ps)) in
+      let there : owed set (r + k) (whats ps ++ m) ≤ owed set (r + length (p.words ++ spelled ps)) m =
+      subst (λ (j : ℕ). owed set (r + k) (whats ps ++ m) ≤ owed set j m) e rest in
       omega (arith, one, there)
 
   -- A run whose values fill whole pairs.
-  whole_run : (set : CodeSet) (ps : List (Piece Item)) (q : ℕ) (m : List Item) → AreSpellings set ps → length (spelled ps) ≡ 3 * q
+  whole_run : (set : CodeSet) (ps : List (Piece Item)) (q : ℕ) (m : List Item) → AreSpellings set ps
+      → length (spelled ps) ≡ 3 * q
       → least (whats ps ++ m) ≤ 1 + 2 * q + leave 1 (least m)
   whole_run set ps q m h e =
-      let t : owed set 0 (whats ps ++ m) ≤ owed set (3 * q) m = subst (λ (j : ℕ). owed set 0 (whats ps ++ m) ≤ owed set j m) (let z : 0 + length (spelled ps) ≡ 3 * q = omega (arith, e) in z) (telescope set ps 0 m h) in
+      let t : owed set 0 (whats ps ++ m) ≤ owed set (3 * q) m =
+      subst (λ (j : ℕ). owed set 0 (whats ps ++ m) ≤ owed set j m) (let z : 0 + length (spelled ps)
+      ≡ 3 * q = omega (arith, e) in z) (telescope set ps 0 m h) in
       omega (arith, costs.begins set (whats ps ++ m), t, costs.ends set q m)
 
   -- The front of a run goes into ASCII: the claim, where `fill` values of a filler stand behind the spellings.
   abbrev Front : List (Piece Item) → List Item → Type 0
-  Front ps m = (fill z q : ℕ) → 0 < fill → fill ≤ 2 → length (spelled ps) + fill + 1 + 2 * z ≡ 3 * q → least (whats ps ++ m) + z ≤ 2 * q + leave 1 (least m)
+  Front ps m = (fill z q : ℕ) → 0 < fill → fill ≤ 2 → length (spelled ps) + fill + 1 + 2 * z ≡ 3 * q
+      → least (whats ps ++ m) + z ≤ 2 * q + leave 1 (least m)
 
   -- Where the values of the spellings fill whole pairs, the filler is never taken.
-  front_whole : (set : CodeSet) (ps : List (Piece Item)) (m : List Item) (fill z q p : ℕ) → AreSpellings set ps → 0 < fill → length (spelled ps) ≡ 3 * p
+  front_whole : (set : CodeSet) (ps : List (Piece Item)) (m : List Item) (fill z q p : ℕ) → AreSpellings set ps
+      → 0 < fill → length (spelled ps) ≡ 3 * p
       → length (spelled ps) + fill + 1 + 2 * z ≡ 3 * q → least (whats ps ++ m) + z ≤ 2 * q + leave 1 (least m)
   front_whole set ps m fill z q p h some whole total = omega (arith, whole_run set ps p m h whole)
 
   -- One item goes into ASCII.
-  front_by : (set : CodeSet) (x : Item) (ps : List (Piece Item)) (m : List Item) (k fill z q : ℕ) → AreSpellings set ps → Ascii (unit_cost x) k → Front ps m → 0 < fill → fill ≤ 2
-      → (k + length (spelled ps)) + fill + 1 + 2 * z ≡ 3 * q → ((t : ℕ) → k + length (spelled ps) ≢ 3 * t) → least (x ∷ (whats ps ++ m)) + z ≤ 2 * q + leave 1 (least m)
+  front_by : (set : CodeSet) (x : Item) (ps : List (Piece Item)) (m : List Item) (k fill z q : ℕ)
+      → AreSpellings set ps → Ascii (unit_cost x) k → Front ps m → 0 < fill → fill ≤ 2
+      → (k + length (spelled ps)) + fill + 1 + 2 * z ≡ 3 * q → ((t : ℕ) → k + length (spelled ps) ≢ 3 * t)
+      → least (x ∷ (whats ps ++ m)) + z ≤ 2 * q + leave 1 (least m)
   front_by set x ps m k fill zero q h (one c v) again some few total not_whole =
       elim (cases_lt 1 fill) [
         | inl both ↦ absurd (not_whole (q - 1) (omega (arith, both, few, total)))
-        | inr le ↦ (let w = whole_run set ps (q - 1) m h (omega (arith, v, some, le, total)) in omega (arith, c, v, total, w, costs.unit x (whats ps ++ m)))
+        | inr le ↦ (let w =
+            whole_run set ps (q - 1) m h (omega (arith, v, some, le, total)) in omega
+            (arith, c, v, total, w, costs.unit x (whats ps ++ m)))
       ]
   front_by set x ps m k fill (suc z) q h (one c v) again some few total not_whole =
       let a = again fill z (q - 1) some few (omega (arith, v, total)) in
@@ -117,10 +137,13 @@ module _ (least : List Item → ℕ) (owed : CodeSet → ℕ → List Item → �
       let a = held set p.words p.what h.0 in
       let n = spelling_count set p.words p.what h.0 in
       let k = set_values set p.what in
-      let l : length (p.words ++ spelled ps) ≡ k + length (spelled ps) = omega (arith, n, length-append p.words (spelled ps)) in
+      let l : length (p.words ++ spelled ps)
+      ≡ k + length (spelled ps) = omega (arith, n, length-append p.words (spelled ps)) in
       elim (cases_lt 0 ((k + length (spelled ps)) % 3)) [
-        | inr le ↦ front_whole set (p ∷ ps) m fill z q ((k + length (spelled ps)) / 3) h some (omega (arith, l, le)) total
-        | inl not_whole ↦ front_by set p.what ps m k fill z q h.1 a.ascii (front set ps m h.1) some few (omega (arith, l, total)) (λ t e. absurd (omega (arith, e, not_whole)))
+        | inr le ↦ front_whole set (p ∷ ps) m fill z q ((k + length (spelled ps)) / 3) h some (omega (arith, l, le))
+            total
+        | inl not_whole ↦ front_by set p.what ps m k fill z q h.1 a.ascii (front set ps m h.1) some few
+            (omega (arith, l, total)) (λ t e. absurd (omega (arith, e, not_whole)))
       ]
 
   -- ---- a whole run
@@ -135,27 +158,35 @@ module _ (least : List Item → ℕ) (owed : CodeSet → ℕ → List Item → �
     by_filler f (lone_shift v shift k e) is = rw (is, w.is_upper.whole, e) (omega arith)
 
   -- The values of pairs are paid, and the latch.
-  values_lower : (extent : Extent) (set : CodeSet) (vs : List ℕ) (items m : List Item) (p : ℕ) → AreValues extent set vs items → length vs ≡ 3 * p
+  values_lower : (extent : Extent) (set : CodeSet) (vs : List ℕ) (items m : List Item) (p : ℕ)
+      → AreValues extent set vs items → length vs ≡ 3 * p
       → least (items ++ m) ≤ 1 + 2 * p + leave 1 (least m)
   values_lower extent set vs items m p v e =
       let few = dropped_few extent set v.filler v.ended in
       let f = length v.filler in
-      let l : length (spelled v.spellings) + f ≡ 3 * p = omega (arith, ap length v.whole, length-append (spelled v.spellings) v.filler, e) in
+      let l : length (spelled v.spellings) + f
+      ≡ 3 * p = omega (arith, ap length v.whole, length-append (spelled v.spellings) v.filler, e) in
       rw v.items_are (elim (cases_lt 0 f) [
         | inr none ↦ whole_run set v.spellings p m v.each (omega (arith, l, none))
         | inl some ↦ elim (cases_lt 2 f) [
           | inr le ↦ (let a = front set v.spellings m v.each f 1 (p + 1) some le (omega (arith, l)) in omega (arith, a))
-          | inl more ↦ (let a = whole_run set v.spellings (p - 1) m v.each (omega (arith, l, few, more)) in omega (arith, a, l, few, more))
+          | inl more ↦ (let a =
+              whole_run set v.spellings (p - 1) m v.each (omega (arith, l, few, more)) in omega
+              (arith, a, l, few, more))
         ]
       ])
 
   -- The end of a run.
-  end_lower : (words after : List ℕ) (c : ℕ) → IsRunEnd words after → c ≤ length after → leave 1 c ≤ length words + length after
+  end_lower : (words after : List ℕ) (c : ℕ) → IsRunEnd words after → c ≤ length after
+      → leave 1 c ≤ length words + length after
   end_lower words after c (unlatch w) le = rw w (omega (arith, (leave_bounds 1 c).1, le))
-  end_lower words after c (symbol_end w a) le = rw (w, a) (let few = le in omega (arith, (leave_bounds 1 c).2 (omega (arith, le, ap length a)), le, ap length a))
-  end_lower words after c (last_word word other w a) le = omega (arith, (leave_bounds 1 c).2 (omega (arith, le, ap length a)), le, ap length a, ap length w)
+  end_lower words after c (symbol_end w a) le =
+      rw (w, a) (let few = le in omega (arith, (leave_bounds 1 c).2 (omega (arith, le, ap length a)), le, ap length a))
+  end_lower words after c (last_word word other w a) le =
+      omega (arith, (leave_bounds 1 c).2 (omega (arith, le, ap length a)), le, ap length a, ap length w)
 
-  run_lower : (extent : Extent) (set : CodeSet) (words after : List ℕ) (items m : List Item) → IsRun extent set words after items → least m ≤ length after
+  run_lower : (extent : Extent) (set : CodeSet) (words after : List ℕ) (items m : List Item)
+      → IsRun extent set words after items → least m ≤ length after
       → least (items ++ m) ≤ length words + length after
   run_lower extent set words after items m r le =
       let room = pairs_room r.pairs r.each in
@@ -167,38 +198,66 @@ module _ (least : List Item → ℕ) (owed : CodeSet → ℕ → List Item → �
 
   -- ---- a segment
 
-  segment_lower : (place : ℕ) (words after : List ℕ) (items m : List Item) → IsSegment place words after items → least m ≤ length after
+  segment_lower : (place : ℕ) (words after : List ℕ) (items m : List Item) → IsSegment place words after items
+      → least m ≤ length after
       → least (items ++ m) ≤ length words + length after
   segment_lower place words after items m s le =
-      let l : length words ≡ 1 + (length s.field + length s.bytes) = omega (arith, ap length s.whole, length-written (place + 1) (s.field ++ s.bytes), length-append s.field s.bytes) in
+      let l : length words ≡ 1 + (length s.field + length s.bytes) =
+      omega (
+        arith,
+        ap length s.whole,
+        length-written (place + 1) (s.field ++ s.bytes),
+        length-append s.field s.bytes,
+      ) in
       let c = by_field s.field (length s.bytes) s.counted refl in
       rw s.items_are (omega (arith, l, c, le)) where
-        by_field : (field : List ℕ) (n : ℕ) → IsLengthField field n after → n ≡ length s.bytes → least (byte_items s.bytes ++ m) ≤ 1 + length field + n + length after
-        by_field field n (to_the_end f a) e = omega (arith, costs.last_segment s.bytes m (omega (arith, le, ap length a)), ap length f, e)
-        by_field field n (short first some few f is) e = omega (arith, costs.short_segment s.bytes m (omega (arith, some, e, is)) (omega (arith, few, e, is)), ap length f, e, le)
-        by_field field n (long first second big small few f is) e = omega (arith, costs.any_segment s.bytes m (omega (arith, big, e, is)), ap length f, e, le)
+        by_field : (field : List ℕ) (n : ℕ) → IsLengthField field n after → n ≡ length s.bytes
+            → least (byte_items s.bytes ++ m) ≤ 1 + length field + n + length after
+        by_field field n (to_the_end f a) e =
+            omega (arith, costs.last_segment s.bytes m (omega (arith, le, ap length a)), ap length f, e)
+        by_field field n (short first some few f is) e =
+            omega (
+              arith,
+              costs.short_segment s.bytes m (omega (arith, some, e, is)) (omega (arith, few, e, is)),
+              ap length f,
+              e,
+              le,
+            )
+        by_field field n (long first second big small few f is) e =
+            omega (arith, costs.any_segment s.bytes m (omega (arith, big, e, is)), ap length f, e, le)
 
   -- ---- all parts
 
   module _ (extent : Extent) where
     -- A run of EDIFACT has at least as many codewords as its items cost.
     abbrev pub IsEdifactLower : Type 0
-    IsEdifactLower = (words after : List ℕ) (items m : List Item) → extent ≡ Wide → IsEdifactRun words after items → least m ≤ length after → least (items ++ m) ≤ length words + length after
+    IsEdifactLower = (words after : List ℕ) (items m : List Item) → extent ≡ Wide → IsEdifactRun words after items
+        → least m ≤ length after → least (items ++ m) ≤ length words + length after
 
-    part_lower : IsEdifactLower → (place : ℕ) (words after : List ℕ) (items m : List Item) → IsPart extent place words after items → least m ≤ length after
+    part_lower : IsEdifactLower → (place : ℕ) (words after : List ℕ) (items m : List Item)
+        → IsPart extent place words after items → least m ≤ length after
         → least (items ++ m) ≤ length words + length after
     part_lower other place words after items m (ascii u) le = omega (arith, unit_lower words items m u, le)
     part_lower other place words after items m (run set r) le = run_lower extent set words after items m r le
     part_lower other place words after items m (segment s) le = segment_lower place words after items m s le
     part_lower other place words after items m (edifact wide r) le = other words after items m wide r le
 
-    joined_lower : IsEdifactLower → (place : ℕ) (ps : List (Piece (List Item))) (after : List ℕ) → AreJoined (IsPart extent) place ps after → least (gathered ps) ≤ length (spelled ps ++ after)
+    joined_lower : IsEdifactLower → (place : ℕ) (ps : List (Piece (List Item))) (after : List ℕ)
+        → AreJoined (IsPart extent) place ps after → least (gathered ps) ≤ length (spelled ps ++ after)
     joined_lower other place [] after h = omega (arith, costs.none)
     joined_lower other place (p ∷ ps) after h =
         let rest = joined_lower other (place + length p.words) ps after h.1 in
         let one = part_lower other place p.words (spelled ps ++ after) p.what (gathered ps) h.0 rest in
-        omega (arith, one, ap length (append_assoc p.words (spelled ps) after), length-append p.words (spelled ps ++ after))
+        omega (
+          arith,
+          one,
+          ap length (append_assoc p.words (spelled ps) after),
+          length-append p.words (spelled ps
+              ++ after),
+        )
 
     -- No parts are shorter than the cost of their items.
-    pub parts_lower : IsEdifactLower → (place : ℕ) (words : List ℕ) (items : List Item) → AreParts extent place words items → least items ≤ length words
-    parts_lower other place words items a = rw (a.items_are, a.whole) (joined_lower other place a.parts a.after a.joined)
+    pub parts_lower : IsEdifactLower → (place : ℕ) (words : List ℕ) (items : List Item)
+        → AreParts extent place words items → least items ≤ length words
+    parts_lower other place words items a =
+        rw (a.items_are, a.whole) (joined_lower other place a.parts a.after a.joined)

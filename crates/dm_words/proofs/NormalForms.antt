@@ -1,5 +1,7 @@
 -- The normal form of a message spells it.
-use Rattle.std.proofs.Common.{◌≡◌, ◌⊎◌, inl, inr, ℕ, ◌+◌, ◌-◌, ◌*◌, ◌/◌, ◌%◌, ◌<◌, ◌≤◌, List, [], ◌∷◌, ◌++◌, length, map, take, drop, get_or, append_assoc, add-one, refl, sym, ap, subst, ◌∙◌, arith, Bool, true, false, not, cond, ltb, ◌&&◌, is_lt, nat_cmp, Less, Equal, Greater}
+use Rattle.std.proofs.Common.{◌≡◌, ◌⊎◌, inl, inr, ℕ, ◌+◌, ◌-◌, ◌*◌, ◌/◌, ◌%◌, ◌<◌, ◌≤◌, List, [], ◌∷◌, ◌++◌, length}
+use Rattle.std.proofs.Common.{map, take, drop, get_or, append_assoc, add-one, refl, sym, ap, subst, ◌∙◌, arith, Bool}
+use Rattle.std.proofs.Common.{true, false, not, cond, ltb, ◌&&◌, is_lt, nat_cmp, Less, Equal, Greater}
 use Rattle.std.specs.Prelude.{◌==◌}
 use Rattle.std.specs.Ordering.{ord_max}
 use Rattle.std.proofs.lemmas.Bool.{cases_lt, cases_Bool}
@@ -39,14 +41,20 @@ long_numbers n big = grind (arith, nat_tests)
 pub says_count : (n : ℕ) (after : List ℕ) → 0 < n → n < 1750 → IsLengthField (length_numbers n) n after
 says_count n after some few =
     elim (cases_lt 249 n) [
-      | inl big ↦ long (249 + n / 250) (n % 250) (omega arith) (omega arith) (omega arith) (long_numbers n big) (omega arith)
+      | inl big ↦ long (249 + n / 250) (n % 250) (omega arith) (omega arith) (omega arith) (long_numbers n big)
+          (omega arith)
       | inr le ↦ short n some le (short_numbers n le) refl
     ]
 
 -- A segment has a latch, its length numbers and a codeword for each byte.
-pub length-one_segment : (bytes : List ℕ) → length (one_segment bytes) ≡ 1 + length (length_numbers (length bytes)) + length bytes
+pub length-one_segment : (bytes : List ℕ) → length (one_segment bytes)
+    ≡ 1 + length (length_numbers (length bytes)) + length bytes
 length-one_segment bytes =
-    omega (arith, length-written 2 (length_numbers (length bytes) ++ bytes), length-append (length_numbers (length bytes)) bytes)
+    omega (
+      arith,
+      length-written 2 (length_numbers (length bytes) ++ bytes),
+      length-append (length_numbers (length bytes)) bytes,
+    )
 
 -- ---- the bytes of a message
 
@@ -64,7 +72,8 @@ bytes_of_items (i ∷ m) fit = (fit.0, bytes_of_items m fit.1)
 -- ---- the segment spells the message
 
 -- One segment of the bytes of a message, and whatever pads stand behind it, spell the message.
-segment_spells : (extent : Extent) (m : List Item) (count : ℕ) → AreItems m → has_fnc1 m ≡ false → 0 < length m → length m < 1750 → Spells extent (padded (one_segment (map byte_of m)) count) m
+segment_spells : (extent : Extent) (m : List Item) (count : ℕ) → AreItems m → has_fnc1 m ≡ false → 0 < length m
+    → length m < 1750 → Spells extent (padded (one_segment (map byte_of m)) count) m
 segment_spells extent m count fit none some few =
     let bytes = map byte_of m in
     let words = one_segment bytes in
@@ -97,8 +106,10 @@ abbrev pub segment_of : List Item → List ℕ
 segment_of m = one_segment (map byte_of m)
 
 -- The segment is taken where it can be and is shorter.
-pub takes_segment : (m : List Item) → has_fnc1 m ≡ false → length (segment_of m) < length (ascii m) → shorter m ≡ segment_of m
-takes_segment m none lt = let t : ltb (length (segment_of m)) (length (ascii m)) ≡ true = grind (arith, nat_tests) in rw (none, t) refl
+pub takes_segment : (m : List Item) → has_fnc1 m ≡ false → length (segment_of m) < length (ascii m) → shorter m
+    ≡ segment_of m
+takes_segment m none lt = let t : ltb (length (segment_of m)) (length (ascii m))
+    ≡ true = grind (arith, nat_tests) in rw (none, t) refl
 
 -- ASCII is taken where there is an FNC1.
 pub takes_ascii_with_fnc1 : (m : List Item) → has_fnc1 m ≡ true → shorter m ≡ ascii m
@@ -140,24 +151,30 @@ some_items [] lt = absurd (omega arith)
 some_items (i ∷ m) lt = omega arith
 
 -- The shorter form with pads spells the message.
-shorter_spells : (extent : Extent) (m : List Item) (count : ℕ) → IsMessage m → length (shorter m) ≤ count → count ≤ largest_data → Spells extent (padded (shorter m) count) m
+shorter_spells : (extent : Extent) (m : List Item) (count : ℕ) → IsMessage m → length (shorter m) ≤ count
+    → count ≤ largest_data → Spells extent (padded (shorter m) count) m
 shorter_spells extent m count fit le most =
     let items = recursion_from_All IsItem m fit in
     elim (segment_or_ascii m) [
       | inl s ↦
-          let few : length m < 1750 = omega (arith, ap length s.is, length-one_segment (map byte_of m), length-map m byte_of) in
-          subst (λ (w : List ℕ). Spells extent (padded w count) m) (sym s.is) (segment_spells extent m count items s.none (some_items m s.less) few)
-      | inr e ↦ subst (λ (w : List ℕ). Spells extent (padded w count) m) (sym e) (form.ascii_spells extent m count items)
+          let few : length m < 1750 =
+          omega (arith, ap length s.is, length-one_segment (map byte_of m), length-map m byte_of) in
+          subst (λ (w : List ℕ). Spells extent (padded w count) m) (sym s.is)
+          (segment_spells extent m count items s.none (some_items m s.less) few)
+      | inr e ↦ subst (λ (w : List ℕ). Spells extent (padded w count) m) (sym e)
+          (form.ascii_spells extent m count items)
     ]
 
 -- The normal form with pads spells the message.
-pub normal_form_spells : (extent : Extent) (profile : Profile) (m : List Item) (count : ℕ) → IsMessage m → length (normal_form profile m) ≤ count → count ≤ largest_data
+pub normal_form_spells : (extent : Extent) (profile : Profile) (m : List Item) (count : ℕ) → IsMessage m
+    → length (normal_form profile m) ≤ count → count ≤ largest_data
     → Spells extent (padded (normal_form profile m) count) m
 normal_form_spells extent Ascii m count fit le most = form.ascii_spells extent m count (recursion_from_All IsItem m fit)
 normal_form_spells extent Shorter m count fit le most = shorter_spells extent m count fit le most
 
 -- The normal form with pads up to a count has that many codewords.
-pub normal_form_count : (profile : Profile) (m : List Item) (count : ℕ) → length (normal_form profile m) ≤ count → length (padded (normal_form profile m) count) ≡ count
+pub normal_form_count : (profile : Profile) (m : List Item) (count : ℕ) → length (normal_form profile m) ≤ count
+    → length (padded (normal_form profile m) count) ≡ count
 normal_form_count profile m count le = length-padded (normal_form profile m) count le
 
 -- What is written for values is bytes.
@@ -179,7 +196,8 @@ normal_form_bytes Shorter m fit =
     ]
 
 -- The codewords of the normal form with pads are bytes.
-pub normal_form_codewords : (profile : Profile) (m : List Item) (count : ℕ) → IsMessage m → AreCodewords (padded (normal_form profile m) count)
+pub normal_form_codewords : (profile : Profile) (m : List Item) (count : ℕ) → IsMessage m
+    → AreCodewords (padded (normal_form profile m) count)
 normal_form_codewords profile m count fit =
     All-from_recursion (λ w. w < 256) (padded (normal_form profile m) count)
     (padded_bytes (normal_form profile m) count (normal_form_bytes profile m (recursion_from_All IsItem m fit)))
@@ -206,7 +224,8 @@ items_are_bytes (b ∷ bytes) = ap (λ (r : List ℕ). b ∷ r) (items_are_bytes
 pub shorter_than_segment : (bytes : List ℕ) → length (shorter (byte_items bytes)) ≤ length (one_segment bytes)
 shorter_than_segment bytes =
     let m = byte_items bytes in
-    let same : length (segment_of m) ≡ length (one_segment bytes) = ap (λ (r : List ℕ). length (one_segment r)) (items_are_bytes bytes) in
+    let same : length (segment_of m) ≡ length (one_segment bytes) =
+    ap (λ (r : List ℕ). length (one_segment r)) (items_are_bytes bytes) in
     elim (cases_lt (length (segment_of m)) (length (ascii m))) [
       | inl lt ↦ omega (arith, ap length (takes_segment m (no_fnc1 bytes) lt), same)
       | inr le ↦ omega (arith, le, ap length (takes_ascii m le), same)
@@ -224,11 +243,13 @@ some_single b = by_test (ltb b 128)
 few_single : (b : ℕ) → (length (single b) ≤ 2) × (b < 128 → length (single b) ≤ 1)
 few_single b = by_test (ltb b 128) refl where
   by_test : (t : Bool) → ltb b 128 ≡ t
-      → (length (cond t ((b + 1) ∷ []) (235 ∷ (b - 127) ∷ [])) ≤ 2) × (b < 128 → length (cond t ((b + 1) ∷ []) (235 ∷ (b - 127) ∷ [])) ≤ 1)
+      → (length (cond t ((b + 1) ∷ []) (235 ∷ (b - 127) ∷ [])) ≤ 2) × (b < 128
+      → length (cond t ((b + 1) ∷ []) (235 ∷ (b - 127) ∷ [])) ≤ 1)
   by_test true e = (omega arith, λ lt. omega arith)
   by_test false e = (omega arith, λ lt. absurd (let le : 128 ≤ b = grind (arith, nat_tests) in omega (arith, le, lt)))
 
--- With one item before them, the ASCII codewords of items are no fewer, and at most two more, or one more where the byte of that item is below 128.
+-- With one item before them, the ASCII codewords of items are no fewer, and at most two more, or one more where the
+-- byte of that item is below 128.
 pub record IsLonger (i : Item) (m : List Item) : Type 0 where
   pub no_fewer : length (ascii m) ≤ length (ascii (i ∷ m))
   pub two_more : length (ascii (i ∷ m)) ≤ 2 + length (ascii m)
@@ -257,7 +278,12 @@ longer (Byte b) (Byte c ∷ m) = both (is_digit b) (is_digit c) refl refl (longe
       let lt : c < 128 = grind (arith, nat_tests) in
       let pair : ascii (Byte b ∷ Byte c ∷ m) ≡ digit_pair b c ∷ ascii m = rw (es, et) refl in
       let all : length (ascii (Byte b ∷ Byte c ∷ m)) ≡ 1 + length (ascii m) = ap length pair ∙ (omega arith) in
-      record { no_fewer = omega (arith, all, h.one_more lt); two_more = omega (arith, all, h.no_fewer); one_more = λ l. omega (arith, all, h.no_fewer) }
+      record {
+        no_fewer = omega (arith, all, h.one_more lt);
+        two_more = omega (arith, all, h.no_fewer);
+        one_more =
+            λ l. omega (arith, all, h.no_fewer);
+      }
   both true false es et h = longer_alone b (Byte c ∷ m) (rw (es, et) refl)
   both false t es et h = longer_alone b (Byte c ∷ m) (rw es refl)
 
@@ -274,12 +300,16 @@ both_below a b n below = by_test (ltb b a) (b == a) refl below where
   by_test false true e l = ((let le : a ≤ b = grind (arith, nat_tests) in omega (arith, le, l)), l)
   by_test false false e l = ((let le : a ≤ b = grind (arith, nat_tests) in omega (arith, le, l)), l)
 
--- A turn of the loop that looks for the greatest byte: where this is below 128, each item so far makes the ASCII form longer by at most one codeword.
-pub below_turn : (m : List Item) (k most b greater : ℕ) (d : Item) → k < length m → b ≡ byte_of (get_or m k d) → greater ≡ ord_max nat_cmp most b
-    → (most < 128 → length (ascii m) ≤ k + length (ascii (drop k m))) → greater < 128 → length (ascii m) ≤ k + 1 + length (ascii (drop (k + 1) m))
+-- A turn of the loop that looks for the greatest byte: where this is below 128, each item so far makes the ASCII form
+-- longer by at most one codeword.
+pub below_turn : (m : List Item) (k most b greater : ℕ) (d : Item) → k < length m → b ≡ byte_of (get_or m k d)
+    → greater ≡ ord_max nat_cmp most b
+    → (most < 128 → length (ascii m) ≤ k + length (ascii (drop k m))) → greater < 128
+    → length (ascii m) ≤ k + 1 + length (ascii (drop (k + 1) m))
 below_turn m k most b greater d lt is greatest so_far below =
     let both = both_below most b 128 (subst (λ (x : ℕ). x < 128) greatest below) in
-    let here : length (ascii (drop k m)) ≡ length (ascii (get_or m k d ∷ drop (k + 1) m)) = at_drop_more (λ (r : List Item). length (ascii r)) m k d lt in
+    let here : length (ascii (drop k m)) ≡ length (ascii (get_or m k d ∷ drop (k + 1) m)) =
+    at_drop_more (λ (r : List Item). length (ascii r)) m k d lt in
     let one = (longer (get_or m k d) (drop (k + 1) m)).one_more (subst (λ (x : ℕ). x < 128) is both.1) in
     omega (arith, so_far both.0, here, one)
 
@@ -288,7 +318,8 @@ two_items : (m : List Item) → length m ≤ 2 * length (ascii m)
 two_items [] = omega arith
 two_items (Fnc1 ∷ m) = omega (arith, two_items m)
 two_items (Byte b ∷ []) = omega (arith, some_single b)
-two_items (Byte b ∷ Fnc1 ∷ m) = omega (arith, some_single b, length-append (single b) (ascii (Fnc1 ∷ m)), two_items (Fnc1 ∷ m))
+two_items (Byte b ∷ Fnc1 ∷ m) =
+    omega (arith, some_single b, length-append (single b) (ascii (Fnc1 ∷ m)), two_items (Fnc1 ∷ m))
 two_items (Byte b ∷ Byte c ∷ m) = both (is_digit b && is_digit c) (two_items m) (two_items (Byte c ∷ m))
   where
     both : (t : Bool) → length m ≤ 2 * length (ascii m) → length (Byte c ∷ m) ≤ 2 * length (ascii (Byte c ∷ m))
@@ -308,32 +339,54 @@ normal_form_items Shorter m =
 -- ---- writing a segment
 
 -- One more item has its byte at the end.
-pub one_byte_more : (m : List Item) (i : ℕ) (d : Item) → i < length m → map byte_of (take (i + 1) m) ≡ map byte_of (take i m) ++ byte_of (get_or m i d) ∷ []
-one_byte_more m i d lt = ap (map byte_of) (rw add-one (take-suc m i d lt)) ∙ map-append byte_of (take i m) (get_or m i d ∷ [])
+pub one_byte_more : (m : List Item) (i : ℕ) (d : Item) → i < length m → map byte_of (take (i + 1) m)
+    ≡ map byte_of (take i m) ++ byte_of (get_or m i d) ∷ []
+one_byte_more m i d lt = ap (map byte_of) (rw add-one (take-suc m i d lt))
+    ∙ map-append byte_of (take i m) (get_or m i d ∷ [])
 
 -- One turn of the loop that writes bytes writes that of one more item.
-pub bytes_more : (start old new : List ℕ) (m : List Item) (i b : ℕ) (d : Item) → i < length m → b ≡ byte_of (get_or m i d)
-    → old ≡ start ++ written (length start + 1) (map byte_of (take i m)) → new ≡ old ++ randomised (length old + 1) b ∷ []
+pub bytes_more : (start old new : List ℕ) (m : List Item) (i b : ℕ) (d : Item) → i < length m → b
+    ≡ byte_of (get_or m i d)
+    → old ≡ start ++ written (length start + 1) (map byte_of (take i m)) → new ≡ old
+    ++ randomised (length old + 1) b ∷ []
     → new ≡ start ++ written (length start + 1) (map byte_of (take (i + 1) m))
 bytes_more start old new m i b d lt is so_far e =
     let place = length start + 1 in
     let before = map byte_of (take i m) in
-    let here : length old + 1 ≡ place + length before = omega (arith, ap length so_far, length-append start (written place before), length-written place before) in
-    let more : before ++ b ∷ [] ≡ map byte_of (take (i + 1) m) = ap (λ (k : ℕ). before ++ k ∷ []) is ∙ sym (one_byte_more m i d lt) in
-    e ∙ ap (λ (l : List ℕ). l ++ randomised (length old + 1) b ∷ []) so_far ∙ append_assoc start (written place before) (randomised (length old + 1) b ∷ [])
-    ∙ ap (λ (k : ℕ). start ++ (written place before ++ randomised k b ∷ [])) here ∙ ap (λ (l : List ℕ). start ++ l) (sym (written-append place before (b ∷ [])))
+    let here : length old + 1
+    ≡ place + length before =
+    omega (arith, ap length so_far, length-append start (written place before), length-written place before) in
+    let more : before ++ b ∷ [] ≡ map byte_of (take (i + 1) m) = ap (λ (k : ℕ). before ++ k ∷ []) is
+    ∙ sym (one_byte_more m i d lt) in
+    e ∙ ap (λ (l : List ℕ). l ++ randomised (length old + 1) b ∷ []) so_far
+    ∙ append_assoc start (written place before) (randomised (length old + 1) b ∷ [])
+    ∙ ap (λ (k : ℕ). start ++ (written place before ++ randomised k b ∷ [])) here
+    ∙ ap (λ (l : List ℕ). start ++ l) (sym (written-append place before (b ∷ [])))
     ∙ ap (λ (l : List ℕ). start ++ written place l) more
 
 -- A latch, numbers and bytes that are written one behind the other are a latch and all values.
-pub segment_whole : (start latched counted new numbers bytes : List ℕ) → latched ≡ start ++ 231 ∷ [] → counted ≡ latched ++ written (length latched + 1) numbers → new ≡ counted ++ written (length counted + 1) bytes
+pub segment_whole : (start latched counted new numbers bytes : List ℕ) → latched ≡ start ++ 231 ∷ [] → counted
+    ≡ latched ++ written (length latched + 1) numbers → new ≡ counted ++ written (length counted + 1) bytes
     → new ≡ start ++ 231 ∷ written (length start + 2) (numbers ++ bytes)
 segment_whole start latched counted new numbers bytes latch count all =
-    let place : length latched + 1 ≡ length start + 2 = omega (arith, ap length latch, length-append start (231 ∷ [])) in
-    let next : length counted + 1 ≡ (length start + 2) + length numbers = omega (arith, place, ap length count, length-append latched (written (length latched + 1) numbers), length-written (length latched + 1) numbers) in
+    let place : length latched + 1
+    ≡ length start + 2 = omega (arith, ap length latch, length-append start (231 ∷ [])) in
+    let next : length counted + 1 ≡ (length start + 2) + length numbers =
+    omega (
+      arith,
+      place,
+      ap length count,
+      length-append latched (written (length latched + 1) numbers),
+      length-written (length latched + 1) numbers,
+    ) in
     let behind : counted ≡ start ++ 231 ∷ written (length start + 2) numbers =
-    count ∙ ap (λ (k : ℕ). latched ++ written k numbers) place ∙ ap (λ (l : List ℕ). l ++ written (length start + 2) numbers) latch ∙ append_assoc start (231 ∷ []) (written (length start + 2) numbers) in
-    all ∙ ap (λ (k : ℕ). counted ++ written k bytes) next ∙ ap (λ (l : List ℕ). l ++ written ((length start + 2) + length numbers) bytes) behind
-    ∙ append_assoc start (231 ∷ written (length start + 2) numbers) (written ((length start + 2) + length numbers) bytes)
+    count ∙ ap (λ (k : ℕ). latched ++ written k numbers) place
+    ∙ ap (λ (l : List ℕ). l ++ written (length start + 2) numbers) latch
+    ∙ append_assoc start (231 ∷ []) (written (length start + 2) numbers) in
+    all ∙ ap (λ (k : ℕ). counted ++ written k bytes) next
+    ∙ ap (λ (l : List ℕ). l ++ written ((length start + 2) + length numbers) bytes) behind
+    ∙ append_assoc start (231 ∷ written (length start + 2) numbers)
+    (written ((length start + 2) + length numbers) bytes)
     ∙ ap (λ (l : List ℕ). start ++ 231 ∷ l) (sym (written-append (length start + 2) numbers bytes))
 
 -- ---- choosing
@@ -345,22 +398,28 @@ length-segment_of m =
     omega (arith, length-one_segment (map byte_of m), here, ap (λ (n : ℕ). length (length_numbers n)) here)
 
 -- The form that was chosen is the normal form.
-chosen_form : (profile : Profile) (m : List Item) (takes marked : Bool) (count words : ℕ) → (profile ≡ Ascii → takes ≡ false)
-    → (profile ≡ Shorter → takes ≡ (not marked && ltb count words)) → marked ≡ has_fnc1 m → count ≡ length (segment_of m) → words ≡ length (ascii m)
+chosen_form : (profile : Profile) (m : List Item) (takes marked : Bool) (count words : ℕ)
+    → (profile ≡ Ascii → takes ≡ false)
+    → (profile ≡ Shorter → takes ≡ (not marked && ltb count words)) → marked ≡ has_fnc1 m → count
+    ≡ length (segment_of m) → words ≡ length (ascii m)
     → normal_form profile m ≡ cond takes (segment_of m) (ascii m)
 chosen_form Ascii m takes marked count words never when mark is lengths = rw (never refl) refl
 chosen_form Shorter m takes marked count words never when mark is lengths = rw (when refl, mark, is, lengths) refl
 
 -- The form that was chosen has this length.
-chosen_length : (takes : Bool) (m : List Item) (count words : ℕ) → count ≡ length (segment_of m) → words ≡ length (ascii m)
+chosen_length : (takes : Bool) (m : List Item) (count words : ℕ) → count ≡ length (segment_of m) → words
+    ≡ length (ascii m)
     → cond takes count words ≡ length (cond takes (segment_of m) (ascii m))
 chosen_length true m count words is lengths = is
 chosen_length false m count words is lengths = lengths
 
 -- The normal form and its length are known from the length of the segment and from what was found of the ASCII form.
-pub form_known : (profile : Profile) (m : List Item) (takes marked : Bool) (count words : ℕ) → (profile ≡ Ascii → takes ≡ false)
-    → (profile ≡ Shorter → takes ≡ (not marked && ltb count words)) → marked ≡ has_fnc1 m → count ≡ 1 + length (length_numbers (length m)) + length m → words ≡ length (ascii m)
-    → (normal_form profile m ≡ cond takes (segment_of m) (ascii m)) × (cond takes count words ≡ length (normal_form profile m))
+pub form_known : (profile : Profile) (m : List Item) (takes marked : Bool) (count words : ℕ)
+    → (profile ≡ Ascii → takes ≡ false)
+    → (profile ≡ Shorter → takes ≡ (not marked && ltb count words)) → marked ≡ has_fnc1 m → count
+    ≡ 1 + length (length_numbers (length m)) + length m → words ≡ length (ascii m)
+    → (normal_form profile m ≡ cond takes (segment_of m) (ascii m)) × (cond takes count words
+    ≡ length (normal_form profile m))
 form_known profile m takes marked count words never when mark counted lengths =
     let is : count ≡ length (segment_of m) = counted ∙ sym (length-segment_of m) in
     let form = chosen_form profile m takes marked count words never when mark is lengths in

@@ -1,5 +1,7 @@
 -- Lemmas on pads.
-use Rattle.std.proofs.Common.{◌≡◌, ℕ, zero, suc, ◌+◌, ◌-◌, ◌*◌, ◌%◌, ◌<◌, ◌≤◌, List, [], ◌∷◌, ◌++◌, length, length-append, refl, sym, ap, ◌∙◌, append_assoc, add-zero, arith, Bool, true, false, cond, leb}
+use Rattle.std.proofs.Common.{◌≡◌, ℕ, zero, suc, ◌+◌, ◌-◌, ◌*◌, ◌%◌, ◌<◌, ◌≤◌, List, [], ◌∷◌, ◌++◌, length}
+use Rattle.std.proofs.Common.{length-append, refl, sym, ap, ◌∙◌, append_assoc, add-zero, arith, Bool, true, false, cond}
+use Rattle.std.proofs.Common.{leb}
 use Rattle.std.proofs.lemmas.Bool.Decides.{nat_tests}
 use Rattle.dm_words.specs.Pads.{pad_at, further_pads, pads, padded}
 use Rattle.dm_words.specs.Base256.{AreBytes}
@@ -9,17 +11,21 @@ use Rattle.dm_words.proofs.Segments.{AreBytes-append}
 -- One more pad stands at the end.
 further_pads-push : (place n : ℕ) → further_pads place (suc n) ≡ further_pads place n ++ pad_at (place + n) ∷ []
 further_pads-push place zero = rw add-zero refl
-further_pads-push place (suc n) = ap (λ (r : List ℕ). pad_at place ∷ r) (further_pads-push (place + 1) n ∙ ap (λ (k : ℕ). further_pads (place + 1) n ++ pad_at k ∷ []) (omega arith))
+further_pads-push place (suc n) =
+    ap (λ (r : List ℕ). pad_at place ∷ r) (further_pads-push (place + 1) n
+    ∙ ap (λ (k : ℕ). further_pads (place + 1) n ++ pad_at k ∷ []) (omega arith))
 
 -- One turn of the loop that adds pads adds the pad of its place.
-pub pads_more : (words : List ℕ) (place : ℕ) (old new : List ℕ) (p : ℕ) → length words + 2 ≤ place → p ≡ pad_at place → old ≡ words ++ 129 ∷ further_pads (length words + 2) (place - (length words + 2))
+pub pads_more : (words : List ℕ) (place : ℕ) (old new : List ℕ) (p : ℕ) → length words + 2 ≤ place → p ≡ pad_at place
+    → old ≡ words ++ 129 ∷ further_pads (length words + 2) (place - (length words + 2))
     → new ≡ old ++ p ∷ [] → new ≡ words ++ 129 ∷ further_pads (length words + 2) (place + 1 - (length words + 2))
 pads_more words place old new p le is so_far e =
     let n = place - (length words + 2) in
     let count : place + 1 - (length words + 2) ≡ suc n = omega arith in
     let at : length words + 2 + n ≡ place = omega arith in
     let more = further_pads-push (length words + 2) n in
-    rw (e, so_far, count, more, at, is) (append_assoc words (129 ∷ further_pads (length words + 2) n) (pad_at place ∷ []))
+    rw (e, so_far, count, more, at, is)
+    (append_assoc words (129 ∷ further_pads (length words + 2) n) (pad_at place ∷ []))
 
 -- There are as many further pads as asked for.
 length-further_pads : (place n : ℕ) → length (further_pads place n) ≡ n
@@ -34,10 +40,15 @@ length-pads place (suc n) = ap suc (length-further_pads (place + 1) n)
 -- The codewords and their pads are as many as asked for.
 pub length-padded : (words : List ℕ) (count : ℕ) → length words ≤ count → length (padded words count) ≡ count
 length-padded words count le =
-    omega (arith, length-append words (pads (length words + 1) (count - length words)), length-pads (length words + 1) (count - length words))
+    omega (
+      arith,
+      length-append words (pads (length words + 1) (count - length words)),
+      length-pads (length words + 1) (count - length words),
+    )
 
 -- The pads behind words up to a count are those of their places.
-pub pads_are : (words : List ℕ) (count : ℕ) → ArePads (padded words count) (pads (length words + 1) (count - length words))
+pub pads_are : (words : List ℕ) (count : ℕ)
+    → ArePads (padded words count) (pads (length words + 1) (count - length words))
 pads_are words count =
     let n = count - length words in
     let p = pads (length words + 1) n in
@@ -48,10 +59,11 @@ pads_are words count =
 
 -- A pad is a codeword.
 pad_byte : (place : ℕ) → pad_at place < 256
-pad_byte place = by_test (129 + ((149 * place) % 253 + 1)) (leb (129 + ((149 * place) % 253 + 1)) 254) refl (omega arith) where
-  by_test : (n : ℕ) (t : Bool) → leb n 254 ≡ t → n < 384 → cond t n (n - 254) < 256
-  by_test n true e lt = (let le : n ≤ 254 = grind (arith, nat_tests) in omega arith)
-  by_test n false e lt = omega arith
+pad_byte place =
+    by_test (129 + ((149 * place) % 253 + 1)) (leb (129 + ((149 * place) % 253 + 1)) 254) refl (omega arith) where
+      by_test : (n : ℕ) (t : Bool) → leb n 254 ≡ t → n < 384 → cond t n (n - 254) < 256
+      by_test n true e lt = (let le : n ≤ 254 = grind (arith, nat_tests) in omega arith)
+      by_test n false e lt = omega arith
 
 -- Pads that are not the first of the symbol are codewords.
 further_pads_bytes : (place n : ℕ) → AreBytes (further_pads place n)
@@ -65,4 +77,6 @@ pads_bytes place (suc n) = (omega arith, further_pads_bytes (place + 1) n)
 
 -- Codewords with their pads are codewords.
 pub padded_bytes : (words : List ℕ) (count : ℕ) → AreBytes words → AreBytes (padded words count)
-padded_bytes words count fit = AreBytes-append words (pads (length words + 1) (count - length words)) fit (pads_bytes (length words + 1) (count - length words))
+padded_bytes words count fit =
+    AreBytes-append words (pads (length words + 1) (count - length words)) fit
+    (pads_bytes (length words + 1) (count - length words))

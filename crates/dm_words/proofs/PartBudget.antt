@@ -1,5 +1,6 @@
 -- What the plan begins at an item is paid.
-use Rattle.std.proofs.Common.{◌≡◌, ℕ, ◌+◌, ◌-◌, ◌<◌, ◌≤◌, List, [], ◌∷◌, length, drop, get_or, refl, sym, ap, subst, ◌∙◌, arith, Bool, true, false, cond}
+use Rattle.std.proofs.Common.{◌≡◌, ℕ, ◌+◌, ◌-◌, ◌<◌, ◌≤◌, List, [], ◌∷◌, length, drop, get_or, refl, sym, ap, subst}
+use Rattle.std.proofs.Common.{◌∙◌, arith, Bool, true, false, cond}
 use Rattle.std.specs.Prelude.{◌&&◌, nat_le}
 use Rattle.std.proofs.lemmas.List.{length-drop, at_drop_more}
 use Rattle.dm_words.specs.declared.extent.Extent.{Extent}
@@ -9,22 +10,27 @@ use Rattle.dm_words.specs.declared.c40.set.CodeSet.TheVariants.{C40, Text, X12}
 use Rattle.dm_words.specs.declared.smallest.plan.Begin.{Begin}
 use Rattle.dm_words.specs.declared.smallest.plan.Begin.TheVariants.{One, Two, Run, Edifact, Segment, Rest}
 use Rattle.dm_words.specs.declared.smallest.plan.Step.{Step}
-use Rattle.dm_words.specs.inner.Costs.{never, owed, unit_cost, cost_of, segment_cost, is_digit_item, digit_first, pair_first, row, parts_cost, going_from, going_pairs, IsRightStep}
+use Rattle.dm_words.specs.inner.Costs.{never, owed, unit_cost, cost_of, segment_cost, is_digit_item, digit_first}
+use Rattle.dm_words.specs.inner.Costs.{pair_first, row, parts_cost, going_from, going_pairs, IsRightStep}
 use Rattle.dm_words.proofs.CostsMet.{second_is}
 
-module _ (extent : Extent) (m : List Item) (i : ℕ) (d : Item) (s : Step) (there : i < length m) (right : IsRightStep extent (drop i m) s) (words total : ℕ)
+module _ (extent : Extent) (m : List Item) (i : ℕ) (d : Item) (s : Step) (there : i < length m)
+    (right : IsRightStep extent (drop i m) s) (words total : ℕ)
     (budget : words + parts_cost extent (drop i m) ≤ total) where
   cons : drop i m ≡ get_or m i d ∷ drop (i + 1) m
   cons = at_drop_more (λ (l : List Item). l) m i d there
 
   -- The cost is that of what begins.
-  begin_cost : (b : Begin) → s.begins ≡ b → parts_cost extent (drop i m) ≡ cost_of (get_or m i d) (pair_first (drop i m)) (row extent (drop (i + 1) m)) (going_from extent (drop i m)) b
+  begin_cost : (b : Begin) → s.begins ≡ b → parts_cost extent (drop i m)
+      ≡ cost_of (get_or m i d) (pair_first (drop i m)) (row extent (drop (i + 1) m)) (going_from extent (drop i m)) b
   begin_cost b is =
       let x = get_or m i d in
       let rest = drop (i + 1) m in
       let here : IsRightStep extent (x ∷ rest) s = subst (λ (l : List Item). IsRightStep extent l s) cons right in
-      let e : parts_cost extent (x ∷ rest) ≡ cost_of x (pair_first (x ∷ rest)) (row extent rest) (going_from extent (x ∷ rest)) s.begins = here.begins in
-      subst (λ (l : List Item). parts_cost extent l ≡ cost_of x (pair_first l) (row extent rest) (going_from extent l) b) (sym cons)
+      let e : parts_cost extent (x ∷ rest)
+      ≡ cost_of x (pair_first (x ∷ rest)) (row extent rest) (going_from extent (x ∷ rest)) s.begins = here.begins in
+      subst (λ (l : List Item). parts_cost extent l
+      ≡ cost_of x (pair_first l) (row extent rest) (going_from extent l) b) (sym cons)
       (e ∙ ap (λ (c : Begin). cost_of x (pair_first (x ∷ rest)) (row extent rest) (going_from extent (x ∷ rest)) c) is)
 
   pub one_paid : s.begins ≡ One → words + unit_cost (get_or m i d) + parts_cost extent (drop (i + 1) m) ≤ total
@@ -39,16 +45,26 @@ module _ (extent : Extent) (m : List Item) (i : ℕ) (d : Item) (s : Step) (ther
 
   pub pair_paid : total < never → s.begins ≡ Two → IsPairAt
   pair_paid small is = by_test (pair_first (drop i m)) refl (begin_cost Two is) where
-    by_test : (t : Bool) → pair_first (drop i m) ≡ t → parts_cost extent (drop i m) ≡ cond t (1 + (row extent (drop (i + 1) m)).second) never → IsPairAt
+    by_test : (t : Bool) → pair_first (drop i m) ≡ t → parts_cost extent (drop i m)
+        ≡ cond t (1 + (row extent (drop (i + 1) m)).second) never → IsPairAt
     by_test false e cost = absurd (omega (arith, cost, budget, small))
     by_test true e cost =
         let both : is_digit_item (get_or m i d) && digit_first (drop (i + 1) m) ≡ true = (rw cons at e) in
         let digits = halves (is_digit_item (get_or m i d)) (digit_first (drop (i + 1) m)) both in
         let lt : i + 1 < length m = some_digit (drop (i + 1) m) digits.1 (length-drop (i + 1) m) in
         let two : i + 1 + 1 ≡ i + 2 = omega arith in
-        let next : drop (i + 1) m ≡ get_or m (i + 1) d ∷ drop (i + 2) m = at_drop_more (λ (l : List Item). l) m (i + 1) d lt ∙ ap (λ (k : ℕ). get_or m (i + 1) d ∷ drop k m) two in
-        let paid : (row extent (drop (i + 1) m)).second ≡ parts_cost extent (drop (i + 2) m) = ap (λ (l : List Item). (row extent l).second) next ∙ second_is extent (get_or m (i + 1) d) (drop (i + 2) m) in
-        record { second_there = lt; first = digits.0; second = sym (ap digit_first next) ∙ digits.1; paid = omega (arith, cost, budget, paid) } where
+        let next : drop (i + 1) m ≡ get_or m (i + 1) d ∷ drop (i + 2) m =
+        at_drop_more (λ (l : List Item). l) m (i + 1) d lt ∙ ap (λ (k : ℕ). get_or m (i + 1) d ∷ drop k m) two in
+        let paid : (row extent (drop (i + 1) m)).second ≡ parts_cost extent (drop (i + 2) m) =
+        ap (λ (l : List Item). (row extent l).second) next
+        ∙ second_is extent (get_or m (i + 1) d) (drop (i + 2) m) in
+        record {
+          second_there = lt;
+          first = digits.0;
+          second = sym (ap digit_first next)
+              ∙ digits.1;
+          paid = omega (arith, cost, budget, paid);
+        } where
           halves : (a b : Bool) → a && b ≡ true → (a ≡ true) × (b ≡ true)
           halves true true e = (refl, refl)
           halves true false e = absurd cc
@@ -58,7 +74,8 @@ module _ (extent : Extent) (m : List Item) (i : ℕ) (d : Item) (s : Step) (ther
           some_digit [] e is = absurd cc
           some_digit (x ∷ l) e is = omega (arith, is)
 
-  pub run_paid : (set : CodeSet) → s.begins ≡ Run set → words + 1 + owed 0 (going_pairs set (going_from extent (drop i m))) ≤ total
+  pub run_paid : (set : CodeSet) → s.begins ≡ Run set
+      → words + 1 + owed 0 (going_pairs set (going_from extent (drop i m))) ≤ total
   unfolding owed
   run_paid C40 is = omega (arith, begin_cost (Run C40) is, budget)
   run_paid Text is = omega (arith, begin_cost (Run Text) is, budget)
@@ -68,11 +85,16 @@ module _ (extent : Extent) (m : List Item) (i : ℕ) (d : Item) (s : Step) (ther
   edifact_paid is = omega (arith, begin_cost Edifact is, budget)
 
   pub segment_paid : s.begins ≡ Segment
-      → (words + segment_cost (going_from extent (drop i m)).segment.bytes (going_from extent (drop i m)).segment.near ≤ total) × (words + 2 + (going_from extent (drop i m)).segment.bytes ≤ total)
+      → (words + segment_cost (going_from extent (drop i m)).segment.bytes (going_from extent (drop i m)).segment.near
+      ≤ total) × (words + 2 + (going_from extent (drop i m)).segment.bytes ≤ total)
   segment_paid is =
-      let paid : words + segment_cost (going_from extent (drop i m)).segment.bytes (going_from extent (drop i m)).segment.near ≤ total = omega (arith, begin_cost Segment is, budget) in
+      let paid : words + segment_cost (going_from extent (drop i m)).segment.bytes
+      (going_from extent (drop i m)).segment.near ≤ total = omega (arith, begin_cost Segment is, budget) in
       (paid, by_test (nat_le (going_from extent (drop i m)).segment.near 249) paid) where
-        by_test : (t : Bool) → words + cond t (2 + (going_from extent (drop i m)).segment.bytes) (3 + (going_from extent (drop i m)).segment.bytes) ≤ total → words + 2 + (going_from extent (drop i m)).segment.bytes ≤ total
+        by_test : (t : Bool)
+            → words + cond t (2 + (going_from extent (drop i m)).segment.bytes)
+            (3 + (going_from extent (drop i m)).segment.bytes) ≤ total
+            → words + 2 + (going_from extent (drop i m)).segment.bytes ≤ total
         by_test true b = omega (arith, b)
         by_test false b = omega (arith, b)
 

@@ -13,7 +13,8 @@ module _ {A : Type 0} where
   -- The words of pieces, and of more behind them.
   pub spelled-append : (a b : List (Piece A)) → spelled (a ++ b) ≡ spelled a ++ spelled b
   spelled-append [] b = refl
-  spelled-append (p ∷ a) b = ap (λ (l : List ℕ). p.words ++ l) (spelled-append a b) ∙ sym (append_assoc p.words (spelled a) (spelled b))
+  spelled-append (p ∷ a) b = ap (λ (l : List ℕ). p.words ++ l) (spelled-append a b)
+      ∙ sym (append_assoc p.words (spelled a) (spelled b))
 
   -- The words of pieces, and of one behind them.
   pub spelled-last : (ps : List (Piece A)) (q : Piece A) → spelled (ps ++ q ∷ []) ≡ spelled ps ++ q.words
@@ -28,8 +29,10 @@ module _ {B : Type 0} where
   -- The lists that pieces stand for, and more behind them.
   pub gathered-append : (a b : List (Piece (List B))) → gathered (a ++ b) ≡ gathered a ++ gathered b
   gathered-append [] b = refl
-  gathered-append (p ∷ a) b = ap (λ (l : List B). p.what ++ l) (gathered-append a b) ∙ sym (append_assoc p.what (gathered a) (gathered b))
+  gathered-append (p ∷ a) b = ap (λ (l : List B). p.what ++ l) (gathered-append a b)
+      ∙ sym (append_assoc p.what (gathered a) (gathered b))
 
   -- The lists that pieces stand for, and one behind them.
-  pub gathered-last : (ps : List (Piece (List B))) (q : Piece (List B)) → gathered (ps ++ q ∷ []) ≡ gathered ps ++ q.what
+  pub gathered-last : (ps : List (Piece (List B))) (q : Piece (List B)) → gathered (ps ++ q ∷ []) ≡ gathered ps
+      ++ q.what
   gathered-last ps q = gathered-append ps (q ∷ []) ∙ ap (λ (l : List B). gathered ps ++ l) (append-nil q.what)

@@ -1,5 +1,6 @@
 -- A run that follows the plan stays within its budget.
-use Rattle.std.proofs.Common.{◌≡◌, ℕ, zero, suc, ◌+◌, ◌-◌, ◌*◌, ◌/◌, ◌%◌, ◌<◌, ◌≤◌, List, [], ◌∷◌, ◌++◌, length, take, drop, get_or, refl, sym, ap, subst, ◌∙◌, arith, Bool, true, false, cond, ◌⊎◌, inl, inr}
+use Rattle.std.proofs.Common.{◌≡◌, ℕ, zero, suc, ◌+◌, ◌-◌, ◌*◌, ◌/◌, ◌%◌, ◌<◌, ◌≤◌, List, [], ◌∷◌, ◌++◌, length, take}
+use Rattle.std.proofs.Common.{drop, get_or, refl, sym, ap, subst, ◌∙◌, arith, Bool, true, false, cond, ◌⊎◌, inl, inr}
 use Rattle.std.specs.Prelude.{nat_le, ◌&&◌}
 use Rattle.std.specs.Prelude.{not}
 use Rattle.std.proofs.lemmas.List.{length-drop, at_drop_more, get_or-drop}
@@ -13,7 +14,8 @@ use Rattle.dm_words.specs.declared.smallest.row.Pairs.{Pairs}
 use Rattle.dm_words.specs.declared.smallest.plan.Step.{Step}
 use Rattle.dm_words.specs.declared.smallest.run.Part.{Part}
 use Rattle.dm_words.specs.declared.smallest.run.Part.TheVariants as part
-use Rattle.dm_words.specs.inner.Costs.{never, owed, set_values, no_pairs, stay, leave, or_leave, going_from, going_pairs, row_pairs, row, parts_cost, IsRightStep}
+use Rattle.dm_words.specs.inner.Costs.{never, owed, set_values, no_pairs, stay, leave, or_leave, going_from}
+use Rattle.dm_words.specs.inner.Costs.{going_pairs, row_pairs, row, parts_cost, IsRightStep}
 use Rattle.dm_words.specs.inner.Written.{part_values, is_empty, run_ends, IsItemPushed}
 use Rattle.dm_words.proofs.RunWritten.{pushed_lengths}
 use Rattle.dm_words.proofs.SpellingCounts.{spelling_count}
@@ -29,34 +31,44 @@ owed_more (suc n) r p =
     omega (arith, here, owed_more n r p)
 
 -- Where the run goes on, it can pay for that.
-pub goes_on : (p : Part) (cost k words total : ℕ) (next : Pairs) → words + owed (length (part_values p)) (or_leave cost (stay k next)) ≤ total → total < never
-    → is_empty p && nat_le (leave 1 cost) (stay k next).none ≡ false → (0 < k) × (words + owed (length (part_values p) + k) next ≤ total)
+pub goes_on : (p : Part) (cost k words total : ℕ) (next : Pairs)
+    → words + owed (length (part_values p)) (or_leave cost (stay k next)) ≤ total → total < never
+    → is_empty p && nat_le (leave 1 cost) (stay k next).none ≡ false
+    → (0 < k) × (words + owed (length (part_values p) + k) next ≤ total)
 unfolding owed
 goes_on p cost zero words total next budget small goes = absurd (by_part p budget goes) where
-  by_part : (p : Part) → words + owed (length (part_values p)) (or_leave cost no_pairs) ≤ total → is_empty p && nat_le (leave 1 cost) never ≡ false → ⊥
+  by_part : (p : Part) → words + owed (length (part_values p)) (or_leave cost no_pairs) ≤ total
+      → is_empty p && nat_le (leave 1 cost) never ≡ false → ⊥
   by_part part.Empty b g = let lt : never < leave 1 cost = grind (arith, nat_tests) in omega (arith, lt, b, small)
   by_part (part.One x) b g = omega (arith, b, small)
   by_part (part.Two x y) b g = omega (arith, b, small)
 goes_on p cost (suc k) words total next budget small goes =
     let over = stay (suc k) next in
-    let e : owed (length (part_values p)) over ≡ owed (length (part_values p) + suc k) next = ap (owed (length (part_values p))) (stay_is (suc k) next (omega arith)) ∙ owed_values (suc k) (length (part_values p)) next in
+    let e : owed (length (part_values p)) over ≡ owed (length (part_values p) + suc k) next =
+    ap (owed (length (part_values p))) (stay_is (suc k) next (omega arith))
+    ∙ owed_values (suc k) (length (part_values p)) next in
     let b : words + owed (length (part_values p)) over ≤ total = by_part p over budget goes in
     (omega arith, omega (arith, b, e)) where
-      by_part : (p : Part) (over : Pairs) → words + owed (length (part_values p)) (or_leave cost over) ≤ total → is_empty p && nat_le (leave 1 cost) over.none ≡ false → words + owed (length (part_values p)) over ≤ total
+      by_part : (p : Part) (over : Pairs) → words + owed (length (part_values p)) (or_leave cost over) ≤ total
+          → is_empty p && nat_le (leave 1 cost) over.none ≡ false → words + owed (length (part_values p)) over ≤ total
       by_part part.Empty over b g = let lt : over.none < leave 1 cost = grind (arith, nat_tests) in omega (arith, lt, b)
       by_part (part.One x) over b g = omega (arith, b, small)
       by_part (part.Two x y) over b g = omega (arith, b, small)
 
 -- Where the run ends, it can pay for leaving.
-pub leaves : (p : Part) (cost words total : ℕ) (over : Pairs) → words + owed (length (part_values p)) (or_leave cost over) ≤ total → is_empty p && nat_le (leave 1 cost) over.none ≡ true
+pub leaves : (p : Part) (cost words total : ℕ) (over : Pairs)
+    → words + owed (length (part_values p)) (or_leave cost over) ≤ total
+    → is_empty p && nat_le (leave 1 cost) over.none ≡ true
     → words + leave 1 cost ≤ total
 unfolding owed
-leaves part.Empty cost words total over b g = let le : leave 1 cost ≤ over.none = grind (arith, nat_tests) in omega (arith, le, b)
+leaves part.Empty cost words total over b g = let le : leave 1 cost ≤ over.none =
+    grind (arith, nat_tests) in omega (arith, le, b)
 leaves (part.One x) cost words total over b g = cc
 leaves (part.Two x y) cost words total over b g = cc
 
 -- The costs of a run are those of going on, or of leaving.
-pub pairs_are : (extent : Extent) (set : CodeSet) (m : List Item) → row_pairs set (row extent m) ≡ or_leave (parts_cost extent m) (going_pairs set (going_from extent m))
+pub pairs_are : (extent : Extent) (set : CodeSet) (m : List Item) → row_pairs set (row extent m)
+    ≡ or_leave (parts_cost extent m) (going_pairs set (going_from extent m))
 unfolding row
 pairs_are extent C40 [] = refl
 pairs_are extent Text [] = refl
@@ -66,73 +78,109 @@ pairs_are extent Text (x ∷ m) = refl
 pairs_are extent X12 (x ∷ m) = refl
 
 -- The plan says whether a run ends.
-pub ends_are : (extent : Extent) (set : CodeSet) (m : List Item) (s : Step) → IsRightStep extent m s → run_ends set s ≡ nat_le (leave 1 (parts_cost extent m)) (going_pairs set (going_from extent m)).none
+pub ends_are : (extent : Extent) (set : CodeSet) (m : List Item) (s : Step) → IsRightStep extent m s → run_ends set s
+    ≡ nat_le (leave 1 (parts_cost extent m)) (going_pairs set (going_from extent m)).none
 ends_are extent C40 m s r = ap (run_ends C40) r.ends
 ends_are extent Text m s r = ap (run_ends Text) r.ends
 ends_are extent X12 m s r = ap (run_ends X12) r.ends
 
 -- An item is pushed within the budget.
-pub item_paid : (set : CodeSet) (p p' : Part) (k n words words' total : ℕ) (next : Pairs) → words + owed (length (part_values p) + k) next ≤ total
-    → length (part_values p) + k ≡ 3 * n + length (part_values p') → words' ≡ words + 2 * n → words' + owed (length (part_values p')) next ≤ total
+pub item_paid : (set : CodeSet) (p p' : Part) (k n words words' total : ℕ) (next : Pairs)
+    → words + owed (length (part_values p) + k) next ≤ total
+    → length (part_values p) + k ≡ 3 * n + length (part_values p') → words' ≡ words + 2 * n
+    → words' + owed (length (part_values p')) next ≤ total
 item_paid set p p' k n words words' total next budget e is =
-    let o : owed (length (part_values p) + k) next ≡ 2 * n + owed (length (part_values p')) next = ap (λ (j : ℕ). owed j next) e ∙ owed_more n (length (part_values p')) next in
+    let o : owed (length (part_values p) + k) next ≡ 2 * n + owed (length (part_values p')) next =
+    ap (λ (j : ℕ). owed j next) e ∙ owed_more n (length (part_values p')) next in
     omega (arith, budget, o, is)
 
 -- Where a run goes on, the set has the item, and the run can pay for it.
-run_here : (extent : Extent) (set : CodeSet) (x : Item) (rest : List Item) (s : Step) (p : Part) (words total : ℕ) → IsRightStep extent (x ∷ rest) s → words + owed (length (part_values p)) (row_pairs set (row extent (x ∷ rest))) ≤ total
-    → total < never → is_empty p && run_ends set s ≡ false → (0 < set_values set x) × (words + owed (length (part_values p) + set_values set x) (row_pairs set (row extent rest)) ≤ total)
-run_here extent set x rest s p words total right budget small goes = by_set set (rw (pairs_are extent set (x ∷ rest)) at budget) (rw (ends_are extent set (x ∷ rest) s right) at goes) where
-  by_set : (set : CodeSet) → words + owed (length (part_values p)) (or_leave (parts_cost extent (x ∷ rest)) (going_pairs set (going_from extent (x ∷ rest)))) ≤ total
-      → is_empty p && nat_le (leave 1 (parts_cost extent (x ∷ rest))) (going_pairs set (going_from extent (x ∷ rest))).none ≡ false
-      → (0 < set_values set x) × (words + owed (length (part_values p) + set_values set x) (row_pairs set (row extent rest)) ≤ total)
-  by_set C40 b g = goes_on p (parts_cost extent (x ∷ rest)) (set_values C40 x) words total (row extent rest).c40 b small g
-  by_set Text b g = goes_on p (parts_cost extent (x ∷ rest)) (set_values Text x) words total (row extent rest).text b small g
-  by_set X12 b g = goes_on p (parts_cost extent (x ∷ rest)) (set_values X12 x) words total (row extent rest).x12 b small g
+run_here : (extent : Extent) (set : CodeSet) (x : Item) (rest : List Item) (s : Step) (p : Part) (words total : ℕ)
+    → IsRightStep extent (x ∷ rest) s
+    → words + owed (length (part_values p)) (row_pairs set (row extent (x ∷ rest))) ≤ total
+    → total < never → is_empty p && run_ends set s ≡ false
+    → (0 < set_values set x) ×
+    (words + owed (length (part_values p) + set_values set x) (row_pairs set (row extent rest)) ≤ total)
+run_here extent set x rest s p words total right budget small goes =
+    by_set set (rw (pairs_are extent set (x ∷ rest)) at budget) (rw (ends_are extent set (x ∷ rest) s right) at goes)
+  where
+    by_set : (set : CodeSet)
+        → words + owed (length (part_values p))
+        (or_leave (parts_cost extent (x ∷ rest)) (going_pairs set (going_from extent (x ∷ rest)))) ≤ total
+        → is_empty p && nat_le (leave 1 (parts_cost extent (x ∷ rest)))
+        (going_pairs set (going_from extent (x ∷ rest))).none ≡ false
+        → (0 < set_values set x) ×
+        (words + owed (length (part_values p) + set_values set x) (row_pairs set (row extent rest)) ≤ total)
+    by_set C40 b g =
+        goes_on p (parts_cost extent (x ∷ rest)) (set_values C40 x) words total (row extent rest).c40 b small g
+    by_set Text b g =
+        goes_on p (parts_cost extent (x ∷ rest)) (set_values Text x) words total (row extent rest).text b small g
+    by_set X12 b g =
+        goes_on p (parts_cost extent (x ∷ rest)) (set_values X12 x) words total (row extent rest).x12 b small g
 
 -- Where a run goes on, an item is there.
-run_some : (extent : Extent) (set : CodeSet) (m : List Item) (s : Step) (p : Part) (words total : ℕ) → IsRightStep extent m s → words + owed (length (part_values p)) (row_pairs set (row extent m)) ≤ total
+run_some : (extent : Extent) (set : CodeSet) (m : List Item) (s : Step) (p : Part) (words total : ℕ)
+    → IsRightStep extent m s → words + owed (length (part_values p)) (row_pairs set (row extent m)) ≤ total
     → total < never → is_empty p && run_ends set s ≡ false → 0 < length m
-run_some extent set [] s p words total right budget small goes = absurd (by_set set (rw (pairs_are extent set []) at budget) (rw (ends_are extent set [] s right) at goes)) where
-  by_set : (set : CodeSet) → words + owed (length (part_values p)) (or_leave (parts_cost extent []) (going_pairs set (going_from extent []))) ≤ total
-      → is_empty p && nat_le (leave 1 (parts_cost extent [])) (going_pairs set (going_from extent [])).none ≡ false → ⊥
-  by_set C40 b g = (let h = goes_on p (parts_cost extent []) 0 words total no_pairs b small g in omega (arith, h.0))
-  by_set Text b g = (let h = goes_on p (parts_cost extent []) 0 words total no_pairs b small g in omega (arith, h.0))
-  by_set X12 b g = (let h = goes_on p (parts_cost extent []) 0 words total no_pairs b small g in omega (arith, h.0))
+run_some extent set [] s p words total right budget small goes =
+    absurd (by_set set (rw (pairs_are extent set []) at budget) (rw (ends_are extent set [] s right) at goes)) where
+      by_set : (set : CodeSet)
+          → words + owed (length (part_values p))
+          (or_leave (parts_cost extent []) (going_pairs set (going_from extent []))) ≤ total
+          → is_empty p && nat_le (leave 1 (parts_cost extent [])) (going_pairs set (going_from extent [])).none ≡ false
+          → ⊥
+      by_set C40 b g = (let h = goes_on p (parts_cost extent []) 0 words total no_pairs b small g in omega (arith, h.0))
+      by_set Text b g =
+          (let h = goes_on p (parts_cost extent []) 0 words total no_pairs b small g in omega (arith, h.0))
+      by_set X12 b g = (let h = goes_on p (parts_cost extent []) 0 words total no_pairs b small g in omega (arith, h.0))
 run_some extent set (x ∷ rest) s p words total right budget small goes = omega arith
 
 -- What is known of the item at an index where a run goes on.
-pub record IsPaidAt (extent : Extent) (set : CodeSet) (m : List Item) (i : ℕ) (d : Item) (p : Part) (words total : ℕ) : Type 0 where
+pub record IsPaidAt (extent : Extent) (set : CodeSet) (m : List Item) (i : ℕ) (d : Item) (p : Part) (words total : ℕ)
+    : Type 0 where
   pub there : i < length m
   pub held : 0 < set_values set (get_or m i d)
-  pub budget : words + owed (length (part_values p) + set_values set (get_or m i d)) (row_pairs set (row extent (drop (i + 1) m))) ≤ total
+  pub budget : words + owed (length (part_values p) + set_values set (get_or m i d))
+      (row_pairs set (row extent (drop (i + 1) m))) ≤ total
 
-pub run_at : (extent : Extent) (set : CodeSet) (m : List Item) (i : ℕ) (d : Item) (s : Step) (p : Part) (words total : ℕ) (on : Bool) → IsRightStep extent (drop i m) s
-    → words + owed (length (part_values p)) (row_pairs set (row extent (drop i m))) ≤ total → total < never → on ≡ not (is_empty p && run_ends set s) → on ≡ true → IsPaidAt extent set m i d p words total
+pub run_at : (extent : Extent) (set : CodeSet) (m : List Item) (i : ℕ) (d : Item) (s : Step) (p : Part)
+    (words total : ℕ) (on : Bool) → IsRightStep extent (drop i m) s
+    → words + owed (length (part_values p)) (row_pairs set (row extent (drop i m))) ≤ total → total < never → on
+    ≡ not (is_empty p && run_ends set s) → on ≡ true → IsPaidAt extent set m i d p words total
 run_at extent set m i d s p words total on right budget small is so =
     let goes : is_empty p && run_ends set s ≡ false = by_bool (is_empty p && run_ends set s) (sym is ∙ so) in
     let some = run_some extent set (drop i m) s p words total right budget small goes in
     let lt : i < length m = omega (arith, some, length-drop i m) in
     let cons : drop i m ≡ get_or m i d ∷ drop (i + 1) m = at_drop_more (λ (l : List Item). l) m i d lt in
-    let h = run_here extent set (get_or m i d) (drop (i + 1) m) s p words total (subst (λ (l : List Item). IsRightStep extent l s) cons right)
-    (subst (λ (l : List Item). words + owed (length (part_values p)) (row_pairs set (row extent l)) ≤ total) cons budget) small goes in
+    let h = run_here extent set (get_or m i d) (drop (i + 1) m) s p words total
+    (subst (λ (l : List Item). IsRightStep extent l s) cons right)
+    (subst (λ (l : List Item). words + owed (length (part_values p)) (row_pairs set (row extent l)) ≤ total) cons
+    budget) small goes in
     record { there = lt; held = h.0; budget = h.1 } where
       by_bool : (b : Bool) → not b ≡ true → b ≡ false
       by_bool true e = cc
       by_bool false e = refl
 
 -- The first item of a run.
-pub first_at : (extent : Extent) (set : CodeSet) (m : List Item) (i : ℕ) (d : Item) (words total : ℕ) → i < length m → words + owed 0 (going_pairs set (going_from extent (drop i m))) ≤ total → total < never
+pub first_at : (extent : Extent) (set : CodeSet) (m : List Item) (i : ℕ) (d : Item) (words total : ℕ) → i < length m
+    → words + owed 0 (going_pairs set (going_from extent (drop i m))) ≤ total → total < never
     → IsPaidAt extent set m i d part.Empty words total
 unfolding owed
 first_at extent set m i d words total lt budget small =
     let cons : drop i m ≡ get_or m i d ∷ drop (i + 1) m = at_drop_more (λ (l : List Item). l) m i d lt in
-    let h = by_set set (get_or m i d) (drop (i + 1) m) (subst (λ (l : List Item). words + owed 0 (going_pairs set (going_from extent l)) ≤ total) cons budget) in
+    let h = by_set set (get_or m i d) (drop (i + 1) m)
+    (subst (λ (l : List Item). words + owed 0 (going_pairs set (going_from extent l)) ≤ total) cons budget) in
     record { there = lt; held = h.0; budget = h.1 } where
-      by_count : (k : ℕ) (next : Pairs) → words + owed 0 (stay k next) ≤ total → (0 < k) × (words + owed (0 + k) next ≤ total)
+      by_count : (k : ℕ) (next : Pairs) → words + owed 0 (stay k next) ≤ total
+          → (0 < k) × (words + owed (0 + k) next ≤ total)
       by_count zero next b = absurd (omega (arith, b, small))
-      by_count (suc k) next b = let e : owed 0 (stay (suc k) next) ≡ owed (0 + suc k) next = ap (owed 0) (stay_is (suc k) next (omega arith)) ∙ owed_values (suc k) 0 next in (omega arith, omega (arith, b, e))
+      by_count (suc k) next b = let e : owed 0 (stay (suc k) next)
+          ≡ owed (0 + suc k) next = ap (owed 0) (stay_is (suc k) next (omega arith))
+          ∙ owed_values (suc k) 0 next in (omega arith, omega (arith, b, e))
 
-      by_set : (set : CodeSet) (x : Item) (rest : List Item) → words + owed 0 (going_pairs set (going_from extent (x ∷ rest))) ≤ total → (0 < set_values set x) × (words + owed (0 + set_values set x) (row_pairs set (row extent rest)) ≤ total)
+      by_set : (set : CodeSet) (x : Item) (rest : List Item)
+          → words + owed 0 (going_pairs set (going_from extent (x ∷ rest))) ≤ total
+          → (0 < set_values set x) × (words + owed (0 + set_values set x) (row_pairs set (row extent rest)) ≤ total)
       by_set C40 x rest b = by_count (set_values C40 x) (row extent rest).c40 b
       by_set Text x rest b = by_count (set_values Text x) (row extent rest).text b
       by_set X12 x rest b = by_count (set_values X12 x) (row extent rest).x12 b
@@ -145,26 +193,37 @@ item_room n words total p b =
     omega (arith, b, o)
 
 -- The budget after an item.
-pub after_item : (set : CodeSet) (x : Item) (p p' : Part) (old new : List ℕ) (total : ℕ) (next : Pairs) → IsItemPushed set x p old new p' → length old + owed (length (part_values p) + set_values set x) next ≤ total
+pub after_item : (set : CodeSet) (x : Item) (p p' : Part) (old new : List ℕ) (total : ℕ) (next : Pairs)
+    → IsItemPushed set x p old new p' → length old + owed (length (part_values p) + set_values set x) next ≤ total
     → length new + owed (length (part_values p')) next ≤ total
 after_item set x p p' old new total next i b =
     let n = pushed_lengths old (part_values p) i.0 new p' i.2 in
-    item_paid set p p' (set_values set x) n.0 (length old) (length new) total next b (omega (arith, n.2, spelling_count set i.0 x i.1)) n.1
+    item_paid set p p' (set_values set x) n.0 (length old) (length new) total next b
+    (omega (arith, n.2, spelling_count set i.0 x i.1)) n.1
 
 -- The items of a run, with one more.
-pub one_more : (m : List Item) (from i : ℕ) (d : Item) → from ≤ i → i < length m → take (i - from) (drop from m) ++ get_or m i d ∷ [] ≡ take (i + 1 - from) (drop from m)
+pub one_more : (m : List Item) (from i : ℕ) (d : Item) → from ≤ i → i < length m → take (i - from) (drop from m)
+    ++ get_or m i d ∷ [] ≡ take (i + 1 - from) (drop from m)
 one_more m from i d le lt =
     let e : i + 1 - from ≡ suc (i - from) = omega (arith, le) in
     let at : from + (i - from) ≡ i = omega (arith, le) in
-    let here : get_or (drop from m) (i - from) d ≡ get_or m i d = get_or-drop from m (i - from) d ∙ ap (λ (k : ℕ). get_or m k d) at in
-    ap (λ (y : Item). take (i - from) (drop from m) ++ y ∷ []) (sym here) ∙ sym (take-suc (drop from m) (i - from) d (omega (arith, lt, le, length-drop from m))) ∙ ap (λ (k : ℕ). take k (drop from m)) (sym e)
+    let here : get_or (drop from m) (i - from) d ≡ get_or m i d = get_or-drop from m (i - from) d
+    ∙ ap (λ (k : ℕ). get_or m k d) at in
+    ap (λ (y : Item). take (i - from) (drop from m) ++ y ∷ []) (sym here)
+    ∙ sym (take-suc (drop from m) (i - from) d (omega (arith, lt, le, length-drop from m)))
+    ∙ ap (λ (k : ℕ). take k (drop from m)) (sym e)
 
 -- Leaving a run.
-pub leave_at : (extent : Extent) (set : CodeSet) (m : List Item) (s : Step) (p : Part) (words total : ℕ) (on : Bool) → IsRightStep extent m s → words + owed (length (part_values p)) (row_pairs set (row extent m)) ≤ total
-    → on ≡ not (is_empty p && run_ends set s) → on ≡ false → (is_empty p ≡ true) × (words + leave 1 (parts_cost extent m) ≤ total)
+pub leave_at : (extent : Extent) (set : CodeSet) (m : List Item) (s : Step) (p : Part) (words total : ℕ) (on : Bool)
+    → IsRightStep extent m s → words + owed (length (part_values p)) (row_pairs set (row extent m)) ≤ total
+    → on ≡ not (is_empty p && run_ends set s) → on ≡ false
+    → (is_empty p ≡ true) × (words + leave 1 (parts_cost extent m) ≤ total)
 leave_at extent set m s p words total on right budget is none =
-    let ends : is_empty p && run_ends set s ≡ true = by_bool (is_empty p && run_ends set s) (sym is ∙ none) in
-    (both (is_empty p) (run_ends set s) ends, leaves p (parts_cost extent m) words total (going_pairs set (going_from extent m)) (rw (pairs_are extent set m) at budget) (rw (ends_are extent set m s right) at ends)) where
+    let ends : is_empty p && run_ends set s ≡ true = by_bool (is_empty p && run_ends set s) (sym is ∙ none) in (
+      both (is_empty p) (run_ends set s) ends,
+      leaves p (parts_cost extent m) words total (going_pairs set (going_from extent m))
+          (rw (pairs_are extent set m) at budget) (rw (ends_are extent set m s right) at ends),
+    ) where
       by_bool : (b : Bool) → not b ≡ false → b ≡ true
       by_bool true e = refl
       by_bool false e = cc

@@ -1,10 +1,12 @@
 -- The runs that are written are runs.
-use Rattle.std.proofs.Common.{◌≡◌, ℕ, ◌+◌, ◌-◌, ◌*◌, ◌/◌, ◌<◌, ◌≤◌, List, [], ◌∷◌, ◌++◌, length, take, get_or, add-one, append_assoc, refl, sym, ap, subst, ◌∙◌, arith, Some, None, true, false}
+use Rattle.std.proofs.Common.{◌≡◌, ℕ, ◌+◌, ◌-◌, ◌*◌, ◌/◌, ◌<◌, ◌≤◌, List, [], ◌∷◌, ◌++◌, length, take, get_or, add-one}
+use Rattle.std.proofs.Common.{append_assoc, refl, sym, ap, subst, ◌∙◌, arith, Some, None, true, false}
 use Rattle.std.specs.List.{AllByRecursion}
 use Rattle.std.proofs.lemmas.Bool.Decides.{nat_tests}
 use Rattle.std.proofs.lemmas.List.{append-nil, length-append}
 use Rattle.std.proofs.Math.Seq.{take-suc}
-use Rattle.dm_words.proofs.Pieces.{all-append, spelled-append, spelled-last, whats-append, gathered-append, gathered-last}
+use Rattle.dm_words.proofs.Pieces.{all-append, spelled-append, spelled-last, whats-append, gathered-append}
+use Rattle.dm_words.proofs.Pieces.{gathered-last}
 use Rattle.dm_words.proofs.Runs.{pairs_room}
 use Rattle.dm_words.specs.declared.item.Item.{Item}
 use Rattle.dm_words.specs.declared.item.Item.TheVariants.{Byte}
@@ -21,10 +23,12 @@ use Rattle.dm_words.specs.Values.{IsUpperShift, IsSpelling, character, raised, f
 use Rattle.dm_words.specs.Runs.{IsPair, IsRun, IsRunEnd, unlatch, symbol_end, last_word}
 use Rattle.dm_words.specs.Spells.{run}
 use Rattle.dm_words.specs.inner.Costs.{is_basic, set_values}
-use Rattle.dm_words.specs.inner.Written.{IsCharacterPushed, part_values, IsSmallPart, IsValuePushed, ArePushed, IsItemPushed, is_empty, NoUnlatchFirst, IsPartWritten}
+use Rattle.dm_words.specs.inner.Written.{IsCharacterPushed, part_values, IsSmallPart, IsValuePushed, ArePushed}
+use Rattle.dm_words.specs.inner.Written.{IsItemPushed, is_empty, NoUnlatchFirst, IsPartWritten}
 
 -- A byte below 128 is spelled.
-pub spelled_low : (set : CodeSet) (byte : ℕ) (old new : List ℕ) (item : Item) → old ≡ [] → item ≡ Byte byte → IsCharacterPushed set byte old new → IsSpelling set new item
+pub spelled_low : (set : CodeSet) (byte : ℕ) (old new : List ℕ) (item : Item) → old ≡ [] → item ≡ Byte byte
+    → IsCharacterPushed set byte old new → IsSpelling set new item
 spelled_low set byte old new item none is p =
     let e : new ≡ p.0 = p.1 ∙ ap (λ (o : List ℕ). o ++ p.0) none in
     subst (λ (v : List ℕ). IsSpelling set v item) (sym e) (character byte p.2 is)
@@ -33,10 +37,13 @@ spelled_low set byte old new item none is p =
 upper : (set : CodeSet) (byte : ℕ) → 128 ≤ byte → 0 < set_values set (Byte byte) → IsUpperShift set (1 ∷ 30 ∷ [])
 upper C40 byte high some = record { first = 1; second = 30; shift = Two; is_shift = refl; means = refl; whole = refl }
 upper Text byte high some = record { first = 1; second = 30; shift = Two; is_shift = refl; means = refl; whole = refl }
-upper X12 byte high some = absurd (let e : is_basic X12 byte ≡ false = grind (arith, nat_tests) in let s : 0 < 0 = (rw e at some) in omega (arith, s))
+upper X12 byte high some =
+    absurd (let e : is_basic X12 byte ≡ false = grind (arith, nat_tests) in let s : 0 < 0 =
+    (rw e at some) in omega (arith, s))
 
 -- A byte of 128 or more is spelled.
-pub spelled_raised : (set : CodeSet) (byte : ℕ) (old new : List ℕ) (item : Item) → old ≡ 1 ∷ 30 ∷ [] → item ≡ Byte byte → 128 ≤ byte → 0 < set_values set item
+pub spelled_raised : (set : CodeSet) (byte : ℕ) (old new : List ℕ) (item : Item) → old ≡ 1 ∷ 30 ∷ [] → item
+    ≡ Byte byte → 128 ≤ byte → 0 < set_values set item
     → IsCharacterPushed set (byte - 128) old new → IsSpelling set new item
 spelled_raised set byte old new item two is high some p =
     let e : new ≡ (1 ∷ 30 ∷ []) ++ p.0 = p.1 ∙ ap (λ (o : List ℕ). o ++ p.0) two in
@@ -46,22 +53,34 @@ spelled_raised set byte old new item two is high some p =
 
 -- Nothing is pushed yet.
 pub none_pushed : (old : List ℕ) (p : Part) → IsSmallPart p → ArePushed old (part_values p) [] old p
-none_pushed old p small = record { pairs = []; each = tt; values_are = append-nil (part_values p); words_are = sym (append-nil old); small = small }
+none_pushed old p small =
+    record {
+      pairs = [];
+      each = tt;
+      values_are = append-nil (part_values p);
+      words_are = sym (append-nil old);
+      small =
+          small;
+    }
 
 -- One more value is pushed.
-pub one_pushed : (old waiting values words words' : List ℕ) (p p' : Part) (v : ℕ) → v < 40 → ArePushed old waiting values words p → IsValuePushed p words v p' words'
+pub one_pushed : (old waiting values words words' : List ℕ) (p p' : Part) (v : ℕ) → v < 40
+    → ArePushed old waiting values words p → IsValuePushed p words v p' words'
     → ArePushed old waiting (values ++ v ∷ []) words' p'
 one_pushed old waiting values words words' part.Empty p' v lt a i = record {
   pairs = a.pairs;
   each = a.each;
-  values_are = sym (append_assoc waiting values (v ∷ [])) ∙ ap (λ (l : List ℕ). l ++ v ∷ []) a.values_are ∙ append_assoc (gathered a.pairs) [] (v ∷ []) ∙ ap (λ (q : Part). gathered a.pairs ++ part_values q) (sym i.0);
+  values_are = sym (append_assoc waiting values (v ∷ [])) ∙ ap (λ (l : List ℕ). l ++ v ∷ []) a.values_are
+      ∙ append_assoc (gathered a.pairs) [] (v ∷ []) ∙ ap (λ (q : Part). gathered a.pairs ++ part_values q) (sym i.0);
   words_are = i.1 ∙ a.words_are;
   small = subst IsSmallPart (sym i.0) lt;
 }
 one_pushed old waiting values words words' (part.One x) p' v lt a i = record {
   pairs = a.pairs;
   each = a.each;
-  values_are = sym (append_assoc waiting values (v ∷ [])) ∙ ap (λ (l : List ℕ). l ++ v ∷ []) a.values_are ∙ append_assoc (gathered a.pairs) (x ∷ []) (v ∷ []) ∙ ap (λ (q : Part). gathered a.pairs ++ part_values q) (sym i.0);
+  values_are = sym (append_assoc waiting values (v ∷ [])) ∙ ap (λ (l : List ℕ). l ++ v ∷ []) a.values_are
+      ∙ append_assoc (gathered a.pairs) (x ∷ []) (v ∷ [])
+      ∙ ap (λ (q : Part). gathered a.pairs ++ part_values q) (sym i.0);
   words_are = i.1 ∙ a.words_are;
   small = subst IsSmallPart (sym i.0) (a.small, lt);
 }
@@ -70,9 +89,12 @@ one_pushed old waiting values words words' (part.Two x y) p' v lt a i =
     record {
       pairs = a.pairs ++ piece ∷ [];
       each = all-append (λ q. IsPair q.words q.what) a.pairs (piece ∷ []) a.each (i.1.1, tt);
-      values_are = sym (append_assoc waiting values (v ∷ [])) ∙ ap (λ (l : List ℕ). l ++ v ∷ []) a.values_are ∙ append_assoc (gathered a.pairs) (x ∷ y ∷ []) (v ∷ []) ∙ sym (gathered-last a.pairs piece)
-          ∙ sym (append-nil (gathered (a.pairs ++ piece ∷ []))) ∙ ap (λ (q : Part). gathered (a.pairs ++ piece ∷ []) ++ part_values q) (sym i.0);
-      words_are = i.1.2 ∙ ap (λ (l : List ℕ). l ++ i.1.0) a.words_are ∙ append_assoc old (spelled a.pairs) i.1.0 ∙ ap (λ (l : List ℕ). old ++ l) (sym (spelled-last a.pairs piece));
+      values_are = sym (append_assoc waiting values (v ∷ [])) ∙ ap (λ (l : List ℕ). l ++ v ∷ []) a.values_are
+          ∙ append_assoc (gathered a.pairs) (x ∷ y ∷ []) (v ∷ []) ∙ sym (gathered-last a.pairs piece)
+          ∙ sym (append-nil (gathered (a.pairs ++ piece ∷ [])))
+          ∙ ap (λ (q : Part). gathered (a.pairs ++ piece ∷ []) ++ part_values q) (sym i.0);
+      words_are = i.1.2 ∙ ap (λ (l : List ℕ). l ++ i.1.0) a.words_are ∙ append_assoc old (spelled a.pairs) i.1.0
+          ∙ ap (λ (l : List ℕ). old ++ l) (sym (spelled-last a.pairs piece));
       small = subst IsSmallPart (sym i.0) tt;
     }
 
@@ -83,24 +105,38 @@ pushed_lengths old waiting values new p a =
     let room = pairs_room a.pairs a.each in (
       length (spelled a.pairs) / 2,
       omega (arith, room, ap length a.words_are, length-append old (spelled a.pairs)),
-      omega (arith, room, ap length a.values_are, length-append waiting values, length-append (gathered a.pairs) (part_values p)),
+      omega (
+        arith,
+        room,
+        ap length a.values_are,
+        length-append waiting values,
+        length-append (gathered a.pairs) (part_values p),
+      ),
     )
 
 -- One more value of a list is pushed.
-pub next_pushed : (old waiting values words words' : List ℕ) (p p' : Part) (i v d : ℕ) → i < length values → v ≡ get_or values i d → v < 40 → ArePushed old waiting (take i values) words p → IsValuePushed p words v p' words'
+pub next_pushed : (old waiting values words words' : List ℕ) (p p' : Part) (i v d : ℕ) → i < length values → v
+    ≡ get_or values i d → v < 40 → ArePushed old waiting (take i values) words p → IsValuePushed p words v p' words'
     → ArePushed old waiting (take (i + 1) values) words' p'
 next_pushed old waiting values words words' p p' i v d lt is small a push =
-    let more : take i values ++ v ∷ [] ≡ take (i + 1) values = ap (λ (y : ℕ). take i values ++ y ∷ []) is ∙ sym (rw add-one (take-suc values i d lt)) in
-    subst (λ (l : List ℕ). ArePushed old waiting l words' p') more (one_pushed old waiting (take i values) words words' p p' v small a push)
+    let more : take i values ++ v ∷ [] ≡ take (i + 1) values = ap (λ (y : ℕ). take i values ++ y ∷ []) is
+    ∙ sym (rw add-one (take-suc values i d lt)) in
+    subst (λ (l : List ℕ). ArePushed old waiting l words' p') more
+    (one_pushed old waiting (take i values) words words' p p' v small a push)
 
 -- More values are pushed.
-pushed_more : (old vs ws words words' : List ℕ) (p p' : Part) → ArePushed old [] vs words p → ArePushed words (part_values p) ws words' p' → ArePushed old [] (vs ++ ws) words' p'
+pushed_more : (old vs ws words words' : List ℕ) (p p' : Part) → ArePushed old [] vs words p
+    → ArePushed words (part_values p) ws words' p' → ArePushed old [] (vs ++ ws) words' p'
 pushed_more old vs ws words words' p p' a b = record {
   pairs = a.pairs ++ b.pairs;
   each = all-append (λ q. IsPair q.words q.what) a.pairs b.pairs a.each b.each;
-  values_are = ap (λ (l : List ℕ). l ++ ws) a.values_are ∙ append_assoc (gathered a.pairs) (part_values p) ws ∙ ap (λ (l : List ℕ). gathered a.pairs ++ l) b.values_are
-      ∙ sym (append_assoc (gathered a.pairs) (gathered b.pairs) (part_values p')) ∙ ap (λ (l : List ℕ). l ++ part_values p') (sym (gathered-append a.pairs b.pairs));
-  words_are = b.words_are ∙ ap (λ (l : List ℕ). l ++ spelled b.pairs) a.words_are ∙ append_assoc old (spelled a.pairs) (spelled b.pairs) ∙ ap (λ (l : List ℕ). old ++ l) (sym (spelled-append a.pairs b.pairs));
+  values_are = ap (λ (l : List ℕ). l ++ ws) a.values_are ∙ append_assoc (gathered a.pairs) (part_values p) ws
+      ∙ ap (λ (l : List ℕ). gathered a.pairs ++ l) b.values_are
+      ∙ sym (append_assoc (gathered a.pairs) (gathered b.pairs) (part_values p'))
+      ∙ ap (λ (l : List ℕ). l ++ part_values p') (sym (gathered-append a.pairs b.pairs));
+  words_are = b.words_are ∙ ap (λ (l : List ℕ). l ++ spelled b.pairs) a.words_are
+      ∙ append_assoc old (spelled a.pairs) (spelled b.pairs)
+      ∙ ap (λ (l : List ℕ). old ++ l) (sym (spelled-append a.pairs b.pairs));
   small = b.small;
 }
 
@@ -114,18 +150,22 @@ pub record IsRunSoFar (set : CodeSet) (old new : List ℕ) (p : Part) (items : L
   pub pushed : ArePushed (old ++ latch ∷ []) [] (spelled spellings) new p
 
 -- A run begins with its latch.
-pub run_begun : (set : CodeSet) (old new : List ℕ) (l : ℕ) → codeword_of l ≡ Some (codeword.Latch set) → new ≡ old ++ l ∷ [] → IsRunSoFar set old new part.Empty []
+pub run_begun : (set : CodeSet) (old new : List ℕ) (l : ℕ) → codeword_of l ≡ Some (codeword.Latch set) → new ≡ old
+    ++ l ∷ [] → IsRunSoFar set old new part.Empty []
 run_begun set old new l is e = record {
   latch = l;
   is_latch = is;
   spellings = [];
   each = tt;
   items_are = refl;
-  pushed = subst (λ (w : List ℕ). ArePushed (old ++ l ∷ []) [] [] w part.Empty) (sym e) (none_pushed (old ++ l ∷ []) part.Empty tt);
+  pushed = subst (λ (w : List ℕ). ArePushed (old ++ l ∷ []) [] [] w part.Empty) (sym e)
+      (none_pushed (old ++ l ∷ []) part.Empty tt);
 }
 
 -- One more item of a run.
-pub run_more : (set : CodeSet) (old words words' : List ℕ) (p p' : Part) (items : List Item) (x : Item) → IsRunSoFar set old words p items → IsItemPushed set x p words words' p' → IsRunSoFar set old words' p' (items ++ x ∷ [])
+pub run_more : (set : CodeSet) (old words words' : List ℕ) (p p' : Part) (items : List Item) (x : Item)
+    → IsRunSoFar set old words p items → IsItemPushed set x p words words' p'
+    → IsRunSoFar set old words' p' (items ++ x ∷ [])
 run_more set old words words' p p' items x r i =
     let piece : Piece Item = record { words = i.0; what = x } in
     let more : spelled (r.spellings ++ piece ∷ []) ≡ spelled r.spellings ++ i.0 = spelled-last r.spellings piece in
@@ -135,12 +175,15 @@ run_more set old words words' p p' items x r i =
       spellings = r.spellings ++ piece ∷ [];
       each = all-append (λ q. IsSpelling set q.words q.what) r.spellings (piece ∷ []) r.each (i.1, tt);
       items_are = ap (λ (l : List Item). l ++ x ∷ []) r.items_are ∙ sym (whats-append r.spellings (piece ∷ []));
-      pushed = subst (λ (v : List ℕ). ArePushed (old ++ r.latch ∷ []) [] v words' p') (sym more) (pushed_more (old ++ r.latch ∷ []) (spelled r.spellings) i.0 words words' p p' r.pushed i.2);
+      pushed = subst (λ (v : List ℕ). ArePushed (old ++ r.latch ∷ []) [] v words' p') (sym more)
+          (pushed_more (old ++ r.latch ∷ []) (spelled r.spellings) i.0 words words' p p' r.pushed i.2);
     }
 
 -- A run that is whole is a run, whatever end follows.
-pub run_whole : (extent : Extent) (set : CodeSet) (old words : List ℕ) (items : List Item) (r : IsRunSoFar set old words part.Empty items)
-    → (pairs : List ℕ) × (words ≡ old ++ r.latch ∷ pairs) × ((end after : List ℕ) → IsRunEnd end after → IsRun extent set (r.latch ∷ (pairs ++ end)) after items)
+pub run_whole : (extent : Extent) (set : CodeSet) (old words : List ℕ) (items : List Item)
+    (r : IsRunSoFar set old words part.Empty items)
+    → (pairs : List ℕ) × (words ≡ old ++ r.latch ∷ pairs) × ((end after : List ℕ) → IsRunEnd end after
+    → IsRun extent set (r.latch ∷ (pairs ++ end)) after items)
 run_whole extent set old words items r = (
   spelled r.pushed.pairs,
   r.pushed.words_are ∙ append_assoc old (r.latch ∷ []) (spelled r.pushed.pairs),
@@ -157,18 +200,21 @@ run_whole extent set old words items r = (
       each = r.each;
       filler = [];
       ended = filler (nothing refl);
-      whole = sym (append-nil (gathered r.pushed.pairs)) ∙ sym r.pushed.values_are ∙ sym (append-nil (spelled r.spellings));
+      whole = sym (append-nil (gathered r.pushed.pairs)) ∙ sym r.pushed.values_are
+          ∙ sym (append-nil (spelled r.spellings));
       items_are = r.items_are;
     };
   },
 )
 
 -- A latch isn't the unlatch.
-latch_begins : (set : CodeSet) (l : ℕ) (more : List ℕ) → codeword_of l ≡ Some (codeword.Latch set) → NoUnlatchFirst (l ∷ more)
+latch_begins : (set : CodeSet) (l : ℕ) (more : List ℕ) → codeword_of l ≡ Some (codeword.Latch set)
+    → NoUnlatchFirst (l ∷ more)
 latch_begins set l more is e = (let none : codeword_of l ≡ None = ap codeword_of e in cc)
 
 -- A run is written: with an unlatch.
-pub written_unlatch : (extent : Extent) (set : CodeSet) (total : ℕ) (old words new : List ℕ) (items : List Item) (p : Part) → is_empty p ≡ true → IsRunSoFar set old words p items → new ≡ words ++ 254 ∷ []
+pub written_unlatch : (extent : Extent) (set : CodeSet) (total : ℕ) (old words new : List ℕ) (items : List Item)
+    (p : Part) → is_empty p ≡ true → IsRunSoFar set old words p items → new ≡ words ++ 254 ∷ []
     → IsPartWritten extent total old new items
 written_unlatch extent set total old words new items part.Empty e r is =
     let w = run_whole extent set old words items r in
@@ -183,7 +229,8 @@ written_unlatch extent set total old words new items (part.One x) e r is = absur
 written_unlatch extent set total old words new items (part.Two x y) e r is = absurd cc
 
 -- A run is written: with none, where at most one codeword is left.
-pub written_bare : (extent : Extent) (set : CodeSet) (total : ℕ) (old words : List ℕ) (items : List Item) (p : Part) → is_empty p ≡ true → total ≤ length words + 1 → IsRunSoFar set old words p items
+pub written_bare : (extent : Extent) (set : CodeSet) (total : ℕ) (old words : List ℕ) (items : List Item) (p : Part)
+    → is_empty p ≡ true → total ≤ length words + 1 → IsRunSoFar set old words p items
     → IsPartWritten extent total old words items
 written_bare extent set total old words items part.Empty e few r =
     let w = run_whole extent set old words items r in
@@ -192,7 +239,9 @@ written_bare extent set total old words items part.Empty e few r =
       some = omega arith;
       begins = latch_begins set r.latch w.0 r.is_latch;
       whole = w.1;
-      right = λ after fills first. run set (subst (λ (l : List ℕ). IsRun extent set (r.latch ∷ l) after items) (append-nil w.0) (w.2 [] after (by_after after (omega (arith, fills, few)) first)));
+      right = λ after fills first. run set
+          (subst (λ (l : List ℕ). IsRun extent set (r.latch ∷ l) after items) (append-nil w.0)
+          (w.2 [] after (by_after after (omega (arith, fills, few)) first)));
     } where
       by_after : (after : List ℕ) → length after ≤ 1 → NoUnlatchFirst after → IsRunEnd [] after
       by_after [] le first = symbol_end refl refl

@@ -1,5 +1,6 @@
 -- A run that the scan finds is a run of the definition.
-use Rattle.std.proofs.Common.{◌≡◌, ◌≢◌, ℕ, suc, ◌+◌, ◌*◌, ◌<◌, ◌≤◌, List, [], ◌∷◌, ◌++◌, length, take, drop, refl, sym, ap, subst, ◌∙◌, append_assoc, arith, Option, Some, None, zero-add, inl, inr}
+use Rattle.std.proofs.Common.{◌≡◌, ◌≢◌, ℕ, suc, ◌+◌, ◌*◌, ◌<◌, ◌≤◌, List, [], ◌∷◌, ◌++◌, length, take, drop, refl, sym}
+use Rattle.std.proofs.Common.{ap, subst, ◌∙◌, append_assoc, arith, Option, Some, None, zero-add, inl, inr}
 use Rattle.std.specs.List.{AllByRecursion}
 use Rattle.std.proofs.lemmas.List.{take_at, drop_at, length-append}
 use Rattle.dm_words.specs.declared.codeword.Codeword.TheVariants as codeword
@@ -17,12 +18,16 @@ use Rattle.dm_words.specs.Joined.{Piece, spelled, gathered, whats, AreJoined}
 use Rattle.dm_words.specs.declared.fault.WordFault.TheVariants as fault
 use Rattle.dm_words.specs.Values.{IsSpelling, IsDropped, filler, waiting, AreValues}
 use Rattle.dm_words.specs.Runs.{IsPair, IsRunEnd, unlatch, symbol_end, last_word, IsRun}
-use Rattle.dm_words.specs.RunFaults.{EndsRun, BeginsBadPair, StopsPairs, OpenRun, pair_place, IsRunFault, value, upper_shift, triplet, unfinished, IsFaultyRun}
+use Rattle.dm_words.specs.RunFaults.{EndsRun, BeginsBadPair, StopsPairs, OpenRun, pair_place, IsRunFault, value}
+use Rattle.dm_words.specs.RunFaults.{upper_shift, triplet, unfinished, IsFaultyRun}
 use Rattle.dm_words.specs.inner.Scan.Walk.{Step, Takes, Stops, Walked, flat}
-use Rattle.dm_words.specs.inner.Scan.Prefixes.{first_pair, first_spelling, run_fault, end_length, run_unless, pairs_in, items_in, run_behind}
+use Rattle.dm_words.specs.inner.Scan.Prefixes.{first_pair, first_spelling, run_fault, end_length, run_unless, pairs_in}
+use Rattle.dm_words.specs.inner.Scan.Prefixes.{items_in, run_behind}
 use Rattle.dm_words.proofs.Walks.{Walks, walks, walk-joined}
-use Rattle.dm_words.proofs.Values.{ItemRight, Anything, AreSmall, IsRestOf, item_sound, rest_sound, item_complete, rest_complete}
-use Rattle.dm_words.proofs.Pairs.{IsBytes, PairRight, IsStop, over, one_left, unlatched, bad, pair_sound, stop_sound, pair_complete, stop_complete}
+use Rattle.dm_words.proofs.Values.{ItemRight, Anything, AreSmall, IsRestOf, item_sound, rest_sound, item_complete}
+use Rattle.dm_words.proofs.Values.{rest_complete}
+use Rattle.dm_words.proofs.Pairs.{IsBytes, PairRight, IsStop, over, one_left, unlatched, bad, pair_sound, stop_sound}
+use Rattle.dm_words.proofs.Pairs.{pair_complete, stop_complete}
 
 module _ {B : Type 0} where
   -- The lists that the pieces stand for are joined in two ways, with the same result.
@@ -32,19 +37,22 @@ module _ {B : Type 0} where
 
 module _ {A : Type 0} (R : List ℕ → A → Type 0) where
   -- Pieces that are right where they stand are right by themselves, if their place and what follows don't matter.
-  each_right : (place : ℕ) (ps : List (Piece A)) (after : List ℕ) → AreJoined (λ place words after a. R words a) place ps after → AllByRecursion (λ p. R p.words p.what) ps
+  each_right : (place : ℕ) (ps : List (Piece A)) (after : List ℕ)
+      → AreJoined (λ place words after a. R words a) place ps after → AllByRecursion (λ p. R p.words p.what) ps
   each_right place [] after h = tt
   each_right place (p ∷ ps) after h = (h.0, each_right (place + length p.words) ps after h.1)
 
   -- Pieces that are right by themselves are right where they stand.
-  joined_right : (place : ℕ) (ps : List (Piece A)) (after : List ℕ) → AllByRecursion (λ p. R p.words p.what) ps → AreJoined (λ place words after a. R words a) place ps after
+  joined_right : (place : ℕ) (ps : List (Piece A)) (after : List ℕ) → AllByRecursion (λ p. R p.words p.what) ps
+      → AreJoined (λ place words after a. R words a) place ps after
   joined_right place [] after h = tt
   joined_right place (p ∷ ps) after h = (h.0, joined_right (place + length p.words) ps after h.1)
 
 -- ---- what is found is right
 
 -- A run has no fault only where its rest is dropped and no bad pair follows.
-no_fault : (extent : Extent) (set : CodeSet) (rest : List ℕ) (place n values : ℕ) (t : PairsEnd) (k : Rest) → IsRestOf set rest k → run_fault extent place n t values k ≡ None
+no_fault : (extent : Extent) (set : CodeSet) (rest : List ℕ) (place n values : ℕ) (t : PairsEnd) (k : Rest)
+    → IsRestOf set rest k → run_fault extent place n t values k ≡ None
     → IsDropped extent set rest × (t ≢ stop.BadPair)
 no_fault extent set rest place n values t (left.Meaningless i) r e = absurd cc
 no_fault extent set rest place n values t left.WrongUpperShift r e = absurd cc
@@ -60,21 +68,26 @@ no_fault extent set rest place n values stop.Unlatch left.Complete r e = (filler
 -- The pairs stop where they end or before a bad one.
 stops_pairs : (words : List ℕ) (t : PairsEnd) → IsStop words t → StopsPairs words
 stops_pairs words t (over e is) = inl (record { end = []; after = []; ended = symbol_end refl refl; whole = e })
-stops_pairs words t (one_left w ne e is) = inl (record { end = []; after = w ∷ []; ended = last_word w ne refl refl; whole = e })
-stops_pairs words t (unlatched more e is) = inl (record { end = 254 ∷ []; after = more; ended = unlatch refl; whole = e })
-stops_pairs words t (bad v w more ne h e is) = inr (record { high = v; low = w; more = more; no_unlatch = ne; is_bad = h; whole = e })
+stops_pairs words t (one_left w ne e is) =
+    inl (record { end = []; after = w ∷ []; ended = last_word w ne refl refl; whole = e })
+stops_pairs words t (unlatched more e is) =
+    inl (record { end = 254 ∷ []; after = more; ended = unlatch refl; whole = e })
+stops_pairs words t (bad v w more ne h e is) =
+    inr (record { high = v; low = w; more = more; no_unlatch = ne; is_bad = h; whole = e })
 
 -- The pairs stop before a bad pair.
 bad_pair : (words : List ℕ) (t : PairsEnd) → IsStop words t → t ≡ stop.BadPair → BeginsBadPair words
 bad_pair words t (over e is) b = absurd cc
 bad_pair words t (one_left w ne e is) b = absurd cc
 bad_pair words t (unlatched more e is) b = absurd cc
-bad_pair words t (bad v w more ne h e is) b = record { high = v; low = w; more = more; no_unlatch = ne; is_bad = h; whole = e }
+bad_pair words t (bad v w more ne h e is) b =
+    record { high = v; low = w; more = more; no_unlatch = ne; is_bad = h; whole = e }
 
 -- The pairs stop before no bad pair, so the run ends.
 no_bad_pair : (words : List ℕ) (t : PairsEnd) → IsStop words t → t ≢ stop.BadPair → EndsRun words
 no_bad_pair words t (over e is) b = record { end = []; after = []; ended = symbol_end refl refl; whole = e }
-no_bad_pair words t (one_left w ne e is) b = record { end = []; after = w ∷ []; ended = last_word w ne refl refl; whole = e }
+no_bad_pair words t (one_left w ne e is) b =
+    record { end = []; after = w ∷ []; ended = last_word w ne refl refl; whole = e }
 no_bad_pair words t (unlatched more e is) b = record { end = 254 ∷ []; after = more; ended = unlatch refl; whole = e }
 no_bad_pair words t (bad v w more ne h e is) b = absurd (b is)
 
@@ -84,13 +97,19 @@ open_run place pair_words others spelled_values rest =
     record { place = place; pair_words = pair_words; others = others; spelled_values = spelled_values; rest = rest }
 
 -- The fault that is found is the one that is there.
-fault_is : (extent : Extent) (set : CodeSet) (place n values : ℕ) (t : PairsEnd) (k : Rest) (rest words : List ℕ) (f : WordFault) → IsRestOf set rest k → IsStop words t → run_fault extent place n t values k ≡ Some f → IsRunFault extent set (open_run place n words values rest) f
+fault_is : (extent : Extent) (set : CodeSet) (place n values : ℕ) (t : PairsEnd) (k : Rest) (rest words : List ℕ)
+    (f : WordFault) → IsRestOf set rest k → IsStop words t → run_fault extent place n t values k ≡ Some f
+    → IsRunFault extent set (open_run place n words values rest) f
 fault_is extent set place n values t (left.Meaningless i) rest words f r s e = value i r (stops_pairs words t s) cc
 fault_is extent set place n values t left.WrongUpperShift rest words f r s e = upper_shift r (stops_pairs words t s) cc
-fault_is extent set place n values stop.BadPair left.Waiting rest words f r s e = triplet (inr r) (bad_pair words _ s refl) cc
-fault_is extent set place n values stop.BadPair left.Complete rest words f r s e = triplet (inl r) (bad_pair words _ s refl) cc
-fault_is Usual set place n values stop.SymbolEnd left.Waiting rest words f r s e = unfinished refl r (no_bad_pair words _ s (λ h. cc)) cc
-fault_is Usual set place n values stop.Unlatch left.Waiting rest words f r s e = unfinished refl r (no_bad_pair words _ s (λ h. cc)) cc
+fault_is extent set place n values stop.BadPair left.Waiting rest words f r s e =
+    triplet (inr r) (bad_pair words _ s refl) cc
+fault_is extent set place n values stop.BadPair left.Complete rest words f r s e =
+    triplet (inl r) (bad_pair words _ s refl) cc
+fault_is Usual set place n values stop.SymbolEnd left.Waiting rest words f r s e =
+    unfinished refl r (no_bad_pair words _ s (λ h. cc)) cc
+fault_is Usual set place n values stop.Unlatch left.Waiting rest words f r s e =
+    unfinished refl r (no_bad_pair words _ s (λ h. cc)) cc
 fault_is Wide set place n values stop.SymbolEnd left.Waiting rest words f r s e = absurd cc
 fault_is Wide set place n values stop.Unlatch left.Waiting rest words f r s e = absurd cc
 fault_is extent set place n values stop.SymbolEnd left.Complete rest words f r s e = absurd cc
@@ -107,7 +126,8 @@ run_values-append [] b ha hb = hb
 run_values-append (v ∷ a) b ha hb = (ha.0, run_values-append a b ha.1 hb)
 
 -- The values of pairs are below 40.
-pairs_run_values : (ps : List (Piece (List ℕ))) → AllByRecursion (λ p. IsPair p.words p.what) ps → AreSmall (gathered ps)
+pairs_run_values : (ps : List (Piece (List ℕ))) → AllByRecursion (λ p. IsPair p.words p.what) ps
+    → AreSmall (gathered ps)
 pairs_run_values [] h = tt
 pairs_run_values (p ∷ ps) h =
     let one : AreSmall p.what = rw h.0.values_are (h.0.first_small, (h.0.second_small, (h.0.third_small, tt))) in
@@ -126,10 +146,18 @@ RunJudged extent set place words (Stops None) = ⊥
 RunJudged extent set place words (Stops (Some f)) = IsFaultyRun extent set place words f
 
 -- A list that is a prefix and a rest is cut behind the prefix.
-pub cut_behind_prefix : (words prefix back : List ℕ) (n : ℕ) → words ≡ prefix ++ back → n ≡ length prefix → (take n words ≡ prefix) × (drop n words ≡ back) × (n ≤ length words)
-cut_behind_prefix words prefix back n e len = rw e (take_at prefix back n (sym len), drop_at prefix back n (sym len), omega (arith, len, length-append prefix back))
+pub cut_behind_prefix : (words prefix back : List ℕ) (n : ℕ) → words ≡ prefix ++ back → n ≡ length prefix
+    → (take n words ≡ prefix) × (drop n words ≡ back) × (n ≤ length words)
+cut_behind_prefix words prefix back n e len =
+    rw e (
+      take_at prefix back n (sym len),
+      drop_at prefix back n (sym len),
+      omega (arith, len, length-append prefix back),
+    )
 
-module _ (extent : Extent) (set : CodeSet) (place w : ℕ) (is_latch : codeword_of w ≡ Some (codeword.Latch set)) (words : List ℕ) (pw : Walked (List ℕ) PairsEnd) (p : Walks first_pair PairRight IsBytes 0 words pw)
+module _ (extent : Extent) (set : CodeSet) (place w : ℕ) (is_latch : codeword_of w
+    ≡ Some (codeword.Latch set)) (words : List ℕ) (pw : Walked (List ℕ) PairsEnd)
+    (p : Walks first_pair PairRight IsBytes 0 words pw)
     (vw : Walked Item Rest) (v : Walks (first_spelling set) (ItemRight set) Anything 0 (flat pw.taken) vw) where
   -- The values of the pairs are the values of the spellings and a rest.
   joined_values : gathered p.pieces ≡ spelled v.pieces ++ v.after
@@ -145,36 +173,73 @@ module _ (extent : Extent) (set : CodeSet) (place w : ℕ) (is_latch : codeword_
 
   -- The rest is of the kind that was found.
   rest_is : IsRestOf set v.after vw.why
-  rest_is = rest_sound set vw.place v.after vw.why (run_values-right (spelled v.pieces) v.after (subst AreSmall joined_values (pairs_run_values p.pieces pairs_right))) v.stopped
+  rest_is =
+      rest_sound set vw.place v.after vw.why
+      (run_values-right (spelled v.pieces) v.after
+      (subst AreSmall joined_values (pairs_run_values p.pieces pairs_right))) v.stopped
 
   -- The pairs stop as was found.
   stop_is : IsStop p.after pw.why
   stop_is = stop_sound pw.place p.after pw.why p.fits p.stopped
 
   -- With this end, the run that is found is a run.
-  run_taken : (end more : List ℕ) (n : ℕ) → p.after ≡ end ++ more → IsRunEnd end more → IsDropped extent set v.after → n ≡ 1 + length (spelled p.pieces) + length end → RunTakes extent set (w ∷ words) n vw.taken
+  run_taken : (end more : List ℕ) (n : ℕ) → p.after ≡ end ++ more → IsRunEnd end more → IsDropped extent set v.after
+      → n ≡ 1 + length (spelled p.pieces) + length end → RunTakes extent set (w ∷ words) n vw.taken
   run_taken end more n e ended dropped len =
       let prefix : List ℕ = w ∷ (spelled p.pieces ++ end) in
-      let whole : w ∷ words ≡ prefix ++ more = ap (λ (r : List ℕ). w ∷ r) (p.whole ∙ ap (λ (r : List ℕ). spelled p.pieces ++ r) e ∙ sym (append_assoc (spelled p.pieces) end more)) in
-      let c = cut_behind_prefix (w ∷ words) prefix more n whole (omega (arith, len, length-append (spelled p.pieces) end)) in
-      let values : AreValues extent set (gathered p.pieces) vw.taken = record { spellings = v.pieces; each = spellings_right; filler = v.after; ended = dropped; whole = joined_values; items_are = v.taken } in
-      let run : IsRun extent set prefix more vw.taken = record { latch = w; is_latch = is_latch; pairs = p.pieces; each = pairs_right; end = end; ended = ended; whole = refl; values = values } in
+      let whole : w ∷ words ≡ prefix
+      ++ more =
+      ap (λ (r : List ℕ). w ∷ r) (p.whole ∙ ap (λ (r : List ℕ). spelled p.pieces ++ r) e
+      ∙ sym (append_assoc (spelled p.pieces) end more)) in
+      let c = cut_behind_prefix (w ∷ words) prefix more n whole
+      (omega (arith, len, length-append (spelled p.pieces) end)) in
+      let values : AreValues extent set (gathered p.pieces) vw.taken =
+      record {
+        spellings = v.pieces;
+        each = spellings_right;
+        filler = v.after;
+        ended = dropped;
+        whole =
+            joined_values;
+        items_are = v.taken;
+      } in
+      let run : IsRun extent set prefix more vw.taken =
+      record {
+        latch = w;
+        is_latch = is_latch;
+        pairs = p.pieces;
+        each = pairs_right;
+        end = end;
+        ended =
+            ended;
+        whole = refl;
+        values = values;
+      } in
       record { right = rw (c.0, c.1) run; some = omega (arith, len); within = c.2 }
 
   -- However the pairs end without a bad one, the run that is found is a run.
-  taken_by : (t : PairsEnd) (tw : List ℕ) → p.after ≡ tw → IsStop tw t → t ≢ stop.BadPair → IsDropped extent set v.after → RunTakes extent set (w ∷ words) (1 + pw.place + end_length t) vw.taken
-  taken_by t tw e (over h is) good dropped = rw is (run_taken [] p.after (1 + pw.place + 0) refl (symbol_end refl (e ∙ h)) dropped (omega (arith, p.place_is)))
-  taken_by t tw e (one_left x ne h is) good dropped = rw is (run_taken [] p.after (1 + pw.place + 0) refl (last_word x ne refl (e ∙ h)) dropped (omega (arith, p.place_is)))
-  taken_by t tw e (unlatched more h is) good dropped = rw is (run_taken (254 ∷ []) more (1 + pw.place + 1) (e ∙ h) (unlatch refl) dropped (omega (arith, p.place_is)))
+  taken_by : (t : PairsEnd) (tw : List ℕ) → p.after ≡ tw → IsStop tw t → t ≢ stop.BadPair
+      → IsDropped extent set v.after → RunTakes extent set (w ∷ words) (1 + pw.place + end_length t) vw.taken
+  taken_by t tw e (over h is) good dropped =
+      rw is (run_taken [] p.after (1 + pw.place + 0) refl (symbol_end refl (e ∙ h)) dropped (omega (arith, p.place_is)))
+  taken_by t tw e (one_left x ne h is) good dropped =
+      rw is (run_taken [] p.after (1 + pw.place + 0) refl (last_word x ne refl (e ∙ h)) dropped
+      (omega (arith, p.place_is)))
+  taken_by t tw e (unlatched more h is) good dropped =
+      rw is (run_taken (254 ∷ []) more (1 + pw.place + 1) (e ∙ h) (unlatch refl) dropped (omega (arith, p.place_is)))
   taken_by t tw e (bad x y more ne b h is) good dropped = absurd (good is)
 
   -- Without a fault it is a run, and with a fault a faulty run.
-  judged_by : (f : Option WordFault) → run_fault extent place pw.place pw.why vw.place vw.why ≡ f → RunJudged extent set place (w ∷ words) (run_unless f (1 + pw.place + end_length pw.why) vw.taken)
-  judged_by None e = let h = no_fault extent set v.after place pw.place vw.place pw.why vw.why rest_is e in taken_by pw.why p.after refl stop_is h.1 h.0
+  judged_by : (f : Option WordFault) → run_fault extent place pw.place pw.why vw.place vw.why ≡ f
+      → RunJudged extent set place (w ∷ words) (run_unless f (1 + pw.place + end_length pw.why) vw.taken)
+  judged_by None e = let h =
+      no_fault extent set v.after place pw.place vw.place pw.why vw.why rest_is e in taken_by pw.why p.after refl
+      stop_is h.1 h.0
   judged_by (Some f) e =
       let a : pw.place ≡ length (spelled p.pieces) = omega (arith, p.place_is) in
       let b : vw.place ≡ length (spelled v.pieces) = omega (arith, v.place_is) in
-      let same : run_fault extent place (length (spelled p.pieces)) pw.why (length (spelled v.pieces)) vw.why ≡ Some f = rw (← a, ← b) e in
+      let same : run_fault extent place (length (spelled p.pieces)) pw.why (length (spelled v.pieces)) vw.why
+      ≡ Some f = rw (← a, ← b) e in
       record {
         latch = w;
         is_latch = is_latch;
@@ -186,38 +251,58 @@ module _ (extent : Extent) (set : CodeSet) (place w : ℕ) (is_latch : codeword_
         each_spelling = spellings_right;
         rest = v.after;
         values = joined_values;
-        is_fault = fault_is extent set place (length (spelled p.pieces)) (length (spelled v.pieces)) pw.why vw.why v.after p.after f rest_is stop_is same;
+        is_fault =
+            fault_is extent set place (length (spelled p.pieces)) (length (spelled v.pieces)) pw.why vw.why v.after
+            p.after f rest_is stop_is same;
       }
 
 -- A run that is found is a run, and a faulty one is faulty.
-pub run_judged : (extent : Extent) (set : CodeSet) (place w : ℕ) (words : List ℕ) → codeword_of w ≡ Some (codeword.Latch set) → IsBytes words → RunJudged extent set place (w ∷ words) (run_behind extent set place words)
+pub run_judged : (extent : Extent) (set : CodeSet) (place w : ℕ) (words : List ℕ) → codeword_of w
+    ≡ Some (codeword.Latch set) → IsBytes words
+    → RunJudged extent set place (w ∷ words) (run_behind extent set place words)
 unfolding run_behind
 run_judged extent set place w words is_latch fit =
     judged_by extent set place w is_latch words (pairs_in words)
     (walks first_pair PairRight IsBytes stop.SymbolEnd pair_sound (suc (length words)) 0 words (omega arith) fit)
     (items_in set (flat (pairs_in words).taken))
-    (walks (first_spelling set) (ItemRight set) Anything left.Complete (item_sound set) (suc (length (flat (pairs_in words).taken))) 0 (flat (pairs_in words).taken) (omega arith) tt)
-    (run_fault extent place (pairs_in words).place (pairs_in words).why (items_in set (flat (pairs_in words).taken)).place (items_in set (flat (pairs_in words).taken)).why) refl
+    (walks (first_spelling set) (ItemRight set) Anything left.Complete (item_sound set)
+    (suc (length (flat (pairs_in words).taken))) 0 (flat (pairs_in words).taken) (omega arith) tt)
+    (run_fault extent place (pairs_in words).place (pairs_in words).why
+    (items_in set (flat (pairs_in words).taken)).place (items_in set (flat (pairs_in words).taken)).why) refl
 
 -- ---- what is right is found
 
 -- The pairs and the spellings that stand behind a latch are found there.
-run_again : (extent : Extent) (set : CodeSet) (place : ℕ) (pairs : List (Piece (List ℕ))) (others : List ℕ) (t : PairsEnd) (spellings : List (Piece Item)) (rest : List ℕ) (kind : Rest)
-    → AllByRecursion (λ p. IsPair p.words p.what) pairs → IsStop others t → AllByRecursion (λ p. IsSpelling set p.words p.what) spellings → IsRestOf set rest kind → gathered pairs ≡ spelled spellings ++ rest
-    → run_behind extent set place (spelled pairs ++ others) ≡ run_unless (run_fault extent place (length (spelled pairs)) t (length (spelled spellings)) kind) (1 + length (spelled pairs) + end_length t) (whats spellings)
+run_again : (extent : Extent) (set : CodeSet) (place : ℕ) (pairs : List (Piece (List ℕ))) (others : List ℕ)
+    (t : PairsEnd) (spellings : List (Piece Item)) (rest : List ℕ) (kind : Rest)
+    → AllByRecursion (λ p. IsPair p.words p.what) pairs → IsStop others t
+    → AllByRecursion (λ p. IsSpelling set p.words p.what) spellings → IsRestOf set rest kind → gathered pairs
+    ≡ spelled spellings ++ rest
+    → run_behind extent set place (spelled pairs ++ others)
+    ≡ run_unless (run_fault extent place (length (spelled pairs)) t (length (spelled spellings)) kind)
+    (1 + length (spelled pairs) + end_length t) (whats spellings)
 unfolding run_behind
 run_again extent set place pairs others t spellings rest kind each stop_right each_spelling rest_right whole =
-    let p : pairs_in (spelled pairs ++ others) ≡ record { taken = whats pairs; place = length (spelled pairs); why = t } =
-    walk-joined first_pair PairRight IsBytes stop.SymbolEnd pair_complete (suc (length (spelled pairs ++ others))) 0 pairs others t (joined_right IsPair 0 pairs others each)
-    (stop_complete (0 + length (spelled pairs)) others t stop_right) (omega arith) ∙ ap (λ (k : ℕ). record { taken = whats pairs; place = k; why = t }) (zero-add (length (spelled pairs))) in
-    let v : items_in set (spelled spellings ++ rest) ≡ record { taken = whats spellings; place = length (spelled spellings); why = kind } =
-    walk-joined (first_spelling set) (ItemRight set) Anything left.Complete (item_complete set) (suc (length (spelled spellings ++ rest))) 0 spellings rest kind (joined_right (IsSpelling set) 0 spellings rest each_spelling)
-    (rest_complete set (0 + length (spelled spellings)) rest kind rest_right) (omega arith) ∙ ap (λ (k : ℕ). record { taken = whats spellings; place = k; why = kind }) (zero-add (length (spelled spellings))) in
+    let p : pairs_in (spelled pairs ++ others)
+    ≡ record { taken = whats pairs; place = length (spelled pairs); why = t } =
+    walk-joined first_pair PairRight IsBytes stop.SymbolEnd pair_complete (suc (length (spelled pairs ++ others))) 0
+    pairs others t (joined_right IsPair 0 pairs others each)
+    (stop_complete (0 + length (spelled pairs)) others t stop_right) (omega arith)
+    ∙ ap (λ (k : ℕ). record { taken = whats pairs; place = k; why = t }) (zero-add (length (spelled pairs))) in
+    let v : items_in set (spelled spellings ++ rest)
+    ≡ record { taken = whats spellings; place = length (spelled spellings); why = kind } =
+    walk-joined (first_spelling set) (ItemRight set) Anything left.Complete (item_complete set)
+    (suc (length (spelled spellings ++ rest))) 0 spellings rest kind
+    (joined_right (IsSpelling set) 0 spellings rest each_spelling)
+    (rest_complete set (0 + length (spelled spellings)) rest kind rest_right) (omega arith)
+    ∙ ap (λ (k : ℕ). record { taken = whats spellings; place = k; why = kind })
+    (zero-add (length (spelled spellings))) in
     let values : flat (whats pairs) ≡ spelled spellings ++ rest = flat-whats pairs ∙ whole in
     rw (p, values, v) refl
 
 -- The words begin with the latch of a run, and this is found behind it.
-pub record RunFound (extent : Extent) (set : CodeSet) (place : ℕ) (words : List ℕ) (step : Step (List Item) (Option WordFault)) : Type 0 where
+pub record RunFound (extent : Extent) (set : CodeSet) (place : ℕ) (words : List ℕ)
+    (step : Step (List Item) (Option WordFault)) : Type 0 where
   pub latch : ℕ
   pub others : List ℕ
   pub whole : words ≡ latch ∷ others
@@ -225,7 +310,8 @@ pub record RunFound (extent : Extent) (set : CodeSet) (place : ℕ) (words : Lis
   pub found : run_behind extent set place others ≡ step
 
 -- The pairs stop at the end of a run, and not before a bad pair.
-end_found : (end after : List ℕ) → IsRunEnd end after → (t : PairsEnd) × IsStop (end ++ after) t × (end_length t ≡ length end) × (t ≢ stop.BadPair)
+end_found : (end after : List ℕ) → IsRunEnd end after
+    → (t : PairsEnd) × IsStop (end ++ after) t × (end_length t ≡ length end) × (t ≢ stop.BadPair)
 end_found end after (unlatch e) = (stop.Unlatch, rw e (unlatched after refl refl), rw e refl, λ h. cc)
 end_found end after (symbol_end e h) = (stop.SymbolEnd, rw (e, h) (over refl refl), rw e refl, λ h2. cc)
 end_found end after (last_word w ne e h) = (stop.SymbolEnd, rw (e, h) (one_left w ne refl refl), rw e refl, λ h2. cc)
@@ -237,25 +323,37 @@ record DroppedFound (extent : Extent) (set : CodeSet) (place n values : ℕ) (re
   no_fault_there : run_fault extent place n t values kind ≡ None
 
 -- What is dropped is found.
-dropped_found : (extent : Extent) (set : CodeSet) (place n values : ℕ) (rest : List ℕ) (t : PairsEnd) → IsDropped extent set rest → t ≢ stop.BadPair → DroppedFound extent set place n values rest t
-dropped_found extent set place n values rest stop.Unlatch (filler f) ne = record { kind = left.Complete; left_so = f; no_fault_there = refl }
-dropped_found extent set place n values rest stop.SymbolEnd (filler f) ne = record { kind = left.Complete; left_so = f; no_fault_there = refl }
-dropped_found extent set place n values rest stop.Unlatch (waiting is w) ne = record { kind = left.Waiting; left_so = w; no_fault_there = rw is refl }
-dropped_found extent set place n values rest stop.SymbolEnd (waiting is w) ne = record { kind = left.Waiting; left_so = w; no_fault_there = rw is refl }
+dropped_found : (extent : Extent) (set : CodeSet) (place n values : ℕ) (rest : List ℕ) (t : PairsEnd)
+    → IsDropped extent set rest → t ≢ stop.BadPair → DroppedFound extent set place n values rest t
+dropped_found extent set place n values rest stop.Unlatch (filler f) ne =
+    record { kind = left.Complete; left_so = f; no_fault_there = refl }
+dropped_found extent set place n values rest stop.SymbolEnd (filler f) ne =
+    record { kind = left.Complete; left_so = f; no_fault_there = refl }
+dropped_found extent set place n values rest stop.Unlatch (waiting is w) ne =
+    record { kind = left.Waiting; left_so = w; no_fault_there = rw is refl }
+dropped_found extent set place n values rest stop.SymbolEnd (waiting is w) ne =
+    record { kind = left.Waiting; left_so = w; no_fault_there = rw is refl }
 dropped_found extent set place n values rest stop.BadPair d ne = absurd (ne refl)
 
 -- A run that is a prefix is found.
-pub run_complete : (extent : Extent) (set : CodeSet) (place : ℕ) (words after : List ℕ) (items : List Item) → IsRun extent set words after items → RunFound extent set place (words ++ after) (Takes (length words) items) × (0 < length words)
+pub run_complete : (extent : Extent) (set : CodeSet) (place : ℕ) (words after : List ℕ) (items : List Item)
+    → IsRun extent set words after items
+    → RunFound extent set place (words ++ after) (Takes (length words) items) × (0 < length words)
 run_complete extent set place words after items r =
     let t = end_found r.end after r.ended in
-    let d = dropped_found extent set place (length (spelled r.pairs)) (length (spelled r.values.spellings)) r.values.filler t.0 r.values.ended t.3 in
-    let again = run_again extent set place r.pairs (r.end ++ after) t.0 r.values.spellings r.values.filler d.kind r.each t.1 r.values.each d.left_so r.values.whole in
-    let len : 1 + length (spelled r.pairs) + end_length t.0 ≡ length words = omega (arith, t.2, ap length r.whole, length-append (spelled r.pairs) r.end) in
+    let d = dropped_found extent set place (length (spelled r.pairs)) (length (spelled r.values.spellings))
+    r.values.filler t.0 r.values.ended t.3 in
+    let again =
+    run_again extent set place r.pairs (r.end ++ after) t.0 r.values.spellings r.values.filler d.kind r.each t.1
+    r.values.each d.left_so r.values.whole in
+    let len : 1 + length (spelled r.pairs) + end_length t.0
+    ≡ length words = omega (arith, t.2, ap length r.whole, length-append (spelled r.pairs) r.end) in
     let none_there = d.no_fault_there in (
       record {
         latch = r.latch;
         others = spelled r.pairs ++ (r.end ++ after);
-        whole = ap (λ (x : List ℕ). x ++ after) r.whole ∙ ap (λ (x : List ℕ). r.latch ∷ x) (append_assoc (spelled r.pairs) r.end after);
+        whole = ap (λ (x : List ℕ). x ++ after) r.whole
+            ∙ ap (λ (x : List ℕ). r.latch ∷ x) (append_assoc (spelled r.pairs) r.end after);
         is_latch = r.is_latch;
         found = again ∙ rw (none_there, len, r.values.items_are) refl;
       },
@@ -263,7 +361,8 @@ run_complete extent set place words after items r =
     )
 
 -- A fault of a run tells how its pairs end and what the rest of its values is.
-record FaultFound (extent : Extent) (set : CodeSet) (place values : ℕ) (rest : List ℕ) (n : ℕ) (words : List ℕ) (f : WordFault) : Type 0 where
+record FaultFound (extent : Extent) (set : CodeSet) (place values : ℕ) (rest : List ℕ) (n : ℕ) (words : List ℕ)
+    (f : WordFault) : Type 0 where
   end : PairsEnd
   kind : Rest
   stops : IsStop words end
@@ -276,37 +375,83 @@ stop_of words (inl e) = let f = end_found e.end e.after e.ended in (f.0, rw e.wh
 stop_of words (inr b) = (stop.BadPair, bad b.high b.low b.more b.no_unlatch b.is_bad b.whole refl)
 
 -- An Upper Shift that waits is the fault in the usual extent, where no bad pair follows.
-fault_unfinished : (extent : Extent) (place n values : ℕ) (t : PairsEnd) → extent ≡ Usual → t ≢ stop.BadPair → run_fault extent place n t values left.Waiting ≡ Some (fault.Unfinished (pair_place place (values + 1)))
+fault_unfinished : (extent : Extent) (place n values : ℕ) (t : PairsEnd) → extent ≡ Usual → t ≢ stop.BadPair
+    → run_fault extent place n t values left.Waiting ≡ Some (fault.Unfinished (pair_place place (values + 1)))
 fault_unfinished extent place n values stop.Unlatch is ne = rw is refl
 fault_unfinished extent place n values stop.SymbolEnd is ne = rw is refl
 fault_unfinished extent place n values stop.BadPair is ne = absurd (ne refl)
 
 -- The fault that is there tells how the pairs stop and what the rest is.
-fault_found : (extent : Extent) (set : CodeSet) (place values : ℕ) (rest : List ℕ) (n : ℕ) (words : List ℕ) (f : WordFault) → IsRunFault extent set (open_run place n words values rest) f → FaultFound extent set place values rest n words f
-fault_found extent set place values rest n words f (value index b st is) = let t = stop_of words st in record { end = t.0; kind = left.Meaningless index; stops = t.1; left_so = b; found = ap Some (sym is) }
-fault_found extent set place values rest n words f (upper_shift b st is) = let t = stop_of words st in record { end = t.0; kind = left.WrongUpperShift; stops = t.1; left_so = b; found = ap Some (sym is) }
-fault_found extent set place values rest n words f (triplet (inl r) b is) = record { end = stop.BadPair; kind = left.Complete; stops = bad b.high b.low b.more b.no_unlatch b.is_bad b.whole refl; left_so = r; found = ap Some (sym is) }
-fault_found extent set place values rest n words f (triplet (inr r) b is) = record { end = stop.BadPair; kind = left.Waiting; stops = bad b.high b.low b.more b.no_unlatch b.is_bad b.whole refl; left_so = r; found = ap Some (sym is) }
+fault_found : (extent : Extent) (set : CodeSet) (place values : ℕ) (rest : List ℕ) (n : ℕ) (words : List ℕ)
+    (f : WordFault) → IsRunFault extent set (open_run place n words values rest) f
+    → FaultFound extent set place values rest n words f
+fault_found extent set place values rest n words f (value index b st is) = let t =
+    stop_of words st in record {
+      end = t.0;
+      kind = left.Meaningless index;
+      stops = t.1;
+      left_so = b;
+      found =
+          ap Some (sym is);
+    }
+fault_found extent set place values rest n words f (upper_shift b st is) = let t =
+    stop_of words st in record {
+      end = t.0;
+      kind = left.WrongUpperShift;
+      stops = t.1;
+      left_so = b;
+      found =
+          ap Some (sym is);
+    }
+fault_found extent set place values rest n words f (triplet (inl r) b is) =
+    record {
+      end = stop.BadPair;
+      kind = left.Complete;
+      stops =
+          bad b.high b.low b.more b.no_unlatch b.is_bad b.whole refl;
+      left_so = r;
+      found = ap Some (sym is);
+    }
+fault_found extent set place values rest n words f (triplet (inr r) b is) =
+    record {
+      end = stop.BadPair;
+      kind = left.Waiting;
+      stops =
+          bad b.high b.low b.more b.no_unlatch b.is_bad b.whole refl;
+      left_so = r;
+      found = ap Some (sym is);
+    }
 fault_found extent set place values rest n words f (unfinished usual r e is) =
     let t = end_found e.end e.after e.ended in
-    record { end = t.0; kind = left.Waiting; stops = rw e.whole t.1; left_so = r; found = fault_unfinished extent place n values t.0 usual t.3 ∙ ap Some (sym is) }
+    record {
+      end = t.0;
+      kind = left.Waiting;
+      stops = rw e.whole t.1;
+      left_so = r;
+      found =
+          fault_unfinished extent place n values t.0 usual t.3 ∙ ap Some (sym is);
+    }
 
 -- A faulty run that is a prefix is found.
-pub fault_complete : (extent : Extent) (set : CodeSet) (place : ℕ) (words : List ℕ) (f : WordFault) → IsFaultyRun extent set place words f → RunFound extent set place words (Stops (Some f))
+pub fault_complete : (extent : Extent) (set : CodeSet) (place : ℕ) (words : List ℕ) (f : WordFault)
+    → IsFaultyRun extent set place words f → RunFound extent set place words (Stops (Some f))
 fault_complete extent set place words f r =
-    let g = fault_found extent set place (length (spelled r.spellings)) r.rest (length (spelled r.pairs)) r.others f r.is_fault in
+    let g = fault_found extent set place (length (spelled r.spellings)) r.rest (length (spelled r.pairs)) r.others f
+    r.is_fault in
     record {
       latch = r.latch;
       others = spelled r.pairs ++ r.others;
       whole = r.whole;
       is_latch = r.is_latch;
-      found = run_again extent set place r.pairs r.others g.end r.spellings r.rest g.kind r.each g.stops r.each_spelling g.left_so r.values ∙ rw g.found refl;
+      found = run_again extent set place r.pairs r.others g.end r.spellings r.rest g.kind r.each g.stops
+          r.each_spelling g.left_so r.values ∙ rw g.found refl;
     }
 
 -- ---- how many items a run has
 
 -- Two codewords have three values.
-pub pairs_room : (ps : List (Piece (List ℕ))) → AllByRecursion (λ p. IsPair p.words p.what) ps → 2 * length (gathered ps) ≡ 3 * length (spelled ps)
+pub pairs_room : (ps : List (Piece (List ℕ))) → AllByRecursion (λ p. IsPair p.words p.what) ps
+    → 2 * length (gathered ps) ≡ 3 * length (spelled ps)
 pairs_room [] h = refl
 pairs_room (p ∷ ps) h =
     let one = pair_room p.words p.what h.0 in
@@ -315,14 +460,16 @@ pairs_room (p ∷ ps) h =
       pair_room words values p = rw (p.words_are, p.values_are) refl
 
 -- Each spelling has a value.
-items_room : (set : CodeSet) (ps : List (Piece Item)) → AllByRecursion (λ p. IsSpelling set p.words p.what) ps → length (whats ps) ≤ length (spelled ps)
+items_room : (set : CodeSet) (ps : List (Piece Item)) → AllByRecursion (λ p. IsSpelling set p.words p.what) ps
+    → length (whats ps) ≤ length (spelled ps)
 items_room set [] h = omega arith
 items_room set (p ∷ ps) h =
     let one = (item_complete set 0 p.words [] p.what h.0).1 in
     omega (arith, one, items_room set ps h.1, length-append p.words (spelled ps))
 
 -- A run has at most two items for each word.
-pub run_room : (extent : Extent) (set : CodeSet) (words after : List ℕ) (items : List Item) → IsRun extent set words after items → length items ≤ 2 * length words
+pub run_room : (extent : Extent) (set : CodeSet) (words after : List ℕ) (items : List Item)
+    → IsRun extent set words after items → length items ≤ 2 * length words
 run_room extent set words after items r =
     omega (
       arith,

@@ -1,5 +1,6 @@
 -- A segment that follows the plan stays within its budget.
-use Rattle.std.proofs.Common.{◌≡◌, ℕ, ◌+◌, ◌-◌, ◌<◌, ◌≤◌, List, [], ◌∷◌, ◌++◌, length, take, drop, get_or, refl, sym, ap, subst, ◌∙◌, arith, Bool, true, false, cond, inl, inr}
+use Rattle.std.proofs.Common.{◌≡◌, ℕ, ◌+◌, ◌-◌, ◌<◌, ◌≤◌, List, [], ◌∷◌, ◌++◌, length, take, drop, get_or, refl, sym}
+use Rattle.std.proofs.Common.{ap, subst, ◌∙◌, arith, Bool, true, false, cond, inl, inr}
 use Rattle.std.specs.Prelude.{nat_le}
 use Prim.Native.Nat.{min}
 use Rattle.std.proofs.lemmas.Bool.Decides.{nat_tests}
@@ -32,21 +33,44 @@ module _ (extent : Extent) where
   pub segment_begun : (b : ℕ) (rest : List Item) → IsSegmentSoFar (Byte b ∷ rest) rest 1
   segment_begun b rest =
       elim (near_cases extent b rest) [
-        | inl c ↦ record { bytes = bytes_is extent b rest; ended = λ le. c.1; open_still = λ lt. absurd (omega (arith, lt, c.0)) }
-        | inr c ↦ record { bytes = bytes_is extent b rest; ended = λ le. absurd (omega (arith, le, c.0)); open_still = λ lt. c.1 }
+        | inl c ↦ record {
+          bytes = bytes_is extent b rest;
+          ended = λ le. c.1;
+          open_still =
+              λ lt. absurd (omega (arith, lt, c.0));
+        }
+        | inr c ↦ record {
+          bytes = bytes_is extent b rest;
+          ended = λ le. absurd (omega (arith, le, c.0));
+          open_still =
+              λ lt. c.1;
+        }
       ]
 
-  pub segment_more : (m : List Item) (b count : ℕ) (rest : List Item) → IsSegmentSoFar m (Byte b ∷ rest) count → bytes_cost (Byte b ∷ rest) < parts_cost extent (Byte b ∷ rest) → IsSegmentSoFar m rest (count + 1)
+  pub segment_more : (m : List Item) (b count : ℕ) (rest : List Item) → IsSegmentSoFar m (Byte b ∷ rest) count
+      → bytes_cost (Byte b ∷ rest) < parts_cost extent (Byte b ∷ rest) → IsSegmentSoFar m rest (count + 1)
   segment_more m b count rest s goes =
       let o = s.open_still goes in
-      let y : bytes_cost m ≡ count + 1 + min (parts_cost extent rest) (bytes_cost rest) = omega (arith, s.bytes, goes, bytes_is extent b rest) in
+      let y : bytes_cost m ≡ count + 1 + min (parts_cost extent rest) (bytes_cost rest) =
+      omega (arith, s.bytes, goes, bytes_is extent b rest) in
       elim (near_cases extent b rest) [
-        | inl c ↦ record { bytes = y; ended = λ le. omega (arith, o, c.1); open_still = λ lt. absurd (omega (arith, lt, c.0)) }
-        | inr c ↦ record { bytes = y; ended = λ le. absurd (omega (arith, le, c.0)); open_still = λ lt. omega (arith, o, c.1) }
+        | inl c ↦ record {
+          bytes = y;
+          ended = λ le. omega (arith, o, c.1);
+          open_still =
+              λ lt. absurd (omega (arith, lt, c.0));
+        }
+        | inr c ↦ record {
+          bytes = y;
+          ended = λ le. absurd (omega (arith, le, c.0));
+          open_still =
+              λ lt. omega (arith, o, c.1);
+        }
       ]
 
   -- The next item is a byte where the segment goes on.
-  pub byte_next : (x : Item) (rest : List Item) → bytes_cost (x ∷ rest) < parts_cost extent (x ∷ rest) → parts_cost extent (x ∷ rest) < never → (b : ℕ) × (x ≡ Byte b)
+  pub byte_next : (x : Item) (rest : List Item) → bytes_cost (x ∷ rest) < parts_cost extent (x ∷ rest)
+      → parts_cost extent (x ∷ rest) < never → (b : ℕ) × (x ≡ Byte b)
   unfolding row
   byte_next Fnc1 rest goes small = absurd (omega (arith, goes, small))
   byte_next (Byte b) rest goes small = (b, refl)
@@ -58,13 +82,15 @@ module _ (extent : Extent) where
   segment_are (x ∷ m) = refl
 
   -- The first item is a byte where a segment goes on over it.
-  pub first_byte : (m : List Item) → 0 < length m → (going_from extent m).segment.bytes < never → (b : ℕ) × (rest : List Item) × (m ≡ Byte b ∷ rest)
+  pub first_byte : (m : List Item) → 0 < length m → (going_from extent m).segment.bytes < never
+      → (b : ℕ) × (rest : List Item) × (m ≡ Byte b ∷ rest)
   first_byte [] some small = absurd (omega (arith, some))
   first_byte (Fnc1 ∷ m) some small = absurd (omega (arith, small))
   first_byte (Byte b ∷ m) some small = (b, m, refl)
 
   -- A segment begins at an index.
-  pub begun_at : (m : List Item) (i : ℕ) (d : Item) → i < length m → (going_from extent (drop i m)).segment.bytes < never
+  pub begun_at : (m : List Item) (i : ℕ) (d : Item) → i < length m
+      → (going_from extent (drop i m)).segment.bytes < never
       → (IsSegmentSoFar (drop i m) (drop (i + 1) m) (i + 1 - i)) × (has_fnc1 (take (i + 1 - i) (drop i m)) ≡ false)
   begun_at m i d lt small =
       let cons : drop i m ≡ get_or m i d ∷ drop (i + 1) m = at_drop_more (λ (l : List Item). l) m i d lt in
@@ -72,13 +98,18 @@ module _ (extent : Extent) where
       let f = first_byte (drop i m) (omega (arith, lt, length-drop i m)) small in
       let same : Byte f.0 ∷ f.1 ≡ get_or m i d ∷ drop (i + 1) m = sym f.2 ∙ cons in
       let is : drop i m ≡ Byte f.0 ∷ drop (i + 1) m = f.2 ∙ ap (λ (l : List Item). Byte f.0 ∷ l) (cc) in (
-        subst (λ (k : ℕ). IsSegmentSoFar (drop i m) (drop (i + 1) m) k) one (subst (λ (l : List Item). IsSegmentSoFar l (drop (i + 1) m) 1) (sym is) (segment_begun f.0 (drop (i + 1) m))),
-        subst (λ (k : ℕ). has_fnc1 (take k (drop i m)) ≡ false) one (subst (λ (l : List Item). has_fnc1 (take 1 l) ≡ false) (sym is) refl),
+        subst (λ (k : ℕ). IsSegmentSoFar (drop i m) (drop (i + 1) m) k) one
+            (subst (λ (l : List Item). IsSegmentSoFar l (drop (i + 1) m) 1) (sym is)
+            (segment_begun f.0 (drop (i + 1) m))),
+        subst (λ (k : ℕ). has_fnc1 (take k (drop i m))
+            ≡ false) one (subst (λ (l : List Item). has_fnc1 (take 1 l) ≡ false) (sym is) refl),
       )
 
   -- The plan says whether a segment ends.
-  ends_are : (m : List Item) (s : Step) → IsRightStep extent m s → s.segment_ends ≡ nat_le (parts_cost extent m) (bytes_cost m)
-  ends_are m s r = ap (λ (t : Step). t.segment_ends) r.ends ∙ ap (λ (t : Bytes). nat_le (parts_cost extent m) t.bytes) (sym (segment_are m))
+  ends_are : (m : List Item) (s : Step) → IsRightStep extent m s → s.segment_ends
+      ≡ nat_le (parts_cost extent m) (bytes_cost m)
+  ends_are m s r = ap (λ (t : Step). t.segment_ends) r.ends
+      ∙ ap (λ (t : Bytes). nat_le (parts_cost extent m) t.bytes) (sym (segment_are m))
 
   -- Bytes and one more.
   byte_more : (a : List Item) (b : ℕ) → has_fnc1 a ≡ false → has_fnc1 (a ++ Byte b ∷ []) ≡ false
@@ -98,51 +129,78 @@ module _ (extent : Extent) where
     pub so_far : IsSegmentSoFar (drop from m) (drop (i + 1) m) (i + 1 - from)
     pub bytes : has_fnc1 (take (i + 1 - from) (drop from m)) ≡ false
 
-  pub byte_at : (m : List Item) (from i : ℕ) (d : Item) (s : Step) → length m ≤ 1639 → from ≤ i → i ≤ length m → IsRightStep extent (drop i m) s → s.segment_ends ≡ false
-      → IsSegmentSoFar (drop from m) (drop i m) (i - from) → has_fnc1 (take (i - from) (drop from m)) ≡ false → GoesOver m from i
+  pub byte_at : (m : List Item) (from i : ℕ) (d : Item) (s : Step) → length m ≤ 1639 → from ≤ i → i ≤ length m
+      → IsRightStep extent (drop i m) s → s.segment_ends ≡ false
+      → IsSegmentSoFar (drop from m) (drop i m) (i - from) → has_fnc1 (take (i - from) (drop from m)) ≡ false
+      → GoesOver m from i
   byte_at m from i d s few le within right goes so_far bytes =
-      let lt : bytes_cost (drop i m) < parts_cost extent (drop i m) = less (nat_le (parts_cost extent (drop i m)) (bytes_cost (drop i m))) refl (sym (ends_are (drop i m) s right) ∙ goes) in
+      let lt : bytes_cost (drop i m) < parts_cost extent (drop i m) =
+      less (nat_le (parts_cost extent (drop i m)) (bytes_cost (drop i m))) refl (sym (ends_are (drop i m) s right)
+      ∙ goes) in
       let some : 0 < length (drop i m) = some_left (drop i m) lt in
       let there : i < length m = omega (arith, some, length-drop i m) in
       let cons : drop i m ≡ get_or m i d ∷ drop (i + 1) m = at_drop_more (λ (l : List Item). l) m i d there in
-      let small : parts_cost extent (drop i m) < never = omega (arith, (row_within extent (drop i m) (omega (arith, few, length-drop i m))).ascii, length-drop i m, few) in
+      let small : parts_cost extent (drop i m) < never =
+      omega (
+        arith,
+        (row_within extent (drop i m) (omega (arith, few, length-drop i m))).ascii,
+        length-drop i m,
+        few,
+      ) in
       let next = byte_next (get_or m i d) (drop (i + 1) m) (rw cons at lt) (rw cons at small) in
       let is : drop i m ≡ Byte next.0 ∷ drop (i + 1) m = cons ∙ ap (λ (x : Item). x ∷ drop (i + 1) m) next.1 in
       let k : (i - from) + 1 ≡ i + 1 - from = omega (arith, le) in
-      let more : take (i - from) (drop from m) ++ Byte next.0 ∷ [] ≡ take (i + 1 - from) (drop from m) = ap (λ (x : Item). take (i - from) (drop from m) ++ x ∷ []) (sym next.1) ∙ one_more m from i d le there in
+      let more : take (i - from) (drop from m) ++ Byte next.0 ∷ [] ≡ take (i + 1 - from) (drop from m) =
+      ap (λ (x : Item). take (i - from) (drop from m) ++ x ∷ []) (sym next.1) ∙ one_more m from i d le there in
       record {
         there = there;
         so_far = subst (λ (n : ℕ). IsSegmentSoFar (drop from m) (drop (i + 1) m) n) k
-            (segment_more (drop from m) next.0 (i - from) (drop (i + 1) m) (subst (λ (l : List Item). IsSegmentSoFar (drop from m) l (i - from)) is so_far) (rw is at lt));
-        bytes = subst (λ (l : List Item). has_fnc1 l ≡ false) more (byte_more (take (i - from) (drop from m)) next.0 bytes);
+            (segment_more (drop from m) next.0 (i - from) (drop (i + 1) m)
+            (subst (λ (l : List Item). IsSegmentSoFar (drop from m) l (i - from)) is so_far) (rw is at lt));
+        bytes = subst (λ (l : List Item). has_fnc1 l
+            ≡ false) more (byte_more (take (i - from) (drop from m)) next.0 bytes);
       } where
-        less : (t : Bool) → nat_le (parts_cost extent (drop i m)) (bytes_cost (drop i m)) ≡ t → t ≡ false → bytes_cost (drop i m) < parts_cost extent (drop i m)
+        less : (t : Bool) → nat_le (parts_cost extent (drop i m)) (bytes_cost (drop i m)) ≡ t → t ≡ false
+            → bytes_cost (drop i m) < parts_cost extent (drop i m)
         less true e f = absurd cc
         less false e f = grind (arith, nat_tests)
 
   -- Where a segment ends, its cost is that of its field, its bytes and what follows.
-  pub ended_at : (m : List Item) (from i : ℕ) (s : Step) → IsRightStep extent (drop i m) s → s.segment_ends ≡ true → IsSegmentSoFar (drop from m) (drop i m) (i - from)
-      → segment_cost (going_from extent (drop from m)).segment.bytes (going_from extent (drop from m)).segment.near ≡ 1 + length (length_numbers (i - from)) + (i - from) + parts_cost extent (drop i m)
+  pub ended_at : (m : List Item) (from i : ℕ) (s : Step) → IsRightStep extent (drop i m) s → s.segment_ends ≡ true
+      → IsSegmentSoFar (drop from m) (drop i m) (i - from)
+      → segment_cost (going_from extent (drop from m)).segment.bytes (going_from extent (drop from m)).segment.near
+      ≡ 1 + length (length_numbers (i - from)) + (i - from) + parts_cost extent (drop i m)
   ended_at m from i s right ends so_far =
-      subst (λ (t : Bytes). segment_cost t.bytes t.near ≡ 1 + length (length_numbers (i - from)) + (i - from) + parts_cost extent (drop i m)) (segment_are (drop from m)) here where
+      subst (λ (t : Bytes). segment_cost t.bytes t.near
+      ≡ 1 + length (length_numbers (i - from)) + (i - from) + parts_cost extent (drop i m))
+      (segment_are (drop from m)) here where
         le : parts_cost extent (drop i m) ≤ bytes_cost (drop i m)
-        le = let t : nat_le (parts_cost extent (drop i m)) (bytes_cost (drop i m)) ≡ true = sym (ends_are (drop i m) s right) ∙ ends in grind (arith, nat_tests)
+        le = let t : nat_le (parts_cost extent (drop i m)) (bytes_cost (drop i m))
+            ≡ true = sym (ends_are (drop i m) s right) ∙ ends in grind (arith, nat_tests)
 
         y : bytes_cost (drop from m) ≡ (i - from) + parts_cost extent (drop i m)
         y = omega (arith, so_far.bytes, le)
 
-        by_test : (t : Bool) → nat_le (i - from) 249 ≡ t → cond t (2 + bytes_cost (drop from m)) (3 + bytes_cost (drop from m)) ≡ 1 + length (length_numbers (i - from)) + (i - from) + parts_cost extent (drop i m)
-        by_test true e = let few : i - from ≤ 249 = grind (arith, nat_tests) in omega (arith, y, ap length (short_numbers (i - from) few))
-        by_test false e = let many : 249 < i - from = grind (arith, nat_tests) in omega (arith, y, ap length (long_numbers (i - from) many))
+        by_test : (t : Bool) → nat_le (i - from) 249 ≡ t
+            → cond t (2 + bytes_cost (drop from m)) (3 + bytes_cost (drop from m))
+            ≡ 1 + length (length_numbers (i - from)) + (i - from) + parts_cost extent (drop i m)
+        by_test true e = let few : i - from ≤ 249 =
+            grind (arith, nat_tests) in omega (arith, y, ap length (short_numbers (i - from) few))
+        by_test false e = let many : 249 < i - from =
+            grind (arith, nat_tests) in omega (arith, y, ap length (long_numbers (i - from) many))
 
-        here : segment_cost (bytes_cost (drop from m)) (near_of (drop from m)) ≡ 1 + length (length_numbers (i - from)) + (i - from) + parts_cost extent (drop i m)
-        here = ap (λ (n : ℕ). segment_cost (bytes_cost (drop from m)) n) (so_far.ended le) ∙ by_test (nat_le (i - from) 249) refl
+        here : segment_cost (bytes_cost (drop from m)) (near_of (drop from m))
+            ≡ 1 + length (length_numbers (i - from)) + (i - from) + parts_cost extent (drop i m)
+        here = ap (λ (n : ℕ). segment_cost (bytes_cost (drop from m)) n) (so_far.ended le)
+            ∙ by_test (nat_le (i - from) 249) refl
 
   -- A segment up to the end of the symbol has all items.
-  pub rest_is : (m : List Item) → (going_from extent m).segment.rest < never → (has_fnc1 m ≡ false) × ((going_from extent m).segment.rest ≡ length m)
+  pub rest_is : (m : List Item) → (going_from extent m).segment.rest < never
+      → (has_fnc1 m ≡ false) × ((going_from extent m).segment.rest ≡ length m)
   rest_is [] small = (refl, refl)
   rest_is (Fnc1 ∷ m) small = absurd (omega (arith, small))
   rest_is (Byte b ∷ m) small =
-      let same : (row extent m).segment.rest ≡ (going_from extent m).segment.rest = ap (λ (t : Bytes). t.rest) (segment_are m) in
+      let same : (row extent m).segment.rest ≡ (going_from extent m).segment.rest =
+      ap (λ (t : Bytes). t.rest) (segment_are m) in
       let h = rest_is m (omega (arith, small, same)) in
       (h.0, omega (arith, small, same, h.1))

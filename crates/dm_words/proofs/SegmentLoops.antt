@@ -1,12 +1,14 @@
 -- The loop that reads a segment, and the ways in which it is length-others.
-use Rattle.std.proofs.Common.{◌≡◌, ℕ, zero, suc, ◌+◌, ◌-◌, ◌<◌, ◌≤◌, List, [], ◌∷◌, ◌++◌, length, take, drop, get_or, refl, sym, ap, subst, ◌∙◌, append_assoc, add-zero, add-one, arith, Option, Some}
+use Rattle.std.proofs.Common.{◌≡◌, ℕ, zero, suc, ◌+◌, ◌-◌, ◌<◌, ◌≤◌, List, [], ◌∷◌, ◌++◌, length, take, drop, get_or}
+use Rattle.std.proofs.Common.{refl, sym, ap, subst, ◌∙◌, append_assoc, add-zero, add-one, arith, Option, Some}
 use Rattle.std.proofs.lemmas.List.{take-append-drop, length-take, get_or-drop, length-drop, nil_from_length, take_all}
 use Rattle.std.proofs.Math.Seq.{take-suc, drop-cons}
 use Rattle.dm_words.specs.declared.item.Item.{Item}
 use Rattle.dm_words.specs.declared.item.Item.TheVariants.{Byte}
 use Rattle.dm_words.specs.declared.fault.WordFault.{WordFault}
 use Rattle.dm_words.specs.declared.fault.WordFault.TheVariants as fault
-use Rattle.dm_words.specs.Base256.{long_count, IsLengthField, short, long, missing, past_short, no_second, wrong_second, past_long}
+use Rattle.dm_words.specs.Base256.{long_count, IsLengthField, short, long, missing, past_short, no_second, wrong_second}
+use Rattle.dm_words.specs.Base256.{past_long}
 use Rattle.dm_words.specs.Messages.{byte_items}
 use Rattle.dm_words.specs.inner.Scan.Walk.{Step, Takes, Stops}
 use Rattle.dm_words.specs.inner.Scan.Prefixes.{plain_at, plain, segment_behind}
@@ -23,36 +25,52 @@ length-plain place [] = refl
 length-plain place (w ∷ ws) = ap suc (length-plain (place + 1) ws)
 
 -- The value at an index is that of the codeword there.
-get_or-plain : (place : ℕ) (ws : List ℕ) (i : ℕ) → i < length ws → get_or (plain place ws) i 0 ≡ plain_at (place + i) (get_or ws i 0)
+get_or-plain : (place : ℕ) (ws : List ℕ) (i : ℕ) → i < length ws → get_or (plain place ws) i 0
+    ≡ plain_at (place + i) (get_or ws i 0)
 get_or-plain place [] i lt = absurd (omega arith)
 get_or-plain place (w ∷ ws) zero lt = rw add-zero refl
-get_or-plain place (w ∷ ws) (suc i) lt = get_or-plain (place + 1) ws i (omega arith) ∙ ap (λ (k : ℕ). plain_at k (get_or ws i 0)) (omega arith)
+get_or-plain place (w ∷ ws) (suc i) lt = get_or-plain (place + 1) ws i (omega arith)
+    ∙ ap (λ (k : ℕ). plain_at k (get_or ws i 0)) (omega arith)
 
 -- One more byte is read.
-pub bytes_more : (words : List ℕ) (start i b : ℕ) (first old new : List Item) → start + i < length words → b ≡ plain_at (start + i + 1) (get_or words (start + i) 0)
+pub bytes_more : (words : List ℕ) (start i b : ℕ) (first old new : List Item) → start + i < length words → b
+    ≡ plain_at (start + i + 1) (get_or words (start + i) 0)
     → old ≡ first ++ byte_items (take i (plain (start + 1) (drop start words))) → new ≡ old ++ Byte b ∷ []
     → new ≡ first ++ byte_items (take (i + 1) (plain (start + 1) (drop start words)))
 bytes_more words start i b first old new lt is so_far e =
     let vs = plain (start + 1) (drop start words) in
     let long : i < length (drop start words) = omega (arith, length-drop start words) in
     let within : i < length vs = omega (arith, length-plain (start + 1) (drop start words)) in
-    let value : get_or vs i 0 ≡ b = get_or-plain (start + 1) (drop start words) i long ∙ ap (λ (k : ℕ). plain_at k (get_or (drop start words) i 0)) (omega arith) ∙ ap (plain_at (start + i + 1)) (get_or-drop start words i 0) ∙ sym is in
-    let more : take (i + 1) vs ≡ take i vs ++ b ∷ [] = rw add-one (take-suc vs i 0 within ∙ ap (λ (k : ℕ). take i vs ++ k ∷ []) value) in
-    e ∙ ap (λ (r : List Item). r ++ Byte b ∷ []) so_far ∙ append_assoc first (byte_items (take i vs)) (Byte b ∷ []) ∙ ap (λ (r : List Item). first ++ r) (sym (byte_items-append (take i vs) (b ∷ [])) ∙ ap byte_items (sym more))
+    let value : get_or vs i 0 ≡ b = get_or-plain (start + 1) (drop start words) i long
+    ∙ ap (λ (k : ℕ). plain_at k (get_or (drop start words) i 0)) (omega arith)
+    ∙ ap (plain_at (start + i + 1)) (get_or-drop start words i 0) ∙ sym is in
+    let more : take (i + 1) vs ≡ take i vs
+    ++ b ∷ [] = rw add-one (take-suc vs i 0 within ∙ ap (λ (k : ℕ). take i vs ++ k ∷ []) value) in
+    e ∙ ap (λ (r : List Item). r ++ Byte b ∷ []) so_far ∙ append_assoc first (byte_items (take i vs)) (Byte b ∷ [])
+    ∙ ap (λ (r : List Item). first ++ r) (sym (byte_items-append (take i vs) (b ∷ [])) ∙ ap byte_items (sym more))
 
 -- The values from an index on begin with the value there.
-pub plain_first : (words : List ℕ) (place k d : ℕ) → k < length words → d ≡ plain_at place (get_or words k 0) → plain place (drop k words) ≡ d ∷ plain (place + 1) (drop (k + 1) words)
+pub plain_first : (words : List ℕ) (place k d : ℕ) → k < length words → d ≡ plain_at place (get_or words k 0)
+    → plain place (drop k words) ≡ d ∷ plain (place + 1) (drop (k + 1) words)
 plain_first words place k d lt is =
-    let cut : drop k words ≡ get_or words k 0 ∷ drop (k + 1) words = drop-cons words k 0 lt ∙ ap (λ (j : ℕ). get_or words k 0 ∷ drop j words) (sym (add-one k)) in
+    let cut : drop k words ≡ get_or words k 0 ∷ drop (k + 1) words = drop-cons words k 0 lt
+    ∙ ap (λ (j : ℕ). get_or words k 0 ∷ drop j words) (sym (add-one k)) in
     ap (plain place) cut ∙ ap (λ (v : ℕ). v ∷ plain (place + 1) (drop (k + 1) words)) (sym is)
 
 -- A length field and as many bytes as it says are taken.
-pub segment_takes : (place : ℕ) (field values : List ℕ) (n : ℕ) → n ≤ length values → ((after : List ℕ) → IsLengthField field n after) → segment_behind place (field ++ values) ≡ Takes (1 + length field + n) (byte_items (take n values))
+pub segment_takes : (place : ℕ) (field values : List ℕ) (n : ℕ) → n ≤ length values
+    → ((after : List ℕ) → IsLengthField field n after) → segment_behind place (field ++ values)
+    ≡ Takes (1 + length field + n) (byte_items (take n values))
 segment_takes place field values n le counted =
     let len : length (take n values) ≡ n = omega (arith, length-take n values) in
-    let regrouped : (field ++ take n values) ++ drop n values ≡ field ++ values = append_assoc field (take n values) (drop n values) ∙ ap (λ (r : List ℕ). field ++ r) (take-append-drop n values) in
-    let again = segment_again place field (take n values) (drop n values) (subst (λ (k : ℕ). IsLengthField field k (drop n values)) (sym len) (counted (drop n values))) in
-    ap (segment_behind place) (sym regrouped) ∙ again ∙ ap (λ (k : ℕ). Takes (1 + length field + k) (byte_items (take n values))) len
+    let regrouped : (field ++ take n values) ++ drop n values ≡ field
+    ++ values = append_assoc field (take n values) (drop n values)
+    ∙ ap (λ (r : List ℕ). field ++ r) (take-append-drop n values) in
+    let again =
+    segment_again place field (take n values) (drop n values)
+    (subst (λ (k : ℕ). IsLengthField field k (drop n values)) (sym len) (counted (drop n values))) in
+    ap (segment_behind place) (sym regrouped) ∙ again
+    ∙ ap (λ (k : ℕ). Takes (1 + length field + k) (byte_items (take n values))) len
 
 -- Equal numbers make equal pairs.
 pair_path : {a b x y : ℕ} → a ≡ x → b ≡ y → (let p : ℕ × ℕ = (a, b) in p) ≡ (x, y)
@@ -72,7 +90,8 @@ module _ (words : List ℕ) (at : ℕ) where
   -- The length is bad where no codeword follows the latch.
   pub nothing_left : length words - at - 1 ≡ 0 → Bad
   nothing_left e =
-      let none : drop (at + 1) words ≡ [] = nil_from_length (drop (at + 1) words) (omega (arith, length-drop (at + 1) words)) in
+      let none : drop (at + 1) words
+      ≡ [] = nil_from_length (drop (at + 1) words) (omega (arith, length-drop (at + 1) words)) in
       rw none (bad_again (at + 1) [] (missing refl))
 
   module _ (d : ℕ) (lt : at + 1 < length words) (is : d ≡ plain_at (at + 1 + 1) (get_or words (at + 1) 0)) where
@@ -82,14 +101,18 @@ module _ (words : List ℕ) (at : ℕ) where
 
     -- The values behind the latch are the first length number and these.
     values_are : plain (at + 2) (drop (at + 1) words) ≡ d ∷ others
-    values_are = plain_first words (at + 2) (at + 1) d lt (is ∙ ap (λ (k : ℕ). plain_at k (get_or words (at + 1) 0)) (omega arith)) ∙ ap (λ (k : ℕ × ℕ). d ∷ plain k.0 (drop k.1 words)) (pair_path (omega arith) (omega arith))
+    values_are =
+        plain_first words (at + 2) (at + 1) d lt (is
+        ∙ ap (λ (k : ℕ). plain_at k (get_or words (at + 1) 0)) (omega arith))
+        ∙ ap (λ (k : ℕ × ℕ). d ∷ plain k.0 (drop k.1 words)) (pair_path (omega arith) (omega arith))
 
     -- There are as many of these values as codewords behind the first length number.
     length-others : length others ≡ length words - at - 2
     length-others = length-plain (at + 2 + 1) (drop (at + 2) words) ∙ omega (arith, length-drop (at + 2) words)
 
     -- A first length number of 0 takes all bytes up to the end of the symbol.
-    pub to_the_end_found : d ≡ 0 → Finds (Takes (length words - at - 1 + 1) (byte_items (take (length words - at - 1 - 1) others)))
+    pub to_the_end_found : d ≡ 0
+        → Finds (Takes (length words - at - 1 + 1) (byte_items (take (length words - at - 1 - 1) others)))
     unfolding segment_behind
     to_the_end_found zero_d =
         let all : take (length words - at - 1 - 1) others ≡ others = take_all _ others (omega (arith, length-others)) in
@@ -98,12 +121,16 @@ module _ (words : List ℕ) (at : ℕ) where
 
     -- The length is bad where fewer bytes are left than one length number says.
     pub past_short_found : d ≤ 249 → length words - at - 1 - 1 < d → Bad
-    past_short_found le past = rw values_are (bad_again (at + 1) (d ∷ others) (past_short d others le refl (omega (arith, length-others))))
+    past_short_found le past =
+        rw values_are (bad_again (at + 1) (d ∷ others) (past_short d others le refl (omega (arith, length-others))))
 
     -- A first length number of 1 to 249 takes as many bytes as it says.
-    pub short_found : 0 < d → d ≤ 249 → d ≤ length words - at - 1 - 1 → Finds (Takes (d + 2) (byte_items (take d others)))
+    pub short_found : 0 < d → d ≤ 249 → d ≤ length words - at - 1 - 1
+        → Finds (Takes (d + 2) (byte_items (take d others)))
     short_found pos le within =
-        let found = segment_takes (at + 1) (d ∷ []) others d (omega (arith, length-others)) (λ after. short d pos le refl refl) in
+        let found =
+        segment_takes (at + 1) (d ∷ []) others d (omega (arith, length-others))
+        (λ after. short d pos le refl refl) in
         rw values_are (found ∙ ap (λ (k : ℕ). Takes k (byte_items (take d others))) (omega arith))
 
     -- The length is bad where no second length number follows a first one of 250 or more.
@@ -112,14 +139,16 @@ module _ (words : List ℕ) (at : ℕ) where
         let none : others ≡ [] = nil_from_length others (omega (arith, length-others)) in
         rw (values_are, none) (bad_again (at + 1) (d ∷ []) (no_second d big refl))
 
-    module _ (big : 249 < d) (f : ℕ) (lt2 : at + 2 < length words) (is2 : f ≡ plain_at (at + 2 + 1) (get_or words (at + 2) 0)) where
+    module _ (big : 249 < d) (f : ℕ) (lt2 : at + 2 < length words) (is2 : f
+        ≡ plain_at (at + 2 + 1) (get_or words (at + 2) 0)) where
       -- These are the values behind the second length number.
       abbrev more : List ℕ
       more = plain (at + 3 + 1) (drop (at + 3) words)
 
       -- The values behind the first length number are the second one and these.
       others_are : others ≡ f ∷ more
-      others_are = plain_first words (at + 2 + 1) (at + 2) f lt2 is2 ∙ ap (λ (k : ℕ × ℕ). f ∷ plain k.0 (drop k.1 words)) (pair_path (omega arith) (omega arith))
+      others_are = plain_first words (at + 2 + 1) (at + 2) f lt2 is2
+          ∙ ap (λ (k : ℕ × ℕ). f ∷ plain k.0 (drop k.1 words)) (pair_path (omega arith) (omega arith))
 
       -- There are as many of these values as codewords behind the second length number.
       length-more : length more ≡ length words - at - 3
@@ -127,14 +156,21 @@ module _ (words : List ℕ) (at : ℕ) where
 
       -- The length is bad where the second length number is above 249.
       pub wrong_second_found : 249 < f → Bad
-      wrong_second_found wrong = rw (values_are, others_are) (bad_again (at + 1) (d ∷ f ∷ more) (wrong_second d f more big wrong refl))
+      wrong_second_found wrong =
+          rw (values_are, others_are) (bad_again (at + 1) (d ∷ f ∷ more) (wrong_second d f more big wrong refl))
 
       -- The length is bad where fewer bytes are left than the two length numbers say.
       pub past_long_found : f ≤ 249 → length words - at - 1 - 2 < long_count d f → Bad
-      past_long_found le past = rw (values_are, others_are) (bad_again (at + 1) (d ∷ f ∷ more) (past_long d f more big le refl (omega (arith, length-more))))
+      past_long_found le past =
+          rw (values_are, others_are)
+          (bad_again (at + 1) (d ∷ f ∷ more) (past_long d f more big le refl (omega (arith, length-more))))
 
       -- Two length numbers take as many bytes as they say.
-      pub long_found : f ≤ 249 → long_count d f ≤ length words - at - 1 - 2 → Finds (Takes (long_count d f + 3) (byte_items (take (long_count d f) more)))
+      pub long_found : f ≤ 249 → long_count d f ≤ length words - at - 1 - 2
+          → Finds (Takes (long_count d f + 3) (byte_items (take (long_count d f) more)))
       long_found le within =
-          let found = segment_takes (at + 1) (d ∷ f ∷ []) more (long_count d f) (omega (arith, length-more)) (λ after. long d f big (omega (arith, is)) le refl refl) in
-          rw (values_are, others_are) (found ∙ ap (λ (k : ℕ). Takes k (byte_items (take (long_count d f) more))) (omega arith))
+          let found =
+          segment_takes (at + 1) (d ∷ f ∷ []) more (long_count d f) (omega (arith, length-more))
+          (λ after. long d f big (omega (arith, is)) le refl refl) in
+          rw (values_are, others_are) (found
+          ∙ ap (λ (k : ℕ). Takes k (byte_items (take (long_count d f) more))) (omega arith))

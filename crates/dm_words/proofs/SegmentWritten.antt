@@ -1,5 +1,6 @@
 -- The segments that are written are segments.
-use Rattle.std.proofs.Common.{◌≡◌, ◌≢◌, ◌⊎◌, inl, inr, ℕ, ◌+◌, ◌/◌, ◌%◌, ◌<◌, ◌≤◌, List, [], ◌∷◌, ◌++◌, length, map, refl, sym, ap, subst, arith, Bool, true, false, cond}
+use Rattle.std.proofs.Common.{◌≡◌, ◌≢◌, ◌⊎◌, inl, inr, ℕ, ◌+◌, ◌/◌, ◌%◌, ◌<◌, ◌≤◌, List, [], ◌∷◌, ◌++◌, length, map}
+use Rattle.std.proofs.Common.{refl, sym, ap, subst, arith, Bool, true, false, cond}
 use Rattle.std.specs.Prelude.{nat_le}
 use Rattle.std.proofs.lemmas.Bool.{cases_lt}
 use Rattle.std.proofs.lemmas.List.{length-append, length-map}
@@ -12,12 +13,16 @@ use Rattle.dm_words.specs.NormalForm.{has_fnc1, length_numbers}
 use Rattle.dm_words.specs.Spells.{segment}
 use Rattle.dm_words.specs.inner.Written.{IsFieldWritten, IsPartWritten}
 use Rattle.dm_words.proofs.Segments.{length-written}
-use Rattle.dm_words.proofs.NormalForms.{short_numbers, long_numbers, says_count, bytes_of_items, bytes_are_items, segment_whole}
+use Rattle.dm_words.proofs.NormalForms.{short_numbers, long_numbers, says_count, bytes_of_items, bytes_are_items}
+use Rattle.dm_words.proofs.NormalForms.{segment_whole}
 
 -- A latch, a field and bytes were written.
-pub field_written : (extent : Extent) (total : ℕ) (old latched counted new field : List ℕ) (m : List Item) → IsMessage m → has_fnc1 m ≡ false
-    → latched ≡ old ++ 231 ∷ [] → counted ≡ latched ++ written (length latched + 1) field → new ≡ counted ++ written (length counted + 1) (map byte_of m)
-    → ((after : List ℕ) → length new + length after ≡ total → IsLengthField field (length (map byte_of m)) after) → IsPartWritten extent total old new m
+pub field_written : (extent : Extent) (total : ℕ) (old latched counted new field : List ℕ) (m : List Item)
+    → IsMessage m → has_fnc1 m ≡ false
+    → latched ≡ old ++ 231 ∷ [] → counted ≡ latched ++ written (length latched + 1) field → new ≡ counted
+    ++ written (length counted + 1) (map byte_of m)
+    → ((after : List ℕ) → length new + length after ≡ total → IsLengthField field (length (map byte_of m)) after)
+    → IsPartWritten extent total old new m
 field_written extent total old latched counted new field m fit none latch count all counts =
     let bytes = map byte_of m in
     let whole = segment_whole old latched counted new field bytes latch count all in
@@ -40,12 +45,20 @@ field_written extent total old latched counted new field m fit none latch count 
     }
 
 -- The bytes take a codeword each.
-pub bytes_length : (counted new : List ℕ) (m : List Item) → new ≡ counted ++ written (length counted + 1) (map byte_of m) → length new ≡ length counted + length m
+pub bytes_length : (counted new : List ℕ) (m : List Item) → new ≡ counted
+    ++ written (length counted + 1) (map byte_of m) → length new ≡ length counted + length m
 bytes_length counted new m all =
-    omega (arith, ap length all, length-append counted (written (length counted + 1) (map byte_of m)), length-written (length counted + 1) (map byte_of m), length-map m byte_of)
+    omega (
+      arith,
+      ap length all,
+      length-append counted (written (length counted + 1) (map byte_of m)),
+      length-written (length counted + 1) (map byte_of m),
+      length-map m byte_of,
+    )
 
 -- So many codewords were written.
-pub field_length : (old latched counted new field : List ℕ) (m : List Item) → latched ≡ old ++ 231 ∷ [] → counted ≡ latched ++ written (length latched + 1) field → new ≡ counted ++ written (length counted + 1) (map byte_of m)
+pub field_length : (old latched counted new field : List ℕ) (m : List Item) → latched ≡ old ++ 231 ∷ [] → counted
+    ≡ latched ++ written (length latched + 1) field → new ≡ counted ++ written (length counted + 1) (map byte_of m)
     → length new ≡ length old + 1 + length field + length m
 field_length old latched counted new field m latch count all =
     omega (
@@ -59,7 +72,8 @@ field_length old latched counted new field m latch count all =
     )
 
 -- A field that says all bytes up to the end of the symbol.
-pub field_to_end : (total count : ℕ) (old new : List ℕ) → length old + 1 + count ≡ total → new ≡ old ++ randomised (length old + 1) 0 ∷ [] → IsFieldWritten total count old new
+pub field_to_end : (total count : ℕ) (old new : List ℕ) → length old + 1 + count ≡ total → new ≡ old
+    ++ randomised (length old + 1) 0 ∷ [] → IsFieldWritten total count old new
 field_to_end total count old new full is = record {
   field = 0 ∷ [];
   words_are = is;
@@ -79,7 +93,8 @@ field_to_end total count old new full is = record {
   by_after (w ∷ after) none = absurd (omega (arith, none))
 
 -- A field that says the count.
-pub field_of_count : (total count : ℕ) (old new : List ℕ) → 0 < count → total ≤ 816 → (count ≤ 249) ⊎ (length old + 1 + count ≢ total) → length old + 1 + count ≤ total
+pub field_of_count : (total count : ℕ) (old new : List ℕ) → 0 < count → total ≤ 816
+    → (count ≤ 249) ⊎ (length old + 1 + count ≢ total) → length old + 1 + count ≤ total
     → new ≡ old ++ written (length old + 1) (length_numbers count) → IsFieldWritten total count old new
 field_of_count total count old new some most which room is = record {
   field = length_numbers count;
@@ -95,12 +110,20 @@ field_of_count total count old new some most which room is = record {
   counts = λ after fills. says_count count after some (omega (arith, most, room));
 } where
   l : length new ≡ length old + length (length_numbers count)
-  l = omega (arith, ap length is, length-append old (written (length old + 1) (length_numbers count)), length-written (length old + 1) (length_numbers count))
+  l = omega (
+    arith,
+    ap length is,
+    length-append old (written (length old + 1) (length_numbers count)),
+    length-written (length old + 1) (length_numbers count),
+  )
 
 -- A segment was written.
-pub segment_written : (extent : Extent) (total : ℕ) (old latched counted new : List ℕ) (m : List Item) → IsMessage m → has_fnc1 m ≡ false → latched ≡ old ++ 231 ∷ []
-    → (f : IsFieldWritten total (length m) latched counted) → new ≡ counted ++ written (length counted + 1) (map byte_of m) → IsPartWritten extent total old new m
+pub segment_written : (extent : Extent) (total : ℕ) (old latched counted new : List ℕ) (m : List Item) → IsMessage m
+    → has_fnc1 m ≡ false → latched ≡ old ++ 231 ∷ []
+    → (f : IsFieldWritten total (length m) latched counted) → new ≡ counted
+    ++ written (length counted + 1) (map byte_of m) → IsPartWritten extent total old new m
 segment_written extent total old latched counted new m fit none latch f all =
     let long = bytes_length counted new m all in
     field_written extent total old latched counted new f.field m fit none latch f.words_are all
-    (λ after fills. subst (λ (n : ℕ). IsLengthField f.field n after) (sym (length-map m byte_of)) (f.counts after (omega (arith, fills, long))))
+    (λ after fills. subst (λ (n : ℕ). IsLengthField f.field n after) (sym (length-map m byte_of))
+    (f.counts after (omega (arith, fills, long))))

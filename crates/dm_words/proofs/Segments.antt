@@ -1,5 +1,7 @@
 -- A segment that the scan finds is a segment of the definition.
-use Rattle.std.proofs.Common.{◌≡◌, ℕ, zero, suc, ◌+◌, ◌-◌, ◌*◌, ◌%◌, ◌<◌, ◌≤◌, List, [], ◌∷◌, ◌++◌, length, take, drop, refl, sym, ap, ◌∙◌, append_assoc, add-zero, arith, Bool, true, false, cond, eqb, ltb, Option, Some, None}
+use Rattle.std.proofs.Common.{◌≡◌, ℕ, zero, suc, ◌+◌, ◌-◌, ◌*◌, ◌%◌, ◌<◌, ◌≤◌, List, [], ◌∷◌, ◌++◌, length, take, drop}
+use Rattle.std.proofs.Common.{refl, sym, ap, ◌∙◌, append_assoc, add-zero, arith, Bool, true, false, cond, eqb, ltb}
+use Rattle.std.proofs.Common.{Option, Some, None}
 use Rattle.std.proofs.lemmas.Bool.{eqb-true, ltb-true, ltb-false, le-ltb}
 use Rattle.std.proofs.lemmas.Bool.Decides.{nat_tests}
 use Rattle.std.proofs.lemmas.List.{take_at, append-nil, length-append, length-take, take-append-drop}
@@ -8,7 +10,9 @@ use Rattle.dm_words.specs.declared.item.Item.{Item}
 use Rattle.dm_words.specs.declared.fault.WordFault.{WordFault}
 use Rattle.dm_words.specs.declared.fault.WordFault.TheVariants as fault
 use Rattle.dm_words.specs.Codewords.{codeword_of}
-use Rattle.dm_words.specs.Base256.{random_at, written, AreBytes, long_count, IsLengthField, to_the_end, short, long, IsSegment, IsBadLength, missing, past_short, no_second, wrong_second, past_long, IsFaultySegment}
+use Rattle.dm_words.specs.Base256.{random_at, written, AreBytes, long_count, IsLengthField, to_the_end, short, long}
+use Rattle.dm_words.specs.Base256.{IsSegment, IsBadLength, missing, past_short, no_second, wrong_second, past_long}
+use Rattle.dm_words.specs.Base256.{IsFaultySegment}
 use Rattle.dm_words.specs.Messages.{byte_items}
 use Rattle.dm_words.specs.inner.Scan.Walk.{Step, Takes, Stops}
 use Rattle.dm_words.specs.inner.Scan.Prefixes.{plain, segment_by, long_segment, segment_behind}
@@ -53,9 +57,12 @@ plain_small place [] = tt
 plain_small place (w ∷ ws) = (omega arith, plain_small (place + 1) ws)
 
 -- Two lists of values, joined, are written one behind the other.
-pub written-append : (place : ℕ) (a b : List ℕ) → written place (a ++ b) ≡ written place a ++ written (place + length a) b
+pub written-append : (place : ℕ) (a b : List ℕ) → written place (a ++ b) ≡ written place a
+    ++ written (place + length a) b
 written-append place [] b = rw add-zero refl
-written-append place (v ∷ a) b = ap (λ (r : List ℕ). ((v + random_at place) % 256) ∷ r) (written-append (place + 1) a b ∙ ap (λ (k : ℕ). written (place + 1) a ++ written k b) (omega arith))
+written-append place (v ∷ a) b =
+    ap (λ (r : List ℕ). ((v + random_at place) % 256) ∷ r) (written-append (place + 1) a b
+    ∙ ap (λ (k : ℕ). written (place + 1) a ++ written k b) (omega arith))
 
 -- Each value is written as one codeword.
 pub length-written : (place : ℕ) (vs : List ℕ) → length (written place vs) ≡ length vs
@@ -90,70 +97,119 @@ SegmentJudged place words (Stops (Some f)) = IsFaultySegment place words × (f �
 module _ (place w : ℕ) (is_latch : codeword_of w ≡ Some codeword.Base256) (words : List ℕ) where
   -- With this field and these bytes, the segment that is found is a segment.
   taken : (field bytes more : List ℕ) (n : ℕ) → words ≡ written (place + 1) ((field ++ bytes) ++ more) → AreBytes bytes
-      → IsLengthField field (length bytes) (written (place + 1 + length (field ++ bytes)) more) → n ≡ 1 + length field + length bytes → SegmentTakes place (w ∷ words) n (byte_items bytes)
+      → IsLengthField field (length bytes) (written (place + 1 + length (field ++ bytes)) more) → n
+      ≡ 1 + length field + length bytes → SegmentTakes place (w ∷ words) n (byte_items bytes)
   taken field bytes more n e fit counted len =
       let prefix : List ℕ = w ∷ written (place + 1) (field ++ bytes) in
       let back : List ℕ = written (place + 1 + length (field ++ bytes)) more in
-      let whole : w ∷ words ≡ prefix ++ back = ap (λ (r : List ℕ). w ∷ r) (e ∙ written-append (place + 1) (field ++ bytes) more) in
-      let c = cut_behind_prefix (w ∷ words) prefix back n whole (omega (arith, len, length-written (place + 1) (field ++ bytes), length-append field bytes)) in
-      let right : IsSegment place prefix back (byte_items bytes) = record { latch = w; is_latch = is_latch; field = field; bytes = bytes; whole = refl; in_range = fit; counted = counted; items_are = refl } in
+      let whole : w ∷ words ≡ prefix
+      ++ back = ap (λ (r : List ℕ). w ∷ r) (e ∙ written-append (place + 1) (field ++ bytes) more) in
+      let c = cut_behind_prefix (w ∷ words) prefix back n whole
+      (omega (arith, len, length-written (place + 1) (field ++ bytes), length-append field bytes)) in
+      let right : IsSegment place prefix back (byte_items bytes) =
+      record {
+        latch = w;
+        is_latch = is_latch;
+        field = field;
+        bytes = bytes;
+        whole = refl;
+        in_range =
+            fit;
+        counted = counted;
+        items_are = refl;
+      } in
       record { right = rw (c.0, c.1) right; some = omega (arith, len); within = c.2 }
 
   -- With a bad length, the segment is faulty.
-  faulty : (values : List ℕ) → words ≡ written (place + 1) values → AreBytes values → IsBadLength values → IsFaultySegment place (w ∷ words) × (fault.Length place ≡ fault.Length place)
-  faulty values e fit is_bad = (record { latch = w; is_latch = is_latch; values = values; whole = ap (λ (r : List ℕ). w ∷ r) e; in_range = fit; is_bad = is_bad }, refl)
+  faulty : (values : List ℕ) → words ≡ written (place + 1) values → AreBytes values → IsBadLength values
+      → IsFaultySegment place (w ∷ words) × (fault.Length place ≡ fault.Length place)
+  faulty values e fit is_bad = (
+    record {
+      latch = w;
+      is_latch = is_latch;
+      values = values;
+      whole = ap (λ (r : List ℕ). w ∷ r) e;
+      in_range =
+          fit;
+      is_bad = is_bad;
+    },
+    refl,
+  )
 
   -- What is found by the number of bytes that the field says is right.
-  by_count : (field values : List ℕ) (n : ℕ) (b : Bool) → words ≡ written (place + 1) (field ++ values) → AreBytes field → AreBytes values → ltb (length values) n ≡ b
-      → (length values < n → IsBadLength (field ++ values)) → ((count : ℕ) (after : List ℕ) → count ≡ n → IsLengthField field count after)
-      → SegmentJudged place (w ∷ words) (cond b (Stops (Some (fault.Length place))) (Takes (1 + length field + n) (byte_items (take n values))))
-  by_count field values n true e ff fit eb bad good = faulty (field ++ values) e (AreBytes-append field values ff fit) (bad (ltb-true _ _ eb))
+  by_count : (field values : List ℕ) (n : ℕ) (b : Bool) → words ≡ written (place + 1) (field ++ values)
+      → AreBytes field → AreBytes values → ltb (length values) n ≡ b
+      → (length values < n → IsBadLength (field ++ values))
+      → ((count : ℕ) (after : List ℕ) → count ≡ n → IsLengthField field count after)
+      → SegmentJudged place (w ∷ words)
+      (cond b (Stops (Some (fault.Length place))) (Takes (1 + length field + n) (byte_items (take n values))))
+  by_count field values n true e ff fit eb bad good =
+      faulty (field ++ values) e (AreBytes-append field values ff fit) (bad (ltb-true _ _ eb))
   by_count field values n false e ff fit eb bad good =
       let le : n ≤ length values = ltb-false _ _ eb in
       let len : length (take n values) ≡ n = omega (arith, length-take n values) in
       let regrouped : words ≡ written (place + 1) ((field ++ take n values) ++ drop n values) =
-      e ∙ ap (λ (r : List ℕ). written (place + 1) r) (ap (λ (r : List ℕ). field ++ r) (sym (take-append-drop n values)) ∙ sym (append_assoc field (take n values) (drop n values))) in
-      taken field (take n values) (drop n values) (1 + length field + n) regrouped (AreBytes-take n values fit) (good (length (take n values)) _ len) (omega (arith, len))
+      e ∙ ap (λ (r : List ℕ). written (place + 1) r)
+      (ap (λ (r : List ℕ). field ++ r) (sym (take-append-drop n values))
+      ∙ sym (append_assoc field (take n values) (drop n values))) in
+      taken field (take n values) (drop n values) (1 + length field + n) regrouped (AreBytes-take n values fit)
+      (good (length (take n values)) _ len) (omega (arith, len))
 
   -- What is found by the second length number is right.
-  by_second : (d e : ℕ) (values : List ℕ) (b : Bool) → words ≡ written (place + 1) (d ∷ e ∷ values) → AreBytes (d ∷ e ∷ values) → 249 < d → ltb 249 e ≡ b
-      → SegmentJudged place (w ∷ words) (cond b (Stops (Some (fault.Length place))) (segment_by place 2 (long_count d e) values))
-  by_second d e values true eq fit big eb = faulty (d ∷ e ∷ values) eq fit (wrong_second d e values big (ltb-true _ _ eb) refl)
+  by_second : (d e : ℕ) (values : List ℕ) (b : Bool) → words ≡ written (place + 1) (d ∷ e ∷ values)
+      → AreBytes (d ∷ e ∷ values) → 249 < d → ltb 249 e ≡ b
+      → SegmentJudged place (w ∷ words)
+      (cond b (Stops (Some (fault.Length place))) (segment_by place 2 (long_count d e) values))
+  by_second d e values true eq fit big eb =
+      faulty (d ∷ e ∷ values) eq fit (wrong_second d e values big (ltb-true _ _ eb) refl)
   by_second d e values false eq fit big eb =
       let le : e ≤ 249 = ltb-false _ _ eb in
-      by_count (d ∷ e ∷ []) values (long_count d e) _ eq (fit.0, (fit.1.0, tt)) fit.1.1 refl (λ lt. past_long d e values big le refl lt) (λ count after is. long d e big fit.0 le refl is)
+      by_count (d ∷ e ∷ []) values (long_count d e) _ eq (fit.0, (fit.1.0, tt)) fit.1.1 refl
+      (λ lt. past_long d e values big le refl lt) (λ count after is. long d e big fit.0 le refl is)
 
   -- What is found behind a first length number of 250 or more is right.
-  by_long : (d : ℕ) (values : List ℕ) → words ≡ written (place + 1) (d ∷ values) → AreBytes (d ∷ values) → 249 < d → SegmentJudged place (w ∷ words) (long_segment place d values)
+  by_long : (d : ℕ) (values : List ℕ) → words ≡ written (place + 1) (d ∷ values) → AreBytes (d ∷ values) → 249 < d
+      → SegmentJudged place (w ∷ words) (long_segment place d values)
   by_long d [] eq fit big = faulty (d ∷ []) eq fit (no_second d big refl)
   by_long d (e ∷ values) eq fit big = by_second d e values _ eq fit big refl
 
   -- What is found by the first length number is right.
-  by_first : (d : ℕ) (values : List ℕ) (a b : Bool) → words ≡ written (place + 1) (d ∷ values) → AreBytes (d ∷ values) → eqb d 0 ≡ a → ltb 249 d ≡ b
-      → SegmentJudged place (w ∷ words) (cond a (Takes (2 + length values) (byte_items values)) (cond b (long_segment place d values) (segment_by place 1 d values)))
+  by_first : (d : ℕ) (values : List ℕ) (a b : Bool) → words ≡ written (place + 1) (d ∷ values) → AreBytes (d ∷ values)
+      → eqb d 0 ≡ a → ltb 249 d ≡ b
+      → SegmentJudged place (w ∷ words)
+      (cond a (Takes (2 + length values) (byte_items values))
+      (cond b (long_segment place d values) (segment_by place 1 d values)))
   by_first d values true b eq fit ea eb =
       let is : d ≡ 0 = eqb-true _ _ ea in
-      taken (d ∷ []) values [] (2 + length values) (eq ∙ ap (λ (r : List ℕ). written (place + 1) r) (sym (append-nil (d ∷ values)))) fit.1 (to_the_end (ap (λ (k : ℕ). k ∷ []) is) refl) (omega arith)
+      taken (d ∷ []) values [] (2 + length values) (eq
+      ∙ ap (λ (r : List ℕ). written (place + 1) r) (sym (append-nil (d ∷ values)))) fit.1
+      (to_the_end (ap (λ (k : ℕ). k ∷ []) is) refl) (omega arith)
   by_first d values false true eq fit ea eb = by_long d values eq fit (ltb-true _ _ eb)
   by_first d values false false eq fit ea eb =
       let le : d ≤ 249 = ltb-false _ _ eb in
       let pos : 0 < d = grind (arith, nat_tests) in
-      by_count (d ∷ []) values d _ eq (fit.0, tt) fit.1 refl (λ lt. past_short d values le refl lt) (λ count after is. short d pos le refl is)
+      by_count (d ∷ []) values d _ eq (fit.0, tt) fit.1 refl (λ lt. past_short d values le refl lt)
+      (λ count after is. short d pos le refl is)
 
   -- What is found by the values behind the latch is right.
-  by_values : (values : List ℕ) → words ≡ written (place + 1) values → AreBytes values → SegmentJudged place (w ∷ words) (segment_behind place values)
+  by_values : (values : List ℕ) → words ≡ written (place + 1) values → AreBytes values
+      → SegmentJudged place (w ∷ words) (segment_behind place values)
   unfolding segment_behind
   by_values [] eq fit = faulty [] eq fit (missing refl)
   by_values (d ∷ values) eq fit = by_first d values _ _ eq fit refl refl
 
 -- A segment that is found is a segment, and a bad length is bad.
-pub segment_judged : (place w : ℕ) (words : List ℕ) → codeword_of w ≡ Some codeword.Base256 → IsBytes words → SegmentJudged place (w ∷ words) (segment_behind place (plain (place + 1) words))
-segment_judged place w words is_latch fit = by_values place w is_latch words (plain (place + 1) words) (sym (written-plain (place + 1) words fit)) (plain_small (place + 1) words)
+pub segment_judged : (place w : ℕ) (words : List ℕ) → codeword_of w ≡ Some codeword.Base256 → IsBytes words
+    → SegmentJudged place (w ∷ words) (segment_behind place (plain (place + 1) words))
+segment_judged place w words is_latch fit =
+    by_values place w is_latch words (plain (place + 1) words) (sym (written-plain (place + 1) words fit))
+    (plain_small (place + 1) words)
 
 -- ---- what is right is found
 
 -- A field and its bytes are found.
-pub segment_again : (place : ℕ) (field bytes more : List ℕ) → IsLengthField field (length bytes) more → segment_behind place ((field ++ bytes) ++ more) ≡ Takes (1 + length field + length bytes) (byte_items bytes)
+pub segment_again : (place : ℕ) (field bytes more : List ℕ) → IsLengthField field (length bytes) more
+    → segment_behind place ((field ++ bytes) ++ more) ≡ Takes (1 + length field + length bytes) (byte_items bytes)
 unfolding segment_behind
 segment_again place field bytes more (to_the_end f m) = rw (f, m, append-nil bytes) refl
 segment_again place field bytes more (short d pos le f len) =
@@ -165,11 +221,13 @@ segment_again place field bytes more (long d e big small le f len) =
     let a : eqb d 0 ≡ false = grind (arith, nat_tests) in
     let b : ltb 249 d ≡ true = grind (arith, nat_tests) in
     let b2 : ltb 249 e ≡ false = grind (arith, nat_tests) in
-    let c : ltb (length (bytes ++ more)) (long_count d e) ≡ false = le-ltb _ _ (omega (arith, len, length-append bytes more)) in
+    let c : ltb (length (bytes ++ more)) (long_count d e)
+    ≡ false = le-ltb _ _ (omega (arith, len, length-append bytes more)) in
     rw (f, len, a, b, b2, c, take_at bytes more (long_count d e) len) refl
 
 -- A bad length is found.
-pub bad_again : (place : ℕ) (values : List ℕ) → IsBadLength values → segment_behind place values ≡ Stops (Some (fault.Length place))
+pub bad_again : (place : ℕ) (values : List ℕ) → IsBadLength values → segment_behind place values
+    ≡ Stops (Some (fault.Length place))
 unfolding segment_behind
 bad_again place values (missing e) = rw e refl
 bad_again place values (past_short d more le e lt) =
@@ -202,7 +260,8 @@ pub record SegmentFound (place : ℕ) (words : List ℕ) (step : Step (List Item
   pub found : segment_behind place (plain (place + 1) others) ≡ step
 
 -- Words that are written for values, and further words, stand for these values and for those of the further words.
-plain-append : (place : ℕ) (vs ws : List ℕ) → AreBytes vs → plain place (written place vs ++ ws) ≡ vs ++ plain (place + length vs) ws
+plain-append : (place : ℕ) (vs ws : List ℕ) → AreBytes vs → plain place (written place vs ++ ws) ≡ vs
+    ++ plain (place + length vs) ws
 plain-append place [] ws fit = rw add-zero refl
 plain-append place (v ∷ vs) ws fit =
     let m = random_small place in
@@ -216,30 +275,43 @@ field_fits field count after (short d pos le f len) = rw f (omega arith, tt)
 field_fits field count after (long d e big small le f len) = rw f (small, (omega arith, tt))
 
 -- A length field says the same before the words and before their values.
-field_before : (place : ℕ) (field : List ℕ) (count : ℕ) (after : List ℕ) → IsLengthField field count after → IsLengthField field count (plain place after)
+field_before : (place : ℕ) (field : List ℕ) (count : ℕ) (after : List ℕ) → IsLengthField field count after
+    → IsLengthField field count (plain place after)
 field_before place field count after (to_the_end f m) = to_the_end f (rw m refl)
 field_before place field count after (short d pos le f len) = short d pos le f len
 field_before place field count after (long d e big small le f len) = long d e big small le f len
 
 -- A segment that is a prefix is found.
-pub segment_complete : (place : ℕ) (words after : List ℕ) (items : List Item) → IsSegment place words after items → SegmentFound place (words ++ after) (Takes (length words) items) × (0 < length words)
+pub segment_complete : (place : ℕ) (words after : List ℕ) (items : List Item) → IsSegment place words after items
+    → SegmentFound place (words ++ after) (Takes (length words) items) × (0 < length words)
 segment_complete place words after items s =
     let q = place + 1 + length (s.field ++ s.bytes) in
     let fit = AreBytes-append s.field s.bytes (field_fits s.field (length s.bytes) after s.counted) s.in_range in
-    let len : 1 + length s.field + length s.bytes ≡ length words = omega (arith, ap length s.whole, length-written (place + 1) (s.field ++ s.bytes), length-append s.field s.bytes) in
-    let again = segment_again place s.field s.bytes (plain q after) (field_before q s.field (length s.bytes) after s.counted) in (
+    let len : 1 + length s.field + length s.bytes
+    ≡ length words =
+    omega (
+      arith,
+      ap length s.whole,
+      length-written (place + 1) (s.field ++ s.bytes),
+      length-append s.field s.bytes,
+    ) in
+    let again =
+    segment_again place s.field s.bytes (plain q after)
+    (field_before q s.field (length s.bytes) after s.counted) in (
       record {
         latch = s.latch;
         others = written (place + 1) (s.field ++ s.bytes) ++ after;
         whole = ap (λ (x : List ℕ). x ++ after) s.whole;
         is_latch = s.is_latch;
-        found = ap (segment_behind place) (plain-append (place + 1) (s.field ++ s.bytes) after fit) ∙ again ∙ rw (len, s.items_are) refl;
+        found = ap (segment_behind place) (plain-append (place + 1) (s.field ++ s.bytes) after fit) ∙ again
+            ∙ rw (len, s.items_are) refl;
       },
       omega (arith, len),
     )
 
 -- A bad length that is a prefix is found.
-pub bad_complete : (place : ℕ) (words : List ℕ) → IsFaultySegment place words → SegmentFound place words (Stops (Some (fault.Length place)))
+pub bad_complete : (place : ℕ) (words : List ℕ) → IsFaultySegment place words
+    → SegmentFound place words (Stops (Some (fault.Length place)))
 bad_complete place words s = record {
   latch = s.latch;
   others = written (place + 1) s.values;
@@ -254,5 +326,14 @@ byte_items-length [] = refl
 byte_items-length (b ∷ bs) = ap suc (byte_items-length bs)
 
 -- A segment has at most two items for each word.
-pub segment_room : (place : ℕ) (words after : List ℕ) (items : List Item) → IsSegment place words after items → length items ≤ 2 * length words
-segment_room place words after items s = omega (arith, ap length s.items_are, byte_items-length s.bytes, ap length s.whole, length-written (place + 1) (s.field ++ s.bytes), length-append s.field s.bytes)
+pub segment_room : (place : ℕ) (words after : List ℕ) (items : List Item) → IsSegment place words after items
+    → length items ≤ 2 * length words
+segment_room place words after items s =
+    omega (
+      arith,
+      ap length s.items_are,
+      byte_items-length s.bytes,
+      ap length s.whole,
+      length-written (place + 1) (s.field ++ s.bytes),
+      length-append s.field s.bytes,
+    )

@@ -31,12 +31,14 @@ pub usual_or_not : (m : List Item) (words other : List ℕ) → IsPlainest words
 usual_or_not m words other s o same = ((λ says. o.usual words same says), (λ says. s.usual other (sym same) says))
 
 -- What the usual extent reads the wide one reads.
-pub wide_is_no_longer : (m : List Item) (words other : List ℕ) → IsSmallestFor Usual words m → IsSmallestFor Wide other m
+pub wide_is_no_longer : (m : List Item) (words other : List ℕ) → IsSmallestFor Usual words m
+    → IsSmallestFor Wide other m
     → length other ≤ length words
 wide_is_no_longer m words other s o = o.smallest words s.sized (wide_reads_the_same words m s.spells)
 
 -- A normal form with pads spells the message too.
-pub normal_is_no_shorter : (extent : Extent) (profile : Profile) (m : List Item) (words : List ℕ) (count : ℕ) → IsMessage m
+pub normal_is_no_shorter : (extent : Extent) (profile : Profile) (m : List Item) (words : List ℕ) (count : ℕ)
+    → IsMessage m
     → IsSmallestFor extent words m → IsDataCount count → length (normal_form profile m) ≤ count → length words ≤ count
 normal_is_no_shorter extent profile m words count fit s sized room =
     let long = normal_form_count profile m count room in

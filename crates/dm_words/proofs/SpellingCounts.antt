@@ -1,5 +1,6 @@
 -- How many values an item has in a run.
-use Rattle.std.proofs.Common.{◌≡◌, ℕ, ◌+◌, ◌-◌, ◌<◌, ◌≤◌, List, [], ◌∷◌, ◌++◌, length, refl, arith, Some, Bool, true, false, cond, ltb}
+use Rattle.std.proofs.Common.{◌≡◌, ℕ, ◌+◌, ◌-◌, ◌<◌, ◌≤◌, List, [], ◌∷◌, ◌++◌, length, refl, arith, Some, Bool, true}
+use Rattle.std.proofs.Common.{false, cond, ltb}
 use Rattle.std.specs.List.{AllByRecursion}
 use Rattle.std.proofs.lemmas.Bool.Decides.{nat_tests}
 use Rattle.dm_words.specs.declared.item.Item.{Item}
@@ -15,7 +16,8 @@ use Rattle.dm_words.specs.declared.c40.set.Shifted.{Shifted}
 use Rattle.dm_words.specs.declared.c40.set.Basic.TheVariants as basic
 use Rattle.dm_words.specs.declared.c40.set.Shifted.TheVariants as shifted
 use Rattle.dm_words.specs.CodeSets.{basic_of, shifted_of}
-use Rattle.dm_words.specs.Values.{IsRunValue, IsShifted, IsCharacter, plain, by_shift, IsSpelling, character, fnc1, raised}
+use Rattle.dm_words.specs.Values.{IsRunValue, IsShifted, IsCharacter, plain, by_shift, IsSpelling, character, fnc1}
+use Rattle.dm_words.specs.Values.{raised}
 use Rattle.dm_words.specs.inner.Costs.{is_basic, low_values, shift_values, set_values, unit_cost}
 use Rattle.dm_words.proofs.ItemBytes.{character_byte}
 
@@ -34,7 +36,8 @@ basic_is Text v b e = grind (arith, nat_tests)
 basic_is X12 v b e = grind (arith, nat_tests)
 
 -- A byte behind a shift isn't basic.
-shifted_is : (set : CodeSet) (shift : Shift) (v b : ℕ) → shifted_of set shift v ≡ Some (shifted.Character b) → is_basic set b ≡ false
+shifted_is : (set : CodeSet) (shift : Shift) (v b : ℕ) → shifted_of set shift v ≡ Some (shifted.Character b)
+    → is_basic set b ≡ false
 shifted_is X12 shift v b e = absurd cc
 shifted_is C40 One v b e = grind (arith, nat_tests)
 shifted_is C40 Two v b e = grind (arith, nat_tests)
@@ -63,13 +66,16 @@ back : (b : ℕ) → b + 128 - 128 ≡ b
 back b = omega arith
 
 -- The spelling of an item has as many values as the item.
-pub spelling_count : (set : CodeSet) (vs : List ℕ) (item : Item) → IsSpelling set vs item → length vs ≡ set_values set item
-spelling_count C40 vs item (character b c i) = rw (i, low_test b (character_byte C40 vs b c)) (character_count C40 vs b c)
+pub spelling_count : (set : CodeSet) (vs : List ℕ) (item : Item) → IsSpelling set vs item → length vs
+    ≡ set_values set item
+spelling_count C40 vs item (character b c i) =
+    rw (i, low_test b (character_byte C40 vs b c)) (character_count C40 vs b c)
 spelling_count C40 vs item (fnc1 s i) = rw (i, s.whole) refl
 spelling_count C40 vs item (raised upper more b u c w i) =
     let n = character_count C40 more b c in
     rw (i, w, u.whole, high_test b, back b) (omega (arith, n))
-spelling_count Text vs item (character b c i) = rw (i, low_test b (character_byte Text vs b c)) (character_count Text vs b c)
+spelling_count Text vs item (character b c i) =
+    rw (i, low_test b (character_byte Text vs b c)) (character_count Text vs b c)
 spelling_count Text vs item (fnc1 s i) = rw (i, s.whole) refl
 spelling_count Text vs item (raised upper more b u c w i) =
     let n = character_count Text more b c in
@@ -109,11 +115,13 @@ some_values c k (four e is) = omega (arith, is)
 
 -- In X12 a byte has one value.
 x12_byte : (b : ℕ) (vs : List ℕ) → IsCharacter X12 vs b → Ascii (unit_cost (Byte b)) (set_values X12 (Byte b))
-x12_byte b vs (plain v e w) = rw (low_test b (character_byte X12 vs b (plain v e w)), basic_is X12 v b e) (one refl refl)
+x12_byte b vs (plain v e w) =
+    rw (low_test b (character_byte X12 vs b (plain v e w)), basic_is X12 v b e) (one refl refl)
 x12_byte b vs (by_shift s) = absurd (let e = s.means in cc)
 
 -- An item with a spelling has one to four values.
-held_ascii : (set : CodeSet) (vs : List ℕ) (item : Item) → IsSpelling set vs item → Ascii (unit_cost item) (set_values set item)
+held_ascii : (set : CodeSet) (vs : List ℕ) (item : Item) → IsSpelling set vs item
+    → Ascii (unit_cost item) (set_values set item)
 held_ascii C40 vs item s = shift_held C40 item
 held_ascii Text vs item s = shift_held Text item
 held_ascii X12 vs item (character b c i) = rw i (x12_byte b vs c)
@@ -122,7 +130,8 @@ held_ascii X12 vs item (raised upper more b u c w i) = absurd (let e = u.means i
 
 -- An item with a spelling is held.
 pub held : (set : CodeSet) (vs : List ℕ) (item : Item) → IsSpelling set vs item → IsHeld set item
-held set vs item s = let a = held_ascii set vs item s in record { some = some_values (unit_cost item) (set_values set item) a; ascii = a }
+held set vs item s = let a =
+    held_ascii set vs item s in record { some = some_values (unit_cost item) (set_values set item) a; ascii = a }
 
 -- The values of tables are below 40.
 basic_small : (set : CodeSet) (v : ℕ) (m : Basic) → basic_of set v ≡ Some m → v < 40
@@ -143,7 +152,11 @@ abbrev Small : List ℕ → Type 0
 Small vs = AllByRecursion (λ v. v < 40) vs
 
 is_shifted_small : (set : CodeSet) (vs : List ℕ) (m : Shifted) → IsShifted set vs (Some m) → Small vs
-is_shifted_small set vs m s = rw s.whole (basic_small set s.first (basic.Shift s.shift) s.is_shift, (shifted_small set s.shift s.second m s.means, tt))
+is_shifted_small set vs m s =
+    rw s.whole (
+      basic_small set s.first (basic.Shift s.shift) s.is_shift,
+      (shifted_small set s.shift s.second m s.means, tt),
+    )
 
 character_small : (set : CodeSet) (vs : List ℕ) (b : ℕ) → IsCharacter set vs b → Small vs
 character_small set vs b (plain v e w) = rw w (basic_small set v (basic.Character b) e, tt)
@@ -159,7 +172,8 @@ spelling_small set vs item s = All-from_recursion (λ v. v < 40) vs (by_case s) 
   by_case : IsSpelling set vs item → Small vs
   by_case (character b c i) = character_small set vs b c
   by_case (fnc1 s i) = is_shifted_small set vs shifted.Fnc1 s
-  by_case (raised upper more b u c w i) = rw w (small_append upper more (is_shifted_small set upper shifted.UpperShift u) (character_small set more b c))
+  by_case (raised upper more b u c w i) =
+      rw w (small_append upper more (is_shifted_small set upper shifted.UpperShift u) (character_small set more b c))
 
 -- A spelling has at most four values.
 pub few_values : (set : CodeSet) (vs : List ℕ) (item : Item) → IsSpelling set vs item → length vs ≤ 4

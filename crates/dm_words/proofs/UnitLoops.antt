@@ -1,5 +1,6 @@
 -- The loop that writes one unit of ASCII after the other.
-use Rattle.std.proofs.Common.{◌≡◌, ℕ, suc, ◌+◌, ◌<◌, ◌≤◌, List, ◌∷◌, ◌++◌, length, get_or, drop, drop-cons, refl, ap, ap₂, sym, ◌∙◌, append_assoc, arith, length-append, Bool, true, false}
+use Rattle.std.proofs.Common.{◌≡◌, ℕ, suc, ◌+◌, ◌<◌, ◌≤◌, List, ◌∷◌, ◌++◌, length, get_or, drop, drop-cons, refl, ap}
+use Rattle.std.proofs.Common.{ap₂, sym, ◌∙◌, append_assoc, arith, length-append, Bool, true, false}
 use Rattle.std.specs.Prelude.{◌||◌}
 use Rattle.std.proofs.lemmas.List.{append-nil, at_drop_all}
 use Rattle.dm_words.specs.declared.item.Item.{Item}
@@ -25,37 +26,52 @@ has_unit (Raised w) items at lt b = record { words = b.0; some = omega arith; wi
 has_unit Fnc1 items at lt b = record { words = b.0; some = omega arith; within = omega arith; fnc1 = b.1 }
 
 -- One turn of the loop.
-pub unit_turn : (u : Unit) (items : List Item) (at : ℕ) (old new : List ℕ) → HasUnit u items at → ascii items ≡ old ++ ascii (drop at items) → new ≡ old ++ unit_words u
+pub unit_turn : (u : Unit) (items : List Item) (at : ℕ) (old new : List ℕ) → HasUnit u items at → ascii items ≡ old
+    ++ ascii (drop at items) → new ≡ old ++ unit_words u
     → ascii items ≡ new ++ ascii (drop (at + unit_items u) items)
-unit_turn u items at old new h so_far is = so_far ∙ ap (λ (r : List ℕ). old ++ r) h.words ∙ (rw is (sym (append_assoc old (unit_words u) (ascii (drop (at + unit_items u) items)))))
+unit_turn u items at old new h so_far is = so_far ∙ ap (λ (r : List ℕ). old ++ r) h.words
+    ∙ (rw is (sym (append_assoc old (unit_words u) (ascii (drop (at + unit_items u) items)))))
 
 -- There is room for the unit.
-pub unit_room : (u : Unit) (items : List Item) (at : ℕ) (old : List ℕ) → HasUnit u items at → ascii items ≡ old ++ ascii (drop at items) → length old + length (unit_words u) ≤ length (ascii items)
+pub unit_room : (u : Unit) (items : List Item) (at : ℕ) (old : List ℕ) → HasUnit u items at → ascii items ≡ old
+    ++ ascii (drop at items) → length old + length (unit_words u) ≤ length (ascii items)
 unit_room u items at old h so_far =
     let all = unit_turn u items at old (old ++ unit_words u) h so_far refl in
-    omega (arith, ap length all, length-append (old ++ unit_words u) (ascii (drop (at + unit_items u) items)), length-append old (unit_words u))
+    omega (
+      arith,
+      ap length all,
+      length-append (old ++ unit_words u) (ascii (drop (at + unit_items u) items)),
+      length-append old (unit_words u),
+    )
 
 -- Whether FNC1 is among the items is still known after one turn.
 pub fnc1_turn : (u : Unit) (items : List Item) (at : ℕ) (found here : Bool) → HasUnit u items at → here ≡ unit_is_fnc1 u
-    → (found || has_fnc1 (drop at items)) ≡ has_fnc1 items → ((found || here) || has_fnc1 (drop (at + unit_items u) items)) ≡ has_fnc1 items
+    → (found || has_fnc1 (drop at items)) ≡ has_fnc1 items
+    → ((found || here) || has_fnc1 (drop (at + unit_items u) items)) ≡ has_fnc1 items
 fnc1_turn u items at true here h is so_far = so_far
 fnc1_turn u items at false here h is so_far = rw is (sym h.fnc1 ∙ so_far)
 
 -- At the end the codewords of all items are there.
-pub words_end : (items : List Item) (at : ℕ) (words : List ℕ) → length items ≤ at → ascii items ≡ words ++ ascii (drop at items) → words ≡ ascii items
-words_end items at words le so_far = sym (so_far ∙ at_drop_all (λ (r : List Item). words ++ ascii r) items at le ∙ append-nil words)
+pub words_end : (items : List Item) (at : ℕ) (words : List ℕ) → length items ≤ at → ascii items ≡ words
+    ++ ascii (drop at items) → words ≡ ascii items
+words_end items at words le so_far =
+    sym (so_far ∙ at_drop_all (λ (r : List Item). words ++ ascii r) items at le ∙ append-nil words)
 
 -- At the end it is known whether FNC1 is among all items.
-pub fnc1_end : (items : List Item) (at : ℕ) (found : Bool) → length items ≤ at → (found || has_fnc1 (drop at items)) ≡ has_fnc1 items → found ≡ has_fnc1 items
+pub fnc1_end : (items : List Item) (at : ℕ) (found : Bool) → length items ≤ at → (found || has_fnc1 (drop at items))
+    ≡ has_fnc1 items → found ≡ has_fnc1 items
 fnc1_end items at true le so_far = so_far
 fnc1_end items at false le so_far = sym (at_drop_all has_fnc1 items at le) ∙ so_far
 
 -- Two digits at an index are the unit there.
-pub pair_begins : (items : List Item) (at b c word : ℕ) → at + 2 ≤ length items → get_or items at (Byte 0) ≡ Byte b → get_or items (at + 1) (Byte 0) ≡ Byte c
+pub pair_begins : (items : List Item) (at b c word : ℕ) → at + 2 ≤ length items → get_or items at (Byte 0) ≡ Byte b
+    → get_or items (at + 1) (Byte 0) ≡ Byte c
     → is_digit b ≡ true → is_digit c ≡ true → word ≡ digit_pair b c → BeginsAscii (Digits word) items at
 pair_begins items at b c word within first second hb hc is =
-    let behind : (i j : ℕ) (x : Item) → i < length items → get_or items i (Byte 0) ≡ x → suc i ≡ j → drop i items ≡ x ∷ drop j items =
+    let behind : (i j : ℕ) (x : Item) → i < length items → get_or items i (Byte 0) ≡ x → suc i ≡ j → drop i items
+    ≡ x ∷ drop j items =
     λ i j x lt is next. drop-cons items i (Byte 0) lt ∙ ap₂ (λ (y : Item) (k : ℕ). y ∷ drop k items) is next in
     let cut : drop at items ≡ Byte b ∷ Byte c ∷ drop (at + 2) items =
-    behind at (at + 1) (Byte b) (omega arith) first (omega arith) ∙ ap (λ (r : List Item). Byte b ∷ r) (behind (at + 1) (at + 2) (Byte c) (omega arith) second (omega arith)) in
+    behind at (at + 1) (Byte b) (omega arith) first (omega arith)
+    ∙ ap (λ (r : List Item). Byte b ∷ r) (behind (at + 1) (at + 2) (Byte c) (omega arith) second (omega arith)) in
     (rw (cut, hb, hc) (ap (λ (w : ℕ). w ∷ ascii (drop (at + 2) items)) (sym is)), rw cut refl, within)

@@ -1,5 +1,6 @@
 -- The units of ASCII that are written are units.
-use Rattle.std.proofs.Common.{◌≡◌, ◌≢◌, ℕ, ◌+◌, ◌-◌, ◌<◌, List, [], ◌∷◌, ◌++◌, length, take, drop, get_or, refl, sym, ap, subst, ◌∙◌, arith, Bool, true, false, cond, ltb, Some, None}
+use Rattle.std.proofs.Common.{◌≡◌, ◌≢◌, ℕ, ◌+◌, ◌-◌, ◌<◌, List, [], ◌∷◌, ◌++◌, length, take, drop, get_or, refl, sym}
+use Rattle.std.proofs.Common.{ap, subst, ◌∙◌, arith, Bool, true, false, cond, ltb, Some, None}
 use Rattle.std.proofs.lemmas.List.{at_drop_more}
 use Rattle.std.proofs.lemmas.List.Elements.{All-drop, recursion_from_All}
 use Rattle.dm_words.specs.declared.extent.Extent.{Extent}
@@ -22,13 +23,19 @@ has_meaning word meaning is e = (let none : codeword_of word ≡ None = ap codew
 
 -- A unit begins with no unlatch.
 unit_begins : (words : List ℕ) (items : List Item) → IsAsciiUnit words items → (0 < length words) × NoUnlatchFirst words
-unit_begins words items (character w b k e i) = subst (λ (l : List ℕ). (0 < length l) × NoUnlatchFirst l) (sym e) (omega arith, has_meaning w (codeword.Character b) k)
-unit_begins words items (digits w n k e i) = subst (λ (l : List ℕ). (0 < length l) × NoUnlatchFirst l) (sym e) (omega arith, has_meaning w (codeword.Digits n) k)
-unit_begins words items (fnc1 w k e i) = subst (λ (l : List ℕ). (0 < length l) × NoUnlatchFirst l) (sym e) (omega arith, has_meaning w codeword.Fnc1 k)
-unit_begins words items (raised s w b k l e i) = subst (λ (l : List ℕ). (0 < length l) × NoUnlatchFirst l) (sym e) (omega arith, has_meaning s codeword.UpperShift k)
+unit_begins words items (character w b k e i) =
+    subst (λ (l : List ℕ). (0 < length l) × NoUnlatchFirst l) (sym e)
+    (omega arith, has_meaning w (codeword.Character b) k)
+unit_begins words items (digits w n k e i) =
+    subst (λ (l : List ℕ). (0 < length l) × NoUnlatchFirst l) (sym e) (omega arith, has_meaning w (codeword.Digits n) k)
+unit_begins words items (fnc1 w k e i) =
+    subst (λ (l : List ℕ). (0 < length l) × NoUnlatchFirst l) (sym e) (omega arith, has_meaning w codeword.Fnc1 k)
+unit_begins words items (raised s w b k l e i) =
+    subst (λ (l : List ℕ). (0 < length l) × NoUnlatchFirst l) (sym e) (omega arith, has_meaning s codeword.UpperShift k)
 
 -- A unit was written.
-pub unit_written : (extent : Extent) (total : ℕ) (old new words : List ℕ) (items : List Item) → IsAsciiUnit words items → new ≡ old ++ words → IsPartWritten extent total old new items
+pub unit_written : (extent : Extent) (total : ℕ) (old new words : List ℕ) (items : List Item)
+    → IsAsciiUnit words items → new ≡ old ++ words → IsPartWritten extent total old new items
 unit_written extent total old new words items unit is =
     let b = unit_begins words items unit in
     record { part = words; some = b.0; begins = b.1; whole = is; right = λ after fills first. ascii unit }
@@ -39,7 +46,8 @@ item_unit (Byte b) fit = single_spells b fit []
 item_unit Fnc1 fit = fnc1 232 refl refl refl
 
 -- Two digits are a unit.
-pair_unit : (x y : Item) → is_digit_item x ≡ true → is_digit_item y ≡ true → IsAsciiUnit (digit_pair (byte_of x) (byte_of y) ∷ []) (x ∷ y ∷ [])
+pair_unit : (x y : Item) → is_digit_item x ≡ true → is_digit_item y ≡ true
+    → IsAsciiUnit (digit_pair (byte_of x) (byte_of y) ∷ []) (x ∷ y ∷ [])
 pair_unit (Byte b) (Byte c) hb hc = pair_spells b c hb hc
 pair_unit (Byte b) Fnc1 hb hc = absurd cc
 pair_unit Fnc1 y hb hc = absurd cc
@@ -65,26 +73,34 @@ item_fits m i d lt fit =
 
 -- One item, and two.
 take_one : (m : List Item) (i : ℕ) (d : Item) → i < length m → take (i + 1 - i) (drop i m) ≡ get_or m i d ∷ []
-take_one m i d lt = let one : i + 1 - i ≡ 1 = omega arith in ap (λ (k : ℕ). take k (drop i m)) one ∙ ap (take 1) (at_drop_more (λ (l : List Item). l) m i d lt)
+take_one m i d lt = let one : i + 1 - i ≡ 1 = omega arith in ap (λ (k : ℕ). take k (drop i m)) one
+    ∙ ap (take 1) (at_drop_more (λ (l : List Item). l) m i d lt)
 
-take_two : (m : List Item) (i : ℕ) (d : Item) → i + 1 < length m → take (i + 2 - i) (drop i m) ≡ get_or m i d ∷ get_or m (i + 1) d ∷ []
+take_two : (m : List Item) (i : ℕ) (d : Item) → i + 1 < length m → take (i + 2 - i) (drop i m)
+    ≡ get_or m i d ∷ get_or m (i + 1) d ∷ []
 take_two m i d lt =
     let two : i + 2 - i ≡ 2 = omega arith in
     ap (λ (k : ℕ). take k (drop i m)) two ∙ ap (take 2) (at_drop_more (λ (l : List Item). l) m i d (omega (arith, lt)))
     ∙ ap (λ (l : List Item). get_or m i d ∷ take 1 l) (at_drop_more (λ (l : List Item). l) m (i + 1) d lt)
 
 -- An item at an index was written by itself.
-pub one_written : (extent : Extent) (total : ℕ) (old new words : List ℕ) (m : List Item) (i : ℕ) (d : Item) → i < length m → IsMessage m → words ≡ item_words (get_or m i d) → new ≡ old ++ words
+pub one_written : (extent : Extent) (total : ℕ) (old new words : List ℕ) (m : List Item) (i : ℕ) (d : Item)
+    → i < length m → IsMessage m → words ≡ item_words (get_or m i d) → new ≡ old ++ words
     → IsPartWritten extent total old new (take (i + 1 - i) (drop i m))
 one_written extent total old new words m i d lt fit are is =
     subst (λ (l : List Item). IsPartWritten extent total old new l) (sym (take_one m i d lt))
-    (unit_written extent total old new words (get_or m i d ∷ []) (subst (λ (l : List ℕ). IsAsciiUnit l (get_or m i d ∷ [])) (sym are) (item_unit (get_or m i d) (item_fits m i d lt fit))) is)
+    (unit_written extent total old new words (get_or m i d ∷ [])
+    (subst (λ (l : List ℕ). IsAsciiUnit l (get_or m i d ∷ [])) (sym are)
+    (item_unit (get_or m i d) (item_fits m i d lt fit))) is)
 
 -- Two digits at an index were written together.
-pub two_written : (extent : Extent) (total : ℕ) (old new : List ℕ) (word : ℕ) (m : List Item) (i : ℕ) (d : Item) → i + 1 < length m → is_digit_item (get_or m i d) ≡ true → is_digit_item (get_or m (i + 1) d) ≡ true
-    → word ≡ digit_pair (byte_of (get_or m i d)) (byte_of (get_or m (i + 1) d)) → new ≡ old ++ word ∷ [] → IsPartWritten extent total old new (take (i + 2 - i) (drop i m))
+pub two_written : (extent : Extent) (total : ℕ) (old new : List ℕ) (word : ℕ) (m : List Item) (i : ℕ) (d : Item)
+    → i + 1 < length m → is_digit_item (get_or m i d) ≡ true → is_digit_item (get_or m (i + 1) d) ≡ true
+    → word ≡ digit_pair (byte_of (get_or m i d)) (byte_of (get_or m (i + 1) d)) → new ≡ old ++ word ∷ []
+    → IsPartWritten extent total old new (take (i + 2 - i) (drop i m))
 two_written extent total old new word m i d lt tens ones are is =
     let x = get_or m i d in
     let y = get_or m (i + 1) d in
     subst (λ (l : List Item). IsPartWritten extent total old new l) (sym (take_two m i d lt))
-    (unit_written extent total old new (word ∷ []) (x ∷ y ∷ []) (subst (λ (w : ℕ). IsAsciiUnit (w ∷ []) (x ∷ y ∷ [])) (sym are) (pair_unit x y tens ones)) is)
+    (unit_written extent total old new (word ∷ []) (x ∷ y ∷ [])
+    (subst (λ (w : ℕ). IsAsciiUnit (w ∷ []) (x ∷ y ∷ [])) (sym are) (pair_unit x y tens ones)) is)

@@ -1,5 +1,6 @@
 -- The items that the scan finds among the values of a run are those that they spell.
-use Rattle.std.proofs.Common.{◌≡◌, ◌≢◌, ℕ, ◌+◌, ◌<◌, ◌≤◌, List, [], ◌∷◌, ◌++◌, length, take, drop, refl, sym, ap, subst, ◌∙◌, arith, Option, Some, None, inl, inr, ◌⊎◌}
+use Rattle.std.proofs.Common.{◌≡◌, ◌≢◌, ℕ, ◌+◌, ◌<◌, ◌≤◌, List, [], ◌∷◌, ◌++◌, length, take, drop, refl, sym, ap, subst}
+use Rattle.std.proofs.Common.{◌∙◌, arith, Option, Some, None, inl, inr, ◌⊎◌}
 use Rattle.std.specs.List.{AllByRecursion}
 use Rattle.std.proofs.lemmas.Bool.Decides.{nat_tests}
 use Rattle.std.proofs.lemmas.List.Elements.{recursion_from_All}
@@ -16,10 +17,14 @@ use Rattle.dm_words.specs.declared.c40.set.Shifted.TheVariants as shifted
 use Rattle.dm_words.specs.declared.c40.value.Rest.{Rest}
 use Rattle.dm_words.specs.declared.c40.value.Rest.TheVariants as left
 use Rattle.dm_words.specs.CodeSets.{basic_of, shifted_of}
-use Rattle.dm_words.specs.Values.{IsShifted, IsUpperShift, IsCharacter, plain, by_shift, IsSpelling, character, fnc1, raised, IsFiller, nothing, lone_shift, IsWaiting, BeginsWithoutMeaning, at_once, after_upper_shift, BeginsWrongUpperShift, IsRest, complete, waiting, meaningless, wrong_upper_shift}
+use Rattle.dm_words.specs.Values.{IsShifted, IsUpperShift, IsCharacter, plain, by_shift, IsSpelling, character, fnc1}
+use Rattle.dm_words.specs.Values.{raised, IsFiller, nothing, lone_shift, IsWaiting, BeginsWithoutMeaning, at_once}
+use Rattle.dm_words.specs.Values.{after_upper_shift, BeginsWrongUpperShift, IsRest, complete, waiting, meaningless}
+use Rattle.dm_words.specs.Values.{wrong_upper_shift}
 use Rattle.dm_words.specs.Laws.{AreRunValues, BeginsNoSpelling}
 use Rattle.dm_words.specs.inner.Scan.Walk.{Step, Takes, Stops}
-use Rattle.dm_words.specs.inner.Scan.Prefixes.{raised_shifted, raised_by, first_raised, shifted_by, spelling_by, first_spelling}
+use Rattle.dm_words.specs.inner.Scan.Prefixes.{raised_shifted, raised_by, first_raised, shifted_by, spelling_by}
+use Rattle.dm_words.specs.inner.Scan.Prefixes.{first_spelling}
 use Rattle.dm_words.proofs.Walks.{IsSound, IsComplete}
 
 -- A spelling is right wherever it stands.
@@ -57,38 +62,91 @@ Judged set values (Takes n item) = Right set values n item
 Judged set values (Stops kind) = AreSmall values → IsRestOf set values kind
 
 -- A shift and the value after it have this meaning.
-shift_means : (set : CodeSet) (s v : ℕ) (shift : Shift) (meaning : Option Shifted) → basic_of set s ≡ Some (basic.Shift shift) → shifted_of set shift v ≡ meaning → IsShifted set (s ∷ v ∷ []) meaning
-shift_means set s v shift meaning es ev = record { first = s; second = v; shift = shift; is_shift = es; means = ev; whole = refl }
+shift_means : (set : CodeSet) (s v : ℕ) (shift : Shift) (meaning : Option Shifted) → basic_of set s
+    ≡ Some (basic.Shift shift) → shifted_of set shift v ≡ meaning → IsShifted set (s ∷ v ∷ []) meaning
+shift_means set s v shift meaning es ev =
+    record { first = s; second = v; shift = shift; is_shift = es; means = ev; whole = refl }
 
 -- What is found behind an Upper Shift and a shift is right.
-judged_raised_shifted : (set : CodeSet) (s v t w : ℕ) (shift : Shift) (more : List ℕ) (k : Option Shifted) → IsUpperShift set (s ∷ v ∷ []) → basic_of set t ≡ Some (basic.Shift shift) → shifted_of set shift w ≡ k
+judged_raised_shifted : (set : CodeSet) (s v t w : ℕ) (shift : Shift) (more : List ℕ) (k : Option Shifted)
+    → IsUpperShift set (s ∷ v ∷ []) → basic_of set t ≡ Some (basic.Shift shift) → shifted_of set shift w ≡ k
     → Judged set (s ∷ v ∷ t ∷ w ∷ more) (raised_shifted k)
-judged_raised_shifted set s v t w shift more (Some (shifted.Character b)) u et ew = (raised (s ∷ v ∷ []) (t ∷ w ∷ []) b u (by_shift (shift_means set t w shift _ et ew)) refl refl, omega arith, omega arith)
-judged_raised_shifted set s v t w shift more (Some shifted.Fnc1) u et ew = λ fit. record { upper = s ∷ v ∷ []; two = t ∷ w ∷ []; more = more; is_upper = u; is_wrong = inl (shift_means set t w shift _ et ew); whole = refl }
-judged_raised_shifted set s v t w shift more (Some shifted.UpperShift) u et ew = λ fit. record { upper = s ∷ v ∷ []; two = t ∷ w ∷ []; more = more; is_upper = u; is_wrong = inr (shift_means set t w shift _ et ew); whole = refl }
-judged_raised_shifted set s v t w shift more None u et ew = λ fit. after_upper_shift (s ∷ v ∷ []) (t ∷ w ∷ []) more u (shift_means set t w shift _ et ew) refl refl
+judged_raised_shifted set s v t w shift more (Some (shifted.Character b)) u et ew = (
+  raised (s ∷ v ∷ []) (t ∷ w ∷ []) b u (by_shift (shift_means set t w shift _ et ew)) refl refl,
+  omega arith,
+  omega arith,
+)
+judged_raised_shifted set s v t w shift more (Some shifted.Fnc1) u et ew =
+    λ fit. record {
+      upper = s ∷ v ∷ [];
+      two = t ∷ w ∷ [];
+      more = more;
+      is_upper = u;
+      is_wrong =
+          inl (shift_means set t w shift _ et ew);
+      whole = refl;
+    }
+judged_raised_shifted set s v t w shift more (Some shifted.UpperShift) u et ew =
+    λ fit. record {
+      upper = s ∷ v ∷ [];
+      two = t ∷ w ∷ [];
+      more = more;
+      is_upper = u;
+      is_wrong =
+          inr (shift_means set t w shift _ et ew);
+      whole = refl;
+    }
+judged_raised_shifted set s v t w shift more None u et ew =
+    λ fit. after_upper_shift (s ∷ v ∷ []) (t ∷ w ∷ []) more u (shift_means set t w shift _ et ew) refl refl
 
 -- What is found behind an Upper Shift is right.
-judged_raised : (set : CodeSet) (s v t : ℕ) (more : List ℕ) (k : Option Basic) → IsUpperShift set (s ∷ v ∷ []) → basic_of set t ≡ k → Judged set (s ∷ v ∷ t ∷ more) (raised_by set more k)
+judged_raised : (set : CodeSet) (s v t : ℕ) (more : List ℕ) (k : Option Basic) → IsUpperShift set (s ∷ v ∷ [])
+    → basic_of set t ≡ k → Judged set (s ∷ v ∷ t ∷ more) (raised_by set more k)
 judged_raised set s v t more None u et = λ fit. absurd (basic_some set t fit.1.1.0 et)
-judged_raised set s v t more (Some (basic.Character b)) u et = (raised (s ∷ v ∷ []) (t ∷ []) b u (plain t et refl) refl refl, omega arith, omega arith)
-judged_raised set s v t [] (Some (basic.Shift shift)) u et = λ fit. record { upper = s ∷ v ∷ []; filler = t ∷ []; is_upper = u; ended = lone_shift t shift et refl; whole = refl }
-judged_raised set s v t (w ∷ more) (Some (basic.Shift shift)) u et = judged_raised_shifted set s v t w shift more (shifted_of set shift w) u et refl
+judged_raised set s v t more (Some (basic.Character b)) u et =
+    (raised (s ∷ v ∷ []) (t ∷ []) b u (plain t et refl) refl refl, omega arith, omega arith)
+judged_raised set s v t [] (Some (basic.Shift shift)) u et =
+    λ fit. record {
+      upper = s ∷ v ∷ [];
+      filler = t ∷ [];
+      is_upper = u;
+      ended = lone_shift t shift et refl;
+      whole =
+          refl;
+    }
+judged_raised set s v t (w ∷ more) (Some (basic.Shift shift)) u et =
+    judged_raised_shifted set s v t w shift more (shifted_of set shift w) u et refl
 
 -- What is found behind a shift is right.
-judged_shifted : (set : CodeSet) (s v : ℕ) (shift : Shift) (more : List ℕ) (k : Option Shifted) → basic_of set s ≡ Some (basic.Shift shift) → shifted_of set shift v ≡ k → Judged set (s ∷ v ∷ more) (shifted_by set more k)
-judged_shifted set s v shift more (Some (shifted.Character b)) es ev = (character b (by_shift (shift_means set s v shift _ es ev)) refl, omega arith, omega arith)
-judged_shifted set s v shift more (Some shifted.Fnc1) es ev = (fnc1 (shift_means set s v shift _ es ev) refl, omega arith, omega arith)
-judged_shifted set s v shift more None es ev = λ fit. at_once (s ∷ v ∷ []) more (shift_means set s v shift _ es ev) refl refl
-judged_shifted set s v shift [] (Some shifted.UpperShift) es ev = λ fit. record { upper = s ∷ v ∷ []; filler = []; is_upper = shift_means set s v shift _ es ev; ended = nothing refl; whole = refl }
-judged_shifted set s v shift (t ∷ more) (Some shifted.UpperShift) es ev = judged_raised set s v t more (basic_of set t) (shift_means set s v shift _ es ev) refl
+judged_shifted : (set : CodeSet) (s v : ℕ) (shift : Shift) (more : List ℕ) (k : Option Shifted) → basic_of set s
+    ≡ Some (basic.Shift shift) → shifted_of set shift v ≡ k → Judged set (s ∷ v ∷ more) (shifted_by set more k)
+judged_shifted set s v shift more (Some (shifted.Character b)) es ev =
+    (character b (by_shift (shift_means set s v shift _ es ev)) refl, omega arith, omega arith)
+judged_shifted set s v shift more (Some shifted.Fnc1) es ev =
+    (fnc1 (shift_means set s v shift _ es ev) refl, omega arith, omega arith)
+judged_shifted set s v shift more None es ev =
+    λ fit. at_once (s ∷ v ∷ []) more (shift_means set s v shift _ es ev) refl refl
+judged_shifted set s v shift [] (Some shifted.UpperShift) es ev =
+    λ fit. record {
+      upper = s ∷ v ∷ [];
+      filler = [];
+      is_upper = shift_means set s v shift _ es ev;
+      ended =
+          nothing refl;
+      whole = refl;
+    }
+judged_shifted set s v shift (t ∷ more) (Some shifted.UpperShift) es ev =
+    judged_raised set s v t more (basic_of set t) (shift_means set s v shift _ es ev) refl
 
 -- What is found by the meaning of the first value is right.
-judged_spelling : (set : CodeSet) (s : ℕ) (more : List ℕ) (k : Option Basic) → basic_of set s ≡ k → Judged set (s ∷ more) (spelling_by set more k)
+judged_spelling : (set : CodeSet) (s : ℕ) (more : List ℕ) (k : Option Basic) → basic_of set s ≡ k
+    → Judged set (s ∷ more) (spelling_by set more k)
 judged_spelling set s more None es = λ fit. absurd (basic_some set s fit.0 es)
-judged_spelling set s more (Some (basic.Character b)) es = (character b (plain s es refl) refl, omega arith, omega arith)
+judged_spelling set s more (Some (basic.Character b)) es =
+    (character b (plain s es refl) refl, omega arith, omega arith)
 judged_spelling set s [] (Some (basic.Shift shift)) es = λ fit. lone_shift s shift es refl
-judged_spelling set s (v ∷ more) (Some (basic.Shift shift)) es = judged_shifted set s v shift more (shifted_of set shift v) es refl
+judged_spelling set s (v ∷ more) (Some (basic.Shift shift)) es =
+    judged_shifted set s v shift more (shifted_of set shift v) es refl
 
 -- Whatever is found is right.
 judged : (set : CodeSet) (place : ℕ) (values : List ℕ) → Judged set values (first_spelling set place values)
@@ -98,23 +156,28 @@ judged set place (s ∷ more) = judged_spelling set s more (basic_of set s) refl
 -- A spelling that is found is one.
 pub item_sound : (set : CodeSet) → IsSound (first_spelling set) (ItemRight set) Anything
 item_sound set = record {
-  right = λ place values n item fit e. let P : Step Item Rest → Type 0 = λ s. Judged set values s in subst P e (judged set place values);
+  right = λ place values n item fit e. let P : Step Item Rest
+      → Type 0 = λ s. Judged set values s in subst P e (judged set place values);
   fits = λ n values fit. tt;
 }
 
 -- A rest that is found is of its kind.
-pub rest_sound : (set : CodeSet) (place : ℕ) (values : List ℕ) (kind : Rest) → AreSmall values → first_spelling set place values ≡ Stops kind → IsRestOf set values kind
-rest_sound set place values kind fit e = (let P : Step Item Rest → Type 0 = λ s. Judged set values s in subst P e (judged set place values)) fit
+pub rest_sound : (set : CodeSet) (place : ℕ) (values : List ℕ) (kind : Rest) → AreSmall values
+    → first_spelling set place values ≡ Stops kind → IsRestOf set values kind
+rest_sound set place values kind fit e =
+    (let P : Step Item Rest → Type 0 = λ s. Judged set values s in subst P e (judged set place values)) fit
 
 -- ---- the other way
 
 -- A character behind an Upper Shift is found.
-raised_character : (set : CodeSet) (values after : List ℕ) (b : ℕ) → IsCharacter set values b → (first_raised set (values ++ after) ≡ Takes (2 + length values) (Byte (b + 128))) × (0 < length values)
+raised_character : (set : CodeSet) (values after : List ℕ) (b : ℕ) → IsCharacter set values b
+    → (first_raised set (values ++ after) ≡ Takes (2 + length values) (Byte (b + 128))) × (0 < length values)
 raised_character set values after b (plain v e w) = rw w ((rw e refl), omega arith)
 raised_character set values after b (by_shift s) = rw s.whole ((rw (s.is_shift, s.means) refl), omega arith)
 
 -- A character that is a prefix is found.
-one_character : (set : CodeSet) (place : ℕ) (values after : List ℕ) (b : ℕ) → IsCharacter set values b → (first_spelling set place (values ++ after) ≡ Takes (length values) (Byte b)) × (0 < length values)
+one_character : (set : CodeSet) (place : ℕ) (values after : List ℕ) (b : ℕ) → IsCharacter set values b
+    → (first_spelling set place (values ++ after) ≡ Takes (length values) (Byte b)) × (0 < length values)
 one_character set place values after b (plain v e w) = rw w ((rw e refl), omega arith)
 one_character set place values after b (by_shift s) = rw s.whole ((rw (s.is_shift, s.means) refl), omega arith)
 
@@ -124,27 +187,40 @@ item_complete set place values after item (character b c i) = rw i (one_characte
 item_complete set place values after item (fnc1 s i) = rw (s.whole, i) ((rw (s.is_shift, s.means) refl), omega arith)
 item_complete set place values after item (raised upper more b u c w i) =
     let r = raised_character set more after b c in
-    rw (w, u.whole, i) ((rw (u.is_shift, u.means, r.0) (ap (λ (n : ℕ). Takes n (Byte (b + 128))) (omega arith))), omega arith)
+    rw (w, u.whole, i) (
+      (rw (u.is_shift, u.means, r.0) (ap (λ (n : ℕ). Takes n (Byte (b + 128))) (omega arith))),
+      omega arith,
+    )
 
 -- An Upper Shift that waits is found.
-waiting_complete : (set : CodeSet) (place : ℕ) (values upper filler : List ℕ) → IsUpperShift set upper → IsFiller set filler → values ≡ upper ++ filler → first_spelling set place values ≡ Stops left.Waiting
+waiting_complete : (set : CodeSet) (place : ℕ) (values upper filler : List ℕ) → IsUpperShift set upper
+    → IsFiller set filler → values ≡ upper ++ filler → first_spelling set place values ≡ Stops left.Waiting
 waiting_complete set place values upper filler u (nothing e) w = rw (w, u.whole, e) (rw (u.is_shift, u.means) refl)
-waiting_complete set place values upper filler u (lone_shift v shift e is) w = rw (w, u.whole, is) (rw (u.is_shift, u.means, e) refl)
+waiting_complete set place values upper filler u (lone_shift v shift e is) w =
+    rw (w, u.whole, is) (rw (u.is_shift, u.means, e) refl)
 
 -- An Upper Shift before something that is not a character is found.
-wrong_complete : (set : CodeSet) (place : ℕ) (values upper pair more : List ℕ) → IsUpperShift set upper → IsShifted set pair (Some shifted.Fnc1) ⊎ IsUpperShift set pair → values ≡ upper ++ (pair ++ more)
+wrong_complete : (set : CodeSet) (place : ℕ) (values upper pair more : List ℕ) → IsUpperShift set upper
+    → IsShifted set pair (Some shifted.Fnc1) ⊎ IsUpperShift set pair → values ≡ upper ++ (pair ++ more)
     → first_spelling set place values ≡ Stops left.WrongUpperShift
-wrong_complete set place values upper pair more u (inl t) w = rw (w, u.whole, t.whole) (rw (u.is_shift, u.means, t.is_shift, t.means) refl)
-wrong_complete set place values upper pair more u (inr t) w = rw (w, u.whole, t.whole) (rw (u.is_shift, u.means, t.is_shift, t.means) refl)
+wrong_complete set place values upper pair more u (inl t) w =
+    rw (w, u.whole, t.whole) (rw (u.is_shift, u.means, t.is_shift, t.means) refl)
+wrong_complete set place values upper pair more u (inr t) w =
+    rw (w, u.whole, t.whole) (rw (u.is_shift, u.means, t.is_shift, t.means) refl)
 
 -- A rest of each kind is found.
-pub rest_complete : (set : CodeSet) (place : ℕ) (values : List ℕ) (kind : Rest) → IsRestOf set values kind → first_spelling set place values ≡ Stops kind
+pub rest_complete : (set : CodeSet) (place : ℕ) (values : List ℕ) (kind : Rest) → IsRestOf set values kind
+    → first_spelling set place values ≡ Stops kind
 rest_complete set place values left.Complete (nothing w) = rw w refl
 rest_complete set place values left.Complete (lone_shift v shift e w) = rw w (rw e refl)
-rest_complete set place values left.Waiting r = waiting_complete set place values r.upper r.filler r.is_upper r.ended r.whole
-rest_complete set place values left.WrongUpperShift r = wrong_complete set place values r.upper r.two r.more r.is_upper r.is_wrong r.whole
-rest_complete set place values (left.Meaningless index) (at_once pair more s w i) = rw (w, s.whole, i) (rw (s.is_shift, s.means) refl)
-rest_complete set place values (left.Meaningless index) (after_upper_shift upper pair more u s w i) = rw (w, u.whole, s.whole, i) (rw (u.is_shift, u.means, s.is_shift, s.means) refl)
+rest_complete set place values left.Waiting r =
+    waiting_complete set place values r.upper r.filler r.is_upper r.ended r.whole
+rest_complete set place values left.WrongUpperShift r =
+    wrong_complete set place values r.upper r.two r.more r.is_upper r.is_wrong r.whole
+rest_complete set place values (left.Meaningless index) (at_once pair more s w i) =
+    rw (w, s.whole, i) (rw (s.is_shift, s.means) refl)
+rest_complete set place values (left.Meaningless index) (after_upper_shift upper pair more u s w i) =
+    rw (w, u.whole, s.whole, i) (rw (u.is_shift, u.means, s.is_shift, s.means) refl)
 
 -- ---- what can stand behind the last whole spelling has no whole spelling as a prefix
 
@@ -172,10 +248,15 @@ rest_begins_no_spelling set values r prefix more item e s =
     cc
 
 -- Whatever is found first, values with no whole spelling there are a rest.
-no_spelling_by : (set : CodeSet) (values : List ℕ) (s : Step Item Rest) → first_spelling set 0 values ≡ s → AreSmall values → BeginsNoSpelling set values → IsRest set values
-no_spelling_by set values (Takes n item) e fit none = absurd (none (take n values) (drop n values) item (sym (take-append-drop n values)) ((item_sound set).right 0 values n item tt e).0)
+no_spelling_by : (set : CodeSet) (values : List ℕ) (s : Step Item Rest) → first_spelling set 0 values ≡ s
+    → AreSmall values → BeginsNoSpelling set values → IsRest set values
+no_spelling_by set values (Takes n item) e fit none =
+    absurd (none (take n values) (drop n values) item (sym (take-append-drop n values))
+    ((item_sound set).right 0 values n item tt e).0)
 no_spelling_by set values (Stops kind) e fit none = rest_of set values kind (rest_sound set 0 values kind fit e)
 
 -- Values with no whole spelling as a prefix are a rest.
-pub no_spelling_is_rest : (set : CodeSet) (values : List ℕ) → AreRunValues values → BeginsNoSpelling set values → IsRest set values
-no_spelling_is_rest set values fit none = no_spelling_by set values (first_spelling set 0 values) refl (recursion_from_All (λ v. v < 40) values fit) none
+pub no_spelling_is_rest : (set : CodeSet) (values : List ℕ) → AreRunValues values → BeginsNoSpelling set values
+    → IsRest set values
+no_spelling_is_rest set values fit none =
+    no_spelling_by set values (first_spelling set 0 values) refl (recursion_from_All (λ v. v < 40) values fit) none

@@ -1,5 +1,6 @@
 -- ASCII encodation (ISO/IEC 16022, ASCII encodation), and the ASCII form of a message.
-use Rattle.std.specs.Prelude.{◌≡◌, ℕ, ◌+◌, ◌-◌, ◌*◌, ◌/◌, ◌%◌, List, [], ◌∷◌, ◌++◌, Bool, IsTrue, Some, nat_le, nat_lt, ◌&&◌, if◌then◌else◌}
+use Rattle.std.specs.Prelude.{◌≡◌, ℕ, ◌+◌, ◌-◌, ◌*◌, ◌/◌, ◌%◌, List, [], ◌∷◌, ◌++◌, Bool, IsTrue, Some, nat_le, nat_lt}
+use Rattle.std.specs.Prelude.{◌&&◌, if◌then◌else◌}
 use Rattle.std.specs.List.{AllByRecursion}
 use Rattle.dm_words.specs.declared.item.Item.{Item}
 use Rattle.dm_words.specs.declared.item.Item.TheVariants.{Byte, Fnc1}
@@ -9,10 +10,14 @@ use Rattle.dm_words.specs.Joined.{Piece, spelled, gathered}
 
 -- A unit of ASCII is a character, two digits, FNC1, or an Upper Shift and a character, whose byte it raises by 128.
 pub data IsAsciiUnit (words : List ℕ) (items : List Item) : Type 0 where
-  character : (word byte : ℕ) → codeword_of word ≡ Some (codeword.Character byte) → words ≡ word ∷ [] → items ≡ Byte byte ∷ [] → IsAsciiUnit words items
-  digits : (word number : ℕ) → codeword_of word ≡ Some (codeword.Digits number) → words ≡ word ∷ [] → items ≡ Byte (48 + number / 10) ∷ Byte (48 + number % 10) ∷ [] → IsAsciiUnit words items
-  fnc1 : (word : ℕ) → codeword_of word ≡ Some codeword.Fnc1 → words ≡ word ∷ [] → items ≡ Fnc1 ∷ [] → IsAsciiUnit words items
-  raised : (shift word byte : ℕ) → codeword_of shift ≡ Some codeword.UpperShift → codeword_of word ≡ Some (codeword.Character byte)
+  character : (word byte : ℕ) → codeword_of word ≡ Some (codeword.Character byte) → words ≡ word ∷ [] → items
+      ≡ Byte byte ∷ [] → IsAsciiUnit words items
+  digits : (word number : ℕ) → codeword_of word ≡ Some (codeword.Digits number) → words ≡ word ∷ [] → items
+      ≡ Byte (48 + number / 10) ∷ Byte (48 + number % 10) ∷ [] → IsAsciiUnit words items
+  fnc1 : (word : ℕ) → codeword_of word ≡ Some codeword.Fnc1 → words ≡ word ∷ [] → items ≡ Fnc1 ∷ []
+      → IsAsciiUnit words items
+  raised : (shift word byte : ℕ) → codeword_of shift ≡ Some codeword.UpperShift → codeword_of word
+      ≡ Some (codeword.Character byte)
       → words ≡ shift ∷ word ∷ [] → items ≡ Byte (byte + 128) ∷ [] → IsAsciiUnit words items
 
 -- The byte is a digit, 0 to 9.
@@ -35,7 +40,8 @@ IsGreedy [] = Unit {0}
 IsGreedy (unit ∷ []) = Unit {0}
 IsGreedy (unit ∷ next ∷ rest) = (IsOneDigit unit.what → BeginsWithDigit next.what → ⊥) × IsGreedy (next ∷ rest)
 
--- The ASCII form of a message is a sequence of units, with no single digit before a digit, whose items, joined, are the message. The standard
+-- The ASCII form of a message is a sequence of units, with no single digit before a digit, whose items, joined, are the
+-- message. The standard
 -- allows other sequences; that this one is taken is a rule of this project.
 pub record IsAscii (message : List Item) (words : List ℕ) : Type 0 where
   pub units : List (Piece (List Item))
@@ -52,10 +58,13 @@ digit_pair tens ones = first_digits + (10 * (tens - 48) + (ones - 48))
 abbrev pub single : ℕ → List ℕ
 single byte = if nat_lt byte 128 then (byte + 1) ∷ [] else upper_shift ∷ (byte - 127) ∷ []
 
--- The ASCII form is computed from the left, whose bytes are 0 to 255: where two digits come first, they are taken together.
+-- The ASCII form is computed from the left, whose bytes are 0 to 255: where two digits come first, they are taken
+-- together.
 abbrev pub ascii : List Item → List ℕ
 ascii [] = []
 ascii (Fnc1 ∷ rest) = fnc1_word ∷ ascii rest
 ascii (Byte byte ∷ []) = single byte
 ascii (Byte byte ∷ Fnc1 ∷ rest) = single byte ++ ascii (Fnc1 ∷ rest)
-ascii (Byte byte ∷ Byte next ∷ rest) = if is_digit byte && is_digit next then digit_pair byte next ∷ ascii rest else single byte ++ ascii (Byte next ∷ rest)
+ascii (Byte byte ∷ Byte next ∷ rest) =
+    if is_digit byte && is_digit next then digit_pair byte next ∷ ascii rest else single byte
+    ++ ascii (Byte next ∷ rest)

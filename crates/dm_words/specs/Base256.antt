@@ -31,11 +31,13 @@ most_short = 249
 abbrev pub long_count : ℕ → ℕ → ℕ
 long_count first second = (most_short + 1) * (first - most_short) + second
 
--- A length field for `count` bytes is the one number 0, for all bytes up to the end of the symbol; or one number of 1 to 249, which is the count
+-- A length field for `count` bytes is the one number 0, for all bytes up to the end of the symbol; or one number of 1
+-- to 249, which is the count
 -- itself; or a first number of 250 to 255 and a second one of 0 to 249. `after` are the codewords after those bytes.
 pub data IsLengthField (field : List ℕ) (count : ℕ) (after : List ℕ) : Type 0 where
   to_the_end : field ≡ 0 ∷ [] → after ≡ [] → IsLengthField field count after
-  short : (first : ℕ) → 0 < first → first ≤ most_short → field ≡ first ∷ [] → count ≡ first → IsLengthField field count after
+  short : (first : ℕ) → 0 < first → first ≤ most_short → field ≡ first ∷ [] → count ≡ first
+      → IsLengthField field count after
   long : (first second : ℕ) → most_short < first → first < 256 → second ≤ most_short → field ≡ first ∷ second ∷ []
       → count ≡ long_count first second → IsLengthField field count after
 
@@ -50,18 +52,24 @@ pub record IsSegment (place : ℕ) (words after : List ℕ) (items : List Item) 
   pub whole : words ≡ latch ∷ written (place + 1) (field ++ bytes)
   pub items_are : items ≡ byte_items bytes
 
--- The values up to the end of the symbol don't begin with a whole length field and as many bytes as it says. Either there is no length number,
--- or there are fewer bytes than it says; or a first number of 250 or more is followed by no second one, by one above 249, or by fewer bytes
+-- The values up to the end of the symbol don't begin with a whole length field and as many bytes as it says. Either
+-- there is no length number,
+-- or there are fewer bytes than it says; or a first number of 250 or more is followed by no second one, by one above
+-- 249, or by fewer bytes
 -- than the two say.
 pub data IsBadLength (values : List ℕ) : Type 0 where
   missing : values ≡ [] → IsBadLength values
-  past_short : (first : ℕ) (more : List ℕ) → first ≤ most_short → values ≡ first ∷ more → length more < first → IsBadLength values
+  past_short : (first : ℕ) (more : List ℕ) → first ≤ most_short → values ≡ first ∷ more → length more < first
+      → IsBadLength values
   no_second : (first : ℕ) → most_short < first → values ≡ first ∷ [] → IsBadLength values
-  wrong_second : (first second : ℕ) (more : List ℕ) → most_short < first → most_short < second → values ≡ first ∷ second ∷ more → IsBadLength values
-  past_long : (first second : ℕ) (more : List ℕ) → most_short < first → second ≤ most_short → values ≡ first ∷ second ∷ more
+  wrong_second : (first second : ℕ) (more : List ℕ) → most_short < first → most_short < second → values
+      ≡ first ∷ second ∷ more → IsBadLength values
+  past_long : (first second : ℕ) (more : List ℕ) → most_short < first → second ≤ most_short → values
+      ≡ first ∷ second ∷ more
       → length more < long_count first second → IsBadLength values
 
--- A faulty segment is a latch at a place and all codewords after it up to the end of the symbol, whose values begin with a bad length.
+-- A faulty segment is a latch at a place and all codewords after it up to the end of the symbol, whose values begin
+-- with a bad length.
 pub record IsFaultySegment (place : ℕ) (words : List ℕ) : Type 0 where
   pub latch : ℕ
   pub is_latch : codeword_of latch ≡ Some codeword.Base256

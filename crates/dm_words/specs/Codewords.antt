@@ -1,11 +1,13 @@
 -- The codewords of ASCII encodation (ISO/IEC 16022, ASCII encodation).
 use Rattle.std.specs.Prelude.{ℕ, List, [], ◌∷◌, Option}
 use Rattle.dm_words.specs.declared.codeword.Codeword.{Codeword}
-use Rattle.dm_words.specs.declared.codeword.Codeword.TheVariants.{Character, Pad, Digits, Latch, Base256, Edifact, Fnc1, UpperShift, Macro, LeftOut}
+use Rattle.dm_words.specs.declared.codeword.Codeword.TheVariants.{Character, Pad, Digits, Latch, Base256, Edifact, Fnc1}
+use Rattle.dm_words.specs.declared.codeword.Codeword.TheVariants.{UpperShift, Macro, LeftOut}
 use Rattle.dm_words.specs.declared.c40.set.CodeSet.TheVariants.{C40, Text, X12}
 use Rattle.dm_words.specs.Rows.{Row, one, each, look_up}
 
--- In the table of codewords, 1 to 128 are the bytes 0 to 127, and 130 to 229 are the digit pairs 00 to 99. The codewords 0 and 242 to 255 are not
+-- In the table of codewords, 1 to 128 are the bytes 0 to 127, and 130 to 229 are the digit pairs 00 to 99. The
+-- codewords 0 and 242 to 255 are not
 -- used.
 abbrev pub codeword_rows : List (Row Codeword)
 codeword_rows =
@@ -49,7 +51,8 @@ fnc1_word = 232
 abbrev pub upper_shift : ℕ
 upper_shift = 235
 
--- The unlatch is this codeword, which ends a run of C40, Text or X12. It has no meaning in ASCII encodation, so the table doesn't have it.
+-- The unlatch is this codeword, which ends a run of C40, Text or X12. It has no meaning in ASCII encodation, so the
+-- table doesn't have it.
 abbrev pub unlatch_word : ℕ
 unlatch_word = 254
 

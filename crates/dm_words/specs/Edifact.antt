@@ -1,5 +1,6 @@
 -- EDIFACT encodation (ISO/IEC 16022, EDIFACT encodation).
-use Rattle.std.specs.Prelude.{◌≡◌, ◌≢◌, ℕ, ◌+◌, ◌*◌, ◌<◌, ◌≤◌, List, [], ◌∷◌, ◌++◌, length, map, Some, nat_lt, if◌then◌else◌}
+use Rattle.std.specs.Prelude.{◌≡◌, ◌≢◌, ℕ, ◌+◌, ◌*◌, ◌<◌, ◌≤◌, List, [], ◌∷◌, ◌++◌, length, map, Some, nat_lt}
+use Rattle.std.specs.Prelude.{if◌then◌else◌}
 use Rattle.std.specs.List.{AllByRecursion}
 use Rattle.dm_words.specs.declared.item.Item.{Item}
 use Rattle.dm_words.specs.declared.codeword.Codeword.TheVariants as codeword
@@ -7,7 +8,8 @@ use Rattle.dm_words.specs.Codewords.{codeword_of}
 use Rattle.dm_words.specs.Joined.{Piece, spelled, gathered}
 use Rattle.dm_words.specs.Messages.{byte_items}
 
--- A group is three codewords for four values of six bits each. The number of the codewords, high byte first, is the number of the values, first
+-- A group is three codewords for four values of six bits each. The number of the codewords, high byte first, is the
+-- number of the values, first
 -- value highest.
 pub record IsGroup (words values : List ℕ) : Type 0 where
   pub high : ℕ
@@ -35,18 +37,21 @@ unlatch_value = 31
 abbrev pub edifact_byte : ℕ → ℕ
 edifact_byte value = if nat_lt value unlatch_value then value + 64 else value
 
--- A run ends in one of these ways, each with its codewords and the values before the unlatch, if it has one; `after` are
+-- A run ends in one of these ways, each with its codewords and the values before the unlatch, if it has one; `after`
+-- are
 -- the codewords that follow, up to the end of the symbol, including pads. Where a group begins, three codewords or more
 -- are left in the symbol. That the bits behind an unlatch aren't looked at, and that a run may be empty, are rules of
 -- this project.
 pub data IsEdifactEnd (words after values : List ℕ) : Type 0 where
   -- At most two codewords are left in the symbol, where a group would begin. They are read in ASCII.
   few_left : words ≡ [] → values ≡ [] → length after ≤ 2 → IsEdifactEnd words after values
-  -- The unlatch is the first value of a group, and takes one codeword of eight bits: the unlatch has the six highest, and
+  -- The unlatch is the first value of a group, and takes one codeword of eight bits: the unlatch has the six highest,
+  -- and
   -- the two lowest, `rest`, aren't looked at. At least two codewords follow.
   first : (word rest : ℕ) → word ≡ 4 * unlatch_value + rest → rest < 4 → words ≡ word ∷ [] → values ≡ []
       → 2 ≤ length after → IsEdifactEnd words after values
-  -- The unlatch is the second value of a group, and takes two codewords of sixteen bits, high byte first: the value before
+  -- The unlatch is the second value of a group, and takes two codewords of sixteen bits, high byte first: the value
+  -- before
   -- it has the six highest, the unlatch has six, and the four lowest, `rest`, aren't looked at. At least one codeword
   -- follows.
   second : (high low value rest : ℕ) → low < 256 → value < 64
@@ -59,7 +64,8 @@ pub data IsEdifactEnd (words after values : List ℕ) : Type 0 where
   fourth : (one two three : ℕ) → IsGroup words (one ∷ two ∷ three ∷ unlatch_value ∷ [])
       → values ≡ one ∷ two ∷ three ∷ [] → IsEdifactEnd words after values
 
--- A run is a latch, then whole groups, then an end. No value is the unlatch but the one that ends the run. The values, joined, stand for the bytes of the
+-- A run is a latch, then whole groups, then an end. No value is the unlatch but the one that ends the run. The values,
+-- joined, stand for the bytes of the
 -- items.
 pub record IsEdifactRun (words after : List ℕ) (items : List Item) : Type 0 where
   pub latch : ℕ

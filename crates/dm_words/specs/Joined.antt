@@ -17,12 +17,14 @@ module _ {A : Type 0} where
   whats [] = []
   whats (piece ∷ pieces) = piece.what ∷ whats pieces
 
-  -- Each piece is right where it stands, which depends on its place and on all that follows it, up to the end of the list. The first piece
+  -- Each piece is right where it stands, which depends on its place and on all that follows it, up to the end of the
+  -- list. The first piece
   -- stands at `place`, and `after` follows the last one.
   abbrev pub AreJoined : (ℕ → List ℕ → List ℕ → A → Type 0) → ℕ → List (Piece A) → List ℕ → Type 0
   AreJoined IsRight place [] after = Unit {0}
   AreJoined IsRight place (piece ∷ pieces) after =
-      IsRight place piece.words (spelled pieces ++ after) piece.what × AreJoined IsRight (place + length piece.words) pieces after
+      IsRight place piece.words (spelled pieces ++ after) piece.what × AreJoined IsRight (place + length piece.words)
+      pieces after
 
 module _ {B : Type 0} where
   -- Where each piece stands for a list, these lists are joined in order.

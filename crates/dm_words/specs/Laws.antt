@@ -29,7 +29,8 @@ pub record RefusedOnly (extent : Extent) (words : List ℕ) : Type 0 where
 abbrev pub HasOneResult : Extent → List ℕ → Type 0
 HasOneResult extent words = SpellsOnly extent words ⊎ RefusedOnly extent words
 
--- In the wide extent this codeword can be left out at this place: structured append, reader programming and ECI everywhere, a macro behind the first
+-- In the wide extent this codeword can be left out at this place: structured append, reader programming and ECI
+-- everywhere, a macro behind the first
 -- codeword of the symbol.
 abbrev pub CanBeLeftOut : ℕ → ℕ → Type 0
 CanBeLeftOut word place = (word ≡ 233) ⊎ (word ≡ 234) ⊎ (word ≡ 241) ⊎ (((word ≡ 236) ⊎ (word ≡ 237)) × (1 < place))
@@ -61,4 +62,5 @@ AreRunValues values = All IsRunValue values
 
 -- No whole spelling is a prefix of the values.
 abbrev pub BeginsNoSpelling : CodeSet → List ℕ → Type 0
-BeginsNoSpelling set values = (prefix more : List ℕ) (item : Item) → values ≡ prefix ++ more → IsSpelling set prefix item → ⊥
+BeginsNoSpelling set values = (prefix more : List ℕ) (item : Item) → values ≡ prefix ++ more
+    → IsSpelling set prefix item → ⊥

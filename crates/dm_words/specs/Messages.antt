@@ -28,11 +28,13 @@ IsMessage message = All IsItem message
 abbrev pub largest_data : ℕ
 largest_data = 1558
 
--- In the usual extent a symbol says at most this many items: two for each data codeword of the largest size. A macro adds some in the wide one.
+-- In the usual extent a symbol says at most this many items: two for each data codeword of the largest size. A macro
+-- adds some in the wide one.
 abbrev pub most_items : ℕ
 most_items = 2 * most_data
 
--- This many codewords spell at most this many items, and some spell so many: two for each, and in the wide extent, where
+-- This many codewords spell at most this many items, and some spell so many: two for each, and in the wide extent,
+-- where
 -- there are any, seven more, since the codeword of a macro spells nine.
 abbrev pub most_spelled : Extent → ℕ → ℕ
 most_spelled Usual count = 2 * count

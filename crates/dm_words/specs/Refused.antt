@@ -1,5 +1,7 @@
--- Which data codewords of a symbol are refused, and with which fault, in each extent of reading. The words are all data codewords of the symbol, each
--- of 0 to 255, so their end is the end of the symbol. What is left out, and which fault is named, are choices of this project.
+-- Which data codewords of a symbol are refused, and with which fault, in each extent of reading. The words are all data
+-- codewords of the symbol, each
+-- of 0 to 255, so their end is the end of the symbol. What is left out, and which fault is named, are choices of this
+-- project.
 use Rattle.std.specs.Prelude.{◌≡◌, ◌≢◌, ℕ, ◌+◌, List, [], ◌∷◌, ◌++◌, length, Some, None}
 use Rattle.dm_words.specs.declared.extent.Extent.{Extent}
 use Rattle.dm_words.specs.declared.extent.Extent.TheVariants.{Usual, Wide}
@@ -14,8 +16,10 @@ use Rattle.dm_words.specs.RunFaults.{IsFaultyRun}
 use Rattle.dm_words.specs.Base256.{IsFaultySegment}
 use Rattle.dm_words.specs.Spells.{IsPart}
 
--- A codeword that can begin no part begins something that is not read: in each extent structured append, reader programming, ECI or a macro; in the
--- usual extent EDIFACT too. (A macro as the first codeword of the symbol begins no part either; in the wide extent `Refused` leaves that case out.)
+-- A codeword that can begin no part begins something that is not read: in each extent structured append, reader
+-- programming, ECI or a macro; in the
+-- usual extent EDIFACT too. (A macro as the first codeword of the symbol begins no part either; in the wide extent
+-- `Refused` leaves that case out.)
 pub data IsLeftOut (extent : Extent) (word : ℕ) : Type 0 where
   always : codeword_of word ≡ Some codeword.LeftOut → IsLeftOut extent word
   macro_behind : (digit : ℕ) → codeword_of word ≡ Some (codeword.Macro digit) → IsLeftOut extent word
@@ -24,18 +28,23 @@ pub data IsLeftOut (extent : Extent) (word : ℕ) : Type 0 where
 -- The codewords from a place on, up to the end of the symbol, have this fault.
 pub data IsFault (extent : Extent) (place : ℕ) (words : List ℕ) (why : WordFault) : Type 0 where
   -- A codeword is not used.
-  reserved : (word : ℕ) (more : List ℕ) → codeword_of word ≡ None → words ≡ word ∷ more → why ≡ fault.Reserved place → IsFault extent place words why
+  reserved : (word : ℕ) (more : List ℕ) → codeword_of word ≡ None → words ≡ word ∷ more → why ≡ fault.Reserved place
+      → IsFault extent place words why
   -- A codeword begins something that is not read here.
-  left_out : (word : ℕ) (more : List ℕ) → IsLeftOut extent word → words ≡ word ∷ more → why ≡ fault.LeftOut word place → IsFault extent place words why
+  left_out : (word : ℕ) (more : List ℕ) → IsLeftOut extent word → words ≡ word ∷ more → why ≡ fault.LeftOut word place
+      → IsFault extent place words why
   -- An Upper Shift is the last codeword.
-  unfinished : (word : ℕ) → codeword_of word ≡ Some codeword.UpperShift → words ≡ word ∷ [] → why ≡ fault.Unfinished place → IsFault extent place words why
+  unfinished : (word : ℕ) → codeword_of word ≡ Some codeword.UpperShift → words ≡ word ∷ [] → why
+      ≡ fault.Unfinished place → IsFault extent place words why
   -- An Upper Shift stands before a codeword that is not a character.
-  upper_shift : (shift word : ℕ) (more : List ℕ) → codeword_of shift ≡ Some codeword.UpperShift → ((byte : ℕ) → codeword_of word ≢ Some (codeword.Character byte))
+  upper_shift : (shift word : ℕ) (more : List ℕ) → codeword_of shift ≡ Some codeword.UpperShift
+      → ((byte : ℕ) → codeword_of word ≢ Some (codeword.Character byte))
       → words ≡ shift ∷ word ∷ more → why ≡ fault.UpperShift place → IsFault extent place words why
   faulty_run : (set : CodeSet) → IsFaultyRun extent set place words why → IsFault extent place words why
   faulty_segment : IsFaultySegment place words → why ≡ fault.Length place → IsFault extent place words why
 
--- The words from a place on, up to the end of the symbol, are parts, one after the other, and then codewords with this fault.
+-- The words from a place on, up to the end of the symbol, are parts, one after the other, and then codewords with this
+-- fault.
 pub record HaveFault (extent : Extent) (place : ℕ) (words : List ℕ) (why : WordFault) : Type 0 where
   pub parts : List (Piece (List Item))
   pub after : List ℕ
@@ -45,10 +54,13 @@ pub record HaveFault (extent : Extent) (place : ℕ) (words : List ℕ) (why : W
 
 -- The words don't begin with a macro that is read.
 abbrev pub BeginNoMacro : Extent → List ℕ → Type 0
-BeginNoMacro extent words = (word digit : ℕ) (more : List ℕ) → extent ≡ Wide → codeword_of word ≡ Some (codeword.Macro digit) → words ≡ word ∷ more → ⊥
+BeginNoMacro extent words = (word digit : ℕ) (more : List ℕ) → extent ≡ Wide → codeword_of word
+    ≡ Some (codeword.Macro digit) → words ≡ word ∷ more → ⊥
 
--- The words are refused with this fault: they have it; or in the wide extent the first one is a macro, and the others have it.
+-- The words are refused with this fault: they have it; or in the wide extent the first one is a macro, and the others
+-- have it.
 pub data Refused (extent : Extent) (words : List ℕ) (why : WordFault) : Type 0 where
   plain : BeginNoMacro extent words → HaveFault extent 1 words why → Refused extent words why
-  by_macro : (word digit : ℕ) (more : List ℕ) → extent ≡ Wide → codeword_of word ≡ Some (codeword.Macro digit) → words ≡ word ∷ more
+  by_macro : (word digit : ℕ) (more : List ℕ) → extent ≡ Wide → codeword_of word ≡ Some (codeword.Macro digit) → words
+      ≡ word ∷ more
       → HaveFault extent 2 more why → Refused extent words why

@@ -1,4 +1,5 @@
--- What is given where codewords are read, and where those of a message are chosen. A call that leaves its result in a target promises this of its
+-- What is given where codewords are read, and where those of a message are chosen. A call that leaves its result in a
+-- target promises this of its
 -- outcome.
 use Rattle.std.specs.Prelude.{◌≡◌, ◌≤◌, ◌<◌, ◌↔◌, ℕ, List, length, Result, Ok, Err, IfOk, IsErr}
 use Rattle.arrayvec.specs.ArrayVec.{ArrayVec}
@@ -13,7 +14,8 @@ use Rattle.dm_words.specs.NormalForm.{normal_form}
 use Rattle.dm_words.specs.Refused.{Refused}
 use Rattle.dm_words.specs.Spells.{Spells}
 
--- What reading codewords in an extent gives: a message exactly where they spell it, a fault exactly where they are refused with it. The message has no
+-- What reading codewords in an extent gives: a message exactly where they spell it, a fault exactly where they are
+-- refused with it. The message has no
 -- more items than so many codewords can spell, and its bytes are 0 to 255.
 pub record IsMessageResult (extent : Extent) (words : List ℕ) (result : Result (List Item) WordFault) : Type 0 where
   pub message : (m : List Item) → (result ≡ Ok m) ↔ Spells extent words m
@@ -21,8 +23,10 @@ pub record IsMessageResult (extent : Extent) (words : List ℕ) (result : Result
   pub most : IfOk result (λ m. length m ≤ most_spelled extent (length words))
   pub bytes : IfOk result (λ m. IsMessage m)
 
--- What choosing the codewords of a message under a profile gives: its normal form, unless this has more codewords than the largest symbol holds.
-pub record IsNormalFormResult (profile : Profile) (message : List Item) (result : Result (ArrayVec ℕ) TooLong) : Type 0 where
+-- What choosing the codewords of a message under a profile gives: its normal form, unless this has more codewords than
+-- the largest symbol holds.
+pub record IsNormalFormResult (profile : Profile) (message : List Item) (result : Result (ArrayVec ℕ) TooLong) : Type
+    0 where
   pub words : IfOk result (λ words. words.items ≡ normal_form profile message)
   pub most : IfOk result (λ words. length words.items ≤ most_data)
   pub too_long : IsErr result ↔ (most_data < length (normal_form profile message))

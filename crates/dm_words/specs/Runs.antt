@@ -9,7 +9,8 @@ use Rattle.dm_words.specs.Codewords.{codeword_of, unlatch_word}
 use Rattle.dm_words.specs.Joined.{Piece, spelled, gathered}
 use Rattle.dm_words.specs.Values.{AreValues}
 
--- A pair is two codewords for three values, each below 40. Their number, high and low byte, is 1600 times the first value, plus 40 times the
+-- A pair is two codewords for three values, each below 40. Their number, high and low byte, is 1600 times the first
+-- value, plus 40 times the
 -- second, plus the third, plus 1; so it is 1 to 64000.
 pub record IsPair (words values : List ℕ) : Type 0 where
   pub high : ℕ
@@ -25,16 +26,21 @@ pub record IsPair (words values : List ℕ) : Type 0 where
   pub words_are : words ≡ high ∷ low ∷ []
   pub values_are : values ≡ first ∷ second ∷ third ∷ []
 
--- A run ends in one of these ways, each with its codewords; `after` are the codewords that follow these, up to the end of the symbol. The comments
--- name the cases of the standard for the end of the symbol (ISO/IEC 16022, C40 encodation). They hold in the same way for Text; for X12 cases a, c and
+-- A run ends in one of these ways, each with its codewords; `after` are the codewords that follow these, up to the end
+-- of the symbol. The comments
+-- name the cases of the standard for the end of the symbol (ISO/IEC 16022, C40 encodation). They hold in the same way
+-- for Text; for X12 cases a, c and
 -- d do, and case b doesn't, since X12 has no shift to fill a pair with.
 pub data IsRunEnd (words after : List ℕ) : Type 0 where
-  -- The codeword Unlatch ends the run. Where one codeword is left behind it, for one last value, this is case c; none needs to be left.
+  -- The codeword Unlatch ends the run. Where one codeword is left behind it, for one last value, this is case c; none
+  -- needs to be left.
   unlatch : words ≡ unlatch_word ∷ [] → IsRunEnd words after
-  -- No codeword ends the run where none is left in the symbol. These are cases a and b, by the number of values that are left for the last pair; a run
+  -- No codeword ends the run where none is left in the symbol. These are cases a and b, by the number of values that
+  -- are left for the last pair; a run
   -- without pairs ends so too, by a rule of this project.
   symbol_end : words ≡ [] → after ≡ [] → IsRunEnd words after
-  -- No codeword ends the run where one other than Unlatch is left in the symbol: an Unlatch before it is assumed, and it is read in ASCII. This is case d.
+  -- No codeword ends the run where one other than Unlatch is left in the symbol: an Unlatch before it is assumed, and
+  -- it is read in ASCII. This is case d.
   last_word : (word : ℕ) → word ≢ unlatch_word → words ≡ [] → after ≡ word ∷ [] → IsRunEnd words after
 
 -- A run is a latch, then pairs, then an end. The values of all pairs, joined, spell the items.

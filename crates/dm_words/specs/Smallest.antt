@@ -24,7 +24,8 @@ IsDataCount count = Any (λ size. size.data_count ≡ count) size_table
 pub record IsSmallestFor (extent : Extent) (words : List ℕ) (message : List Item) : Type 0 where
   pub spells : Spells extent words message
   pub sized : IsDataCount (length words)
-  pub smallest : (other : List ℕ) → IsDataCount (length other) → Spells extent other message → length words ≤ length other
+  pub smallest : (other : List ℕ) → IsDataCount (length other) → Spells extent other message
+      → length words ≤ length other
 
 -- Of the codewords of one size, those are the plainest that the most readers read: the ASCII form with pads where
 -- there is room for it; else some that spell the message in the usual extent, where there are any. That these are
@@ -41,14 +42,18 @@ ArePads words after = after ≡ pads (length words + 1 - length after) (length a
 -- The words are all data codewords of a symbol and spell the message, and behind the parts that do stand only pads.
 -- (What codewords spell is said by the first pad alone.)
 pub data SpellsThenPads (extent : Extent) (words : List ℕ) (message : List Item) : Type 0 where
-  plain_padded : (parts : AreParts extent 1 words message) → ArePads words parts.after → SpellsThenPads extent words message
-  macro_padded : (word digit : ℕ) (more : List ℕ) (text : List Item) → extent ≡ Wide → codeword_of word ≡ Some (codeword.Macro digit) → words ≡ word ∷ more
-      → (parts : AreParts extent 2 more text) → message ≡ macro_text digit text → ArePads words parts.after → SpellsThenPads extent words message
+  plain_padded : (parts : AreParts extent 1 words message) → ArePads words parts.after
+      → SpellsThenPads extent words message
+  macro_padded : (word digit : ℕ) (more : List ℕ) (text : List Item) → extent ≡ Wide → codeword_of word
+      ≡ Some (codeword.Macro digit) → words ≡ word ∷ more
+      → (parts : AreParts extent 2 more text) → message ≡ macro_text digit text → ArePads words parts.after
+      → SpellsThenPads extent words message
 
 -- What choosing the smallest codewords of a message in an extent gives: these, the plainest of their size, with pads
 -- behind them; a fault exactly where the codewords of no size spell the message.
-pub record IsSmallestResult (extent : Extent) (message : List Item) (result : Result (ArrayVec ℕ) TooLong) : Type 0 where
-  pub words : IfOk result (λ words. IsSmallestFor extent words.items message)
-  pub plainest : IfOk result (λ words. IsPlainest words.items message)
-  pub padded : IfOk result (λ words. SpellsThenPads extent words.items message)
-  pub too_long : IsErr result → (other : List ℕ) → IsDataCount (length other) → Spells extent other message → ⊥
+pub record IsSmallestResult (extent : Extent) (message : List Item) (result : Result (ArrayVec ℕ) TooLong) : Type 0
+  where
+    pub words : IfOk result (λ words. IsSmallestFor extent words.items message)
+    pub plainest : IfOk result (λ words. IsPlainest words.items message)
+    pub padded : IfOk result (λ words. SpellsThenPads extent words.items message)
+    pub too_long : IsErr result → (other : List ℕ) → IsDataCount (length other) → Spells extent other message → ⊥

@@ -1,5 +1,7 @@
--- Which data codewords of a symbol spell which message (ISO/IEC 16022, encodation schemes), in each extent of reading. The words are all data
--- codewords of the symbol, each of 0 to 255, so their end is the end of the symbol. The extents, `Usual` and `Wide`, are a choice of this project.
+-- Which data codewords of a symbol spell which message (ISO/IEC 16022, encodation schemes), in each extent of reading.
+-- The words are all data
+-- codewords of the symbol, each of 0 to 255, so their end is the end of the symbol. The extents, `Usual` and `Wide`,
+-- are a choice of this project.
 use Rattle.std.specs.Prelude.{◌≡◌, ℕ, List, [], ◌∷◌, ◌++◌, Some}
 use Rattle.dm_words.specs.declared.extent.Extent.{Extent}
 use Rattle.dm_words.specs.declared.extent.Extent.TheVariants.{Wide}
@@ -14,7 +16,8 @@ use Rattle.dm_words.specs.Base256.{IsSegment}
 use Rattle.dm_words.specs.Edifact.{IsEdifactRun}
 use Rattle.dm_words.specs.Macros.{macro_text}
 
--- A part of the codewords is a unit of ASCII, a run, a segment of Base 256, or in the wide extent a run of EDIFACT, and spells its items. It begins
+-- A part of the codewords is a unit of ASCII, a run, a segment of Base 256, or in the wide extent a run of EDIFACT, and
+-- spells its items. It begins
 -- at a place; `after` are all codewords that follow it, up to the end of the symbol, including pads.
 pub data IsPart (extent : Extent) (place : ℕ) (words after : List ℕ) (items : List Item) : Type 0 where
   ascii : IsAsciiUnit words items → IsPart extent place words after items
@@ -22,13 +25,15 @@ pub data IsPart (extent : Extent) (place : ℕ) (words after : List ℕ) (items 
   segment : IsSegment place words after items → IsPart extent place words after items
   edifact : extent ≡ Wide → IsEdifactRun words after items → IsPart extent place words after items
 
--- The message ends where no codeword is left, or where a pad comes next. What follows that pad is ignored, by a rule of this
+-- The message ends where no codeword is left, or where a pad comes next. What follows that pad is ignored, by a rule of
+-- this
 -- project.
 pub data IsEnd (words : List ℕ) : Type 0 where
   nothing : words ≡ [] → IsEnd words
   pad : (word : ℕ) (more : List ℕ) → codeword_of word ≡ Some codeword.Pad → words ≡ word ∷ more → IsEnd words
 
--- The words from a place on, up to the end of the symbol, are parts, one after the other, and then an end; the parts, joined, have these items.
+-- The words from a place on, up to the end of the symbol, are parts, one after the other, and then an end; the parts,
+-- joined, have these items.
 pub record AreParts (extent : Extent) (place : ℕ) (words : List ℕ) (items : List Item) : Type 0 where
   pub parts : List (Piece (List Item))
   pub after : List ℕ
@@ -37,9 +42,11 @@ pub record AreParts (extent : Extent) (place : ℕ) (words : List ℕ) (items : 
   pub whole : words ≡ spelled parts ++ after
   pub items_are : items ≡ gathered parts
 
--- The words spell the message: they are parts that have its items, with pads behind them or not; or in the wide extent the first one is a macro, the
+-- The words spell the message: they are parts that have its items, with pads behind them or not; or in the wide extent
+-- the first one is a macro, the
 -- others are such parts, and their items stand between the header and the trailer of the macro.
 pub data Spells (extent : Extent) (words : List ℕ) (message : List Item) : Type 0 where
   plain : AreParts extent 1 words message → Spells extent words message
-  by_macro : (word digit : ℕ) (more : List ℕ) (text : List Item) → extent ≡ Wide → codeword_of word ≡ Some (codeword.Macro digit) → words ≡ word ∷ more
+  by_macro : (word digit : ℕ) (more : List ℕ) (text : List Item) → extent ≡ Wide → codeword_of word
+      ≡ Some (codeword.Macro digit) → words ≡ word ∷ more
       → AreParts extent 2 more text → message ≡ macro_text digit text → Spells extent words message

@@ -1,4 +1,5 @@
--- The values of a run of C40, Text or X12, and the items that they spell (ISO/IEC 16022, C40, Text and ANSI X12 encodation).
+-- The values of a run of C40, Text or X12, and the items that they spell (ISO/IEC 16022, C40, Text and ANSI X12
+-- encodation).
 use Rattle.std.specs.Prelude.{◌≡◌, ℕ, ◌+◌, ◌<◌, List, [], ◌∷◌, ◌++◌, Option, Some, None, ◌⊎◌}
 use Rattle.std.specs.List.{AllByRecursion}
 use Rattle.dm_words.specs.declared.extent.Extent.{Extent}
@@ -32,20 +33,25 @@ IsUpperShift set values = IsShifted set values (Some shifted.UpperShift)
 
 -- A character is a value of the basic set, or a shift and a value, that means this byte.
 pub data IsCharacter (set : CodeSet) (values : List ℕ) (byte : ℕ) : Type 0 where
-  plain : (value : ℕ) → basic_of set value ≡ Some (basic.Character byte) → values ≡ value ∷ [] → IsCharacter set values byte
+  plain : (value : ℕ) → basic_of set value ≡ Some (basic.Character byte) → values ≡ value ∷ []
+      → IsCharacter set values byte
   by_shift : IsShifted set values (Some (shifted.Character byte)) → IsCharacter set values byte
 
--- The spelling of an item is a character; Shift 2 and 27, which is FNC1; or an Upper Shift and a character, whose byte it raises by 128.
+-- The spelling of an item is a character; Shift 2 and 27, which is FNC1; or an Upper Shift and a character, whose byte
+-- it raises by 128.
 pub data IsSpelling (set : CodeSet) (values : List ℕ) (item : Item) : Type 0 where
   character : (byte : ℕ) → IsCharacter set values byte → item ≡ Byte byte → IsSpelling set values item
   fnc1 : IsShifted set values (Some shifted.Fnc1) → item ≡ Fnc1 → IsSpelling set values item
-  raised : (upper more : List ℕ) (byte : ℕ) → IsUpperShift set upper → IsCharacter set more byte → values ≡ upper ++ more → item ≡ Byte (byte + 128) → IsSpelling set values item
+  raised : (upper more : List ℕ) (byte : ℕ) → IsUpperShift set upper → IsCharacter set more byte → values ≡ upper
+      ++ more → item ≡ Byte (byte + 128) → IsSpelling set values item
 
--- A filler is nothing, or one shift with no value after it, which means nothing. The standard fills with Shift 1; that any shift is passed over is a
+-- A filler is nothing, or one shift with no value after it, which means nothing. The standard fills with Shift 1; that
+-- any shift is passed over is a
 -- rule of this project.
 pub data IsFiller (set : CodeSet) (values : List ℕ) : Type 0 where
   nothing : values ≡ [] → IsFiller set values
-  lone_shift : (value : ℕ) (shift : Shift) → basic_of set value ≡ Some (basic.Shift shift) → values ≡ value ∷ [] → IsFiller set values
+  lone_shift : (value : ℕ) (shift : Shift) → basic_of set value ≡ Some (basic.Shift shift) → values ≡ value ∷ []
+      → IsFiller set values
 
 -- An Upper Shift waits for its character: it stands alone, or before one lone shift.
 pub record IsWaiting (set : CodeSet) (values : List ℕ) : Type 0 where
@@ -55,7 +61,8 @@ pub record IsWaiting (set : CodeSet) (values : List ℕ) : Type 0 where
   pub ended : IsFiller set filler
   pub whole : values ≡ upper ++ filler
 
--- What is dropped at the end of a run is a filler; in the wide extent also an Upper Shift that waits, which some writers fill with.
+-- What is dropped at the end of a run is a filler; in the wide extent also an Upper Shift that waits, which some
+-- writers fill with.
 pub data IsDropped (extent : Extent) (set : CodeSet) (values : List ℕ) : Type 0 where
   filler : IsFiller set values → IsDropped extent set values
   waiting : extent ≡ Wide → IsWaiting set values → IsDropped extent set values
@@ -69,11 +76,14 @@ pub record AreValues (extent : Extent) (set : CodeSet) (values : List ℕ) (item
   pub whole : values ≡ spelled spellings ++ filler
   pub items_are : items ≡ whats spellings
 
--- The values begin with a shift and a value that has no meaning after it, with or without an Upper Shift before them. That value stands at
+-- The values begin with a shift and a value that has no meaning after it, with or without an Upper Shift before them.
+-- That value stands at
 -- this index.
 pub data BeginsWithoutMeaning (set : CodeSet) (values : List ℕ) (index : ℕ) : Type 0 where
-  at_once : (two more : List ℕ) → IsShifted set two None → values ≡ two ++ more → index ≡ 1 → BeginsWithoutMeaning set values index
-  after_upper_shift : (upper two more : List ℕ) → IsUpperShift set upper → IsShifted set two None → values ≡ upper ++ (two ++ more) → index ≡ 3 → BeginsWithoutMeaning set values index
+  at_once : (two more : List ℕ) → IsShifted set two None → values ≡ two ++ more → index ≡ 1
+      → BeginsWithoutMeaning set values index
+  after_upper_shift : (upper two more : List ℕ) → IsUpperShift set upper → IsShifted set two None → values ≡ upper
+      ++ (two ++ more) → index ≡ 3 → BeginsWithoutMeaning set values index
 
 -- The values begin with an Upper Shift and then FNC1 or an Upper Shift, which means nothing by a rule of this project.
 pub record BeginsWrongUpperShift (set : CodeSet) (values : List ℕ) : Type 0 where

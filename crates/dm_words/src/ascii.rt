@@ -3,7 +3,8 @@
 ghost use Rattle.std.specs.Prelude.{◌≡◌, ◌+◌, ◌≤◌, ◌<◌, ◌++◌, IsTrue, length, true};
 ghost use Rattle.dm_words.specs.Ascii.{ascii, is_digit, digit_pair};
 ghost use Rattle.dm_words.specs.NormalForm.{has_fnc1};
-ghost use Rattle.dm_words.specs.inner.Scan.Results.{BeginsAscii, IsSingle, unit_words, unit_items, unit_is_fnc1, item_words};
+ghost use Rattle.dm_words.specs.inner.Scan.Results.{BeginsAscii, IsSingle, unit_words, unit_items, unit_is_fnc1};
+ghost use Rattle.dm_words.specs.inner.Scan.Results.{item_words};
 
 use crate::codeword::{FIRST_DIGITS, FNC1, UPPER_SHIFT};
 use crate::item::{Item, byte};
@@ -157,8 +158,8 @@ pub(crate) fn write_unit<const N: usize>(unit: Unit, words: &mut ArrayVec<u8, N>
     }
 }
 
-/// Writes the ASCII codewords of the items into the target: from the left, two digits in one codeword wherever two come first. Gives what is then known
-/// of them.
+/// Writes the ASCII codewords of the items into the target: from the left, two digits in one codeword wherever two come
+/// first. Gives what is then known of them.
 pub(crate) fn write_ascii<const N: usize>(items: &[Item], words: &mut ArrayVec<u8, N>) -> AsciiForm
     requires { length (ascii items.now) ≤ N }
     ensures words { words.new.items ≡ ascii items.now }

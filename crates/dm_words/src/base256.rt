@@ -1,4 +1,5 @@
-//! Base 256 encodation (ISO/IEC 16022, Base 256 encodation and its 255-state randomising): a latch, a length field and as many bytes as that says.
+//! Base 256 encodation (ISO/IEC 16022, Base 256 encodation and its 255-state randomising): a latch, a length field and
+//! as many bytes as that says.
 
 ghost use Rattle.std.specs.Prelude.{◌≡◌, ℕ, ◌+◌, ◌≤◌, ◌<◌, ◌*◌, ◌∷◌, [], ◌++◌, length, drop, take, map, slice_index};
 ghost use Rattle.dm_words.specs.Messages.{byte_of, byte_items};
@@ -48,7 +49,8 @@ fn push_bytes(words: &[u8], start: usize, count: usize, message: &mut Message)
     }
 }
 
-/// Takes the segment whose latch stands at an index: adds its bytes to the message, and gives the number of its codewords.
+/// Takes the segment whose latch stands at an index: adds its bytes to the message, and gives the number of its
+/// codewords.
 pub(crate) fn segment_part(
     words: &[u8],
     at: usize,

@@ -1,4 +1,5 @@
-//! Codewords: what each means in ASCII encodation (ISO/IEC 16022, ASCII encodation), and names for those that other modules write or look for.
+//! Codewords: what each means in ASCII encodation (ISO/IEC 16022, ASCII encodation), and names for those that other
+//! modules write or look for.
 
 ghost use Rattle.std.specs.Prelude.{◌≡◌};
 ghost use Rattle.dm_words.specs.Codewords.{codeword_of};

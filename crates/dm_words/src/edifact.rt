@@ -1,5 +1,5 @@
-//! EDIFACT encodation (ISO/IEC 16022, EDIFACT encodation): four values of 0 to 63 in each group of three codewords, from a latch on to the unlatch or
-//! to the last codewords of the symbol.
+//! EDIFACT encodation (ISO/IEC 16022, EDIFACT encodation): four values of 0 to 63 in each group of three codewords,
+//! from a latch on to the unlatch or to the last codewords of the symbol.
 
 ghost use Rattle.std.specs.Prelude.{◌≡◌, ℕ, ◌+◌, ◌≤◌, ◌<◌, ◌*◌, ◌∷◌, [], length, drop, Ok};
 ghost use Rattle.dm_words.specs.Edifact.{edifact_byte};
@@ -26,8 +26,8 @@ fn character(value: u8) -> Item
     })
 }
 
-/// Takes a group of three codewords: adds the characters of its values to the message, up to the unlatch. Where there is one, the run ends there, and
-/// this gives the number of codewords of the group that belong to the run.
+/// Takes a group of three codewords: adds the characters of its values to the message, up to the unlatch. Where there
+/// is one, the run ends there, and this gives the number of codewords of the group that belong to the run.
 fn group_part(high: u8, middle: u8, low: u8, message: &mut Message) -> Option<usize>
     requires { length message.old + 4 ≤ MESSAGE_ROOM }
     ensures { IsGroupTaken result message.old message.new (group_values high middle low) }
@@ -55,7 +55,8 @@ fn group_part(high: u8, middle: u8, low: u8, message: &mut Message) -> Option<us
     None
 }
 
-/// Takes the run whose latch stands at an index: adds its characters to the message, and gives the number of its codewords.
+/// Takes the run whose latch stands at an index: adds its characters to the message, and gives the number of its
+/// codewords.
 pub(crate) fn edifact_part(words: &[u8], at: usize, message: &mut Message) -> usize
     requires in_range { at < length words.now }
     requires short { length words.now ≤ MOST_DATA }

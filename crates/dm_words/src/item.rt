@@ -3,8 +3,8 @@
 ghost use Rattle.std.specs.Prelude.{◌≡◌};
 ghost use Rattle.dm_words.specs.Messages.{byte_of};
 
-/// An item of a message: a byte, or the function character FNC1. No item is interpreted. There is a default since `ArrayVec` asks for one; which item
-/// it is doesn't matter.
+/// An item of a message: a byte, or the function character FNC1. No item is interpreted. There is a default since
+/// `ArrayVec` asks for one; which item it is doesn't matter.
 #[derive(Clone, Copy, Debug, Default, PartialEq, Eq)]
 pub enum Item {
     /// A byte, of 0 to 255.

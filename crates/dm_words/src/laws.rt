@@ -20,13 +20,14 @@ ghost use Rattle.dm_words.specs.Macros.{macro_text};
 ghost use Rattle.dm_words.specs.Smallest.{IsDataCount, IsPlainest, IsSmallestFor};
 ghost use Rattle.dm_words.specs.Spells.{Spells};
 ghost use Rattle.dm_words.specs.Refused.{Refused};
-ghost use Rattle.dm_words.specs.Laws.{HasOneResult, AreCodewords, AreRunValues, BeginsNoSpelling, CanBeLeftOut, AreMacro, SomeSpell};
+ghost use Rattle.dm_words.specs.Laws.{HasOneResult, AreCodewords, AreRunValues, BeginsNoSpelling, CanBeLeftOut};
+ghost use Rattle.dm_words.specs.Laws.{AreMacro, SomeSpell};
 
 use crate::limits::{LARGEST_DATA, MESSAGE_ROOM, MOST_ITEMS};
 use dm_layout::MOST_DATA;
 
-/// In each extent, a list of codewords, however long, spells exactly one message and is refused with no fault, or is refused with exactly one
-/// fault and spells none.
+/// In each extent, a list of codewords, however long, spells exactly one message and is refused with no fault, or is
+/// refused with exactly one fault and spells none.
 pub fn one_result()
     ensures { (extent : Extent) (words : List ℕ) → AreCodewords words
         → HasOneResult extent words }
@@ -38,8 +39,8 @@ pub fn spelled_is_message()
         → Spells extent words m → IsMessage m }
 {}
 
-/// What codewords spell in an extent has at most two items for each codeword, and in the wide extent at most seven more.
-/// This bound is met, for each number of codewords.
+/// What codewords spell in an extent has at most two items for each codeword, and in the wide extent at most seven
+/// more. This bound is met, for each number of codewords.
 pub fn spelled_is_few()
     ensures most { (extent : Extent) (words : List ℕ) (m : List Item)
         → Spells extent words m → length m ≤ most_spelled extent (length words) }
@@ -53,14 +54,15 @@ pub fn wide_reads_the_same()
         → Spells Extent.Usual words m → Spells Extent.Wide words m }
 {}
 
-/// In the wide extent only structured append, reader programming, ECI, or a macro behind the first codeword, are left out.
+/// In the wide extent only structured append, reader programming, ECI, or a macro behind the first codeword, are left
+/// out.
 pub fn wide_leaves_few_out()
     ensures { (words : List ℕ) (word place : ℕ)
         → Refused Extent.Wide words (WordFault.LeftOut word place) → CanBeLeftOut word place }
 {}
 
-/// In the wide extent, the codewords behind a macro spell the message that has their items between the header and the trailer of the macro. The ASCII
-/// form of that text, with pads, spells the same message.
+/// In the wide extent, the codewords behind a macro spell the message that has their items between the header and the
+/// trailer of the macro. The ASCII form of that text, with pads, spells the same message.
 pub fn macro_spells_its_text()
     ensures short { (digit : ℕ) (words : List ℕ) (text : List Item)
         → AreMacro digit words text → Spells Extent.Wide words (macro_text digit text) }
@@ -70,8 +72,8 @@ pub fn macro_spells_its_text()
         → Spells Extent.Wide (padded written count) (macro_text digit text) }
 {}
 
-/// The ASCII form of a message, with pads up to any number of codewords that holds it, has that many codewords, and they spell the message in each
-/// extent.
+/// The ASCII form of a message, with pads up to any number of codewords that holds it, has that many codewords, and
+/// they spell the message in each extent.
 pub fn ascii_spells()
     ensures message { (extent : Extent) (m : List Item) (count : ℕ) → IsMessage m
         → length (ascii m) ≤ count → Spells extent (padded (ascii m) count) m }
@@ -81,15 +83,15 @@ pub fn ascii_spells()
         → IsMessage m → AreCodewords (padded (ascii m) count) }
 {}
 
-/// The ASCII form from the left of the message is the one joining of units in which no unit that is one digit stands before a unit
-/// that begins with a digit.
+/// The ASCII form from the left of the message is the one joining of units in which no unit that is one digit stands
+/// before a unit that begins with a digit.
 pub fn ascii_is_greedy()
     ensures { (m : List Item) (words : List ℕ)
         → IsMessage m → IsAscii m words ↔ (words ≡ ascii m) }
 {}
 
-/// The normal form of a message under each profile, with pads up to any number of codewords that holds it and that a size of the table has, has that many
-/// codewords, and they spell the message in each extent.
+/// The normal form of a message under each profile, with pads up to any number of codewords that holds it and that a
+/// size of the table has, has that many codewords, and they spell the message in each extent.
 pub fn normal_form_spells()
     ensures message { (extent : Extent) (profile : Profile) (m : List Item) (count : ℕ)
         → IsMessage m → length (normal_form profile m) ≤ count → count ≤ largest_data
@@ -101,7 +103,8 @@ pub fn normal_form_spells()
         → IsMessage m → AreCodewords (padded (normal_form profile m) count) }
 {}
 
-/// The shorter form of a message is never longer than its ASCII form, nor, where it is bytes alone, than one segment of these bytes.
+/// The shorter form of a message is never longer than its ASCII form, nor, where it is bytes alone, than one segment of
+/// these bytes.
 pub fn shorter_is_no_longer()
     ensures ascii { (m : List Item) → length (shorter m) ≤ length (ascii m) }
     ensures segment { (bytes : List ℕ)
@@ -149,9 +152,9 @@ pub fn tables_are_sound()
     ensures shifted { (set : CodeSet) (shift : Shift) → IsTable (shifted_rows set shift) }
 {}
 
-/// The most data codewords that are read and written are those of the largest size. What is read in the usual extent has two items for each, and a
-/// message has room for the most that are read in the wide extent. `MOST_DATA` is the constant of `dm_layout`, whose law
-/// `laws::sizes::constants_are_the_limits` says the same of it.
+/// The most data codewords that are read and written are those of the largest size. What is read in the usual extent
+/// has two items for each, and a message has room for the most that are read in the wide extent. `MOST_DATA` is the
+/// constant of `dm_layout`, whose law `laws::sizes::constants_are_the_limits` says the same of it.
 pub fn limits_are_those_of_the_table()
     ensures data { MOST_DATA ≡ most_data }
     ensures largest { LARGEST_DATA ≡ largest_data }

@@ -1,27 +1,29 @@
-//! Data codewords and messages of Data Matrix ECC 200 (ISO/IEC 16022): which message a list of data codewords spells, in the
-//! encodations ASCII, C40, Text, X12 and Base 256, and in a wider [`Extent`] also in EDIFACT and with macros, why other lists are refused, and the
-//! codewords in which a message is written.
+//! Data codewords and messages of Data Matrix ECC 200 (ISO/IEC 16022): which message a list of data codewords spells,
+//! in the encodations ASCII, C40, Text, X12 and Base 256, and in a wider [`Extent`] also in EDIFACT and with macros,
+//! why other lists are refused, and the codewords in which a message is written.
 //!
-//! Reading: [`message_of()`] gives the [`Message`] of [`Item`]s that a list spells in the usual extent, or the [`WordFault`] with which the list is
-//! refused, [`message_of_as()`] the same in either extent; [`message_to()`] and [`message_to_as()`] write the message into a target.
+//! Reading: [`message_of()`] gives the [`Message`] of [`Item`]s that a list spells in the usual extent, or the
+//! [`WordFault`] with which the list is refused, [`message_of_as()`] the same in either extent; [`message_to()`] and
+//! [`message_to_as()`] write the message into a target.
 //!
 //! Writing: [`normal_words()`] gives the codewords of a message under a [`Profile`], or [`TooLong`], and
 //! [`normal_words_to()`] writes them into a target. Under one profile they are ASCII ([`ascii_words()`]), under the
 //! other whatever is shorter, ASCII or one segment of Base 256 ([`shorter_words()`]). [`smallest_words()`] gives
-//! codewords of the smallest size that has any that spell the message in an extent, and [`smallest_words_to()`]
-//! writes them into a target. [`padded()`] gives codewords with pads up to the data codewords of a size, and
-//! [`add_pads()`] adds the pads in a target. [`normal_words_in()`] and [`pad_to()`] do the same in targets of any room up
-//! to [`LARGEST_DATA`] codewords, for symbols that are no squares or larger ones.
+//! codewords of the smallest size that has any that spell the message in an extent, and [`smallest_words_to()`] writes
+//! them into a target. [`padded()`] gives codewords with pads up to the data codewords of a size, and [`add_pads()`]
+//! adds the pads in a target. [`normal_words_in()`] and [`pad_to()`] do the same in targets of any room up to
+//! [`LARGEST_DATA`] codewords, for symbols that are no squares or larger ones.
 //!
-//! Letters: [`letter_of()`] gives the [`Letter`] that a list says, which is a [`Head`] or none, items and [`Mark`]s, or the
-//! [`LetterFault`] with which the list is refused, and [`letter_to()`] writes it into a target. [`letter_words()`] and
-//! [`letter_words_to()`] give the codewords of a letter. [`head_of()`], [`head_words()`], [`designator_of()`] and
+//! Letters: [`letter_of()`] gives the [`Letter`] that a list says, which is a [`Head`] or none, items and [`Mark`]s, or
+//! the [`LetterFault`] with which the list is refused, and [`letter_to()`] writes it into a target. [`letter_words()`]
+//! and [`letter_words_to()`] give the codewords of a letter. [`head_of()`], [`head_words()`], [`designator_of()`] and
 //! [`designator_words()`] read and write a head or a designator alone.
 //!
-//! Limits: [`MOST_DATA`] codewords, [`MOST_ITEMS`] items in the usual extent, and room for [`MESSAGE_ROOM`]; [`MOST_MARKS`] marks.
+//! Limits: [`MOST_DATA`] codewords, [`MOST_ITEMS`] items in the usual extent, and room for [`MESSAGE_ROOM`];
+//! [`MOST_MARKS`] marks.
 //!
-//! A *target* is memory that the caller hands in. What the contracts say is defined in `specs/`; [`laws`] has what holds of the definitions. No call
-//! allocates memory.
+//! A *target* is memory that the caller hands in. What the contracts say is defined in `specs/`; [`laws`] has what
+//! holds of the definitions. No call allocates memory.
 #![tactic(auto)]
 
 mod ascii;

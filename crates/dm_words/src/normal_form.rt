@@ -1,6 +1,7 @@
 //! The normal form of a message under a profile: its data codewords, without pads.
 
-ghost use Rattle.std.specs.Prelude.{◌≡◌, ◌<◌, ◌≤◌, ◌↔◌, length, map, false, not, ◌&&◌, if◌then◌else◌, nat_lt, IfOk, OnOk, OnErr, IsErr, IsTrue};
+ghost use Rattle.std.specs.Prelude.{◌≡◌, ◌<◌, ◌≤◌, ◌↔◌, length, map, false, not, ◌&&◌, if◌then◌else◌, nat_lt, IfOk};
+ghost use Rattle.std.specs.Prelude.{OnOk, OnErr, IsErr, IsTrue};
 ghost use Rattle.dm_words.specs.Ascii.{ascii};
 ghost use Rattle.dm_words.specs.NormalForm.{shorter, normal_form, one_segment, has_fnc1};
 ghost use Rattle.dm_words.specs.Results.{IsNormalFormResult};
@@ -17,25 +18,26 @@ use crate::profile::Profile;
 use arrayvec::ArrayVec;
 use dm_layout::MOST_DATA;
 
-/// Gives the ASCII codewords of a message, without pads: from the left, two digits in one codeword wherever two come first. `TooLong`
-/// exactly where they are more than `MOST_DATA`. ISO/IEC 16022, ASCII encodation.
+/// Gives the ASCII codewords of a message, without pads: from the left, two digits in one codeword wherever two come
+/// first. `TooLong` exactly where they are more than `MOST_DATA`. ISO/IEC 16022, ASCII encodation.
 pub fn ascii_words(message: &Message) -> Result<ArrayVec<u8, MOST_DATA>, TooLong>
     ensures { IsNormalFormResult Profile.Ascii message.now result }
 {
     normal_words(Profile::Ascii, message)
 }
 
-/// Gives the shorter codewords of a message, without pads: one segment of Base 256 from the first codeword on, if the message has no FNC1 and this
-/// takes fewer codewords than ASCII; else those of [`ascii_words()`]. The length of the segment is always written out. `TooLong`
-/// exactly where they are more than `MOST_DATA`. ISO/IEC 16022, Base 256 encodation.
+/// Gives the shorter codewords of a message, without pads: one segment of Base 256 from the first codeword on, if the
+/// message has no FNC1 and this takes fewer codewords than ASCII; else those of [`ascii_words()`]. The length of the
+/// segment is always written out. `TooLong` exactly where they are more than `MOST_DATA`. ISO/IEC 16022, Base 256
+/// encodation.
 pub fn shorter_words(message: &Message) -> Result<ArrayVec<u8, MOST_DATA>, TooLong>
     ensures { IsNormalFormResult Profile.Shorter message.now result }
 {
     normal_words(Profile::Shorter, message)
 }
 
-/// Gives the codewords of a message under a profile: those of [`ascii_words()`] or of [`shorter_words()`]. `TooLong` exactly where
-/// they are more than `MOST_DATA`.
+/// Gives the codewords of a message under a profile: those of [`ascii_words()`] or of [`shorter_words()`]. `TooLong`
+/// exactly where they are more than `MOST_DATA`.
 pub fn normal_words(profile: Profile, message: &Message) -> Result<ArrayVec<u8, MOST_DATA>, TooLong>
     ensures { IsNormalFormResult profile message.now result }
 {
@@ -46,9 +48,9 @@ pub fn normal_words(profile: Profile, message: &Message) -> Result<ArrayVec<u8, 
     }
 }
 
-/// Does the same as [`normal_words()`] in a target: after `Ok`, `words` holds these codewords, whatever it held before. After `TooLong` it holds what
-/// it held before. Under [`Profile::Shorter`] this does the same work as under [`Profile::Ascii`], except that it may write a segment
-/// too, or instead of ASCII.
+/// Does the same as [`normal_words()`] in a target: after `Ok`, `words` holds these codewords, whatever it held before.
+/// After `TooLong` it holds what it held before. Under [`Profile::Shorter`] this does the same work as under
+/// [`Profile::Ascii`], except that it may write a segment too, or instead of ASCII.
 pub fn normal_words_to(
     profile: Profile,
     message: &Message,

@@ -21,8 +21,8 @@ fn pad_word(place: u16) -> u8
     }
 }
 
-/// Gives the words, followed by pads up to the data codewords of the size: the first pad is 129, each further one is randomised by its place. The
-/// words are those of a message, at most as many as the size has data codewords.
+/// Gives the words, followed by pads up to the data codewords of the size: the first pad is 129, each further one is
+/// randomised by its place. The words are those of a message, at most as many as the size has data codewords.
 pub fn padded(words: &[u8], size: Size) -> ArrayVec<u8, MOST_DATA>
     requires { length words.now ≤ size.data_count }
     ensures words { result.items ≡ padded words.now size.data_count }

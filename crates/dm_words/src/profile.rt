@@ -5,7 +5,7 @@
 pub enum Profile {
     /// ASCII encodation alone (ISO/IEC 16022, ASCII encodation).
     Ascii,
-    /// One segment of Base 256 from the first codeword on, where the message has no FNC1 and this takes fewer codewords than ASCII;
-    /// else ASCII (ISO/IEC 16022, Base 256 encodation).
+    /// One segment of Base 256 from the first codeword on, where the message has no FNC1 and this takes fewer codewords
+    /// than ASCII; else ASCII (ISO/IEC 16022, Base 256 encodation).
     Shorter,
 }

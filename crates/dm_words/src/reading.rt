@@ -1,6 +1,7 @@
 //! Reading: the message that data codewords spell, or the fault with which they are refused.
 
-ghost use Rattle.std.specs.Prelude.{◌≡◌, ◌+◌, ◌≤◌, ◌<◌, ◌*◌, ◌/◌, ◌%◌, ◌↔◌, false, List, [], ◌∷◌, ◌++◌, length, drop, Ok, Err, IfOk, OnOk, Option};
+ghost use Rattle.std.specs.Prelude.{◌≡◌, ◌+◌, ◌≤◌, ◌<◌, ◌*◌, ◌/◌, ◌%◌, ◌↔◌, false, List, [], ◌∷◌, ◌++◌, length, drop};
+ghost use Rattle.std.specs.Prelude.{Ok, Err, IfOk, OnOk, Option};
 ghost use Rattle.dm_words.specs.declared.item.Item.{Item};
 ghost use Rattle.dm_words.specs.declared.fault.WordFault.{WordFault};
 ghost use Rattle.dm_words.specs.Messages.{IsMessage, most_spelled};
@@ -10,7 +11,8 @@ ghost use Rattle.dm_words.specs.Refused.{Refused};
 ghost use Rattle.dm_words.specs.Outcomes.{outcome};
 ghost use Rattle.dm_words.specs.Results.{IsMessageResult};
 ghost use Rattle.dm_words.specs.Macros.{macro_header};
-ghost use Rattle.dm_words.specs.inner.Scan.Prefixes.{first_part, part_by, raised_unit, is_one_word, begins_with_one_word, read_on, and_trailer};
+ghost use Rattle.dm_words.specs.inner.Scan.Prefixes.{first_part, part_by, raised_unit, is_one_word};
+ghost use Rattle.dm_words.specs.inner.Scan.Prefixes.{begins_with_one_word, read_on, and_trailer};
 ghost use Rattle.dm_words.specs.inner.Scan.Walk.{Step};
 ghost use Rattle.dm_words.specs.inner.Scan.Results.{HasRoomAt, IsPartTakenOrEnd, IsPartTaken, IsOneWordTaken};
 
@@ -46,8 +48,8 @@ pub(crate) fn next_part(
     }
 }
 
-/// Takes the part that begins with the codeword `first` at an index, by what that means: adds its items to the message, and gives the number of its
-/// codewords; `None` at the end.
+/// Takes the part that begins with the codeword `first` at an index, by what that means: adds its items to the message,
+/// and gives the number of its codewords; `None` at the end.
 fn part_of(
     extent: Extent,
     meaning: Option<Codeword>,
@@ -100,7 +102,8 @@ fn part_or_end(part: Result<usize, WordFault>) -> Result<Option<usize>, WordFaul
     }
 }
 
-/// Takes the Upper Shift at an index and its character: adds the byte to the message, and gives the number of its codewords.
+/// Takes the Upper Shift at an index and its character: adds the byte to the message, and gives the number of its
+/// codewords.
 fn raised_part(words: &[u8], at: usize, message: &mut Message) -> Result<usize, WordFault>
     requires in_range { at < length words.now }
     requires short { length words.now ≤ MOST_DATA }
@@ -121,7 +124,8 @@ fn raised_part(words: &[u8], at: usize, message: &mut Message) -> Result<usize, 
     }
 }
 
-/// Takes a part that is one codeword, a character or a pair of digits, and says whether this codeword is one: adds its items to the message.
+/// Takes a part that is one codeword, a character or a pair of digits, and says whether this codeword is one: adds its
+/// items to the message.
 fn one_word_part(word: u8, message: &mut Message) -> bool
     requires { length message.old + 2 ≤ MESSAGE_ROOM }
     ensures one { result ≡ is_one_word (codeword_of word) }
@@ -140,8 +144,8 @@ fn one_word_part(word: u8, message: &mut Message) -> bool
     }
 }
 
-/// Takes the parts of one codeword that stand at an index, all that there are one after the other: adds their items to the message, and gives the
-/// index behind them.
+/// Takes the parts of one codeword that stand at an index, all that there are one after the other: adds their items to
+/// the message, and gives the index behind them.
 // Most codewords are such parts, and this loop has nothing else in it.
 fn one_word_parts(words: &[u8], start: usize, message: &mut Message) -> usize
     requires in_range { start ≤ length words.now }
@@ -199,9 +203,10 @@ fn add_parts(
     Ok(())
 }
 
-/// Gives the message that the data codewords of a symbol spell, in any of the five encodations of the usual extent, or the fault with which they are
-/// refused. The list is the whole data part, at most `MOST_DATA` codewords, so its end is the end of the symbol. What follows the first pad is
-/// ignored. The first faulty part from the left decides; `WordFault` says when each fault comes. ISO/IEC 16022, encodation schemes.
+/// Gives the message that the data codewords of a symbol spell, in any of the five encodations of the usual extent, or
+/// the fault with which they are refused. The list is the whole data part, at most `MOST_DATA` codewords, so its end is
+/// the end of the symbol. What follows the first pad is ignored. The first faulty part from the left decides;
+/// `WordFault` says when each fault comes. ISO/IEC 16022, encodation schemes.
 pub fn message_of(words: &[u8]) -> Result<Message, WordFault>
     requires { length words.now ≤ MOST_DATA }
     ensures { IsMessageResult Extent.Usual words.now result }
@@ -209,8 +214,8 @@ pub fn message_of(words: &[u8]) -> Result<Message, WordFault>
     message_of_as(Extent::Usual, words)
 }
 
-/// Does the same as [`message_of()`] in a target: after `Ok`, `message` holds the message, whatever it held before. After a fault it holds some
-/// message.
+/// Does the same as [`message_of()`] in a target: after `Ok`, `message` holds the message, whatever it held before.
+/// After a fault it holds some message.
 pub fn message_to(words: &[u8], message: &mut Message) -> Result<(), WordFault>
     requires { length words.now ≤ MOST_DATA }
     ensures { IsMessageResult Extent.Usual words.now (outcome result message.new) }
@@ -218,10 +223,11 @@ pub fn message_to(words: &[u8], message: &mut Message) -> Result<(), WordFault>
     message_to_as(Extent::Usual, words, message)
 }
 
-/// Gives the message that the data codewords of a symbol spell, in any encodation of the extent, or the fault with which they are refused, as
-/// [`message_of()`] does at [`Extent::Usual`]. At [`Extent::Wide`] it reads EDIFACT too; a macro as the first codeword gives the message its header
-/// and its trailer, so it has up to seven items more than two for each codeword; and an Upper Shift that waits where a run of C40 or Text ends is
-/// dropped. ISO/IEC 16022, encodation schemes, 05 and 06 macro characters.
+/// Gives the message that the data codewords of a symbol spell, in any encodation of the extent, or the fault with
+/// which they are refused, as [`message_of()`] does at [`Extent::Usual`]. At [`Extent::Wide`] it reads EDIFACT too; a
+/// macro as the first codeword gives the message its header and its trailer, so it has up to seven items more than two
+/// for each codeword; and an Upper Shift that waits where a run of C40 or Text ends is dropped. ISO/IEC 16022,
+/// encodation schemes, 05 and 06 macro characters.
 pub fn message_of_as(extent: Extent, words: &[u8]) -> Result<Message, WordFault>
     requires { length words.now ≤ MOST_DATA }
     ensures { IsMessageResult extent words.now result }
@@ -233,8 +239,8 @@ pub fn message_of_as(extent: Extent, words: &[u8]) -> Result<Message, WordFault>
     }
 }
 
-/// Does the same as [`message_of_as()`] in a target: after `Ok`, `message` holds the message, whatever it held before. After a fault it holds some
-/// message.
+/// Does the same as [`message_of_as()`] in a target: after `Ok`, `message` holds the message, whatever it held before.
+/// After a fault it holds some message.
 pub fn message_to_as(extent: Extent, words: &[u8], message: &mut Message) -> Result<(), WordFault>
     requires { length words.now ≤ MOST_DATA }
     ensures { IsMessageResult extent words.now (outcome result message.new) }
@@ -246,7 +252,8 @@ pub fn message_to_as(extent: Extent, words: &[u8], message: &mut Message) -> Res
     }
 }
 
-/// Adds the header of the macro of this digit, which is the first codeword, the items of all parts behind it, and the trailer to the empty message.
+/// Adds the header of the macro of this digit, which is the first codeword, the items of all parts behind it, and the
+/// trailer to the empty message.
 fn framed_parts(
     extent: Extent,
     digit: u8,

@@ -77,8 +77,8 @@ struct Way {
     cost: u16,
 }
 
-/// Gives a way to write these items than which none takes fewer codewords, and leaves a plan for what is written that way:
-/// the text of the macro, or else the items.
+/// Gives a way to write these items than which none takes fewer codewords, and leaves a plan for what is written that
+/// way: the text of the macro, or else the items.
 fn least_way(extent: Extent, items: &[Item], plan: &mut [Step; PLAN_ROOM]) -> Way
     requires { length items.now ≤ MESSAGE_ROOM }
     ensures way { IsWay extent items.now result.macro_word result.cost }
@@ -166,8 +166,8 @@ fn write_plainest(
     }
 }
 
-/// Writes the items, without pads, as the usual extent has it, in place of the words that stand there, where a symbol of
-/// `count` data codewords has room for that.
+/// Writes the items, without pads, as the usual extent has it, in place of the words that stand there, where a symbol
+/// of `count` data codewords has room for that.
 fn write_usual_if_fits(
     extent: Extent,
     items: &[Item],
@@ -194,8 +194,8 @@ fn write_usual_if_fits(
     }
 }
 
-/// Writes the items in this way, by its plan, without pads, for a symbol of `count` data codewords, and says whether the
-/// usual extent surely reads them.
+/// Writes the items in this way, by its plan, without pads, for a symbol of `count` data codewords, and says whether
+/// the usual extent surely reads them.
 fn write_way(
     extent: Extent,
     items: &[Item],

@@ -1,7 +1,8 @@
 -- What it costs to write items: the fewest codewords for all that follows, for each state of writing; and the plan
 -- that attains these costs. A run is said to be in a state where some values of its next pair or group stand already.
 -- Their codewords count as paid.
-use Rattle.std.specs.Prelude.{◌≡◌, ℕ, zero, suc, ◌+◌, ◌-◌, ◌*◌, ◌≤◌, List, [], ◌∷◌, Bool, false, nat_le, nat_lt, ◌==◌, ◌&&◌, ◌||◌, if◌then◌else◌, length, drop, get_or}
+use Rattle.std.specs.Prelude.{◌≡◌, ℕ, zero, suc, ◌+◌, ◌-◌, ◌*◌, ◌≤◌, List, [], ◌∷◌, Bool, false, nat_le, nat_lt, ◌==◌}
+use Rattle.std.specs.Prelude.{◌&&◌, ◌||◌, if◌then◌else◌, length, drop, get_or}
 use Prim.Native.Nat.{min}
 use Rattle.dm_words.specs.declared.extent.Extent.{Extent}
 use Rattle.dm_words.specs.declared.extent.Extent.TheVariants.{Wide}
@@ -29,7 +30,8 @@ never = 16384
 abbrev pub is_basic : CodeSet → ℕ → Bool
 is_basic C40 byte = byte == 32 || is_digit byte || (nat_le 65 byte && nat_le byte 90)
 is_basic Text byte = byte == 32 || is_digit byte || (nat_le 97 byte && nat_le byte 122)
-is_basic X12 byte = byte == 32 || is_digit byte || (nat_le 65 byte && nat_le byte 90) || byte == 13 || byte == 42 || byte == 62
+is_basic X12 byte = byte == 32 || is_digit byte || (nat_le 65 byte && nat_le byte 90) || byte == 13 || byte ==
+    42 || byte == 62
 
 -- A byte below 128 has this many values in a set that has shifts.
 abbrev pub low_values : CodeSet → ℕ → ℕ
@@ -178,7 +180,8 @@ cost_of item pair next going Rest = 2 + going.segment.rest
 abbrev pub least : Item → Bool → Row → Going → ℕ
 least item pair next going =
     let cost = cost_of item pair next going in
-    min (min (min (min (min (min (min (cost Two) (cost One)) (cost (Run C40))) (cost (Run Text))) (cost (Run X12))) (cost Edifact)) (cost Segment)) (cost Rest)
+    min (min (min (min (min (min (min (cost Two) (cost One)) (cost (Run C40))) (cost (Run Text))) (cost (Run X12)))
+    (cost Edifact)) (cost Segment)) (cost Rest)
 
 -- The costs, from the cost in ASCII and those where runs go on.
 abbrev pub with_ascii : ℕ → ℕ → Going → Row
@@ -194,7 +197,15 @@ with_ascii cost second going = record {
 
 -- No run and no segment goes on behind the last item.
 abbrev pub none_going : Going
-none_going = record { c40 = no_pairs; text = no_pairs; x12 = no_pairs; edifact = no_groups; segment = record { bytes = never; near = 0; rest = 0 } }
+none_going =
+    record {
+      c40 = no_pairs;
+      text = no_pairs;
+      x12 = no_pairs;
+      edifact = no_groups;
+      segment =
+          record { bytes = never; near = 0; rest = 0 };
+    }
 
 -- The costs behind the last item.
 abbrev pub last_row : Row
@@ -202,7 +213,8 @@ last_row = with_ascii 0 never none_going
 
 -- The costs from an item on; from whether it and the next are digits, and the costs from the next one on.
 abbrev pub row_before : Extent → Item → Bool → Row → Row
-row_before extent item pair next = let going = going_over extent item next in with_ascii (least item pair next going) next.ascii going
+row_before extent item pair next = let going =
+    going_over extent item next in with_ascii (least item pair next going) next.ascii going
 
 -- The costs of items.
 unfoldable pub row : Extent → List Item → Row
@@ -225,7 +237,8 @@ abbrev pub IsRightBegin : Extent → List Item → Begin → Type 0
 IsRightBegin extent [] begin = Unit {0}
 IsRightBegin extent (item ∷ rest) begin =
     let next = row extent rest in
-    parts_cost extent (item ∷ rest) ≡ cost_of item (is_digit_item item && digit_first rest) next (going_over extent item next) begin
+    parts_cost extent (item ∷ rest)
+    ≡ cost_of item (is_digit_item item && digit_first rest) next (going_over extent item next) begin
 
 -- A run goes on over the first item, or no further.
 abbrev pub going_from : Extent → List Item → Going
@@ -251,7 +264,8 @@ pub record IsRightStep (extent : Extent) (items : List Item) (step : Step) : Typ
 
 -- The plan says what is right at each item, and behind the last one.
 abbrev pub IsRightPlan : Extent → List Item → List Step → Type 0
-IsRightPlan extent items plan = (i : ℕ) (other : Step) → i ≤ length items → IsRightStep extent (drop i items) (get_or plan i other)
+IsRightPlan extent items plan = (i : ℕ) (other : Step) → i ≤ length items
+    → IsRightStep extent (drop i items) (get_or plan i other)
 
 -- Where runs go on, no cost is too great.
 pub record AreSmall (going : Going) : Type 0 where

@@ -12,7 +12,8 @@ use Rattle.dm_words.specs.inner.Costs.{parts_cost}
 -- No way to write a message costs less: not its parts, nor the text of a macro and the macro itself.
 pub record IsLeastCost (extent : Extent) (message : List Item) (cost : ℕ) : Type 0 where
   pub parts : cost ≤ parts_cost extent message
-  pub macros : (word digit : ℕ) (text : List Item) → extent ≡ Wide → codeword_of word ≡ Some (codeword.Macro digit) → message ≡ macro_text digit text
+  pub macros : (word digit : ℕ) (text : List Item) → extent ≡ Wide → codeword_of word ≡ Some (codeword.Macro digit)
+      → message ≡ macro_text digit text
       → cost ≤ 1 + parts_cost extent text
 
 -- The items between a header and a trailer are these, if there are as many.
@@ -29,7 +30,8 @@ pub record IsMacroOf (extent : Extent) (items : List Item) (word : ℕ) : Type 0
 
 -- No macro stands for a header and a trailer of these items.
 abbrev pub HasNoMacro : Extent → List Item → Type 0
-HasNoMacro extent items = (word digit : ℕ) (text : List Item) → extent ≡ Wide → codeword_of word ≡ Some (codeword.Macro digit) → items ≡ macro_text digit text → ⊥
+HasNoMacro extent items = (word digit : ℕ) (text : List Item) → extent ≡ Wide → codeword_of word
+    ≡ Some (codeword.Macro digit) → items ≡ macro_text digit text → ⊥
 
 -- To write a message by this macro, or by none, costs at most this much.
 abbrev pub IsWay : Extent → List Item → Option ℕ → ℕ → Type 0

@@ -1,6 +1,7 @@
 -- What the private functions give that write the codewords of a plan: values of runs, pairs and groups, length
 -- fields, and parts.
-use Rattle.std.specs.Prelude.{◌≡◌, ℕ, ◌+◌, ◌<◌, ◌≤◌, List, [], ◌∷◌, ◌++◌, length, Some, IsTrue, Bool, true, false, ◌≢◌, ◌⊎◌}
+use Rattle.std.specs.Prelude.{◌≡◌, ℕ, ◌+◌, ◌<◌, ◌≤◌, List, [], ◌∷◌, ◌++◌, length, Some, IsTrue, Bool, true, false, ◌≢◌}
+use Rattle.std.specs.Prelude.{◌⊎◌}
 use Rattle.dm_words.specs.declared.c40.set.CodeSet.{CodeSet}
 use Rattle.dm_words.specs.declared.c40.set.CodeSet.TheVariants.{C40, Text, X12}
 use Rattle.dm_words.specs.declared.c40.set.Basic.TheVariants as basic
@@ -65,7 +66,8 @@ IsSmallPart (Two first second) = (first < 40) × (second < 40)
 abbrev pub IsValuePushed : Part → List ℕ → ℕ → Part → List ℕ → Type 0
 IsValuePushed Empty old value part new = (part ≡ One value) × (new ≡ old)
 IsValuePushed (One first) old value part new = (part ≡ Two first value) × (new ≡ old)
-IsValuePushed (Two first second) old value part new = (part ≡ Empty) × ((pair : List ℕ) × IsPair pair (first ∷ second ∷ value ∷ []) × (new ≡ old ++ pair))
+IsValuePushed (Two first second) old value part new =
+    (part ≡ Empty) × ((pair : List ℕ) × IsPair pair (first ∷ second ∷ value ∷ []) × (new ≡ old ++ pair))
 
 -- Behind values that stood already, values were pushed: in whole pairs, and those that stand now.
 pub record ArePushed (old waiting values new : List ℕ) (part : Part) : Type 0 where
@@ -77,7 +79,8 @@ pub record ArePushed (old waiting values new : List ℕ) (part : Part) : Type 0 
 
 -- The values of an item were pushed.
 abbrev pub IsItemPushed : CodeSet → Item → Part → List ℕ → List ℕ → Part → Type 0
-IsItemPushed set item part old new part_then = (values : List ℕ) × IsSpelling set values item × ArePushed old (part_values part) values new part_then
+IsItemPushed set item part old new part_then =
+    (values : List ℕ) × IsSpelling set values item × ArePushed old (part_values part) values new part_then
 
 -- No value stands.
 abbrev pub is_empty : Part → Bool
@@ -129,7 +132,8 @@ group_stops (group.Three first second third) step = step.group_ends
 -- A run of EDIFACT has its end: an unlatch by itself where more than two codewords are left, none where fewer are, or
 -- the unlatch in a group.
 abbrev pub IsEdifactEnded : Group → ℕ → List ℕ → List ℕ → Type 0
-IsEdifactEnded group.Empty total old new = ((length old + 2 < total) × (new ≡ old ++ 124 ∷ [])) ⊎ ((total ≤ length old + 2) × (new ≡ old))
+IsEdifactEnded group.Empty total old new =
+    ((length old + 2 < total) × (new ≡ old ++ 124 ∷ [])) ⊎ ((total ≤ length old + 2) × (new ≡ old))
 IsEdifactEnded g total old new = (then : Group) × IsGroupPushed g old 31 then new
 
 -- ---- a segment
@@ -156,11 +160,13 @@ pub record IsPartWritten (extent : Extent) (total : ℕ) (old new : List ℕ) (i
   pub some : 0 < length part
   pub begins : NoUnlatchFirst part
   pub whole : new ≡ old ++ part
-  pub right : (after : List ℕ) → length new + length after ≡ total → NoUnlatchFirst after → IsPart extent (length old + 1) part after items
+  pub right : (after : List ℕ) → length new + length after ≡ total → NoUnlatchFirst after
+      → IsPart extent (length old + 1) part after items
 
 -- Parts of these items were written behind the base.
 pub record ArePartsWritten (extent : Extent) (total : ℕ) (base new : List ℕ) (items : List Item) : Type 0 where
   pub parts : List (Piece (List Item))
   pub whole : new ≡ base ++ spelled parts
   pub items_are : items ≡ gathered parts
-  pub right : (after : List ℕ) → length new + length after ≡ total → NoUnlatchFirst after → AreJoined (IsPart extent) (length base + 1) parts after
+  pub right : (after : List ℕ) → length new + length after ≡ total → NoUnlatchFirst after
+      → AreJoined (IsPart extent) (length base + 1) parts after

@@ -12,7 +12,8 @@ use crate::numbers::number_at;
 use arrayvec::ArrayVec;
 use dm_layout::MOST_DATA;
 
-/// Why no further pair follows: the next codeword is the unlatch, fewer than two codewords are left, or their number is 0 or more than 64000.
+/// Why no further pair follows: the next codeword is the unlatch, fewer than two codewords are left, or their number is
+/// 0 or more than 64000.
 #[derive(Clone, Copy)]
 pub enum PairsEnd {
     Unlatch,

@@ -22,8 +22,9 @@ fn pair_place(place: u16, index: u16) -> u16
     place + 1 + 2 * (index / 3)
 }
 
-/// Gives what is wrong with the run whose latch stands at a place, if anything is: the first wrong value; if there is none, a bad pair; if there is
-/// none either, in the usual extent, an Upper Shift that waits. The pairs have `pair_words` codewords.
+/// Gives what is wrong with the run whose latch stands at a place, if anything is: the first wrong value; if there is
+/// none, a bad pair; if there is none either, in the usual extent, an Upper Shift that waits. The pairs have
+/// `pair_words` codewords.
 fn fault_of(
     extent: Extent,
     place: u16,

@@ -20,8 +20,8 @@ pub enum Rest {
     Waiting,
     /// An Upper Shift before FNC1 or another Upper Shift.
     WrongUpperShift,
-    /// A shift before a value that has no meaning after it, with or without an Upper Shift before them. The number says how many values further on
-    /// that value stands.
+    /// A shift before a value that has no meaning after it, with or without an Upper Shift before them. The number says
+    /// how many values further on that value stands.
     Meaningless(u8),
 }
 

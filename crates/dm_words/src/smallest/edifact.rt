@@ -2,7 +2,8 @@
 
 ghost use Rattle.std.specs.Prelude.{◌≡◌, ◌+◌, ◌-◌, ◌≤◌, ◌<◌, not, length, take, drop};
 ghost use Rattle.dm_words.specs.inner.Costs.{going_from, parts_cost, IsRightPlan};
-ghost use Rattle.dm_words.specs.inner.Written.{IsSmallGroup, waiting_values, whole_words, IsGroupPushed, group_stops, IsEdifactEnded, IsPartWritten};
+ghost use Rattle.dm_words.specs.inner.Written.{IsSmallGroup, waiting_values, whole_words, IsGroupPushed, group_stops};
+ghost use Rattle.dm_words.specs.inner.Written.{IsEdifactEnded, IsPartWritten};
 
 use crate::extent::Extent;
 use crate::item::{Item, byte};

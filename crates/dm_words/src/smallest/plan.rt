@@ -2,7 +2,8 @@
 
 ghost use Rattle.std.specs.Prelude.{◌≡◌, ◌+◌, ◌≤◌, ◌<◌, Bool, if◌then◌else◌, nat_lt, ℕ, drop, length};
 ghost use Prim.Native.Nat.{min};
-ghost use Rattle.dm_words.specs.inner.Costs.{cost_of, least, segment_cost, step_of, IsWithin, AreSmall, IsRightPlan, row, parts_cost, is_digit_item, pair_first, never};
+ghost use Rattle.dm_words.specs.inner.Costs.{cost_of, least, segment_cost, step_of, IsWithin, AreSmall, IsRightPlan};
+ghost use Rattle.dm_words.specs.inner.Costs.{row, parts_cost, is_digit_item, pair_first, never};
 
 use crate::c40::set::CodeSet;
 use crate::extent::Extent;

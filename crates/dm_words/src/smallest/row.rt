@@ -1,7 +1,10 @@
 //! What it costs to write all that follows an item, for each state of writing.
 
 ghost use Rattle.std.specs.Prelude.{◌≡◌, ℕ, ◌+◌, ◌≤◌, ◌<◌};
-ghost use Rattle.dm_words.specs.inner.Costs.{value_before, stay, leave, or_leave, stay_edifact, or_leave_edifact, is_basic, low_values, set_values, has_edifact, unit_cost, segment_before, going_over, with_ascii, last_row, none_going, ArePaid, ArePaidGroups, IsWithin, AreSmall};
+ghost use Rattle.dm_words.specs.inner.Costs.{value_before, stay, leave, or_leave, stay_edifact, or_leave_edifact};
+ghost use Rattle.dm_words.specs.inner.Costs.{is_basic, low_values, set_values, has_edifact, unit_cost, segment_before};
+ghost use Rattle.dm_words.specs.inner.Costs.{going_over, with_ascii, last_row, none_going, ArePaid, ArePaidGroups};
+ghost use Rattle.dm_words.specs.inner.Costs.{IsWithin, AreSmall};
 
 use crate::c40::set::CodeSet;
 use crate::extent::Extent;

@@ -7,7 +7,8 @@ ghost use Rattle.dm_words.specs.declared.codeword.Codeword.TheVariants as Codewo
 ghost use Rattle.dm_words.specs.Codewords.{codeword_of};
 ghost use Rattle.dm_words.specs.Values.{IsRunValue};
 ghost use Rattle.dm_words.specs.inner.Costs.{set_values, owed, going_pairs, going_from, parts_cost, IsRightPlan};
-ghost use Rattle.dm_words.specs.inner.Written.{part_values, IsSmallPart, IsValuePushed, ArePushed, IsItemPushed, is_empty, run_ends, IsPartWritten};
+ghost use Rattle.dm_words.specs.inner.Written.{part_values, IsSmallPart, IsValuePushed, ArePushed, IsItemPushed};
+ghost use Rattle.dm_words.specs.inner.Written.{is_empty, run_ends, IsPartWritten};
 
 use crate::c40::set::CodeSet;
 use crate::codeword::UNLATCH;

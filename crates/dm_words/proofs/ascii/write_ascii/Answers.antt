@@ -5,15 +5,25 @@ use Rattle.dm_words.proofs.ascii.write_ascii.Goals as goal
 pub write_unit-at-requires : goal.write_unit-at-requires
 write_unit-at-requires g c =
     let h = has_unit c.unit_at-unit.result c.args.items.now c.loop-at.at c.loop-at-test.true c.unit_at-unit.ensures in
-    omega (arith, c.requires, unit_room c.unit_at-unit.result c.args.items.now c.loop-at.at c.loop-at.words.items h c.loop-at.invariant.so_far)
+    omega (
+      arith,
+      c.requires,
+      unit_room c.unit_at-unit.result c.args.items.now c.loop-at.at c.loop-at.words.items h
+          c.loop-at.invariant.so_far,
+    )
 
 pub loop-at-preserved : goal.loop-at-preserved
 loop-at-preserved g c =
     let h = has_unit c.unit_at-unit.result c.args.items.now c.loop-at.at c.loop-at-test.true c.unit_at-unit.ensures in
     record {
       in_range = rw c.write_unit-at.ensures.item_count h.within;
-      so_far = rw c.write_unit-at.ensures.item_count (unit_turn c.unit_at-unit.result c.args.items.now c.loop-at.at c.loop-at.words.items c.write_unit-at.new.words.items h c.loop-at.invariant.so_far c.write_unit-at.ensures.words);
-      has_fnc1 = rw c.write_unit-at.ensures.item_count (fnc1_turn c.unit_at-unit.result c.args.items.now c.loop-at.at c.loop-at.has_fnc1 c.is_fnc1-has_fnc1.result h c.is_fnc1-has_fnc1.ensures c.loop-at.invariant.has_fnc1);
+      so_far = rw c.write_unit-at.ensures.item_count
+          (unit_turn c.unit_at-unit.result c.args.items.now c.loop-at.at c.loop-at.words.items
+          c.write_unit-at.new.words.items h c.loop-at.invariant.so_far c.write_unit-at.ensures.words);
+      has_fnc1 =
+          rw c.write_unit-at.ensures.item_count
+          (fnc1_turn c.unit_at-unit.result c.args.items.now c.loop-at.at c.loop-at.has_fnc1 c.is_fnc1-has_fnc1.result
+          h c.is_fnc1-has_fnc1.ensures c.loop-at.invariant.has_fnc1);
     }
 
 pub loop-at-smaller : goal.loop-at-smaller
@@ -22,11 +32,15 @@ loop-at-smaller g c =
     omega (arith, h.some, h.within, c.write_unit-at.ensures.item_count)
 
 pub returns-clause-words : goal.returns-clause-words
-returns-clause-words g c = words_end c.args.items.now c.loop-at.at c.loop-at.words.items c.loop-at-test.false c.loop-at.invariant.so_far
+returns-clause-words g c =
+    words_end c.args.items.now c.loop-at.at c.loop-at.words.items c.loop-at-test.false c.loop-at.invariant.so_far
 
 pub returns-clause-length : goal.returns-clause-length
 returns-clause-length g c =
-    c.len.ensures.value ∙ ap length (words_end c.args.items.now c.loop-at.at c.loop-at.words.items c.loop-at-test.false c.loop-at.invariant.so_far)
+    c.len.ensures.value
+    ∙ ap length
+    (words_end c.args.items.now c.loop-at.at c.loop-at.words.items c.loop-at-test.false c.loop-at.invariant.so_far)
 
 pub returns-clause-has_fnc1 : goal.returns-clause-has_fnc1
-returns-clause-has_fnc1 g c = fnc1_end c.args.items.now c.loop-at.at c.loop-at.has_fnc1 c.loop-at-test.false c.loop-at.invariant.has_fnc1
+returns-clause-has_fnc1 g c =
+    fnc1_end c.args.items.now c.loop-at.at c.loop-at.has_fnc1 c.loop-at-test.false c.loop-at.invariant.has_fnc1

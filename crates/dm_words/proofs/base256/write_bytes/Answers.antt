@@ -28,6 +28,8 @@ loop-item-preserved g c =
     let put : c.push.new.self.items ≡ old ++ randomised (length old + 1) c.byte.result ∷ [] =
     c.push.ensures.items ∙ ap (λ n. old ++ ((c.byte.result + n) % 256) ∷ []) v.number in
     record {
-      so_far = bytes_more c.args.words.now.items old c.push.new.self.items c.args.items.now c.loop-item.item-index c.byte.result _ c.loop-item-test.true c.byte.ensures v.so_far put;
-      number = c.next_random-number.ensures.next (length old + 1) v.number ∙ ap (λ n. random_at (n + 1)) (sym c.push.ensures.len);
+      so_far = bytes_more c.args.words.now.items old c.push.new.self.items c.args.items.now c.loop-item.item-index
+          c.byte.result _ c.loop-item-test.true c.byte.ensures v.so_far put;
+      number = c.next_random-number.ensures.next (length old + 1) v.number
+          ∙ ap (λ n. random_at (n + 1)) (sym c.push.ensures.len);
     }

@@ -20,9 +20,12 @@ group_part-requires c =
     omega (arith, v.room, c.loop-next-test.true, c.requires.short)
 
 -- Where the group ends the run, this is known of it.
-pub ended : (c : goal.In-Some) → (c.args.at + 1 + (edifact_run (drop (c.args.at + 1) c.args.words.now)).0 ≡ c.loop-next.next + c.in-Some.count) × (c.in-Some.count ≤ 3)
+pub ended : (c : goal.In-Some)
+    → (c.args.at + 1 + (edifact_run (drop (c.args.at + 1) c.args.words.now)).0
+    ≡ c.loop-next.next + c.in-Some.count) × (c.in-Some.count ≤ 3)
 ended c =
-    let e = group_ends c.args.words.now (c.args.at + 1) c.loop-next.next c.args.message.now c.loop-next.message c.group_part.new.message c.loop-next.invariant.so_far
+    let e = group_ends c.args.words.now (c.args.at + 1) c.loop-next.next c.args.message.now c.loop-next.message
+    c.group_part.new.message c.loop-next.invariant.so_far
     (omega (arith, c.loop-next-test.true)) c.in-Some.count c.in-Some.ensures in
     (e.0, e.2)
 
@@ -34,7 +37,8 @@ overflow_sub-result c = omega (arith, c.loop-next.invariant.from)
 
 pub returns-in-Some : goal.returns-in-Some
 returns-in-Some c =
-    let e = group_ends c.args.words.now (c.args.at + 1) c.loop-next.next c.args.message.now c.loop-next.message c.group_part.new.message c.loop-next.invariant.so_far
+    let e = group_ends c.args.words.now (c.args.at + 1) c.loop-next.next c.args.message.now c.loop-next.message
+    c.group_part.new.message c.loop-next.invariant.so_far
     (omega (arith, c.loop-next-test.true)) c.in-Some.count c.in-Some.ensures in
     (omega (arith, e.0), e.1)
 
@@ -44,7 +48,8 @@ loop-next-smaller c = omega (arith, c.loop-next-test.true)
 pub loop-next-preserved : goal.loop-next-preserved
 loop-next-preserved c =
     let v = c.loop-next.invariant in
-    let t = group_goes_on c.args.words.now (c.args.at + 1) c.loop-next.next c.args.message.now c.loop-next.message c.group_part.new.message v.so_far
+    let t = group_goes_on c.args.words.now (c.args.at + 1) c.loop-next.next c.args.message.now c.loop-next.message
+    c.group_part.new.message v.so_far
     (omega (arith, c.loop-next-test.true)) c.in_default.ensures in
     record {
       from = omega (arith, v.from);
@@ -58,5 +63,6 @@ overflow_sub-result-2 c = omega (arith, c.loop-next.invariant.from)
 
 pub returns : goal.returns
 returns c =
-    let e = border_ends c.args.words.now (c.args.at + 1) c.loop-next.next c.args.message.now c.loop-next.message c.loop-next.message c.loop-next.invariant.so_far (omega (arith, c.loop-next-test.false)) in
+    let e = border_ends c.args.words.now (c.args.at + 1) c.loop-next.next c.args.message.now c.loop-next.message
+    c.loop-next.message c.loop-next.invariant.so_far (omega (arith, c.loop-next-test.false)) in
     (omega (arith, e.0), e.1)

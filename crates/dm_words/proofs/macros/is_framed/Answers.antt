@@ -8,7 +8,8 @@ pub returns-clause-yes : goal.returns-clause-yes
 returns-clause-yes c =
     let m = c.args.items.now in
     let header : take 7 m ≡ macro_header c.args.digit = c.are_bytes.ensures.yes c.if-not-are_bytes.false in
-    λ t. is_framed m c.args.digit (omega (arith, c.if-count.false)) header (sym (take_rest m (length m - 2)) ∙ c.are_bytes-2.ensures.yes t)
+    λ t. is_framed m c.args.digit (omega (arith, c.if-count.false)) header (sym (take_rest m (length m - 2))
+    ∙ c.are_bytes-2.ensures.yes t)
 
 pub returns-clause-no : goal.returns-clause-no
 returns-clause-no c =

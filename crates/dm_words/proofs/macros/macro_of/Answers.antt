@@ -3,7 +3,14 @@ use Rattle.dm_words.proofs.macros.macro_of.Goals as goal
 
 pub returns-then-is_framed-clause-found : goal.returns-then-is_framed-clause-found
 returns-then-is_framed-clause-found c =
-    record { wide = c.in-Wide.is; digit = 53; is_macro = refl; framed = c.is_framed.ensures.yes c.if-is_framed.true; long = c.is_framed.ensures.long c.if-is_framed.true }
+    record {
+      wide = c.in-Wide.is;
+      digit = 53;
+      is_macro = refl;
+      framed =
+          c.is_framed.ensures.yes c.if-is_framed.true;
+      long = c.is_framed.ensures.long c.if-is_framed.true;
+    }
 
 pub returns-then-is_framed-2-clause-found : goal.returns-then-is_framed-2-clause-found
 returns-then-is_framed-2-clause-found c =

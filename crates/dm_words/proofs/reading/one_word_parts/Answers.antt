@@ -6,6 +6,7 @@ pub loop-word-preserved : goal.loop-word-preserved
 loop-word-preserved c =
     let v = c.loop-word.invariant in
     let taken = rw c.if-not-is_taken.false at c.one_word_part-is_taken.ensures.taken in
-    let r = one_word_turn c.args.words.now c.args.start c.loop-word.at c.in-Some.word c.args.message.now c.loop-word.message c.one_word_part-is_taken.new.message
+    let r = one_word_turn c.args.words.now c.args.start c.loop-word.at c.in-Some.word c.args.message.now
+    c.loop-word.message c.one_word_part-is_taken.new.message
     (λ i. omega (arith, c.type_inv.words i)) v.in_range v.from v.room c.in-Some.ensures taken v.so_far in
     record { from = omega (arith, v.from); in_range = r.in_range; room = r.room; so_far = r.so_far }

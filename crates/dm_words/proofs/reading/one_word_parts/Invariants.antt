@@ -8,7 +8,8 @@ invariant-loop-word l = record {
   from : l.start ≤ l.at;
   in_range : l.at ≤ length l.words;
   room : length l.message + 2 * l.start ≤ length l.fn.message + 2 * l.at;
-  so_far : (extent : Extent) → read_on extent l.message (l.at + 1) (drop l.at l.words) ≡ read_on extent l.fn.message (l.start + 1) (drop l.start l.words);
+  so_far : (extent : Extent) → read_on extent l.message (l.at + 1) (drop l.at l.words)
+      ≡ read_on extent l.fn.message (l.start + 1) (drop l.start l.words);
 }
 
 abbrev pub decreases-loop-word : goal.decreases-loop-word

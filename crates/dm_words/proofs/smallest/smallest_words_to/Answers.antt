@@ -8,8 +8,16 @@ use Rattle.dm_words.proofs.smallest.smallest_words_to.Goals as goal
 
 pub returns-in-None-clause-smallest : goal.returns-in-None-clause-smallest
 returns-in-None-clause-smallest c =
-    let least = subst (λ (m : List Item). IsLeastCost c.args.extent m c.least_way-way.result.cost) c.items-items.ensures.value c.least_way-way.ensures.least in
-    record { words = tt; plainest = tt; padded = tt; too_long = λ err. none_spells c.args.extent c.args.message.now c.least_way-way.result.cost least c.in-None.ensures.none }
+    let least =
+    subst (λ (m : List Item). IsLeastCost c.args.extent m c.least_way-way.result.cost) c.items-items.ensures.value
+    c.least_way-way.ensures.least in
+    record {
+      words = tt;
+      plainest = tt;
+      padded = tt;
+      too_long =
+          λ err. none_spells c.args.extent c.args.message.now c.least_way-way.result.cost least c.in-None.ensures.none;
+    }
 
 pub returns-in-Some-clause-smallest : goal.returns-in-Some-clause-smallest
 returns-in-Some-clause-smallest c =
@@ -17,13 +25,22 @@ returns-in-Some-clause-smallest c =
     let m = c.args.message.now in
     let written = c.write_plainest.new.words.items in
     let same = c.items-items.ensures.value in
-    let is : c.add_pads.new.words.items ≡ padded written c.data_count.result = c.add_pads.ensures.words ∙ ap (λ (n : ℕ). padded written n) (sym c.data_count.ensures.value) in
-    let least = subst (λ (l : List Item). IsLeastCost extent l c.least_way-way.result.cost) same c.least_way-way.ensures.least in
-    let here = subst (λ (l : List Item). SpellsThenPads extent (padded written c.data_count.result) l) same c.write_plainest.ensures.spells in
+    let is : c.add_pads.new.words.items ≡ padded written c.data_count.result = c.add_pads.ensures.words
+    ∙ ap (λ (n : ℕ). padded written n) (sym c.data_count.ensures.value) in
+    let least =
+    subst (λ (l : List Item). IsLeastCost extent l c.least_way-way.result.cost) same
+    c.least_way-way.ensures.least in
+    let here =
+    subst (λ (l : List Item). SpellsThenPads extent (padded written c.data_count.result) l) same
+    c.write_plainest.ensures.spells in
     let spells = subst (λ (l : List ℕ). SpellsThenPads extent l m) (sym is) here in
-    let plain = subst (λ (l : List Item). IsPlainest (padded written c.data_count.result) l) same c.write_plainest.ensures.plainest in
+    let plain =
+    subst (λ (l : List Item). IsPlainest (padded written c.data_count.result) l) same
+    c.write_plainest.ensures.plainest in
     record {
-      words = is_smallest extent m c.least_way-way.result.cost c.in-Some.size c.add_pads.new.words.items least (sym c.in-Some.ensures.value) c.add_pads.ensures.count (padded_spells extent c.add_pads.new.words.items m spells);
+      words = is_smallest extent m c.least_way-way.result.cost c.in-Some.size c.add_pads.new.words.items least
+          (sym c.in-Some.ensures.value) c.add_pads.ensures.count
+          (padded_spells extent c.add_pads.new.words.items m spells);
       plainest = subst (λ (l : List ℕ). IsPlainest l m) (sym is) plain;
       padded = spells;
       too_long = λ err other sized says. absurd (cc);

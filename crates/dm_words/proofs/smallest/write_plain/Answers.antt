@@ -8,12 +8,14 @@ pub returns-clause-spells : goal.returns-clause-spells
 returns-clause-spells c =
     let new = c.write_parts.new.words.items in
     plain_spells c.args.extent c.args.count c.clear.new.self.items new c.args.items.now c.clear.ensures
-    (subst (λ (n : ℕ). ArePartsWritten c.args.extent n c.clear.new.self.items new c.args.items.now) c.from.ensures c.write_parts.ensures.parts)
+    (subst (λ (n : ℕ). ArePartsWritten c.args.extent n c.clear.new.self.items new c.args.items.now) c.from.ensures
+    c.write_parts.ensures.parts)
     (omega (arith, c.write_parts.ensures.fits, c.from.ensures))
 
 pub returns-clause-usual : goal.returns-clause-usual
 returns-clause-usual c all =
     let new = c.write_parts.new.words.items in
     plain_spells Usual c.args.count c.clear.new.self.items new c.args.items.now c.clear.ensures
-    (subst (λ (n : ℕ). ArePartsWritten Usual n c.clear.new.self.items new c.args.items.now) c.from.ensures (c.write_parts.ensures.usual all))
+    (subst (λ (n : ℕ). ArePartsWritten Usual n c.clear.new.self.items new c.args.items.now) c.from.ensures
+    (c.write_parts.ensures.usual all))
     (omega (arith, c.write_parts.ensures.fits, c.from.ensures))

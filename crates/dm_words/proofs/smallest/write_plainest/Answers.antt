@@ -7,13 +7,21 @@ use Rattle.dm_words.proofs.smallest.write_plainest.Goals as goal
 
 pub returns-then-ascii_form-from-clause-spells : goal.returns-then-ascii_form-from-clause-spells
 returns-then-ascii_form-from-clause-spells c =
-    subst (λ (l : List ℕ). SpellsThenPads c.args.extent (padded l c.args.count) c.args.items.now) (sym c.write_ascii-form.ensures.words)
+    subst (λ (l : List ℕ). SpellsThenPads c.args.extent (padded l c.args.count) c.args.items.now)
+    (sym c.write_ascii-form.ensures.words)
     (ascii_padded c.args.extent c.args.items.now c.args.count c.requires.message)
 
 pub returns-then-ascii_form-from-clause-plainest : goal.returns-then-ascii_form-from-clause-plainest
 returns-then-ascii_form-from-clause-plainest c =
-    ascii_plainest c.args.items.now c.write_ascii-form.new.words.items c.args.count c.requires.message c.write_ascii-form.ensures.words
-    (omega (arith, ap length c.write_ascii-form.ensures.words, c.ascii_form.ensures.length, c.from.ensures, c.if-ascii_form-from.true))
+    ascii_plainest c.args.items.now c.write_ascii-form.new.words.items c.args.count c.requires.message
+    c.write_ascii-form.ensures.words
+    (omega (
+      arith,
+      ap length c.write_ascii-form.ensures.words,
+      c.ascii_form.ensures.length,
+      c.from.ensures,
+      c.if-ascii_form-from.true,
+    ))
 
 pub returns-else-not-is_usual-clause-plainest : goal.returns-else-not-is_usual-clause-plainest
 returns-else-not-is_usual-clause-plainest c =

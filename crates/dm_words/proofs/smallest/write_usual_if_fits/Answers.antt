@@ -5,7 +5,8 @@ use Rattle.dm_words.proofs.smallest.write_usual_if_fits.Goals as goal
 
 pub returns-then-plan_to-count-clause-spells : goal.returns-then-plan_to-count-clause-spells
 returns-then-plan_to-count-clause-spells c =
-    wider c.args.extent (padded c.write_plain-usual.new.words.items c.args.count) c.args.items.now c.write_plain-usual.ensures.spells
+    wider c.args.extent (padded c.write_plain-usual.new.words.items c.args.count) c.args.items.now
+    c.write_plain-usual.ensures.spells
 
 pub returns-then-plan_to-count-clause-plainest : goal.returns-then-plan_to-count-clause-plainest
 returns-then-plan_to-count-clause-plainest c =

@@ -1,5 +1,6 @@
 -- What is a prefix of a list: a part of the words, a pair, an item among the values of a run.
-use Rattle.std.specs.Prelude.{ℕ, suc, ◌+◌, ◌-◌, ◌*◌, ◌/◌, ◌%◌, List, [], ◌∷◌, ◌++◌, length, take, drop, map, Option, Some, None, Result, Ok, Err, Bool, true, false, nat_lt, ◌==◌, if◌then◌else◌}
+use Rattle.std.specs.Prelude.{ℕ, suc, ◌+◌, ◌-◌, ◌*◌, ◌/◌, ◌%◌, List, [], ◌∷◌, ◌++◌, length, take, drop, map, Option}
+use Rattle.std.specs.Prelude.{Some, None, Result, Ok, Err, Bool, true, false, nat_lt, ◌==◌, if◌then◌else◌}
 use Rattle.dm_words.specs.declared.extent.Extent.{Extent}
 use Rattle.dm_words.specs.declared.extent.Extent.TheVariants.{Usual, Wide}
 use Rattle.dm_words.specs.declared.item.Item.{Item}
@@ -74,7 +75,8 @@ values_of number = ((number - 1) / 1600) ∷ ((number - 1) / 40 % 40) ∷ ((numb
 
 -- A number is that of a pair, unless it is 0 or more than 64000.
 abbrev pub pair_by : ℕ → Step (List ℕ) PairsEnd
-pair_by number = if number == 0 then Stops stop.BadPair else if nat_lt 64000 number then Stops stop.BadPair else Takes 2 (values_of number)
+pair_by number = if number ==
+    0 then Stops stop.BadPair else if nat_lt 64000 number then Stops stop.BadPair else Takes 2 (values_of number)
 
 -- The words begin with a pair, or the pairs end there.
 abbrev pub first_pair : ℕ → List ℕ → Step (List ℕ) PairsEnd
@@ -94,10 +96,12 @@ abbrev pub waiting_fault : Extent → ℕ → Option WordFault
 waiting_fault Usual place = Some (fault.Unfinished place)
 waiting_fault Wide place = None
 
--- A run has this fault, or none: its latch stands at `place`, its pairs have `words` words and then end in this way, and its whole spellings have
+-- A run has this fault, or none: its latch stands at `place`, its pairs have `words` words and then end in this way,
+-- and its whole spellings have
 -- `values` values, with this rest behind them.
 abbrev pub run_fault : Extent → ℕ → ℕ → PairsEnd → ℕ → Rest → Option WordFault
-run_fault extent place words end values (rest.Meaningless index) = Some (fault.Value (pair_place place (values + index)))
+run_fault extent place words end values (rest.Meaningless index) =
+    Some (fault.Value (pair_place place (values + index)))
 run_fault extent place words end values rest.WrongUpperShift = Some (fault.UpperShift (pair_place place (values + 1)))
 run_fault extent place words stop.BadPair values rest.Waiting = Some (fault.Triplet (place + 1 + words))
 run_fault extent place words stop.BadPair values rest.Complete = Some (fault.Triplet (place + 1 + words))
@@ -113,7 +117,8 @@ run_unless (Some why) count items = Stops (Some why)
 
 -- The run behind a latch is known from its pairs and its items.
 abbrev pub run_by : Extent → ℕ → ℕ → PairsEnd → Walked Item Rest → Step (List Item) (Option WordFault)
-run_by extent place words end items = run_unless (run_fault extent place words end items.place items.why) (1 + words + end_length end) items.taken
+run_by extent place words end items =
+    run_unless (run_fault extent place words end items.place items.why) (1 + words + end_length end) items.taken
 
 -- These pairs stand in the words from an index on.
 abbrev pub pairs_from : ℕ → List ℕ → Walked (List ℕ) PairsEnd
@@ -133,7 +138,8 @@ items_in set values = items_from set 0 values
 
 -- This run stands behind a latch at a place.
 unfoldable pub run_behind : Extent → CodeSet → ℕ → List ℕ → Step (List Item) (Option WordFault)
-run_behind extent set place words = let pairs = pairs_in words in run_by extent place pairs.place pairs.why (items_in set (flat pairs.taken))
+run_behind extent set place words = let pairs =
+    pairs_in words in run_by extent place pairs.place pairs.why (items_in set (flat pairs.taken))
 
 -- ---- segments of Base 256
 
@@ -146,14 +152,19 @@ abbrev pub plain : ℕ → List ℕ → List ℕ
 plain place [] = []
 plain place (word ∷ words) = plain_at place word ∷ plain (place + 1) words
 
--- A segment whose length field has `field` words and says that there are `count` bytes is taken, unless fewer values are left.
+-- A segment whose length field has `field` words and says that there are `count` bytes is taken, unless fewer values
+-- are left.
 abbrev pub segment_by : ℕ → ℕ → ℕ → List ℕ → Step (List Item) (Option WordFault)
-segment_by place field count values = if nat_lt (length values) count then Stops (Some (fault.Length place)) else Takes (1 + field + count) (byte_items (take count values))
+segment_by place field count values =
+    if nat_lt (length values) count then Stops (Some (fault.Length place)) else Takes (1 + field + count)
+    (byte_items (take count values))
 
 -- Behind a first length number of 250 or more, the second one decides which segment is taken.
 abbrev pub long_segment : ℕ → ℕ → List ℕ → Step (List Item) (Option WordFault)
 long_segment place first [] = Stops (Some (fault.Length place))
-long_segment place first (second ∷ values) = if nat_lt most_short second then Stops (Some (fault.Length place)) else segment_by place 2 (long_count first second) values
+long_segment place first (second ∷ values) =
+    if nat_lt most_short second then Stops (Some (fault.Length place)) else segment_by place 2
+    (long_count first second) values
 
 -- The values of all words behind a latch at a place decide which segment is taken.
 unfoldable pub segment_behind : ℕ → List ℕ → Step (List Item) (Option WordFault)
@@ -167,9 +178,11 @@ segment_behind place (first ∷ values) =
 
 -- Three codewords have these four values.
 abbrev pub group_values : ℕ → ℕ → ℕ → List ℕ
-group_values high middle low = (high / 4) ∷ (high % 4 * 16 + middle / 16) ∷ (middle % 16 * 4 + low / 64) ∷ (low % 64) ∷ []
+group_values high middle low =
+    (high / 4) ∷ (high % 4 * 16 + middle / 16) ∷ (middle % 16 * 4 + low / 64) ∷ (low % 64) ∷ []
 
--- A run has this many codewords behind its latch, and these values before its unlatch. It begins with a group of these values, and where none of them
+-- A run has this many codewords behind its latch, and these values before its unlatch. It begins with a group of these
+-- values, and where none of them
 -- is the unlatch, it goes on as `rest`.
 abbrev pub group_by : List ℕ → ℕ × List ℕ → ℕ × List ℕ
 group_by (first ∷ second ∷ third ∷ fourth ∷ []) rest =
@@ -210,7 +223,8 @@ raised_unit place (next ∷ more) = raised_unit_by place (codeword_of next)
 abbrev pub part_by : Extent → ℕ → ℕ → List ℕ → Option Codeword → Step (List Item) (Option WordFault)
 part_by extent place word more (Some (codeword.Character byte)) = Takes 1 (Byte byte ∷ [])
 part_by extent place word more (Some codeword.Pad) = Stops None
-part_by extent place word more (Some (codeword.Digits number)) = Takes 1 (Byte (48 + number / 10) ∷ Byte (48 + number % 10) ∷ [])
+part_by extent place word more (Some (codeword.Digits number)) =
+    Takes 1 (Byte (48 + number / 10) ∷ Byte (48 + number % 10) ∷ [])
 part_by extent place word more (Some (codeword.Latch set)) = run_behind extent set place more
 part_by extent place word more (Some codeword.Base256) = segment_behind place (plain (place + 1) more)
 part_by extent place word more (Some codeword.Fnc1) = Takes 1 (Fnc1 ∷ [])
@@ -243,7 +257,8 @@ read_to items (Some why) = Err why
 
 -- This is read from a place on, behind items that were read before.
 unfoldable pub read_on : Extent → List Item → ℕ → List ℕ → Result (List Item) WordFault
-read_on extent items place words = let found = walk (first_part extent) None (suc (length words)) place words in read_to (items ++ flat found.taken) found.why
+read_on extent items place words = let found =
+    walk (first_part extent) None (suc (length words)) place words in read_to (items ++ flat found.taken) found.why
 
 -- A codeword with this meaning is a macro of this digit, or none.
 abbrev pub digit_by : Option Codeword → Option ℕ

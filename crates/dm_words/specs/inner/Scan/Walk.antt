@@ -22,11 +22,13 @@ module _ {A S : Type 0} where
   by_step (Takes count what) takes stops = takes count what
   by_step (Stops why) takes stops = stops why
 
-  -- A walk takes pieces from the left as long as there are any, and at most `fuel` of them; `never` is the reason where the fuel ends.
+  -- A walk takes pieces from the left as long as there are any, and at most `fuel` of them; `never` is the reason where
+  -- the fuel ends.
   unfoldable pub walk : (ℕ → List ℕ → Step A S) → S → ℕ → ℕ → List ℕ → Walked A S
   walk step never zero place words = record { taken = []; place = place; why = never }
   walk step never (suc fuel) place words =
-      by_step (step place words) (λ count what. and_before what (walk step never fuel (place + count) (drop count words)))
+      by_step (step place words)
+      (λ count what. and_before what (walk step never fuel (place + count) (drop count words)))
       (λ why. record { taken = []; place = place; why = why })
 
   -- This walk goes over all of the words.

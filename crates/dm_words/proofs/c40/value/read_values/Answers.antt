@@ -6,30 +6,48 @@ use Rattle.dm_words.proofs.c40.value.read_values.Goals as goal
 pub loop-count-preserved : goal.loop-count-preserved
 loop-count-preserved c =
     let v = c.loop-count.invariant in
-    let t = items_turn c.args.set c.args.values.now c.loop-count.at c.in-Takes.count c.in-Takes.item c.args.message.now c.loop-count.message c.add.new.self (items_in c.args.set c.args.values.now) v.in_range c.in-Takes.ensures c.add.ensures v.so_far in
+    let t = items_turn c.args.set c.args.values.now c.loop-count.at c.in-Takes.count c.in-Takes.item
+    c.args.message.now c.loop-count.message c.add.new.self (items_in c.args.set c.args.values.now) v.in_range
+    c.in-Takes.ensures c.add.ensures v.so_far in
     record {
       in_range = t.2;
-      room = omega (arith, v.room, t.1, ap length c.add.ensures, length-append c.loop-count.message (c.in-Takes.item ∷ []));
+      room = omega (
+        arith,
+        v.room,
+        t.1,
+        ap length c.add.ensures,
+        length-append c.loop-count.message (c.in-Takes.item ∷ []),
+      );
       so_far = t.0;
     }
 
 pub loop-count-smaller : goal.loop-count-smaller
 loop-count-smaller c =
     let v = c.loop-count.invariant in
-    let t = items_turn c.args.set c.args.values.now c.loop-count.at c.in-Takes.count c.in-Takes.item c.args.message.now c.loop-count.message c.add.new.self (items_in c.args.set c.args.values.now) v.in_range c.in-Takes.ensures c.add.ensures v.so_far in
+    let t = items_turn c.args.set c.args.values.now c.loop-count.at c.in-Takes.count c.in-Takes.item
+    c.args.message.now c.loop-count.message c.add.new.self (items_in c.args.set c.args.values.now) v.in_range
+    c.in-Takes.ensures c.add.ensures v.so_far in
     omega (arith, t.1, t.2)
 
 pub returns-in-Stops-clause-items : goal.returns-in-Stops-clause-items
-returns-in-Stops-clause-items c = (items_stop c.args.set c.args.values.now c.loop-count.at c.args.message.now c.loop-count.message c.in-Stops.rest (items_in c.args.set c.args.values.now) c.in-Stops.ensures c.loop-count.invariant.so_far).values
+returns-in-Stops-clause-items c =
+    (items_stop c.args.set c.args.values.now c.loop-count.at c.args.message.now c.loop-count.message c.in-Stops.rest
+    (items_in c.args.set c.args.values.now) c.in-Stops.ensures c.loop-count.invariant.so_far).values
 
 pub returns-in-Stops-clause-value_count : goal.returns-in-Stops-clause-value_count
-returns-in-Stops-clause-value_count c = (items_stop c.args.set c.args.values.now c.loop-count.at c.args.message.now c.loop-count.message c.in-Stops.rest (items_in c.args.set c.args.values.now) c.in-Stops.ensures c.loop-count.invariant.so_far).place_is
+returns-in-Stops-clause-value_count c =
+    (items_stop c.args.set c.args.values.now c.loop-count.at c.args.message.now c.loop-count.message c.in-Stops.rest
+    (items_in c.args.set c.args.values.now) c.in-Stops.ensures c.loop-count.invariant.so_far).place_is
 
 pub returns-in-Stops-clause-rest : goal.returns-in-Stops-clause-rest
-returns-in-Stops-clause-rest c = (items_stop c.args.set c.args.values.now c.loop-count.at c.args.message.now c.loop-count.message c.in-Stops.rest (items_in c.args.set c.args.values.now) c.in-Stops.ensures c.loop-count.invariant.so_far).why_is
+returns-in-Stops-clause-rest c =
+    (items_stop c.args.set c.args.values.now c.loop-count.at c.args.message.now c.loop-count.message c.in-Stops.rest
+    (items_in c.args.set c.args.values.now) c.in-Stops.ensures c.loop-count.invariant.so_far).why_is
 
 pub overflow_add-at : goal.overflow_add-at
 overflow_add-at c =
     let v = c.loop-count.invariant in
-    let t = items_turn c.args.set c.args.values.now c.loop-count.at c.in-Takes.count c.in-Takes.item c.args.message.now c.loop-count.message c.add.new.self (items_in c.args.set c.args.values.now) v.in_range c.in-Takes.ensures c.add.ensures v.so_far in
+    let t = items_turn c.args.set c.args.values.now c.loop-count.at c.in-Takes.count c.in-Takes.item
+    c.args.message.now c.loop-count.message c.add.new.self (items_in c.args.set c.args.values.now) v.in_range
+    c.in-Takes.ensures c.add.ensures v.so_far in
     omega (arith, t.2, c.requires.room)

@@ -4,64 +4,102 @@ use Rattle.dm_words.specs.declared.item.Item.TheVariants.{Byte}
 use Rattle.dm_words.specs.declared.smallest.edifact.Group.TheVariants as group
 use Rattle.dm_words.specs.inner.Costs.{parts_cost}
 use Rattle.dm_words.proofs.GroupsWritten.{edifact_begun, edifact_item, edifact_written, IsEdifactSoFar}
-use Rattle.dm_words.proofs.GroupBudget.{first_of_groups, group_at, leave_groups, after_value, value_room, waiting_room, ended_budget}
+use Rattle.dm_words.proofs.GroupBudget.{first_of_groups, group_at, leave_groups, after_value, value_room, waiting_room}
+use Rattle.dm_words.proofs.GroupBudget.{ended_budget}
 use Rattle.dm_words.proofs.smallest.edifact.write_edifact.Goals as goal
 
 pub loop-words-init : goal.loop-words-init
 loop-words-init c =
-    let f = first_of_groups c.args.extent c.args.items.now c.args.at (Byte 0) (length c.push.new.self.items) c.args.total c.requires.at (omega (arith, c.requires.budget, c.push.ensures.len)) (omega (arith, c.requires.total)) in
+    let f = first_of_groups c.args.extent c.args.items.now c.args.at (Byte 0) (length c.push.new.self.items)
+    c.args.total c.requires.at (omega (arith, c.requires.budget, c.push.ensures.len))
+    (omega (arith, c.requires.total)) in
     let begun = edifact_begun c.args.words.now.items c.push.new.self.items c.push.ensures.items in
     record {
       from = omega arith;
       within = omega (arith, c.requires.at);
       wide = f.wide;
-      budget = after_value group.Empty c.push_value-group.result _ c.args.total c.push.new.self.items c.push_value-group.new.words.items _ c.push_value-group.ensures f.budget;
-      so_far = edifact_item c.args.words.now.items c.push.new.self.items c.push_value-group.new.words.items group.Empty c.push_value-group.result c.args.items.now c.args.at c.args.at (Byte 0) c.byte.result f.byte
-          (omega arith) c.requires.at f.is f.low f.high c.byte.ensures (subst (λ (l : List Item). IsEdifactSoFar c.args.words.now.items c.push.new.self.items group.Empty l) (ap (λ (k : ℕ). take k (drop c.args.at c.args.items.now)) zero_is) begun) c.push_value-group.ensures;
+      budget = after_value group.Empty c.push_value-group.result _ c.args.total c.push.new.self.items
+          c.push_value-group.new.words.items _ c.push_value-group.ensures f.budget;
+      so_far = edifact_item c.args.words.now.items c.push.new.self.items c.push_value-group.new.words.items
+          group.Empty c.push_value-group.result c.args.items.now c.args.at c.args.at (Byte 0) c.byte.result f.byte
+          (omega arith) c.requires.at f.is f.low f.high c.byte.ensures
+          (subst (λ (l : List Item). IsEdifactSoFar c.args.words.now.items c.push.new.self.items group.Empty l)
+          (ap (λ (k : ℕ). take k (drop c.args.at c.args.items.now)) zero_is) begun) c.push_value-group.ensures;
     } where
       zero_is : 0 ≡ c.args.at - c.args.at
       zero_is = omega arith
 
 pub bounds-items-next : goal.bounds-items-next
-bounds-items-next c = (group_at c.args.extent c.args.items.now c.loop-words.next (Byte 0) _ c.loop-words.group (length c.loop-words.words.items) c.args.total c.goes_on.result (c.requires.plan c.loop-words.next _ c.loop-words.invariant.within) c.loop-words.invariant.budget (omega (arith, c.requires.total)) c.goes_on.ensures c.loop-words-test.true).there
+bounds-items-next c =
+    (group_at c.args.extent c.args.items.now c.loop-words.next (Byte 0) _ c.loop-words.group
+    (length c.loop-words.words.items) c.args.total c.goes_on.result
+    (c.requires.plan c.loop-words.next _ c.loop-words.invariant.within) c.loop-words.invariant.budget
+    (omega (arith, c.requires.total)) c.goes_on.ensures c.loop-words-test.true).there
 
 pub push_value-group-requires-in-loop-words-clause-room : goal.push_value-group-requires-in-loop-words-clause-room
 push_value-group-requires-in-loop-words-clause-room c =
     omega (
       arith,
       value_room c.loop-words.group (length c.loop-words.words.items) c.args.total _
-          (group_at c.args.extent c.args.items.now c.loop-words.next (Byte 0) _ c.loop-words.group (length c.loop-words.words.items) c.args.total c.goes_on.result (c.requires.plan c.loop-words.next _ c.loop-words.invariant.within) c.loop-words.invariant.budget (omega (arith, c.requires.total)) c.goes_on.ensures c.loop-words-test.true).budget,
+          (group_at c.args.extent c.args.items.now c.loop-words.next (Byte 0) _ c.loop-words.group
+          (length c.loop-words.words.items) c.args.total c.goes_on.result
+          (c.requires.plan c.loop-words.next _ c.loop-words.invariant.within) c.loop-words.invariant.budget
+          (omega (arith, c.requires.total)) c.goes_on.ensures c.loop-words-test.true).budget,
       c.requires.total,
     )
 
 pub loop-words-smaller : goal.loop-words-smaller
-loop-words-smaller c = omega (arith, (group_at c.args.extent c.args.items.now c.loop-words.next (Byte 0) _ c.loop-words.group (length c.loop-words.words.items) c.args.total c.goes_on.result (c.requires.plan c.loop-words.next _ c.loop-words.invariant.within) c.loop-words.invariant.budget (omega (arith, c.requires.total)) c.goes_on.ensures c.loop-words-test.true).there)
+loop-words-smaller c =
+    omega (
+      arith,
+      (group_at c.args.extent c.args.items.now c.loop-words.next (Byte 0) _ c.loop-words.group
+          (length c.loop-words.words.items) c.args.total c.goes_on.result
+          (c.requires.plan c.loop-words.next _ c.loop-words.invariant.within) c.loop-words.invariant.budget
+          (omega (arith, c.requires.total)) c.goes_on.ensures c.loop-words-test.true).there,
+    )
 
 pub loop-words-preserved : goal.loop-words-preserved
 loop-words-preserved c =
     let v = c.loop-words.invariant in
-    let r = group_at c.args.extent c.args.items.now c.loop-words.next (Byte 0) _ c.loop-words.group (length c.loop-words.words.items) c.args.total c.goes_on.result (c.requires.plan c.loop-words.next _ v.within) v.budget (omega (arith, c.requires.total)) c.goes_on.ensures c.loop-words-test.true in
+    let r = group_at c.args.extent c.args.items.now c.loop-words.next (Byte 0) _ c.loop-words.group
+    (length c.loop-words.words.items) c.args.total c.goes_on.result (c.requires.plan c.loop-words.next _ v.within)
+    v.budget (omega (arith, c.requires.total)) c.goes_on.ensures c.loop-words-test.true in
     record {
       from = omega (arith, v.from);
       within = omega (arith, r.there);
       wide = v.wide;
-      budget = after_value c.loop-words.group c.push_value-group-in-loop-words.result _ c.args.total c.loop-words.words.items c.push_value-group-in-loop-words.new.words.items _ c.push_value-group-in-loop-words.ensures r.budget;
-      so_far = edifact_item c.args.words.now.items c.loop-words.words.items c.push_value-group-in-loop-words.new.words.items c.loop-words.group c.push_value-group-in-loop-words.result c.args.items.now c.args.at c.loop-words.next (Byte 0) c.byte-in-loop-words.result r.byte
-          (omega (arith, v.from)) r.there r.is r.low r.high c.byte-in-loop-words.ensures v.so_far c.push_value-group-in-loop-words.ensures;
+      budget = after_value c.loop-words.group c.push_value-group-in-loop-words.result _ c.args.total
+          c.loop-words.words.items c.push_value-group-in-loop-words.new.words.items _
+          c.push_value-group-in-loop-words.ensures r.budget;
+      so_far = edifact_item c.args.words.now.items c.loop-words.words.items
+          c.push_value-group-in-loop-words.new.words.items c.loop-words.group c.push_value-group-in-loop-words.result
+          c.args.items.now c.args.at c.loop-words.next (Byte 0) c.byte-in-loop-words.result r.byte
+          (omega (arith, v.from)) r.there r.is r.low r.high c.byte-in-loop-words.ensures v.so_far
+          c.push_value-group-in-loop-words.ensures;
     }
 
 pub end_run-requires-clause-room : goal.end_run-requires-clause-room
-end_run-requires-clause-room c = waiting_room c.loop-words.group (length c.loop-words.words.items) c.args.total _ c.loop-words.invariant.budget
+end_run-requires-clause-room c =
+    waiting_room c.loop-words.group (length c.loop-words.words.items) c.args.total _ c.loop-words.invariant.budget
 
 pub returns-clause-budget : goal.returns-clause-budget
 returns-clause-budget c =
-    ended_budget c.loop-words.group c.args.total (parts_cost c.args.extent (drop c.loop-words.next c.args.items.now)) c.loop-words.words.items c.end_run.new.words.items
-    (leave_groups c.args.extent (drop c.loop-words.next c.args.items.now) _ c.loop-words.group (length c.loop-words.words.items) c.args.total c.goes_on.result (c.requires.plan c.loop-words.next _ c.loop-words.invariant.within) c.loop-words.invariant.budget c.goes_on.ensures c.loop-words-test.false)
+    ended_budget c.loop-words.group c.args.total (parts_cost c.args.extent (drop c.loop-words.next c.args.items.now))
+    c.loop-words.words.items c.end_run.new.words.items
+    (leave_groups c.args.extent (drop c.loop-words.next c.args.items.now) _ c.loop-words.group
+    (length c.loop-words.words.items) c.args.total c.goes_on.result
+    (c.requires.plan c.loop-words.next _ c.loop-words.invariant.within) c.loop-words.invariant.budget
+    c.goes_on.ensures c.loop-words-test.false)
     c.end_run.ensures
 
 pub returns-clause-part : goal.returns-clause-part
 returns-clause-part c =
     let v = c.loop-words.invariant in
-    let l = leave_groups c.args.extent (drop c.loop-words.next c.args.items.now) _ c.loop-words.group (length c.loop-words.words.items) c.args.total c.goes_on.result (c.requires.plan c.loop-words.next _ v.within) v.budget c.goes_on.ensures c.loop-words-test.false in
-    edifact_written c.args.extent c.args.total c.args.words.now.items c.loop-words.words.items c.end_run.new.words.items (take (c.loop-words.next - c.args.at) (drop c.args.at c.args.items.now)) c.loop-words.group
-    v.wide (omega (arith, waiting_room c.loop-words.group (length c.loop-words.words.items) c.args.total _ v.budget)) (elim l [ inl p ↦ inl p.0 | inr p ↦ inr p.0 ]) v.so_far c.end_run.ensures
+    let l = leave_groups c.args.extent (drop c.loop-words.next c.args.items.now) _ c.loop-words.group
+    (length c.loop-words.words.items) c.args.total c.goes_on.result (c.requires.plan c.loop-words.next _ v.within)
+    v.budget c.goes_on.ensures c.loop-words-test.false in
+    edifact_written c.args.extent c.args.total c.args.words.now.items c.loop-words.words.items
+    c.end_run.new.words.items (take (c.loop-words.next - c.args.at) (drop c.args.at c.args.items.now))
+    c.loop-words.group
+    v.wide (omega (arith, waiting_room c.loop-words.group (length c.loop-words.words.items) c.args.total _ v.budget))
+    (elim l [ inl p ↦ inl p.0 | inr p ↦ inr p.0 ]) v.so_far c.end_run.ensures

@@ -10,7 +10,8 @@ invariant-loop-words l = record {
   from : l.at + 1 ≤ l.next;
   within : l.next ≤ length l.items;
   wide : l.fn.extent ≡ Wide;
-  budget : length l.words.items + owed_group (length (waiting_values l.group)) (row l.fn.extent (drop l.next l.items)).edifact ≤ l.total;
+  budget : length l.words.items + owed_group (length (waiting_values l.group))
+      (row l.fn.extent (drop l.next l.items)).edifact ≤ l.total;
   so_far : IsEdifactSoFar l.fn.words.items l.words.items l.group (take (l.next - l.at) (drop l.at l.items));
 }
 

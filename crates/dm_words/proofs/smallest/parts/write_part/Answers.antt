@@ -16,89 +16,165 @@ use Rattle.dm_words.proofs.smallest.parts.write_part.Goals as goal
 
 pub write_unit-one-requires : goal.write_unit-one-requires
 write_unit-one-requires c =
-    let p = one_paid c.args.extent c.args.items.now c.args.at (Byte 0) _ c.requires.at (c.requires.plan c.args.at _ (omega (arith, c.requires.at))) (length c.args.words.now.items) c.args.total c.requires.budget c.in-One.is in
-    omega (arith, p, ap length c.unit_of.ensures.words, length-item_words (get_or c.args.items.now c.args.at (Byte 0)), c.requires.total)
+    let p = one_paid c.args.extent c.args.items.now c.args.at (Byte 0) _ c.requires.at
+    (c.requires.plan c.args.at _ (omega (arith, c.requires.at))) (length c.args.words.now.items) c.args.total
+    c.requires.budget c.in-One.is in
+    omega (
+      arith,
+      p,
+      ap length c.unit_of.ensures.words,
+      length-item_words (get_or c.args.items.now c.args.at (Byte 0)),
+      c.requires.total,
+    )
 
 pub returns-in-One-clause-budget : goal.returns-in-One-clause-budget
 returns-in-One-clause-budget c =
-    let p = one_paid c.args.extent c.args.items.now c.args.at (Byte 0) _ c.requires.at (c.requires.plan c.args.at _ (omega (arith, c.requires.at))) (length c.args.words.now.items) c.args.total c.requires.budget c.in-One.is in
-    omega (arith, p, ap length c.unit_of.ensures.words, length-item_words (get_or c.args.items.now c.args.at (Byte 0)), ap length c.write_unit-one.ensures.words, length-append c.args.words.now.items (unit_words c.unit_of.result))
+    let p = one_paid c.args.extent c.args.items.now c.args.at (Byte 0) _ c.requires.at
+    (c.requires.plan c.args.at _ (omega (arith, c.requires.at))) (length c.args.words.now.items) c.args.total
+    c.requires.budget c.in-One.is in
+    omega (
+      arith,
+      p,
+      ap length c.unit_of.ensures.words,
+      length-item_words (get_or c.args.items.now c.args.at (Byte 0)),
+      ap length c.write_unit-one.ensures.words,
+      length-append c.args.words.now.items (unit_words c.unit_of.result),
+    )
 
 pub returns-in-One-clause-part : goal.returns-in-One-clause-part
 returns-in-One-clause-part c =
-    one_written c.args.extent c.args.total c.args.words.now.items c.write_unit-one.new.words.items (unit_words c.unit_of.result) c.args.items.now c.args.at (Byte 0)
+    one_written c.args.extent c.args.total c.args.words.now.items c.write_unit-one.new.words.items
+    (unit_words c.unit_of.result) c.args.items.now c.args.at (Byte 0)
     c.requires.at c.requires.message c.unit_of.ensures.words c.write_unit-one.ensures.words
 
 pub returns-in-One-clause-usual : goal.returns-in-One-clause-usual
 returns-in-One-clause-usual c =
-    λ usual. one_written Usual c.args.total c.args.words.now.items c.write_unit-one.new.words.items (unit_words c.unit_of.result) c.args.items.now c.args.at (Byte 0)
+    λ usual. one_written Usual c.args.total c.args.words.now.items c.write_unit-one.new.words.items
+    (unit_words c.unit_of.result) c.args.items.now c.args.at (Byte 0)
     c.requires.at c.requires.message c.unit_of.ensures.words c.write_unit-one.ensures.words
 
 pub bounds-items-at-in-Two-2 : goal.bounds-items-at-in-Two-2
 bounds-items-at-in-Two-2 c =
-    (pair_paid c.args.extent c.args.items.now c.args.at (Byte 0) _ c.requires.at (c.requires.plan c.args.at _ (omega (arith, c.requires.at))) (length c.args.words.now.items) c.args.total c.requires.budget (omega (arith, c.requires.total)) c.in-Two.is).second_there
+    (pair_paid c.args.extent c.args.items.now c.args.at (Byte 0) _ c.requires.at
+    (c.requires.plan c.args.at _ (omega (arith, c.requires.at))) (length c.args.words.now.items) c.args.total
+    c.requires.budget (omega (arith, c.requires.total)) c.in-Two.is).second_there
 
 pub digit_pair-requires-clause-tens : goal.digit_pair-requires-clause-tens
 digit_pair-requires-clause-tens c =
     digit_byte (get_or c.args.items.now c.args.at (Byte 0)) c.byte.result
-    (pair_paid c.args.extent c.args.items.now c.args.at (Byte 0) _ c.requires.at (c.requires.plan c.args.at _ (omega (arith, c.requires.at))) (length c.args.words.now.items) c.args.total c.requires.budget (omega (arith, c.requires.total)) c.in-Two.is).first
+    (pair_paid c.args.extent c.args.items.now c.args.at (Byte 0) _ c.requires.at
+    (c.requires.plan c.args.at _ (omega (arith, c.requires.at))) (length c.args.words.now.items) c.args.total
+    c.requires.budget (omega (arith, c.requires.total)) c.in-Two.is).first
     c.byte.ensures
 
 pub digit_pair-requires-clause-ones : goal.digit_pair-requires-clause-ones
 digit_pair-requires-clause-ones c =
     digit_byte (get_or c.args.items.now (c.args.at + 1) (Byte 0)) c.byte-in-Two.result
-    (pair_paid c.args.extent c.args.items.now c.args.at (Byte 0) _ c.requires.at (c.requires.plan c.args.at _ (omega (arith, c.requires.at))) (length c.args.words.now.items) c.args.total c.requires.budget (omega (arith, c.requires.total)) c.in-Two.is).second
+    (pair_paid c.args.extent c.args.items.now c.args.at (Byte 0) _ c.requires.at
+    (c.requires.plan c.args.at _ (omega (arith, c.requires.at))) (length c.args.words.now.items) c.args.total
+    c.requires.budget (omega (arith, c.requires.total)) c.in-Two.is).second
     c.byte-in-Two.ensures
 
 pub push-requires : goal.push-requires
 push-requires c =
-    let q = pair_paid c.args.extent c.args.items.now c.args.at (Byte 0) _ c.requires.at (c.requires.plan c.args.at _ (omega (arith, c.requires.at))) (length c.args.words.now.items) c.args.total c.requires.budget (omega (arith, c.requires.total)) c.in-Two.is in
+    let q = pair_paid c.args.extent c.args.items.now c.args.at (Byte 0) _ c.requires.at
+    (c.requires.plan c.args.at _ (omega (arith, c.requires.at))) (length c.args.words.now.items) c.args.total
+    c.requires.budget (omega (arith, c.requires.total)) c.in-Two.is in
     (omega arith, omega (arith, q.paid, c.requires.total))
 
 pub returns-in-Two-clause-within : goal.returns-in-Two-clause-within
 returns-in-Two-clause-within c =
-    omega (arith, (pair_paid c.args.extent c.args.items.now c.args.at (Byte 0) _ c.requires.at (c.requires.plan c.args.at _ (omega (arith, c.requires.at))) (length c.args.words.now.items) c.args.total c.requires.budget (omega (arith, c.requires.total)) c.in-Two.is).second_there)
+    omega (
+      arith,
+      (pair_paid c.args.extent c.args.items.now c.args.at (Byte 0) _ c.requires.at
+          (c.requires.plan c.args.at _ (omega (arith, c.requires.at))) (length c.args.words.now.items) c.args.total
+          c.requires.budget (omega (arith, c.requires.total)) c.in-Two.is).second_there,
+    )
 
 pub returns-in-Two-clause-budget : goal.returns-in-Two-clause-budget
 returns-in-Two-clause-budget c =
-    omega (arith, (pair_paid c.args.extent c.args.items.now c.args.at (Byte 0) _ c.requires.at (c.requires.plan c.args.at _ (omega (arith, c.requires.at))) (length c.args.words.now.items) c.args.total c.requires.budget (omega (arith, c.requires.total)) c.in-Two.is).paid, c.push.ensures.len)
+    omega (
+      arith,
+      (pair_paid c.args.extent c.args.items.now c.args.at (Byte 0) _ c.requires.at
+          (c.requires.plan c.args.at _ (omega (arith, c.requires.at))) (length c.args.words.now.items) c.args.total
+          c.requires.budget (omega (arith, c.requires.total)) c.in-Two.is).paid,
+      c.push.ensures.len,
+    )
 
 pub returns-in-Two-clause-part : goal.returns-in-Two-clause-part
 returns-in-Two-clause-part c =
-    let q = pair_paid c.args.extent c.args.items.now c.args.at (Byte 0) _ c.requires.at (c.requires.plan c.args.at _ (omega (arith, c.requires.at))) (length c.args.words.now.items) c.args.total c.requires.budget (omega (arith, c.requires.total)) c.in-Two.is in
-    let word : c.digit_pair.result ≡ digit_pair (byte_of (get_or c.args.items.now c.args.at (Byte 0))) (byte_of (get_or c.args.items.now (c.args.at + 1) (Byte 0))) =
-    c.digit_pair.ensures ∙ ap (λ (b : ℕ). digit_pair b c.byte-in-Two.result) c.byte.ensures ∙ ap (λ (b : ℕ). digit_pair (byte_of (get_or c.args.items.now c.args.at (Byte 0))) b) c.byte-in-Two.ensures in
-    two_written c.args.extent c.args.total c.args.words.now.items c.push.new.self.items c.digit_pair.result c.args.items.now c.args.at (Byte 0) q.second_there q.first q.second word c.push.ensures.items
+    let q = pair_paid c.args.extent c.args.items.now c.args.at (Byte 0) _ c.requires.at
+    (c.requires.plan c.args.at _ (omega (arith, c.requires.at))) (length c.args.words.now.items) c.args.total
+    c.requires.budget (omega (arith, c.requires.total)) c.in-Two.is in
+    let word : c.digit_pair.result
+    ≡ digit_pair (byte_of (get_or c.args.items.now c.args.at (Byte 0)))
+    (byte_of (get_or c.args.items.now (c.args.at + 1) (Byte 0))) =
+    c.digit_pair.ensures ∙ ap (λ (b : ℕ). digit_pair b c.byte-in-Two.result) c.byte.ensures
+    ∙ ap (λ (b : ℕ). digit_pair (byte_of (get_or c.args.items.now c.args.at (Byte 0))) b) c.byte-in-Two.ensures in
+    two_written c.args.extent c.args.total c.args.words.now.items c.push.new.self.items c.digit_pair.result
+    c.args.items.now c.args.at (Byte 0) q.second_there q.first q.second word c.push.ensures.items
 
 pub returns-in-Two-clause-usual : goal.returns-in-Two-clause-usual
 returns-in-Two-clause-usual c = λ usual.
-    let q = pair_paid c.args.extent c.args.items.now c.args.at (Byte 0) _ c.requires.at (c.requires.plan c.args.at _ (omega (arith, c.requires.at))) (length c.args.words.now.items) c.args.total c.requires.budget (omega (arith, c.requires.total)) c.in-Two.is in
-    let word : c.digit_pair.result ≡ digit_pair (byte_of (get_or c.args.items.now c.args.at (Byte 0))) (byte_of (get_or c.args.items.now (c.args.at + 1) (Byte 0))) =
-    c.digit_pair.ensures ∙ ap (λ (b : ℕ). digit_pair b c.byte-in-Two.result) c.byte.ensures ∙ ap (λ (b : ℕ). digit_pair (byte_of (get_or c.args.items.now c.args.at (Byte 0))) b) c.byte-in-Two.ensures in
-    two_written Usual c.args.total c.args.words.now.items c.push.new.self.items c.digit_pair.result c.args.items.now c.args.at (Byte 0) q.second_there q.first q.second word c.push.ensures.items
+    let q = pair_paid c.args.extent c.args.items.now c.args.at (Byte 0) _ c.requires.at
+    (c.requires.plan c.args.at _ (omega (arith, c.requires.at))) (length c.args.words.now.items) c.args.total
+    c.requires.budget (omega (arith, c.requires.total)) c.in-Two.is in
+    let word : c.digit_pair.result
+    ≡ digit_pair (byte_of (get_or c.args.items.now c.args.at (Byte 0)))
+    (byte_of (get_or c.args.items.now (c.args.at + 1) (Byte 0))) =
+    c.digit_pair.ensures ∙ ap (λ (b : ℕ). digit_pair b c.byte-in-Two.result) c.byte.ensures
+    ∙ ap (λ (b : ℕ). digit_pair (byte_of (get_or c.args.items.now c.args.at (Byte 0))) b) c.byte-in-Two.ensures in
+    two_written Usual c.args.total c.args.words.now.items c.push.new.self.items c.digit_pair.result c.args.items.now
+    c.args.at (Byte 0) q.second_there q.first q.second word c.push.ensures.items
 
 pub write_run-requires-clause-budget : goal.write_run-requires-clause-budget
 write_run-requires-clause-budget c =
-    run_paid c.args.extent c.args.items.now c.args.at (Byte 0) _ c.requires.at (c.requires.plan c.args.at _ (omega (arith, c.requires.at))) (length c.args.words.now.items) c.args.total c.requires.budget c.in-Run.set c.in-Run.is
+    run_paid c.args.extent c.args.items.now c.args.at (Byte 0) _ c.requires.at
+    (c.requires.plan c.args.at _ (omega (arith, c.requires.at))) (length c.args.words.now.items) c.args.total
+    c.requires.budget c.in-Run.set c.in-Run.is
 
 pub write_edifact-requires-clause-budget : goal.write_edifact-requires-clause-budget
 write_edifact-requires-clause-budget c =
-    edifact_paid c.args.extent c.args.items.now c.args.at (Byte 0) _ c.requires.at (c.requires.plan c.args.at _ (omega (arith, c.requires.at))) (length c.args.words.now.items) c.args.total c.requires.budget c.in-Edifact.is
+    edifact_paid c.args.extent c.args.items.now c.args.at (Byte 0) _ c.requires.at
+    (c.requires.plan c.args.at _ (omega (arith, c.requires.at))) (length c.args.words.now.items) c.args.total
+    c.requires.budget c.in-Edifact.is
 
 pub segment_end-end-requires-clause-byte : goal.segment_end-end-requires-clause-byte
 segment_end-end-requires-clause-byte c =
-    omega (arith, (segment_paid c.args.extent c.args.items.now c.args.at (Byte 0) _ c.requires.at (c.requires.plan c.args.at _ (omega (arith, c.requires.at))) (length c.args.words.now.items) c.args.total c.requires.budget c.in-Segment.is).1, c.requires.total)
+    omega (
+      arith,
+      (segment_paid c.args.extent c.args.items.now c.args.at (Byte 0) _ c.requires.at
+          (c.requires.plan c.args.at _ (omega (arith, c.requires.at))) (length c.args.words.now.items) c.args.total
+          c.requires.budget c.in-Segment.is).1,
+      c.requires.total,
+    )
 
 pub write_segment-requires-in-Rest-clause-bytes : goal.write_segment-requires-in-Rest-clause-bytes
 write_segment-requires-in-Rest-clause-bytes c =
-    let p = rest_paid c.args.extent c.args.items.now c.args.at (Byte 0) _ c.requires.at (c.requires.plan c.args.at _ (omega (arith, c.requires.at))) (length c.args.words.now.items) c.args.total c.requires.budget c.in-Rest.is in
-    subst (λ (l : List Item). has_fnc1 l ≡ false) (sym (take_rest c.args.items.now c.args.at)) (rest_is c.args.extent (drop c.args.at c.args.items.now) (omega (arith, p, c.requires.total))).0
+    let p = rest_paid c.args.extent c.args.items.now c.args.at (Byte 0) _ c.requires.at
+    (c.requires.plan c.args.at _ (omega (arith, c.requires.at))) (length c.args.words.now.items) c.args.total
+    c.requires.budget c.in-Rest.is in
+    subst (λ (l : List Item). has_fnc1 l
+    ≡ false) (sym (take_rest c.args.items.now c.args.at))
+    (rest_is c.args.extent (drop c.args.at c.args.items.now) (omega (arith, p, c.requires.total))).0
 
 pub write_segment-requires-in-Rest-clause-room : goal.write_segment-requires-in-Rest-clause-room
 write_segment-requires-in-Rest-clause-room c =
-    let p = rest_paid c.args.extent c.args.items.now c.args.at (Byte 0) _ c.requires.at (c.requires.plan c.args.at _ (omega (arith, c.requires.at))) (length c.args.words.now.items) c.args.total c.requires.budget c.in-Rest.is in
-    omega (arith, p, (rest_is c.args.extent (drop c.args.at c.args.items.now) (omega (arith, p, c.requires.total))).1, ap length (take_rest c.args.items.now c.args.at))
+    let p = rest_paid c.args.extent c.args.items.now c.args.at (Byte 0) _ c.requires.at
+    (c.requires.plan c.args.at _ (omega (arith, c.requires.at))) (length c.args.words.now.items) c.args.total
+    c.requires.budget c.in-Rest.is in
+    omega (
+      arith,
+      p,
+      (rest_is c.args.extent (drop c.args.at c.args.items.now) (omega (arith, p, c.requires.total))).1,
+      ap length (take_rest c.args.items.now c.args.at),
+    )
 
 pub returns-in-Rest-clause-budget : goal.returns-in-Rest-clause-budget
 returns-in-Rest-clause-budget c =
-    omega (arith, c.write_segment-in-Rest.ensures.fits, ap (parts_cost c.args.extent) (drop_all (length c.args.items.now) c.args.items.now (omega arith)), nothing_costs c.args.extent)
+    omega (
+      arith,
+      c.write_segment-in-Rest.ensures.fits,
+      ap (parts_cost c.args.extent) (drop_all (length c.args.items.now) c.args.items.now (omega arith)),
+      nothing_costs c.args.extent,
+    )

@@ -26,8 +26,11 @@ loop-at-preserved c =
     let old = c.loop-at.words.items in
     let new = c.write_part-part.new.words.items in
     let sum : at + (next - at) ≡ next = omega (arith, w.further) in
-    let more : take at m ++ take (next - at) (drop at m) ≡ take next m = sym (take-add at (next - at) m) ∙ ap (λ (k : ℕ). take k m) sum in
-    let joined = λ (e : Extent) (before : ArePartsWritten e c.args.total base old (take at m)) (part : IsPartWritten e c.args.total old new (take (next - at) (drop at m))).
+    let more : take at m ++ take (next - at) (drop at m) ≡ take next m = sym (take-add at (next - at) m)
+    ∙ ap (λ (k : ℕ). take k m) sum in
+    let joined =
+    λ (e : Extent) (before : ArePartsWritten e c.args.total base old (take at m))
+    (part : IsPartWritten e c.args.total old new (take (next - at) (drop at m))).
     subst (λ (l : List Item). ArePartsWritten e c.args.total base new l) more
     (parts_more e c.args.total base old new (take at m) (take (next - at) (drop at m)) before part) in
     record {

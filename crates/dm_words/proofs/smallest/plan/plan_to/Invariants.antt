@@ -8,5 +8,6 @@ invariant-loop-at l = record {
   in_range : l.at ≤ length l.items;
   room : length l.plan ≡ 1640;
   row : l.row ≡ row l.extent (drop l.at l.items);
-  plan : (i : ℕ) (other : Step) → l.at ≤ i → i ≤ length l.items → IsRightStep l.extent (drop i l.items) (get_or l.plan i other);
+  plan : (i : ℕ) (other : Step) → l.at ≤ i → i ≤ length l.items
+      → IsRightStep l.extent (drop i l.items) (get_or l.plan i other);
 }

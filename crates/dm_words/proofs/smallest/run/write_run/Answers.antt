@@ -9,63 +9,146 @@ use Rattle.dm_words.proofs.RunBudget.{unlatched, first_at, run_at, item_room, af
 use Rattle.dm_words.proofs.smallest.run.write_run.Goals as goal
 
 pub push_item-part-requires-clause-held : goal.push_item-part-requires-clause-held
-push_item-part-requires-clause-held c = (first_at c.args.extent c.args.set c.args.items.now c.args.at (Byte 0) (length c.push.new.self.items) c.args.total c.requires.at (omega (arith, c.requires.budget, c.push.ensures.len)) (omega (arith, c.requires.total))).held
+push_item-part-requires-clause-held c =
+    (first_at c.args.extent c.args.set c.args.items.now c.args.at (Byte 0) (length c.push.new.self.items) c.args.total
+    c.requires.at (omega (arith, c.requires.budget, c.push.ensures.len)) (omega (arith, c.requires.total))).held
 
 pub push_item-part-requires-clause-room : goal.push_item-part-requires-clause-room
-push_item-part-requires-clause-room c = omega (arith, item_room _ _ _ _ (first_at c.args.extent c.args.set c.args.items.now c.args.at (Byte 0) (length c.push.new.self.items) c.args.total c.requires.at (omega (arith, c.requires.budget, c.push.ensures.len)) (omega (arith, c.requires.total))).budget, c.requires.total)
+push_item-part-requires-clause-room c =
+    omega (
+      arith,
+      item_room _ _ _ _
+          (first_at c.args.extent c.args.set c.args.items.now c.args.at (Byte 0) (length c.push.new.self.items)
+          c.args.total c.requires.at (omega (arith, c.requires.budget, c.push.ensures.len))
+          (omega (arith, c.requires.total))).budget,
+      c.requires.total,
+    )
 
 pub loop-set-init : goal.loop-set-init
 loop-set-init c =
-    let f = (first_at c.args.extent c.args.set c.args.items.now c.args.at (Byte 0) (length c.push.new.self.items) c.args.total c.requires.at (omega (arith, c.requires.budget, c.push.ensures.len)) (omega (arith, c.requires.total))) in
-    let begun = run_begun c.args.set c.args.words.now.items c.push.new.self.items c.latch.result c.latch.ensures c.push.ensures.items in
+    let f = (first_at c.args.extent c.args.set c.args.items.now c.args.at (Byte 0) (length c.push.new.self.items)
+    c.args.total c.requires.at (omega (arith, c.requires.budget, c.push.ensures.len))
+    (omega (arith, c.requires.total))) in
+    let begun =
+    run_begun c.args.set c.args.words.now.items c.push.new.self.items c.latch.result c.latch.ensures
+    c.push.ensures.items in
     record {
       from = omega arith;
       within = omega (arith, c.requires.at);
-      budget = after_item c.args.set _ part.Empty c.push_item-part.result c.push.new.self.items c.push_item-part.new.words.items c.args.total _ c.push_item-part.ensures f.budget;
-      so_far = subst (λ (l : List Item). IsRunSoFar c.args.set c.args.words.now.items c.push_item-part.new.words.items c.push_item-part.result l) (one_more c.args.items.now c.args.at c.args.at (Byte 0) (omega arith) c.requires.at)
-          (run_more c.args.set c.args.words.now.items c.push.new.self.items c.push_item-part.new.words.items part.Empty c.push_item-part.result (take (c.args.at - c.args.at) (drop c.args.at c.args.items.now)) _
-          (subst (λ (l : List Item). IsRunSoFar c.args.set c.args.words.now.items c.push.new.self.items part.Empty l) (ap (λ (k : ℕ). take k (drop c.args.at c.args.items.now)) zero_is) begun) c.push_item-part.ensures);
+      budget = after_item c.args.set _ part.Empty c.push_item-part.result c.push.new.self.items
+          c.push_item-part.new.words.items c.args.total _ c.push_item-part.ensures f.budget;
+      so_far = subst
+          (λ (l : List Item). IsRunSoFar c.args.set c.args.words.now.items c.push_item-part.new.words.items
+          c.push_item-part.result l)
+          (one_more c.args.items.now c.args.at c.args.at (Byte 0) (omega arith) c.requires.at)
+          (run_more c.args.set c.args.words.now.items c.push.new.self.items c.push_item-part.new.words.items
+          part.Empty c.push_item-part.result (take (c.args.at - c.args.at) (drop c.args.at c.args.items.now)) _
+          (subst (λ (l : List Item). IsRunSoFar c.args.set c.args.words.now.items c.push.new.self.items part.Empty l)
+          (ap (λ (k : ℕ). take k (drop c.args.at c.args.items.now)) zero_is) begun) c.push_item-part.ensures);
     } where
       zero_is : 0 ≡ c.args.at - c.args.at
       zero_is = omega arith
 
 pub bounds-items-next : goal.bounds-items-next
-bounds-items-next c = (run_at c.args.extent c.args.set c.args.items.now c.loop-set.next (Byte 0) _ c.loop-set.part (length c.loop-set.words.items) c.args.total c.goes_on.result (c.requires.plan c.loop-set.next _ c.loop-set.invariant.within) c.loop-set.invariant.budget (omega (arith, c.requires.total)) c.goes_on.ensures c.loop-set-test.true).there
+bounds-items-next c =
+    (run_at c.args.extent c.args.set c.args.items.now c.loop-set.next (Byte 0) _ c.loop-set.part
+    (length c.loop-set.words.items) c.args.total c.goes_on.result
+    (c.requires.plan c.loop-set.next _ c.loop-set.invariant.within) c.loop-set.invariant.budget
+    (omega (arith, c.requires.total)) c.goes_on.ensures c.loop-set-test.true).there
 
 pub push_item-part-requires-in-loop-set-clause-held : goal.push_item-part-requires-in-loop-set-clause-held
-push_item-part-requires-in-loop-set-clause-held c = (run_at c.args.extent c.args.set c.args.items.now c.loop-set.next (Byte 0) _ c.loop-set.part (length c.loop-set.words.items) c.args.total c.goes_on.result (c.requires.plan c.loop-set.next _ c.loop-set.invariant.within) c.loop-set.invariant.budget (omega (arith, c.requires.total)) c.goes_on.ensures c.loop-set-test.true).held
+push_item-part-requires-in-loop-set-clause-held c =
+    (run_at c.args.extent c.args.set c.args.items.now c.loop-set.next (Byte 0) _ c.loop-set.part
+    (length c.loop-set.words.items) c.args.total c.goes_on.result
+    (c.requires.plan c.loop-set.next _ c.loop-set.invariant.within) c.loop-set.invariant.budget
+    (omega (arith, c.requires.total)) c.goes_on.ensures c.loop-set-test.true).held
 
 pub push_item-part-requires-in-loop-set-clause-room : goal.push_item-part-requires-in-loop-set-clause-room
-push_item-part-requires-in-loop-set-clause-room c = omega (arith, item_room _ _ _ _ (run_at c.args.extent c.args.set c.args.items.now c.loop-set.next (Byte 0) _ c.loop-set.part (length c.loop-set.words.items) c.args.total c.goes_on.result (c.requires.plan c.loop-set.next _ c.loop-set.invariant.within) c.loop-set.invariant.budget (omega (arith, c.requires.total)) c.goes_on.ensures c.loop-set-test.true).budget, c.requires.total)
+push_item-part-requires-in-loop-set-clause-room c =
+    omega (
+      arith,
+      item_room _ _ _ _
+          (run_at c.args.extent c.args.set c.args.items.now c.loop-set.next (Byte 0) _ c.loop-set.part
+          (length c.loop-set.words.items) c.args.total c.goes_on.result
+          (c.requires.plan c.loop-set.next _ c.loop-set.invariant.within) c.loop-set.invariant.budget
+          (omega (arith, c.requires.total)) c.goes_on.ensures c.loop-set-test.true).budget,
+      c.requires.total,
+    )
 
 pub loop-set-smaller : goal.loop-set-smaller
-loop-set-smaller c = omega (arith, (run_at c.args.extent c.args.set c.args.items.now c.loop-set.next (Byte 0) _ c.loop-set.part (length c.loop-set.words.items) c.args.total c.goes_on.result (c.requires.plan c.loop-set.next _ c.loop-set.invariant.within) c.loop-set.invariant.budget (omega (arith, c.requires.total)) c.goes_on.ensures c.loop-set-test.true).there)
+loop-set-smaller c =
+    omega (
+      arith,
+      (run_at c.args.extent c.args.set c.args.items.now c.loop-set.next (Byte 0) _ c.loop-set.part
+          (length c.loop-set.words.items) c.args.total c.goes_on.result
+          (c.requires.plan c.loop-set.next _ c.loop-set.invariant.within) c.loop-set.invariant.budget
+          (omega (arith, c.requires.total)) c.goes_on.ensures c.loop-set-test.true).there,
+    )
 
 pub loop-set-preserved : goal.loop-set-preserved
 loop-set-preserved c =
     let v = c.loop-set.invariant in
-    let r = (run_at c.args.extent c.args.set c.args.items.now c.loop-set.next (Byte 0) _ c.loop-set.part (length c.loop-set.words.items) c.args.total c.goes_on.result (c.requires.plan c.loop-set.next _ c.loop-set.invariant.within) c.loop-set.invariant.budget (omega (arith, c.requires.total)) c.goes_on.ensures c.loop-set-test.true) in
+    let r = (run_at c.args.extent c.args.set c.args.items.now c.loop-set.next (Byte 0) _ c.loop-set.part
+    (length c.loop-set.words.items) c.args.total c.goes_on.result
+    (c.requires.plan c.loop-set.next _ c.loop-set.invariant.within) c.loop-set.invariant.budget
+    (omega (arith, c.requires.total)) c.goes_on.ensures c.loop-set-test.true) in
     record {
       from = omega (arith, v.from);
       within = omega (arith, r.there);
-      budget = after_item c.args.set _ c.loop-set.part c.push_item-part-in-loop-set.result c.loop-set.words.items c.push_item-part-in-loop-set.new.words.items c.args.total _ c.push_item-part-in-loop-set.ensures r.budget;
-      so_far = subst (λ (l : List Item). IsRunSoFar c.args.set c.args.words.now.items c.push_item-part-in-loop-set.new.words.items c.push_item-part-in-loop-set.result l) (one_more c.args.items.now c.args.at c.loop-set.next (Byte 0) (omega (arith, v.from)) r.there)
-          (run_more c.args.set c.args.words.now.items c.loop-set.words.items c.push_item-part-in-loop-set.new.words.items c.loop-set.part c.push_item-part-in-loop-set.result (take (c.loop-set.next - c.args.at) (drop c.args.at c.args.items.now)) _
+      budget = after_item c.args.set _ c.loop-set.part c.push_item-part-in-loop-set.result c.loop-set.words.items
+          c.push_item-part-in-loop-set.new.words.items c.args.total _ c.push_item-part-in-loop-set.ensures r.budget;
+      so_far = subst
+          (λ (l : List Item). IsRunSoFar c.args.set c.args.words.now.items
+          c.push_item-part-in-loop-set.new.words.items c.push_item-part-in-loop-set.result l)
+          (one_more c.args.items.now c.args.at c.loop-set.next (Byte 0) (omega (arith, v.from)) r.there)
+          (run_more c.args.set c.args.words.now.items c.loop-set.words.items
+          c.push_item-part-in-loop-set.new.words.items c.loop-set.part c.push_item-part-in-loop-set.result
+          (take (c.loop-set.next - c.args.at) (drop c.args.at c.args.items.now)) _
           v.so_far c.push_item-part-in-loop-set.ensures);
     }
 
 pub returns-then-total-len-gt1-clause-budget : goal.returns-then-total-len-gt1-clause-budget
 returns-then-total-len-gt1-clause-budget c =
-    let l = (leave_at c.args.extent c.args.set (drop c.loop-set.next c.args.items.now) _ c.loop-set.part (length c.loop-set.words.items) c.args.total c.goes_on.result (c.requires.plan c.loop-set.next _ c.loop-set.invariant.within) c.loop-set.invariant.budget c.goes_on.ensures c.loop-set-test.false) in
-    omega (arith, l.1, unlatched (parts_cost c.args.extent (drop c.loop-set.next c.args.items.now)), c.push-then-total-len-gt1.ensures.len, c.if-total-len-gt1.true, c.len.ensures.value)
+    let l = (leave_at c.args.extent c.args.set (drop c.loop-set.next c.args.items.now) _ c.loop-set.part
+    (length c.loop-set.words.items) c.args.total c.goes_on.result
+    (c.requires.plan c.loop-set.next _ c.loop-set.invariant.within) c.loop-set.invariant.budget c.goes_on.ensures
+    c.loop-set-test.false) in
+    omega (
+      arith,
+      l.1,
+      unlatched (parts_cost c.args.extent (drop c.loop-set.next c.args.items.now)),
+      c.push-then-total-len-gt1.ensures.len,
+      c.if-total-len-gt1.true,
+      c.len.ensures.value,
+    )
 
 pub returns-then-total-len-gt1-clause-part : goal.returns-then-total-len-gt1-clause-part
 returns-then-total-len-gt1-clause-part c =
-    λ any. written_unlatch any c.args.set c.args.total c.args.words.now.items c.loop-set.words.items c.push-then-total-len-gt1.new.self.items (take (c.loop-set.next - c.args.at) (drop c.args.at c.args.items.now)) c.loop-set.part (leave_at c.args.extent c.args.set (drop c.loop-set.next c.args.items.now) _ c.loop-set.part (length c.loop-set.words.items) c.args.total c.goes_on.result (c.requires.plan c.loop-set.next _ c.loop-set.invariant.within) c.loop-set.invariant.budget c.goes_on.ensures c.loop-set-test.false).0 c.loop-set.invariant.so_far c.push-then-total-len-gt1.ensures.items
+    λ any. written_unlatch any c.args.set c.args.total c.args.words.now.items c.loop-set.words.items
+    c.push-then-total-len-gt1.new.self.items
+    (take (c.loop-set.next - c.args.at) (drop c.args.at c.args.items.now)) c.loop-set.part
+    (leave_at c.args.extent c.args.set (drop c.loop-set.next c.args.items.now) _ c.loop-set.part
+    (length c.loop-set.words.items) c.args.total c.goes_on.result
+    (c.requires.plan c.loop-set.next _ c.loop-set.invariant.within) c.loop-set.invariant.budget c.goes_on.ensures
+    c.loop-set-test.false).0 c.loop-set.invariant.so_far c.push-then-total-len-gt1.ensures.items
 
 pub returns-else-total-len-gt1-clause-budget : goal.returns-else-total-len-gt1-clause-budget
-returns-else-total-len-gt1-clause-budget c = omega (arith, (leave_at c.args.extent c.args.set (drop c.loop-set.next c.args.items.now) _ c.loop-set.part (length c.loop-set.words.items) c.args.total c.goes_on.result (c.requires.plan c.loop-set.next _ c.loop-set.invariant.within) c.loop-set.invariant.budget c.goes_on.ensures c.loop-set-test.false).1, (leave_bounds 1 (parts_cost c.args.extent (drop c.loop-set.next c.args.items.now))).0)
+returns-else-total-len-gt1-clause-budget c =
+    omega (
+      arith,
+      (leave_at c.args.extent c.args.set (drop c.loop-set.next c.args.items.now) _ c.loop-set.part
+          (length c.loop-set.words.items) c.args.total c.goes_on.result
+          (c.requires.plan c.loop-set.next _ c.loop-set.invariant.within) c.loop-set.invariant.budget c.goes_on.ensures
+          c.loop-set-test.false).1,
+      (leave_bounds 1 (parts_cost c.args.extent (drop c.loop-set.next c.args.items.now))).0,
+    )
 
 pub returns-else-total-len-gt1-clause-part : goal.returns-else-total-len-gt1-clause-part
 returns-else-total-len-gt1-clause-part c =
-    λ any. written_bare any c.args.set c.args.total c.args.words.now.items c.loop-set.words.items (take (c.loop-set.next - c.args.at) (drop c.args.at c.args.items.now)) c.loop-set.part (leave_at c.args.extent c.args.set (drop c.loop-set.next c.args.items.now) _ c.loop-set.part (length c.loop-set.words.items) c.args.total c.goes_on.result (c.requires.plan c.loop-set.next _ c.loop-set.invariant.within) c.loop-set.invariant.budget c.goes_on.ensures c.loop-set-test.false).0 (omega (arith, c.if-total-len-gt1.false, c.len.ensures.value)) c.loop-set.invariant.so_far
+    λ any. written_bare any c.args.set c.args.total c.args.words.now.items c.loop-set.words.items
+    (take (c.loop-set.next - c.args.at) (drop c.args.at c.args.items.now)) c.loop-set.part
+    (leave_at c.args.extent c.args.set (drop c.loop-set.next c.args.items.now) _ c.loop-set.part
+    (length c.loop-set.words.items) c.args.total c.goes_on.result
+    (c.requires.plan c.loop-set.next _ c.loop-set.invariant.within) c.loop-set.invariant.budget c.goes_on.ensures
+    c.loop-set-test.false).0 (omega (arith, c.if-total-len-gt1.false, c.len.ensures.value))
+    c.loop-set.invariant.so_far

@@ -8,7 +8,8 @@ abbrev pub invariant-loop-set : goal.invariant-loop-set
 invariant-loop-set l = record {
   from : l.at + 1 ≤ l.next;
   within : l.next ≤ length l.items;
-  budget : length l.words.items + owed (length (part_values l.part)) (row_pairs l.set (row l.fn.extent (drop l.next l.items))) ≤ l.total;
+  budget : length l.words.items + owed (length (part_values l.part))
+      (row_pairs l.set (row l.fn.extent (drop l.next l.items))) ≤ l.total;
   so_far : IsRunSoFar l.set l.fn.words.items l.words.items l.part (take (l.next - l.at) (drop l.at l.items));
 }
 

@@ -11,15 +11,23 @@ loop-next-init c =
 pub loop-next-preserved : goal.loop-next-preserved
 loop-next-preserved c =
     let v = c.loop-next.invariant in
-    let g = byte_at c.args.extent c.args.items.now c.args.at c.loop-next.next (Byte 0) _ c.requires.few (omega (arith, v.from)) v.within (c.requires.plan c.loop-next.next _ v.within) c.loop-next-test.true v.so_far v.bytes in
+    let g = byte_at c.args.extent c.args.items.now c.args.at c.loop-next.next (Byte 0) _ c.requires.few
+    (omega (arith, v.from)) v.within (c.requires.plan c.loop-next.next _ v.within) c.loop-next-test.true v.so_far
+    v.bytes in
     record { from = omega (arith, v.from); within = omega (arith, g.there); so_far = g.so_far; bytes = g.bytes }
 
 pub loop-next-smaller : goal.loop-next-smaller
 loop-next-smaller c =
     let v = c.loop-next.invariant in
-    omega (arith, (byte_at c.args.extent c.args.items.now c.args.at c.loop-next.next (Byte 0) _ c.requires.few (omega (arith, v.from)) v.within (c.requires.plan c.loop-next.next _ v.within) c.loop-next-test.true v.so_far v.bytes).there)
+    omega (
+      arith,
+      (byte_at c.args.extent c.args.items.now c.args.at c.loop-next.next (Byte 0) _ c.requires.few
+          (omega (arith, v.from)) v.within (c.requires.plan c.loop-next.next _ v.within) c.loop-next-test.true v.so_far
+          v.bytes).there,
+    )
 
 pub returns-clause-cost : goal.returns-clause-cost
 returns-clause-cost c =
     let v = c.loop-next.invariant in
-    ended_at c.args.extent c.args.items.now c.args.at c.loop-next.next _ (c.requires.plan c.loop-next.next _ v.within) c.loop-next-test.false v.so_far
+    ended_at c.args.extent c.args.items.now c.args.at c.loop-next.next _ (c.requires.plan c.loop-next.next _ v.within)
+    c.loop-next-test.false v.so_far
