@@ -17,7 +17,6 @@ mod hostile;
 mod larger;
 mod places;
 mod profiles;
-mod shapes;
 
 /// The codewords of `123456` at side 10, data and then checks.
 const DIGITS: [u8; 8] = [142, 164, 186, 114, 25, 5, 88, 102];

@@ -295,11 +295,12 @@ fn long_letters_are_read_back(rt: HostRuntime) {
 
 #[test]
 fn heads_and_designators_are_read_alone(rt: HostRuntime) {
-    holds(&rt, head_of(&[233, 28, 1, 2, 66]) == symbol(2, 5, 1, 2));
+    let head = head_of(&[233, 28, 1, 2, 66]);
+    holds(&rt, head == symbol(2, 5, 1, 2));
     holds(&rt, head_of(&[66, 233, 28, 1, 2]) == None);
     holds(
         &rt,
-        head_words(symbol(2, 5, 1, 2)).as_slice() == [233, 28, 1, 2].as_slice(),
+        head_words(head).as_slice() == [233, 28, 1, 2].as_slice(),
     );
     let found = Designator {
         count: 2,
