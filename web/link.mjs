@@ -79,8 +79,9 @@ function writeLink() {
     try {
       if (isNewEntry) history.pushState(null, "", text); else history.replaceState(null, "", text);
     } catch { /* as below */ }
-    if (location.hash !== text) { // too many changes for the browser
-      timer = setTimeout(writeLink, LINK_AGAIN);
+    if (location.hash !== text) { // too many changes for the browser: later, and once the page is seen
+      if (document.hidden) document.addEventListener("visibilitychange", writeLink, { once: true });
+      else timer = setTimeout(writeLink, LINK_AGAIN);
       return;
     }
   }

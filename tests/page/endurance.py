@@ -1,5 +1,6 @@
 """What goes on for long: 2,000 acts leave nothing behind, and a page that is out of sight does nothing."""
 import random
+import time
 
 from tests.page.bounds import drop
 from tests.page.photographs import SLOW_CAMERA
@@ -109,6 +110,8 @@ def out_of_sight():
             """Object.defineProperty(document, 'hidden', { configurable: true, value: true });
                document.dispatchEvent(new Event('visibilitychange'));"""
         )
+        settle()
+        time.sleep(0.5)  # the address follows a little later
         settle()
         run(WATCH)
         count.expect(f"{name}: what is done out of sight", on.page.execute_async_script(LATER), [])
