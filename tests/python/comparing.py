@@ -92,8 +92,8 @@ def explained():
     words = json.loads(ecc("explain", "--json", given=text(ecc200.write(b"12")))[1])["codewords"]
     first = {"place": 1, "value": 142, "held": 142, "encodation": "ASCII", "meaning": "the digits 12"}
     yield same("explain --json", (words[0], len(words)), (first, 8))
-    status, output, _ = ecc("explain", "--basic", given=edifact())
-    yield holds("explain --basic", status == 1 and "what can't be read begins here" in output, output)
+    status, output, _ = ecc("explain", "--usual", given=edifact())
+    yield holds("explain --usual", status == 1 and "what can't be read begins here" in output, output)
 
 
 def spellings():

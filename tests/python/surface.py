@@ -84,9 +84,9 @@ def reading():
     yield says("normal --shorter", ecc("normal", "--shorter", given=binary),
                output=text(ecc200.write(b"\x80" * 3, profile=1)))
     with open(os.path.join(MARKS, "grids.txt")) as file:
-        status, output, _ = ecc("read", "--escapes", "--basic", given=file.read())
+        status, output, _ = ecc("read", "--escapes", "--usual", given=file.read())
     with open(os.path.join(MARKS, "read.txt")) as file:
-        yield same("marks of others, --basic", output.splitlines(),
+        yield same("marks of others, --usual", output.splitlines(),
                    [line for line in file.read().splitlines() if not line.startswith("\\no")])
     yield says("a file that isn't there", ecc("read", "none.txt"), status=2, errors=["none.txt: No such file"])
 
@@ -115,7 +115,7 @@ def hurt(codewords):
 def in_words():
     grid = edifact()
     yield says("EDIFACT", ecc("read", given=grid)[:2] + ("",))
-    yield says("EDIFACT, --basic", ecc("read", "--basic", given=grid), 1, "", ["EDIFACT", "leave out --basic"])
+    yield says("EDIFACT, --usual", ecc("read", "--usual", given=grid), 1, "", ["EDIFACT", "leave out --usual"])
     good = text(ecc200.write(b"123456"))
     for name, given, parts in [
         ("CR", good.replace("\n", "\r\n"), ["CR and LF", "tr -d"]),
@@ -279,9 +279,9 @@ def files(folder):
         for words, basic, part in [(["--eci=3", "-d", "A"], [], "an ECI"),
                                    (["--structapp=1,2", "-d", "A"], [], "structured append"),
                                    (["--init", "-d", "A"], [], "reader programming"),
-                                   (["-d", "[)>\x1e05\x1dA\x1e\x04"], ["--basic"], "a macro 05"),
-                                   (["-d", "[)>\x1e06\x1dA\x1e\x04"], ["--basic"], "a macro 06"),
-                                   (["-d", "A.B-C/D*E"], ["--basic"], "EDIFACT")]:
+                                   (["-d", "[)>\x1e05\x1dA\x1e\x04"], ["--usual"], "a macro 05"),
+                                   (["-d", "[)>\x1e06\x1dA\x1e\x04"], ["--usual"], "a macro 06"),
+                                   (["-d", "A.B-C/D*E"], ["--usual"], "EDIFACT")]:
             path = os.path.join(folder, "other.png")
             run(["zint", "-b", "71", "--square", "-o", path, *words])
             yield says(f"zint's {part}", ecc("read", *basic, path), 1, "", [part])

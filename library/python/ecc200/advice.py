@@ -12,9 +12,9 @@ _BEGINS = {
     233: "a part of a message that several symbols hold (structured append), which isn't read here; print each part as "
          "a message of its own",
     234: "an instruction to the reader that scanned it (reader programming), and no message",
-    236: "a macro 05, which isn't read with --basic: leave out --basic",
-    237: "a macro 06, which isn't read with --basic: leave out --basic",
-    240: "EDIFACT, which isn't read with --basic: leave out --basic, or let the encoder use another encodation",
+    236: "a macro 05, which isn't read with --usual: leave out --usual",
+    237: "a macro 06, which isn't read with --usual: leave out --usual",
+    240: "EDIFACT, which isn't read with --usual: leave out --usual, or let the encoder use another encodation",
     241: "an ECI, which says how the bytes behind it are to be understood, and isn't read here; let the encoder write "
          "without one",
 }

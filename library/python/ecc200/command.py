@@ -53,9 +53,11 @@ def _takes(parser: argparse.ArgumentParser) -> None:
 
 def _reads(parser: argparse.ArgumentParser, most: int = 1) -> None:
     """What is read, and how; and at most how many symbols of a picture, if nothing else is asked for."""
-    parser.add_argument("--basic", dest="extent", action="store_const", const=Extent.USUAL, default=Extent.WIDE,
+    parser.add_argument("--usual", dest="extent", action="store_const", const=Extent.USUAL, default=Extent.WIDE,
                         help="read ASCII, C40, Text, X12 and Base 256 only, and refuse EDIFACT, macros and shifts that "
                         "wait")
+    parser.add_argument("--basic", dest="extent", action="store_const", const=Extent.USUAL,
+                        help=argparse.SUPPRESS)  # its old name
     parser.add_argument("--border", type=_number(0, 65535), metavar="N",
                         help="accept N border modules of the wrong colour (a quarter of the side)")
     parser.add_argument("--any-way", action="store_true",
