@@ -4,7 +4,7 @@ use Rattle.std.specs.Prelude.{◌≡◌, ℕ, ◌+◌, ◌-◌, ◌*◌, ◌/◌
 use Rattle.std.specs.Prelude.{nat_le, Option, Some, find, All, Any}
 use Rattle.dm_place.specs.Sides.{SidesRow, sides_of, sides_table, row_with_sides}
 use Rattle.dm_modules.specs.declared.size.SizeChoice.{SizeChoice}
-use Rattle.dm_modules.specs.declared.size.SizeChoice.TheVariants.{Square, Rectangle, Extended, Any as AnySize, Exact}
+use Rattle.dm_modules.specs.declared.size.SizeChoice.TheVariants.{Square, Rectangle, AnyRectangle, Any as AnySize, Exact}
 
 -- A size is an entry of the table.
 pub record SizeEntry : Type 0 where
@@ -156,7 +156,7 @@ is_square size = nat_eq size.rows size.columns
 abbrev pub takes : SizeChoice → SizeEntry → Bool
 takes Square size = is_square size
 takes Rectangle size = not (is_square size) && not size.extended
-takes Extended size = not (is_square size)
+takes AnyRectangle size = not (is_square size)
 takes AnySize size = true
 takes (Exact rows columns) size = nat_eq size.rows rows && nat_eq size.columns columns
 

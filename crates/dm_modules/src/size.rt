@@ -44,7 +44,7 @@ pub enum SizeChoice {
     /// The rectangles of ISO/IEC 16022.
     Rectangle,
     /// The rectangles of ISO/IEC 16022 and of its extension, ISO/IEC 21471.
-    Extended,
+    AnyRectangle,
     /// All sizes.
     Any,
     /// The size with these rows and columns.
@@ -181,7 +181,7 @@ impl SizeChoice {
         match self {
             SizeChoice::Square => size.rows == size.columns,
             SizeChoice::Rectangle => size.rows != size.columns && !size.extended,
-            SizeChoice::Extended => size.rows != size.columns,
+            SizeChoice::AnyRectangle => size.rows != size.columns,
             SizeChoice::Any => true,
             SizeChoice::Exact(rows, columns) => size.rows == rows && size.columns == columns,
         }

@@ -167,7 +167,7 @@ fn the_smallest_sizes_are_those_by_area_and_columns(rt: HostRuntime) {
         );
         holds(
             &rt,
-            smallest(SizeChoice::Extended, row[0]) == (row[5], row[6]),
+            smallest(SizeChoice::AnyRectangle, row[0]) == (row[5], row[6]),
         );
         holds(&rt, smallest(SizeChoice::Any, row[0]) == (row[7], row[8]));
     }
