@@ -1,9 +1,9 @@
 -- The shapes of a mapping matrix by fewer tests: the anchors of one sum lie all in even rows or all in odd ones, and a
 -- sum that isn't a multiple of 4 has none.
-use Rattle.std.proofs.Common.{◌≡◌, ℕ, ◌+◌, ◌-◌, ◌*◌, ◌%◌, Bool, true, false, ◌&&◌, nat_eq, nat_lt, nat_le, List, []}
+use Rattle.std.proofs.Common.{◌≡◌, ℕ, ◌+◌, ◌-◌, ◌*◌, ◌%◌, ◌<◌, ◌≤◌, Bool, true, false, ◌&&◌, nat_eq, nat_lt, nat_le, List, []}
 use Rattle.std.proofs.Common.{◌∷◌, ◌++◌, flat_map, refl, ap, ◌∙◌, arith}
 use Rattle.std.specs.List.{range_with_len}
-use Rattle.std.proofs.lemmas.Bool.{and_parts, eqb-true, eqb-false, leb-true}
+use Rattle.std.proofs.lemmas.Bool.{and_parts, eqb-true, eqb-false, leb-true, ltb-true}
 use Rattle.dm_place.specs.declared.shape.Shape.{Shape}
 use Rattle.dm_place.specs.declared.shape.Shape.TheVariants.{Standard}
 use Rattle.dm_place.specs.Placement.{shapes, shapes_of_sum, corner_before, in_even_row, in_odd_row, shape_at, is_anchor}
@@ -66,6 +66,46 @@ none_odd rows columns s r f = by_test (nat_le r s && nat_eq (r % 2) 1) refl
         let l = leb-true r s both.0 in
         let e = eqb-true _ _ both.1 in
         no_shape rows columns r (s - r) (λ g. f (omega (arith, l, e, g)))
+    by_test false h = refl
+
+-- A cell outside the matrix has no shape.
+outside : (rows columns r c : ℕ) → (r < rows → c < columns → ⊥) → shape_at rows columns r c ≡ []
+outside rows columns r c f = by_test (is_anchor rows columns r c) refl
+  where
+    by_test : (t : Bool) → is_anchor rows columns r c ≡ t →
+        elim t as (λ _. List Shape) [ true ↦ Standard r c ∷ [] | false ↦ [] ] ≡ []
+    by_test true h =
+        let inner = and_parts (nat_lt r rows && nat_lt c columns) _
+        (and_parts (nat_lt r rows && nat_lt c columns && nat_eq ((5 * r + c) % 8) 4) _ h).0 in
+        let both = and_parts (nat_lt r rows) (nat_lt c columns) inner.0 in
+        absurd (f (ltb-true r rows both.0) (ltb-true c columns both.1))
+    by_test false h = refl
+
+-- A sum has no anchor in an even row and in a column past its last even one or before its first.
+pub none_in_column : (rows columns s c : ℕ) → (c ≤ s → (s - c) % 2 ≡ 0 → rows + c ≤ s) →
+    in_even_row rows columns s c ≡ []
+none_in_column rows columns s c f = by_test (nat_le c s && nat_eq ((s - c) % 2) 0) refl
+  where
+    by_test : (t : Bool) → (nat_le c s && nat_eq ((s - c) % 2) 0) ≡ t →
+        elim t as (λ _. List Shape) [ true ↦ shape_at rows columns (s - c) c | false ↦ [] ] ≡ []
+    by_test true h =
+        let both = and_parts (nat_le c s) _ h in
+        let l = leb-true c s both.0 in
+        let k = f l (eqb-true _ _ both.1) in
+        outside rows columns (s - c) c (λ a b. omega (arith, l, k, a))
+    by_test false h = refl
+
+-- A sum has no anchor in an odd row past its last one or before its first.
+pub none_in_row : (rows columns s r : ℕ) → (r ≤ s → r % 2 ≡ 1 → columns + r ≤ s) → in_odd_row rows columns s r ≡ []
+none_in_row rows columns s r f = by_test (nat_le r s && nat_eq (r % 2) 1) refl
+  where
+    by_test : (t : Bool) → (nat_le r s && nat_eq (r % 2) 1) ≡ t →
+        elim t as (λ _. List Shape) [ true ↦ shape_at rows columns r (s - r) | false ↦ [] ] ≡ []
+    by_test true h =
+        let both = and_parts (nat_le r s) _ h in
+        let l = leb-true r s both.0 in
+        let k = f l (eqb-true _ _ both.1) in
+        outside rows columns r (s - r) (λ a b. omega (arith, l, k, b))
     by_test false h = refl
 
 -- Where a list is empty if a test fails, the choice between it and the empty list is the list.

@@ -1,12 +1,13 @@
 -- The steps over the closed form.
-use Rattle.std.proofs.Common.{◌≡◌, ℕ, suc, ◌+◌, ◌-◌, ◌<◌, List, [], ◌∷◌, ◌++◌, flat_map, refl, ap, sym, ◌∙◌, arith}
-use Rattle.std.proofs.Common.{append_assoc, ◌%◌}
+use Rattle.std.proofs.Common.{◌≡◌, ◌⊎◌, inl, inr, ℕ, zero, suc, ◌+◌, ◌-◌, ◌%◌, ◌<◌, ◌≤◌, List, [], ◌∷◌, ◌++◌, flat_map}
+use Rattle.std.proofs.Common.{refl, ap, sym, ◌∙◌, arith, append_assoc}
 use Rattle.std.specs.List.{range_with_len}
+use Rattle.std.proofs.lemmas.Bool.{cases_lt}
 use Rattle.dm_place.specs.declared.shape.Shape.{Shape}
 use Rattle.dm_place.specs.declared.shapes.Part.{Part}
 use Rattle.dm_place.specs.declared.shapes.Part.TheVariants.{Corner, Even, Odd}
 use Rattle.dm_place.specs.Placement.{corner_before, in_even_row, in_odd_row, shapes_of_sum}
-use Rattle.dm_place.proofs.FewerTests.{none_of, none_even, none_odd}
+use Rattle.dm_place.proofs.FewerTests.{none_of, none_even, none_odd, none_in_column, none_in_row}
 use Rattle.dm_place.specs.inner.Walking.{from_sum, left_at}
 
 -- What a range gives begins with what its first number gives.
@@ -15,6 +16,33 @@ pub first_of : (f : ℕ → List Shape) (i n : ℕ) → i < n →
 first_of f i n l =
     let e : n - i ≡ suc (n - (i + 1)) = omega arith in
     ap (λ (k : ℕ). flat_map f (range_with_len i k)) e
+
+-- What a range gives is what is left of it where its first number gives nothing.
+one_skipped : (f : ℕ → List Shape) (i n : ℕ) → f i ≡ [] →
+    flat_map f (range_with_len i (n - i)) ≡ flat_map f (range_with_len (i + 1) (n - (i + 1)))
+one_skipped f i n none = by_end (cases_lt i n)
+  where
+    by_end : (i < n) ⊎ (n ≤ i) → flat_map f (range_with_len i (n - i)) ≡
+        flat_map f (range_with_len (i + 1) (n - (i + 1)))
+    by_end (inl l) =
+        first_of f i n l ∙ ap (λ (xs : List Shape). xs ++ flat_map f (range_with_len (i + 1) (n - (i + 1)))) none
+    by_end (inr l) =
+        let z : n - i ≡ 0 = omega (arith, l) in
+        let y : n - (i + 1) ≡ 0 = omega (arith, l) in
+        ap (λ (j : ℕ). flat_map f (range_with_len i j)) z
+        ∙ sym (ap (λ (j : ℕ). flat_map f (range_with_len (i + 1) j)) y)
+
+-- What a range gives is what is left of it where its next numbers give nothing.
+skipped : (f : ℕ → List Shape) (k i n : ℕ) → ((c : ℕ) → i ≤ c → c < i + k → f c ≡ []) →
+    flat_map f (range_with_len i (n - i)) ≡ flat_map f (range_with_len (i + k) (n - (i + k)))
+skipped f zero i n none =
+    let e : i ≡ i + 0 = omega arith in
+    ap (λ (j : ℕ). flat_map f (range_with_len j (n - j))) e
+skipped f (suc k) i n none =
+    let e : i + 1 + k ≡ i + suc k = omega arith in
+    one_skipped f i n (none i (omega arith) (omega arith))
+    ∙ skipped f k (i + 1) n (λ c a b. none c (omega (arith, a)) (omega (arith, b)))
+    ∙ ap (λ (j : ℕ). flat_map f (range_with_len j (n - j))) e
 
 -- Four lists one after the other.
 joined : (a b c d : List Shape) → a ++ b ++ c ++ d ≡ a ++ (b ++ c ++ d)
@@ -41,12 +69,14 @@ nothing_after : (xs : List Shape) → xs ++ [] ≡ xs
 nothing_after [] = refl
 nothing_after (x ∷ xs) = ap (λ (ys : List Shape). x ∷ ys) (nothing_after xs)
 
--- Where the sum leaves 4 when divided by 8, its corner comes first, and then its anchors in even rows.
-pub corner_even : (rows columns s i : ℕ) (p : Part) (o : List Shape) → p ≡ Corner → s + 1 < rows + columns →
-    o ≡ corner_before rows columns s → s % 8 ≡ 4 →
-    left_at rows columns s p i ≡ o ++ left_at rows columns s Even 0
-corner_even rows columns s i p o is l e four =
+-- Where the sum leaves 4 when divided by 8, its corner comes first, and then its anchors in even rows, from the first
+-- even column on in which one may lie.
+pub corner_even : (rows columns s i first : ℕ) (p : Part) (o : List Shape) → p ≡ Corner → s + 1 < rows + columns →
+    o ≡ corner_before rows columns s → s % 8 ≡ 4 → ((c : ℕ) → c < first → c % 2 ≡ 0 → rows + c ≤ s) →
+    left_at rows columns s p i ≡ o ++ left_at rows columns s Even first
+corner_even rows columns s i first p o is l e four before =
     let z : columns ≡ columns - 0 = omega arith in
+    let none : 0 + first ≡ first = omega arith in
     let evens : List Shape = flat_map (in_even_row rows columns s) (range_with_len 0 columns) in
     ap (λ (q : Part). left_at rows columns s q i) is
     ∙ split rows columns s o evens [] l e refl (none_of (in_odd_row rows columns s) (range_with_len 0 rows)
@@ -54,19 +84,29 @@ corner_even rows columns s i p o is l e four =
     ∙ ap (λ (xs : List Shape). o ++ (xs ++ from_sum rows columns (s + 1))) (nothing_after evens)
     ∙ ap (λ (k : ℕ). o ++ (flat_map (in_even_row rows columns s) (range_with_len 0 k) ++ from_sum rows columns (s + 1)))
     z
+    ∙ ap (λ (xs : List Shape). o ++ (xs ++ from_sum rows columns (s + 1)))
+    (skipped (in_even_row rows columns s) first 0 columns (λ c _ b.
+    none_in_column rows columns s c (λ k m. before c (omega (arith, b)) (omega (arith, k, m, four))))
+    ∙ ap (λ (j : ℕ). flat_map (in_even_row rows columns s) (range_with_len j (columns - j))) none)
 
--- Where the sum is a multiple of 8, its corner comes first, and then its anchors in odd rows.
-pub corner_odd : (rows columns s i : ℕ) (p : Part) (o : List Shape) → p ≡ Corner → s + 1 < rows + columns →
-    o ≡ corner_before rows columns s → s % 8 ≡ 0 →
-    left_at rows columns s p i ≡ o ++ left_at rows columns s Odd 0
-corner_odd rows columns s i p o is l e zero_left =
+-- Where the sum is a multiple of 8, its corner comes first, and then its anchors in odd rows, from the first odd row on
+-- in which one may lie.
+pub corner_odd : (rows columns s i first : ℕ) (p : Part) (o : List Shape) → p ≡ Corner → s + 1 < rows + columns →
+    o ≡ corner_before rows columns s → s % 8 ≡ 0 → ((r : ℕ) → r < first → r % 2 ≡ 1 → columns + r ≤ s) →
+    left_at rows columns s p i ≡ o ++ left_at rows columns s Odd first
+corner_odd rows columns s i first p o is l e zero_left before =
     let z : rows ≡ rows - 0 = omega arith in
+    let none : 0 + first ≡ first = omega arith in
     ap (λ (q : Part). left_at rows columns s q i) is
     ∙ split rows columns s o [] (flat_map (in_odd_row rows columns s) (range_with_len 0 rows)) l e
     (none_of (in_even_row rows columns s) (range_with_len 0 columns)
     (λ c. none_even rows columns s c (λ (h : s % 8 ≡ 4). omega (arith, h, zero_left)))) refl
     ∙ ap (λ (k : ℕ). o ++ (flat_map (in_odd_row rows columns s) (range_with_len 0 k) ++ from_sum rows columns (s + 1)))
     z
+    ∙ ap (λ (xs : List Shape). o ++ (xs ++ from_sum rows columns (s + 1)))
+    (skipped (in_odd_row rows columns s) first 0 rows (λ r _ b.
+    none_in_row rows columns s r (λ k m. before r (omega (arith, b)) m))
+    ∙ ap (λ (j : ℕ). flat_map (in_odd_row rows columns s) (range_with_len j (rows - j))) none)
 
 -- Of any other sum at most the corner comes before the shapes of the next sum.
 pub corner_none : (rows columns s i : ℕ) (p : Part) (o : List Shape) → p ≡ Corner → s + 1 < rows + columns →
@@ -78,26 +118,83 @@ corner_none rows columns s i p o is l e four zero_left =
     (λ c. none_even rows columns s c four)) (none_of (in_odd_row rows columns s) (range_with_len 0 rows)
     (λ r. none_odd rows columns s r zero_left))
 
--- Among the anchors in even rows that of a column comes first, if there is one, and then those of the next columns.
-pub even_step : (rows columns s i : ℕ) (p : Part) (o : List Shape) → p ≡ Even → i < columns →
-    o ≡ in_even_row rows columns s i → left_at rows columns s p i ≡ o ++ left_at rows columns s p (i + 1)
-even_step rows columns s i p o is l e =
+-- Among the anchors in even rows that of an even column comes first, if there is one, and then those of the next even
+-- columns.
+pub even_step : (rows columns s i : ℕ) (p : Part) (o : List Shape) → p ≡ Even → i < columns → i % 2 ≡ 0 →
+    s % 8 ≡ 4 → o ≡ in_even_row rows columns s i →
+    left_at rows columns s p i ≡ o ++ left_at rows columns s p (i + 2)
+even_step rows columns s i p o is l even four e =
     let rest : List Shape = from_sum rows columns (s + 1) in
+    let two : i + 1 + 1 ≡ i + 2 = omega arith in
+    let more : flat_map (in_even_row rows columns s) (range_with_len (i + 1) (columns - (i + 1))) ≡
+    flat_map (in_even_row rows columns s) (range_with_len (i + 2) (columns - (i + 2))) =
+    skipped (in_even_row rows columns s) 1 (i + 1) columns (λ c a b.
+    none_in_column rows columns s c (λ k m. absurd (omega (arith, a, b, k, m, four, even))))
+    ∙ ap (λ (j : ℕ). flat_map (in_even_row rows columns s) (range_with_len j (columns - j))) two in
     ap (λ (q : Part). left_at rows columns s q i) is
     ∙ ap (λ (xs : List Shape). xs ++ rest) (first_of (in_even_row rows columns s) i columns l)
+    ∙ ap (λ (xs : List Shape). in_even_row rows columns s i ++ xs ++ rest) more
     ∙ append_assoc (in_even_row rows columns s i)
-    (flat_map (in_even_row rows columns s) (range_with_len (i + 1) (columns - (i + 1)))) rest
-    ∙ ap (λ (xs : List Shape). xs ++ left_at rows columns s Even (i + 1)) (sym e)
-    ∙ ap (λ (q : Part). o ++ left_at rows columns s q (i + 1)) (sym is)
+    (flat_map (in_even_row rows columns s) (range_with_len (i + 2) (columns - (i + 2)))) rest
+    ∙ ap (λ (xs : List Shape). xs ++ left_at rows columns s Even (i + 2)) (sym e)
+    ∙ ap (λ (q : Part). o ++ left_at rows columns s q (i + 2)) (sym is)
 
--- Among the anchors in odd rows that of a row comes first, if there is one, and then those of the next rows.
-pub odd_step : (rows columns s i : ℕ) (p : Part) (o : List Shape) → p ≡ Odd → i < rows →
-    o ≡ in_odd_row rows columns s i → left_at rows columns s p i ≡ o ++ left_at rows columns s p (i + 1)
-odd_step rows columns s i p o is l e =
+-- Past the last column, and past that of the row at the top, only the shapes of larger sums are left.
+pub even_end : (rows columns s i : ℕ) (p : Part) → p ≡ Even → (columns ≤ i) ⊎ (s < i) →
+    left_at rows columns s p i ≡ from_sum rows columns (s + 1)
+even_end rows columns s i p is past =
+    let f : ℕ → List Shape = in_even_row rows columns s in
+    let z : columns - (i + columns) ≡ 0 = omega arith in
+    ap (λ (q : Part). left_at rows columns s q i) is
+    ∙ ap (λ (xs : List Shape). xs ++ from_sum rows columns (s + 1))
+    (by_end past ∙ ap (λ (j : ℕ). flat_map f (range_with_len (i + columns) j)) z)
+  where
+    by_end : (columns ≤ i) ⊎ (s < i) → flat_map (in_even_row rows columns s) (range_with_len i (columns - i)) ≡
+        flat_map (in_even_row rows columns s) (range_with_len (i + columns) (columns - (i + columns)))
+    by_end (inl l) =
+        let y : columns - i ≡ 0 = omega (arith, l) in
+        let z : columns - (i + columns) ≡ 0 = omega arith in
+        ap (λ (j : ℕ). flat_map (in_even_row rows columns s) (range_with_len i j)) y
+        ∙ sym (ap (λ (j : ℕ). flat_map (in_even_row rows columns s) (range_with_len (i + columns) j)) z)
+    by_end (inr l) =
+        skipped (in_even_row rows columns s) columns i columns
+        (λ c a _. none_in_column rows columns s c (λ k m. absurd (omega (arith, a, k, l))))
+
+-- Among the anchors in odd rows that of an odd row comes first, if there is one, and then those of the next odd rows.
+pub odd_step : (rows columns s i : ℕ) (p : Part) (o : List Shape) → p ≡ Odd → i < rows → i % 2 ≡ 1 →
+    o ≡ in_odd_row rows columns s i → left_at rows columns s p i ≡ o ++ left_at rows columns s p (i + 2)
+odd_step rows columns s i p o is l odd e =
     let rest : List Shape = from_sum rows columns (s + 1) in
+    let two : i + 1 + 1 ≡ i + 2 = omega arith in
+    let more : flat_map (in_odd_row rows columns s) (range_with_len (i + 1) (rows - (i + 1))) ≡
+    flat_map (in_odd_row rows columns s) (range_with_len (i + 2) (rows - (i + 2))) =
+    skipped (in_odd_row rows columns s) 1 (i + 1) rows (λ r a b.
+    none_in_row rows columns s r (λ k m. absurd (omega (arith, a, b, m, odd))))
+    ∙ ap (λ (j : ℕ). flat_map (in_odd_row rows columns s) (range_with_len j (rows - j))) two in
     ap (λ (q : Part). left_at rows columns s q i) is
     ∙ ap (λ (xs : List Shape). xs ++ rest) (first_of (in_odd_row rows columns s) i rows l)
+    ∙ ap (λ (xs : List Shape). in_odd_row rows columns s i ++ xs ++ rest) more
     ∙ append_assoc (in_odd_row rows columns s i)
-    (flat_map (in_odd_row rows columns s) (range_with_len (i + 1) (rows - (i + 1)))) rest
-    ∙ ap (λ (xs : List Shape). xs ++ left_at rows columns s Odd (i + 1)) (sym e)
-    ∙ ap (λ (q : Part). o ++ left_at rows columns s q (i + 1)) (sym is)
+    (flat_map (in_odd_row rows columns s) (range_with_len (i + 2) (rows - (i + 2)))) rest
+    ∙ ap (λ (xs : List Shape). xs ++ left_at rows columns s Odd (i + 2)) (sym e)
+    ∙ ap (λ (q : Part). o ++ left_at rows columns s q (i + 2)) (sym is)
+
+-- Past the last row, and past that of the column at the left, only the shapes of larger sums are left.
+pub odd_end : (rows columns s i : ℕ) (p : Part) → p ≡ Odd → (rows ≤ i) ⊎ (s < i) →
+    left_at rows columns s p i ≡ from_sum rows columns (s + 1)
+odd_end rows columns s i p is past =
+    let z : rows - (i + rows) ≡ 0 = omega arith in
+    ap (λ (q : Part). left_at rows columns s q i) is
+    ∙ ap (λ (xs : List Shape). xs ++ from_sum rows columns (s + 1))
+    (by_end past ∙ ap (λ (j : ℕ). flat_map (in_odd_row rows columns s) (range_with_len (i + rows) j)) z)
+  where
+    by_end : (rows ≤ i) ⊎ (s < i) → flat_map (in_odd_row rows columns s) (range_with_len i (rows - i)) ≡
+        flat_map (in_odd_row rows columns s) (range_with_len (i + rows) (rows - (i + rows)))
+    by_end (inl l) =
+        let y : rows - i ≡ 0 = omega (arith, l) in
+        let z : rows - (i + rows) ≡ 0 = omega arith in
+        ap (λ (j : ℕ). flat_map (in_odd_row rows columns s) (range_with_len i j)) y
+        ∙ sym (ap (λ (j : ℕ). flat_map (in_odd_row rows columns s) (range_with_len (i + rows) j)) z)
+    by_end (inr l) =
+        skipped (in_odd_row rows columns s) rows i rows
+        (λ r a _. none_in_row rows columns s r (λ k m. absurd (omega (arith, a, k, l))))

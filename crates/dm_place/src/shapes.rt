@@ -1,6 +1,6 @@
 //! The shapes of a mapping matrix in the order of the codewords, by the closed form.
 
-ghost use Rattle.std.specs.Prelude.{◌≡◌, ℕ, List, ◌+◌, ◌-◌, ◌<◌, ◌≤◌, ◌++◌, IfSome};
+ghost use Rattle.std.specs.Prelude.{◌≡◌, ℕ, List, true, false, ◌+◌, ◌-◌, ◌%◌, ◌<◌, ◌≤◌, ◌⊎◌, ◌++◌, IfSome};
 ghost use Rattle.std.specs.Option.{option_to_list};
 ghost use Rattle.std.specs.Iterator.{YieldsFirst, item_count};
 ghost use Rattle.dm_place.specs.Placement.{shapes as shapes_by, corner_before, in_even_row, in_odd_row};
@@ -31,7 +31,7 @@ pub(crate) struct Steps {
     /// The sum of row and column of the anchors that come next.
     sum: u16,
     part: Part,
-    /// The column in which the next anchor of an even row may lie, or the row of the next one of an odd row.
+    /// The column in which the next anchor of an even row may lie, an even one, or the row of the next one of an odd row.
     index: u16,
 }
 
@@ -94,6 +94,42 @@ fn shape_at(rows: u16, columns: u16, row: u16, column: u16) -> Option<Shape>
     }
 }
 
+/// Gives the first even column in which an anchor of a sum may lie.
+fn first_even_column(rows: u16, sum: u16) -> u16
+    requires { sum ≤ 300 }
+    ensures even { result % 2 ≡ 0 }
+    ensures before { (c : ℕ) → c < result → c % 2 ≡ 0 → rows + c ≤ sum }
+    ensures most { result + rows ≤ sum + 2 ⊎ result ≡ 0 }
+{
+    if rows <= sum {
+        (sum + 2 - rows) / 2 * 2
+    } else {
+        0
+    }
+}
+
+/// Gives the first odd row in which an anchor of a sum may lie.
+fn first_odd_row(columns: u16, sum: u16) -> u16
+    requires { sum ≤ 300 }
+    ensures odd { result % 2 ≡ 1 }
+    ensures before { (r : ℕ) → r < result → r % 2 ≡ 1 → columns + r ≤ sum }
+    ensures most { result + columns ≤ sum + 2 ⊎ result ≡ 1 }
+{
+    if columns <= sum {
+        (sum + 1 - columns) / 2 * 2 + 1
+    } else {
+        1
+    }
+}
+
+/// Whether a column lies past the last, or the anchor in it would lie above the first row; a row likewise.
+fn is_past(count: u16, sum: u16, index: u16) -> bool
+    ensures past { result ≡ true → (count ≤ index) ⊎ (sum < index) }
+    ensures inside { result ≡ false → index < count }
+{
+    count <= index || sum < index
+}
+
 /// Gives the standard shape of a sum whose anchor lies in this column and in an even row.
 fn in_even_row(rows: u16, columns: u16, sum: u16, column: u16) -> Option<Shape>
     requires rows { 6 ≤ rows }
@@ -143,36 +179,35 @@ impl Steps {
         match self.part {
             Part::Corner => {
                 let found = corner(self.rows, self.columns, self.sum);
-                self.index = 0;
                 // The anchors of a sum lie all in even rows or all in odd ones, and only multiples of 4 have any.
                 if self.sum % 8 == 4 {
                     self.part = Part::Even;
+                    self.index = first_even_column(self.rows, self.sum);
                 } else if self.sum % 8 == 0 {
                     self.part = Part::Odd;
+                    self.index = first_odd_row(self.columns, self.sum);
                 } else {
                     self.sum += 1;
                 }
                 found
             }
             Part::Even => {
-                if index == self.columns {
+                if is_past(self.columns, self.sum, index) {
                     self.part = Part::Corner;
-                    self.index = 0;
                     self.sum += 1;
                     None
                 } else {
-                    self.index = index + 1;
+                    self.index = index + 2;
                     in_even_row(self.rows, self.columns, self.sum, index)
                 }
             }
             Part::Odd => {
-                if index == self.rows {
+                if is_past(self.rows, self.sum, index) {
                     self.part = Part::Corner;
-                    self.index = 0;
                     self.sum += 1;
                     None
                 } else {
-                    self.index = index + 1;
+                    self.index = index + 2;
                     in_odd_row(self.rows, self.columns, self.sum, index)
                 }
             }
