@@ -1,9 +1,10 @@
-/* ecc200.h: Data Matrix ECC 200 (ISO/IEC 16022), the square symbols of sides 10 to ECC200_MOST_SIDE.
+/* ecc200.h: Data Matrix ECC 200, the symbols of all 48 sizes: the squares and rectangles of ISO/IEC 16022, and the
+ * rectangles of ISO/IEC 21471 (rectangular extension, DMRE).
  *
  *     ecc200_read           what a symbol says, and how much of it was wrong
- *     ecc200_write          the normal grid of a message
+ *     ecc200_write          the symbol of a message, in a size of the caller's choice
  *     ecc200_write_bytes    the same for a message of bytes alone
- *     ecc200_normal         the normal grid of what a symbol says
+ *     ecc200_normal         the normal symbol of what a symbol says
  *     ecc200_inspect        the codewords that a symbol holds, and what they are corrected to
  *     ecc200_places         what each module of a symbol is: the bit of a codeword, border, or fixed square
  *     ecc200_sizes          the table of sizes and limits
@@ -21,42 +22,49 @@
  *         static ecc200_symbol symbol;
  *         static ecc200_reading reading;
  *         const uint16_t items[] = {'1', '2', '3', '4', '5', '6'};
- *         if (ecc200_write(items, 6, ECC200_ASCII, &symbol) != ECC200_OK)
+ *         const ecc200_how how = {ECC200_ASCII, ECC200_SQUARE, 0, 0};
+ *         if (ecc200_write(items, 6, &how, &symbol) != ECC200_OK)
  *             return 1;
- *         for (int row = 0; row < symbol.side; row++, puts(""))
- *             for (int column = 0; column < symbol.side; column++)
- *                 fputs(symbol.modules[row * symbol.side + column] ? "##" : "  ", stdout);
+ *         for (int row = 0; row < symbol.rows; row++, puts(""))
+ *             for (int column = 0; column < symbol.columns; column++)
+ *                 fputs(symbol.modules[row * symbol.columns + column] ? "##" : "  ", stdout);
  *         symbol.modules[11] ^= 1;
- *         if (ecc200_read(symbol.modules, 100, 10, ecc200_usual_limit(10), ECC200_WIDE, &reading) != ECC200_OK)
+ *         if (ecc200_read(symbol.modules, 100, NULL, 0, 10, 10, ECC200_ANY_LIMIT, ECC200_WIDE, &reading) != ECC200_OK)
  *             return 2;
  *         printf("%d items, %d codeword corrected\n", reading.item_count, reading.corrected[0]);
  *     }
  *
  *     cc example.c $(pkg-config --cflags --libs ecc200)
  *
- * MODULES are bytes, row by row from the top and each row from the left, `side` rows of `side` bytes, without a quiet
- * zone. On input 0 is light and anything else is dark; on output a module is 0 or 1. A symbol stands upright: the solid
- * column is on the left, the solid row at the bottom. The module in row r and column c, both counted from 0, is
- * modules[r * side + c].
+ * MODULES are bytes, row by row from the top and each row from the left, `rows` rows of `columns` bytes, without a
+ * quiet zone. On input 0 is light and anything else is dark; on output a module is 0 or 1. A symbol stands upright: the
+ * solid column is on the left, the solid row at the bottom. The module in row r and column c, both counted from 0, is
+ * modules[r * columns + c].
+ *
+ * DOUBTFUL modules are those of which a caller knows that their colours tell nothing: a blot, a glare, a torn corner, a
+ * weak dot. They are given beside the modules as as many bytes, 0 where a module isn't doubtful and anything else where
+ * it is; or not at all, as NULL and 0, where none is. A codeword is erased if one of its eight modules is doubtful. A
+ * border module that is doubtful is never counted as wrong.
  *
  * ITEMS make up a message: 0 to 255 is that byte, ECC200_FNC1 is the function character FNC1. None is interpreted. A
  * GS1 message has ECC200_FNC1 first and another, or more rarely the byte 0x1D, between its fields. ecc200_text and
  * ecc200_items, below, turn items into bytes and back.
  *
- * A PROFILE chooses the normal form of a message, and so its normal grid, the one symbol by which it is compared: under
+ * A PROFILE chooses the normal form of a message, and so its normal symbol, the one by which it is compared: under
  * ECC200_ASCII its codewords are those of ASCII encodation; under ECC200_SHORTER they are those of one Base 256 segment
  * where the message has no FNC1 and the segment is shorter, which serves binary messages. Either way they stand in the
- * smallest symbol that holds them, followed by pads; a message that no symbol holds in this form has no normal grid.
- * Symbols that have normal grids under one profile say the same exactly if these are equal, byte by byte; and a normal
- * grid is its own normal grid.
+ * smallest square that holds them, followed by pads; a message that no square holds in this form has no normal symbol.
+ * Symbols that have normal symbols under one profile say the same exactly if these are equal, byte by byte; and a
+ * normal symbol is its own normal symbol.
  *
  * EACH CALL returns, whatever it is given, and touches only what it was given. It allocates nothing and uses less than
  * ECC200_STACK bytes of stack, keeps nothing, waits for nothing, and calls nothing but memcpy, memmove and memset: any
  * number of threads may call at once, each with an `out` of its own.
  *
- * WHAT IS WRITTEN: a call writes all of `out`, whatever it held before. If there is a fault, everything in `out` but
- * `fault` is 0; if there is none, `fault` is 0, and so are the elements of an array past those that count. A call whose
- * `out` has a member `fault` returns its code.
+ * WHAT IS WRITTEN: each call writes `fault`, the numbers of rows and columns, and all counts, whatever `out` held
+ * before, and the elements of arrays that count. Elements past those are left as they were. If there is a fault,
+ * everything but `fault` and the arrays is 0, and the arrays are left as they were; if there is none, `fault` is 0. A
+ * call whose `out` has a member `fault` returns its code.
  *
  * PROCESSORS: the library runs on x86-64 processors of the level x86-64-v2, which have SSSE3 and SSE4.2 among others,
  * as those made since 2009 mostly do. On an older one glibc's loader, from 2.33 on, refuses the shared library and
@@ -65,7 +73,7 @@
  *
  * WHAT A CALLER OWES, since C can't check it:
  *  - a pointer points to as many elements as the call says, aligned for their type. It may be NULL if the count is 0;
- *    `out` may not;
+ *    `how` and `out` may not;
  *  - `out` overlaps no input, and during the call nobody else writes either of them or reads `out`.
  *
  * WHAT IS PROVED, for every call whose caller does what is owed: that it returns, that it touches nothing but its
@@ -107,28 +115,29 @@ extern "C" {
 
 /* The version of this interface. It changes when a program that was built with this file would no longer work with the
  * library. */
-#define ECC200_ABI 2
+#define ECC200_ABI 3
 
 /* The version of the library's interface, to be compared with ECC200_ABI if the library is loaded at run time. */
 uint16_t ecc200_abi(void);
 
 /* The version of the library, by Semantic Versioning: docs/LIBRARY.md says what may change with which number. */
-#define ECC200_VERSION "1.0.0"
+#define ECC200_VERSION "2.0.0"
 
 /* The same of the library that is linked or loaded. */
 const char *ecc200_version(void);
 
 enum {
-    ECC200_MOST_SIDE = 104,       /* modules */
-    ECC200_MOST_MODULES = 10816,
-    ECC200_MOST_ITEMS = 1639,     /* no symbol says more items */
-    ECC200_MOST_CODEWORDS = 1152, /* data and check codewords together */
-    ECC200_MOST_BLOCKS = 6,
-    ECC200_SIZE_COUNT = 21,
+    ECC200_MOST_ROWS = 144,       /* modules */
+    ECC200_MOST_COLUMNS = 144,
+    ECC200_MOST_MODULES = 20736,
+    ECC200_MOST_ITEMS = 3123,     /* no symbol says more items */
+    ECC200_MOST_CODEWORDS = 2178, /* data and check codewords together */
+    ECC200_MOST_BLOCKS = 10,
+    ECC200_SIZE_COUNT = 48,
     ECC200_FNC1 = 256,            /* an item */
     ECC200_ANY_LIMIT = 65535,     /* a border limit that refuses nothing */
     ECC200_BEYOND = 255,          /* in ecc200_inspection.corrected: this block is beyond correction */
-    ECC200_STACK = 32768          /* bytes */
+    ECC200_STACK = 65536          /* bytes */
 };
 
 /* What is read. USUAL: ASCII, C40, Text, X12 and Base 256, as the program reads. WIDE: these, and EDIFACT (240); a
@@ -146,6 +155,16 @@ enum ECC200_SMALL ecc200_profile {
     ECC200_SHORTER = 1
 };
 
+/* The sizes among which a symbol that is written may have the smallest that holds it: the one with the fewest modules
+ * and, of those with as many, the one with the fewest columns. */
+enum ECC200_SMALL ecc200_shape {
+    ECC200_SQUARE = 0,    /* the 24 squares */
+    ECC200_RECTANGLE = 1, /* the 6 rectangles of ISO/IEC 16022 */
+    ECC200_EXTENDED = 2,  /* these and the 18 rectangles of ISO/IEC 21471 */
+    ECC200_ANY = 3,       /* all 48 sizes */
+    ECC200_ONE = 4        /* the size with the rows and columns that are given, and no other */
+};
+
 /* ---- Faults */
 
 /* What a call returns, and puts into fault.code. `value` and `place` are 0 unless they are mentioned. */
@@ -153,11 +172,12 @@ enum ECC200_SMALL ecc200_code {
     ECC200_OK = 0,
 
     /* The modules make no symbol. */
-    ECC200_SHAPE = 3, /* count isn't side * side */
-    ECC200_SIDE = 4,  /* no size has this side; value: the side */
+    ECC200_SHAPE = 3, /* count isn't rows * columns */
+    ECC200_SIZE = 4,  /* no size has these rows and columns; value: the rows; place: the columns */
 
     /* The symbol isn't read. `place` counts the data codewords of the symbol from 1. */
-    ECC200_BORDER = 5,      /* more border modules have the wrong colour than the limit allows; value: how many have */
+    ECC200_BORDER = 5,      /* more border modules that aren't doubtful have the wrong colour than the limit allows;
+                               value: how many have */
     ECC200_BLOCK = 6,       /* a block is damaged beyond correction; place: the first such block, from 0 */
     ECC200_RESERVED = 7,    /* a codeword that ASCII encodation doesn't use: 0, or 242 to 255; place: where it stands */
     ECC200_LEFT_OUT = 8,    /* value: a codeword that begins something that isn't read: structured append (233), reader
@@ -174,12 +194,14 @@ enum ECC200_SMALL ecc200_code {
                                as for UPPER_SHIFT */
 
     /* The message isn't written. */
-    ECC200_TOO_LONG = 14, /* no size holds the message in its normal form */
+    ECC200_TOO_LONG = 14, /* no size that may be taken holds the message */
     ECC200_ITEM = 15,     /* an item above 256; value: the item; place: its index from 0, or 65535 if that is larger */
 
     /* An argument stands for nothing. */
     ECC200_PROFILE = 16, /* a profile above 1; value: the profile */
-    ECC200_EXTENT = 17   /* an extent above 1; value: the extent */
+    ECC200_EXTENT = 17,  /* an extent above 1; value: the extent */
+    ECC200_CHOICE = 18,  /* a shape above 4; value: the shape */
+    ECC200_DOUBT = 19    /* doubtful_count is neither 0 nor rows * columns */
 };
 
 typedef struct ecc200_fault {
@@ -192,76 +214,100 @@ typedef struct ecc200_fault {
 
 typedef struct ecc200_reading {
     ecc200_fault fault;
-    uint16_t side;
-    uint16_t border_faults;                /* how many border modules have the wrong colour */
-    uint16_t block_count;                  /* 1 to ECC200_MOST_BLOCKS */
+    uint16_t rows;
+    uint16_t columns;
+    uint16_t border_faults;                /* how many border modules that aren't doubtful have the wrong colour */
+    uint16_t block_count;                  /* 1 to ECC200_MOST_BLOCKS: the first block_count elements of each of these
+                                              three count */
     uint16_t item_count;                   /* 0 to ECC200_MOST_ITEMS */
+    uint8_t corrected[ECC200_MOST_BLOCKS]; /* for each block, how many of its codewords were corrected, those not
+                                              counted that are erased */
+    uint8_t erased[ECC200_MOST_BLOCKS];    /* for each block, how many of its codewords are erased */
+    uint8_t left[ECC200_MOST_BLOCKS];      /* for each block, how many of its check codewords neither have used, of
+                                              which a correction uses two and an erasure one */
     uint16_t items[ECC200_MOST_ITEMS];     /* the message: the first item_count count */
-    uint8_t corrected[ECC200_MOST_BLOCKS]; /* for each block, how many of its codewords were corrected */
 } ecc200_reading;
 
 /* Reads a symbol, as far as the extent goes. `border_limit`: how many border modules may have the wrong colour, usually
- * ecc200_usual_limit(side). Each block is corrected if it differs in at most `limit` codewords (ecc200_sizes) from a
- * codeword of the error correcting code. Neither the fixed square nor what follows the first pad is looked at.
+ * ecc200_usual_limit(rows, columns). A block with k check codewords is restored if twice the number of its wrong
+ * codewords and the number of its erased ones are together at most k: with no module doubtful, if at most `limit` of
+ * its codewords are wrong (ecc200_sizes). Neither the fixed square nor what follows the first pad is looked at.
  * A symbol with more damage than that is refused, unless it has come near the codewords of another message, and is then
- * read as that message: if a wrong message is worse than none, refuse a symbol whose `corrected` comes close to the
- * limit.
- * Returns the first fault that applies: EXTENT, SHAPE, SIDE, BORDER, BLOCK, RESERVED to UNFINISHED. */
-uint16_t ecc200_read(const uint8_t *ECC200_RESTRICT modules, size_t count, uint16_t side, uint16_t border_limit,
-                     uint16_t extent, ecc200_reading *ECC200_RESTRICT out);
+ * read as that message. If a wrong message is worse than none, refuse a symbol in which little of a block is `left`:
+ * where codewords are erased and nothing is left, a block is read whatever it held.
+ * Returns the first fault that applies: EXTENT, SHAPE, SIZE, DOUBT, BORDER, BLOCK, RESERVED to UNFINISHED. */
+uint16_t ecc200_read(const uint8_t *ECC200_RESTRICT modules, size_t count, const uint8_t *ECC200_RESTRICT doubtful,
+                     size_t doubtful_count, uint16_t rows, uint16_t columns, uint16_t border_limit, uint16_t extent,
+                     ecc200_reading *ECC200_RESTRICT out);
 
-/* A quarter of the side, rounded down. */
-uint16_t ecc200_usual_limit(uint16_t side);
+/* The sum of the rows and the columns, divided by 8 and rounded down: a quarter of the side of a square. */
+uint16_t ecc200_usual_limit(uint16_t rows, uint16_t columns);
 
 /* ---- Writing and normalising */
 
+/* How a message is written. All 0: in ASCII encodation, in the smallest square. */
+typedef struct ecc200_how {
+    uint16_t form;    /* an ecc200_profile: which codewords are chosen for the message */
+    uint16_t shape;   /* an ecc200_shape: which sizes may be taken */
+    uint16_t rows;    /* for ECC200_ONE, the rows of the size; else of no account */
+    uint16_t columns; /* for ECC200_ONE, the columns of the size; else of no account */
+} ecc200_how;
+
 typedef struct ecc200_symbol {
     ecc200_fault fault;
-    uint16_t side;
-    uint8_t modules[ECC200_MOST_MODULES]; /* the first side * side count */
+    uint16_t rows;
+    uint16_t columns;
+    uint8_t modules[ECC200_MOST_MODULES]; /* the first rows * columns count */
 } ecc200_symbol;
 
-/* Writes the normal grid of a message. ecc200_read reads it as that message, with nothing corrected.
- * Returns the first fault that applies: PROFILE, ITEM, TOO_LONG. */
-uint16_t ecc200_write(const uint16_t *ECC200_RESTRICT items, size_t count, uint16_t profile,
+/* Writes a message: in the codewords of its form, followed by pads, in the smallest size that may be taken and holds
+ * them. ecc200_read reads it as that message, with nothing corrected. In ECC200_SQUARE it is the normal symbol of the
+ * message under the profile that `form` is.
+ * Returns the first fault that applies: PROFILE, CHOICE, ITEM, TOO_LONG. Where no size has the rows and columns of
+ * ECC200_ONE, the fault is TOO_LONG too. */
+uint16_t ecc200_write(const uint16_t *ECC200_RESTRICT items, size_t count, const ecc200_how *ECC200_RESTRICT how,
                       ecc200_symbol *ECC200_RESTRICT out);
 
-/* Writes the normal grid of bytes, each of which is an item: what ecc200_write does for the same numbers.
- * Returns the first fault that applies: PROFILE, TOO_LONG. */
-uint16_t ecc200_write_bytes(const uint8_t *ECC200_RESTRICT bytes, size_t count, uint16_t profile,
+/* Writes a message of bytes, each of which is an item: what ecc200_write does for the same numbers.
+ * Returns the first fault that applies: PROFILE, CHOICE, TOO_LONG. */
+uint16_t ecc200_write_bytes(const uint8_t *ECC200_RESTRICT bytes, size_t count, const ecc200_how *ECC200_RESTRICT how,
                             ecc200_symbol *ECC200_RESTRICT out);
 
-/* Writes the normal grid of what a symbol says in an extent, whatever its size and encodation, and whatever damage was
- * corrected.
+/* Writes the normal symbol of what a symbol says in an extent, whatever its size and encodation, and whatever damage
+ * was corrected.
  * Returns the first fault that applies: EXTENT, PROFILE, those of ecc200_read, TOO_LONG. */
-uint16_t ecc200_normal(const uint8_t *ECC200_RESTRICT modules, size_t count, uint16_t side, uint16_t border_limit,
-                       uint16_t extent, uint16_t profile, ecc200_symbol *ECC200_RESTRICT out);
+uint16_t ecc200_normal(const uint8_t *ECC200_RESTRICT modules, size_t count, const uint8_t *ECC200_RESTRICT doubtful,
+                       size_t doubtful_count, uint16_t rows, uint16_t columns, uint16_t border_limit, uint16_t extent,
+                       uint16_t profile, ecc200_symbol *ECC200_RESTRICT out);
 
 /* ---- Showing and mending */
 
 typedef struct ecc200_inspection {
     ecc200_fault fault;
-    uint16_t side;
-    uint16_t border_faults;                /* how many border modules have the wrong colour */
+    uint16_t rows;
+    uint16_t columns;
+    uint16_t border_faults;                /* how many border modules that aren't doubtful have the wrong colour */
     uint16_t block_count;                  /* 1 to ECC200_MOST_BLOCKS */
     uint16_t codeword_count;               /* of the whole symbol, 8 to ECC200_MOST_CODEWORDS: data codewords and then
                                               check codewords */
+    uint8_t corrected[ECC200_MOST_BLOCKS]; /* for each block, what ecc200_reading has, or ECC200_BEYOND */
+    uint8_t erased[ECC200_MOST_BLOCKS];    /* the same, or 0 where the block is beyond correction */
+    uint8_t left[ECC200_MOST_BLOCKS];      /* the same, or 0 where the block is beyond correction */
     uint8_t held[ECC200_MOST_CODEWORDS];   /* the codewords as they stand in the symbol */
     uint8_t mended[ECC200_MOST_CODEWORDS]; /* the same with each block corrected; a block beyond correction is left as
                                               it is */
-    uint8_t corrected[ECC200_MOST_BLOCKS]; /* for each block, in how many codewords the two differ, or ECC200_BEYOND */
 } ecc200_inspection;
 
 /* Gives the codewords of a symbol, corrected as far as they can be: unlike ecc200_read it goes on after a bad border,
  * after a block that is damaged beyond correction, and if the data codewords spell no message. Of B blocks, block b has
  * the codewords b, b + B, b + 2 B, ..
- * Returns the first fault that applies: SHAPE, SIDE. */
-uint16_t ecc200_inspect(const uint8_t *ECC200_RESTRICT modules, size_t count, uint16_t side,
-                        ecc200_inspection *ECC200_RESTRICT out);
+ * Returns the first fault that applies: SHAPE, SIZE, DOUBT. */
+uint16_t ecc200_inspect(const uint8_t *ECC200_RESTRICT modules, size_t count, const uint8_t *ECC200_RESTRICT doubtful,
+                        size_t doubtful_count, uint16_t rows, uint16_t columns, ecc200_inspection *ECC200_RESTRICT out);
 
 /* What a module is. */
 enum ECC200_SMALL ecc200_kind {
-    ECC200_NO_MODULE = 0,    /* past the modules of the symbol */
+    ECC200_NO_MODULE = 0,    /* nothing that a call writes */
     ECC200_BIT = 1,          /* a bit of a codeword: dark if it is 1 */
     ECC200_BORDER_LIGHT = 2, /* part of the finder and alignment patterns, and should be light */
     ECC200_BORDER_DARK = 3,
@@ -277,32 +323,37 @@ typedef struct ecc200_place {
 
 typedef struct ecc200_place_table {
     ecc200_fault fault;
-    uint16_t side;
-    ecc200_place places[ECC200_MOST_MODULES]; /* for each module, row by row: the first side * side count */
+    uint16_t rows;
+    uint16_t columns;
+    ecc200_place places[ECC200_MOST_MODULES]; /* for each module, row by row: the first rows * columns count */
 } ecc200_place_table;
 
-/* Says what each module of a symbol of this side is. SIDE is the only fault. */
-uint16_t ecc200_places(uint16_t side, ecc200_place_table *ECC200_RESTRICT out);
+/* Says what each module of a symbol with these rows and columns is. SIZE is the only fault. */
+uint16_t ecc200_places(uint16_t rows, uint16_t columns, ecc200_place_table *ECC200_RESTRICT out);
 
 /* ---- Sizes */
 
 typedef struct ecc200_size {
-    uint16_t side;            /* modules on a side of the symbol */
-    uint16_t regions;         /* data regions */
-    uint16_t region_side;     /* modules on a side of a region, without its border */
-    uint16_t mapping;         /* modules on a side of the mapping matrix, which is all regions together, without their
-                                 borders */
+    uint16_t rows;            /* of modules of the symbol */
+    uint16_t columns;
+    uint16_t region_rows;     /* of modules of a data region, without its border */
+    uint16_t region_columns;
+    uint16_t regions_down;    /* data regions that stand one above the other */
+    uint16_t regions_across;  /* data regions that stand side by side */
+    uint16_t mapping_rows;    /* of the mapping matrix, which is all regions together, without their borders */
+    uint16_t mapping_columns;
     uint16_t data_codewords;
     uint16_t check_codewords; /* the standard's error correction codewords */
     uint16_t blocks;          /* into which the codewords are dealt */
     uint16_t limit;           /* how many wrong codewords can be corrected in each block */
+    uint16_t extension;       /* 1 for a size of ISO/IEC 21471, else 0 */
 } ecc200_size;
 
 typedef struct ecc200_size_table {
     ecc200_size sizes[ECC200_SIZE_COUNT];
 } ecc200_size_table;
 
-/* The table of sizes, by rising side. */
+/* The table of sizes, by rising number of modules, and of those with as many by rising columns. */
 void ecc200_sizes(ecc200_size_table *ECC200_RESTRICT out);
 
 /* ---- Conveniences: C, and not proved */
@@ -335,8 +386,8 @@ static inline size_t ecc200_items(const uint8_t *bytes, size_t count, int gs1, u
 static inline const char *ecc200_words(uint16_t code) {
     switch (code) {
     case ECC200_OK: return "no fault";
-    case ECC200_SHAPE: return "the modules make no square of this side";
-    case ECC200_SIDE: return "no size has this side";
+    case ECC200_SHAPE: return "the modules aren't as many as the rows times the columns";
+    case ECC200_SIZE: return "no size has these rows and columns";
     case ECC200_BORDER: return "too many border modules have the wrong colour";
     case ECC200_BLOCK: return "a block is damaged beyond correction";
     case ECC200_RESERVED: return "a reserved codeword";
@@ -346,10 +397,12 @@ static inline const char *ecc200_words(uint16_t code) {
     case ECC200_VALUE: return "a value that has no meaning after a shift";
     case ECC200_LENGTH: return "a wrong Base 256 length";
     case ECC200_UNFINISHED: return "the run or the symbol ends before the character of an Upper Shift";
-    case ECC200_TOO_LONG: return "the message is too long for any size";
+    case ECC200_TOO_LONG: return "the message is too long for any size that may be taken";
     case ECC200_ITEM: return "an item above 256";
     case ECC200_PROFILE: return "no such profile";
     case ECC200_EXTENT: return "no such extent";
+    case ECC200_CHOICE: return "no such shape";
+    case ECC200_DOUBT: return "the doubtful modules aren't as many as the modules";
     default: return "not a code of this library";
     }
 }
@@ -363,47 +416,66 @@ ECC200_ASSERT(sizeof(ecc200_fault) == 6);
 ECC200_ASSERT(offsetof(ecc200_fault, code) == 0 && ECC200_SIZE_OF(ecc200_fault, code) == 2);
 ECC200_ASSERT(offsetof(ecc200_fault, value) == 2 && ECC200_SIZE_OF(ecc200_fault, value) == 2);
 ECC200_ASSERT(offsetof(ecc200_fault, place) == 4 && ECC200_SIZE_OF(ecc200_fault, place) == 2);
-ECC200_ASSERT(sizeof(ecc200_reading) == 3298);
+ECC200_ASSERT(sizeof(ecc200_reading) == 6292);
 ECC200_ASSERT(offsetof(ecc200_reading, fault) == 0 && ECC200_SIZE_OF(ecc200_reading, fault) == 6);
-ECC200_ASSERT(offsetof(ecc200_reading, side) == 6 && ECC200_SIZE_OF(ecc200_reading, side) == 2);
-ECC200_ASSERT(offsetof(ecc200_reading, border_faults) == 8 && ECC200_SIZE_OF(ecc200_reading, border_faults) == 2);
-ECC200_ASSERT(offsetof(ecc200_reading, block_count) == 10 && ECC200_SIZE_OF(ecc200_reading, block_count) == 2);
-ECC200_ASSERT(offsetof(ecc200_reading, item_count) == 12 && ECC200_SIZE_OF(ecc200_reading, item_count) == 2);
-ECC200_ASSERT(offsetof(ecc200_reading, items) == 14 && ECC200_SIZE_OF(ecc200_reading, items) == 3278);
-ECC200_ASSERT(offsetof(ecc200_reading, corrected) == 3292 && ECC200_SIZE_OF(ecc200_reading, corrected) == 6);
-ECC200_ASSERT(sizeof(ecc200_symbol) == 10824);
+ECC200_ASSERT(offsetof(ecc200_reading, rows) == 6 && ECC200_SIZE_OF(ecc200_reading, rows) == 2);
+ECC200_ASSERT(offsetof(ecc200_reading, columns) == 8 && ECC200_SIZE_OF(ecc200_reading, columns) == 2);
+ECC200_ASSERT(offsetof(ecc200_reading, border_faults) == 10 && ECC200_SIZE_OF(ecc200_reading, border_faults) == 2);
+ECC200_ASSERT(offsetof(ecc200_reading, block_count) == 12 && ECC200_SIZE_OF(ecc200_reading, block_count) == 2);
+ECC200_ASSERT(offsetof(ecc200_reading, item_count) == 14 && ECC200_SIZE_OF(ecc200_reading, item_count) == 2);
+ECC200_ASSERT(offsetof(ecc200_reading, corrected) == 16 && ECC200_SIZE_OF(ecc200_reading, corrected) == 10);
+ECC200_ASSERT(offsetof(ecc200_reading, erased) == 26 && ECC200_SIZE_OF(ecc200_reading, erased) == 10);
+ECC200_ASSERT(offsetof(ecc200_reading, left) == 36 && ECC200_SIZE_OF(ecc200_reading, left) == 10);
+ECC200_ASSERT(offsetof(ecc200_reading, items) == 46 && ECC200_SIZE_OF(ecc200_reading, items) == 6246);
+ECC200_ASSERT(sizeof(ecc200_how) == 8);
+ECC200_ASSERT(offsetof(ecc200_how, form) == 0 && ECC200_SIZE_OF(ecc200_how, form) == 2);
+ECC200_ASSERT(offsetof(ecc200_how, shape) == 2 && ECC200_SIZE_OF(ecc200_how, shape) == 2);
+ECC200_ASSERT(offsetof(ecc200_how, rows) == 4 && ECC200_SIZE_OF(ecc200_how, rows) == 2);
+ECC200_ASSERT(offsetof(ecc200_how, columns) == 6 && ECC200_SIZE_OF(ecc200_how, columns) == 2);
+ECC200_ASSERT(sizeof(ecc200_symbol) == 20746);
 ECC200_ASSERT(offsetof(ecc200_symbol, fault) == 0 && ECC200_SIZE_OF(ecc200_symbol, fault) == 6);
-ECC200_ASSERT(offsetof(ecc200_symbol, side) == 6 && ECC200_SIZE_OF(ecc200_symbol, side) == 2);
-ECC200_ASSERT(offsetof(ecc200_symbol, modules) == 8 && ECC200_SIZE_OF(ecc200_symbol, modules) == 10816);
-ECC200_ASSERT(sizeof(ecc200_inspection) == 2324);
+ECC200_ASSERT(offsetof(ecc200_symbol, rows) == 6 && ECC200_SIZE_OF(ecc200_symbol, rows) == 2);
+ECC200_ASSERT(offsetof(ecc200_symbol, columns) == 8 && ECC200_SIZE_OF(ecc200_symbol, columns) == 2);
+ECC200_ASSERT(offsetof(ecc200_symbol, modules) == 10 && ECC200_SIZE_OF(ecc200_symbol, modules) == 20736);
+ECC200_ASSERT(sizeof(ecc200_inspection) == 4402);
 ECC200_ASSERT(offsetof(ecc200_inspection, fault) == 0 && ECC200_SIZE_OF(ecc200_inspection, fault) == 6);
-ECC200_ASSERT(offsetof(ecc200_inspection, side) == 6 && ECC200_SIZE_OF(ecc200_inspection, side) == 2);
-ECC200_ASSERT(offsetof(ecc200_inspection, border_faults) == 8 && ECC200_SIZE_OF(ecc200_inspection, border_faults) == 2);
-ECC200_ASSERT(offsetof(ecc200_inspection, block_count) == 10 && ECC200_SIZE_OF(ecc200_inspection, block_count) == 2);
-ECC200_ASSERT(offsetof(ecc200_inspection, codeword_count) == 12 &&
+ECC200_ASSERT(offsetof(ecc200_inspection, rows) == 6 && ECC200_SIZE_OF(ecc200_inspection, rows) == 2);
+ECC200_ASSERT(offsetof(ecc200_inspection, columns) == 8 && ECC200_SIZE_OF(ecc200_inspection, columns) == 2);
+ECC200_ASSERT(offsetof(ecc200_inspection, border_faults) == 10 &&
+              ECC200_SIZE_OF(ecc200_inspection, border_faults) == 2);
+ECC200_ASSERT(offsetof(ecc200_inspection, block_count) == 12 && ECC200_SIZE_OF(ecc200_inspection, block_count) == 2);
+ECC200_ASSERT(offsetof(ecc200_inspection, codeword_count) == 14 &&
               ECC200_SIZE_OF(ecc200_inspection, codeword_count) == 2);
-ECC200_ASSERT(offsetof(ecc200_inspection, held) == 14 && ECC200_SIZE_OF(ecc200_inspection, held) == 1152);
-ECC200_ASSERT(offsetof(ecc200_inspection, mended) == 1166 && ECC200_SIZE_OF(ecc200_inspection, mended) == 1152);
-ECC200_ASSERT(offsetof(ecc200_inspection, corrected) == 2318 && ECC200_SIZE_OF(ecc200_inspection, corrected) == 6);
+ECC200_ASSERT(offsetof(ecc200_inspection, corrected) == 16 && ECC200_SIZE_OF(ecc200_inspection, corrected) == 10);
+ECC200_ASSERT(offsetof(ecc200_inspection, erased) == 26 && ECC200_SIZE_OF(ecc200_inspection, erased) == 10);
+ECC200_ASSERT(offsetof(ecc200_inspection, left) == 36 && ECC200_SIZE_OF(ecc200_inspection, left) == 10);
+ECC200_ASSERT(offsetof(ecc200_inspection, held) == 46 && ECC200_SIZE_OF(ecc200_inspection, held) == 2178);
+ECC200_ASSERT(offsetof(ecc200_inspection, mended) == 2224 && ECC200_SIZE_OF(ecc200_inspection, mended) == 2178);
 ECC200_ASSERT(sizeof(ecc200_place) == 4);
 ECC200_ASSERT(offsetof(ecc200_place, codeword) == 0 && ECC200_SIZE_OF(ecc200_place, codeword) == 2);
 ECC200_ASSERT(offsetof(ecc200_place, bit) == 2 && ECC200_SIZE_OF(ecc200_place, bit) == 1);
 ECC200_ASSERT(offsetof(ecc200_place, kind) == 3 && ECC200_SIZE_OF(ecc200_place, kind) == 1);
-ECC200_ASSERT(sizeof(ecc200_place_table) == 43272);
+ECC200_ASSERT(sizeof(ecc200_place_table) == 82954);
 ECC200_ASSERT(offsetof(ecc200_place_table, fault) == 0 && ECC200_SIZE_OF(ecc200_place_table, fault) == 6);
-ECC200_ASSERT(offsetof(ecc200_place_table, side) == 6 && ECC200_SIZE_OF(ecc200_place_table, side) == 2);
-ECC200_ASSERT(offsetof(ecc200_place_table, places) == 8 && ECC200_SIZE_OF(ecc200_place_table, places) == 43264);
-ECC200_ASSERT(sizeof(ecc200_size) == 16);
-ECC200_ASSERT(offsetof(ecc200_size, side) == 0 && ECC200_SIZE_OF(ecc200_size, side) == 2);
-ECC200_ASSERT(offsetof(ecc200_size, regions) == 2 && ECC200_SIZE_OF(ecc200_size, regions) == 2);
-ECC200_ASSERT(offsetof(ecc200_size, region_side) == 4 && ECC200_SIZE_OF(ecc200_size, region_side) == 2);
-ECC200_ASSERT(offsetof(ecc200_size, mapping) == 6 && ECC200_SIZE_OF(ecc200_size, mapping) == 2);
-ECC200_ASSERT(offsetof(ecc200_size, data_codewords) == 8 && ECC200_SIZE_OF(ecc200_size, data_codewords) == 2);
-ECC200_ASSERT(offsetof(ecc200_size, check_codewords) == 10 && ECC200_SIZE_OF(ecc200_size, check_codewords) == 2);
-ECC200_ASSERT(offsetof(ecc200_size, blocks) == 12 && ECC200_SIZE_OF(ecc200_size, blocks) == 2);
-ECC200_ASSERT(offsetof(ecc200_size, limit) == 14 && ECC200_SIZE_OF(ecc200_size, limit) == 2);
-ECC200_ASSERT(sizeof(ecc200_size_table) == 336);
-ECC200_ASSERT(offsetof(ecc200_size_table, sizes) == 0 && ECC200_SIZE_OF(ecc200_size_table, sizes) == 336);
+ECC200_ASSERT(offsetof(ecc200_place_table, rows) == 6 && ECC200_SIZE_OF(ecc200_place_table, rows) == 2);
+ECC200_ASSERT(offsetof(ecc200_place_table, columns) == 8 && ECC200_SIZE_OF(ecc200_place_table, columns) == 2);
+ECC200_ASSERT(offsetof(ecc200_place_table, places) == 10 && ECC200_SIZE_OF(ecc200_place_table, places) == 82944);
+ECC200_ASSERT(sizeof(ecc200_size) == 26);
+ECC200_ASSERT(offsetof(ecc200_size, rows) == 0 && ECC200_SIZE_OF(ecc200_size, rows) == 2);
+ECC200_ASSERT(offsetof(ecc200_size, columns) == 2 && ECC200_SIZE_OF(ecc200_size, columns) == 2);
+ECC200_ASSERT(offsetof(ecc200_size, region_rows) == 4 && ECC200_SIZE_OF(ecc200_size, region_rows) == 2);
+ECC200_ASSERT(offsetof(ecc200_size, region_columns) == 6 && ECC200_SIZE_OF(ecc200_size, region_columns) == 2);
+ECC200_ASSERT(offsetof(ecc200_size, regions_down) == 8 && ECC200_SIZE_OF(ecc200_size, regions_down) == 2);
+ECC200_ASSERT(offsetof(ecc200_size, regions_across) == 10 && ECC200_SIZE_OF(ecc200_size, regions_across) == 2);
+ECC200_ASSERT(offsetof(ecc200_size, mapping_rows) == 12 && ECC200_SIZE_OF(ecc200_size, mapping_rows) == 2);
+ECC200_ASSERT(offsetof(ecc200_size, mapping_columns) == 14 && ECC200_SIZE_OF(ecc200_size, mapping_columns) == 2);
+ECC200_ASSERT(offsetof(ecc200_size, data_codewords) == 16 && ECC200_SIZE_OF(ecc200_size, data_codewords) == 2);
+ECC200_ASSERT(offsetof(ecc200_size, check_codewords) == 18 && ECC200_SIZE_OF(ecc200_size, check_codewords) == 2);
+ECC200_ASSERT(offsetof(ecc200_size, blocks) == 20 && ECC200_SIZE_OF(ecc200_size, blocks) == 2);
+ECC200_ASSERT(offsetof(ecc200_size, limit) == 22 && ECC200_SIZE_OF(ecc200_size, limit) == 2);
+ECC200_ASSERT(offsetof(ecc200_size, extension) == 24 && ECC200_SIZE_OF(ecc200_size, extension) == 2);
+ECC200_ASSERT(sizeof(ecc200_size_table) == 1248);
+ECC200_ASSERT(offsetof(ecc200_size_table, sizes) == 0 && ECC200_SIZE_OF(ecc200_size_table, sizes) == 1248);
 
 #if defined(__cplusplus)
 }

@@ -21,12 +21,12 @@ pub const ANY_LIMIT: u16 = 65535;
 // ecc200.h: end
 
 // ecc200.h: constants
-const ABI: u16 = 2;
-const MOST_MODULES: usize = 10816;
-const MOST_ITEMS: usize = 1639;
-const MOST_CODEWORDS: usize = 1152;
-const MOST_BLOCKS: usize = 6;
-const SIZE_COUNT: usize = 21;
+const ABI: u16 = 3;
+const MOST_MODULES: usize = 20736;
+const MOST_ITEMS: usize = 3123;
+const MOST_CODEWORDS: usize = 2178;
+const MOST_BLOCKS: usize = 10;
+const SIZE_COUNT: usize = 48;
 const BEYOND: u8 = 255;
 // ecc200.h: end
 
@@ -50,15 +50,23 @@ pub enum Profile {
     // ecc200.h: end
 }
 
+// ecc200.h: shapes
+const SQUARE: u16 = 0;
+const RECTANGLE: u16 = 1;
+const EXTENDED: u16 = 2;
+const ANY: u16 = 3;
+const ONE: u16 = 4;
+// ecc200.h: end
+
 /// What `Fault::code` may be; `ecc200.h` explains `value` and `place` for each.
 pub mod code {
     // ecc200.h: codes
     /// No fault.
     pub const OK: u16 = 0;
-    /// The modules make no square of this side.
+    /// The modules aren't as many as the rows times the columns.
     pub const SHAPE: u16 = 3;
-    /// No size has this side.
-    pub const SIDE: u16 = 4;
+    /// No size has these rows and columns.
+    pub const SIZE: u16 = 4;
     /// Too many border modules have the wrong colour.
     pub const BORDER: u16 = 5;
     /// A block is damaged beyond correction.
@@ -77,7 +85,7 @@ pub mod code {
     pub const LENGTH: u16 = 12;
     /// The run or the symbol ends before the character of an Upper Shift.
     pub const UNFINISHED: u16 = 13;
-    /// The message is too long for any size.
+    /// The message is too long for any size that may be taken.
     pub const TOO_LONG: u16 = 14;
     /// An item above 256.
     pub const ITEM: u16 = 15;
@@ -85,6 +93,10 @@ pub mod code {
     pub const PROFILE: u16 = 16;
     /// No such extent.
     pub const EXTENT: u16 = 17;
+    /// No such shape.
+    pub const CHOICE: u16 = 18;
+    /// The doubtful modules aren't as many as the modules.
+    pub const DOUBT: u16 = 19;
     // ecc200.h: end
 }
 
@@ -104,8 +116,8 @@ impl fmt::Display for Fault {
         f.write_str(match self.code {
             // ecc200.h: words
             code::OK => "no fault",
-            code::SHAPE => "the modules make no square of this side",
-            code::SIDE => "no size has this side",
+            code::SHAPE => "the modules aren't as many as the rows times the columns",
+            code::SIZE => "no size has these rows and columns",
             code::BORDER => "too many border modules have the wrong colour",
             code::BLOCK => "a block is damaged beyond correction",
             code::RESERVED => "a reserved codeword",
@@ -115,10 +127,12 @@ impl fmt::Display for Fault {
             code::VALUE => "a value that has no meaning after a shift",
             code::LENGTH => "a wrong Base 256 length",
             code::UNFINISHED => "the run or the symbol ends before the character of an Upper Shift",
-            code::TOO_LONG => "the message is too long for any size",
+            code::TOO_LONG => "the message is too long for any size that may be taken",
             code::ITEM => "an item above 256",
             code::PROFILE => "no such profile",
             code::EXTENT => "no such extent",
+            code::CHOICE => "no such shape",
+            code::DOUBT => "the doubtful modules aren't as many as the modules",
             // ecc200.h: end
             _ => "not a code of this library",
         })
@@ -184,14 +198,19 @@ pub enum Place {
 #[repr(C)]
 #[derive(Clone, Copy, Debug, Default, PartialEq, Eq)]
 pub struct Size {
-    pub side: u16,
-    pub regions: u16,
-    pub region_side: u16,
-    pub mapping: u16,
+    pub rows: u16,
+    pub columns: u16,
+    pub region_rows: u16,
+    pub region_columns: u16,
+    pub regions_down: u16,
+    pub regions_across: u16,
+    pub mapping_rows: u16,
+    pub mapping_columns: u16,
     pub data_codewords: u16,
     pub check_codewords: u16,
     pub blocks: u16,
     pub limit: u16,
+    pub extension: u16,
 }
 // ecc200.h: end
 
@@ -203,31 +222,46 @@ mod sys {
     #[repr(C)]
     pub struct ReadingOut {
         pub fault: Fault,
-        pub side: u16,
+        pub rows: u16,
+        pub columns: u16,
         pub border_faults: u16,
         pub block_count: u16,
         pub item_count: u16,
-        pub items: [u16; MOST_ITEMS],
         pub corrected: [u8; MOST_BLOCKS],
+        pub erased: [u8; MOST_BLOCKS],
+        pub left: [u8; MOST_BLOCKS],
+        pub items: [u16; MOST_ITEMS],
+    }
+
+    #[repr(C)]
+    pub struct How {
+        pub form: u16,
+        pub shape: u16,
+        pub rows: u16,
+        pub columns: u16,
     }
 
     #[repr(C)]
     pub struct SymbolOut {
         pub fault: Fault,
-        pub side: u16,
+        pub rows: u16,
+        pub columns: u16,
         pub modules: [u8; MOST_MODULES],
     }
 
     #[repr(C)]
     pub struct InspectionOut {
         pub fault: Fault,
-        pub side: u16,
+        pub rows: u16,
+        pub columns: u16,
         pub border_faults: u16,
         pub block_count: u16,
         pub codeword_count: u16,
+        pub corrected: [u8; MOST_BLOCKS],
+        pub erased: [u8; MOST_BLOCKS],
+        pub left: [u8; MOST_BLOCKS],
         pub held: [u8; MOST_CODEWORDS],
         pub mended: [u8; MOST_CODEWORDS],
-        pub corrected: [u8; MOST_BLOCKS],
     }
 
     #[repr(C)]
@@ -241,7 +275,8 @@ mod sys {
     #[repr(C)]
     pub struct PlacesOut {
         pub fault: Fault,
-        pub side: u16,
+        pub rows: u16,
+        pub columns: u16,
         pub places: [PlaceOut; MOST_MODULES],
     }
 
@@ -284,45 +319,63 @@ mod sys {
     const _: () = assert!(offset_of!(Fault, code) == 0);
     const _: () = assert!(offset_of!(Fault, value) == 2);
     const _: () = assert!(offset_of!(Fault, place) == 4);
-    const _: () = assert!(size_of::<ReadingOut>() == 3298);
+    const _: () = assert!(size_of::<ReadingOut>() == 6292);
     const _: () = assert!(offset_of!(ReadingOut, fault) == 0);
-    const _: () = assert!(offset_of!(ReadingOut, side) == 6);
-    const _: () = assert!(offset_of!(ReadingOut, border_faults) == 8);
-    const _: () = assert!(offset_of!(ReadingOut, block_count) == 10);
-    const _: () = assert!(offset_of!(ReadingOut, item_count) == 12);
-    const _: () = assert!(offset_of!(ReadingOut, items) == 14);
-    const _: () = assert!(offset_of!(ReadingOut, corrected) == 3292);
-    const _: () = assert!(size_of::<SymbolOut>() == 10824);
+    const _: () = assert!(offset_of!(ReadingOut, rows) == 6);
+    const _: () = assert!(offset_of!(ReadingOut, columns) == 8);
+    const _: () = assert!(offset_of!(ReadingOut, border_faults) == 10);
+    const _: () = assert!(offset_of!(ReadingOut, block_count) == 12);
+    const _: () = assert!(offset_of!(ReadingOut, item_count) == 14);
+    const _: () = assert!(offset_of!(ReadingOut, corrected) == 16);
+    const _: () = assert!(offset_of!(ReadingOut, erased) == 26);
+    const _: () = assert!(offset_of!(ReadingOut, left) == 36);
+    const _: () = assert!(offset_of!(ReadingOut, items) == 46);
+    const _: () = assert!(size_of::<How>() == 8);
+    const _: () = assert!(offset_of!(How, form) == 0);
+    const _: () = assert!(offset_of!(How, shape) == 2);
+    const _: () = assert!(offset_of!(How, rows) == 4);
+    const _: () = assert!(offset_of!(How, columns) == 6);
+    const _: () = assert!(size_of::<SymbolOut>() == 20746);
     const _: () = assert!(offset_of!(SymbolOut, fault) == 0);
-    const _: () = assert!(offset_of!(SymbolOut, side) == 6);
-    const _: () = assert!(offset_of!(SymbolOut, modules) == 8);
-    const _: () = assert!(size_of::<InspectionOut>() == 2324);
+    const _: () = assert!(offset_of!(SymbolOut, rows) == 6);
+    const _: () = assert!(offset_of!(SymbolOut, columns) == 8);
+    const _: () = assert!(offset_of!(SymbolOut, modules) == 10);
+    const _: () = assert!(size_of::<InspectionOut>() == 4402);
     const _: () = assert!(offset_of!(InspectionOut, fault) == 0);
-    const _: () = assert!(offset_of!(InspectionOut, side) == 6);
-    const _: () = assert!(offset_of!(InspectionOut, border_faults) == 8);
-    const _: () = assert!(offset_of!(InspectionOut, block_count) == 10);
-    const _: () = assert!(offset_of!(InspectionOut, codeword_count) == 12);
-    const _: () = assert!(offset_of!(InspectionOut, held) == 14);
-    const _: () = assert!(offset_of!(InspectionOut, mended) == 1166);
-    const _: () = assert!(offset_of!(InspectionOut, corrected) == 2318);
+    const _: () = assert!(offset_of!(InspectionOut, rows) == 6);
+    const _: () = assert!(offset_of!(InspectionOut, columns) == 8);
+    const _: () = assert!(offset_of!(InspectionOut, border_faults) == 10);
+    const _: () = assert!(offset_of!(InspectionOut, block_count) == 12);
+    const _: () = assert!(offset_of!(InspectionOut, codeword_count) == 14);
+    const _: () = assert!(offset_of!(InspectionOut, corrected) == 16);
+    const _: () = assert!(offset_of!(InspectionOut, erased) == 26);
+    const _: () = assert!(offset_of!(InspectionOut, left) == 36);
+    const _: () = assert!(offset_of!(InspectionOut, held) == 46);
+    const _: () = assert!(offset_of!(InspectionOut, mended) == 2224);
     const _: () = assert!(size_of::<PlaceOut>() == 4);
     const _: () = assert!(offset_of!(PlaceOut, codeword) == 0);
     const _: () = assert!(offset_of!(PlaceOut, bit) == 2);
     const _: () = assert!(offset_of!(PlaceOut, kind) == 3);
-    const _: () = assert!(size_of::<PlacesOut>() == 43272);
+    const _: () = assert!(size_of::<PlacesOut>() == 82954);
     const _: () = assert!(offset_of!(PlacesOut, fault) == 0);
-    const _: () = assert!(offset_of!(PlacesOut, side) == 6);
-    const _: () = assert!(offset_of!(PlacesOut, places) == 8);
-    const _: () = assert!(size_of::<Size>() == 16);
-    const _: () = assert!(offset_of!(Size, side) == 0);
-    const _: () = assert!(offset_of!(Size, regions) == 2);
-    const _: () = assert!(offset_of!(Size, region_side) == 4);
-    const _: () = assert!(offset_of!(Size, mapping) == 6);
-    const _: () = assert!(offset_of!(Size, data_codewords) == 8);
-    const _: () = assert!(offset_of!(Size, check_codewords) == 10);
-    const _: () = assert!(offset_of!(Size, blocks) == 12);
-    const _: () = assert!(offset_of!(Size, limit) == 14);
-    const _: () = assert!(size_of::<SizesOut>() == 336);
+    const _: () = assert!(offset_of!(PlacesOut, rows) == 6);
+    const _: () = assert!(offset_of!(PlacesOut, columns) == 8);
+    const _: () = assert!(offset_of!(PlacesOut, places) == 10);
+    const _: () = assert!(size_of::<Size>() == 26);
+    const _: () = assert!(offset_of!(Size, rows) == 0);
+    const _: () = assert!(offset_of!(Size, columns) == 2);
+    const _: () = assert!(offset_of!(Size, region_rows) == 4);
+    const _: () = assert!(offset_of!(Size, region_columns) == 6);
+    const _: () = assert!(offset_of!(Size, regions_down) == 8);
+    const _: () = assert!(offset_of!(Size, regions_across) == 10);
+    const _: () = assert!(offset_of!(Size, mapping_rows) == 12);
+    const _: () = assert!(offset_of!(Size, mapping_columns) == 14);
+    const _: () = assert!(offset_of!(Size, data_codewords) == 16);
+    const _: () = assert!(offset_of!(Size, check_codewords) == 18);
+    const _: () = assert!(offset_of!(Size, blocks) == 20);
+    const _: () = assert!(offset_of!(Size, limit) == 22);
+    const _: () = assert!(offset_of!(Size, extension) == 24);
+    const _: () = assert!(size_of::<SizesOut>() == 1248);
     const _: () = assert!(offset_of!(SizesOut, sizes) == 0);
     // ecc200.h: end
 }

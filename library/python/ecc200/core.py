@@ -42,14 +42,15 @@ __all__ = ["ABI", "Code", "Corners", "Extent", "FNC1", "Found", "Grid", "Inspect
            "version", "write"]
 
 # ecc200.h: constants
-ABI = 2
-_MOST_MODULES = 10816
-MOST_ITEMS = 1639
-_MOST_CODEWORDS = 1152
-_MOST_BLOCKS = 6
-_SIZE_COUNT = 21
+ABI = 3
+_MOST_MODULES = 20736
+MOST_ITEMS = 3123
+_MOST_CODEWORDS = 2178
+_MOST_BLOCKS = 10
+_SIZE_COUNT = 48
 FNC1 = 256
 _BEYOND = 255
+_ONE = 4
 # ecc200.h: end
 _GS = 0x1D
 
@@ -84,6 +85,17 @@ class Profile(enum.IntEnum):
     # ecc200.h: end
 
 
+class Shape(enum.IntEnum):
+    """The sizes among which a symbol that is written may have the smallest that holds it: the squares; the rectangles
+    of ISO/IEC 16022; these and those of ISO/IEC 21471; all."""
+    # ecc200.h: shapes
+    SQUARE = 0
+    RECTANGLE = 1
+    EXTENDED = 2
+    ANY = 3
+    # ecc200.h: end
+
+
 class Extent(enum.IntEnum):
     """What is read: ASCII, C40, Text, X12 and Base 256; or these, EDIFACT, a macro 05 or 06 in front, and an Upper
     Shift that waits at the end of a run. What USUAL reads WIDE reads as the same."""
@@ -97,7 +109,7 @@ class Code(enum.IntEnum):
     """Why a symbol or a message is refused. ecc200.h explains `value` and `place` for each code."""
     # ecc200.h: codes
     SHAPE = 3
-    SIDE = 4
+    SIZE = 4
     BORDER = 5
     BLOCK = 6
     RESERVED = 7
@@ -111,6 +123,8 @@ class Code(enum.IntEnum):
     ITEM = 15
     PROFILE = 16
     EXTENT = 17
+    CHOICE = 18
+    DOUBT = 19
     # ecc200.h: end
 
 
@@ -177,14 +191,19 @@ class Size(NamedTuple):
     all regions together; codewords; the blocks into which they are dealt; and how many wrong codewords can be corrected
     in each block."""
     # ecc200.h: size
-    side: int
-    regions: int
-    region_side: int
-    mapping: int
+    rows: int
+    columns: int
+    region_rows: int
+    region_columns: int
+    regions_down: int
+    regions_across: int
+    mapping_rows: int
+    mapping_columns: int
     data_codewords: int
     check_codewords: int
     blocks: int
     limit: int
+    extension: int
     # ecc200.h: end
 
 
@@ -197,18 +216,23 @@ class _Fault(ctypes.Structure):
 
 
 class _ReadingOut(ctypes.Structure):
-    _fields_ = [("fault", _Fault), ("side", _u16), ("border_faults", _u16), ("block_count", _u16), ("item_count", _u16),
-                ("items", _u16 * MOST_ITEMS), ("corrected", _u8 * _MOST_BLOCKS)]
+    _fields_ = [("fault", _Fault), ("rows", _u16), ("columns", _u16), ("border_faults", _u16), ("block_count", _u16),
+                ("item_count", _u16), ("corrected", _u8 * _MOST_BLOCKS), ("erased", _u8 * _MOST_BLOCKS),
+                ("left", _u8 * _MOST_BLOCKS), ("items", _u16 * MOST_ITEMS)]
+
+
+class _How(ctypes.Structure):
+    _fields_ = [("form", _u16), ("shape", _u16), ("rows", _u16), ("columns", _u16)]
 
 
 class _SymbolOut(ctypes.Structure):
-    _fields_ = [("fault", _Fault), ("side", _u16), ("modules", _u8 * _MOST_MODULES)]
+    _fields_ = [("fault", _Fault), ("rows", _u16), ("columns", _u16), ("modules", _u8 * _MOST_MODULES)]
 
 
 class _InspectionOut(ctypes.Structure):
-    _fields_ = [("fault", _Fault), ("side", _u16), ("border_faults", _u16), ("block_count", _u16),
-                ("codeword_count", _u16), ("held", _u8 * _MOST_CODEWORDS), ("mended", _u8 * _MOST_CODEWORDS),
-                ("corrected", _u8 * _MOST_BLOCKS)]
+    _fields_ = [("fault", _Fault), ("rows", _u16), ("columns", _u16), ("border_faults", _u16), ("block_count", _u16),
+                ("codeword_count", _u16), ("corrected", _u8 * _MOST_BLOCKS), ("erased", _u8 * _MOST_BLOCKS),
+                ("left", _u8 * _MOST_BLOCKS), ("held", _u8 * _MOST_CODEWORDS), ("mended", _u8 * _MOST_CODEWORDS)]
 
 
 class _PlaceOut(ctypes.Structure):
@@ -216,12 +240,14 @@ class _PlaceOut(ctypes.Structure):
 
 
 class _PlacesOut(ctypes.Structure):
-    _fields_ = [("fault", _Fault), ("side", _u16), ("places", _PlaceOut * _MOST_MODULES)]
+    _fields_ = [("fault", _Fault), ("rows", _u16), ("columns", _u16), ("places", _PlaceOut * _MOST_MODULES)]
 
 
 class _SizeOut(ctypes.Structure):
-    _fields_ = [("side", _u16), ("regions", _u16), ("region_side", _u16), ("mapping", _u16), ("data_codewords", _u16),
-                ("check_codewords", _u16), ("blocks", _u16), ("limit", _u16)]
+    _fields_ = [("rows", _u16), ("columns", _u16), ("region_rows", _u16), ("region_columns", _u16),
+                ("regions_down", _u16), ("regions_across", _u16), ("mapping_rows", _u16), ("mapping_columns", _u16),
+                ("data_codewords", _u16), ("check_codewords", _u16), ("blocks", _u16), ("limit", _u16),
+                ("extension", _u16)]
 
 
 class _SizesOut(ctypes.Structure):
