@@ -1,5 +1,5 @@
 -- The modules of a symbol, each dark or light (ISO/IEC 16022, symbol structure).
-use Rattle.std.specs.Prelude.{◌≡◌, ℕ, ◌+◌, ◌*◌, Bool, false, List, [], map, length, get_or, All}
+use Rattle.std.specs.Prelude.{◌≡◌, ℕ, ◌+◌, ◌*◌, Bool, false, not, nat_eq, List, [], map, length, get_or, All}
 use Rattle.std.specs.List.{range_with_len}
 use Rattle.dm_modules.specs.Sizes.{SizeEntry, IsSize}
 
@@ -26,3 +26,7 @@ rows_by rows columns colour = map (λ row. map (colour row) (range_with_len 0 co
 -- These are the rows of modules that are listed row by row from the top.
 abbrev pub rows_of : ℕ → ℕ → List Bool → List (List Bool)
 rows_of rows columns list = rows_by rows columns (λ row column. get_or list (row * columns + column) false)
+
+-- Where a number is given for each module, any number but 0 stands for a dark one.
+abbrev pub is_dark_number : ℕ → Bool
+is_dark_number number = not (nat_eq number 0)

@@ -1,9 +1,9 @@
 //! The modules of a symbol.
 
 ghost use Rattle.std.specs.Prelude.{◌≡◌, ℕ, false, nat_eq, ◌&&◌, ◌≢◌, ◌*◌, ◌<◌, ◌↔◌, if◌then◌else◌, IfOk, OnErr, OnOk};
-ghost use Rattle.std.specs.Prelude.{IsNone, length};
+ghost use Rattle.std.specs.Prelude.{IsNone, ◌≤◌, ◌++◌, drop, length, map};
 ghost use Rattle.dm_modules.specs.Sizes.{entry_with, area};
-ghost use Rattle.dm_modules.specs.Modules.{IsModules, module_at, rows_of};
+ghost use Rattle.dm_modules.specs.Modules.{IsModules, is_dark_number, module_at, rows_of};
 
 use crate::size::{MOST_MODULES, SymbolSize};
 use std::marker::Model;
@@ -91,6 +91,40 @@ impl Modules {
         Ok(())
     }
 
+    /// Does the same as [`Modules::set`] where a number is given for each module, 0 for light and any other for dark.
+    pub fn set_numbers(
+        &mut self,
+        rows: u16,
+        columns: u16,
+        numbers: &[u8],
+    ) -> Result<(), ModulesFault>
+        ensures wrong_count { (result ≡ Err ModulesFault.WrongCount)
+            ↔ (length numbers.now ≢ rows * columns) }
+        ensures no_such_size { (result ≡ Err ModulesFault.NoSuchSize)
+            ↔ ((length numbers.now ≡ rows * columns) × IsNone (entry_with rows columns)) }
+        ensures size { OnOk result (entry_with rows columns ≡ Some self.new.size) }
+        ensures modules { OnOk result (self.new.rows
+            ≡ rows_of rows columns (map is_dark_number numbers.now)) }
+        ensures same { OnErr result (self.new ≡ self.old) }
+    {
+        let size = size_of_count(rows, columns, numbers.len())?;
+        self.fill_numbers(size, numbers);
+        Ok(())
+    }
+
+    /// Becomes the modules of a size with the colours of these numbers, row by row.
+    fn fill_numbers(&mut self, new_size: SymbolSize, numbers: &[u8])
+        requires { length numbers.now ≡ area new_size }
+        ensures size { self.new.size ≡ new_size }
+        ensures rows { self.new.rows
+            ≡ rows_of new_size.rows new_size.columns (map is_dark_number numbers.now) }
+    {
+        // For the proof alone: what `rows` ensures says that the modules fit.
+        let _rows = new_size.rows();
+        self.size = new_size;
+        put_colours(&mut self.kept, numbers);
+    }
+
     /// Becomes the modules of a size with these colours, row by row.
     fn fill(&mut self, new_size: SymbolSize, list: &[bool])
         requires { length list.now ≡ area new_size }
@@ -166,6 +200,17 @@ impl Modules {
         ensures count { length result.now ≡ area self.now.size }
     {
         &self.kept[..self.size.rows() as usize * self.size.columns() as usize]
+    }
+}
+
+/// Writes the colours of these numbers over the first ones.
+fn put_colours(all: &mut [bool], numbers: &[u8])
+    requires { length numbers.now ≤ length all.old }
+    ensures { all.new
+        ≡ map is_dark_number numbers.now ++ drop (length numbers.now) all.old }
+{
+    for (i, number) in numbers.iter().enumerate() {
+        all[i] = *number != 0;
     }
 }
 

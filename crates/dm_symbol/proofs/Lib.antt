@@ -23,4 +23,5 @@ mod SymbolWriteSteps
 mod SymbolNormals
 mod SymbolCompletions
 mod SymbolGrids
+mod SymbolResults
 pub mod Exported

@@ -129,7 +129,7 @@ module _ (s : SizeRow) (cells : List (List Bool)) (e : SizeEntry) (rows : List (
   alike = same_numbers s e am.is_grid.row am.are_modules.size am.rows am.columns
 
   -- There are as many border faults.
-  same_faults : border_fault_count grid ≡ sure_fault_count modules None
+  pub same_faults : border_fault_count grid ≡ sure_fault_count modules None
   same_faults =
       ap (λ n. faults_in cells n s.region_side s.side s.side) (sym alike.region_rows)
       ∙ ap (λ n. faults_in cells e.region_rows n s.side s.side) (sym alike.region_columns)
@@ -143,14 +143,14 @@ module _ (s : SizeRow) (cells : List (List Bool)) (e : SizeEntry) (rows : List (
   same_count = ap (λ n. n + e.check_count) alike.data_count ∙ ap (λ n. s.data_count + n) alike.check_count
 
   -- What is of the one size is of the other.
-  of_modules : (words : List ℕ) → AreWordsOf s words → AreOfSize e words
+  pub of_modules : (words : List ℕ) → AreWordsOf s words → AreOfSize e words
   of_modules words h = record { size = am.are_modules.size; count = h.count ∙ sym same_count; bytes = h.bytes }
 
   of_grid : (words : List ℕ) → AreOfSize e words → AreWordsOf s words
   of_grid words h = record { row = am.is_grid.row; count = h.count ∙ same_count; bytes = h.bytes }
 
   -- They hold the same words.
-  held_by : (words : List ℕ) → AreHeld grid words → AreHeldBy modules words
+  pub held_by : (words : List ℕ) → AreHeld grid words → AreHeldBy modules words
   held_by words h = record {
     symbol = am.are_modules;
     codewords = of_modules words h.codewords;
@@ -175,7 +175,7 @@ module _ (s : SizeRow) (cells : List (List Bool)) (e : SizeEntry) (rows : List (
   same_check = ap (λ n. n / e.blocks) alike.check_count ∙ ap (λ n. s.check_count / n) alike.blocks
 
   -- Their blocks are near the same codewords.
-  near_modules : (u c : List ℕ) → BlocksAreNear s u c → AreBlocksNear e (erased_in e None) u c
+  pub near_modules : (u c : List ℕ) → BlocksAreNear s u c → AreBlocksNear e (erased_in e None) u c
   near_modules u c h = λ b hb.
       let k = sizes.block_check e in
       let there : b < s.blocks = subst (λ n. b < n) alike.blocks hb in

@@ -1,11 +1,12 @@
 -- What holds of all messages and of the symbols of all sizes. The bytes of a message are numbers of 0 to 255.
-use Rattle.std.specs.Prelude.{◌≡◌, ℕ, List, Option, None, Result, Ok, replicate, ◌↔◌}
+use Rattle.std.specs.Prelude.{◌≡◌, ℕ, ◌-◌, ◌*◌, List, Option, None, Result, Ok, Err, map, replicate, ◌↔◌}
 use Rattle.dm_words.specs.declared.extent.Extent.{Extent}
 use Rattle.dm_words.specs.declared.extent.Extent.TheVariants.{Usual, Wide}
 use Rattle.dm_words.specs.declared.item.Item.{Item}
 use Rattle.dm_words.specs.declared.profile.Profile.{Profile}
 use Rattle.dm_words.specs.Messages.{IsMessage}
-use Rattle.dm_layout.specs.Grid.{GridView, IsGrid}
+use Rattle.dm_layout.specs.Sizes as squares
+use Rattle.dm_layout.specs.Grid.{GridView, IsGrid, symbol_modules}
 use Rattle.dm_code.specs.Codeword.{IsNear}
 use Rattle.dm_code.specs.Erased.{IsNearBut}
 use Rattle.dm_modules.specs.declared.size.SizeChoice.{SizeChoice}
@@ -14,12 +15,14 @@ use Rattle.dm_modules.specs.Modules.{ModulesView, IsModules}
 use Rattle.dm_modules.specs.Border.{border_fault_count}
 use Rattle.dm_symbol.specs.declared.symbol.reading.BlockReading.{BlockReading}
 use Rattle.dm_symbol.specs.declared.symbol.reading.SymbolReading.{SymbolReading}
+use Rattle.dm_symbol.specs.declared.reading.Reading.{Reading}
 use Rattle.dm_symbol.specs.declared.reading.ReadFault.{ReadFault}
 use Rattle.dm_symbol.specs.declared.normalising.NormalFault.{NormalFault}
 use Rattle.dm_symbol.specs.Doubt.{erased_in, sure_fault_count}
-use Rattle.dm_symbol.specs.Reading.{Reads}
+use Rattle.dm_symbol.specs.NormalGrid.{IsNormalGrid}
+use Rattle.dm_symbol.specs.Reading.{Reads, ReadResult}
 use Rattle.dm_symbol.specs.SymbolReading.{ReadsSymbol, SymbolReadResult, symbol_reading_of}
-use Rattle.dm_symbol.specs.NormalSymbol.{IsWrittenIn, FitsChoice}
+use Rattle.dm_symbol.specs.NormalSymbol.{IsWrittenIn, FitsChoice, IsNormalSymbol}
 use Rattle.dm_symbol.specs.SymbolNormal.{HasNormalSymbol, NormalSymbolResult}
 
 -- With no module doubtful, a word is near to a block but for its erased places exactly where it is near to it.
@@ -123,3 +126,26 @@ abbrev pub GridsAreReadAsSymbols : Type 0
 GridsAreReadAsSymbols =
     (extent : Extent) (grid : GridView) (modules : ModulesView) (limit : ℕ) (message : List Item)
     → AreModulesOf grid modules → Reads extent grid limit message ↔ ReadsSymbol extent modules None limit message
+
+-- This is said of a block of k check codewords of which so many codewords were corrected, and none was erased.
+abbrev pub none_erased : ℕ → ℕ → BlockReading
+none_erased k count = record { corrected = count; erased = 0; left = k - 2 * count }
+
+-- What reading gives for a grid whose blocks have k check codewords each, it gives for the symbol with its cells.
+abbrev pub symbol_result : ℕ → Result Reading ReadFault → Result SymbolReading ReadFault
+symbol_result k (Ok reading) =
+    Ok (symbol_reading_of reading.message (map (none_erased k) reading.corrected.items) reading.border_faults)
+symbol_result k (Err why) = Err why
+
+-- The result of reading a grid is that of reading the symbol with its cells, with none of its modules doubtful.
+abbrev pub GridsHaveTheResultsOfSymbols : Type 0
+GridsHaveTheResultsOfSymbols =
+    (extent : Extent) (grid : GridView) (limit : ℕ) (result : Result Reading ReadFault) → IsGrid grid
+    → ReadResult extent grid limit result
+    → SymbolReadResult extent (symbol_modules grid) None limit (symbol_result (squares.block_check grid.size) result)
+
+-- The normal grid of a message is its normal symbol.
+abbrev pub NormalGridsAreNormalSymbols : Type 0
+NormalGridsAreNormalSymbols =
+    (profile : Profile) (message : List Item) (grid : GridView) → IsNormalGrid profile message grid
+    → IsNormalSymbol profile message (symbol_modules grid)

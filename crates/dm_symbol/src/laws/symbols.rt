@@ -4,7 +4,8 @@ ghost use Rattle.dm_symbol.specs.SymbolLaws.{NoDoubtIsNearness, NoDoubtCountsAll
 ghost use Rattle.dm_symbol.specs.SymbolLaws.{SymbolReadResultIsOne, NormalSymbolResultIsOne, WideReadsTheUsualSymbol};
 ghost use Rattle.dm_symbol.specs.SymbolLaws.{WrittenSymbolIsRead, WrittenSymbolsTellMessages, NormalSymbolTwiceIsOnce};
 ghost use Rattle.dm_symbol.specs.SymbolLaws.{EqualNormalSymbolsMeanEqualMessages, GridsAreReadAsSymbols};
-ghost use Rattle.dm_symbol.specs.SymbolLaws.{AWrittenSymbolIsThere};
+ghost use Rattle.dm_symbol.specs.SymbolLaws.{AWrittenSymbolIsThere, GridsHaveTheResultsOfSymbols};
+ghost use Rattle.dm_symbol.specs.SymbolLaws.{NormalGridsAreNormalSymbols};
 
 /// With no module doubtful, blocks are near to codewords as they are without any talk of doubt, and all border faults
 /// count.
@@ -54,4 +55,11 @@ pub fn equal_normal_symbols_mean_equal_messages()
 /// its cells are.
 pub fn a_grid_is_read_as_its_modules()
     ensures { GridsAreReadAsSymbols }
+{}
+
+/// What reading a grid gives is what reading the symbol with its cells gives, faults and numbers too; and the normal
+/// grid of a message is its normal symbol. So squares may be read and written as grids.
+pub fn a_grid_has_the_results_of_its_symbol()
+    ensures read { GridsHaveTheResultsOfSymbols }
+    ensures normal { NormalGridsAreNormalSymbols }
 {}
