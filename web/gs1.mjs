@@ -4,7 +4,7 @@ import { FNC1, isSame, plural } from "./common.mjs";
 import { parse, spelled, spelledItem, tooMuch, visibleUtf8Of } from "./messages.mjs";
 
 /** @typedef {{ charset: string, least: number, most: number, check?: string, mayLack: boolean }} Part of a value */
-/** @typedef {{ isFixed: boolean, parts: Part[], name: string }} Entry of the table */
+/** @typedef {{ isFixed: boolean, hasDecimals: boolean, parts: Part[], name: string }} Entry of the table */
 /** @typedef {{ identifier: string, name: string, items: number[], note?: string, fault?: string }} Element */
 /** @typedef {import("./messages.mjs").Taken} Taken */
 const SEPARATOR = 29; // GS, which may stand in place of an FNC1 between elements
@@ -89,11 +89,12 @@ const CHECKS = {
   minus: (text) => (text === "-" ? {} : { fault: `${text} stands where only a minus sign may` }),
 };
 
-// A value of decimals: the last digit of the identifiers 3100 to 3699 and 3900 to 3959 says how many.
-function decimalOf(identifier, text) {
-  if (!/^3[1-6]\d\d$|^39[0-5]\d$/.test(identifier) || !/^\d+$/.test(text)) return "";
-  const places = Number(identifier[3]), currency = /^39[13]/.test(identifier) ? 3 : 0;
-  const digits = text.slice(currency).padStart(places + 1, "0");
+// A value of decimals: where the table has several identifiers of four digits in one line, the last digit says how
+// many. They stand in the last part, behind a currency if there is one.
+/** @type {(identifier: string, entry: Entry, text: string) => string} */
+function decimalOf(identifier, { hasDecimals, parts }, text) {
+  if (!hasDecimals || !/^\d+$/.test(text)) return "";
+  const places = Number(identifier[3]), digits = text.slice(mostOf(parts.slice(0, -1))).padStart(places + 1, "0");
   return places ? `${digits.slice(0, -places)}.${digits.slice(-places)}`.replace(/^0+(?=\d)/, "") : "";
 }
 
@@ -101,8 +102,8 @@ const NO_DIGITS = "it has something other than digits", NO_CHARACTERS = "it has 
 
 // What is wrong with a value, or what it means.
 /** @type {(identifier: string, entry: Entry, text: string) => { note?: string, fault?: string }} */
-function judgedValue(identifier, { parts }, text) {
-  const notes = [decimalOf(identifier, text)];
+function judgedValue(identifier, entry, text) {
+  const { parts } = entry, notes = [decimalOf(identifier, entry, text)];
   let at = 0;
   for (const part of parts) {
     const own = text.slice(at, at + part.most);
@@ -134,13 +135,14 @@ export function readIdentifiers(text) {
   for (const line of text.split("\n")) {
     const [, first, last, ending, parts, name] = ENTRY.exec(line) ?? [];
     if (!first) continue;
-    const entry = { isFixed: ending === "fixed", parts: parts.split("+").map(partOf), name };
+    const hasDecimals = first.length === 4 && last !== undefined;
+    const entry = { isFixed: ending === "fixed", hasDecimals, parts: parts.split("+").map(partOf), name };
     for (let number = Number(first); number <= Number(last ?? first); number++)
       known.set(String(number).padStart(first.length, "0"), entry);
   }
 }
-/** @type {(entry: Entry) => number} */
-const mostOf = ({ parts }) => parts.reduce((sum, { most }) => sum + most, 0);
+/** @type {(parts: Part[]) => number} */
+const mostOf = (parts) => parts.reduce((sum, { most }) => sum + most, 0);
 // The identifier at the beginning of a text.
 const identifierAt = (text) => [2, 3, 4].map((length) => text.slice(0, length)).find((some) => known.has(some));
 
@@ -159,7 +161,7 @@ export function elementsIn(items) {
       at += whole.length + 1;
       continue;
     }
-    const value = whole.slice(identifier.length).slice(0, entry.isFixed ? mostOf(entry) : Infinity);
+    const value = whole.slice(identifier.length).slice(0, entry.isFixed ? mostOf(entry.parts) : Infinity);
     elements.push({ identifier, name: entry.name, items: value, ...judgedValue(identifier, entry, textOf(value)) });
     at += identifier.length + value.length;
     if (items[at] === FNC1 || items[at] === SEPARATOR) at++;
@@ -232,7 +234,7 @@ function misread(elements, items) {
   const odd = elements.find(isOdd);
   if (!odd) return "";
   const entry = known.get(odd.identifier), [one, many] = CHARSETS[entry.parts[0].charset].words;
-  const due = plural(mostOf(entry), one, many);
+  const due = plural(mostOf(entry.parts), one, many);
   return `(${odd.identifier}) ${entry.name} takes ${due}, and has ${odd.items.length}.`;
 }
 /** @type {(text: string) => Taken} */

@@ -304,6 +304,17 @@ def gs1():
     count.expect(
         "right", (shown()["state"], find("verdict").get_attribute("class")), ("Read, as GS1 data", "card verdict good")
     )
+    for text, note in (
+        ("(3922)1099", "10.99"),
+        ("(3903)5", "0.005"),
+        ("(3912)978150", "1.50"),
+        ("(3930)978150", ""),
+        ("(3941)0125", "12.5"),
+        ("(3695)123456", "1.23456"),
+    ):
+        write(text)
+        value = text.partition(")")[2]
+        count.expect(f"decimals of {text}", rows()[0][2], f"{value} {note}".strip())
     write("(414)9506000134352")
     count.expect(
         "a check digit over an even number of digits",
