@@ -16,4 +16,4 @@ pub use Rattle.dm_modules.proofs.SmallestSize.{enough}
 pub use Rattle.dm_modules.proofs.SymbolLines.{mapping_line-symbol_line, off_border, off_edge, region_below, row_inside}
 pub use Rattle.dm_modules.proofs.SymbolLines.{symbol_line-form, symbol_line-mod, symbol_line-one}
 pub use Rattle.dm_modules.proofs.TableEntries.{at_found, block_parts, found_passes, greatest_of, short_block}
-pub use Rattle.dm_modules.proofs.TableEntries.{size_facts, some_block_data}
+pub use Rattle.dm_modules.proofs.TableEntries.{same_size, size_facts, some_block_data}

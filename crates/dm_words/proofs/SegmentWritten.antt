@@ -93,7 +93,7 @@ field_to_end total count old new full is = record {
   by_after (w ∷ after) none = absurd (omega (arith, none))
 
 -- A field that says the count.
-pub field_of_count : (total count : ℕ) (old new : List ℕ) → 0 < count → total ≤ 816
+pub field_of_count : (total count : ℕ) (old new : List ℕ) → 0 < count → total ≤ 1558
     → (count ≤ 249) ⊎ (length old + 1 + count ≢ total) → length old + 1 + count ≤ total
     → new ≡ old ++ written (length old + 1) (length_numbers count) → IsFieldWritten total count old new
 field_of_count total count old new some most which room is = record {

@@ -1,5 +1,10 @@
 -- How far the smallest codewords of a message are determined.
-use Rattle.std.proofs.Common.{◌≡◌, ◌↔◌, ◌∙◌, ℕ, ◌≤◌, List, length, sym, ap, subst, arith}
+use Rattle.std.proofs.Common.{◌≡◌, ◌↔◌, ◌∙◌, ℕ, ◌*◌, ◌<◌, ◌≤◌, List, length, sym, ap, arith, inl, inr}
+use Rattle.std.proofs.lemmas.Bool.{cases_lt}
+use Rattle.std.proofs.Math.Nat.{eq_of_mul-eq-mul_right}
+use Rattle.dm_modules.specs.declared.size.SizeChoice.{SizeChoice}
+use Rattle.dm_modules.specs.Sizes.{SizeEntry, IsSize, area}
+use Rattle.dm_modules.proofs.Exported.{same_size, size_facts}
 use Rattle.dm_words.specs.declared.extent.Extent.{Extent}
 use Rattle.dm_words.specs.declared.extent.Extent.TheVariants.{Usual, Wide}
 use Rattle.dm_words.specs.declared.item.Item.{Item}
@@ -8,16 +13,43 @@ use Rattle.dm_words.specs.Ascii.{ascii}
 use Rattle.dm_words.specs.Messages.{IsMessage}
 use Rattle.dm_words.specs.NormalForm.{normal_form}
 use Rattle.dm_words.specs.Pads.{padded}
-use Rattle.dm_words.specs.Smallest.{IsDataCount, IsPlainest, IsSmallestFor}
+use Rattle.dm_words.specs.Smallest.{IsPlainest, IsSmaller, IsSmallestFor, IsTaken}
 use Rattle.dm_words.specs.Spells.{Spells}
 use Rattle.dm_words.proofs.Extents.{wide_reads_the_same}
 use Rattle.dm_words.proofs.NormalForms.{normal_form_count, normal_form_spells}
-use Rattle.dm_words.proofs.SmallestSymbols.{count_most}
 
--- None is shorter than another.
-pub one_count : (extent : Extent) (m : List Item) (words other : List ℕ) → IsSmallestFor extent words m
-    → IsSmallestFor extent other m → length words ≡ length other
-one_count extent m words other s o = omega (arith, s.smallest other o.sized o.spells, o.smallest words s.sized s.spells)
+-- Of two sizes one is smaller than the other, or they are the same.
+one_is_smaller : (size other : SizeEntry) → IsSize size → IsSize other → (IsSmaller size other → ⊥)
+    → (IsSmaller other size → ⊥) → size ≡ other
+one_is_smaller size other is is_other not_smaller not_larger =
+    let areas : area size ≡ area other = elim (cases_lt (area size) (area other)) [
+      | inl lt ↦ absurd (not_smaller (inl lt))
+      | inr ge ↦ elim (cases_lt (area other) (area size)) [
+        | inl lt ↦ absurd (not_larger (inl lt))
+        | inr le ↦ omega (arith, ge, le)
+      ]
+    ] in
+    let columns : size.columns ≡ other.columns = elim (cases_lt size.columns other.columns) [
+      | inl lt ↦ absurd (not_smaller (inr (areas, lt)))
+      | inr ge ↦ elim (cases_lt other.columns size.columns) [
+        | inl lt ↦ absurd (not_larger (inr (sym areas, lt)))
+        | inr le ↦ omega (arith, ge, le)
+      ]
+    ] in
+    let some : 0 < size.columns = (let f = size_facts size is in omega (arith, f.columns_below)) in
+    let rows : size.rows ≡ other.rows =
+    eq_of_mul-eq-mul_right size.columns some size.rows other.rows
+    (areas ∙ ap (λ (n : ℕ). other.rows * n) (sym columns)) in
+    same_size size other is is_other rows columns
+
+-- None is in a smaller size than another.
+pub one_size : (extent : Extent) (choice : SizeChoice) (size other_size : SizeEntry) (m : List Item)
+    (words other : List ℕ)
+    → IsSmallestFor extent choice size words m → IsSmallestFor extent choice other_size other m → size ≡ other_size
+one_size extent choice size other_size m words other s o =
+    one_is_smaller size other_size s.taken.0 o.taken.0
+    (λ less. o.smallest size words s.taken less s.sized s.spells)
+    (λ less. s.smallest other_size other o.taken less o.sized o.spells)
 
 -- Where there is room for the ASCII form, both are this with pads.
 pub one_with_ascii : (m : List Item) (words other : List ℕ) → IsPlainest words m → IsPlainest other m
@@ -31,18 +63,19 @@ pub usual_or_not : (m : List Item) (words other : List ℕ) → IsPlainest words
 usual_or_not m words other s o same = ((λ says. o.usual words same says), (λ says. s.usual other (sym same) says))
 
 -- What the usual extent reads the wide one reads.
-pub wide_is_no_longer : (m : List Item) (words other : List ℕ) → IsSmallestFor Usual words m
-    → IsSmallestFor Wide other m
-    → length other ≤ length words
-wide_is_no_longer m words other s o = o.smallest words s.sized (wide_reads_the_same words m s.spells)
+pub wide_is_no_larger : (choice : SizeChoice) (size other_size : SizeEntry) (m : List Item) (words other : List ℕ)
+    → IsSmallestFor Usual choice size words m → IsSmallestFor Wide choice other_size other m
+    → IsSmaller size other_size → ⊥
+wide_is_no_larger choice size other_size m words other s o less =
+    o.smallest size words s.taken less s.sized (wide_reads_the_same words m s.spells)
 
 -- A normal form with pads spells the message too.
-pub normal_is_no_shorter : (extent : Extent) (profile : Profile) (m : List Item) (words : List ℕ) (count : ℕ)
-    → IsMessage m
-    → IsSmallestFor extent words m → IsDataCount count → length (normal_form profile m) ≤ count → length words ≤ count
-normal_is_no_shorter extent profile m words count fit s sized room =
-    let long = normal_form_count profile m count room in
-    let least = s.smallest (padded (normal_form profile m) count) (subst IsDataCount (sym long) sized)
-    (let most = count_most count sized in
-    normal_form_spells extent profile m count fit room (omega (arith, most))) in
-    omega (arith, least, long)
+pub normal_is_no_smaller : (extent : Extent) (profile : Profile) (choice : SizeChoice) (size other_size : SizeEntry)
+    (m : List Item) (words : List ℕ)
+    → IsMessage m → IsSmallestFor extent choice size words m → IsTaken choice other_size
+    → length (normal_form profile m) ≤ other_size.data_count → IsSmaller other_size size → ⊥
+normal_is_no_smaller extent profile choice size other_size m words fit s taken room less =
+    let count = other_size.data_count in
+    s.smallest other_size (padded (normal_form profile m) count) taken less (normal_form_count profile m count room)
+    (normal_form_spells extent profile m count fit room
+    (let f = size_facts other_size taken.0 in omega (arith, f.data_fits)))

@@ -1,11 +1,11 @@
 -- The words that are written spell the message, and no fewer do.
-use Rattle.std.proofs.Common.{◌≡◌, ℕ, zero, suc, ◌+◌, ◌-◌, ◌*◌, ◌<◌, ◌≤◌, List, [], ◌∷◌, length, get_or, refl, sym, ap}
-use Rattle.std.proofs.Common.{subst, ◌∙◌, arith, Bool, true, false, cond, Some, nat_le}
-use Rattle.std.specs.Prelude.{◌&&◌, Any, find}
-use Rattle.std.specs.List.{list_all}
-use Rattle.std.proofs.lemmas.Bool.{and_parts, leb-true, leb-false}
-use Rattle.std.proofs.lemmas.List.Sums.{AllPass-from_list_all}
-use Rattle.dm_layout.specs.Sizes.{SizeRow, size_table, row_for_words, most_data}
+use Rattle.std.proofs.Common.{◌≡◌, ℕ, zero, suc, ◌+◌, ◌-◌, ◌*◌, ◌<◌, ◌≤◌, List, [], ◌∷◌, length, sym, ap}
+use Rattle.std.proofs.Common.{subst, ◌∙◌, arith, true, inl, inr, nat_eq}
+use Rattle.std.specs.Prelude.{◌&&◌, All}
+use Rattle.std.proofs.lemmas.List.Elements.{recursion_from_All}
+use Rattle.dm_modules.specs.declared.size.SizeChoice.{SizeChoice}
+use Rattle.dm_modules.specs.Sizes.{SizeEntry, size_table, IsSize, takes, area}
+use Rattle.dm_modules.proofs.Exported.{at_found}
 use Rattle.dm_words.specs.declared.extent.Extent.{Extent}
 use Rattle.dm_words.specs.declared.extent.Extent.TheVariants.{Usual, Wide}
 use Rattle.dm_words.specs.declared.item.Item.{Item}
@@ -13,8 +13,8 @@ use Rattle.dm_words.specs.Macros.{macro_text}
 use Rattle.dm_words.specs.Messages.{IsMessage}
 use Rattle.dm_words.specs.Ascii.{ascii}
 use Rattle.dm_words.specs.Pads.{pads, padded}
-use Rattle.dm_words.specs.Smallest.{IsDataCount, IsSmallestFor, IsPlainest, ArePads, SpellsThenPads, plain_padded}
-use Rattle.dm_words.specs.Smallest.{macro_padded}
+use Rattle.dm_words.specs.Smallest.{IsTaken, NoneSpells, IsSmallestFor, IsPlainest, ArePads, SpellsThenPads}
+use Rattle.dm_words.specs.Smallest.{plain_padded, macro_padded}
 use Rattle.dm_words.specs.Spells.{Spells, plain, by_macro, AreParts}
 use Rattle.dm_words.specs.inner.Costs.{parts_cost}
 use Rattle.dm_words.specs.inner.Ways.{IsLeastCost, inner_text, IsMacroOf, HasNoMacro}
@@ -96,93 +96,53 @@ least_plain extent m cost is none =
 
 -- ---- the size
 
--- Each row has no fewer data codewords than those before it.
-rises : List SizeRow → Bool
-rises [] = true
-rises (r ∷ rows) = list_all (λ s. nat_le r.data_count s.data_count) rows && rises rows
+-- What is so for each size of the table is so for a size that stands in it.
+at_size : (P : SizeEntry → Type 0) (size : SizeEntry) → IsSize size → All P size_table → P size
+at_size P size is all =
+    at_found P (λ r. nat_eq r.rows size.rows && nat_eq r.columns size.columns) size_table size
+    (recursion_from_All P size_table all) is
 
--- The table rises: this is computed.
-table_rises : rises size_table ≡ true
-unfolding size_table rises
-table_rises = refl
+-- Another size of the choice that is enough has no fewer modules.
+abbrev HasNoFewer : SizeChoice → ℕ → SizeEntry → SizeEntry → Type 0
+HasNoFewer choice cost size other = takes choice other ≡ true → cost ≤ other.data_count → area size ≤ area other
 
--- The first row that has enough has no more than any other that has.
-first_least : (cost : ℕ) (rows : List SizeRow) (size : SizeRow) → rises rows ≡ true
-    → find (λ row. nat_le cost row.data_count) rows ≡ Some size
-    → (k : ℕ) (d : SizeRow) → k < length rows → cost ≤ (get_or rows k d).data_count
-    → size.data_count ≤ (get_or rows k d).data_count
-unfolding rises
-first_least cost [] size rise found k d lt enough = absurd (omega (arith, lt))
-first_least cost (r ∷ rows) size rise found k d lt enough =
-    let both = and_parts (list_all (λ s. nat_le r.data_count s.data_count) rows) (rises rows) rise in
-    by_test (nat_le cost r.data_count) refl both.0
-    (λ f j lt enough. first_least cost rows size both.1 f j d lt enough) found k lt enough where
-      by_test : (t : Bool) → nat_le cost r.data_count ≡ t → list_all (λ s. nat_le r.data_count s.data_count) rows ≡ true
-          → (find (λ row. nat_le cost row.data_count) rows ≡ Some size → (j : ℕ) → j < length rows
-          → cost ≤ (get_or rows j d).data_count → size.data_count ≤ (get_or rows j d).data_count)
-          → cond t (Some r) (find (λ row. nat_le cost row.data_count) rows) ≡ Some size → (k : ℕ)
-          → k < length (r ∷ rows) → cost ≤ (get_or (r ∷ rows) k d).data_count
-          → size.data_count ≤ (get_or (r ∷ rows) k d).data_count
-      by_test true e above again f zero lt enough =
-          (let same : r ≡ size = cc in omega (arith, ap (λ (s : SizeRow). s.data_count) same))
-      by_test true e above again f (suc k) lt enough =
-          (let same : r ≡ size = cc in
-          let le = leb-true _ _
-          (AllPass-from_list_all (λ s. nat_le r.data_count s.data_count) rows above k d (omega (arith, lt))) in
-          omega (arith, ap (λ (s : SizeRow). s.data_count) same, le))
-      by_test false e above again f zero lt enough = absurd (let less = leb-false _ _ e in omega (arith, less, enough))
-      by_test false e above again f (suc k) lt enough = again f k (omega (arith, lt)) enough
+-- Where it has as many, it has no fewer columns.
+abbrev IsNoNarrower : SizeChoice → ℕ → SizeEntry → SizeEntry → Type 0
+IsNoNarrower choice cost size other = takes choice other ≡ true → cost ≤ other.data_count → area size ≡ area other
+    → size.columns ≤ other.columns
 
--- A row that is found is one of the rows.
-found_any : (p : SizeRow → Bool) (rows : List SizeRow) (size : SizeRow) → find p rows ≡ Some size
-    → Any (λ row. row.data_count ≡ size.data_count) rows
-found_any p [] size found = cc
-found_any p (r ∷ rows) size found = by_test (p r) found (found_any p rows size) where
-  by_test : (t : Bool) → cond t (Some r) (find p rows) ≡ Some size
-      → (find p rows ≡ Some size → Any (λ row. row.data_count ≡ size.data_count) rows)
-      → Any (λ row. row.data_count ≡ size.data_count) (r ∷ rows)
-  by_test true f again =
-      (let same : r ≡ size = cc in (0, r, omega arith, refl, ap (λ (s : SizeRow). s.data_count) same))
-  by_test false f again = (let a = again f in (suc a.0, a.1, omega (arith, a.2), a.3, a.4))
+-- A size of the choice isn't enough.
+abbrev IsTooSmall : SizeChoice → ℕ → SizeEntry → Type 0
+IsTooSmall choice cost other = takes choice other ≡ true → other.data_count < cost
 
--- No row has more data codewords than the most: this is computed.
-table_most : list_all (λ r. nat_le r.data_count most_data) size_table ≡ true
-unfolding size_table
-table_most = refl
-
--- No size has more data codewords than the most.
-pub count_most : (n : ℕ) → IsDataCount n → n ≤ most_data
-count_most n a =
-    let le : (get_or size_table a.0 a.1).data_count ≤ most_data =
-    leb-true _ _ (AllPass-from_list_all (λ r. nat_le r.data_count most_data) size_table table_most a.0 a.1 a.2) in
-    omega (arith, le, ap (λ (s : SizeRow). s.data_count) a.3, a.4)
-
--- The size for the cost has no more data codewords than any that is enough.
-size_least : (cost n : ℕ) (size : SizeRow) → row_for_words cost ≡ Some size → IsDataCount n → cost ≤ n
-    → size.data_count ≤ n
-size_least cost n size found a enough =
-    let here : (get_or size_table a.0 a.1).data_count ≡ n = ap (λ (s : SizeRow). s.data_count) a.3 ∙ a.4 in
-    let le = first_least cost size_table size table_rises found a.0 a.1 a.2 (omega (arith, enough, here)) in
-    omega (arith, le, here)
-
--- Words of that size that spell the message are the smallest.
-pub is_smallest : (extent : Extent) (m : List Item) (cost : ℕ) (size : SizeRow) (words : List ℕ)
-    → IsLeastCost extent m cost → row_for_words cost ≡ Some size → length words ≡ size.data_count
-    → Spells extent words m
-    → IsSmallestFor extent words m
-is_smallest extent m cost size words least found long spells = record {
+-- Words of the size for the least cost that spell the message are the smallest.
+pub is_smallest : (extent : Extent) (choice : SizeChoice) (m : List Item) (cost : ℕ) (size : SizeEntry)
+    (words : List ℕ)
+    → IsLeastCost extent m cost → IsTaken choice size → All (HasNoFewer choice cost size) size_table
+    → All (IsNoNarrower choice cost size) size_table
+    → length words ≡ size.data_count → Spells extent words m → IsSmallestFor extent choice size words m
+is_smallest extent choice m cost size words least taken smallest narrowest long spells = record {
   spells = spells;
-  sized = subst IsDataCount (sym long) (found_any (λ row. nat_le cost row.data_count) size_table size found);
-  smallest =
-      λ other sized says. omega
-      (arith, long, size_least cost (length other) size found sized (no_fewer_words extent other m cost least says));
+  taken = taken;
+  sized = long;
+  smallest = λ smaller other is less sized says.
+      let enough : cost ≤ smaller.data_count =
+      omega (arith, no_fewer_words extent other m cost least says, sized) in
+      let above = at_size (HasNoFewer choice cost size) smaller is.0 smallest is.1 enough in
+      elim less [
+        | inl fewer ↦ omega (arith, fewer, above)
+        | inr narrower ↦
+            let wide = at_size (IsNoNarrower choice cost size) smaller is.0 narrowest is.1 enough (sym narrower.0) in
+            omega (arith, narrower.1, wide)
+      ];
 }
 
--- Where no size is enough, none has words that spell the message.
-pub none_spells : (extent : Extent) (m : List Item) (cost : ℕ) → IsLeastCost extent m cost → most_data < cost
-    → (other : List ℕ) → IsDataCount (length other) → Spells extent other m → ⊥
-none_spells extent m cost least more other sized says =
-    omega (arith, more, count_most (length other) sized, no_fewer_words extent other m cost least says)
+-- Where no size of the choice is enough, none has words that spell the message.
+pub none_spells : (extent : Extent) (choice : SizeChoice) (m : List Item) (cost : ℕ) → IsLeastCost extent m cost
+    → All (IsTooSmall choice cost) size_table → NoneSpells extent choice m
+none_spells extent choice m cost least none size other is sized says =
+    let few : size.data_count < cost = at_size (IsTooSmall choice cost) size is.0 none is.1 in
+    omega (arith, few, sized, no_fewer_words extent other m cost least says)
 
 -- ---- the plainest words
 

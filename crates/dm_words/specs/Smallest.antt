@@ -1,9 +1,10 @@
--- The smallest symbol of a message: data codewords that spell it in an extent, where no smaller size has any that do.
--- This is said by what codewords spell, and by all lists of codewords that a size has; how such codewords are found
--- is no part of it.
-use Rattle.std.specs.Prelude.{◌≡◌, ℕ, ◌+◌, ◌-◌, ◌≤◌, List, ◌∷◌, length, Any, Result, IfOk, IsErr, Some}
-use Rattle.arrayvec.specs.ArrayVec.{ArrayVec}
-use Rattle.dm_layout.specs.Sizes.{size_table}
+-- The smallest symbol of a message: data codewords that spell it in an extent, in a size of a choice, where no smaller
+-- size of the choice has any that do. This is said by what codewords spell, and by all lists of codewords that a size
+-- has; how such codewords are found is no part of it.
+use Rattle.std.specs.Prelude.{◌≡◌, ℕ, ◌+◌, ◌-◌, ◌<◌, ◌≤◌, List, ◌∷◌, length, Result, IfOk, OnOk, IsErr, Some, true}
+use Rattle.std.specs.Prelude.{◌⊎◌}
+use Rattle.dm_modules.specs.declared.size.SizeChoice.{SizeChoice}
+use Rattle.dm_modules.specs.Sizes.{SizeEntry, IsSize, takes, area}
 use Rattle.dm_words.specs.declared.extent.Extent.{Extent}
 use Rattle.dm_words.specs.declared.extent.Extent.TheVariants.{Usual, Wide}
 use Rattle.dm_words.specs.declared.item.Item.{Item}
@@ -15,17 +16,29 @@ use Rattle.dm_words.specs.Macros.{macro_text}
 use Rattle.dm_words.specs.Pads.{pads, padded}
 use Rattle.dm_words.specs.Spells.{AreParts, Spells}
 
--- Some size of the table has this many data codewords.
-abbrev pub IsDataCount : ℕ → Type 0
-IsDataCount count = Any (λ size. size.data_count ≡ count) size_table
+-- The size stands in the table, and the choice takes it.
+abbrev pub IsTaken : SizeChoice → SizeEntry → Type 0
+IsTaken choice size = IsSize size × (takes choice size ≡ true)
 
--- The words are the smallest for a message in an extent if they are the data codewords of a size and spell the
--- message there, and no list of codewords that a smaller size has does.
-pub record IsSmallestFor (extent : Extent) (words : List ℕ) (message : List Item) : Type 0 where
+-- A size is smaller than another if it has fewer modules, or as many and fewer columns. That areas and then columns are
+-- compared is a rule of this project.
+abbrev pub IsSmaller : SizeEntry → SizeEntry → Type 0
+IsSmaller size other = (area size < area other) ⊎ ((area size ≡ area other) × (size.columns < other.columns))
+
+-- The words are the smallest for a message in an extent, in a size of a choice: they are as many as it has data
+-- codewords and spell the message there, and no list of the data codewords of a smaller size of the choice does.
+pub record IsSmallestFor (extent : Extent) (choice : SizeChoice) (size : SizeEntry) (words : List ℕ)
+    (message : List Item) : Type 0 where
   pub spells : Spells extent words message
-  pub sized : IsDataCount (length words)
-  pub smallest : (other : List ℕ) → IsDataCount (length other) → Spells extent other message
-      → length words ≤ length other
+  pub taken : IsTaken choice size
+  pub sized : length words ≡ size.data_count
+  pub smallest : (smaller : SizeEntry) (other : List ℕ) → IsTaken choice smaller → IsSmaller smaller size
+      → length other ≡ smaller.data_count → Spells extent other message → ⊥
+
+-- The data codewords of no size of the choice spell the message in an extent.
+abbrev pub NoneSpells : Extent → SizeChoice → List Item → Type 0
+NoneSpells extent choice message = (size : SizeEntry) (other : List ℕ) → IsTaken choice size
+    → length other ≡ size.data_count → Spells extent other message → ⊥
 
 -- Of the codewords of one size, those are the plainest that the most readers read: the ASCII form with pads where
 -- there is room for it; else some that spell the message in the usual extent, where there are any. That these are
@@ -49,11 +62,11 @@ pub data SpellsThenPads (extent : Extent) (words : List ℕ) (message : List Ite
       → (parts : AreParts extent 2 more text) → message ≡ macro_text digit text → ArePads words parts.after
       → SpellsThenPads extent words message
 
--- What choosing the smallest codewords of a message in an extent gives: these, the plainest of their size, with pads
--- behind them; a fault exactly where the codewords of no size spell the message.
-pub record IsSmallestResult (extent : Extent) (message : List Item) (result : Result (ArrayVec ℕ) TooLong) : Type 0
-  where
-    pub words : IfOk result (λ words. IsSmallestFor extent words.items message)
-    pub plainest : IfOk result (λ words. IsPlainest words.items message)
-    pub padded : IfOk result (λ words. SpellsThenPads extent words.items message)
-    pub too_long : IsErr result → (other : List ℕ) → IsDataCount (length other) → Spells extent other message → ⊥
+-- What choosing the smallest codewords of a message in an extent gives: the size, with these words, the plainest of it,
+-- with pads behind them; a fault exactly where the codewords of no size of the choice spell the message.
+pub record IsSmallestResult (extent : Extent) (choice : SizeChoice) (message : List Item)
+    (result : Result SizeEntry TooLong) (words : List ℕ) : Type 0 where
+  pub smallest : IfOk result (λ size. IsSmallestFor extent choice size words message)
+  pub plainest : OnOk result (IsPlainest words message)
+  pub padded : OnOk result (SpellsThenPads extent words message)
+  pub too_long : IsErr result → NoneSpells extent choice message

@@ -8,11 +8,11 @@
 //!
 //! Writing: [`normal_words()`] gives the codewords of a message under a [`Profile`], or [`TooLong`], and
 //! [`normal_words_to()`] writes them into a target. Under one profile they are ASCII ([`ascii_words()`]), under the
-//! other whatever is shorter, ASCII or one segment of Base 256 ([`shorter_words()`]). [`smallest_words()`] gives
-//! codewords of the smallest size that has any that spell the message in an extent, and [`smallest_words_to()`] writes
-//! them into a target. [`padded()`] gives codewords with pads up to the data codewords of a size, and [`add_pads()`]
-//! adds the pads in a target. [`normal_words_in()`] and [`pad_to()`] do the same in targets of any room up to
-//! [`LARGEST_DATA`] codewords, for symbols that are no squares or larger ones.
+//! other whatever is shorter, ASCII or one segment of Base 256 ([`shorter_words()`]). [`smallest_words_to()`] writes
+//! codewords of the smallest size of a choice that has any that spell the message in an extent into a target.
+//! [`padded()`] gives codewords with pads up to the data codewords of a size, and [`add_pads()`] adds the pads in a
+//! target. [`normal_words_in()`] and [`pad_to()`] do the same in targets of any room up to [`LARGEST_DATA`] codewords,
+//! for symbols that are no squares or larger ones.
 //!
 //! Letters: [`letter_of()`] gives the [`Letter`] that a list says, which is a [`Head`] or none, items and [`Mark`]s, or
 //! the [`LetterFault`] with which the list is refused, and [`letter_to()`] writes it into a target. [`letter_words()`]
@@ -66,4 +66,4 @@ pub use normal_form::{ascii_words, normal_words, normal_words_in, normal_words_t
 pub use pad::{add_pads, pad_to, padded};
 pub use profile::Profile;
 pub use reading::{message_of, message_of_as, message_to, message_to_as};
-pub use smallest::{smallest_words, smallest_words_to};
+pub use smallest::smallest_words_to;

@@ -1,4 +1,4 @@
-//! The smallest symbol of a message: data codewords that spell it, of the smallest size that has any.
+//! The smallest symbol of a message: data codewords that spell it, of the smallest size of a choice that has any.
 
 ghost use Rattle.std.specs.Prelude.{◌≡◌, ◌<◌, ◌≤◌, OnErr, IsTrue, length};
 ghost use Rattle.dm_words.specs.declared.extent.Extent.TheVariants.{Usual};
@@ -22,48 +22,39 @@ use crate::ascii::{ascii_form, write_ascii};
 use crate::extent::Extent;
 use crate::fault::TooLong;
 use crate::item::Item;
-use crate::limits::MESSAGE_ROOM;
+use crate::limits::{LARGEST_DATA, MESSAGE_ROOM};
 use crate::macros::{HEADER_LENGTH, TRAILER_LENGTH, macro_of};
 use crate::message::Message;
-use crate::pad::add_pads;
+use crate::pad::pad_to;
 use crate::smallest::parts::write_parts;
 use crate::smallest::plan::{PLAN_ROOM, Step, plan_to};
 use arrayvec::ArrayVec;
-use dm_layout::{MOST_DATA, Size};
+use dm_modules::{SizeChoice, SymbolSize};
 
-/// Gives data codewords, with pads, that spell the message in an extent, of the smallest size that has any: no list
-/// of codewords of a smaller size spells it there. They are ASCII where the size has room for that; else codewords
-/// that spell the message in the usual extent, where there are any. `TooLong` exactly where the codewords of no size
-/// spell the message. ISO/IEC 16022, encodation schemes.
-pub fn smallest_words(extent: Extent, message: &Message) -> Result<ArrayVec<u8, MOST_DATA>, TooLong>
-    ensures { IsSmallestResult extent message.now result }
-{
-    let mut words = ArrayVec::new();
-    match smallest_words_to(extent, message, &mut words) {
-        Ok(()) => Ok(words),
-        Err(TooLong) => Err(TooLong),
-    }
-}
-
-/// Does the same as [`smallest_words()`] in a target: after `Ok`, `words` holds these codewords, whatever it held
-/// before. After `TooLong` it holds what it held before.
+/// Chooses data codewords, with pads, that spell the message in an extent, in the smallest size of the choice that has
+/// any: no list of codewords of a smaller size spells it there. After `Ok`, which has that size, `words` holds them,
+/// whatever it held before. They are ASCII where the size has room for that; else codewords that spell the message in
+/// the usual extent, where there are any. `TooLong` exactly where the codewords of no size of the choice spell the
+/// message; then `words` holds what it held before. ISO/IEC 16022, encodation schemes.
 pub fn smallest_words_to(
     extent: Extent,
     message: &Message,
-    words: &mut ArrayVec<u8, MOST_DATA>,
-) -> Result<(), TooLong>
-    ensures smallest { IsSmallestResult extent message.now (outcome result words.new) }
+    choice: SizeChoice,
+    words: &mut ArrayVec<u8, LARGEST_DATA>,
+) -> Result<SymbolSize, TooLong>
+    ensures smallest { IsSmallestResult extent choice message.now result words.new.items }
     ensures same { OnErr result (words.new.items ≡ words.old.items) }
 {
     let items = message.items();
     let mut plan = [Step::NONE; PLAN_ROOM];
     let way = least_way(extent, items, &mut plan);
-    match Size::for_words(way.cost) {
+    match SymbolSize::for_words(choice, way.cost) {
         None => Err(TooLong),
         Some(size) => {
-            write_plainest(extent, items, way, &plan, words, size.data_count());
-            add_pads(words, size);
-            Ok(())
+            let count = size.data_count();
+            write_plainest(extent, items, way, &mut plan, words, count);
+            pad_to(words, usize::from(count));
+            Ok(size)
         }
     }
 }
@@ -96,7 +87,7 @@ fn least_way(extent: Extent, items: &[Item], plan: &mut [Step; PLAN_ROOM]) -> Wa
 }
 
 /// Gives the way of the macro that stands for the header and the trailer of the items, where it takes no more codewords
-/// than their parts, and else that of the parts, whose cost and plan are known.
+/// than their parts, and else that of the parts, whose cost is known; and leaves its plan.
 fn with_macro(
     extent: Extent,
     items: &[Item],
@@ -107,24 +98,21 @@ fn with_macro(
     requires few { length items.now ≤ MESSAGE_ROOM }
     requires framed { IsMacroOf extent items.now word }
     requires cost { cost ≡ parts_cost extent items.now }
-    requires plan { IsRightPlan extent items.now plan.old }
     ensures way { IsWay extent items.now result.macro_word result.cost }
     ensures least { IsLeastCost extent items.now result.cost }
     ensures plan { IsRightPlan extent (text_of result.macro_word items.now) plan.new }
 {
-    let mut of_text = [Step::NONE; PLAN_ROOM];
-    let by_macro = 1 + plan_to(extent, inner(items), &mut of_text);
+    let by_macro = 1 + plan_to(extent, inner(items), plan);
     if by_macro <= cost {
-        *plan = of_text;
-        Way {
+        return Way {
             macro_word: Some(word),
             cost: by_macro,
-        }
-    } else {
-        Way {
-            macro_word: None,
-            cost,
-        }
+        };
+    }
+    let _same = plan_to(extent, items, plan);
+    Way {
+        macro_word: None,
+        cost,
     }
 }
 
@@ -142,16 +130,16 @@ fn write_plainest(
     extent: Extent,
     items: &[Item],
     way: Way,
-    plan: &[Step; PLAN_ROOM],
-    words: &mut ArrayVec<u8, MOST_DATA>,
+    plan: &mut [Step; PLAN_ROOM],
+    words: &mut ArrayVec<u8, LARGEST_DATA>,
     count: u16,
 )
     requires few { length items.now ≤ MESSAGE_ROOM }
     requires message { IsMessage items.now }
     requires way { IsWay extent items.now way.macro_word way.cost }
-    requires plan { IsRightPlan extent (text_of way.macro_word items.now) plan.now }
+    requires plan { IsRightPlan extent (text_of way.macro_word items.now) plan.old }
     requires room { way.cost ≤ count }
-    requires count { count ≤ MOST_DATA }
+    requires count { count ≤ LARGEST_DATA }
     ensures spells { SpellsThenPads extent (padded words.new.items count) items.now }
     ensures fits { length words.new.items ≤ count }
     ensures plainest { IsPlainest (padded words.new.items count) items.now }
@@ -162,21 +150,22 @@ fn write_plainest(
     }
     let is_usual = write_way(extent, items, way, plan, words, count);
     if !is_usual {
-        write_usual_if_fits(extent, items, words, count);
+        write_usual_if_fits(extent, items, plan, words, count);
     }
 }
 
 /// Writes the items, without pads, as the usual extent has it, in place of the words that stand there, where a symbol
-/// of `count` data codewords has room for that.
+/// of `count` data codewords has room for that. The plan is made anew.
 fn write_usual_if_fits(
     extent: Extent,
     items: &[Item],
-    words: &mut ArrayVec<u8, MOST_DATA>,
+    plan: &mut [Step; PLAN_ROOM],
+    words: &mut ArrayVec<u8, LARGEST_DATA>,
     count: u16,
 )
     requires few { length items.now ≤ MESSAGE_ROOM }
     requires message { IsMessage items.now }
-    requires count { count ≤ MOST_DATA }
+    requires count { count ≤ LARGEST_DATA }
     requires no_ascii { count < length (ascii items.now) }
     requires spells { SpellsThenPads extent (padded words.old.items count) items.now }
     requires fits { length words.old.items ≤ count }
@@ -188,9 +177,8 @@ fn write_usual_if_fits(
     if 2 * usize::from(count) < items.len() {
         return;
     }
-    let mut plan = [Step::NONE; PLAN_ROOM];
-    if plan_to(Extent::Usual, items, &mut plan) <= count {
-        let _usual = write_plain(Extent::Usual, items, &plan, words, count);
+    if plan_to(Extent::Usual, items, plan) <= count {
+        let _usual = write_plain(Extent::Usual, items, plan, words, count);
     }
 }
 
@@ -201,7 +189,7 @@ fn write_way(
     items: &[Item],
     way: Way,
     plan: &[Step; PLAN_ROOM],
-    words: &mut ArrayVec<u8, MOST_DATA>,
+    words: &mut ArrayVec<u8, LARGEST_DATA>,
     count: u16,
 ) -> bool
     requires few { length items.now ≤ MESSAGE_ROOM }
@@ -209,7 +197,7 @@ fn write_way(
     requires way { IsWay extent items.now way.macro_word way.cost }
     requires plan { IsRightPlan extent (text_of way.macro_word items.now) plan.now }
     requires room { way.cost ≤ count }
-    requires count { count ≤ MOST_DATA }
+    requires count { count ≤ LARGEST_DATA }
     ensures spells { SpellsThenPads extent (padded words.new.items count) items.now }
     ensures usual { IsTrue result → SpellsThenPads Usual (padded words.new.items count) items.now }
     ensures fits { length words.new.items ≤ count }
@@ -231,14 +219,14 @@ fn write_plain(
     extent: Extent,
     items: &[Item],
     plan: &[Step; PLAN_ROOM],
-    words: &mut ArrayVec<u8, MOST_DATA>,
+    words: &mut ArrayVec<u8, LARGEST_DATA>,
     count: u16,
 ) -> bool
     requires few { length items.now ≤ MESSAGE_ROOM }
     requires message { IsMessage items.now }
     requires plan { IsRightPlan extent items.now plan.now }
     requires room { parts_cost extent items.now ≤ count }
-    requires count { count ≤ MOST_DATA }
+    requires count { count ≤ LARGEST_DATA }
     ensures spells { SpellsThenPads extent (padded words.new.items count) items.now }
     ensures usual { IsTrue result → SpellsThenPads Usual (padded words.new.items count) items.now }
     ensures fits { length words.new.items ≤ count }

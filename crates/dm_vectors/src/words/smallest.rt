@@ -1,11 +1,13 @@
 //! The smallest symbol of a message. The codewords are those of a plain model, which isn't this program.
 
 use super::*;
+use dm_modules::SizeChoice;
 
-/// Whether the smallest codewords of the message in an extent are these, and are read as it.
+/// Whether the smallest codewords of the message in an extent, among the squares, are these, and are read as it.
 fn is_smallest(extent: Extent, message: &Message, expected: &[u8]) -> bool {
-    match smallest_words(extent, message) {
-        Ok(words) => words.as_slice() == expected && is_read(extent, expected, message),
+    let mut words = ArrayVec::new();
+    match smallest_words_to(extent, message, SizeChoice::Square, &mut words) {
+        Ok(_) => words.as_slice() == expected && is_read(extent, expected, message),
         Err(_) => false,
     }
 }
@@ -152,15 +154,16 @@ fn writes_the_smallest(rt: HostRuntime) {
     holds(&rt, all_are_smallest(&IN_SEGMENTS));
 }
 
-/// Whether the smallest codewords of so many bytes 255 are so many, begin with these, and are read as the bytes.
-fn is_segment(count: usize, words: usize, expected: &[u8]) -> bool {
-    let message = of_many(255, count);
-    match smallest_words(Extent::Usual, &message) {
-        Ok(found) => {
-            found.len() == words
-                && found.starts_with(expected)
-                && is_read(Extent::Usual, &found, &message)
-        }
+/// Whether the smallest codewords of so many bytes 255, among the squares, are so many and begin with these.
+fn is_segment(count: usize, word_count: usize, expected: &[u8]) -> bool {
+    let mut words = ArrayVec::new();
+    match smallest_words_to(
+        Extent::Usual,
+        &of_many(255, count),
+        SizeChoice::Square,
+        &mut words,
+    ) {
+        Ok(_) => words.len() == word_count && words.starts_with(expected),
         Err(_) => false,
     }
 }
@@ -170,10 +173,51 @@ fn is_segment(count: usize, words: usize, expected: &[u8]) -> bool {
 fn writes_the_length_of_a_segment(rt: HostRuntime) {
     holds(&rt, is_segment(249, 280, &[231, 37, 192]));
     holds(&rt, is_segment(250, 280, &[231, 38, 193, 86]));
+    holds(&rt, is_segment(278, 280, &[231, 44, 192]));
     holds(&rt, is_segment(813, 816, &[231, 40, 0, 86]));
     holds(&rt, is_segment(814, 816, &[231, 44, 192]));
+    holds(&rt, is_segment(815, 1050, &[231, 40, 2, 86]));
+    holds(&rt, is_segment(1047, 1050, &[231, 41, 240, 86]));
+    holds(&rt, is_segment(1048, 1050, &[231, 44, 192]));
+    holds(&rt, is_segment(1555, 1558, &[231, 43, 248, 86]));
+    holds(&rt, is_segment(1556, 1558, &[231, 44, 192]));
+    holds(&rt, !is_segment(1557, 1558, &[231, 44, 192]));
+}
+
+/// The rows and columns of the smallest symbol of so many digits 0, or 0 and 0 where the choice has none.
+fn size_of_digits(count: usize, choice: SizeChoice) -> (u16, u16) {
+    let mut words = ArrayVec::new();
+    match smallest_words_to(Extent::Usual, &of_many(b'0', count), choice, &mut words) {
+        Ok(size) => (size.rows(), size.columns()),
+        Err(_) => (0, 0),
+    }
+}
+
+/// Of sizes that hold as much, the one with the fewest modules is taken, which may hold more than one with more.
+#[test]
+fn takes_the_smallest_size_of_a_choice(rt: HostRuntime) {
+    holds(&rt, size_of_digits(10, SizeChoice::Square) == (12, 12));
+    holds(&rt, size_of_digits(10, SizeChoice::Rectangle) == (8, 18));
+    holds(&rt, size_of_digits(10, SizeChoice::Any) == (12, 12));
+    holds(&rt, size_of_digits(44, SizeChoice::Any) == (20, 20));
+    holds(&rt, size_of_digits(48, SizeChoice::Extended) == (8, 64));
+    holds(&rt, size_of_digits(48, SizeChoice::Rectangle) == (16, 36));
+    holds(&rt, size_of_digits(98, SizeChoice::Rectangle) == (16, 48));
+    holds(&rt, size_of_digits(99, SizeChoice::Rectangle) == (0, 0));
+    holds(&rt, size_of_digits(168, SizeChoice::Extended) == (26, 48));
+    holds(&rt, size_of_digits(168, SizeChoice::Square) == (36, 36));
     holds(
         &rt,
-        smallest_words(Extent::Wide, &of_many(255, 815)).is_err(),
+        size_of_digits(168, SizeChoice::Exact(20, 64)) == (20, 64),
     );
+    holds(
+        &rt,
+        size_of_digits(169, SizeChoice::Exact(20, 64)) == (0, 0),
+    );
+    holds(
+        &rt,
+        size_of_digits(168, SizeChoice::Exact(64, 20)) == (0, 0),
+    );
+    holds(&rt, size_of_digits(1632, SizeChoice::Any) == (104, 104));
+    holds(&rt, size_of_digits(1633, SizeChoice::Any) == (120, 120));
 }

@@ -7,10 +7,9 @@ ghost use Rattle.dm_words.specs.inner.Written.{IsEdifactEnded, IsPartWritten};
 
 use crate::extent::Extent;
 use crate::item::{Item, byte};
-use crate::limits::MESSAGE_ROOM;
+use crate::limits::{LARGEST_DATA, MESSAGE_ROOM};
 use crate::smallest::plan::{PLAN_ROOM, Step};
 use arrayvec::ArrayVec;
-use dm_layout::MOST_DATA;
 
 /// The latch to EDIFACT.
 const LATCH: u8 = 240;
@@ -32,10 +31,10 @@ pub enum Group {
 }
 
 /// Adds a value of a run behind those that stand, and gives those that stand then. A whole group is written.
-fn push_value(group: Group, value: u8, words: &mut ArrayVec<u8, MOST_DATA>) -> Group
+fn push_value(group: Group, value: u8, words: &mut ArrayVec<u8, LARGEST_DATA>) -> Group
     requires small { value < 64 }
     requires group { IsSmallGroup group }
-    requires room { length words.old.items + whole_words group ≤ MOST_DATA }
+    requires room { length words.old.items + whole_words group ≤ LARGEST_DATA }
     ensures { IsGroupPushed group words.old.items value result words.new.items }
 {
     match group {
@@ -63,10 +62,10 @@ fn goes_on(group: Group, step: &Step) -> bool
 }
 
 /// Ends a run: with an unlatch as the fourth value of a group, or by itself where more than two codewords are left.
-fn end_run(group: Group, words: &mut ArrayVec<u8, MOST_DATA>, total: usize)
+fn end_run(group: Group, words: &mut ArrayVec<u8, LARGEST_DATA>, total: usize)
     requires group { IsSmallGroup group }
     requires room { length words.old.items + length (waiting_values group) ≤ total }
-    requires total { total ≤ MOST_DATA }
+    requires total { total ≤ LARGEST_DATA }
     ensures { IsEdifactEnded group total words.old.items words.new.items }
 {
     if let Group::Empty = group {
@@ -84,7 +83,7 @@ pub(crate) fn write_edifact(
     items: &[Item],
     at: usize,
     plan: &[Step; PLAN_ROOM],
-    words: &mut ArrayVec<u8, MOST_DATA>,
+    words: &mut ArrayVec<u8, LARGEST_DATA>,
     total: usize,
 ) -> usize
     requires at { at < length items.now }
@@ -92,7 +91,7 @@ pub(crate) fn write_edifact(
     requires plan { IsRightPlan extent items.now plan.now }
     requires budget { length words.old.items + 1
         + (going_from extent (drop at items.now)).edifact.none ≤ total }
-    requires total { total ≤ MOST_DATA }
+    requires total { total ≤ LARGEST_DATA }
     ensures further { at < result }
     ensures within { result ≤ length items.now }
     ensures budget { length words.new.items + parts_cost extent (drop result items.now) ≤ total }

@@ -9,13 +9,12 @@ ghost use Rattle.dm_words.specs.inner.Written.{IsPartWritten, ArePartsWritten};
 use crate::ascii::{digit_pair, unit_of, write_unit};
 use crate::extent::Extent;
 use crate::item::{Item, byte};
-use crate::limits::MESSAGE_ROOM;
+use crate::limits::{LARGEST_DATA, MESSAGE_ROOM};
 use crate::smallest::edifact::write_edifact;
 use crate::smallest::plan::{Begin, PLAN_ROOM, Step};
 use crate::smallest::run::write_run;
 use crate::smallest::segment::{segment_end, write_segment};
 use arrayvec::ArrayVec;
-use dm_layout::MOST_DATA;
 
 /// What is known of a part that was written.
 #[derive(Clone, Copy)]
@@ -32,7 +31,7 @@ fn write_part(
     items: &[Item],
     at: usize,
     plan: &[Step; PLAN_ROOM],
-    words: &mut ArrayVec<u8, MOST_DATA>,
+    words: &mut ArrayVec<u8, LARGEST_DATA>,
     total: usize,
 ) -> Written
     requires at { at < length items.now }
@@ -40,7 +39,7 @@ fn write_part(
     requires message { IsMessage items.now }
     requires plan { IsRightPlan extent items.now plan.now }
     requires budget { length words.old.items + parts_cost extent (drop at items.now) ≤ total }
-    requires total { total ≤ MOST_DATA }
+    requires total { total ≤ LARGEST_DATA }
     ensures further { at < result.next }
     ensures within { result.next ≤ length items.now }
     ensures budget { length words.new.items + parts_cost extent (drop result.next items.now)
@@ -97,14 +96,14 @@ pub(crate) fn write_parts(
     extent: Extent,
     items: &[Item],
     plan: &[Step; PLAN_ROOM],
-    words: &mut ArrayVec<u8, MOST_DATA>,
+    words: &mut ArrayVec<u8, LARGEST_DATA>,
     total: usize,
 ) -> bool
     requires few { length items.now ≤ MESSAGE_ROOM }
     requires message { IsMessage items.now }
     requires plan { IsRightPlan extent items.now plan.now }
     requires budget { length words.old.items + parts_cost extent items.now ≤ total }
-    requires total { total ≤ MOST_DATA }
+    requires total { total ≤ LARGEST_DATA }
     ensures parts { ArePartsWritten extent total words.old.items words.new.items items.now }
     ensures usual { IsTrue result
         → ArePartsWritten Usual total words.old.items words.new.items items.now }

@@ -109,7 +109,7 @@ fn is_pair(items: &[Item], at: usize) -> bool
 
 /// Gives the cheapest way to begin, the first of those that are equally cheap.
 fn choose(item: Item, pair: bool, next: &Row, going: &Going) -> Choice
-    requires within { IsWithin 2000 next.now }
+    requires within { IsWithin 4000 next.now }
     requires small { AreSmall going.now }
     ensures cost { result.cost ≡ least item pair next.now going.now }
     ensures most { result.cost ≤ 16384 }
@@ -164,7 +164,7 @@ pub const PLAN_ROOM: usize = MESSAGE_ROOM + 1;
 pub(crate) fn plan_to(extent: Extent, items: &[Item], plan: &mut [Step; PLAN_ROOM]) -> u16
     requires { length items.now ≤ MESSAGE_ROOM }
     ensures cost { result ≡ parts_cost extent items.now }
-    ensures most { result ≤ 4000 }
+    ensures most { result ≤ 8000 }
     ensures plan { IsRightPlan extent items.now plan.new }
 {
     let none = none_going();

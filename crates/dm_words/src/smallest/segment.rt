@@ -11,10 +11,9 @@ use crate::base256::{MOST_SHORT, push_length, push_value, write_bytes};
 use crate::codeword::BASE256_LATCH;
 use crate::extent::Extent;
 use crate::item::Item;
-use crate::limits::MESSAGE_ROOM;
+use crate::limits::{LARGEST_DATA, MESSAGE_ROOM};
 use crate::smallest::plan::{PLAN_ROOM, Step};
 use arrayvec::ArrayVec;
-use dm_layout::MOST_DATA;
 
 /// Gives the index behind a segment whose length is written out, from that of its first byte.
 pub(crate) fn segment_end(
@@ -44,10 +43,10 @@ pub(crate) fn segment_end(
 
 /// Writes the length field of a segment of `count` bytes: 0, for all bytes up to the end of the symbol, where they
 /// end there and the count would take two numbers.
-fn push_field(words: &mut ArrayVec<u8, MOST_DATA>, count: usize, total: usize)
+fn push_field(words: &mut ArrayVec<u8, LARGEST_DATA>, count: usize, total: usize)
     requires some { 0 < count }
     requires room { length words.old.items + 1 + count ≤ total }
-    requires total { total ≤ MOST_DATA }
+    requires total { total ≤ LARGEST_DATA }
     ensures { IsFieldWritten total count words.old.items words.new.items }
 {
     if count > MOST_SHORT && words.len() + 1 + count == total {
@@ -58,12 +57,12 @@ fn push_field(words: &mut ArrayVec<u8, MOST_DATA>, count: usize, total: usize)
 }
 
 /// Writes a segment of these bytes.
-pub(crate) fn write_segment(items: &[Item], words: &mut ArrayVec<u8, MOST_DATA>, total: usize)
+pub(crate) fn write_segment(items: &[Item], words: &mut ArrayVec<u8, LARGEST_DATA>, total: usize)
     requires some { 0 < length items.now }
     requires bytes { has_fnc1 items.now ≡ false }
     requires message { IsMessage items.now }
     requires room { length words.old.items + 2 + length items.now ≤ total }
-    requires total { total ≤ MOST_DATA }
+    requires total { total ≤ LARGEST_DATA }
     ensures fits { length words.new.items ≤ total }
     ensures most { length words.new.items ≤ length words.old.items + 1
         + length (length_numbers (length items.now)) + length items.now }

@@ -1,4 +1,4 @@
-use Rattle.std.proofs.Common.{◌≡◌, ◌∙◌, ℕ, List, ap, sym, subst}
+use Rattle.std.proofs.Common.{◌≡◌, ◌∙◌, ℕ, List, length, ap, sym, subst, arith}
 use Rattle.dm_words.specs.declared.item.Item.{Item}
 use Rattle.dm_words.specs.Pads.{padded}
 use Rattle.dm_words.specs.Smallest.{IsPlainest, SpellsThenPads}
@@ -12,11 +12,12 @@ returns-in-None-clause-smallest c =
     subst (λ (m : List Item). IsLeastCost c.args.extent m c.least_way-way.result.cost) c.items-items.ensures.value
     c.least_way-way.ensures.least in
     record {
-      words = tt;
+      smallest = tt;
       plainest = tt;
       padded = tt;
       too_long =
-          λ err. none_spells c.args.extent c.args.message.now c.least_way-way.result.cost least c.in-None.ensures.none;
+          λ err. none_spells c.args.extent c.args.choice c.args.message.now c.least_way-way.result.cost least
+          c.in-None.ensures.none;
     }
 
 pub returns-in-Some-clause-smallest : goal.returns-in-Some-clause-smallest
@@ -24,24 +25,28 @@ returns-in-Some-clause-smallest c =
     let extent = c.args.extent in
     let m = c.args.message.now in
     let written = c.write_plainest.new.words.items in
+    let count = c.data_count-count.result in
     let same = c.items-items.ensures.value in
-    let is : c.add_pads.new.words.items ≡ padded written c.data_count.result = c.add_pads.ensures.words
-    ∙ ap (λ (n : ℕ). padded written n) (sym c.data_count.ensures.value) in
+    let size = c.in-Some.ensures in
+    let is : c.pad_to.new.words.items ≡ padded written count = c.pad_to.ensures.words
+    ∙ ap (λ (n : ℕ). padded written n) c.from.ensures in
+    let long : length c.pad_to.new.words.items ≡ c.in-Some.size.data_count =
+    omega (arith, c.pad_to.ensures.count, c.from.ensures, c.data_count-count.ensures.value) in
     let least =
     subst (λ (l : List Item). IsLeastCost extent l c.least_way-way.result.cost) same
     c.least_way-way.ensures.least in
     let here =
-    subst (λ (l : List Item). SpellsThenPads extent (padded written c.data_count.result) l) same
+    subst (λ (l : List Item). SpellsThenPads extent (padded written count) l) same
     c.write_plainest.ensures.spells in
     let spells = subst (λ (l : List ℕ). SpellsThenPads extent l m) (sym is) here in
     let plain =
-    subst (λ (l : List Item). IsPlainest (padded written c.data_count.result) l) same
+    subst (λ (l : List Item). IsPlainest (padded written count) l) same
     c.write_plainest.ensures.plainest in
     record {
-      words = is_smallest extent m c.least_way-way.result.cost c.in-Some.size c.add_pads.new.words.items least
-          (sym c.in-Some.ensures.value) c.add_pads.ensures.count
-          (padded_spells extent c.add_pads.new.words.items m spells);
+      smallest = is_smallest extent c.args.choice m c.least_way-way.result.cost c.in-Some.size
+          c.pad_to.new.words.items least (size.size, size.chosen) size.smallest size.narrowest long
+          (padded_spells extent c.pad_to.new.words.items m spells);
       plainest = subst (λ (l : List ℕ). IsPlainest l m) (sym is) plain;
       padded = spells;
-      too_long = λ err other sized says. absurd (cc);
+      too_long = λ err size other taken sized says. absurd (cc);
     }

@@ -16,12 +16,14 @@ loop-at-init c =
 
 pub going_over-going-requires : goal.going_over-going-requires
 going_over-going-requires c =
-    within c.args.extent c.args.items.now c.loop-at.at c.loop-at.row c.requires c.loop-at.invariant.row
+    within c.args.extent c.args.items.now c.loop-at.at c.loop-at.row (omega (arith, c.requires))
+    c.loop-at.invariant.row
     (omega (arith, length-drop c.loop-at.at c.args.items.now))
 
 pub choose-choice-requires-clause-within : goal.choose-choice-requires-clause-within
 choose-choice-requires-clause-within c =
-    within c.args.extent c.args.items.now c.loop-at.at c.loop-at.row c.requires c.loop-at.invariant.row
+    within c.args.extent c.args.items.now c.loop-at.at c.loop-at.row (omega (arith, c.requires))
+    c.loop-at.invariant.row
     (omega (arith, length-drop c.loop-at.at c.args.items.now))
 
 pub loop-at-preserved : goal.loop-at-preserved

@@ -11,7 +11,7 @@ loop-next-init c =
 pub loop-next-preserved : goal.loop-next-preserved
 loop-next-preserved c =
     let v = c.loop-next.invariant in
-    let g = byte_at c.args.extent c.args.items.now c.args.at c.loop-next.next (Byte 0) _ c.requires.few
+    let g = byte_at c.args.extent c.args.items.now c.args.at c.loop-next.next (Byte 0) _ (omega (arith, c.requires.few))
     (omega (arith, v.from)) v.within (c.requires.plan c.loop-next.next _ v.within) c.loop-next-test.true v.so_far
     v.bytes in
     record { from = omega (arith, v.from); within = omega (arith, g.there); so_far = g.so_far; bytes = g.bytes }
@@ -21,7 +21,7 @@ loop-next-smaller c =
     let v = c.loop-next.invariant in
     omega (
       arith,
-      (byte_at c.args.extent c.args.items.now c.args.at c.loop-next.next (Byte 0) _ c.requires.few
+      (byte_at c.args.extent c.args.items.now c.args.at c.loop-next.next (Byte 0) _ (omega (arith, c.requires.few))
           (omega (arith, v.from)) v.within (c.requires.plan c.loop-next.next _ v.within) c.loop-next-test.true v.so_far
           v.bytes).there,
     )
