@@ -21,6 +21,7 @@ mod SymbolReadings
 mod SymbolReadSteps
 mod SymbolWriteSteps
 mod SymbolNormals
+mod SmallestSymbols
 mod SymbolCompletions
 mod SymbolGrids
 mod SymbolResults

@@ -1,6 +1,5 @@
 -- Symbols in which messages are written are read as these, and what follows for normal symbols.
-use Rattle.std.proofs.Common.{◌≡◌, ◌↔◌, ℕ, zero, suc, ◌+◌, ◌*◌, ◌≤◌, List, [], ◌∷◌, map, replicate, Option, None}
-use Rattle.std.proofs.Common.{IsSome}
+use Rattle.std.proofs.Common.{◌≡◌, ◌↔◌, ℕ, zero, suc, ◌+◌, List, [], ◌∷◌, map, replicate, Option, None}
 use Rattle.std.proofs.Common.{Result, Ok, Err, refl, sym, ap, subst, ◌∙◌, arith}
 use Rattle.std.specs.List.{range_with_len}
 use Rattle.dm_words.specs.declared.extent.Extent.{Extent}
@@ -11,7 +10,7 @@ use Rattle.dm_words.specs.Messages.{IsMessage}
 use Rattle.dm_code.specs.Erased.{IsNearBut}
 use Rattle.dm_modules.specs.declared.size.SizeChoice.{SizeChoice}
 use Rattle.dm_modules.specs.declared.size.SizeChoice.TheVariants.{Square}
-use Rattle.dm_modules.specs.Sizes.{SizeEntry, block_check}
+use Rattle.dm_modules.specs.Sizes.{block_check}
 use Rattle.dm_modules.specs.Modules.{ModulesView}
 use Rattle.dm_symbol.specs.declared.symbol.reading.BlockReading.{BlockReading}
 use Rattle.dm_symbol.specs.declared.symbol.reading.SymbolReading.{SymbolReading}
@@ -19,7 +18,9 @@ use Rattle.dm_symbol.specs.declared.reading.ReadFault.{ReadFault}
 use Rattle.dm_symbol.specs.declared.normalising.NormalFault.{NormalFault}
 use Rattle.dm_symbol.specs.declared.normalising.NormalFault.TheVariants.{Read, TooLong}
 use Rattle.dm_symbol.specs.Doubt.{sure_fault_count, erased_in}
-use Rattle.dm_symbol.specs.SymbolBlocks.{AreOfSize, AreCodewordsOf, block_in, first_data}
+use Rattle.dm_modules.specs.Holding.{IsLaid}
+use Rattle.dm_words.specs.Spells.{Spells}
+use Rattle.dm_symbol.specs.SymbolBlocks.{words_with, AreCodewordsOf, block_in, first_data}
 use Rattle.dm_symbol.specs.SymbolReading.{AreRestored, ReadsSymbol, SymbolReadResult, symbol_reading_of, block_reading}
 use Rattle.dm_symbol.specs.SymbolReading.{block_readings}
 use Rattle.dm_symbol.specs.NormalSymbol.{IsWrittenIn, IsNormalSymbol, FitsChoice}
@@ -36,37 +37,6 @@ use Rattle.dm_symbol.proofs.SymbolWriteSteps.{written_spells, written_is_one, wr
 
 -- ---- what is written is read
 
--- A symbol in which a message is written has no sure border fault.
-no_sure_fault : (choice : SizeChoice) (p : Profile) (m : List Item) (g : ModulesView) → IsWrittenIn choice p m g
-    → sure_fault_count g None ≡ 0
-no_sure_fault choice p m g n = sym (faults_by_none g) ∙ n.laid.border
-
--- Its words are their own restored codewords.
-written_restored : (choice : SizeChoice) (p : Profile) (m : List Item) (g : ModulesView)
-    → (n : IsWrittenIn choice p m g)
-    → AreRestored g None n.words n.words
-written_restored choice p m g n = record {
-  words_held = n.laid.holds;
-  of_size = n.laid.holds.codewords;
-  near = λ b hb.
-      let k = block_check g.size in
-      let block = block_in g.size n.words b in
-      subst (λ e. IsNearBut k block e block) (sym (erased_by_none g.size b))
-      (near_plain k block block (near_itself k block (n.checked b hb)));
-}
-
--- It is read as its message for every limit.
-pub written_reads : (extent : Extent) (choice : SizeChoice) (p : Profile) (m : List Item) (g : ModulesView) (limit : ℕ)
-    → IsMessage m
-    → IsWrittenIn choice p m g → ReadsSymbol extent g None limit m
-written_reads extent choice p m g limit h n = record {
-  border = omega (arith, no_sure_fault choice p m g n);
-  words = n.words;
-  codewords = n.words;
-  restored = written_restored choice p m g n;
-  spelled = written_spells extent choice p m g h n;
-}
-
 -- A list that is made by a function that always gives the same has it at each place.
 map_to_one : (f : ℕ → BlockReading) (r : BlockReading) (a n : ℕ) → ((b : ℕ) → f b ≡ r)
     → map f (range_with_len a n) ≡ replicate n r
@@ -74,34 +44,74 @@ map_to_one f r a zero e = refl
 map_to_one f r a (suc n) e = ap (λ x. x ∷ map f (range_with_len (a + 1) n)) (e a)
     ∙ ap (λ xs. r ∷ xs) (map_to_one f r (a + 1) n e)
 
+-- In a symbol in which codewords are laid, these are their own restored codewords, and no border fault is sure. So it
+-- is read as what they spell, for every limit, with nothing wrong in it.
+module _ (g : ModulesView) (words : List ℕ) (laid : IsLaid (words_with g.size words) g)
+    (checked : AreCodewordsOf g.size words) where
+  no_sure_fault : sure_fault_count g None ≡ 0
+  no_sure_fault = sym (faults_by_none g) ∙ laid.border
+
+  laid_restored : AreRestored g None words words
+  laid_restored = record {
+    words_held = laid.holds;
+    of_size = laid.holds.codewords;
+    near = λ b hb.
+        let k = block_check g.size in
+        let block = block_in g.size words b in
+        subst (λ e. IsNearBut k block e block) (sym (erased_by_none g.size b))
+        (near_plain k block block (near_itself k block (checked b hb)));
+  }
+
+  pub laid_reads : (extent : Extent) (m : List Item) (limit : ℕ) → Spells extent (first_data g.size words) m
+      → ReadsSymbol extent g None limit m
+  laid_reads extent m limit says = record {
+    border = omega (arith, no_sure_fault);
+    words = words;
+    codewords = words;
+    restored = laid_restored;
+    spelled = says;
+  }
+
+  pub laid_result : (extent : Extent) (m : List Item) (limit : ℕ) → Spells extent (first_data g.size words) m
+      → SymbolReadResult extent g None limit
+      (Ok (symbol_reading_of m (replicate g.size.blocks (nothing_wrong (block_check g.size))) 0))
+  unfolding laid_reads
+  laid_result extent m limit says =
+      let k = block_check g.size in
+      let by : SymbolReadResult extent g None limit
+      (Ok (symbol_reading_of m (block_readings g.size (erased_in g.size None) words words)
+      (sure_fault_count g None))) =
+      result_of_symbol g None extent limit m (laid_reads extent m limit says) in
+      let clean : (b : ℕ) → block_reading k (erased_in g.size None b) (block_in g.size words b)
+      (block_in g.size words b) ≡ nothing_wrong k =
+      λ b.
+      let block = block_in g.size words b in
+      let nowhere = distance_plain block block ∙ distance_to_itself block in
+      ap (λ e. block_reading k e block block) (erased_by_none g.size b)
+      ∙ sym (reading_is k 0 0 k [] block block (sym nowhere) refl (omega arith)) in
+      let all : block_readings g.size (erased_in g.size None) words words ≡ replicate g.size.blocks (nothing_wrong k) =
+      map_to_one (λ b. block_reading k (erased_in g.size None b) (block_in g.size words b) (block_in g.size words b))
+      (nothing_wrong k) 0 g.size.blocks clean in
+      subst (λ faults. SymbolReadResult extent g None limit
+      (Ok (symbol_reading_of m (replicate g.size.blocks (nothing_wrong k)) faults))) no_sure_fault
+      (subst (λ said. SymbolReadResult extent g None limit (Ok (symbol_reading_of m said (sure_fault_count g None))))
+      all by)
+
+-- A symbol in which a message is written is read as it.
+pub written_reads : (extent : Extent) (choice : SizeChoice) (p : Profile) (m : List Item) (g : ModulesView) (limit : ℕ)
+    → IsMessage m
+    → IsWrittenIn choice p m g → ReadsSymbol extent g None limit m
+written_reads extent choice p m g limit h n =
+    laid_reads g n.words n.laid n.checked extent m limit (written_spells extent choice p m g h n)
+
 -- Nothing is wrong in it.
 pub written_result : (extent : Extent) (choice : SizeChoice) (p : Profile) (m : List Item) (g : ModulesView)
     (limit : ℕ) → IsMessage m
     → IsWrittenIn choice p m g
     → SymbolReadResult extent g None limit
     (Ok (symbol_reading_of m (replicate g.size.blocks (nothing_wrong (block_check g.size))) 0))
-unfolding written_reads
 written_result extent choice p m g limit h n =
-    let k = block_check g.size in
-    let by : SymbolReadResult extent g None limit
-    (Ok (symbol_reading_of m (block_readings g.size (erased_in g.size None) n.words n.words)
-    (sure_fault_count g None))) =
-    result_of_symbol g None extent limit m (written_reads extent choice p m g limit h n) in
-    let clean : (b : ℕ) → block_reading k (erased_in g.size None b) (block_in g.size n.words b)
-    (block_in g.size n.words b) ≡ nothing_wrong k =
-    λ b.
-    let block = block_in g.size n.words b in
-    let nowhere = distance_plain block block ∙ distance_to_itself block in
-    ap (λ e. block_reading k e block block) (erased_by_none g.size b)
-    ∙ sym (reading_is k 0 0 k [] block block (sym nowhere) refl (omega arith)) in
-    let all : block_readings g.size (erased_in g.size None) n.words n.words ≡ replicate g.size.blocks (nothing_wrong k)
-    =
-    map_to_one (λ b. block_reading k (erased_in g.size None b) (block_in g.size n.words b) (block_in g.size n.words b))
-    (nothing_wrong k) 0 g.size.blocks clean in
-    subst (λ faults. SymbolReadResult extent g None limit
-    (Ok (symbol_reading_of m (replicate g.size.blocks (nothing_wrong k)) faults))) (no_sure_fault choice p m g n)
-    (subst (λ said. SymbolReadResult extent g None limit (Ok (symbol_reading_of m said (sure_fault_count g None)))) all
-    by)
+    laid_result g n.words n.laid n.checked extent m limit (written_spells extent choice p m g h n)
 
 -- It has one result.
 pub written_is_read : (extent : Extent) (choice : SizeChoice) (p : Profile) (m : List Item) (g : ModulesView)

@@ -11,6 +11,7 @@ pub mod NormalSymbol
 pub mod SymbolNormal
 pub mod SymbolInspection
 pub mod SymbolLaws
+pub mod SmallestSymbol
 pub mod inner
 -- Modules of the layers below, which crates above this one find under its name too: `Rattle.dm_symbol.specs.Grid` is
 -- dm_layout/specs/Grid.antt.

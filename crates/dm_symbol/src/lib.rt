@@ -24,7 +24,7 @@
 //! These calls are for squares of 10 to 104 rows. Symbols of every size, squares and rectangles, are [`Modules`] of a
 //! [`SymbolSize`]. [`read_symbol_to()`] leaves what they say in a [`SymbolReading`], with a [`BlockReading`] for each
 //! block; how they are read is said by [`ReadOptions`], among these which of their modules are doubtful.
-//! [`write_symbol_to()`] leaves in modules the symbol of a message, in the profile and the smallest size of the choice
+//! [`write_symbol_to()`] leaves in modules the symbol of a message, in the [`Form`] and the smallest size of the choice
 //! that [`WriteOptions`] say; [`normal_symbol_to()`] the one of what a symbol says in the smallest square.
 //! [`inspect_symbol_to()`] leaves the codewords of a symbol, before and after they are restored, in a
 //! [`SymbolInspection`].
@@ -35,8 +35,8 @@
 //!
 //! What the contracts say is defined in `specs/`: `Blocks`, `NormalGrid`, `Reading`, `Normal` and `Inspection`; `Laws`
 //! has the laws of these definitions, which the functions of [`laws`] prove. For symbols of every size it is in
-//! `Doubt`, `SymbolBlocks`, `SymbolReading`, `NormalSymbol`, `SymbolNormal` and `SymbolInspection`; their laws are in
-//! `SymbolLaws`. No call allocates memory.
+//! `Doubt`, `SymbolBlocks`, `SymbolReading`, `NormalSymbol`, `SmallestSymbol`, `SymbolNormal` and `SymbolInspection`;
+//! their laws are in `SymbolLaws`. No call allocates memory.
 #![tactic(auto)]
 
 mod correction;
@@ -60,5 +60,5 @@ pub use reading::{ReadFault, Reading, read, read_as, read_as_to, read_to};
 pub use symbol::inspection::{SymbolInspection, inspect_symbol_to};
 pub use symbol::normalising::normal_symbol_to;
 pub use symbol::reading::{BlockReading, ReadOptions, SymbolReading, read_symbol_to};
-pub use symbol::writing::{WriteOptions, write_symbol_to};
+pub use symbol::writing::{Form, WriteOptions, write_symbol_to};
 pub use writing::{light_grid, write, write_as, write_to};

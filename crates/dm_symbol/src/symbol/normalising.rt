@@ -5,7 +5,7 @@ ghost use Rattle.dm_symbol.specs.SymbolNormal.{IsSymbolNormalisedTo};
 
 use crate::normalising::NormalFault;
 use crate::symbol::reading::{ReadOptions, SymbolReading, read_symbol_to};
-use crate::symbol::writing::{WriteOptions, write_symbol_to};
+use crate::symbol::writing::write_normal_to;
 use dm_modules::{Modules, SizeChoice};
 use dm_words::{MOST_DATA, Profile, TooLong};
 
@@ -35,11 +35,7 @@ pub fn normal_symbol_to(
         Ok(()) => {}
         Err(fault) => return Err(NormalFault::Read(fault)),
     }
-    let square = WriteOptions {
-        profile,
-        size: SizeChoice::Square,
-    };
-    match write_symbol_to(&reading.message, square, normal) {
+    match write_normal_to(&reading.message, profile, SizeChoice::Square, normal) {
         Ok(()) => Ok(()),
         Err(TooLong) => Err(NormalFault::TooLong),
     }

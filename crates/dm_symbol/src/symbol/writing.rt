@@ -6,48 +6,99 @@ ghost use Rattle.dm_modules.specs.Sizes.{block_check};
 ghost use Rattle.dm_words.specs.Outcomes.{outcome};
 ghost use Rattle.dm_symbol.specs.SymbolBlocks.{AreOfSize, AreCodewordsOf, block_in, first_data};
 ghost use Rattle.dm_symbol.specs.NormalSymbol.{IsSymbolWritten};
+ghost use Rattle.dm_symbol.specs.SmallestSymbol.{IsFormWritten, IsSmallestWritten};
 
 use arrayvec::ArrayVec;
 use dm_code::encode;
 use dm_modules::{
     MOST_DATA, Modules, SizeChoice, SymbolSize, SymbolWords, block, lay_to, put_block,
 };
-use dm_words::{Message, Profile, TooLong, normal_words_in, pad_to};
+use dm_words::{Extent, Message, Profile, TooLong, normal_words_in, pad_to, smallest_words_to};
+
+/// How the data codewords of a message are chosen.
+#[derive(Clone, Copy, Debug, Default, PartialEq, Eq)]
+pub enum Form {
+    /// The normal form under [`Profile::Ascii`].
+    #[default]
+    Ascii,
+    /// The normal form under [`Profile::Shorter`].
+    Shorter,
+    /// Those of the smallest symbol that a reader of this extent reads as the message.
+    Smallest(Extent),
+}
 
 /// How a message is written.
 #[derive(Clone, Copy, Debug, PartialEq, Eq)]
 pub struct WriteOptions {
     /// Which data codewords are chosen for the message.
-    pub profile: Profile,
+    pub form: Form,
     /// Which sizes may be taken. The smallest of them that holds the message is.
     pub size: SizeChoice,
 }
 
 /// Writes a message (ISO/IEC 16022, symbol construction): after `Ok`, `modules`, whatever they were before, are the
-/// symbol of the codewords that the profile chooses, pads and check codewords, in the smallest size of the choice that
+/// symbol of the codewords that the form chooses, pads and check codewords, in the smallest size of the choice that
 /// holds them: the one of the smallest area, and of those of equal area the one with the fewest columns. The fault is
-/// `TooLong` exactly where no size of the choice holds them; then `modules` are as they were. The work is that of the
-/// codewords, and a look at each module.
+/// `TooLong` exactly where no size of the choice holds them; then `modules` are as they were.
+///
+/// In the form [`Form::Smallest`] no symbol of a smaller size of the choice is read as the message in the extent,
+/// whatever its codewords are. The work is that of the codewords, and a look at each module.
 pub fn write_symbol_to(
     message: &Message,
     how: WriteOptions,
     modules: &mut Modules,
 ) -> Result<(), TooLong>
-    ensures written { IsSymbolWritten how.size how.profile message.now
-        (outcome result modules.new) }
+    ensures written { IsFormWritten how.form how.size message.now (outcome result modules.new) }
+    ensures same { OnErr result (modules.new ≡ modules.old) }
+{
+    match how.form {
+        Form::Ascii => write_normal_to(message, Profile::Ascii, how.size, modules),
+        Form::Shorter => write_normal_to(message, Profile::Shorter, how.size, modules),
+        Form::Smallest(extent) => write_smallest_to(message, extent, how.size, modules),
+    }
+}
+
+/// Writes a message in the codewords that a profile chooses.
+pub(crate) fn write_normal_to(
+    message: &Message,
+    profile: Profile,
+    choice: SizeChoice,
+    modules: &mut Modules,
+) -> Result<(), TooLong>
+    ensures written { IsSymbolWritten choice profile message.now (outcome result modules.new) }
     ensures same { OnErr result (modules.new ≡ modules.old) }
 {
     let mut list = ArrayVec::<u8, MOST_DATA>::new();
-    match normal_words_in(how.profile, message, &mut list) {
+    match normal_words_in(profile, message, &mut list) {
         Ok(()) => {}
         Err(TooLong) => return Err(TooLong),
     }
-    let Some(size) = SymbolSize::for_words(how.size, list.len() as u16) else {
+    let Some(size) = SymbolSize::for_words(choice, list.len() as u16) else {
         return Err(TooLong);
     };
     pad_to(&mut list, size.data_count() as usize);
     lay_to(&with_checks(&list, size), modules);
     Ok(())
+}
+
+/// Writes a message in the smallest symbol of the choice for readers of an extent.
+fn write_smallest_to(
+    message: &Message,
+    extent: Extent,
+    choice: SizeChoice,
+    modules: &mut Modules,
+) -> Result<(), TooLong>
+    ensures written { IsSmallestWritten extent choice message.now (outcome result modules.new) }
+    ensures same { OnErr result (modules.new ≡ modules.old) }
+{
+    let mut list = ArrayVec::<u8, MOST_DATA>::new();
+    match smallest_words_to(extent, message, choice, &mut list) {
+        Ok(size) => {
+            lay_to(&with_checks(&list, size), modules);
+            Ok(())
+        }
+        Err(TooLong) => Err(TooLong),
+    }
 }
 
 /// Gives the codewords of a symbol of this size with these data codewords: the check codewords make each block a

@@ -1,0 +1,66 @@
+-- The smallest symbol of a message, in a choice of sizes, for readers of an extent; and in which symbol a message is
+-- written in each form.
+use Rattle.std.specs.Prelude.{ℕ, List, Option, None, Result, Ok, IfOk, OnErr, replicate}
+use Rattle.dm_words.specs.declared.item.Item.{Item}
+use Rattle.dm_words.specs.declared.extent.Extent.{Extent}
+use Rattle.dm_words.specs.declared.fault.TooLong.{TooLong}
+use Rattle.dm_words.specs.declared.profile.Profile.TheVariants as profile
+use Rattle.dm_modules.specs.declared.size.SizeChoice.{SizeChoice}
+use Rattle.dm_modules.specs.Sizes.{block_check}
+use Rattle.dm_modules.specs.Modules.{ModulesView}
+use Rattle.dm_modules.specs.Holding.{IsLaid}
+use Rattle.dm_words.specs.Smallest.{IsTaken, IsSmaller, IsSmallestFor, IsPlainest, SpellsThenPads, NoneSpells}
+use Rattle.dm_symbol.specs.declared.symbol.writing.Form.{Form}
+use Rattle.dm_symbol.specs.declared.symbol.writing.Form.TheVariants.{Ascii, Shorter, Smallest}
+use Rattle.dm_symbol.specs.SymbolBlocks.{words_with, AreCodewordsOf, first_data}
+use Rattle.dm_symbol.specs.SymbolReading.{ReadsSymbol, SymbolReadResult, symbol_reading_of}
+use Rattle.dm_symbol.specs.SymbolLaws.{nothing_wrong}
+use Rattle.dm_symbol.specs.NormalSymbol.{IsSymbolWritten}
+
+-- The modules are a symbol with the smallest data codewords of the message.
+pub record IsSmallestSymbol (extent : Extent) (choice : SizeChoice) (message : List Item) (modules : ModulesView)
+    : Type 0 where
+  -- Codewords of this size are laid in it: it holds them, each module of its borders has the right colour, and it has
+  -- the fixed square.
+  pub words : List ℕ
+  pub laid : IsLaid (words_with modules.size words) modules
+  -- The data codewords spell the message, and those of no smaller size of the choice do.
+  pub smallest : IsSmallestFor extent choice modules.size (first_data modules.size words) message
+  -- Of the codewords of its size they are the plainest, with pads behind them.
+  pub plainest : IsPlainest (first_data modules.size words) message
+  pub padded : SpellsThenPads extent (first_data modules.size words) message
+  -- The check codewords make each block a codeword of its Reed-Solomon code.
+  pub checked : AreCodewordsOf modules.size words
+
+-- The symbol is read as the message in the extent, for every limit, with nothing wrong in any block and no border
+-- fault.
+abbrev pub IsReadWithNothingWrong : Extent → List Item → ModulesView → Type 0
+IsReadWithNothingWrong extent message modules = (limit : ℕ) → SymbolReadResult extent modules None limit
+    (Ok (symbol_reading_of message (replicate modules.size.blocks (nothing_wrong (block_check modules.size))) 0))
+
+-- No symbol of a smaller size of the choice is read as the message in the extent, whatever is wrong or doubtful in it.
+abbrev pub NoSmallerIsRead : Extent → SizeChoice → List Item → ModulesView → Type 0
+NoSmallerIsRead extent choice message modules = (other : ModulesView) (doubtful : Option ModulesView) (limit : ℕ)
+    → IsTaken choice other.size → IsSmaller other.size modules.size → ReadsSymbol extent other doubtful limit message
+    → ⊥
+
+-- No symbol of any size of the choice is read as the message in the extent, whatever is wrong or doubtful in it.
+abbrev pub NoneIsRead : Extent → SizeChoice → List Item → Type 0
+NoneIsRead extent choice message = (other : ModulesView) (doubtful : Option ModulesView) (limit : ℕ)
+    → IsTaken choice other.size → ReadsSymbol extent other doubtful limit message → ⊥
+
+-- Writing a message in its smallest symbol gives one that is read as the message, where no smaller one is; or that none
+-- is, of any size of the choice.
+pub record IsSmallestWritten (extent : Extent) (choice : SizeChoice) (message : List Item)
+    (result : Result ModulesView TooLong) : Type 0 where
+  pub written : IfOk result (λ modules. IsSmallestSymbol extent choice message modules)
+  pub read : IfOk result (λ modules. IsReadWithNothingWrong extent message modules)
+  pub no_smaller : IfOk result (λ modules. NoSmallerIsRead extent choice message modules)
+  pub none : OnErr result (NoneIsRead extent choice message)
+  pub none_spells : OnErr result (NoneSpells extent choice message)
+
+-- What writing a message in a form gives.
+abbrev pub IsFormWritten : Form → SizeChoice → List Item → Result ModulesView TooLong → Type 0
+IsFormWritten Ascii choice message result = IsSymbolWritten choice profile.Ascii message result
+IsFormWritten Shorter choice message result = IsSymbolWritten choice profile.Shorter message result
+IsFormWritten (Smallest extent) choice message result = IsSmallestWritten extent choice message result
