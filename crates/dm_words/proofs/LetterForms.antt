@@ -4,14 +4,13 @@ use Rattle.std.proofs.Common.{sym, subst, ap, ◌∙◌, append_assoc, arith, le
 use Rattle.std.specs.List.{AllByRecursion}
 use Rattle.std.proofs.lemmas.List.{append-nil, length-take, length-drop, take-append-drop}
 use Rattle.std.proofs.lemmas.List.Elements.{recursion_from_All}
-use Rattle.dm_layout.specs.Sizes.{most_data}
 use Rattle.dm_words.specs.declared.extent.Extent.TheVariants.{Wide}
 use Rattle.dm_words.specs.declared.item.Item.{Item}
 use Rattle.dm_words.specs.declared.letters.head.Head.{Head}
 use Rattle.dm_words.specs.declared.letters.mark.Mark.{Mark}
 use Rattle.dm_words.specs.declared.letters.opening.Opening.TheVariants.{Headed}
 use Rattle.dm_words.specs.declared.profile.Profile.{Profile}
-use Rattle.dm_words.specs.Messages.{IsItem}
+use Rattle.dm_words.specs.Messages.{IsItem, largest_data}
 use Rattle.dm_words.specs.Ascii.{IsAsciiUnit, ascii}
 use Rattle.dm_words.specs.Joined.{Piece, spelled, gathered, whats, AreJoined}
 use Rattle.dm_words.specs.Pads.{pads, padded}
@@ -83,7 +82,7 @@ record HasParts (before : ℕ) (items : List Item) (marks : List Mark) (words : 
   marks_are : said_marks before (whats parts) ≡ marks
 
 -- The first items are items, and so are the others.
-items_take : (n : ℕ) (items : List Item) → AreItems items → AreItems (take n items) × AreItems (drop n items)
+pub items_take : (n : ℕ) (items : List Item) → AreItems items → AreItems (take n items) × AreItems (drop n items)
 items_take zero items h = (tt, h)
 items_take (suc n) [] h = (tt, tt)
 items_take (suc n) (i ∷ items) h = (let r = items_take n items h.1 in ((h.0, r.0), r.1))
@@ -197,12 +196,12 @@ headed_says said items marks count right fit are =
 -- The form of a letter, with pads up to a count, says the letter.
 form_says : (profile : Profile) (said : Option Head) (items : List Item) (marks : List Mark) (count : ℕ)
     → IsLetter (record { head = said; items = items; marks = marks })
-    → length (form_by profile said items marks) ≤ count → count ≤ most_data
+    → length (form_by profile said items marks) ≤ count → count ≤ largest_data
     → SpellsLetter (padded (form_by profile said items marks) count)
     (record { head = said; items = items; marks = marks })
 form_says profile None items [] count right le most =
     wide_is_letter (padded (form_by profile None items []) count) items
-    (normal_form_spells Wide profile items count right.items le (omega (arith, most)))
+    (normal_form_spells Wide profile items count right.items le most)
 form_says profile None items (m ∷ marks) count right le most =
     marked_says items (m ∷ marks) count (recursion_from_All IsItem items right.items) right.marks
 form_says profile (Some said) items marks count right le most =
@@ -210,7 +209,7 @@ form_says profile (Some said) items marks count right le most =
 
 -- The normal form of a letter, with pads up to a count, says the letter.
 pub letter_form_says : (profile : Profile) (l : LetterView) (count : ℕ) → IsLetter l
-    → length (letter_form profile l) ≤ count → count ≤ most_data
+    → length (letter_form profile l) ≤ count → count ≤ largest_data
     → SpellsLetter (padded (letter_form profile l) count) l
 letter_form_says profile l count right le most = form_says profile l.head l.items l.marks count right le most
 

@@ -10,6 +10,9 @@ mod LetterLoops
 mod LetterReadings
 mod WideLetters
 mod LetterForms
+mod LetterExtents
+mod LetterBytes
+mod KeptFaults
 mod MarkedWords
 mod Values
 mod Pairs

@@ -187,7 +187,7 @@ segment_bytes : (bytes : List ℕ) → AreBytes (one_segment bytes)
 segment_bytes bytes = (omega arith, written_bytes 2 (length_numbers (length bytes) ++ bytes))
 
 -- The codewords of the normal form are bytes.
-normal_form_bytes : (profile : Profile) (m : List Item) → AreItems m → AreBytes (normal_form profile m)
+pub normal_form_bytes : (profile : Profile) (m : List Item) → AreItems m → AreBytes (normal_form profile m)
 normal_form_bytes Ascii m fit = ascii_bytes m fit
 normal_form_bytes Shorter m fit =
     elim (segment_or_ascii m) [

@@ -171,6 +171,22 @@ no_frame words e b =
     let w : first_frame words ≡ first_frame (b.first ++ b.more) = ap first_frame b.whole in
     absurd cc
 
+-- The words begin with a frame, or they don't.
+pub frame_or_none : (words : List ℕ) → BeginsFrame words ⊎ (BeginsFrame words → ⊥)
+frame_or_none words = by_first (first_frame words) refl
+  where
+    by_first : (o : Option Frame) → first_frame words ≡ o → BeginsFrame words ⊎ (BeginsFrame words → ⊥)
+    by_first None e = inr (no_frame words e)
+    by_first (Some f) e =
+        let found = frame_found words f e in
+        inl (record {
+          first = found.first;
+          digit = f.digit;
+          more = found.more;
+          is_frame = found.is_frame;
+          whole = found.whole;
+        })
+
 -- What is found by the head and the frame is right.
 judged_by : (words : List ℕ) (h : Option Head) (a : Bool) (f : Option Frame) → first_head words ≡ h
     → begins_append words ≡ a → first_frame words ≡ f

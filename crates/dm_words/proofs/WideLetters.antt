@@ -30,7 +30,7 @@ use Rattle.dm_words.proofs.LetterLoops.{letter_on-stops}
 use Rattle.dm_words.proofs.WholeLetters.{parts_read, fault_read}
 
 -- An empty run is a part of a message.
-empty_run : (place latch unlatch_there : ℕ) (set : CodeSet) (after : List ℕ) → codeword_of latch
+pub empty_run : (place latch unlatch_there : ℕ) (set : CodeSet) (after : List ℕ) → codeword_of latch
     ≡ Some (codeword.Latch set) → unlatch_there ≡ unlatch_word
     → IsPart Wide place (latch ∷ unlatch_there ∷ []) after []
 empty_run place latch unlatch_there set after k is =
@@ -150,12 +150,12 @@ plain_letter words said items parts is = record {
 }
 
 -- Pieces of a message, as pieces of a letter.
-abbrev as_said : List (Piece (List Item)) → List (Piece Said)
+abbrev pub as_said : List (Piece (List Item)) → List (Piece Said)
 as_said [] = []
 as_said (p ∷ ps) = record { words = p.words; what = Items p.what } ∷ as_said ps
 
 -- They have the same words.
-said_words : (ps : List (Piece (List Item))) → spelled (as_said ps) ≡ spelled ps
+pub said_words : (ps : List (Piece (List Item))) → spelled (as_said ps) ≡ spelled ps
 said_words [] = refl
 said_words (p ∷ ps) = ap (λ (r : List ℕ). p.words ++ r) (said_words ps)
 
@@ -170,7 +170,7 @@ no_marks before [] = refl
 no_marks before (p ∷ ps) = no_marks (before + length p.what) ps
 
 -- They are parts of a letter.
-said_joined : (place : ℕ) (ps : List (Piece (List Item))) (after : List ℕ) → AreJoined (IsPart Wide) place ps after
+pub said_joined : (place : ℕ) (ps : List (Piece (List Item))) (after : List ℕ) → AreJoined (IsPart Wide) place ps after
     → AreJoined IsLetterPart place (as_said ps) after
 said_joined place [] after h = tt
 said_joined place (p ∷ ps) after h = (

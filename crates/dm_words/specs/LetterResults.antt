@@ -1,7 +1,14 @@
 -- What reading a letter gives, and what holds of all lists of codewords.
 use Rattle.std.specs.Prelude.{◌≡◌, ◌≤◌, ◌<◌, ◌↔◌, ◌*◌, ◌⊎◌, ℕ, List, ◌++◌, length, Result, Ok, Err, IfOk}
 use Rattle.dm_words.specs.declared.extent.Extent.TheVariants.{Wide}
+use Rattle.dm_words.specs.declared.fault.WordFault.{WordFault}
+use Rattle.dm_words.specs.declared.fault.WordFault.TheVariants as word_fault
 use Rattle.dm_words.specs.declared.letters.fault.LetterFault.{LetterFault}
+use Rattle.dm_words.specs.declared.letters.fault.LetterFault.TheVariants as fault
+use Rattle.dm_words.specs.Designators.{eci_word}
+use Rattle.dm_words.specs.Heads.{append_word, programming_word}
+use Rattle.dm_words.specs.Laws.{AreCodewords}
+use Rattle.dm_words.specs.Refused.{Refused}
 use Rattle.dm_words.specs.Messages.{most_spelled}
 use Rattle.dm_words.specs.Letters.{LetterView, IsLetter, AreFrame, SpellsLetter, RefusedLetter}
 
@@ -40,3 +47,23 @@ pub record BeginsLateFrame (words : List ℕ) : Type 0 where
   pub is_frame : AreFrame first digit
   pub is_late : 1 < length first
   pub whole : words ≡ first ++ more
+
+-- Codewords that are refused in the wide extent with this fault may say a letter, or be refused as one with another
+-- fault: it is of ECI; or of structured append or reader programming as the first codeword; or of a macro behind empty
+-- runs with which the codewords begin.
+pub data IsOfLetters (words : List ℕ) (why : WordFault) : Type 0 where
+  eci : (place : ℕ) → why ≡ word_fault.LeftOut eci_word place → IsOfLetters words why
+  head : (word : ℕ) → (word ≡ append_word) ⊎ (word ≡ programming_word) → why ≡ word_fault.LeftOut word 1
+      → IsOfLetters words why
+  late_frame : (frame : BeginsLateFrame words) → why
+      ≡ word_fault.LeftOut frame.is_frame.word (length frame.first) → IsOfLetters words why
+
+-- Codewords that are refused in the wide extent are refused with the same fault as a letter, unless it is one of those.
+abbrev pub FaultsAreKept : Type 0
+FaultsAreKept = (words : List ℕ) (why : WordFault) → AreCodewords words → Refused Wide words why
+    → RefusedLetter words (fault.Word why) ⊎ IsOfLetters words why
+
+-- Codewords that are refused as a letter are refused in the wide extent: with the same fault, or with one of those.
+abbrev pub FaultsAreOld : Type 0
+FaultsAreOld = (words : List ℕ) (of_letter : LetterFault) → AreCodewords words → RefusedLetter words of_letter
+    → (why : WordFault) × Refused Wide words why × ((of_letter ≡ fault.Word why) ⊎ IsOfLetters words why)

@@ -23,4 +23,6 @@ pub mod Heads
 pub mod Letters
 pub mod LetterResults
 pub mod LetterForm
+pub mod LetterExtents
+pub mod Symbology
 pub mod inner

@@ -1,17 +1,17 @@
 //! Laws of letters. Each function has an empty body: its contract is the law.
 
 ghost use Rattle.std.specs.Prelude.{◌≡◌, ℕ, ◌≤◌, ◌↔◌, ◌⊎◌, List, [], length, None};
-ghost use Rattle.dm_layout.specs.Sizes.{most_data};
 ghost use Rattle.dm_words.specs.declared.extent.Extent.{Extent};
 ghost use Rattle.dm_words.specs.declared.item.Item.{Item};
 ghost use Rattle.dm_words.specs.declared.profile.Profile.{Profile};
 ghost use Rattle.dm_words.specs.Laws.{AreCodewords};
+ghost use Rattle.dm_words.specs.Messages.{largest_data};
 ghost use Rattle.dm_words.specs.Designators.{IsDesignator, designator, most_assigned};
 ghost use Rattle.dm_words.specs.Pads.{padded};
 ghost use Rattle.dm_words.specs.Spells.{Spells};
 ghost use Rattle.dm_words.specs.Letters.{LetterView, IsLetter, SpellsLetter};
 ghost use Rattle.dm_words.specs.LetterForm.{letter_form};
-ghost use Rattle.dm_words.specs.LetterResults.{BeginsLateFrame, HasOneLetterResult};
+ghost use Rattle.dm_words.specs.LetterResults.{BeginsLateFrame, HasOneLetterResult, FaultsAreKept, FaultsAreOld};
 
 /// A list of codewords, however long, says exactly one letter and is refused with no fault, or is refused with exactly
 /// one fault and says none.
@@ -41,12 +41,22 @@ pub fn wide_is_letter()
 {}
 
 /// The normal form of a letter under each profile, with pads up to any number of codewords that holds it and that a
-/// symbol can have, has that many codewords, and they say the letter.
+/// symbol can have, has that many codewords, each of 0 to 255, and they say the letter.
 pub fn letter_form_says()
     ensures letter { (profile : Profile) (l : LetterView) (count : ℕ) → IsLetter l
-        → length (letter_form profile l) ≤ count → count ≤ most_data
+        → length (letter_form profile l) ≤ count → count ≤ largest_data
         → SpellsLetter (padded (letter_form profile l) count) l }
     ensures count { (profile : Profile) (l : LetterView) (count : ℕ)
         → length (letter_form profile l) ≤ count
         → length (padded (letter_form profile l) count) ≡ count }
+    ensures codewords { (profile : Profile) (l : LetterView) (count : ℕ) → IsLetter l
+        → AreCodewords (padded (letter_form profile l) count) }
+{}
+
+/// What is refused in the wide extent as a message is refused as a letter with the same fault, unless this is of ECI,
+/// of structured append or reader programming as the first codeword, or of a macro behind empty runs that stand first.
+/// And nothing else is refused as a letter.
+pub fn faults_are_kept()
+    ensures kept { FaultsAreKept }
+    ensures old { FaultsAreOld }
 {}

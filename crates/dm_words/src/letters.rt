@@ -10,3 +10,4 @@ pub mod mark;
 pub mod normal_form;
 pub mod opening;
 pub mod reading;
+pub mod symbology;

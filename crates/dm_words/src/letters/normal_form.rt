@@ -1,13 +1,13 @@
 //! The normal form of a letter under a profile: its data codewords, without pads.
 
-ghost use Rattle.std.specs.Prelude.{◌≡◌, ◌+◌, ◌*◌, ◌≤◌, ◌++◌, ◌∷◌, length, OnErr};
+ghost use Rattle.std.specs.Prelude.{◌≡◌, ◌+◌, ◌*◌, ◌<◌, ◌≤◌, ◌↔◌, ◌++◌, ◌∷◌, length, OnOk, OnErr, IsErr};
 ghost use Rattle.dm_words.specs.Ascii.{ascii};
 ghost use Rattle.dm_words.specs.Designators.{eci_word, designator};
 ghost use Rattle.dm_words.specs.Heads.{IsHead, head_words};
 ghost use Rattle.dm_words.specs.Letters.{AreMarks};
-ghost use Rattle.dm_words.specs.LetterForm.{IsLetterFormResult, marked_ascii};
+ghost use Rattle.dm_words.specs.LetterForm.{IsLetterFormResult, letter_form, marked_ascii};
 ghost use Rattle.dm_words.specs.Outcomes.{outcome};
-ghost use Rattle.dm_words.specs.inner.MarkedForms.{IsMarkedResult, is_plain};
+ghost use Rattle.dm_words.specs.inner.MarkedForms.{is_plain};
 
 use crate::ascii::{ascii_form, unit_at, write_unit};
 use crate::fault::TooLong;
@@ -16,8 +16,8 @@ use crate::letters::designator::{ECI, MOST_ASSIGNED, designator_words};
 use crate::letters::head::{Head, head_words};
 use crate::letters::letter::Letter;
 use crate::letters::mark::Mark;
-use crate::limits::{MESSAGE_ROOM, MOST_MARKS};
-use crate::normal_form::normal_words_to;
+use crate::limits::{LARGEST_DATA, MESSAGE_ROOM, MOST_MARKS};
+use crate::normal_form::normal_words_in;
 use crate::profile::Profile;
 use arrayvec::ArrayVec;
 use dm_layout::MOST_DATA;
@@ -55,16 +55,16 @@ fn marked_length(items: &[Item], marks: &[Mark]) -> usize
 }
 
 /// Adds codewords, where there is room.
-fn add_words(more: &[u8], words: &mut ArrayVec<u8, MOST_DATA>)
-    requires { length words.old.items + length more.now ≤ MOST_DATA }
+fn add_words<const N: usize>(more: &[u8], words: &mut ArrayVec<u8, N>)
+    requires { length words.old.items + length more.now ≤ N }
     ensures { words.new.items ≡ words.old.items ++ more.now }
 {
     let _room = words.try_extend_from_slice(more);
 }
 
 /// Adds the ASCII codewords of items.
-fn add_ascii(items: &[Item], words: &mut ArrayVec<u8, MOST_DATA>)
-    requires { length words.old.items + length (ascii items.now) ≤ MOST_DATA }
+fn add_ascii<const N: usize>(items: &[Item], words: &mut ArrayVec<u8, N>)
+    requires { length words.old.items + length (ascii items.now) ≤ N }
     ensures { words.new.items ≡ words.old.items ++ ascii items.now }
 {
     let mut at = 0;
@@ -75,9 +75,9 @@ fn add_ascii(items: &[Item], words: &mut ArrayVec<u8, MOST_DATA>)
 }
 
 /// Adds ECI and the designator of a number.
-fn add_mark_words(number: u32, words: &mut ArrayVec<u8, MOST_DATA>)
+fn add_mark_words<const N: usize>(number: u32, words: &mut ArrayVec<u8, N>)
     requires assigned { number ≤ MOST_ASSIGNED }
-    requires room { length words.old.items + length (eci_word ∷ designator number) ≤ MOST_DATA }
+    requires room { length words.old.items + length (eci_word ∷ designator number) ≤ N }
     ensures { words.new.items ≡ words.old.items ++ (eci_word ∷ designator number) }
 {
     words.push(ECI);
@@ -85,10 +85,9 @@ fn add_mark_words(number: u32, words: &mut ArrayVec<u8, MOST_DATA>)
 }
 
 /// Adds items with marks: the items in ASCII from mark to mark, and the marks.
-fn add_marked(items: &[Item], marks: &[Mark], words: &mut ArrayVec<u8, MOST_DATA>)
+fn add_marked<const N: usize>(items: &[Item], marks: &[Mark], words: &mut ArrayVec<u8, N>)
     requires in_order { AreMarks 0 (length items.now) marks.now }
-    requires room { length words.old.items + length (marked_ascii 0 items.now marks.now)
-        ≤ MOST_DATA }
+    requires room { length words.old.items + length (marked_ascii 0 items.now marks.now) ≤ N }
     ensures { words.new.items ≡ words.old.items ++ marked_ascii 0 items.now marks.now }
 {
     let mut before = 0;
@@ -123,24 +122,26 @@ fn is_plain(head: Option<Head>, marks: &[Mark]) -> bool
     }
 }
 
-/// Writes a head, and items with marks, into the target, where they are at most `MOST_DATA` codewords; otherwise
-/// changes nothing.
-fn write_marked(
+/// Writes a head, and items with marks, into the target, where they are at most `N` codewords; otherwise changes
+/// nothing.
+fn write_marked<const N: usize>(
     head: Option<Head>,
     items: &[Item],
     marks: &[Mark],
-    words: &mut ArrayVec<u8, MOST_DATA>,
+    words: &mut ArrayVec<u8, N>,
 ) -> Result<(), TooLong>
     requires head { IsHead head }
     requires few { length items.now ≤ MESSAGE_ROOM }
     requires few_marks { length marks.now ≤ MOST_MARKS }
     requires in_order { AreMarks 0 (length items.now) marks.now }
-    ensures form { IsMarkedResult (head_words head ++ marked_ascii 0 items.now marks.now)
-        (outcome result words.new) }
+    ensures form { OnOk result
+        (words.new.items ≡ head_words head ++ marked_ascii 0 items.now marks.now) }
+    ensures too_long { IsErr result
+        ↔ (N < length (head_words head ++ marked_ascii 0 items.now marks.now)) }
     ensures same { OnErr result (words.new.items ≡ words.old.items) }
 {
     let length = head_words_length(head) + marked_length(items, marks);
-    if length > MOST_DATA {
+    if length > N {
         return Err(TooLong);
     }
     words.clear();
@@ -173,10 +174,27 @@ pub fn letter_words_to(
     ensures form { IsLetterFormResult profile letter.now (outcome result words.new) }
     ensures same { OnErr result (words.new.items ≡ words.old.items) }
 {
+    letter_words_in(profile, letter, words)
+}
+
+/// Does the same as [`letter_words_to()`] in a target with room for `N` codewords, at least 3 as each symbol has: after
+/// `Ok`, `words` holds the codewords of the letter under the profile, whatever it held before. `TooLong` exactly where
+/// they are more than `N`; then it holds what it held before.
+pub fn letter_words_in<const N: usize>(
+    profile: Profile,
+    letter: &Letter,
+    words: &mut ArrayVec<u8, N>,
+) -> Result<(), TooLong>
+    requires least { 3 ≤ N }
+    requires most { N ≤ LARGEST_DATA }
+    ensures form { OnOk result (words.new.items ≡ letter_form profile letter.now) }
+    ensures too_long { IsErr result ↔ (N < length (letter_form profile letter.now)) }
+    ensures same { OnErr result (words.new.items ≡ words.old.items) }
+{
     let head = letter.head();
     let marks = letter.marks();
     if is_plain(head, marks) {
-        return normal_words_to(profile, letter.message(), words);
+        return normal_words_in(profile, letter.message(), words);
     }
     write_marked(head, letter.items(), marks, words)
 }

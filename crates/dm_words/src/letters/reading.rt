@@ -3,13 +3,16 @@
 ghost use Rattle.std.specs.Prelude.{◌≡◌, ◌+◌, ◌*◌, ◌≤◌, ◌<◌, ◌++◌, [], length, drop, None, Some, OnOk, OnErr};
 ghost use Rattle.dm_words.specs.Letters.{AreMarks, BeginNoEci, opening_head, opening_items, closing_items};
 ghost use Rattle.dm_words.specs.LetterResults.{IsLetterResult};
+ghost use Rattle.dm_words.specs.LetterExtents.{IsLetterResultIn};
 ghost use Rattle.dm_words.specs.Outcomes.{outcome};
+ghost use Rattle.dm_words.specs.Refused.{Refused};
 ghost use Rattle.dm_words.specs.inner.LetterScan.{first_designator, mark_by, first_letter_part, letter_on, letter_by};
 ghost use Rattle.dm_words.specs.inner.LetterScan.{opened};
 ghost use Rattle.dm_words.specs.inner.LetterContents.{content_view, headed_view, headed_outcome, IsContentAt};
 ghost use Rattle.dm_words.specs.inner.LetterContents.{IsLetterPartTaken};
 
 use crate::extent::Extent;
+use crate::fault::WordFault;
 use crate::letters::content::Content;
 use crate::letters::designator::{ECI, first_designator};
 use crate::letters::fault::LetterFault;
@@ -20,7 +23,7 @@ use crate::limits::MESSAGE_ROOM;
 use crate::macros::{add_header, add_trailer};
 use crate::message::Message;
 use crate::numbers::number_at;
-use crate::reading::next_part;
+use crate::reading::{message_to_as, next_part};
 use dm_layout::MOST_DATA;
 
 /// Takes the mark whose ECI stands at an index: adds it, and gives the number of its codewords.
@@ -198,5 +201,45 @@ pub fn letter_to(words: &[u8], letter: &mut Letter) -> Result<(), LetterFault>
             letter.head = None;
             Err(fault)
         }
+    }
+}
+
+/// Does the same as [`letter_to()`] for an extent: at [`Extent::Usual`] the codewords are read as
+/// [`message_to()`](crate::message_to) reads them, and what they spell is a letter without a head and marks. What is
+/// read at [`Extent::Usual`] is read at [`Extent::Wide`] as the same. Codewords that spell a message take no more work
+/// than that message does.
+pub fn letter_to_as(extent: Extent, words: &[u8], letter: &mut Letter) -> Result<(), LetterFault>
+    requires { length words.now ≤ MOST_DATA }
+    ensures read { IsLetterResultIn extent words.now (outcome result letter.new) }
+    ensures emptied { OnErr result
+        (letter.new ≡ record { head = None; items = []; marks = [] }) }
+{
+    letter.clear();
+    match message_to_as(extent, words, &mut letter.content.message) {
+        Ok(()) => Ok(()),
+        Err(fault) => refused_to(extent, words, fault, letter),
+    }
+}
+
+/// Reads codewords that spell no message in an extent, and have this fault in it, into the letter: they may say a
+/// letter that is no message.
+fn refused_to(
+    extent: Extent,
+    words: &[u8],
+    fault: WordFault,
+    letter: &mut Letter,
+) -> Result<(), LetterFault>
+    requires short { length words.now ≤ MOST_DATA }
+    requires refused { Refused extent words.now fault }
+    ensures read { IsLetterResultIn extent words.now (outcome result letter.new) }
+    ensures emptied { OnErr result
+        (letter.new ≡ record { head = None; items = []; marks = [] }) }
+{
+    match extent {
+        Extent::Usual => {
+            letter.clear();
+            Err(LetterFault::Word(fault))
+        }
+        Extent::Wide => letter_to(words, letter),
     }
 }

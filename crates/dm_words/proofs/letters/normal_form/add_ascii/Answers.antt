@@ -5,7 +5,7 @@ use Rattle.dm_words.proofs.MarkedWords.{unit_added, unit_fits, units_end}
 use Rattle.dm_words.proofs.letters.normal_form.add_ascii.Goals as goal
 
 pub write_unit-at-requires : goal.write_unit-at-requires
-write_unit-at-requires c =
+write_unit-at-requires g c =
     let h = has_unit c.unit_at-unit.result c.args.items.now c.loop-at.at c.loop-at-test.true c.unit_at-unit.ensures in
     omega (
       arith,
@@ -16,7 +16,7 @@ write_unit-at-requires c =
     )
 
 pub loop-at-preserved : goal.loop-at-preserved
-loop-at-preserved c =
+loop-at-preserved g c =
     let h = has_unit c.unit_at-unit.result c.args.items.now c.loop-at.at c.loop-at-test.true c.unit_at-unit.ensures in
     record {
       in_range = rw c.write_unit-at.ensures.item_count h.within;
@@ -26,10 +26,10 @@ loop-at-preserved c =
     }
 
 pub loop-at-smaller : goal.loop-at-smaller
-loop-at-smaller c =
+loop-at-smaller g c =
     let h = has_unit c.unit_at-unit.result c.args.items.now c.loop-at.at c.loop-at-test.true c.unit_at-unit.ensures in
     omega (arith, h.some, h.within, c.write_unit-at.ensures.item_count)
 
 pub returns : goal.returns
-returns c =
+returns g c =
     units_end c.args.items.now c.loop-at.at _ c.loop-at.words.items c.loop-at-test.false c.loop-at.invariant.so_far

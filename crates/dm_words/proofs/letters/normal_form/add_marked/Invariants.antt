@@ -5,7 +5,7 @@ use Rattle.dm_words.proofs.letters.normal_form.add_marked.Given as goal
 
 -- The codewords up to the marks so far are written.
 abbrev pub invariant-loop-mark : goal.invariant-loop-mark
-invariant-loop-mark l = record {
+invariant-loop-mark g l = record {
   within : l.before ≤ length l.items;
   in_order : AreMarks l.before (length l.items) (drop l.mark-index l.marks);
   so_far : l.fn.words.items ++ marked_ascii 0 l.items l.marks ≡ l.words.items
