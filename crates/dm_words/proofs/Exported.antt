@@ -4,8 +4,8 @@ pub use Rattle.dm_words.proofs.ItemBytes.{spelled_is_message}
 pub use Rattle.dm_words.proofs.LawLemmas.{one_result}
 pub use Rattle.dm_words.proofs.NormalForms.{normal_form_codewords, normal_form_count, normal_form_items}
 pub use Rattle.dm_words.proofs.NormalForms.{normal_form_spells}
-pub use Rattle.dm_words.proofs.SpelledBounds.{spelled_is_few}
 pub use Rattle.dm_words.proofs.LetterBytes.{letter_form_codewords}
 pub use Rattle.dm_words.proofs.LetterExtents.{said_is_one, said_is_right, said_not_refused, refused_is_one, said_wide}
 pub use Rattle.dm_words.proofs.LetterExtents.{form_says_in, spelled_said, usual_spells, wide_spells}
 pub use Rattle.dm_words.proofs.LetterForms.{letter_form_count}
+pub use Rattle.dm_words.proofs.SpelledBounds.{room_for_spelled, spelled_is_few}

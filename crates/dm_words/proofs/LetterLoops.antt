@@ -3,7 +3,6 @@ use Rattle.std.proofs.Common.{◌≡◌, ℕ, suc, ◌+◌, ◌*◌, ◌<◌, �
 use Rattle.std.proofs.Common.{subst, ◌∙◌, append_assoc, arith, length-append, Option, Some, None, Result, Ok}
 use Rattle.std.proofs.lemmas.List.{append-nil, length-drop, length-take, drop-drop}
 use Rattle.dm_words.specs.declared.extent.Extent.TheVariants.{Wide}
-use Rattle.dm_words.specs.declared.letters.content.Content.{Content}
 use Rattle.dm_words.specs.declared.letters.designator.Designator.{Designator}
 use Rattle.dm_words.specs.declared.letters.fault.LetterFault.{LetterFault}
 use Rattle.dm_words.specs.declared.letters.mark.Mark.{Mark}
@@ -13,7 +12,7 @@ use Rattle.dm_words.specs.Letters.{said_marks}
 use Rattle.dm_words.specs.inner.Scan.Walk.{Takes, Stops, walk}
 use Rattle.dm_words.specs.inner.LetterScan.{mark_by, first_letter_part, with_said}
 use Rattle.dm_words.specs.inner.LetterScan.{extended, letter_to, letter_on}
-use Rattle.dm_words.specs.inner.LetterContents.{content_view, IsContentAt, IsLetterPartTaken}
+use Rattle.dm_words.specs.inner.LetterContents.{IsContentAt, IsLetterPartTaken}
 use Rattle.dm_words.proofs.Walks.{walk-fuel}
 use Rattle.dm_words.proofs.Pairs.{IsBytes}
 use Rattle.dm_words.proofs.Parts.{room_of}
@@ -72,55 +71,57 @@ room_by place words after said (mark d number e whole is) =
     rw is (omega (arith, ap length whole, designator_some d number e), assigned d number e)
 
 -- What is known after a part was taken: the room that is left.
-stays : (at n : ℕ) (old new : Content) (said : Said) → IsContentAt at old → HasRoom n said → 0 < n → content_view new
-    ≡ with_said (content_view old) said → IsContentAt (at + n) new
-stays at n old new (Items items) v room some is =
-    let message : new.message ≡ old.message ++ items = ap (λ (l : LetterView). l.items) is in
-    let marks : new.marks.items ≡ old.marks.items = ap (λ (l : LetterView). l.marks) is in
+stays : (most : ℕ) (words : List ℕ) (at n : ℕ) (old new : LetterView) (said : Said) → IsContentAt most words at old
+    → HasRoom n said → 0 < n → new ≡ with_said old said
+    → IsContentAt most words (at + n) new
+stays most words at n old new (Items items) v room some is =
+    let message : new.items ≡ old.items ++ items = ap (λ (l : LetterView). l.items) is in
+    let marks : new.marks ≡ old.marks = ap (λ (l : LetterView). l.marks) is in
     record {
-      room = rw message (omega (arith, v.room, room, length-append old.message items));
+      item_room = rw message (omega (arith, v.item_room, room, length-append old.items items));
       mark_room = rw marks (omega (arith, v.mark_room));
       in_order =
           rw (message, marks)
-          (more_items 0 (length old.message) (length (old.message ++ items)) old.marks.items v.in_order
-          (omega (arith, length-append old.message items)));
+          (more_items 0 (length old.items) (length (old.items ++ items)) old.marks v.in_order
+          (omega (arith, length-append old.items items)));
     }
-stays at n old new (Number number) v room some is =
-    let message : new.message ≡ old.message = ap (λ (l : LetterView). l.items) is in
-    let m : Mark = record { place = length old.message; number = number } in
-    let marks : new.marks.items ≡ old.marks.items ++ m ∷ [] = ap (λ (l : LetterView). l.marks) is in
+stays most words at n old new (Number number) v room some is =
+    let message : new.items ≡ old.items = ap (λ (l : LetterView). l.items) is in
+    let m : Mark = record { place = length old.items; number = number } in
+    let marks : new.marks ≡ old.marks ++ m ∷ [] = ap (λ (l : LetterView). l.marks) is in
     record {
-      room = rw message (omega (arith, v.room));
-      mark_room = rw marks (omega (arith, v.mark_room, room.0, length-append old.marks.items (m ∷ [])));
-      in_order = rw (message, marks) (one_more 0 (length old.message) number old.marks.items v.in_order room.1);
+      item_room = rw message (omega (arith, v.item_room));
+      mark_room = rw marks (omega (arith, v.mark_room, room.0, length-append old.marks (m ∷ [])));
+      in_order = rw (message, marks) (one_more 0 (length old.items) number old.marks v.in_order room.1);
     }
 
 -- How many items there are after a part was taken.
-counted : (n : ℕ) (old new : Content) (said : Said) → HasRoom n said → content_view new
-    ≡ with_said (content_view old) said → length new.message ≤ length old.message + 2 * n
+counted : (n : ℕ) (old new : LetterView) (said : Said) → HasRoom n said → new
+    ≡ with_said old said → length new.items ≤ length old.items + 2 * n
 counted n old new (Items items) room is =
-    let message : new.message ≡ old.message ++ items = ap (λ (l : LetterView). l.items) is in
-    rw message (omega (arith, room, length-append old.message items))
+    let message : new.items ≡ old.items ++ items = ap (λ (l : LetterView). l.items) is in
+    rw message (omega (arith, room, length-append old.items items))
 counted n old new (Number number) room is =
-    let message : new.message ≡ old.message = ap (λ (l : LetterView). l.items) is in
+    let message : new.items ≡ old.items = ap (λ (l : LetterView). l.items) is in
     rw message (omega arith)
 
 -- After a turn of the loop that takes a part, this is known.
-pub record Leaves (words : List ℕ) (start at n : ℕ) (first new : Content) (total : Result LetterView LetterFault) :
-    Type 0 where
+pub record Leaves (most : ℕ) (words : List ℕ) (start at n : ℕ) (first new : LetterView)
+    (total : Result LetterView LetterFault) : Type 0 where
   pub in_range : at + n ≤ length words
   pub some : 0 < n
-  pub content : IsContentAt (at + n) new
-  pub count : length new.message + 2 * start ≤ length first.message + 2 * (at + n)
-  pub so_far : letter_on (content_view new) (at + n + 1) (drop (at + n) words) ≡ total
+  pub content : IsContentAt most words (at + n) new
+  pub count : length new.items + 2 * start ≤ length first.items + 2 * (at + n)
+  pub so_far : letter_on new (at + n + 1) (drop (at + n) words) ≡ total
 
 -- After a turn of the loop that takes a part, what is read in all is still the same.
-pub goes_on : (words : List ℕ) (start at n : ℕ) (first old new : Content) (total : Result LetterView LetterFault)
+pub goes_on : (most : ℕ) (words : List ℕ) (start at n : ℕ) (first old new : LetterView) (total : Result LetterView LetterFault)
     → IsBytes words → at ≤ length words
-    → IsContentAt at old → length old.message + 2 * start ≤ length first.message + 2 * at
-    → IsLetterPartTaken (Ok (Some n)) (content_view old) (content_view new) (first_letter_part (at + 1) (drop at words))
-    → letter_on (content_view old) (at + 1) (drop at words) ≡ total → Leaves words start at n first new total
-goes_on words start at n first old new total fit in_range v count took so_far =
+    → IsContentAt most words at old → length old.items + 2 * start ≤ length first.items + 2 * at
+    → IsLetterPartTaken (Ok (Some n)) old new (first_letter_part (at + 1) (drop at words))
+    → letter_on old (at + 1) (drop at words) ≡ total
+    → Leaves most words start at n first new total
+goes_on most words start at n first old new total fit in_range v count took so_far =
     let said = took.0 in
     let fits = letter_part_sound.fits at words fit in
     let r = letter_part_sound.right (at + 1) (drop at words) n said fits took.1 in
@@ -128,36 +129,36 @@ goes_on words start at n first old new total fit in_range v count took so_far =
     let room : HasRoom n said =
     subst (λ (k : ℕ). HasRoom k said) long
     (room_by (at + 1) (take n (drop at words)) (drop n (drop at words)) said r.0) in
-    let once = letter_on-takes (content_view old) (at + 1) (drop at words) n said fits took.1 in
+    let once = letter_on-takes old (at + 1) (drop at words) n said fits took.1 in
     let place : (at + 1) + n ≡ at + n + 1 = omega arith in
     let rest : drop n (drop at words) ≡ drop (at + n) words = drop-drop n at words in
     record {
       in_range = omega (arith, r.2, length-drop at words);
       some = r.1;
-      content = stays at n old new said v room r.1 took.2;
+      content = stays most words at n old new said v room r.1 took.2;
       count = omega (arith, counted n old new said room took.2);
       so_far = rw (took.2, ← place, ← rest) (sym once ∙ so_far);
     }
 
 -- At the end of the loop, what is read in all is what was read so far.
-pub stops_on : (words : List ℕ) (at : ℕ) (old : Content) (why : Option LetterFault)
+pub stops_on : (words : List ℕ) (at : ℕ) (old : LetterView) (why : Option LetterFault)
     (total : Result LetterView LetterFault)
-    → first_letter_part (at + 1) (drop at words) ≡ Stops why → letter_on (content_view old) (at + 1) (drop at words)
-    ≡ total → total ≡ letter_to (content_view old) why
+    → first_letter_part (at + 1) (drop at words) ≡ Stops why → letter_on old (at + 1) (drop at words)
+    ≡ total → total ≡ letter_to old why
 stops_on words at old why total e so_far = sym so_far
-    ∙ letter_on-stops (content_view old) (at + 1) (drop at words) why e
+    ∙ letter_on-stops old (at + 1) (drop at words) why e
 
 -- ---- one part
 
 -- Behind ECI, a mark is taken.
-pub mark_taken : (place : ℕ) (d : Designator) (old new : Content) → new.message ≡ old.message
-    → new.marks.items ≡ old.marks.items ++ record { place = length old.message; number = d.number } ∷ []
-    → IsLetterPartTaken (Ok (Some (1 + d.count))) (content_view old) (content_view new) (mark_by place (Some d))
-mark_taken place d old new message marks = (Number d.number, refl, rw (message, marks) refl)
+pub mark_taken : (place : ℕ) (d : Designator) (old new : LetterView) → new.head ≡ old.head → new.items ≡ old.items
+    → new.marks ≡ old.marks ++ record { place = length old.items; number = d.number } ∷ []
+    → IsLetterPartTaken (Ok (Some (1 + d.count))) old new (mark_by place (Some d))
+mark_taken place d old new head message marks = (Number d.number, refl, rw (head, message, marks) refl)
 
 -- Behind ECI, a mark is taken where a designator is found.
-pub mark_found : (place : ℕ) (o : Option Designator) (d : Designator) (old new : Content) → o ≡ Some d → new.message
-    ≡ old.message
-    → new.marks.items ≡ old.marks.items ++ record { place = length old.message; number = d.number } ∷ []
-    → IsLetterPartTaken (Ok (Some (1 + d.count))) (content_view old) (content_view new) (mark_by place o)
-mark_found place o d old new e message marks = rw e (mark_taken place d old new message marks)
+pub mark_found : (place : ℕ) (o : Option Designator) (d : Designator) (old new : LetterView) → o ≡ Some d
+    → new.head ≡ old.head → new.items ≡ old.items
+    → new.marks ≡ old.marks ++ record { place = length old.items; number = d.number } ∷ []
+    → IsLetterPartTaken (Ok (Some (1 + d.count))) old new (mark_by place o)
+mark_found place o d old new e head message marks = rw e (mark_taken place d old new head message marks)

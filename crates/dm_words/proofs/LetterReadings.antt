@@ -1,11 +1,11 @@
 -- What the calls that read a letter leave.
-use Rattle.std.proofs.Common.{◌≡◌, ℕ, ◌+◌, ◌*◌, ◌≤◌, List, [], ◌∷◌, ◌++◌, length, refl, sym, ap}
-use Rattle.std.proofs.Common.{subst, ◌∙◌, arith, length-append, Option, Some, Result, Ok, Err}
+use Rattle.std.proofs.Common.{◌≡◌, ℕ, zero, suc, ◌+◌, ◌*◌, ◌≤◌, List, [], ◌∷◌, ◌++◌, length, refl, sym, ap}
+use Rattle.std.proofs.Common.{subst, ◌∙◌, arith, length-append, Option, Some, None, Result, Ok, Err}
 use Rattle.std.specs.Prelude.{IfOk}
 use Rattle.dm_words.specs.declared.extent.Extent.TheVariants.{Wide}
 use Rattle.dm_words.specs.declared.item.Item.{Item}
-use Rattle.dm_words.specs.declared.letters.content.Content.{Content}
 use Rattle.dm_words.specs.declared.letters.fault.LetterFault.{LetterFault}
+use Rattle.dm_words.specs.declared.letters.mark.Mark.{Mark}
 use Rattle.dm_words.specs.declared.letters.opening.Opened.{Opened}
 use Rattle.dm_words.specs.declared.letters.opening.Opening.{Opening}
 use Rattle.dm_words.specs.declared.letters.opening.Opening.TheVariants.{Plain, Headed, Framed}
@@ -15,57 +15,86 @@ use Rattle.dm_words.specs.Letters.{opening_items, closing_items}
 use Rattle.dm_words.specs.LetterResults.{IsLetterResult}
 use Rattle.dm_words.specs.inner.LetterScan.{opened, first_frame, letter_on, opening_letter, letter_of}
 use Rattle.dm_words.specs.inner.Scan.Walk.{walk}
-use Rattle.dm_words.specs.inner.LetterContents.{content_view, IsContentAt}
+use Rattle.dm_words.specs.inner.LetterContents.{IsContentAt}
 use Rattle.dm_words.proofs.Pairs.{IsBytes}
 use Rattle.dm_words.proofs.Openings as openings
 use Rattle.dm_words.proofs.Openings.{OpeningJudged}
 use Rattle.dm_words.proofs.Marks.{more_items}
 use Rattle.dm_words.proofs.SaidLetters.{said_is_letter}
+use Rattle.dm_words.proofs.SpelledBounds.{room_of_two}
 use Rattle.dm_words.proofs.WholeLetters.{reads, spelled_reads, refused_reads}
 
--- An opening that is found stands in the words, and leaves room for its items.
+-- An opening that is found stands in the words, and where all that they can spell has room, so have its items, those
+-- that close it, and two for each codeword behind it.
 pub record HasOpeningRoom (words : List ℕ) (o : Opened) : Type 0 where
   pub in_range : o.count ≤ length words
-  pub room : length (opening_items o.opening) ≤ 2 * o.count + 5
+  pub few : length (opening_items o.opening) ≤ 2 * o.count + 5
+  pub room : (most : ℕ) → most_spelled Wide (length words) ≤ most
+      → length (opening_items o.opening) + length (closing_items o.opening) + 2 * length words ≤ most + 2 * o.count
 
 -- The items of an opening have room.
-room_by : (words more : List ℕ) (opening : Opening) → IsOpening words more opening
+few_by : (words more : List ℕ) (opening : Opening) → IsOpening words more opening
     → length (opening_items opening) ≤ 2 * length words + 5
-room_by words more opening (headed said s is) = rw is (omega arith)
-room_by words more opening (framed digit f is) =
+few_by words more opening (headed said s is) = rw is (omega arith)
+few_by words more opening (framed digit f is) =
     rw is (omega (arith, ap length f.whole, length-append f.runs (f.word ∷ [])))
-room_by words more opening (plain e no_head no_frame is) = rw is (omega arith)
+few_by words more opening (plain e no_head no_frame is) = rw is (omega arith)
+
+-- Where there are codewords, seven items more than two for each can be spelled.
+some_room : (count most : ℕ) → 1 ≤ count → most_spelled Wide count ≤ most → 2 * count + 7 ≤ most
+some_room zero most some le = absurd (omega (arith, some))
+some_room (suc count) most some le = le
+
+-- So have those that close it.
+room_by : (words more : List ℕ) (opening : Opening) (count most : ℕ) → IsOpening words more opening
+    → length words ≤ count → most_spelled Wide count ≤ most
+    → length (opening_items opening) + length (closing_items opening) + 2 * count ≤ most + 2 * length words
+room_by words more opening count most (headed said s is) short le =
+    rw is (omega (arith, room_of_two most Wide count le))
+room_by words more opening count most (framed digit f is) short le =
+    let some : 1 ≤ length words = omega (arith, ap length f.whole, length-append f.runs (f.word ∷ [])) in
+    rw is (omega (arith, some, some_room count most (omega (arith, some, short)) le))
+room_by words more opening count most (plain e no_head no_frame is) short le =
+    rw is (omega (arith, room_of_two most Wide count le))
 
 -- What is found has room.
 pub opening_room : (words : List ℕ) (o : Opened) → opened words ≡ Some o → HasOpeningRoom words o
 opening_room words o e =
     let j = (let P : Option Opened → Type 0 = λ x. OpeningJudged words x in subst P e (openings.judged words)) in
+    let within : length j.first ≤ length words = omega (arith, ap length j.whole, length-append j.first j.more) in
     record {
-      in_range = omega (arith, j.count, ap length j.whole, length-append j.first j.more);
-      room = omega (arith, j.count, room_by j.first j.more o.opening j.is_opening);
+      in_range = omega (arith, j.count, within);
+      few = omega (arith, j.count, few_by j.first j.more o.opening j.is_opening);
+      room = λ most le.
+          omega (arith, j.count, room_by j.first j.more o.opening (length words) most j.is_opening within le);
     }
 
 -- Behind an opening, reading begins with its items and no mark.
-pub begins_at : (words : List ℕ) (o : Opened) (old new : Content) → opened words ≡ Some o → old.message ≡ []
-    → old.marks.items ≡ [] → new.message ≡ old.message ++ opening_items o.opening
-    → new.marks.items ≡ old.marks.items → IsContentAt o.count new × (content_view new ≡ opening_letter o.opening)
-begins_at words o old new e message marks is same =
-    let r = opening_room words o e in
-    let items : new.message ≡ opening_items o.opening = is
-    ∙ ap (λ (l : List Item). l ++ opening_items o.opening) message in
-    let none : new.marks.items ≡ [] = same ∙ marks in (
-      record { room = rw items r.room; mark_room = rw none (omega arith); in_order = rw none (omega arith) },
-      rw (items, none) refl,
+pub begins_at : (most : ℕ) (words : List ℕ) (o : Opened) (before items : List Item) (none marks : List Mark)
+    → opened words ≡ Some o → most_spelled Wide (length words) ≤ most → before ≡ [] → none ≡ []
+    → items ≡ before ++ opening_items o.opening → marks ≡ none
+    → let l : LetterView = record { head = None; items = items; marks = marks } in
+    IsContentAt most words o.count l × (l ≡ opening_letter o.opening)
+begins_at most words o before items none marks e le message empty is same =
+    let r = (opening_room words o e).room most le in
+    let all : items ≡ opening_items o.opening = is ∙ ap (λ (l : List Item). l ++ opening_items o.opening) message in
+    let no_mark : marks ≡ [] = same ∙ empty in (
+      record {
+        item_room = rw all (omega (arith, r));
+        mark_room = rw no_mark (omega arith);
+        in_order = rw no_mark (omega arith);
+      },
+      rw (all, no_mark) refl,
     )
 
 -- Marks in order are so with the items that close a letter.
-pub closed_in_order : (opening : Opening) (old new : Content) → AreMarks 0 (length old.message) old.marks.items
-    → new.message ≡ old.message ++ closing_items opening
-    → new.marks.items ≡ old.marks.items → AreMarks 0 (length new.message) new.marks.items
+pub closed_in_order : (opening : Opening) (old new : LetterView) → AreMarks 0 (length old.items) old.marks
+    → new.items ≡ old.items ++ closing_items opening
+    → new.marks ≡ old.marks → AreMarks 0 (length new.items) new.marks
 closed_in_order opening old new are is same =
     rw (is, same)
-    (more_items 0 (length old.message) (length (old.message ++ closing_items opening)) old.marks.items are
-    (omega (arith, length-append old.message (closing_items opening))))
+    (more_items 0 (length old.items) (length (old.items ++ closing_items opening)) old.marks are
+    (omega (arith, length-append old.items (closing_items opening))))
 
 -- At most two items close a letter.
 pub few_close : (opening : Opening) → length (closing_items opening) ≤ 2

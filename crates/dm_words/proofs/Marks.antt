@@ -2,7 +2,6 @@
 use Rattle.std.proofs.Common.{◌≡◌, ℕ, ◌≤◌, List, [], ◌∷◌, ◌++◌, length, arith, length-append}
 use Rattle.std.proofs.Common.{Result, Ok, Err}
 use Rattle.std.specs.Prelude.{OnOk, OnErr}
-use Rattle.dm_words.specs.declared.letters.content.Content.{Content}
 use Rattle.dm_words.specs.declared.item.Item.{Item}
 use Rattle.dm_words.specs.declared.letters.mark.Mark.{Mark}
 use Rattle.dm_words.specs.Designators.{most_assigned}
@@ -26,12 +25,11 @@ lower least low most [] are le = omega arith
 lower least low most (m ∷ marks) are le = (omega (arith, are.0), are.1, are.2)
 
 -- Marks are in order after one more was added.
-pub one_more_mark : (old new : Content) (number : ℕ) → AreMarks 0 (length old.message) old.marks.items
-    → number ≤ most_assigned → new.message ≡ old.message
-    → new.marks.items ≡ old.marks.items ++ record { place = length old.message; number = number } ∷ []
-    → AreMarks 0 (length new.message) new.marks.items
-one_more_mark old new number are le message marks =
-    rw (message, marks) (one_more 0 (length old.message) number old.marks.items are le)
+pub one_more_mark : (before after : List Item) (old new : List Mark) (number : ℕ) → AreMarks 0 (length before) old
+    → number ≤ most_assigned → after ≡ before → new ≡ old ++ record { place = length before; number = number } ∷ []
+    → AreMarks 0 (length after) new
+one_more_mark before after old new number are le message marks =
+    rw (message, marks) (one_more 0 (length before) number old are le)
 
 -- Marks are in order after an item was added, or none.
 pub one_more_item : {U E : Type 0} (r : Result U E) (old new : List Item) (item : Item) (marks : List Mark)

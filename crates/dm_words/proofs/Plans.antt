@@ -80,7 +80,7 @@ stay_edifact_paid false most next h big =
     (omega (arith, big), omega (arith, big), omega (arith, big), omega (arith, big))
 
 -- No cost is too great.
-pub row_within : (extent : Extent) (m : List Item) → length m ≤ 4000 → IsWithin (length m) (row extent m)
+pub row_within : (extent : Extent) (m : List Item) → length m ≤ 3200 → IsWithin (length m) (row extent m)
 unfolding row
 row_within extent [] few = record {
   ascii = omega arith;
@@ -136,12 +136,12 @@ row_within extent (x ∷ m) few =
         by_test false = omega (arith, h.near)
 
 -- Nor is one of a row that the loop has.
-pub within : (extent : Extent) (m : List Item) (at : ℕ) (r : Row) → length m ≤ 4000 → r ≡ row extent (drop at m)
-    → length (drop at m) ≤ length m → IsWithin 4000 r
+pub within : (extent : Extent) (m : List Item) (at : ℕ) (r : Row) → length m ≤ 3123 → r ≡ row extent (drop at m)
+    → length (drop at m) ≤ length m → IsWithin 3200 r
 within extent m at r few is shorter =
     let h = row_within extent (drop at m) (omega (arith, few, shorter)) in
-    let n : length (drop at m) ≤ 4000 = omega (arith, few, shorter) in
-    let w : IsWithin 4000 (row extent (drop at m)) = record {
+    let n : length (drop at m) ≤ 3200 = omega (arith, few, shorter) in
+    let w : IsWithin 3200 (row extent (drop at m)) = record {
       ascii = omega (arith, h.ascii, n);
       second = h.second;
       c40 = (omega (arith, h.c40.0, n), omega (arith, h.c40.1, n), omega (arith, h.c40.2, n));
@@ -157,7 +157,7 @@ within extent m at r few is shorter =
       near = omega (arith, h.near, n);
       rest = omega (arith, h.rest, n);
     } in
-    subst (IsWithin 4000) (sym is) w
+    subst (IsWithin 3200) (sym is) w
 
 -- What is found of an item is right.
 right_here : (extent : Extent) (x : Item) (rest : List Item) (begins : Begin) (step : Step)

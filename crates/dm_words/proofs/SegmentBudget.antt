@@ -129,7 +129,7 @@ module _ (extent : Extent) where
     pub so_far : IsSegmentSoFar (drop from m) (drop (i + 1) m) (i + 1 - from)
     pub bytes : has_fnc1 (take (i + 1 - from) (drop from m)) ≡ false
 
-  pub byte_at : (m : List Item) (from i : ℕ) (d : Item) (s : Step) → length m ≤ 4000 → from ≤ i → i ≤ length m
+  pub byte_at : (m : List Item) (from i : ℕ) (d : Item) (s : Step) → length m ≤ 3123 → from ≤ i → i ≤ length m
       → IsRightStep extent (drop i m) s → s.segment_ends ≡ false
       → IsSegmentSoFar (drop from m) (drop i m) (i - from) → has_fnc1 (take (i - from) (drop from m)) ≡ false
       → GoesOver m from i

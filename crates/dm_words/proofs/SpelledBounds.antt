@@ -128,3 +128,17 @@ pub some_spell_most : (extent : Extent) (count : ℕ) → SomeSpell extent count
 some_spell_most Usual count = zeros_spell Usual count
 some_spell_most Wide zero = zeros_spell Wide zero
 some_spell_most Wide (suc n) = macro_spells n
+
+-- ---- room
+
+-- Where all that is spelled has room, two items for each codeword have.
+pub room_of_two : (room : ℕ) (extent : Extent) (count : ℕ) → most_spelled extent count ≤ room → 2 * count ≤ room
+room_of_two room Usual count le = le
+room_of_two room Wide zero le = omega arith
+room_of_two room Wide (suc count) le = omega (arith, le)
+
+-- Where seven items more than two for each codeword have room, all that is spelled has.
+pub room_for_spelled : (room : ℕ) (extent : Extent) (count : ℕ) → 2 * count + 7 ≤ room → most_spelled extent count ≤ room
+room_for_spelled room Usual count le = omega (arith, le)
+room_for_spelled room Wide zero le = omega arith
+room_for_spelled room Wide (suc count) le = le

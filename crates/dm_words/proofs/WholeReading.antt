@@ -291,6 +291,20 @@ few_behind_macro Wide [] digit r m e few = absurd (no_digit digit e)
 few_behind_macro Wide (w ∷ words) digit (Ok u) m e few = few
 few_behind_macro Wide (w ∷ words) digit (Err f) m e few = tt
 
+-- A macro is a codeword.
+pub some_behind_macro : (extent : Extent) (words : List ℕ) (digit : ℕ) → macro_digit extent words ≡ Some digit
+    → 1 ≤ length words
+some_behind_macro Usual words digit e = absurd (no_digit digit e)
+some_behind_macro Wide [] digit e = absurd (no_digit digit e)
+some_behind_macro Wide (w ∷ words) digit e = omega arith
+
+-- Behind a macro, seven items more than two for each codeword have room where all that can be spelled has.
+pub room_behind_macro : (room : ℕ) (extent : Extent) (words : List ℕ) (digit : ℕ)
+    → macro_digit extent words ≡ Some digit → most_spelled extent (length words) ≤ room → 2 * length words + 7 ≤ room
+room_behind_macro room Usual words digit e le = absurd (no_digit digit e)
+room_behind_macro room Wide [] digit e le = absurd (no_digit digit e)
+room_behind_macro room Wide (w ∷ words) digit e le = le
+
 -- Without a macro, so are two for each codeword, where there was nothing before them.
 pub few_plain : {U : Type 0} (extent : Extent) (count : ℕ) (r : Result U WordFault) (before m : List Item) → before ≡ []
     → OnOk r (length m + 2 * 0 ≤ length before + 2 * count)

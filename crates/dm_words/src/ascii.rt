@@ -8,7 +8,7 @@ ghost use Rattle.dm_words.specs.inner.Scan.Results.{item_words};
 
 use crate::codeword::{FIRST_DIGITS, FNC1, UPPER_SHIFT};
 use crate::item::{Item, byte};
-use crate::limits::MESSAGE_ROOM;
+use crate::limits::LARGEST_ROOM;
 use arrayvec::ArrayVec;
 
 /// A unit of ASCII, with its codeword.
@@ -91,7 +91,7 @@ pub struct AsciiForm {
 
 /// Gives what is known of the ASCII form of these items, by one look through them.
 pub(crate) fn ascii_form(items: &[Item]) -> AsciiForm
-    requires { length items.now ≤ MESSAGE_ROOM }
+    requires { length items.now ≤ LARGEST_ROOM }
     ensures length { result.length ≡ length (ascii items.now) }
     ensures has_fnc1 { result.has_fnc1 ≡ has_fnc1 items.now }
 {

@@ -11,10 +11,9 @@ ghost use Rattle.dm_words.specs.inner.Scan.Results.{HasRoomAt, IsPartTaken};
 use crate::codeword::{BASE256_LATCH, RANDOM_FACTOR};
 use crate::fault::WordFault;
 use crate::item::{Item, byte};
-use crate::limits::{LARGEST_DATA, MESSAGE_ROOM};
-use crate::message::Message;
+use crate::limits::{LARGEST_DATA, LARGEST_ROOM};
+use crate::message::MessageIn;
 use arrayvec::ArrayVec;
-use dm_layout::MOST_DATA;
 
 /// The most bytes whose length is one number.
 pub(crate) const MOST_SHORT: usize = 249;
@@ -30,17 +29,22 @@ fn random(place: usize) -> u32
 /// Gives the value that the codeword at an index stands for: the randomising is taken away.
 fn plain_value(words: &[u8], index: usize) -> u8
     requires in_range { index < length words.now }
-    requires short { length words.now ≤ MOST_DATA }
+    requires short { length words.now ≤ LARGEST_DATA }
     ensures { result ≡ plain_at (index + 1) (slice_index words.now index) }
 {
     ((words[index] as u32 + 256 - random(index + 1)) % 256) as u8
 }
 
 /// Adds the bytes of `count` codewords from an index on to the message.
-fn push_bytes(words: &[u8], start: usize, count: usize, message: &mut Message)
+fn push_bytes<const ROOM: usize>(
+    words: &[u8],
+    start: usize,
+    count: usize,
+    message: &mut MessageIn<ROOM>,
+)
     requires in_range { start + count ≤ length words.now }
-    requires short { length words.now ≤ MOST_DATA }
-    requires room { length message.old + count ≤ MESSAGE_ROOM }
+    requires short { length words.now ≤ LARGEST_DATA }
+    requires room { length message.old + count ≤ ROOM }
     ensures { message.new
         ≡ message.old ++ byte_items (take count (plain (start + 1) (drop start words.now))) }
 {
@@ -51,14 +55,14 @@ fn push_bytes(words: &[u8], start: usize, count: usize, message: &mut Message)
 
 /// Takes the segment whose latch stands at an index: adds its bytes to the message, and gives the number of its
 /// codewords.
-pub(crate) fn segment_part(
+pub(crate) fn segment_part<const ROOM: usize>(
     words: &[u8],
     at: usize,
-    message: &mut Message,
+    message: &mut MessageIn<ROOM>,
 ) -> Result<usize, WordFault>
     requires in_range { at < length words.now }
-    requires short { length words.now ≤ MOST_DATA }
-    requires room { HasRoomAt at message.old }
+    requires short { length words.now ≤ LARGEST_DATA }
+    requires room { HasRoomAt ROOM words.now at message.old }
     ensures { IsPartTaken result message.old message.new
         (segment_behind (at + 1) (plain (at + 2) (drop (at + 1) words.now))) }
 {
@@ -120,7 +124,7 @@ pub(crate) fn push_length<const N: usize>(words: &mut ArrayVec<u8, N>, count: us
 
 /// Gives the number of codewords of one segment of `count` bytes.
 pub(crate) fn segment_length(count: usize) -> usize
-    requires { count ≤ MESSAGE_ROOM }
+    requires { count ≤ LARGEST_ROOM }
     ensures { result ≡ 1 + length (length_numbers count) + count }
 {
     if count <= MOST_SHORT {

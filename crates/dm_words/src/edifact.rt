@@ -7,9 +7,8 @@ ghost use Rattle.dm_words.specs.inner.Scan.Prefixes.{group_values, edifact_run, 
 ghost use Rattle.dm_words.specs.inner.Scan.Results.{HasRoomAt, IsGroupTaken, IsEdifactTaken};
 
 use crate::item::Item;
-use crate::limits::MESSAGE_ROOM;
-use crate::message::Message;
-use dm_layout::MOST_DATA;
+use crate::limits::LARGEST_DATA;
+use crate::message::MessageIn;
 
 /// The value that ends a run.
 const UNLATCH_VALUE: u8 = 31;
@@ -28,8 +27,13 @@ fn character(value: u8) -> Item
 
 /// Takes a group of three codewords: adds the characters of its values to the message, up to the unlatch. Where there
 /// is one, the run ends there, and this gives the number of codewords of the group that belong to the run.
-fn group_part(high: u8, middle: u8, low: u8, message: &mut Message) -> Option<usize>
-    requires { length message.old + 4 ≤ MESSAGE_ROOM }
+fn group_part<const ROOM: usize>(
+    high: u8,
+    middle: u8,
+    low: u8,
+    message: &mut MessageIn<ROOM>,
+) -> Option<usize>
+    requires { length message.old + 4 ≤ ROOM }
     ensures { IsGroupTaken result message.old message.new (group_values high middle low) }
 {
     let first = high / 4;
@@ -57,10 +61,14 @@ fn group_part(high: u8, middle: u8, low: u8, message: &mut Message) -> Option<us
 
 /// Takes the run whose latch stands at an index: adds its characters to the message, and gives the number of its
 /// codewords.
-pub(crate) fn edifact_part(words: &[u8], at: usize, message: &mut Message) -> usize
+pub(crate) fn edifact_part<const ROOM: usize>(
+    words: &[u8],
+    at: usize,
+    message: &mut MessageIn<ROOM>,
+) -> usize
     requires in_range { at < length words.now }
-    requires short { length words.now ≤ MOST_DATA }
-    requires room { HasRoomAt at message.old }
+    requires short { length words.now ≤ LARGEST_DATA }
+    requires room { HasRoomAt ROOM words.now at message.old }
     ensures { IsEdifactTaken result message.old message.new
         (edifact_run (drop (at + 1) words.now)) }
 {

@@ -25,7 +25,7 @@ ghost use Rattle.dm_words.specs.Refused.{Refused};
 ghost use Rattle.dm_words.specs.Laws.{HasOneResult, AreCodewords, AreRunValues, BeginsNoSpelling, CanBeLeftOut};
 ghost use Rattle.dm_words.specs.Laws.{AreMacro, SomeSpell};
 
-use crate::limits::{LARGEST_DATA, MESSAGE_ROOM, MOST_ITEMS};
+use crate::limits::{LARGEST_DATA, LARGEST_ROOM, MESSAGE_ROOM, MOST_ITEMS};
 use dm_layout::MOST_DATA;
 
 /// In each extent, a list of codewords, however long, spells exactly one message and is refused with no fault, or is
@@ -159,12 +159,14 @@ pub fn tables_are_sound()
     ensures shifted { (set : CodeSet) (shift : Shift) → IsTable (shifted_rows set shift) }
 {}
 
-/// The most data codewords that are read and written are those of the largest size. What is read in the usual extent
-/// has two items for each, and a message has room for the most that are read in the wide extent. `MOST_DATA` is the
-/// constant of `dm_layout`, whose law `laws::sizes::constants_are_the_limits` says the same of it.
+/// The most data codewords of a square are those of the largest one. What is read of them in the usual extent has two
+/// items for each, and a message has room for the most that are read in the wide extent; `LARGEST_ROOM` is room for the
+/// most that are read there of a symbol of any shape. `MOST_DATA` is the constant of `dm_layout`, whose law
+/// `laws::sizes::constants_are_the_limits` says the same of it.
 pub fn limits_are_those_of_the_table()
     ensures data { MOST_DATA ≡ most_data }
     ensures largest { LARGEST_DATA ≡ largest_data }
     ensures items { MOST_ITEMS ≡ most_spelled Extent.Usual most_data }
     ensures room { MESSAGE_ROOM ≡ most_spelled Extent.Wide most_data }
+    ensures largest_room { LARGEST_ROOM ≡ most_spelled Extent.Wide largest_data }
 {}

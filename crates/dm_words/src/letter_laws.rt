@@ -1,6 +1,7 @@
 //! Laws of letters. Each function has an empty body: its contract is the law.
 
 ghost use Rattle.std.specs.Prelude.{◌≡◌, ℕ, ◌≤◌, ◌↔◌, ◌⊎◌, List, [], length, None};
+ghost use Rattle.dm_words.specs.Messages.{largest_data};
 ghost use Rattle.dm_words.specs.declared.extent.Extent.{Extent};
 ghost use Rattle.dm_words.specs.declared.item.Item.{Item};
 ghost use Rattle.dm_words.specs.declared.profile.Profile.{Profile};

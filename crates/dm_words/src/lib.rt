@@ -19,8 +19,10 @@
 //! and [`letter_words_to()`] give the codewords of a letter. [`head_of()`], [`head_words()`], [`designator_of()`] and
 //! [`designator_words()`] read and write a head or a designator alone.
 //!
-//! Limits: [`MOST_DATA`] codewords, [`MOST_ITEMS`] items in the usual extent, and room for [`MESSAGE_ROOM`];
-//! [`MOST_MARKS`] marks.
+//! Limits: up to [`LARGEST_DATA`] codewords are read and written, those of a square, which are up to [`MOST_DATA`], with
+//! a [`Message`] or a [`Letter`]: it has room for [`MESSAGE_ROOM`] items, of which the usual extent takes
+//! [`MOST_ITEMS`], and [`MOST_MARKS`] marks. A [`MessageIn`] and a [`LetterIn`] have any room: [`LARGEST_ROOM`] and
+//! [`LARGEST_MARKS`] are enough for every symbol.
 //!
 //! A *target* is memory that the caller hands in. What the contracts say is defined in `specs/`; [`laws`] has what
 //! holds of the definitions. No call allocates memory.
@@ -56,13 +58,13 @@ pub use letters::designator::{
 };
 pub use letters::fault::LetterFault;
 pub use letters::head::{Appended, HEAD_ROOM, Head, head_of, head_words};
-pub use letters::letter::Letter;
+pub use letters::letter::{Letter, LetterIn};
 pub use letters::mark::Mark;
 pub use letters::normal_form::{letter_words, letter_words_in, letter_words_to};
 pub use letters::reading::{letter_of, letter_to, letter_to_as};
 pub use letters::symbology::symbology_number;
-pub use limits::{LARGEST_DATA, MESSAGE_ROOM, MOST_ITEMS, MOST_MARKS};
-pub use message::Message;
+pub use limits::{LARGEST_DATA, LARGEST_MARKS, LARGEST_ROOM, MESSAGE_ROOM, MOST_ITEMS, MOST_MARKS};
+pub use message::{Message, MessageIn};
 pub use normal_form::{ascii_words, normal_words, normal_words_in, normal_words_to, shorter_words};
 pub use pad::{add_pads, pad_to, padded};
 pub use profile::Profile;

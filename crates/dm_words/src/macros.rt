@@ -11,8 +11,7 @@ ghost use Rattle.dm_words.specs.inner.Scan.Prefixes.{macro_digit, digit_by};
 use crate::codeword::{Codeword, MACRO_05, MACRO_06, meaning};
 use crate::extent::Extent;
 use crate::item::Item;
-use crate::limits::MESSAGE_ROOM;
-use crate::message::Message;
+use crate::message::MessageIn;
 
 /// The record separator.
 const RS: u8 = 30;
@@ -44,8 +43,8 @@ pub(crate) fn digit_of(codeword: u8) -> Option<u8>
 }
 
 /// Adds the header of the macro of this digit to the message.
-pub(crate) fn add_header(digit: u8, message: &mut Message)
-    requires { length message.old + 7 ≤ MESSAGE_ROOM }
+pub(crate) fn add_header<const ROOM: usize>(digit: u8, message: &mut MessageIn<ROOM>)
+    requires { length message.old + 7 ≤ ROOM }
     ensures { message.new ≡ message.old ++ macro_header digit }
 {
     message.add(Item::Byte(b'['));
@@ -58,8 +57,8 @@ pub(crate) fn add_header(digit: u8, message: &mut Message)
 }
 
 /// Adds the trailer of a macro to the message.
-pub(crate) fn add_trailer(message: &mut Message)
-    requires { length message.old + 2 ≤ MESSAGE_ROOM }
+pub(crate) fn add_trailer<const ROOM: usize>(message: &mut MessageIn<ROOM>)
+    requires { length message.old + 2 ≤ ROOM }
     ensures { message.new ≡ message.old ++ macro_trailer }
 {
     message.add(Item::Byte(RS));

@@ -8,13 +8,18 @@ use crate::limits::MESSAGE_ROOM;
 use arrayvec::ArrayVec;
 use std::marker::Model;
 
-/// A list of at most `MESSAGE_ROOM` items. The empty message is a message. In contracts it is the list of its items.
+/// A list of at most `ROOM` items. The empty message is a message. In contracts it is the list of its items. A message
+/// takes memory for all items for which it has room: two for each data codeword and seven more are enough for what a
+/// symbol spells, [`LARGEST_ROOM`](crate::LARGEST_ROOM) for what any symbol does.
 #[derive(Clone, Debug, Default, Drop, PartialEq, Eq)]
-pub struct Message {
-    list: ArrayVec<Item, MESSAGE_ROOM>,
+pub struct MessageIn<const ROOM: usize> {
+    list: ArrayVec<Item, ROOM>,
 }
 
-impl Model for Message {
+/// A message that has room for what each square spells, up to the largest of 104 x 104.
+pub type Message = MessageIn<MESSAGE_ROOM>;
+
+impl<const ROOM: usize> Model for MessageIn<ROOM> {
     ghost use Rattle.std.specs.Prelude.{List};
     ghost use Rattle.dm_words.specs.declared.item.Item.{Item};
     ghost use Rattle.dm_words.specs.Messages.{IsMessage};
@@ -28,12 +33,12 @@ impl Model for Message {
     ghost inverse = { λ items. record { list = record { items = items } } };
 }
 
-impl Message {
+impl<const ROOM: usize> MessageIn<ROOM> {
     /// Makes the empty message.
     pub fn new() -> Self
         ensures { result ≡ [] }
     {
-        Message {
+        MessageIn {
             list: ArrayVec::new(),
         }
     }
@@ -45,9 +50,9 @@ impl Message {
         self.list.clear();
     }
 
-    /// Adds an item at the end. Gives the item back exactly where `MESSAGE_ROOM` are there, and then changes nothing.
+    /// Adds an item at the end. Gives the item back exactly where `ROOM` are there, and then changes nothing.
     pub fn push(&mut self, item: Item) -> Result<(), Item>
-        ensures room { IsOk result ↔ (length self.old < MESSAGE_ROOM) }
+        ensures room { IsOk result ↔ (length self.old < ROOM) }
         ensures added { OnOk result (self.new ≡ self.old ++ item ∷ []) }
         ensures unchanged { OnErr result (self.new ≡ self.old) }
         ensures given_back { IfErr result (λ i. i ≡ item) }
@@ -61,16 +66,16 @@ impl Message {
 
     /// Adds an item at the end, where there is room.
     pub(crate) fn add(&mut self, item: Item)
-        requires { length self.old < MESSAGE_ROOM }
+        requires { length self.old < ROOM }
         ensures { self.new ≡ self.old ++ item ∷ [] }
     {
         self.list.push(item);
     }
 
-    /// Gives the items, in order: at most `MESSAGE_ROOM`, with bytes of 0 to 255.
+    /// Gives the items, in order: at most `ROOM`, with bytes of 0 to 255.
     pub fn items(&self) -> &[Item]
         ensures value { result.now ≡ self.now }
-        ensures most { length self.now ≤ MESSAGE_ROOM }
+        ensures most { length self.now ≤ ROOM }
         ensures bytes { IsMessage self.now }
     {
         self.list.as_slice()

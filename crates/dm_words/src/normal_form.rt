@@ -12,8 +12,8 @@ use crate::ascii::{AsciiForm, ascii_form, surely_fits, write_ascii};
 use crate::base256::{segment_length, write_segment};
 use crate::fault::TooLong;
 use crate::item::Item;
-use crate::limits::{LARGEST_DATA, MESSAGE_ROOM};
-use crate::message::Message;
+use crate::limits::{LARGEST_DATA, LARGEST_ROOM};
+use crate::message::{Message, MessageIn};
 use crate::profile::Profile;
 use arrayvec::ArrayVec;
 use dm_layout::MOST_DATA;
@@ -62,14 +62,16 @@ pub fn normal_words_to(
     normal_words_in(profile, message, words)
 }
 
-/// Does the same as [`normal_words_to()`] in a target with room for `N` codewords, at least 3 as each symbol has: after
-/// `Ok`, `words` holds the codewords of the message under the profile, whatever it held before. `TooLong` exactly where
-/// they are more than `N`; then it holds what it held before.
-pub fn normal_words_in<const N: usize>(
+/// Does the same as [`normal_words_to()`] with a message of any room, at most [`LARGEST_ROOM`] items, in a target with
+/// room for `N` codewords, at least 3 as each symbol has: after `Ok`, `words` holds the codewords of the message under
+/// the profile, whatever it held before. `TooLong` exactly where they are more than `N`; then it holds what it held
+/// before.
+pub fn normal_words_in<const ROOM: usize, const N: usize>(
     profile: Profile,
-    message: &Message,
+    message: &MessageIn<ROOM>,
     words: &mut ArrayVec<u8, N>,
 ) -> Result<(), TooLong>
+    requires room { ROOM ≤ LARGEST_ROOM }
     requires least { 3 ≤ N }
     requires most { N ≤ LARGEST_DATA }
     ensures form { OnOk result (words.new.items ≡ normal_form profile message.now) }
@@ -93,7 +95,7 @@ fn write_counted<const N: usize>(
     items: &[Item],
     words: &mut ArrayVec<u8, N>,
 ) -> Result<(), TooLong>
-    requires few { length items.now ≤ MESSAGE_ROOM }
+    requires few { length items.now ≤ LARGEST_ROOM }
     requires least { 3 ≤ N }
     requires most { N ≤ LARGEST_DATA }
     ensures form { OnOk result (words.new.items ≡ normal_form profile items.now) }
@@ -123,7 +125,7 @@ struct Form {
 
 /// Gives what is known of the normal form of these items under a profile, from what is known of their ASCII form.
 fn form_of(profile: Profile, items: &[Item], known: AsciiForm) -> Form
-    requires few { length items.now ≤ MESSAGE_ROOM }
+    requires few { length items.now ≤ LARGEST_ROOM }
     requires length { known.length ≡ length (ascii items.now) }
     requires has_fnc1 { known.has_fnc1 ≡ has_fnc1 items.now }
     ensures form { normal_form profile items.now

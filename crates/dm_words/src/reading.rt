@@ -23,22 +23,22 @@ use crate::edifact::edifact_part;
 use crate::extent::Extent;
 use crate::fault::WordFault;
 use crate::item::Item;
-use crate::limits::MESSAGE_ROOM;
+use crate::limits::LARGEST_DATA;
 use crate::macros::{add_header, add_trailer, macro_digit};
-use crate::message::Message;
+use crate::message::{Message, MessageIn};
 use crate::numbers::number_at;
 use dm_layout::MOST_DATA;
 
 /// Takes the part at an index: adds its items to the message, and gives the number of its codewords; `None` at the end.
-pub(crate) fn next_part(
+pub(crate) fn next_part<const ROOM: usize>(
     extent: Extent,
     words: &[u8],
     at: usize,
-    message: &mut Message,
+    message: &mut MessageIn<ROOM>,
 ) -> Result<Option<usize>, WordFault>
     requires in_range { at ≤ length words.now }
-    requires short { length words.now ≤ MOST_DATA }
-    requires room { HasRoomAt at message.old }
+    requires short { length words.now ≤ LARGEST_DATA }
+    requires room { HasRoomAt ROOM words.now at message.old }
     ensures { IsPartTakenOrEnd result message.old message.new
         (first_part extent (at + 1) (drop at words.now)) }
 {
@@ -50,17 +50,17 @@ pub(crate) fn next_part(
 
 /// Takes the part that begins with the codeword `first` at an index, by what that means: adds its items to the message,
 /// and gives the number of its codewords; `None` at the end.
-fn part_of(
+fn part_of<const ROOM: usize>(
     extent: Extent,
     meaning: Option<Codeword>,
     first: u8,
     words: &[u8],
     at: usize,
-    message: &mut Message,
+    message: &mut MessageIn<ROOM>,
 ) -> Result<Option<usize>, WordFault>
     requires in_range { at < length words.now }
-    requires short { length words.now ≤ MOST_DATA }
-    requires room { HasRoomAt at message.old }
+    requires short { length words.now ≤ LARGEST_DATA }
+    requires room { HasRoomAt ROOM words.now at message.old }
     ensures { IsPartTakenOrEnd result message.old message.new
         (part_by extent (at + 1) first (drop (at + 1) words.now) meaning) }
 {
@@ -104,10 +104,14 @@ fn part_or_end(part: Result<usize, WordFault>) -> Result<Option<usize>, WordFaul
 
 /// Takes the Upper Shift at an index and its character: adds the byte to the message, and gives the number of its
 /// codewords.
-fn raised_part(words: &[u8], at: usize, message: &mut Message) -> Result<usize, WordFault>
+fn raised_part<const ROOM: usize>(
+    words: &[u8],
+    at: usize,
+    message: &mut MessageIn<ROOM>,
+) -> Result<usize, WordFault>
     requires in_range { at < length words.now }
-    requires short { length words.now ≤ MOST_DATA }
-    requires room { HasRoomAt at message.old }
+    requires short { length words.now ≤ LARGEST_DATA }
+    requires room { HasRoomAt ROOM words.now at message.old }
     ensures { IsPartTaken result message.old message.new
         (raised_unit (at + 1) (drop (at + 1) words.now)) }
 {
@@ -126,8 +130,8 @@ fn raised_part(words: &[u8], at: usize, message: &mut Message) -> Result<usize, 
 
 /// Takes a part that is one codeword, a character or a pair of digits, and says whether this codeword is one: adds its
 /// items to the message.
-fn one_word_part(word: u8, message: &mut Message) -> bool
-    requires { length message.old + 2 ≤ MESSAGE_ROOM }
+fn one_word_part<const ROOM: usize>(word: u8, message: &mut MessageIn<ROOM>) -> bool
+    requires { length message.old + 2 ≤ ROOM }
     ensures one { result ≡ is_one_word (codeword_of word) }
     ensures taken { IsOneWordTaken result message.old message.new word }
 {
@@ -147,10 +151,14 @@ fn one_word_part(word: u8, message: &mut Message) -> bool
 /// Takes the parts of one codeword that stand at an index, all that there are one after the other: adds their items to
 /// the message, and gives the index behind them.
 // Most codewords are such parts, and this loop has nothing else in it.
-fn one_word_parts(words: &[u8], start: usize, message: &mut Message) -> usize
+fn one_word_parts<const ROOM: usize>(
+    words: &[u8],
+    start: usize,
+    message: &mut MessageIn<ROOM>,
+) -> usize
     requires in_range { start ≤ length words.now }
-    requires short { length words.now ≤ MOST_DATA }
-    requires room { HasRoomAt start message.old }
+    requires short { length words.now ≤ LARGEST_DATA }
+    requires room { HasRoomAt ROOM words.now start message.old }
     ensures from { start ≤ result }
     ensures within { result ≤ length words.now }
     ensures two_for_each_codeword { length message.new + 2 * start
@@ -172,8 +180,8 @@ fn one_word_parts(words: &[u8], start: usize, message: &mut Message) -> usize
 }
 
 /// Adds the two digits of a number to the message.
-fn add_digits(number: u8, message: &mut Message)
-    requires { length message.old + 2 ≤ MESSAGE_ROOM }
+fn add_digits<const ROOM: usize>(number: u8, message: &mut MessageIn<ROOM>)
+    requires { length message.old + 2 ≤ ROOM }
     ensures { message.new ≡ message.old ++ Item.Byte (48 + number / 10)
         ∷ Item.Byte (48 + number % 10) ∷ [] }
 {
@@ -182,15 +190,15 @@ fn add_digits(number: u8, message: &mut Message)
 }
 
 /// Adds the items of all parts from an index on to the message, up to the end.
-fn add_parts(
+fn add_parts<const ROOM: usize>(
     extent: Extent,
     words: &[u8],
     start: usize,
-    message: &mut Message,
+    message: &mut MessageIn<ROOM>,
 ) -> Result<(), WordFault>
     requires in_range { start ≤ length words.now }
-    requires short { length words.now ≤ MOST_DATA }
-    requires room { HasRoomAt start message.old }
+    requires short { length words.now ≤ LARGEST_DATA }
+    requires room { HasRoomAt ROOM words.now start message.old }
     ensures read { outcome result message.new
         ≡ read_on extent message.old (start + 1) (drop start words.now) }
     ensures two_for_each_codeword { OnOk result
@@ -214,10 +222,15 @@ pub fn message_of(words: &[u8]) -> Result<Message, WordFault>
     message_of_as(Extent::Usual, words)
 }
 
-/// Does the same as [`message_of()`] in a target: after `Ok`, `message` holds the message, whatever it held before.
-/// After a fault it holds some message.
-pub fn message_to(words: &[u8], message: &mut Message) -> Result<(), WordFault>
-    requires { length words.now ≤ MOST_DATA }
+/// Does the same as [`message_of()`] in a target with room for two items for each codeword, of which there are at most
+/// [`LARGEST_DATA`]: after `Ok`, `message` holds the message, whatever it held before. After a fault it holds some
+/// message.
+pub fn message_to<const ROOM: usize>(
+    words: &[u8],
+    message: &mut MessageIn<ROOM>,
+) -> Result<(), WordFault>
+    requires short { length words.now ≤ LARGEST_DATA }
+    requires room { 2 * length words.now ≤ ROOM }
     ensures { IsMessageResult Extent.Usual words.now (outcome result message.new) }
 {
     message_to_as(Extent::Usual, words, message)
@@ -239,10 +252,16 @@ pub fn message_of_as(extent: Extent, words: &[u8]) -> Result<Message, WordFault>
     }
 }
 
-/// Does the same as [`message_of_as()`] in a target: after `Ok`, `message` holds the message, whatever it held before.
-/// After a fault it holds some message.
-pub fn message_to_as(extent: Extent, words: &[u8], message: &mut Message) -> Result<(), WordFault>
-    requires { length words.now ≤ MOST_DATA }
+/// Does the same as [`message_of_as()`] in a target with room for all that so many codewords, at most [`LARGEST_DATA`],
+/// can spell in the extent: after `Ok`, `message` holds the message, whatever it held before. After a fault it holds
+/// some message.
+pub fn message_to_as<const ROOM: usize>(
+    extent: Extent,
+    words: &[u8],
+    message: &mut MessageIn<ROOM>,
+) -> Result<(), WordFault>
+    requires short { length words.now ≤ LARGEST_DATA }
+    requires room { most_spelled extent (length words.now) ≤ ROOM }
     ensures { IsMessageResult extent words.now (outcome result message.new) }
 {
     message.clear();
@@ -254,14 +273,15 @@ pub fn message_to_as(extent: Extent, words: &[u8], message: &mut Message) -> Res
 
 /// Adds the header of the macro of this digit, which is the first codeword, the items of all parts behind it, and the
 /// trailer to the empty message.
-fn framed_parts(
+fn framed_parts<const ROOM: usize>(
     extent: Extent,
     digit: u8,
     words: &[u8],
-    message: &mut Message,
+    message: &mut MessageIn<ROOM>,
 ) -> Result<(), WordFault>
     requires some { 1 ≤ length words.now }
-    requires short { length words.now ≤ MOST_DATA }
+    requires short { length words.now ≤ LARGEST_DATA }
+    requires room { 2 * length words.now + 7 ≤ ROOM }
     requires empty { message.old ≡ [] }
     ensures read { outcome result message.new
         ≡ and_trailer (read_on extent (macro_header digit) 2 (drop 1 words.now)) }

@@ -22,7 +22,7 @@ use crate::ascii::{ascii_form, write_ascii};
 use crate::extent::Extent;
 use crate::fault::TooLong;
 use crate::item::Item;
-use crate::limits::{LARGEST_DATA, MESSAGE_ROOM};
+use crate::limits::{LARGEST_DATA, LARGEST_ROOM};
 use crate::macros::{HEADER_LENGTH, TRAILER_LENGTH, macro_of};
 use crate::message::Message;
 use crate::pad::pad_to;
@@ -71,7 +71,7 @@ struct Way {
 /// Gives a way to write these items than which none takes fewer codewords, and leaves a plan for what is written that
 /// way: the text of the macro, or else the items.
 fn least_way(extent: Extent, items: &[Item], plan: &mut [Step; PLAN_ROOM]) -> Way
-    requires { length items.now ≤ MESSAGE_ROOM }
+    requires { length items.now ≤ LARGEST_ROOM }
     ensures way { IsWay extent items.now result.macro_word result.cost }
     ensures least { IsLeastCost extent items.now result.cost }
     ensures plan { IsRightPlan extent (text_of result.macro_word items.now) plan.new }
@@ -95,7 +95,7 @@ fn with_macro(
     cost: u16,
     plan: &mut [Step; PLAN_ROOM],
 ) -> Way
-    requires few { length items.now ≤ MESSAGE_ROOM }
+    requires few { length items.now ≤ LARGEST_ROOM }
     requires framed { IsMacroOf extent items.now word }
     requires cost { cost ≡ parts_cost extent items.now }
     ensures way { IsWay extent items.now result.macro_word result.cost }
@@ -126,20 +126,21 @@ fn inner(items: &[Item]) -> &[Item]
 
 /// Writes the items, without pads, for a symbol of `count` data codewords: in ASCII where there is room for that;
 /// else as the usual extent has it, where there is room for that; else in this way, by its plan.
-fn write_plainest(
+fn write_plainest<const N: usize>(
     extent: Extent,
     items: &[Item],
     way: Way,
     plan: &mut [Step; PLAN_ROOM],
-    words: &mut ArrayVec<u8, LARGEST_DATA>,
+    words: &mut ArrayVec<u8, N>,
     count: u16,
 )
-    requires few { length items.now ≤ MESSAGE_ROOM }
+    requires few { length items.now ≤ LARGEST_ROOM }
     requires message { IsMessage items.now }
     requires way { IsWay extent items.now way.macro_word way.cost }
     requires plan { IsRightPlan extent (text_of way.macro_word items.now) plan.old }
     requires room { way.cost ≤ count }
-    requires count { count ≤ LARGEST_DATA }
+    requires count { count ≤ N }
+    requires most { N ≤ LARGEST_DATA }
     ensures spells { SpellsThenPads extent (padded words.new.items count) items.now }
     ensures fits { length words.new.items ≤ count }
     ensures plainest { IsPlainest (padded words.new.items count) items.now }
@@ -156,16 +157,17 @@ fn write_plainest(
 
 /// Writes the items, without pads, as the usual extent has it, in place of the words that stand there, where a symbol
 /// of `count` data codewords has room for that. The plan is made anew.
-fn write_usual_if_fits(
+fn write_usual_if_fits<const N: usize>(
     extent: Extent,
     items: &[Item],
     plan: &mut [Step; PLAN_ROOM],
-    words: &mut ArrayVec<u8, LARGEST_DATA>,
+    words: &mut ArrayVec<u8, N>,
     count: u16,
 )
-    requires few { length items.now ≤ MESSAGE_ROOM }
+    requires few { length items.now ≤ LARGEST_ROOM }
     requires message { IsMessage items.now }
-    requires count { count ≤ LARGEST_DATA }
+    requires count { count ≤ N }
+    requires most { N ≤ LARGEST_DATA }
     requires no_ascii { count < length (ascii items.now) }
     requires spells { SpellsThenPads extent (padded words.old.items count) items.now }
     requires fits { length words.old.items ≤ count }
@@ -184,20 +186,21 @@ fn write_usual_if_fits(
 
 /// Writes the items in this way, by its plan, without pads, for a symbol of `count` data codewords, and says whether
 /// the usual extent surely reads them.
-fn write_way(
+fn write_way<const N: usize>(
     extent: Extent,
     items: &[Item],
     way: Way,
     plan: &[Step; PLAN_ROOM],
-    words: &mut ArrayVec<u8, LARGEST_DATA>,
+    words: &mut ArrayVec<u8, N>,
     count: u16,
 ) -> bool
-    requires few { length items.now ≤ MESSAGE_ROOM }
+    requires few { length items.now ≤ LARGEST_ROOM }
     requires message { IsMessage items.now }
     requires way { IsWay extent items.now way.macro_word way.cost }
     requires plan { IsRightPlan extent (text_of way.macro_word items.now) plan.now }
     requires room { way.cost ≤ count }
-    requires count { count ≤ LARGEST_DATA }
+    requires count { count ≤ N }
+    requires most { N ≤ LARGEST_DATA }
     ensures spells { SpellsThenPads extent (padded words.new.items count) items.now }
     ensures usual { IsTrue result → SpellsThenPads Usual (padded words.new.items count) items.now }
     ensures fits { length words.new.items ≤ count }
@@ -215,18 +218,19 @@ fn write_way(
 
 /// Writes the items by no macro, by their plan, without pads, for a symbol of `count` data codewords, and says whether
 /// the usual extent surely reads them.
-fn write_plain(
+fn write_plain<const N: usize>(
     extent: Extent,
     items: &[Item],
     plan: &[Step; PLAN_ROOM],
-    words: &mut ArrayVec<u8, LARGEST_DATA>,
+    words: &mut ArrayVec<u8, N>,
     count: u16,
 ) -> bool
-    requires few { length items.now ≤ MESSAGE_ROOM }
+    requires few { length items.now ≤ LARGEST_ROOM }
     requires message { IsMessage items.now }
     requires plan { IsRightPlan extent items.now plan.now }
     requires room { parts_cost extent items.now ≤ count }
-    requires count { count ≤ LARGEST_DATA }
+    requires count { count ≤ N }
+    requires most { N ≤ LARGEST_DATA }
     ensures spells { SpellsThenPads extent (padded words.new.items count) items.now }
     ensures usual { IsTrue result → SpellsThenPads Usual (padded words.new.items count) items.now }
     ensures fits { length words.new.items ≤ count }

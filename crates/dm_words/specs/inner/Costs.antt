@@ -269,12 +269,12 @@ IsRightPlan extent items plan = (i : ℕ) (other : Step) → i ≤ length items
 
 -- Where runs go on, no cost is too great.
 pub record AreSmall (going : Going) : Type 0 where
-  pub c40 : ArePaid 33000 going.c40
-  pub text : ArePaid 33000 going.text
-  pub x12 : ArePaid 33000 going.x12
-  pub edifact : ArePaidGroups 33000 going.edifact
+  pub c40 : ArePaid 30000 going.c40
+  pub text : ArePaid 30000 going.text
+  pub x12 : ArePaid 30000 going.x12
+  pub edifact : ArePaidGroups 30000 going.edifact
   pub bytes : going.segment.bytes ≤ 17000
-  pub rest : going.segment.rest ≤ 33000
+  pub rest : going.segment.rest ≤ 30000
 
 -- No cost of a row is too great: over an item, what can't be grows by at most four values.
 pub record IsWithin (most : ℕ) (r : Row) : Type 0 where

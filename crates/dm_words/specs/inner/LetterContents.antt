@@ -1,5 +1,5 @@
 -- What the private functions that read a letter part by part give.
-use Rattle.std.specs.Prelude.{◌≡◌, ℕ, ◌*◌, ◌≤◌, length, Option, Some, None, Result, Ok, Err}
+use Rattle.std.specs.Prelude.{◌≡◌, ℕ, ◌*◌, ◌≤◌, List, length, Option, Some, None, Result, Ok, Err}
 use Rattle.dm_words.specs.declared.letters.content.Content.{Content}
 use Rattle.dm_words.specs.declared.letters.fault.LetterFault.{LetterFault}
 use Rattle.dm_words.specs.declared.letters.head.Head.{Head}
@@ -9,18 +9,19 @@ use Rattle.dm_words.specs.inner.Scan.Results.{HasRoomAt}
 use Rattle.dm_words.specs.inner.LetterScan.{with_said}
 
 -- Items and marks are a letter with this head.
-abbrev pub headed_view : Option Head → Content → LetterView
+abbrev pub headed_view : {room most : ℕ} → Option Head → Content room most → LetterView
 headed_view head content = record { head = head; items = content.message; marks = content.marks.items }
 
 -- Items and marks are a letter without a head.
-abbrev pub content_view : Content → LetterView
+abbrev pub content_view : {room most : ℕ} → Content room most → LetterView
 content_view content = headed_view None content
 
--- There is room for what the codewords from an index on say, and the marks so far are in order.
-pub record IsContentAt (at : ℕ) (content : Content) : Type 0 where
-  pub room : HasRoomAt at content.message
-  pub mark_room : 2 * length content.marks.items ≤ at
-  pub in_order : AreMarks 0 (length content.message) content.marks.items
+-- A letter with room for so many items has room for what the codewords from an index on say, and the marks so far are
+-- in order.
+pub record IsContentAt (room : ℕ) (words : List ℕ) (at : ℕ) (so_far : LetterView) : Type 0 where
+  pub item_room : HasRoomAt room words at so_far.items
+  pub mark_room : 2 * length so_far.marks ≤ at
+  pub in_order : AreMarks 0 (length so_far.items) so_far.marks
 
 -- A part with the given number of words was taken, and what it says stands behind what was there; or the end was met;
 -- or a fault.
@@ -32,6 +33,7 @@ IsLetterPartTaken (Err why) old new step = step ≡ Stops (Some why)
 
 -- Where reading gives a head, its outcome is the letter of this head and of the items and marks that were left;
 -- otherwise it is the fault.
-abbrev pub headed_outcome : Result (Option Head) LetterFault → Content → Result LetterView LetterFault
+abbrev pub headed_outcome : {room most : ℕ} → Result (Option Head) LetterFault → Content room most
+    → Result LetterView LetterFault
 headed_outcome (Ok head) content = Ok (headed_view head content)
 headed_outcome (Err why) content = Err why

@@ -1,4 +1,4 @@
--- Whether a letter is written as a message.
+-- What the private functions that write a letter look at.
 use Rattle.std.specs.Prelude.{List, [], ◌∷◌, Bool, true, false, Option, Some, None}
 use Rattle.dm_words.specs.declared.letters.head.Head.{Head}
 use Rattle.dm_words.specs.declared.letters.mark.Mark.{Mark}

@@ -7,10 +7,9 @@ ghost use Rattle.dm_words.specs.Values.{IsRunValue};
 ghost use Rattle.dm_words.specs.inner.Scan.Results.{GivesPair};
 
 use crate::codeword::UNLATCH;
-use crate::limits::MOST_VALUES;
+use crate::limits::LARGEST_DATA;
 use crate::numbers::number_at;
 use arrayvec::ArrayVec;
-use dm_layout::MOST_DATA;
 
 /// Why no further pair follows: the next codeword is the unlatch, fewer than two codewords are left, or their number is
 /// 0 or more than 64000.
@@ -58,8 +57,13 @@ fn pair_of(number: u16) -> Pair
 }
 
 /// Adds three values to the list.
-fn push_values(values: &mut ArrayVec<u8, MOST_VALUES>, first: u8, second: u8, third: u8)
-    requires { length values.old.items + 3 ≤ MOST_VALUES }
+fn push_values<const VALUES: usize>(
+    values: &mut ArrayVec<u8, VALUES>,
+    first: u8,
+    second: u8,
+    third: u8,
+)
+    requires { length values.old.items + 3 ≤ VALUES }
     ensures { values.new.items ≡ values.old.items ++ first ∷ second ∷ third ∷ [] }
 {
     values.push(first);
@@ -67,35 +71,37 @@ fn push_values(values: &mut ArrayVec<u8, MOST_VALUES>, first: u8, second: u8, th
     values.push(third);
 }
 
-/// The values of all pairs of a run, the number of their codewords, and why no further pair follows.
-#[derive(Drop)]
+/// The number of the codewords of all pairs of a run, and why no further pair follows.
+#[derive(Clone, Copy)]
 pub struct Pairs {
-    pub values: ArrayVec<u8, MOST_VALUES>,
     pub word_count: usize,
     pub end: PairsEnd,
 }
 
-/// Gives the pairs that the words begin with.
-pub(crate) fn pairs_of(words: &[u8]) -> Pairs
-    requires { length words.now ≤ MOST_DATA }
-    ensures values { result.values.items ≡ flat (pairs_in words.now).taken }
+/// Adds the values of the pairs that the words begin with to an empty list.
+pub(crate) fn pairs_to<const VALUES: usize>(
+    words: &[u8],
+    values: &mut ArrayVec<u8, VALUES>,
+) -> Pairs
+    requires short { length words.now ≤ LARGEST_DATA }
+    requires room { 3 * length words.now ≤ 2 * VALUES }
+    requires empty { values.old.items ≡ [] }
+    ensures values { values.new.items ≡ flat (pairs_in words.now).taken }
     ensures word_count { result.word_count ≡ (pairs_in words.now).place }
     ensures end { result.end ≡ (pairs_in words.now).why }
-    ensures small { All IsRunValue result.values.items }
+    ensures small { All IsRunValue values.new.items }
     ensures within { result.word_count ≤ length words.now }
-    ensures three_of_two { 2 * length result.values.items ≡ 3 * result.word_count }
+    ensures three_of_two { 2 * length values.new.items ≡ 3 * result.word_count }
 {
-    let mut values = ArrayVec::new();
     let mut at = 0;
     loop {
         match pair_at(words, at) {
             Pair::Values(first, second, third) => {
-                push_values(&mut values, first, second, third);
+                push_values(values, first, second, third);
                 at += 2;
             }
             Pair::Stops(end) => {
                 return Pairs {
-                    values,
                     word_count: at,
                     end,
                 };

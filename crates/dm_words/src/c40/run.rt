@@ -1,18 +1,18 @@
 //! Runs: a latch, pairs and an end.
 
-ghost use Rattle.std.specs.Prelude.{◌≡◌, ◌+◌, ◌*◌, ◌/◌, ◌^◌, ◌≤◌, ◌<◌, length, drop};
+ghost use Rattle.std.specs.Prelude.{◌≡◌, ◌+◌, ◌*◌, ◌/◌, ◌^◌, ◌≤◌, ◌<◌, [], length, drop};
 ghost use Rattle.dm_words.specs.RunFaults.{pair_place};
 ghost use Rattle.dm_words.specs.inner.Scan.Prefixes.{end_length, run_fault, run_behind};
 ghost use Rattle.dm_words.specs.inner.Scan.Results.{HasRoomAt, IsPartTaken};
 
-use crate::c40::pair::{PairsEnd, pairs_of};
+use crate::c40::pair::{PairsEnd, pairs_to};
 use crate::c40::set::CodeSet;
 use crate::c40::value::{Rest, Spelled, read_values};
 use crate::extent::Extent;
 use crate::fault::WordFault;
-use crate::limits::MOST_VALUES;
-use crate::message::Message;
-use dm_layout::MOST_DATA;
+use crate::limits::{LARGEST_DATA, MOST_VALUES, SHORT_RUN, SHORT_VALUES};
+use crate::message::MessageIn;
+use arrayvec::ArrayVec;
 
 /// Gives the place of the pair that holds the value of an index, in a run whose latch stands at a place.
 fn pair_place(place: u16, index: u16) -> u16
@@ -32,8 +32,8 @@ fn fault_of(
     end: PairsEnd,
     spelled: Spelled,
 ) -> Option<WordFault>
-    requires place { place ≤ MOST_DATA }
-    requires pair_words { pair_words ≤ MOST_DATA }
+    requires place { place ≤ LARGEST_DATA }
+    requires pair_words { pair_words ≤ LARGEST_DATA }
     requires values { spelled.value_count ≤ MOST_VALUES }
     ensures { result ≡ run_fault extent place pair_words end spelled.value_count spelled.rest }
 {
@@ -53,21 +53,60 @@ fn fault_of(
 }
 
 /// Takes the run whose latch stands at an index: adds its items to the message, and gives the number of its codewords.
-pub(crate) fn run_part(
+pub(crate) fn run_part<const ROOM: usize>(
     extent: Extent,
     set: CodeSet,
     words: &[u8],
     at: usize,
-    message: &mut Message,
+    message: &mut MessageIn<ROOM>,
 ) -> Result<usize, WordFault>
     requires in_range { at < length words.now }
-    requires short { length words.now ≤ MOST_DATA }
-    requires room { HasRoomAt at message.old }
+    requires short { length words.now ≤ LARGEST_DATA }
+    requires room { HasRoomAt ROOM words.now at message.old }
     ensures { IsPartTaken result message.old message.new
         (run_behind extent set (at + 1) (drop (at + 1) words.now)) }
 {
-    let pairs = pairs_of(&words[at + 1..]);
-    let spelled = read_values(set, pairs.values.as_slice(), message);
+    // To clear room for the values of a long run takes longer than to read a short one.
+    if words.len() <= SHORT_RUN {
+        run_by(
+            extent,
+            set,
+            words,
+            at,
+            &mut ArrayVec::<u8, SHORT_VALUES>::new(),
+            message,
+        )
+    } else {
+        run_by(
+            extent,
+            set,
+            words,
+            at,
+            &mut ArrayVec::<u8, MOST_VALUES>::new(),
+            message,
+        )
+    }
+}
+
+/// Does the same by way of a list of the values, which is empty.
+fn run_by<const VALUES: usize, const ROOM: usize>(
+    extent: Extent,
+    set: CodeSet,
+    words: &[u8],
+    at: usize,
+    values: &mut ArrayVec<u8, VALUES>,
+    message: &mut MessageIn<ROOM>,
+) -> Result<usize, WordFault>
+    requires in_range { at < length words.now }
+    requires short { length words.now ≤ LARGEST_DATA }
+    requires empty { values.old.items ≡ [] }
+    requires values { 3 * length words.now ≤ 2 * VALUES }
+    requires room { HasRoomAt ROOM words.now at message.old }
+    ensures { IsPartTaken result message.old message.new
+        (run_behind extent set (at + 1) (drop (at + 1) words.now)) }
+{
+    let pairs = pairs_to(&words[at + 1..], values);
+    let spelled = read_values(set, values.as_slice(), message);
     match fault_of(extent, at as u16 + 1, pairs.word_count, pairs.end, spelled) {
         Some(fault) => Err(fault),
         None => Ok(1 + pairs.word_count + end_length(pairs.end)),

@@ -7,8 +7,8 @@ ghost use Rattle.dm_words.specs.inner.Scan.Results.{GivesItem};
 
 use crate::c40::set::{Basic, CodeSet, Shifted, basic_meaning, shifted_meaning};
 use crate::item::Item;
-use crate::limits::MESSAGE_ROOM;
-use crate::message::Message;
+use crate::limits::MOST_VALUES;
+use crate::message::MessageIn;
 use crate::numbers::number_at;
 
 /// What follows the last whole spelling.
@@ -87,9 +87,14 @@ pub struct Spelled {
 }
 
 /// Adds the items that the values spell to the message, up to the first rest.
-pub(crate) fn read_values(set: CodeSet, values: &[u8], message: &mut Message) -> Spelled
+pub(crate) fn read_values<const ROOM: usize>(
+    set: CodeSet,
+    values: &[u8],
+    message: &mut MessageIn<ROOM>,
+) -> Spelled
     requires small { All IsRunValue values.now }
-    requires room { length message.old + length values.now ≤ MESSAGE_ROOM }
+    requires few { length values.now ≤ MOST_VALUES }
+    requires room { length message.old + length values.now ≤ ROOM }
     ensures items { message.new ≡ message.old ++ (items_in set values.now).taken }
     ensures value_count { result.value_count ≡ (items_in set values.now).place }
     ensures rest { result.rest ≡ (items_in set values.now).why }

@@ -9,19 +9,23 @@ use crate::letters::content::Content;
 use crate::letters::designator::MOST_ASSIGNED;
 use crate::letters::head::Head;
 use crate::letters::mark::Mark;
-use crate::limits::{MESSAGE_ROOM, MOST_MARKS};
-use crate::message::Message;
+use crate::limits::{LARGEST_ROOM, MESSAGE_ROOM, MOST_MARKS};
+use crate::message::MessageIn;
 use std::marker::Model;
 
-/// A head or none, items, and marks: at most `MESSAGE_ROOM` items and `MOST_MARKS` marks, in order, each at a place
-/// of the items. In contracts it is the `LetterView` (`specs/Letters.antt`).
+/// A head or none, items, and marks: at most `ROOM` items and `MARKS` marks, in order, each at a place of the items. In
+/// contracts it is the `LetterView` (`specs/Letters.antt`). What a symbol of any shape says has at most
+/// [`LARGEST_ROOM`] items and [`LARGEST_MARKS`](crate::LARGEST_MARKS) marks.
 #[derive(Clone, Debug, Drop, PartialEq, Eq)]
-pub struct Letter {
+pub struct LetterIn<const ROOM: usize, const MARKS: usize> {
     pub(crate) head: Option<Head>,
-    pub(crate) content: Content,
+    pub(crate) content: Content<ROOM, MARKS>,
 }
 
-impl Model for Letter {
+/// A letter that has room for what each square says, up to the largest of 104 x 104.
+pub type Letter = LetterIn<MESSAGE_ROOM, MOST_MARKS>;
+
+impl<const ROOM: usize, const MARKS: usize> Model for LetterIn<ROOM, MARKS> {
     ghost use Rattle.std.specs.Prelude.{length};
     ghost use Rattle.dm_words.specs.Heads.{IsHead};
     ghost use Rattle.dm_words.specs.Letters.{LetterView, AreMarks};
@@ -41,12 +45,12 @@ impl Model for Letter {
     } };
 }
 
-impl Letter {
+impl<const ROOM: usize, const MARKS: usize> LetterIn<ROOM, MARKS> {
     /// Makes the letter without a head, items and marks.
     pub fn new() -> Self
         ensures { result ≡ record { head = None; items = []; marks = [] } }
     {
-        Letter {
+        LetterIn {
             head: None,
             content: Content::new(),
         }
@@ -69,9 +73,9 @@ impl Letter {
         self.head = head;
     }
 
-    /// Adds an item at the end. Gives the item back exactly where `MESSAGE_ROOM` are there, and then changes nothing.
+    /// Adds an item at the end. Gives the item back exactly where `ROOM` are there, and then changes nothing.
     pub fn push(&mut self, item: Item) -> Result<(), Item>
-        ensures room { IsOk result ↔ (length self.old.items < MESSAGE_ROOM) }
+        ensures room { IsOk result ↔ (length self.old.items < ROOM) }
         ensures added { OnOk result
             (self.new ≡ record self.old { items = self.old.items ++ item ∷ [] }) }
         ensures unchanged { OnErr result (self.new ≡ self.old) }
@@ -80,11 +84,12 @@ impl Letter {
         self.content.message.push(item)
     }
 
-    /// Adds a mark of this number, 0 to 999999, behind all items that are there. Gives the number back exactly where
-    /// `MOST_MARKS` are there, and then changes nothing.
+    /// Adds a mark of this number, 0 to 999999, behind all items that are there, in a letter with room for at most
+    /// `LARGEST_ROOM` items. Gives the number back exactly where `MARKS` are there, and then changes nothing.
     pub fn push_mark(&mut self, number: u32) -> Result<(), u32>
-        requires { number ≤ MOST_ASSIGNED }
-        ensures room { IsOk result ↔ (length self.old.marks < MOST_MARKS) }
+        requires most { ROOM ≤ LARGEST_ROOM }
+        requires assigned { number ≤ MOST_ASSIGNED }
+        ensures room { IsOk result ↔ (length self.old.marks < MARKS) }
         ensures added { OnOk result (self.new ≡ with_mark self.old number) }
         ensures unchanged { OnErr result (self.new ≡ self.old) }
         ensures given_back { IfErr result (λ n. n ≡ number) }
@@ -104,34 +109,34 @@ impl Letter {
         self.head
     }
 
-    /// Gives the items, in order: at most `MESSAGE_ROOM`, with bytes of 0 to 255.
+    /// Gives the items, in order: at most `ROOM`, with bytes of 0 to 255.
     pub fn items(&self) -> &[Item]
         ensures value { result.now ≡ self.now.items }
-        ensures most { length self.now.items ≤ MESSAGE_ROOM }
+        ensures most { length self.now.items ≤ ROOM }
         ensures letter { IsLetter self.now }
     {
         self.content.message.items()
     }
 
     /// Gives the items, as a message.
-    pub(crate) fn message(&self) -> &Message
+    pub(crate) fn message(&self) -> &MessageIn<ROOM>
         ensures { result.now ≡ self.now.items }
     {
         &self.content.message
     }
 
-    /// Gives the marks, in order: at most `MOST_MARKS`.
+    /// Gives the marks, in order: at most `MARKS`.
     pub fn marks(&self) -> &[Mark]
         ensures value { result.now ≡ self.now.marks }
-        ensures most { length self.now.marks ≤ MOST_MARKS }
+        ensures most { length self.now.marks ≤ MARKS }
         ensures in_order { AreMarks 0 (length self.now.items) self.now.marks }
     {
         self.content.marks.as_slice()
     }
 }
 
-impl Default for Letter {
+impl<const ROOM: usize, const MARKS: usize> Default for LetterIn<ROOM, MARKS> {
     fn default() -> Self {
-        Letter::new()
+        LetterIn::new()
     }
 }

@@ -1,6 +1,6 @@
 //! The normal form of a letter under a profile: its data codewords, without pads.
 
-ghost use Rattle.std.specs.Prelude.{◌≡◌, ◌+◌, ◌*◌, ◌<◌, ◌≤◌, ◌↔◌, ◌++◌, ◌∷◌, length, OnOk, OnErr, IsErr};
+ghost use Rattle.std.specs.Prelude.{◌≡◌, ◌+◌, ◌*◌, ◌≤◌, ◌++◌, ◌∷◌, ◌<◌, ◌↔◌, length, OnOk, OnErr, IsErr};
 ghost use Rattle.dm_words.specs.Ascii.{ascii};
 ghost use Rattle.dm_words.specs.Designators.{eci_word, designator};
 ghost use Rattle.dm_words.specs.Heads.{IsHead, head_words};
@@ -14,9 +14,9 @@ use crate::fault::TooLong;
 use crate::item::Item;
 use crate::letters::designator::{ECI, MOST_ASSIGNED, designator_words};
 use crate::letters::head::{Head, head_words};
-use crate::letters::letter::Letter;
+use crate::letters::letter::{Letter, LetterIn};
 use crate::letters::mark::Mark;
-use crate::limits::{LARGEST_DATA, MESSAGE_ROOM, MOST_MARKS};
+use crate::limits::{LARGEST_DATA, LARGEST_MARKS, LARGEST_ROOM};
 use crate::normal_form::normal_words_in;
 use crate::profile::Profile;
 use arrayvec::ArrayVec;
@@ -38,11 +38,11 @@ fn mark_length(number: u32) -> usize
 
 /// Gives how many codewords items with marks have: the items in ASCII from mark to mark, and the marks.
 fn marked_length(items: &[Item], marks: &[Mark]) -> usize
-    requires few { length items.now ≤ MESSAGE_ROOM }
-    requires few_marks { length marks.now ≤ MOST_MARKS }
+    requires few { length items.now ≤ LARGEST_ROOM }
+    requires few_marks { length marks.now ≤ LARGEST_MARKS }
     requires in_order { AreMarks 0 (length items.now) marks.now }
     ensures value { result ≡ length (marked_ascii 0 items.now marks.now) }
-    ensures most { result ≤ 2 * MESSAGE_ROOM + 4 * MOST_MARKS }
+    ensures most { result ≤ 2 * LARGEST_ROOM + 4 * LARGEST_MARKS }
 {
     let mut length = 0;
     let mut before = 0;
@@ -87,7 +87,8 @@ fn add_mark_words<const N: usize>(number: u32, words: &mut ArrayVec<u8, N>)
 /// Adds items with marks: the items in ASCII from mark to mark, and the marks.
 fn add_marked<const N: usize>(items: &[Item], marks: &[Mark], words: &mut ArrayVec<u8, N>)
     requires in_order { AreMarks 0 (length items.now) marks.now }
-    requires room { length words.old.items + length (marked_ascii 0 items.now marks.now) ≤ N }
+    requires room { length words.old.items + length (marked_ascii 0 items.now marks.now)
+        ≤ N }
     ensures { words.new.items ≡ words.old.items ++ marked_ascii 0 items.now marks.now }
 {
     let mut before = 0;
@@ -122,8 +123,8 @@ fn is_plain(head: Option<Head>, marks: &[Mark]) -> bool
     }
 }
 
-/// Writes a head, and items with marks, into the target, where they are at most `N` codewords; otherwise changes
-/// nothing.
+/// Writes a head, and items with marks, into the target, where they are at most `N` codewords; otherwise
+/// changes nothing.
 fn write_marked<const N: usize>(
     head: Option<Head>,
     items: &[Item],
@@ -131,11 +132,10 @@ fn write_marked<const N: usize>(
     words: &mut ArrayVec<u8, N>,
 ) -> Result<(), TooLong>
     requires head { IsHead head }
-    requires few { length items.now ≤ MESSAGE_ROOM }
-    requires few_marks { length marks.now ≤ MOST_MARKS }
+    requires few { length items.now ≤ LARGEST_ROOM }
+    requires few_marks { length marks.now ≤ LARGEST_MARKS }
     requires in_order { AreMarks 0 (length items.now) marks.now }
-    ensures form { OnOk result
-        (words.new.items ≡ head_words head ++ marked_ascii 0 items.now marks.now) }
+    ensures form { OnOk result (words.new.items ≡ head_words head ++ marked_ascii 0 items.now marks.now) }
     ensures too_long { IsErr result
         ↔ (N < length (head_words head ++ marked_ascii 0 items.now marks.now)) }
     ensures same { OnErr result (words.new.items ≡ words.old.items) }
@@ -177,14 +177,17 @@ pub fn letter_words_to(
     letter_words_in(profile, letter, words)
 }
 
-/// Does the same as [`letter_words_to()`] in a target with room for `N` codewords, at least 3 as each symbol has: after
-/// `Ok`, `words` holds the codewords of the letter under the profile, whatever it held before. `TooLong` exactly where
-/// they are more than `N`; then it holds what it held before.
-pub fn letter_words_in<const N: usize>(
+/// Does the same as [`letter_words_to()`] with a letter of any room, at most [`LARGEST_ROOM`] items and
+/// [`LARGEST_MARKS`] marks, in a target with room for `N` codewords, at least 3 as each symbol has: after `Ok`, `words`
+/// holds the codewords of the letter under the profile, whatever it held before. `TooLong` exactly where they are more
+/// than `N`; then it holds what it held before.
+pub fn letter_words_in<const ROOM: usize, const MARKS: usize, const N: usize>(
     profile: Profile,
-    letter: &Letter,
+    letter: &LetterIn<ROOM, MARKS>,
     words: &mut ArrayVec<u8, N>,
 ) -> Result<(), TooLong>
+    requires room { ROOM ≤ LARGEST_ROOM }
+    requires marks { MARKS ≤ LARGEST_MARKS }
     requires least { 3 ≤ N }
     requires most { N ≤ LARGEST_DATA }
     ensures form { OnOk result (words.new.items ≡ letter_form profile letter.now) }

@@ -1,6 +1,8 @@
 //! Reading: the letter that data codewords say, or the fault with which they are refused.
 
 ghost use Rattle.std.specs.Prelude.{◌≡◌, ◌+◌, ◌*◌, ◌≤◌, ◌<◌, ◌++◌, [], length, drop, None, Some, OnOk, OnErr};
+ghost use Rattle.dm_words.specs.declared.extent.Extent.TheVariants.{Wide};
+ghost use Rattle.dm_words.specs.Messages.{most_spelled};
 ghost use Rattle.dm_words.specs.Letters.{AreMarks, BeginNoEci, opening_head, opening_items, closing_items};
 ghost use Rattle.dm_words.specs.LetterResults.{IsLetterResult};
 ghost use Rattle.dm_words.specs.LetterExtents.{IsLetterResultIn};
@@ -17,20 +19,26 @@ use crate::letters::content::Content;
 use crate::letters::designator::{ECI, first_designator};
 use crate::letters::fault::LetterFault;
 use crate::letters::head::Head;
-use crate::letters::letter::Letter;
+use crate::letters::letter::{Letter, LetterIn};
 use crate::letters::opening::{Opened, Opening, opening_of};
-use crate::limits::MESSAGE_ROOM;
+use crate::limits::{LARGEST_DATA, LARGEST_ROOM};
 use crate::macros::{add_header, add_trailer};
-use crate::message::Message;
+use crate::message::MessageIn;
 use crate::numbers::number_at;
 use crate::reading::{message_to_as, next_part};
 use dm_layout::MOST_DATA;
 
 /// Takes the mark whose ECI stands at an index: adds it, and gives the number of its codewords.
-fn mark_part(words: &[u8], at: usize, content: &mut Content) -> Result<Option<usize>, LetterFault>
+fn mark_part<const ROOM: usize, const MARKS: usize>(
+    words: &[u8],
+    at: usize,
+    content: &mut Content<ROOM, MARKS>,
+) -> Result<Option<usize>, LetterFault>
     requires in_range { at < length words.now }
-    requires short { length words.now ≤ MOST_DATA }
-    requires so_far { IsContentAt at content.old }
+    requires short { length words.now ≤ LARGEST_DATA }
+    requires most { ROOM ≤ LARGEST_ROOM }
+    requires marks { length words.now ≤ 2 * MARKS }
+    requires so_far { IsContentAt ROOM words.now at (content_view content.old) }
     ensures { IsLetterPartTaken result (content_view content.old) (content_view content.new)
         (mark_by (at + 1) (first_designator (drop (at + 1) words.now))) }
 {
@@ -45,10 +53,14 @@ fn mark_part(words: &[u8], at: usize, content: &mut Content) -> Result<Option<us
 
 /// Takes the part at an index, which isn't a mark: adds its items, and gives the number of its codewords; `None` at
 /// the end.
-fn item_part(words: &[u8], at: usize, content: &mut Content) -> Result<Option<usize>, LetterFault>
+fn item_part<const ROOM: usize, const MARKS: usize>(
+    words: &[u8],
+    at: usize,
+    content: &mut Content<ROOM, MARKS>,
+) -> Result<Option<usize>, LetterFault>
     requires in_range { at ≤ length words.now }
-    requires short { length words.now ≤ MOST_DATA }
-    requires so_far { IsContentAt at content.old }
+    requires short { length words.now ≤ LARGEST_DATA }
+    requires so_far { IsContentAt ROOM words.now at (content_view content.old) }
     requires other { BeginNoEci (drop at words.now) }
     ensures { IsLetterPartTaken result (content_view content.old) (content_view content.new)
         (first_letter_part (at + 1) (drop at words.now)) }
@@ -60,14 +72,16 @@ fn item_part(words: &[u8], at: usize, content: &mut Content) -> Result<Option<us
 }
 
 /// Takes the part at an index: adds what it says, and gives the number of its codewords; `None` at the end.
-pub(crate) fn next_letter_part(
+pub(crate) fn next_letter_part<const ROOM: usize, const MARKS: usize>(
     words: &[u8],
     at: usize,
-    content: &mut Content,
+    content: &mut Content<ROOM, MARKS>,
 ) -> Result<Option<usize>, LetterFault>
     requires in_range { at ≤ length words.now }
-    requires short { length words.now ≤ MOST_DATA }
-    requires so_far { IsContentAt at content.old }
+    requires short { length words.now ≤ LARGEST_DATA }
+    requires most { ROOM ≤ LARGEST_ROOM }
+    requires marks { length words.now ≤ 2 * MARKS }
+    requires so_far { IsContentAt ROOM words.now at (content_view content.old) }
     ensures { IsLetterPartTaken result (content_view content.old) (content_view content.new)
         (first_letter_part (at + 1) (drop at words.now)) }
 {
@@ -78,10 +92,16 @@ pub(crate) fn next_letter_part(
 }
 
 /// Adds what all parts from an index on say, up to the end.
-fn add_letter_parts(words: &[u8], start: usize, content: &mut Content) -> Result<(), LetterFault>
+fn add_letter_parts<const ROOM: usize, const MARKS: usize>(
+    words: &[u8],
+    start: usize,
+    content: &mut Content<ROOM, MARKS>,
+) -> Result<(), LetterFault>
     requires in_range { start ≤ length words.now }
-    requires short { length words.now ≤ MOST_DATA }
-    requires so_far { IsContentAt start content.old }
+    requires short { length words.now ≤ LARGEST_DATA }
+    requires most { ROOM ≤ LARGEST_ROOM }
+    requires marks { length words.now ≤ 2 * MARKS }
+    requires so_far { IsContentAt ROOM words.now start (content_view content.old) }
     ensures read { outcome result (content_view content.new)
         ≡ letter_on (content_view content.old) (start + 1) (drop start words.now) }
     ensures two_for_each_codeword { OnOk result (length content.new.message + 2 * start
@@ -98,8 +118,8 @@ fn add_letter_parts(words: &[u8], start: usize, content: &mut Content) -> Result
 }
 
 /// Adds the items that stand before those of the parts.
-fn add_opening(opening: Opening, message: &mut Message)
-    requires { length message.old + 7 ≤ MESSAGE_ROOM }
+fn add_opening<const ROOM: usize>(opening: Opening, message: &mut MessageIn<ROOM>)
+    requires { length message.old + length (opening_items opening) ≤ ROOM }
     ensures { message.new ≡ message.old ++ opening_items opening }
 {
     match opening {
@@ -109,8 +129,8 @@ fn add_opening(opening: Opening, message: &mut Message)
 }
 
 /// Adds the items that stand behind those of the parts.
-fn add_closing(opening: Opening, message: &mut Message)
-    requires { length message.old + 2 ≤ MESSAGE_ROOM }
+fn add_closing<const ROOM: usize>(opening: Opening, message: &mut MessageIn<ROOM>)
+    requires { length message.old + length (closing_items opening) ≤ ROOM }
     ensures { message.new ≡ message.old ++ closing_items opening }
 {
     match opening {
@@ -130,9 +150,16 @@ fn opening_head(opening: Opening) -> Option<Head>
 }
 
 /// Adds what an opening and all parts behind it say to what has no item and no mark.
-fn read_behind(words: &[u8], found: Opened, content: &mut Content) -> Result<(), LetterFault>
+fn read_behind<const ROOM: usize, const MARKS: usize>(
+    words: &[u8],
+    found: Opened,
+    content: &mut Content<ROOM, MARKS>,
+) -> Result<(), LetterFault>
     requires found { opened words.now ≡ Some found }
-    requires short { length words.now ≤ MOST_DATA }
+    requires short { length words.now ≤ LARGEST_DATA }
+    requires most { ROOM ≤ LARGEST_ROOM }
+    requires room { most_spelled Wide (length words.now) ≤ ROOM }
+    requires marks { length words.now ≤ 2 * MARKS }
     requires no_item { content.old.message ≡ [] }
     requires no_mark { content.old.marks.items ≡ [] }
     ensures read { outcome result (headed_view (opening_head found.opening) content.new)
@@ -149,8 +176,14 @@ fn read_behind(words: &[u8], found: Opened, content: &mut Content) -> Result<(),
 }
 
 /// Reads the words into the content, whatever it held before, and gives the head. After a fault the content is empty.
-fn read_content(words: &[u8], content: &mut Content) -> Result<Option<Head>, LetterFault>
-    requires { length words.now ≤ MOST_DATA }
+fn read_content<const ROOM: usize, const MARKS: usize>(
+    words: &[u8],
+    content: &mut Content<ROOM, MARKS>,
+) -> Result<Option<Head>, LetterFault>
+    requires short { length words.now ≤ LARGEST_DATA }
+    requires most { ROOM ≤ LARGEST_ROOM }
+    requires room { most_spelled Wide (length words.now) ≤ ROOM }
+    requires marks { length words.now ≤ 2 * MARKS }
     ensures letter { IsLetterResult words.now (headed_outcome result content.new) }
     ensures no_item { OnErr result (content.new.message ≡ []) }
     ensures no_mark { OnErr result (content.new.marks.items ≡ []) }
@@ -184,10 +217,17 @@ pub fn letter_of(words: &[u8]) -> Result<Letter, LetterFault>
     }
 }
 
-/// Does the same as [`letter_of()`] in a target: after `Ok`, `letter` holds the letter, whatever it held before.
-/// After a fault it has no head, no item and no mark.
-pub fn letter_to(words: &[u8], letter: &mut Letter) -> Result<(), LetterFault>
-    requires { length words.now ≤ MOST_DATA }
+/// Does the same as [`letter_of()`] in a target with room for all that so many codewords, at most [`LARGEST_DATA`], can
+/// say, and for one mark for each two of them: after `Ok`, `letter` holds the letter, whatever it held before. After a
+/// fault it has no head, no item and no mark.
+pub fn letter_to<const ROOM: usize, const MARKS: usize>(
+    words: &[u8],
+    letter: &mut LetterIn<ROOM, MARKS>,
+) -> Result<(), LetterFault>
+    requires short { length words.now ≤ LARGEST_DATA }
+    requires most { ROOM ≤ LARGEST_ROOM }
+    requires room { most_spelled Wide (length words.now) ≤ ROOM }
+    requires marks { length words.now ≤ 2 * MARKS }
     ensures read { IsLetterResult words.now (outcome result letter.new) }
     ensures emptied { OnErr result
         (letter.new ≡ record { head = None; items = []; marks = [] }) }

@@ -7,7 +7,7 @@ ghost use Rattle.dm_words.specs.inner.Written.{IsEdifactEnded, IsPartWritten};
 
 use crate::extent::Extent;
 use crate::item::{Item, byte};
-use crate::limits::{LARGEST_DATA, MESSAGE_ROOM};
+use crate::limits::{LARGEST_DATA, LARGEST_ROOM};
 use crate::smallest::plan::{PLAN_ROOM, Step};
 use arrayvec::ArrayVec;
 
@@ -31,10 +31,10 @@ pub enum Group {
 }
 
 /// Adds a value of a run behind those that stand, and gives those that stand then. A whole group is written.
-fn push_value(group: Group, value: u8, words: &mut ArrayVec<u8, LARGEST_DATA>) -> Group
+fn push_value<const N: usize>(group: Group, value: u8, words: &mut ArrayVec<u8, N>) -> Group
     requires small { value < 64 }
     requires group { IsSmallGroup group }
-    requires room { length words.old.items + whole_words group ≤ LARGEST_DATA }
+    requires room { length words.old.items + whole_words group ≤ N }
     ensures { IsGroupPushed group words.old.items value result words.new.items }
 {
     match group {
@@ -62,10 +62,11 @@ fn goes_on(group: Group, step: &Step) -> bool
 }
 
 /// Ends a run: with an unlatch as the fourth value of a group, or by itself where more than two codewords are left.
-fn end_run(group: Group, words: &mut ArrayVec<u8, LARGEST_DATA>, total: usize)
+fn end_run<const N: usize>(group: Group, words: &mut ArrayVec<u8, N>, total: usize)
     requires group { IsSmallGroup group }
     requires room { length words.old.items + length (waiting_values group) ≤ total }
-    requires total { total ≤ LARGEST_DATA }
+    requires total { total ≤ N }
+    requires most { N ≤ LARGEST_DATA }
     ensures { IsEdifactEnded group total words.old.items words.new.items }
 {
     if let Group::Empty = group {
@@ -78,20 +79,21 @@ fn end_run(group: Group, words: &mut ArrayVec<u8, LARGEST_DATA>, total: usize)
 }
 
 /// Writes a run, and gives the index behind it.
-pub(crate) fn write_edifact(
+pub(crate) fn write_edifact<const N: usize>(
     extent: Extent,
     items: &[Item],
     at: usize,
     plan: &[Step; PLAN_ROOM],
-    words: &mut ArrayVec<u8, LARGEST_DATA>,
+    words: &mut ArrayVec<u8, N>,
     total: usize,
 ) -> usize
     requires at { at < length items.now }
-    requires few { length items.now ≤ MESSAGE_ROOM }
+    requires few { length items.now ≤ LARGEST_ROOM }
     requires plan { IsRightPlan extent items.now plan.now }
     requires budget { length words.old.items + 1
         + (going_from extent (drop at items.now)).edifact.none ≤ total }
-    requires total { total ≤ LARGEST_DATA }
+    requires total { total ≤ N }
+    requires most { N ≤ LARGEST_DATA }
     ensures further { at < result }
     ensures within { result ≤ length items.now }
     ensures budget { length words.new.items + parts_cost extent (drop result items.now) ≤ total }

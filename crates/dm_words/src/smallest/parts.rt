@@ -9,7 +9,7 @@ ghost use Rattle.dm_words.specs.inner.Written.{IsPartWritten, ArePartsWritten};
 use crate::ascii::{digit_pair, unit_of, write_unit};
 use crate::extent::Extent;
 use crate::item::{Item, byte};
-use crate::limits::{LARGEST_DATA, MESSAGE_ROOM};
+use crate::limits::{LARGEST_DATA, LARGEST_ROOM};
 use crate::smallest::edifact::write_edifact;
 use crate::smallest::plan::{Begin, PLAN_ROOM, Step};
 use crate::smallest::run::write_run;
@@ -26,20 +26,21 @@ struct Written {
 }
 
 /// Writes the part that begins at an item.
-fn write_part(
+fn write_part<const N: usize>(
     extent: Extent,
     items: &[Item],
     at: usize,
     plan: &[Step; PLAN_ROOM],
-    words: &mut ArrayVec<u8, LARGEST_DATA>,
+    words: &mut ArrayVec<u8, N>,
     total: usize,
 ) -> Written
     requires at { at < length items.now }
-    requires few { length items.now ≤ MESSAGE_ROOM }
+    requires few { length items.now ≤ LARGEST_ROOM }
     requires message { IsMessage items.now }
     requires plan { IsRightPlan extent items.now plan.now }
     requires budget { length words.old.items + parts_cost extent (drop at items.now) ≤ total }
-    requires total { total ≤ LARGEST_DATA }
+    requires total { total ≤ N }
+    requires most { N ≤ LARGEST_DATA }
     ensures further { at < result.next }
     ensures within { result.next ≤ length items.now }
     ensures budget { length words.new.items + parts_cost extent (drop result.next items.now)
@@ -92,18 +93,19 @@ fn write_part(
 }
 
 /// Writes the parts of a plan behind the words that stand there, and says whether the usual extent has them all.
-pub(crate) fn write_parts(
+pub(crate) fn write_parts<const N: usize>(
     extent: Extent,
     items: &[Item],
     plan: &[Step; PLAN_ROOM],
-    words: &mut ArrayVec<u8, LARGEST_DATA>,
+    words: &mut ArrayVec<u8, N>,
     total: usize,
 ) -> bool
-    requires few { length items.now ≤ MESSAGE_ROOM }
+    requires few { length items.now ≤ LARGEST_ROOM }
     requires message { IsMessage items.now }
     requires plan { IsRightPlan extent items.now plan.now }
     requires budget { length words.old.items + parts_cost extent items.now ≤ total }
-    requires total { total ≤ LARGEST_DATA }
+    requires total { total ≤ N }
+    requires most { N ≤ LARGEST_DATA }
     ensures parts { ArePartsWritten extent total words.old.items words.new.items items.now }
     ensures usual { IsTrue result
         → ArePartsWritten Usual total words.old.items words.new.items items.now }

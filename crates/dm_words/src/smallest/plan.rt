@@ -8,7 +8,7 @@ ghost use Rattle.dm_words.specs.inner.Costs.{row, parts_cost, is_digit_item, pai
 use crate::c40::set::CodeSet;
 use crate::extent::Extent;
 use crate::item::Item;
-use crate::limits::MESSAGE_ROOM;
+use crate::limits::LARGEST_ROOM;
 use crate::smallest::row::{
     Going, NEVER, Row, going_over, leave, none_going, unit_cost, with_ascii,
 };
@@ -109,7 +109,7 @@ fn is_pair(items: &[Item], at: usize) -> bool
 
 /// Gives the cheapest way to begin, the first of those that are equally cheap.
 fn choose(item: Item, pair: bool, next: &Row, going: &Going) -> Choice
-    requires within { IsWithin 4000 next.now }
+    requires within { IsWithin 3200 next.now }
     requires small { AreSmall going.now }
     ensures cost { result.cost ≡ least item pair next.now going.now }
     ensures most { result.cost ≤ 16384 }
@@ -158,13 +158,13 @@ fn is_digit_item(item: Item) -> bool
 }
 
 /// How many steps a plan has: one for each item, and one behind the last.
-pub const PLAN_ROOM: usize = MESSAGE_ROOM + 1;
+pub const PLAN_ROOM: usize = LARGEST_ROOM + 1;
 
 /// Writes what to do at each item into the plan, and gives the least number of codewords.
 pub(crate) fn plan_to(extent: Extent, items: &[Item], plan: &mut [Step; PLAN_ROOM]) -> u16
-    requires { length items.now ≤ MESSAGE_ROOM }
+    requires { length items.now ≤ LARGEST_ROOM }
     ensures cost { result ≡ parts_cost extent items.now }
-    ensures most { result ≤ 8000 }
+    ensures most { result ≤ 6400 }
     ensures plan { IsRightPlan extent items.now plan.new }
 {
     let none = none_going();

@@ -140,9 +140,9 @@ fn value_before(next: Pairs) -> Pairs
 /// Gives the costs of a run that goes on over an item, from the number of its values.
 fn stay(count: u8, next: Pairs) -> Pairs
     requires few { count ≤ 4 }
-    requires paid { ArePaid 32384 next }
+    requires paid { ArePaid 29184 next }
     ensures going { result ≡ stay count next }
-    ensures paid { ArePaid 33000 result }
+    ensures paid { ArePaid 30000 result }
 {
     match count {
         0 => Pairs {
@@ -189,9 +189,9 @@ fn has_edifact(extent: Extent, item: Item) -> bool
 
 /// Gives the costs of a run of EDIFACT that goes on over an item.
 fn stay_edifact(has: bool, next: Groups) -> Groups
-    requires { ArePaidGroups 32384 next }
+    requires { ArePaidGroups 29184 next }
     ensures going { result ≡ stay_edifact has next }
-    ensures paid { ArePaidGroups 33000 result }
+    ensures paid { ArePaidGroups 30000 result }
 {
     if has {
         Groups {
@@ -239,10 +239,10 @@ fn segment_before(item: Item, next: &Row) -> Bytes
     requires ascii { next.now.ascii ≤ 16384 }
     requires bytes { next.now.segment.bytes ≤ 16384 }
     requires near { next.now.segment.near ≤ 16384 }
-    requires rest { next.now.segment.rest ≤ 32384 }
+    requires rest { next.now.segment.rest ≤ 29184 }
     ensures going { result ≡ segment_before item next.now }
     ensures bytes { result.bytes ≤ 17000 }
-    ensures rest { result.rest ≤ 33000 }
+    ensures rest { result.rest ≤ 30000 }
 {
     match item {
         Item::Fnc1 => Bytes {
@@ -264,7 +264,7 @@ fn segment_before(item: Item, next: &Row) -> Bytes
 
 /// Gives the costs where runs and segments go on over an item.
 pub(crate) fn going_over(extent: Extent, item: Item, next: &Row) -> Going
-    requires { IsWithin 4000 next.now }
+    requires { IsWithin 3200 next.now }
     ensures going { result ≡ going_over extent item next.now }
     ensures small { AreSmall result }
 {

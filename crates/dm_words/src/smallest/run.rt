@@ -14,7 +14,7 @@ use crate::c40::set::CodeSet;
 use crate::codeword::UNLATCH;
 use crate::extent::Extent;
 use crate::item::Item;
-use crate::limits::{LARGEST_DATA, MESSAGE_ROOM};
+use crate::limits::{LARGEST_DATA, LARGEST_ROOM};
 use crate::smallest::plan::{PLAN_ROOM, Step};
 use crate::smallest::values::values_of;
 use arrayvec::ArrayVec;
@@ -53,10 +53,10 @@ pub enum Part {
 }
 
 /// Adds a value of a run behind those that stand, and gives those that stand then. A whole pair is written.
-fn push_value(part: Part, value: u8, words: &mut ArrayVec<u8, LARGEST_DATA>) -> Part
+fn push_value<const N: usize>(part: Part, value: u8, words: &mut ArrayVec<u8, N>) -> Part
     requires small { value < 40 }
     requires part { IsSmallPart part }
-    requires room { length words.old.items + 2 * ((length (part_values part) + 1) / 3) ≤ LARGEST_DATA }
+    requires room { length words.old.items + 2 * ((length (part_values part) + 1) / 3) ≤ N }
     ensures { IsValuePushed part words.old.items value result words.new.items }
 {
     match part {
@@ -72,12 +72,12 @@ fn push_value(part: Part, value: u8, words: &mut ArrayVec<u8, LARGEST_DATA>) -> 
 }
 
 /// Adds values of a run.
-fn push_values(part: Part, values: &[u8], words: &mut ArrayVec<u8, LARGEST_DATA>) -> Part
+fn push_values<const N: usize>(part: Part, values: &[u8], words: &mut ArrayVec<u8, N>) -> Part
     requires small { All IsRunValue values.now }
     requires part { IsSmallPart part }
     requires few { length values.now ≤ 4 }
     requires room { length words.old.items
-        + 2 * ((length (part_values part) + length values.now) / 3) ≤ LARGEST_DATA }
+        + 2 * ((length (part_values part) + length values.now) / 3) ≤ N }
     ensures { ArePushed words.old.items (part_values part) values.now words.new.items result }
 {
     let mut part = part;
@@ -88,11 +88,16 @@ fn push_values(part: Part, values: &[u8], words: &mut ArrayVec<u8, LARGEST_DATA>
 }
 
 /// Adds the values of an item of a run.
-fn push_item(set: CodeSet, item: Item, part: Part, words: &mut ArrayVec<u8, LARGEST_DATA>) -> Part
+fn push_item<const N: usize>(
+    set: CodeSet,
+    item: Item,
+    part: Part,
+    words: &mut ArrayVec<u8, N>,
+) -> Part
     requires held { 0 < set_values set item }
     requires part { IsSmallPart part }
     requires room { length words.old.items
-        + 2 * ((length (part_values part) + set_values set item) / 3) ≤ LARGEST_DATA }
+        + 2 * ((length (part_values part) + set_values set item) / 3) ≤ N }
     ensures { IsItemPushed set item part words.old.items words.new.items result }
 {
     let values = values_of(set, item);
@@ -110,21 +115,22 @@ fn goes_on(part: Part, step: &Step, set: CodeSet) -> bool
 }
 
 /// Writes a run, and gives the index behind it.
-pub(crate) fn write_run(
+pub(crate) fn write_run<const N: usize>(
     extent: Extent,
     items: &[Item],
     at: usize,
     set: CodeSet,
     plan: &[Step; PLAN_ROOM],
-    words: &mut ArrayVec<u8, LARGEST_DATA>,
+    words: &mut ArrayVec<u8, N>,
     total: usize,
 ) -> usize
     requires at { at < length items.now }
-    requires few { length items.now ≤ MESSAGE_ROOM }
+    requires few { length items.now ≤ LARGEST_ROOM }
     requires plan { IsRightPlan extent items.now plan.now }
     requires budget { length words.old.items + 1
         + owed 0 (going_pairs set (going_from extent (drop at items.now))) ≤ total }
-    requires total { total ≤ LARGEST_DATA }
+    requires total { total ≤ N }
+    requires most { N ≤ LARGEST_DATA }
     ensures further { at < result }
     ensures within { result ≤ length items.now }
     ensures budget { length words.new.items + parts_cost extent (drop result items.now) ≤ total }

@@ -11,7 +11,7 @@ use crate::base256::{MOST_SHORT, push_length, push_value, write_bytes};
 use crate::codeword::BASE256_LATCH;
 use crate::extent::Extent;
 use crate::item::Item;
-use crate::limits::{LARGEST_DATA, MESSAGE_ROOM};
+use crate::limits::{LARGEST_DATA, LARGEST_ROOM};
 use crate::smallest::plan::{PLAN_ROOM, Step};
 use arrayvec::ArrayVec;
 
@@ -23,7 +23,7 @@ pub(crate) fn segment_end(
     plan: &[Step; PLAN_ROOM],
 ) -> usize
     requires at { at < length items.now }
-    requires few { length items.now ≤ MESSAGE_ROOM }
+    requires few { length items.now ≤ LARGEST_ROOM }
     requires plan { IsRightPlan extent items.now plan.now }
     requires byte { (going_from extent (drop at items.now)).segment.bytes < never }
     ensures further { at < result }
@@ -43,10 +43,11 @@ pub(crate) fn segment_end(
 
 /// Writes the length field of a segment of `count` bytes: 0, for all bytes up to the end of the symbol, where they
 /// end there and the count would take two numbers.
-fn push_field(words: &mut ArrayVec<u8, LARGEST_DATA>, count: usize, total: usize)
+fn push_field<const N: usize>(words: &mut ArrayVec<u8, N>, count: usize, total: usize)
     requires some { 0 < count }
     requires room { length words.old.items + 1 + count ≤ total }
-    requires total { total ≤ LARGEST_DATA }
+    requires total { total ≤ N }
+    requires most { N ≤ LARGEST_DATA }
     ensures { IsFieldWritten total count words.old.items words.new.items }
 {
     if count > MOST_SHORT && words.len() + 1 + count == total {
@@ -57,12 +58,17 @@ fn push_field(words: &mut ArrayVec<u8, LARGEST_DATA>, count: usize, total: usize
 }
 
 /// Writes a segment of these bytes.
-pub(crate) fn write_segment(items: &[Item], words: &mut ArrayVec<u8, LARGEST_DATA>, total: usize)
+pub(crate) fn write_segment<const N: usize>(
+    items: &[Item],
+    words: &mut ArrayVec<u8, N>,
+    total: usize,
+)
     requires some { 0 < length items.now }
     requires bytes { has_fnc1 items.now ≡ false }
     requires message { IsMessage items.now }
     requires room { length words.old.items + 2 + length items.now ≤ total }
-    requires total { total ≤ LARGEST_DATA }
+    requires total { total ≤ N }
+    requires most { N ≤ LARGEST_DATA }
     ensures fits { length words.new.items ≤ total }
     ensures most { length words.new.items ≤ length words.old.items + 1
         + length (length_numbers (length items.now)) + length items.now }

@@ -4,7 +4,7 @@ use Rattle.dm_words.proofs.SegmentLoops.{bytes_more}
 use Rattle.dm_words.proofs.base256.push_bytes.Goals as goal
 
 pub loop-i-preserved : goal.loop-i-preserved
-loop-i-preserved c =
+loop-i-preserved g c =
     let v = c.loop-i.invariant in
     record {
       len = omega (

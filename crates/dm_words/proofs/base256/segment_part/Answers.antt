@@ -5,10 +5,10 @@ use Rattle.dm_words.proofs.base256.segment_part.Goals as goal
 use Rattle.dm_words.proofs.base256.segment_part.Goals.{then-second-gt-MOST_SHORT-via-then-second-gt-MOST_SHORT}
 
 pub returns-then-left-eq0 : goal.returns-then-left-eq0
-returns-then-left-eq0 c = nothing_left c.args.words.now c.args.at c.if-left-eq0.true
+returns-then-left-eq0 g c = nothing_left c.args.words.now c.args.at c.if-left-eq0.true
 
 pub returns-then-first-eq0 : goal.returns-then-first-eq0
-returns-then-first-eq0 c = (
+returns-then-first-eq0 g c = (
   _,
   to_the_end_found c.args.words.now c.args.at c.plain_value-first.result (omega arith)
       c.plain_value-first.ensures c.if-first-eq0.true,
@@ -16,12 +16,12 @@ returns-then-first-eq0 c = (
 )
 
 pub returns-then-left-first : goal.returns-then-left-first
-returns-then-left-first c =
+returns-then-left-first g c =
     past_short_found c.args.words.now c.args.at c.plain_value-first.result (omega arith) c.plain_value-first.ensures
     c.if-first-le-MOST_SHORT.true (omega arith)
 
 pub returns-then-first-le-MOST_SHORT : goal.returns-then-first-le-MOST_SHORT
-returns-then-first-le-MOST_SHORT c = (
+returns-then-first-le-MOST_SHORT g c = (
   _,
   short_found c.args.words.now c.args.at c.plain_value-first.result (omega arith) c.plain_value-first.ensures
       (omega arith) c.if-first-le-MOST_SHORT.true (omega arith),
@@ -29,12 +29,12 @@ returns-then-first-le-MOST_SHORT c = (
 )
 
 pub returns-then-left-eq1 : goal.returns-then-left-eq1
-returns-then-left-eq1 c =
+returns-then-left-eq1 g c =
     no_second_found c.args.words.now c.args.at c.plain_value-first.result (omega arith) c.plain_value-first.ensures
     (omega arith) c.if-left-eq1.true
 
 pub returns-then-second-gt-MOST_SHORT : goal.returns-then-second-gt-MOST_SHORT
-returns-then-second-gt-MOST_SHORT c =
+returns-then-second-gt-MOST_SHORT g c =
     elim c.then-second-gt-MOST_SHORT.branch [
       | then-second-gt-MOST_SHORT-via-then-second-gt-MOST_SHORT w ↦ wrong_second_found c.args.words.now c.args.at
           c.plain_value-first.result (omega arith) c.plain_value-first.ensures (omega arith)
@@ -46,7 +46,7 @@ returns-then-second-gt-MOST_SHORT c =
     ]
 
 pub returns : goal.returns
-returns c = (
+returns g c = (
   _,
   long_found c.args.words.now c.args.at c.plain_value-first.result (omega arith) c.plain_value-first.ensures
       (omega arith) c.plain_value-second.result (omega arith) c.plain_value-second.ensures (omega arith) (omega arith),

@@ -2,7 +2,7 @@ use Rattle.std.proofs.Common.{append_assoc, refl}
 use Rattle.dm_words.proofs.macros.add_header.Goals as goal
 
 pub returns : goal.returns
-returns c =
+returns g c =
     rw (
       c.add-7.ensures,
       c.add-6.ensures,

@@ -1,4 +1,4 @@
-use Rattle.std.proofs.Common.{◌∙◌, ◌+◌, drop, sym, arith, Some, None}
+use Rattle.std.proofs.Common.{◌∙◌, ◌+◌, drop, sym, arith, rules, Some, None}
 use Rattle.std.proofs.lemmas.Result.{err_from_is_err_and}
 use Rattle.dm_words.specs.inner.Scan.Prefixes.{read_on}
 use Rattle.dm_words.proofs.PartLoops.{goes_on, stops_on}
@@ -6,7 +6,7 @@ use Rattle.dm_words.proofs.reading.add_parts.Goals as goal
 
 -- A turn of the loop takes a part, which keeps to the words and to what is read in all, and then parts of one codeword.
 pub overflow_add-at : goal.overflow_add-at
-overflow_add-at c =
+overflow_add-at g c =
     let v = c.loop-count.invariant in
     let r = goes_on c.args.extent c.args.words.now c.args.start c.loop-count.at c.in-Some.count c.args.message.now
     c.loop-count.message c.next_part.new.message
@@ -15,28 +15,18 @@ overflow_add-at c =
     v.so_far in
     omega (arith, r.0, c.requires.short)
 
-pub one_word_parts-at-requires-in-Some-clause-in_range : goal.one_word_parts-at-requires-in-Some-clause-in_range
-one_word_parts-at-requires-in-Some-clause-in_range c =
+pub one_word_parts-at-requires-in-Some : goal.one_word_parts-at-requires-in-Some
+one_word_parts-at-requires-in-Some g c =
     let v = c.loop-count.invariant in
     let r = goes_on c.args.extent c.args.words.now c.args.start c.loop-count.at c.in-Some.count c.args.message.now
     c.loop-count.message c.next_part.new.message
     (read_on c.args.extent c.args.message.now (c.args.start + 1) (drop c.args.start c.args.words.now))
     (λ i. omega (arith, c.type_inv.words i)) v.in_range v.from v.room (rw c.in-Some.is at c.in_ok-count.ensures)
     v.so_far in
-    r.0
-
-pub one_word_parts-at-requires-in-Some-clause-room : goal.one_word_parts-at-requires-in-Some-clause-room
-one_word_parts-at-requires-in-Some-clause-room c =
-    let v = c.loop-count.invariant in
-    let r = goes_on c.args.extent c.args.words.now c.args.start c.loop-count.at c.in-Some.count c.args.message.now
-    c.loop-count.message c.next_part.new.message
-    (read_on c.args.extent c.args.message.now (c.args.start + 1) (drop c.args.start c.args.words.now))
-    (λ i. omega (arith, c.type_inv.words i)) v.in_range v.from v.room (rw c.in-Some.is at c.in_ok-count.ensures)
-    v.so_far in
-    omega (arith, r.1, c.requires.room)
+    (search rules, (r.0, (c.requires.short, omega (arith, r.1, c.requires.room))))
 
 pub loop-count-preserved : goal.loop-count-preserved
-loop-count-preserved c =
+loop-count-preserved g c =
     let v = c.loop-count.invariant in
     let r = goes_on c.args.extent c.args.words.now c.args.start c.loop-count.at c.in-Some.count c.args.message.now
     c.loop-count.message c.next_part.new.message
@@ -52,7 +42,7 @@ loop-count-preserved c =
     }
 
 pub loop-count-smaller : goal.loop-count-smaller
-loop-count-smaller c =
+loop-count-smaller g c =
     let v = c.loop-count.invariant in
     let r = goes_on c.args.extent c.args.words.now c.args.start c.loop-count.at c.in-Some.count c.args.message.now
     c.loop-count.message c.next_part.new.message
@@ -63,7 +53,7 @@ loop-count-smaller c =
     omega (arith, r.0, r.2, e.from, e.within)
 
 pub returns-clause-read : goal.returns-clause-read
-returns-clause-read c =
+returns-clause-read g c =
     let took = rw c.in_default.is at c.in_ok-count.ensures in
     rw took.1
     (sym (stops_on c.args.extent c.args.words.now c.loop-count.at c.loop-count.message None
@@ -71,7 +61,7 @@ returns-clause-read c =
     c.loop-count.invariant.so_far))
 
 pub returns-in_err-count-clause-read : goal.returns-in_err-count-clause-read
-returns-in_err-count-clause-read c =
+returns-in_err-count-clause-read g c =
     let p = err_from_is_err_and c.from_residual.result c.from_residual.ensures.1 in
     rw (p.1, p.2)
     (sym (stops_on c.args.extent c.args.words.now c.loop-count.at c.loop-count.message

@@ -3,7 +3,7 @@ use Rattle.dm_words.specs.inner.Scan.Prefixes.{read_on}
 use Rattle.dm_words.proofs.reading.add_parts.Given as goal
 
 abbrev pub invariant-loop-count : goal.invariant-loop-count
-invariant-loop-count l = record {
+invariant-loop-count g l = record {
   from : l.start ≤ l.at;
   in_range : l.at ≤ length l.words;
   room : length l.message + 2 * l.start ≤ length l.fn.message + 2 * l.at;
@@ -12,4 +12,4 @@ invariant-loop-count l = record {
 }
 
 abbrev pub decreases-loop-count : goal.decreases-loop-count
-decreases-loop-count l = length l.words - l.at
+decreases-loop-count g l = length l.words - l.at

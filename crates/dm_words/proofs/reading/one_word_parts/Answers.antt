@@ -3,7 +3,7 @@ use Rattle.dm_words.proofs.PartLoops.{one_word_turn}
 use Rattle.dm_words.proofs.reading.one_word_parts.Goals as goal
 
 pub loop-word-preserved : goal.loop-word-preserved
-loop-word-preserved c =
+loop-word-preserved g c =
     let v = c.loop-word.invariant in
     let taken = rw c.if-not-is_taken.false at c.one_word_part-is_taken.ensures.taken in
     let r = one_word_turn c.args.words.now c.args.start c.loop-word.at c.in-Some.word c.args.message.now

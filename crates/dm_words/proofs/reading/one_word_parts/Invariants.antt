@@ -4,7 +4,7 @@ use Rattle.dm_words.specs.inner.Scan.Prefixes.{read_on}
 use Rattle.dm_words.proofs.reading.one_word_parts.Given as goal
 
 abbrev pub invariant-loop-word : goal.invariant-loop-word
-invariant-loop-word l = record {
+invariant-loop-word g l = record {
   from : l.start ≤ l.at;
   in_range : l.at ≤ length l.words;
   room : length l.message + 2 * l.start ≤ length l.fn.message + 2 * l.at;
@@ -13,4 +13,4 @@ invariant-loop-word l = record {
 }
 
 abbrev pub decreases-loop-word : goal.decreases-loop-word
-decreases-loop-word l = length l.words - l.at
+decreases-loop-word g l = length l.words - l.at

@@ -5,7 +5,7 @@ use Rattle.dm_words.proofs.SmallestSymbols.{plain_spells}
 use Rattle.dm_words.proofs.smallest.write_plain.Goals as goal
 
 pub returns-clause-spells : goal.returns-clause-spells
-returns-clause-spells c =
+returns-clause-spells g c =
     let new = c.write_parts.new.words.items in
     plain_spells c.args.extent c.args.count c.clear.new.self.items new c.args.items.now c.clear.ensures
     (subst (λ (n : ℕ). ArePartsWritten c.args.extent n c.clear.new.self.items new c.args.items.now) c.from.ensures
@@ -13,7 +13,7 @@ returns-clause-spells c =
     (omega (arith, c.write_parts.ensures.fits, c.from.ensures))
 
 pub returns-clause-usual : goal.returns-clause-usual
-returns-clause-usual c all =
+returns-clause-usual g c all =
     let new = c.write_parts.new.words.items in
     plain_spells Usual c.args.count c.clear.new.self.items new c.args.items.now c.clear.ensures
     (subst (λ (n : ℕ). ArePartsWritten Usual n c.clear.new.self.items new c.args.items.now) c.from.ensures

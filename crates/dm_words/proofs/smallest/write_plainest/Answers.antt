@@ -6,13 +6,13 @@ use Rattle.dm_words.proofs.SmallestSymbols.{ascii_plainest, usual_plainest}
 use Rattle.dm_words.proofs.smallest.write_plainest.Goals as goal
 
 pub returns-then-ascii_form-from-clause-spells : goal.returns-then-ascii_form-from-clause-spells
-returns-then-ascii_form-from-clause-spells c =
+returns-then-ascii_form-from-clause-spells g c =
     subst (λ (l : List ℕ). SpellsThenPads c.args.extent (padded l c.args.count) c.args.items.now)
     (sym c.write_ascii-form.ensures.words)
     (ascii_padded c.args.extent c.args.items.now c.args.count c.requires.message)
 
 pub returns-then-ascii_form-from-clause-plainest : goal.returns-then-ascii_form-from-clause-plainest
-returns-then-ascii_form-from-clause-plainest c =
+returns-then-ascii_form-from-clause-plainest g c =
     ascii_plainest c.args.items.now c.write_ascii-form.new.words.items c.args.count c.requires.message
     c.write_ascii-form.ensures.words
     (omega (
@@ -24,7 +24,7 @@ returns-then-ascii_form-from-clause-plainest c =
     ))
 
 pub returns-else-not-is_usual-clause-plainest : goal.returns-else-not-is_usual-clause-plainest
-returns-else-not-is_usual-clause-plainest c =
+returns-else-not-is_usual-clause-plainest g c =
     usual_plainest c.args.items.now c.write_way-is_usual.new.words.items c.args.count c.write_way-is_usual.ensures.fits
     (omega (arith, c.ascii_form.ensures.length, c.from.ensures, c.if-ascii_form-from.false))
     (c.write_way-is_usual.ensures.usual (search rules))

@@ -4,21 +4,21 @@ use Rattle.dm_words.proofs.SmallestSymbols.{wider, usual_plainest, any_plainest,
 use Rattle.dm_words.proofs.smallest.write_usual_if_fits.Goals as goal
 
 pub returns-then-plan_to-count-clause-spells : goal.returns-then-plan_to-count-clause-spells
-returns-then-plan_to-count-clause-spells c =
+returns-then-plan_to-count-clause-spells g c =
     wider c.args.extent (padded c.write_plain-usual.new.words.items c.args.count) c.args.items.now
     c.write_plain-usual.ensures.spells
 
 pub returns-then-plan_to-count-clause-plainest : goal.returns-then-plan_to-count-clause-plainest
-returns-then-plan_to-count-clause-plainest c =
+returns-then-plan_to-count-clause-plainest g c =
     usual_plainest c.args.items.now c.write_plain-usual.new.words.items c.args.count c.write_plain-usual.ensures.fits
     c.requires.no_ascii c.write_plain-usual.ensures.spells
 
 pub returns-else-plan_to-count-clause-plainest : goal.returns-else-plan_to-count-clause-plainest
-returns-else-plan_to-count-clause-plainest c =
+returns-else-plan_to-count-clause-plainest g c =
     any_plainest c.args.items.now c.args.words.now.items c.args.count c.plan_to.result c.requires.fits
     c.requires.no_ascii c.plan_to.ensures.cost c.if-plan_to-count.false
 
 pub returns-then-from-items-clause-plainest : goal.returns-then-from-items-clause-plainest
-returns-then-from-items-clause-plainest c =
+returns-then-from-items-clause-plainest g c =
     long_plainest c.args.items.now c.args.words.now.items c.args.count c.requires.fits c.requires.no_ascii
     (omega (arith, c.from.ensures, c.if-from-items.true))

@@ -1,11 +1,13 @@
-use Rattle.std.proofs.Common.{◌∙◌, ℕ, List, [], ◌∷◌, ◌++◌, Option, ap, arith, subst}
+use Rattle.std.proofs.Common.{◌∙◌, ℕ, ◌-◌, List, [], ◌∷◌, ◌++◌, Option, ap, arith, subst, rules, drop, length}
+use Rattle.std.proofs.lemmas.List.Elements.{All-drop, All-take}
+use Rattle.dm_words.specs.Messages.{IsItem}
 use Rattle.dm_words.specs.inner.Ways.{IsWay}
 use Rattle.dm_words.specs.inner.Written.{ArePartsWritten}
 use Rattle.dm_words.proofs.SmallestSymbols.{macro_spells}
 use Rattle.dm_words.proofs.smallest.write_way.Goals as goal
 
 pub returns-in-Some-clause-spells : goal.returns-in-Some-clause-spells
-returns-in-Some-clause-spells c =
+returns-in-Some-clause-spells g c =
     let way =
     subst (λ (o : Option ℕ). IsWay c.args.extent c.args.items.now o c.args.way.cost) c.in-Some.is c.requires.way in
     let base = c.push.new.self.items in
@@ -15,3 +17,35 @@ returns-in-Some-clause-spells c =
     (subst (λ (n : ℕ). ArePartsWritten c.args.extent n base new c.inner.result.now) c.from.ensures
     c.write_parts-usual.ensures.parts)
     (omega (arith, c.write_parts-usual.ensures.fits, c.from.ensures))
+
+pub write_parts-usual-requires : goal.write_parts-usual-requires
+write_parts-usual-requires g c =
+    let way =
+    subst (λ (o : Option ℕ). IsWay c.args.extent c.args.items.now o c.args.way.cost) c.in-Some.is c.requires.way in
+    let message =
+    All-take IsItem (length c.args.items.now - 2 - 7) (drop 7 c.args.items.now)
+    (All-drop IsItem 7 c.args.items.now c.requires.message) in
+    let plan = rw c.in-Some.is at c.requires.plan in (
+      search rules,
+      (
+        search rules,
+        (
+          rw c.inner.ensures message,
+          (
+            rw c.inner.ensures plan,
+            (
+              rw c.inner.ensures
+                  (omega (
+                    arith,
+                    way.1,
+                    c.push.ensures.len,
+                    ap length c.clear.ensures,
+                    c.requires.room,
+                    c.from.ensures,
+                  )),
+              (omega (arith, c.from.ensures, c.requires.count), c.requires.most),
+            ),
+          ),
+        ),
+      ),
+    )

@@ -19,11 +19,9 @@ use Rattle.dm_words.specs.NormalForm.{has_fnc1}
 use Rattle.dm_words.specs.inner.Scan.Walk.{Step, Takes, Stops}
 use Rattle.dm_words.specs.inner.Scan.Prefixes.{first_part, group_by, edifact_items}
 
--- The message has room for what the codewords from an index on spell: so far it has at most two items for each codeword
--- before them, and five more,
--- since a macro, which is one codeword, begins it with a header of seven.
-abbrev pub HasRoomAt : ℕ → List Item → Type 0
-HasRoomAt at message = length message ≤ 2 * at + 5
+-- A message with so much room has room for what the codewords from an index on spell: two items for each of them.
+abbrev pub HasRoomAt : ℕ → List ℕ → ℕ → List Item → Type 0
+HasRoomAt room words at message = length message + 2 * length words ≤ room + 2 * at
 
 -- A part with the given number of words was taken, and its items stand behind the old ones; or the end was met; or a
 -- fault.

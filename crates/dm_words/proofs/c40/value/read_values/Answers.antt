@@ -4,7 +4,7 @@ use Rattle.dm_words.proofs.RunLoops.{items_turn, items_stop}
 use Rattle.dm_words.proofs.c40.value.read_values.Goals as goal
 
 pub loop-count-preserved : goal.loop-count-preserved
-loop-count-preserved c =
+loop-count-preserved g c =
     let v = c.loop-count.invariant in
     let t = items_turn c.args.set c.args.values.now c.loop-count.at c.in-Takes.count c.in-Takes.item
     c.args.message.now c.loop-count.message c.add.new.self (items_in c.args.set c.args.values.now) v.in_range
@@ -22,7 +22,7 @@ loop-count-preserved c =
     }
 
 pub loop-count-smaller : goal.loop-count-smaller
-loop-count-smaller c =
+loop-count-smaller g c =
     let v = c.loop-count.invariant in
     let t = items_turn c.args.set c.args.values.now c.loop-count.at c.in-Takes.count c.in-Takes.item
     c.args.message.now c.loop-count.message c.add.new.self (items_in c.args.set c.args.values.now) v.in_range
@@ -30,22 +30,22 @@ loop-count-smaller c =
     omega (arith, t.1, t.2)
 
 pub returns-in-Stops-clause-items : goal.returns-in-Stops-clause-items
-returns-in-Stops-clause-items c =
+returns-in-Stops-clause-items g c =
     (items_stop c.args.set c.args.values.now c.loop-count.at c.args.message.now c.loop-count.message c.in-Stops.rest
     (items_in c.args.set c.args.values.now) c.in-Stops.ensures c.loop-count.invariant.so_far).values
 
 pub returns-in-Stops-clause-value_count : goal.returns-in-Stops-clause-value_count
-returns-in-Stops-clause-value_count c =
+returns-in-Stops-clause-value_count g c =
     (items_stop c.args.set c.args.values.now c.loop-count.at c.args.message.now c.loop-count.message c.in-Stops.rest
     (items_in c.args.set c.args.values.now) c.in-Stops.ensures c.loop-count.invariant.so_far).place_is
 
 pub returns-in-Stops-clause-rest : goal.returns-in-Stops-clause-rest
-returns-in-Stops-clause-rest c =
+returns-in-Stops-clause-rest g c =
     (items_stop c.args.set c.args.values.now c.loop-count.at c.args.message.now c.loop-count.message c.in-Stops.rest
     (items_in c.args.set c.args.values.now) c.in-Stops.ensures c.loop-count.invariant.so_far).why_is
 
 pub overflow_add-at : goal.overflow_add-at
-overflow_add-at c =
+overflow_add-at g c =
     let v = c.loop-count.invariant in
     let t = items_turn c.args.set c.args.values.now c.loop-count.at c.in-Takes.count c.in-Takes.item
     c.args.message.now c.loop-count.message c.add.new.self (items_in c.args.set c.args.values.now) v.in_range

@@ -1,32 +1,38 @@
-use Rattle.std.proofs.Common.{ap, length, refl, arith, length-append}
+use Rattle.std.proofs.Common.{ap, length, refl, arith, rules, length-append, None}
 use Rattle.dm_words.specs.Letters.{closing_items}
+use Rattle.dm_words.specs.inner.LetterContents.{content_view}
 use Rattle.dm_words.proofs.LetterReadings.{opening_room, begins_at, closed_in_order, few_close}
 use Rattle.dm_words.proofs.letters.reading.read_behind.Goals as goal
 
-pub add_letter_parts-requires-clause-in_range : goal.add_letter_parts-requires-clause-in_range
-add_letter_parts-requires-clause-in_range c = (opening_room c.args.words.now c.args.found c.requires.found).in_range
+pub add_opening-requires : goal.add_opening-requires
+add_opening-requires g c =
+    let r = (opening_room c.args.words.now c.args.found c.requires.found).room g.row.ROOM c.requires.room in
+    (search rules, rw c.requires.no_item (omega (arith, r, (opening_room c.args.words.now c.args.found c.requires.found).in_range)))
 
-pub add_letter_parts-requires-clause-so_far : goal.add_letter_parts-requires-clause-so_far
-add_letter_parts-requires-clause-so_far c =
-    (begins_at c.args.words.now c.args.found c.args.content.now
-    (record { message = c.add_opening.new.message; marks = c.args.content.now.marks }) c.requires.found
-    c.requires.no_item c.requires.no_mark c.add_opening.ensures refl).0
+pub add_letter_parts-requires : goal.add_letter_parts-requires
+add_letter_parts-requires g c =
+    let b = begins_at g.row.ROOM c.args.words.now c.args.found c.args.content.now.message c.add_opening.new.message
+    c.args.content.now.marks.items c.args.content.now.marks.items c.requires.found c.requires.room c.requires.no_item c.requires.no_mark c.add_opening.ensures refl in (
+      search rules,
+      (
+        (opening_room c.args.words.now c.args.found c.requires.found).in_range,
+        (c.requires.short, (c.requires.most, (c.requires.marks, b.0))),
+      ),
+    )
 
 pub add_closing-requires : goal.add_closing-requires
-add_closing-requires c =
-    let b = begins_at c.args.words.now c.args.found c.args.content.now
-    (record { message = c.add_opening.new.message; marks = c.args.content.now.marks }) c.requires.found
-    c.requires.no_item c.requires.no_mark c.add_opening.ensures refl in
-    omega (arith, b.0.room, c.in_ok-add_letter_parts.ensures.two_for_each_codeword, c.requires.short)
+add_closing-requires g c =
+    let r = (opening_room c.args.words.now c.args.found c.requires.found).room g.row.ROOM c.requires.room in
+    let before = rw c.requires.no_item at c.add_opening.ensures in
+    (search rules, omega (arith, r, ap length before, c.in_ok-add_letter_parts.ensures.two_for_each_codeword))
 
 pub returns-clause-most : goal.returns-clause-most
-returns-clause-most c =
-    let b = begins_at c.args.words.now c.args.found c.args.content.now
-    (record { message = c.add_opening.new.message; marks = c.args.content.now.marks }) c.requires.found
-    c.requires.no_item c.requires.no_mark c.add_opening.ensures refl in
+returns-clause-most g c =
+    let few = (opening_room c.args.words.now c.args.found c.requires.found).few in
     omega (
       arith,
-      b.0.room,
+      few,
+      ap length (rw c.requires.no_item at c.add_opening.ensures),
       c.in_ok-add_letter_parts.ensures.two_for_each_codeword,
       ap length c.add_closing.ensures,
       length-append c.add_letter_parts.new.content.message (closing_items c.args.found.opening),
@@ -34,7 +40,7 @@ returns-clause-most c =
     )
 
 pub returns-clause-in_order : goal.returns-clause-in_order
-returns-clause-in_order c =
-    closed_in_order c.args.found.opening c.add_letter_parts.new.content
-    (record { message = c.add_closing.new.message; marks = c.add_letter_parts.new.content.marks })
+returns-clause-in_order g c =
+    closed_in_order c.args.found.opening (content_view c.add_letter_parts.new.content)
+    (record { head = None; items = c.add_closing.new.message; marks = c.add_letter_parts.new.content.marks.items })
     c.in_ok-add_letter_parts.ensures.in_order c.add_closing.ensures refl

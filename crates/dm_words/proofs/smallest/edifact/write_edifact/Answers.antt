@@ -1,4 +1,4 @@
-use Rattle.std.proofs.Common.{inl, inr, arith, ap, subst, ◌≡◌, ℕ, ◌-◌, List, length, take, drop}
+use Rattle.std.proofs.Common.{inl, inr, arith, ap, subst, ◌≡◌, ℕ, ◌-◌, List, length, take, drop, rules}
 use Rattle.dm_words.specs.declared.item.Item.{Item}
 use Rattle.dm_words.specs.declared.item.Item.TheVariants.{Byte}
 use Rattle.dm_words.specs.declared.smallest.edifact.Group.TheVariants as group
@@ -9,7 +9,7 @@ use Rattle.dm_words.proofs.GroupBudget.{ended_budget}
 use Rattle.dm_words.proofs.smallest.edifact.write_edifact.Goals as goal
 
 pub loop-words-init : goal.loop-words-init
-loop-words-init c =
+loop-words-init g c =
     let f = first_of_groups c.args.extent c.args.items.now c.args.at (Byte 0) (length c.push.new.self.items)
     c.args.total c.requires.at (omega (arith, c.requires.budget, c.push.ensures.len))
     (omega (arith, c.requires.total)) in
@@ -30,26 +30,34 @@ loop-words-init c =
       zero_is = omega arith
 
 pub bounds-items-next : goal.bounds-items-next
-bounds-items-next c =
+bounds-items-next g c =
     (group_at c.args.extent c.args.items.now c.loop-words.next (Byte 0) _ c.loop-words.group
     (length c.loop-words.words.items) c.args.total c.goes_on.result
     (c.requires.plan c.loop-words.next _ c.loop-words.invariant.within) c.loop-words.invariant.budget
     (omega (arith, c.requires.total)) c.goes_on.ensures c.loop-words-test.true).there
 
-pub push_value-group-requires-in-loop-words-clause-room : goal.push_value-group-requires-in-loop-words-clause-room
-push_value-group-requires-in-loop-words-clause-room c =
-    omega (
-      arith,
-      value_room c.loop-words.group (length c.loop-words.words.items) c.args.total _
-          (group_at c.args.extent c.args.items.now c.loop-words.next (Byte 0) _ c.loop-words.group
-          (length c.loop-words.words.items) c.args.total c.goes_on.result
-          (c.requires.plan c.loop-words.next _ c.loop-words.invariant.within) c.loop-words.invariant.budget
-          (omega (arith, c.requires.total)) c.goes_on.ensures c.loop-words-test.true).budget,
-      c.requires.total,
-    )
+pub push_value-group-requires-in-loop-words : goal.push_value-group-requires-in-loop-words
+push_value-group-requires-in-loop-words g c = (
+  search rules,
+  (
+    search rules,
+    (
+      search rules,
+      omega (
+        arith,
+        value_room c.loop-words.group (length c.loop-words.words.items) c.args.total _
+            (group_at c.args.extent c.args.items.now c.loop-words.next (Byte 0) _ c.loop-words.group
+            (length c.loop-words.words.items) c.args.total c.goes_on.result
+            (c.requires.plan c.loop-words.next _ c.loop-words.invariant.within) c.loop-words.invariant.budget
+            (omega (arith, c.requires.total)) c.goes_on.ensures c.loop-words-test.true).budget,
+        c.requires.total,
+      ),
+    ),
+  ),
+)
 
 pub loop-words-smaller : goal.loop-words-smaller
-loop-words-smaller c =
+loop-words-smaller g c =
     omega (
       arith,
       (group_at c.args.extent c.args.items.now c.loop-words.next (Byte 0) _ c.loop-words.group
@@ -59,7 +67,7 @@ loop-words-smaller c =
     )
 
 pub loop-words-preserved : goal.loop-words-preserved
-loop-words-preserved c =
+loop-words-preserved g c =
     let v = c.loop-words.invariant in
     let r = group_at c.args.extent c.args.items.now c.loop-words.next (Byte 0) _ c.loop-words.group
     (length c.loop-words.words.items) c.args.total c.goes_on.result (c.requires.plan c.loop-words.next _ v.within)
@@ -78,12 +86,14 @@ loop-words-preserved c =
           c.push_value-group-in-loop-words.ensures;
     }
 
-pub end_run-requires-clause-room : goal.end_run-requires-clause-room
-end_run-requires-clause-room c =
-    waiting_room c.loop-words.group (length c.loop-words.words.items) c.args.total _ c.loop-words.invariant.budget
+pub end_run-requires : goal.end_run-requires
+end_run-requires g c =
+    let room =
+    waiting_room c.loop-words.group (length c.loop-words.words.items) c.args.total _ c.loop-words.invariant.budget in
+    (search rules, (search rules, (room, (c.requires.total, c.requires.most))))
 
 pub returns-clause-budget : goal.returns-clause-budget
-returns-clause-budget c =
+returns-clause-budget g c =
     ended_budget c.loop-words.group c.args.total (parts_cost c.args.extent (drop c.loop-words.next c.args.items.now))
     c.loop-words.words.items c.end_run.new.words.items
     (leave_groups c.args.extent (drop c.loop-words.next c.args.items.now) _ c.loop-words.group
@@ -93,7 +103,7 @@ returns-clause-budget c =
     c.end_run.ensures
 
 pub returns-clause-part : goal.returns-clause-part
-returns-clause-part c =
+returns-clause-part g c =
     let v = c.loop-words.invariant in
     let l = leave_groups c.args.extent (drop c.loop-words.next c.args.items.now) _ c.loop-words.group
     (length c.loop-words.words.items) c.args.total c.goes_on.result (c.requires.plan c.loop-words.next _ v.within)

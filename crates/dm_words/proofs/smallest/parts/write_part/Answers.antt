@@ -1,9 +1,10 @@
-use Rattle.std.proofs.Common.{◌≡◌, ◌∙◌, ℕ, ◌+◌, List, length, drop, get_or, ap, sym, subst, arith, false}
+use Rattle.std.proofs.Common.{◌≡◌, ◌∙◌, ℕ, ◌+◌, ◌-◌, List, length, drop, get_or, ap, sym, subst, arith, false, rules}
 use Rattle.std.proofs.lemmas.List.{length-append, take_rest, drop_all}
+use Rattle.std.proofs.lemmas.List.Elements.{All-drop, All-take}
 use Rattle.dm_words.specs.declared.extent.Extent.TheVariants.{Usual}
 use Rattle.dm_words.specs.declared.item.Item.{Item}
 use Rattle.dm_words.specs.declared.item.Item.TheVariants.{Byte}
-use Rattle.dm_words.specs.Messages.{byte_of}
+use Rattle.dm_words.specs.Messages.{byte_of, IsItem}
 use Rattle.dm_words.specs.Ascii.{digit_pair}
 use Rattle.dm_words.specs.NormalForm.{has_fnc1}
 use Rattle.dm_words.specs.inner.Costs.{parts_cost}
@@ -15,7 +16,7 @@ use Rattle.dm_words.proofs.UnitWritten.{length-item_words, digit_byte, one_writt
 use Rattle.dm_words.proofs.smallest.parts.write_part.Goals as goal
 
 pub write_unit-one-requires : goal.write_unit-one-requires
-write_unit-one-requires c =
+write_unit-one-requires g c =
     let p = one_paid c.args.extent c.args.items.now c.args.at (Byte 0) _ c.requires.at
     (c.requires.plan c.args.at _ (omega (arith, c.requires.at))) (length c.args.words.now.items) c.args.total
     c.requires.budget c.in-One.is in
@@ -28,7 +29,7 @@ write_unit-one-requires c =
     )
 
 pub returns-in-One-clause-budget : goal.returns-in-One-clause-budget
-returns-in-One-clause-budget c =
+returns-in-One-clause-budget g c =
     let p = one_paid c.args.extent c.args.items.now c.args.at (Byte 0) _ c.requires.at
     (c.requires.plan c.args.at _ (omega (arith, c.requires.at))) (length c.args.words.now.items) c.args.total
     c.requires.budget c.in-One.is in
@@ -42,25 +43,25 @@ returns-in-One-clause-budget c =
     )
 
 pub returns-in-One-clause-part : goal.returns-in-One-clause-part
-returns-in-One-clause-part c =
+returns-in-One-clause-part g c =
     one_written c.args.extent c.args.total c.args.words.now.items c.write_unit-one.new.words.items
     (unit_words c.unit_of.result) c.args.items.now c.args.at (Byte 0)
     c.requires.at c.requires.message c.unit_of.ensures.words c.write_unit-one.ensures.words
 
 pub returns-in-One-clause-usual : goal.returns-in-One-clause-usual
-returns-in-One-clause-usual c =
+returns-in-One-clause-usual g c =
     λ usual. one_written Usual c.args.total c.args.words.now.items c.write_unit-one.new.words.items
     (unit_words c.unit_of.result) c.args.items.now c.args.at (Byte 0)
     c.requires.at c.requires.message c.unit_of.ensures.words c.write_unit-one.ensures.words
 
 pub bounds-items-at-in-Two-2 : goal.bounds-items-at-in-Two-2
-bounds-items-at-in-Two-2 c =
+bounds-items-at-in-Two-2 g c =
     (pair_paid c.args.extent c.args.items.now c.args.at (Byte 0) _ c.requires.at
     (c.requires.plan c.args.at _ (omega (arith, c.requires.at))) (length c.args.words.now.items) c.args.total
     c.requires.budget (omega (arith, c.requires.total)) c.in-Two.is).second_there
 
 pub digit_pair-requires-clause-tens : goal.digit_pair-requires-clause-tens
-digit_pair-requires-clause-tens c =
+digit_pair-requires-clause-tens g c =
     digit_byte (get_or c.args.items.now c.args.at (Byte 0)) c.byte.result
     (pair_paid c.args.extent c.args.items.now c.args.at (Byte 0) _ c.requires.at
     (c.requires.plan c.args.at _ (omega (arith, c.requires.at))) (length c.args.words.now.items) c.args.total
@@ -68,7 +69,7 @@ digit_pair-requires-clause-tens c =
     c.byte.ensures
 
 pub digit_pair-requires-clause-ones : goal.digit_pair-requires-clause-ones
-digit_pair-requires-clause-ones c =
+digit_pair-requires-clause-ones g c =
     digit_byte (get_or c.args.items.now (c.args.at + 1) (Byte 0)) c.byte-in-Two.result
     (pair_paid c.args.extent c.args.items.now c.args.at (Byte 0) _ c.requires.at
     (c.requires.plan c.args.at _ (omega (arith, c.requires.at))) (length c.args.words.now.items) c.args.total
@@ -76,14 +77,14 @@ digit_pair-requires-clause-ones c =
     c.byte-in-Two.ensures
 
 pub push-requires : goal.push-requires
-push-requires c =
+push-requires g c =
     let q = pair_paid c.args.extent c.args.items.now c.args.at (Byte 0) _ c.requires.at
     (c.requires.plan c.args.at _ (omega (arith, c.requires.at))) (length c.args.words.now.items) c.args.total
     c.requires.budget (omega (arith, c.requires.total)) c.in-Two.is in
     (omega arith, omega (arith, q.paid, c.requires.total))
 
 pub returns-in-Two-clause-within : goal.returns-in-Two-clause-within
-returns-in-Two-clause-within c =
+returns-in-Two-clause-within g c =
     omega (
       arith,
       (pair_paid c.args.extent c.args.items.now c.args.at (Byte 0) _ c.requires.at
@@ -92,7 +93,7 @@ returns-in-Two-clause-within c =
     )
 
 pub returns-in-Two-clause-budget : goal.returns-in-Two-clause-budget
-returns-in-Two-clause-budget c =
+returns-in-Two-clause-budget g c =
     omega (
       arith,
       (pair_paid c.args.extent c.args.items.now c.args.at (Byte 0) _ c.requires.at
@@ -102,7 +103,7 @@ returns-in-Two-clause-budget c =
     )
 
 pub returns-in-Two-clause-part : goal.returns-in-Two-clause-part
-returns-in-Two-clause-part c =
+returns-in-Two-clause-part g c =
     let q = pair_paid c.args.extent c.args.items.now c.args.at (Byte 0) _ c.requires.at
     (c.requires.plan c.args.at _ (omega (arith, c.requires.at))) (length c.args.words.now.items) c.args.total
     c.requires.budget (omega (arith, c.requires.total)) c.in-Two.is in
@@ -115,7 +116,7 @@ returns-in-Two-clause-part c =
     c.args.items.now c.args.at (Byte 0) q.second_there q.first q.second word c.push.ensures.items
 
 pub returns-in-Two-clause-usual : goal.returns-in-Two-clause-usual
-returns-in-Two-clause-usual c = λ usual.
+returns-in-Two-clause-usual g c = λ usual.
     let q = pair_paid c.args.extent c.args.items.now c.args.at (Byte 0) _ c.requires.at
     (c.requires.plan c.args.at _ (omega (arith, c.requires.at))) (length c.args.words.now.items) c.args.total
     c.requires.budget (omega (arith, c.requires.total)) c.in-Two.is in
@@ -127,20 +128,24 @@ returns-in-Two-clause-usual c = λ usual.
     two_written Usual c.args.total c.args.words.now.items c.push.new.self.items c.digit_pair.result c.args.items.now
     c.args.at (Byte 0) q.second_there q.first q.second word c.push.ensures.items
 
-pub write_run-requires-clause-budget : goal.write_run-requires-clause-budget
-write_run-requires-clause-budget c =
+pub write_run-requires : goal.write_run-requires
+write_run-requires g c =
+    let budget =
     run_paid c.args.extent c.args.items.now c.args.at (Byte 0) _ c.requires.at
     (c.requires.plan c.args.at _ (omega (arith, c.requires.at))) (length c.args.words.now.items) c.args.total
-    c.requires.budget c.in-Run.set c.in-Run.is
+    c.requires.budget c.in-Run.set c.in-Run.is in
+    (search rules, (c.requires.at, (c.requires.few, (c.requires.plan, (budget, (c.requires.total, c.requires.most))))))
 
-pub write_edifact-requires-clause-budget : goal.write_edifact-requires-clause-budget
-write_edifact-requires-clause-budget c =
+pub write_edifact-requires : goal.write_edifact-requires
+write_edifact-requires g c =
+    let budget =
     edifact_paid c.args.extent c.args.items.now c.args.at (Byte 0) _ c.requires.at
     (c.requires.plan c.args.at _ (omega (arith, c.requires.at))) (length c.args.words.now.items) c.args.total
-    c.requires.budget c.in-Edifact.is
+    c.requires.budget c.in-Edifact.is in
+    (search rules, (c.requires.at, (c.requires.few, (c.requires.plan, (budget, (c.requires.total, c.requires.most))))))
 
 pub segment_end-end-requires-clause-byte : goal.segment_end-end-requires-clause-byte
-segment_end-end-requires-clause-byte c =
+segment_end-end-requires-clause-byte g c =
     omega (
       arith,
       (segment_paid c.args.extent c.args.items.now c.args.at (Byte 0) _ c.requires.at
@@ -149,29 +154,34 @@ segment_end-end-requires-clause-byte c =
       c.requires.total,
     )
 
-pub write_segment-requires-in-Rest-clause-bytes : goal.write_segment-requires-in-Rest-clause-bytes
-write_segment-requires-in-Rest-clause-bytes c =
+pub write_segment-requires-in-Rest : goal.write_segment-requires-in-Rest
+write_segment-requires-in-Rest g c =
     let p = rest_paid c.args.extent c.args.items.now c.args.at (Byte 0) _ c.requires.at
     (c.requires.plan c.args.at _ (omega (arith, c.requires.at))) (length c.args.words.now.items) c.args.total
     c.requires.budget c.in-Rest.is in
-    subst (λ (l : List Item). has_fnc1 l
-    ≡ false) (sym (take_rest c.args.items.now c.args.at))
-    (rest_is c.args.extent (drop c.args.at c.args.items.now) (omega (arith, p, c.requires.total))).0
-
-pub write_segment-requires-in-Rest-clause-room : goal.write_segment-requires-in-Rest-clause-room
-write_segment-requires-in-Rest-clause-room c =
-    let p = rest_paid c.args.extent c.args.items.now c.args.at (Byte 0) _ c.requires.at
-    (c.requires.plan c.args.at _ (omega (arith, c.requires.at))) (length c.args.words.now.items) c.args.total
-    c.requires.budget c.in-Rest.is in
-    omega (
-      arith,
-      p,
-      (rest_is c.args.extent (drop c.args.at c.args.items.now) (omega (arith, p, c.requires.total))).1,
-      ap length (take_rest c.args.items.now c.args.at),
+    let rest = rest_is c.args.extent (drop c.args.at c.args.items.now) (omega (arith, p, c.requires.total)) in
+    let bytes = subst (λ (l : List Item). has_fnc1 l ≡ false) (sym (take_rest c.args.items.now c.args.at)) rest.0 in
+    let message =
+    All-take IsItem (length c.args.items.now - c.args.at) (drop c.args.at c.args.items.now)
+    (All-drop IsItem c.args.at c.args.items.now c.requires.message) in (
+      search rules,
+      (
+        search rules,
+        (
+          bytes,
+          (
+            message,
+            (
+              omega (arith, p, rest.1, ap length (take_rest c.args.items.now c.args.at)),
+              (c.requires.total, c.requires.most),
+            ),
+          ),
+        ),
+      ),
     )
 
 pub returns-in-Rest-clause-budget : goal.returns-in-Rest-clause-budget
-returns-in-Rest-clause-budget c =
+returns-in-Rest-clause-budget g c =
     omega (
       arith,
       c.write_segment-in-Rest.ensures.fits,

@@ -9,7 +9,7 @@ use Rattle.dm_words.proofs.PartsWritten.{no_parts, parts_more}
 use Rattle.dm_words.proofs.smallest.parts.write_parts.Goals as goal
 
 pub loop-at-init : goal.loop-at-init
-loop-at-init c = record {
+loop-at-init g c = record {
   within = omega arith;
   budget = c.requires.budget;
   parts = no_parts c.args.extent c.args.total c.args.words.now.items;
@@ -17,7 +17,7 @@ loop-at-init c = record {
 }
 
 pub loop-at-preserved : goal.loop-at-preserved
-loop-at-preserved c =
+loop-at-preserved g c =
     let m = c.args.items.now in
     let at = c.loop-at.at in
     let next = c.write_part-part.result.next in

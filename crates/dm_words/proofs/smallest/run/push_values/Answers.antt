@@ -4,20 +4,28 @@ use Rattle.dm_words.specs.inner.Written.{part_values}
 use Rattle.dm_words.proofs.RunWritten.{pushed_lengths, next_pushed}
 use Rattle.dm_words.proofs.smallest.run.push_values.Goals as goal
 
-pub push_value-part-requires-clause-room : goal.push_value-part-requires-clause-room
-push_value-part-requires-clause-room c =
-    let n = pushed_lengths _ _ _ _ _ c.loop-value.invariant.pushed in
-    omega (
-      arith,
-      n.1,
-      n.2,
-      length-take c.loop-value.value-index c.args.values.now,
-      c.loop-value-test.true,
-      c.requires.room,
+pub push_value-part-requires : goal.push_value-part-requires
+push_value-part-requires g c =
+    let n = pushed_lengths _ _ _ _ _ c.loop-value.invariant.pushed in (
+      search rules,
+      (
+        search rules,
+        (
+          search rules,
+          omega (
+            arith,
+            n.1,
+            n.2,
+            length-take c.loop-value.value-index c.args.values.now,
+            c.loop-value-test.true,
+            c.requires.room,
+          ),
+        ),
+      ),
     )
 
 pub loop-value-preserved : goal.loop-value-preserved
-loop-value-preserved c =
+loop-value-preserved g c =
     record {
       pushed = next_pushed c.args.words.now.items (part_values c.args.part) c.args.values.now c.loop-value.words.items
           _ c.loop-value.part c.push_value-part.result c.loop-value.value-index _ 0

@@ -1,4 +1,4 @@
-use Rattle.std.proofs.Common.{arith, ap, subst, ◌≡◌, ℕ, ◌-◌, List, length, take, drop}
+use Rattle.std.proofs.Common.{arith, ap, subst, ◌≡◌, ℕ, ◌-◌, List, length, take, drop, rules}
 use Rattle.dm_words.specs.declared.item.Item.{Item}
 use Rattle.dm_words.specs.declared.item.Item.TheVariants.{Byte}
 use Rattle.dm_words.specs.declared.smallest.run.Part.TheVariants as part
@@ -8,24 +8,30 @@ use Rattle.dm_words.proofs.RunWritten.{run_begun, run_more, written_unlatch, wri
 use Rattle.dm_words.proofs.RunBudget.{unlatched, first_at, run_at, item_room, after_item, one_more, leave_at}
 use Rattle.dm_words.proofs.smallest.run.write_run.Goals as goal
 
-pub push_item-part-requires-clause-held : goal.push_item-part-requires-clause-held
-push_item-part-requires-clause-held c =
+pub push_item-part-requires : goal.push_item-part-requires
+push_item-part-requires g c =
+    let held =
     (first_at c.args.extent c.args.set c.args.items.now c.args.at (Byte 0) (length c.push.new.self.items) c.args.total
-    c.requires.at (omega (arith, c.requires.budget, c.push.ensures.len)) (omega (arith, c.requires.total))).held
-
-pub push_item-part-requires-clause-room : goal.push_item-part-requires-clause-room
-push_item-part-requires-clause-room c =
-    omega (
-      arith,
-      item_room _ _ _ _
-          (first_at c.args.extent c.args.set c.args.items.now c.args.at (Byte 0) (length c.push.new.self.items)
-          c.args.total c.requires.at (omega (arith, c.requires.budget, c.push.ensures.len))
-          (omega (arith, c.requires.total))).budget,
-      c.requires.total,
+    c.requires.at (omega (arith, c.requires.budget, c.push.ensures.len)) (omega (arith, c.requires.total))).held in (
+      search rules,
+      (
+        held,
+        (
+          search rules,
+          omega (
+            arith,
+            item_room _ _ _ _
+                (first_at c.args.extent c.args.set c.args.items.now c.args.at (Byte 0) (length c.push.new.self.items)
+                c.args.total c.requires.at (omega (arith, c.requires.budget, c.push.ensures.len))
+                (omega (arith, c.requires.total))).budget,
+            c.requires.total,
+          ),
+        ),
+      ),
     )
 
 pub loop-set-init : goal.loop-set-init
-loop-set-init c =
+loop-set-init g c =
     let f = (first_at c.args.extent c.args.set c.args.items.now c.args.at (Byte 0) (length c.push.new.self.items)
     c.args.total c.requires.at (omega (arith, c.requires.budget, c.push.ensures.len))
     (omega (arith, c.requires.total))) in
@@ -50,33 +56,39 @@ loop-set-init c =
       zero_is = omega arith
 
 pub bounds-items-next : goal.bounds-items-next
-bounds-items-next c =
+bounds-items-next g c =
     (run_at c.args.extent c.args.set c.args.items.now c.loop-set.next (Byte 0) _ c.loop-set.part
     (length c.loop-set.words.items) c.args.total c.goes_on.result
     (c.requires.plan c.loop-set.next _ c.loop-set.invariant.within) c.loop-set.invariant.budget
     (omega (arith, c.requires.total)) c.goes_on.ensures c.loop-set-test.true).there
 
-pub push_item-part-requires-in-loop-set-clause-held : goal.push_item-part-requires-in-loop-set-clause-held
-push_item-part-requires-in-loop-set-clause-held c =
+pub push_item-part-requires-in-loop-set : goal.push_item-part-requires-in-loop-set
+push_item-part-requires-in-loop-set g c =
+    let held =
     (run_at c.args.extent c.args.set c.args.items.now c.loop-set.next (Byte 0) _ c.loop-set.part
     (length c.loop-set.words.items) c.args.total c.goes_on.result
     (c.requires.plan c.loop-set.next _ c.loop-set.invariant.within) c.loop-set.invariant.budget
-    (omega (arith, c.requires.total)) c.goes_on.ensures c.loop-set-test.true).held
-
-pub push_item-part-requires-in-loop-set-clause-room : goal.push_item-part-requires-in-loop-set-clause-room
-push_item-part-requires-in-loop-set-clause-room c =
-    omega (
-      arith,
-      item_room _ _ _ _
-          (run_at c.args.extent c.args.set c.args.items.now c.loop-set.next (Byte 0) _ c.loop-set.part
-          (length c.loop-set.words.items) c.args.total c.goes_on.result
-          (c.requires.plan c.loop-set.next _ c.loop-set.invariant.within) c.loop-set.invariant.budget
-          (omega (arith, c.requires.total)) c.goes_on.ensures c.loop-set-test.true).budget,
-      c.requires.total,
+    (omega (arith, c.requires.total)) c.goes_on.ensures c.loop-set-test.true).held in (
+      search rules,
+      (
+        held,
+        (
+          search rules,
+          omega (
+            arith,
+            item_room _ _ _ _
+                (run_at c.args.extent c.args.set c.args.items.now c.loop-set.next (Byte 0) _ c.loop-set.part
+                (length c.loop-set.words.items) c.args.total c.goes_on.result
+                (c.requires.plan c.loop-set.next _ c.loop-set.invariant.within) c.loop-set.invariant.budget
+                (omega (arith, c.requires.total)) c.goes_on.ensures c.loop-set-test.true).budget,
+            c.requires.total,
+          ),
+        ),
+      ),
     )
 
 pub loop-set-smaller : goal.loop-set-smaller
-loop-set-smaller c =
+loop-set-smaller g c =
     omega (
       arith,
       (run_at c.args.extent c.args.set c.args.items.now c.loop-set.next (Byte 0) _ c.loop-set.part
@@ -86,7 +98,7 @@ loop-set-smaller c =
     )
 
 pub loop-set-preserved : goal.loop-set-preserved
-loop-set-preserved c =
+loop-set-preserved g c =
     let v = c.loop-set.invariant in
     let r = (run_at c.args.extent c.args.set c.args.items.now c.loop-set.next (Byte 0) _ c.loop-set.part
     (length c.loop-set.words.items) c.args.total c.goes_on.result
@@ -108,7 +120,7 @@ loop-set-preserved c =
     }
 
 pub returns-then-total-len-gt1-clause-budget : goal.returns-then-total-len-gt1-clause-budget
-returns-then-total-len-gt1-clause-budget c =
+returns-then-total-len-gt1-clause-budget g c =
     let l = (leave_at c.args.extent c.args.set (drop c.loop-set.next c.args.items.now) _ c.loop-set.part
     (length c.loop-set.words.items) c.args.total c.goes_on.result
     (c.requires.plan c.loop-set.next _ c.loop-set.invariant.within) c.loop-set.invariant.budget c.goes_on.ensures
@@ -123,7 +135,7 @@ returns-then-total-len-gt1-clause-budget c =
     )
 
 pub returns-then-total-len-gt1-clause-part : goal.returns-then-total-len-gt1-clause-part
-returns-then-total-len-gt1-clause-part c =
+returns-then-total-len-gt1-clause-part g c =
     λ any. written_unlatch any c.args.set c.args.total c.args.words.now.items c.loop-set.words.items
     c.push-then-total-len-gt1.new.self.items
     (take (c.loop-set.next - c.args.at) (drop c.args.at c.args.items.now)) c.loop-set.part
@@ -133,7 +145,7 @@ returns-then-total-len-gt1-clause-part c =
     c.loop-set-test.false).0 c.loop-set.invariant.so_far c.push-then-total-len-gt1.ensures.items
 
 pub returns-else-total-len-gt1-clause-budget : goal.returns-else-total-len-gt1-clause-budget
-returns-else-total-len-gt1-clause-budget c =
+returns-else-total-len-gt1-clause-budget g c =
     omega (
       arith,
       (leave_at c.args.extent c.args.set (drop c.loop-set.next c.args.items.now) _ c.loop-set.part
@@ -144,7 +156,7 @@ returns-else-total-len-gt1-clause-budget c =
     )
 
 pub returns-else-total-len-gt1-clause-part : goal.returns-else-total-len-gt1-clause-part
-returns-else-total-len-gt1-clause-part c =
+returns-else-total-len-gt1-clause-part g c =
     λ any. written_bare any c.args.set c.args.total c.args.words.now.items c.loop-set.words.items
     (take (c.loop-set.next - c.args.at) (drop c.args.at c.args.items.now)) c.loop-set.part
     (leave_at c.args.extent c.args.set (drop c.loop-set.next c.args.items.now) _ c.loop-set.part

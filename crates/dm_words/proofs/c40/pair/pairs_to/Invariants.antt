@@ -2,10 +2,10 @@ use Rattle.std.proofs.Common.{◌≡◌, ◌-◌, ◌*◌, ◌≤◌, length, Al
 use Rattle.dm_words.specs.Values.{IsRunValue}
 use Rattle.dm_words.specs.inner.Scan.Prefixes.{pairs_in}
 use Rattle.dm_words.proofs.RunLoops.{PairsGoOn}
-use Rattle.dm_words.proofs.c40.pair.pairs_of.Given as goal
+use Rattle.dm_words.proofs.c40.pair.pairs_to.Given as goal
 
 abbrev pub invariant-loop-first : goal.invariant-loop-first
-invariant-loop-first l = record {
+invariant-loop-first g l = record {
   in_range : l.at ≤ length l.words;
   room : 2 * length l.values.items ≡ 3 * l.at;
   small : All IsRunValue l.values.items;
@@ -13,4 +13,4 @@ invariant-loop-first l = record {
 }
 
 abbrev pub decreases-loop-first : goal.decreases-loop-first
-decreases-loop-first l = length l.words - l.at
+decreases-loop-first g l = length l.words - l.at

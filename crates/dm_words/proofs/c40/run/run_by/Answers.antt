@@ -1,11 +1,11 @@
 use Rattle.std.proofs.Common.{◌+◌, refl, sym, ◌∙◌, Some, None}
 use Rattle.dm_words.specs.inner.Scan.Prefixes.{items_in}
 use Rattle.dm_words.proofs.RunLoops.{run_is}
-use Rattle.dm_words.proofs.c40.run.run_part.Goals as goal
+use Rattle.dm_words.proofs.c40.run.run_by.Goals as goal
 
 pub returns-in-Some : goal.returns-in-Some
-returns-in-Some c =
-    let p = c.pairs_of-pairs in
+returns-in-Some g c =
+    let p = c.pairs_to-pairs in
     let r = c.read_values-spelled in
     run_is c.args.extent c.args.set (c.args.at + 1) c.args.words.now c.as_slice.result.now p.result.word_count
     p.result.end r.result.value_count r.result.rest
@@ -18,8 +18,8 @@ returns-in-Some c =
     (sym c.fault_of.ensures ∙ c.in-Some.is)
 
 pub returns-in-None : goal.returns-in-None
-returns-in-None c =
-    let p = c.pairs_of-pairs in
+returns-in-None g c =
+    let p = c.pairs_to-pairs in
     let r = c.read_values-spelled in
     let run =
     run_is c.args.extent c.args.set (c.args.at + 1) c.args.words.now c.as_slice.result.now p.result.word_count

@@ -1,10 +1,10 @@
 use Rattle.std.proofs.Common.{◌∷◌, [], length, ap, arith, length-append}
 use Rattle.dm_words.specs.inner.Scan.Prefixes.{pairs_in}
 use Rattle.dm_words.proofs.RunLoops.{pairs_turn, pairs_stop, small_more}
-use Rattle.dm_words.proofs.c40.pair.pairs_of.Goals as goal
+use Rattle.dm_words.proofs.c40.pair.pairs_to.Goals as goal
 
 pub loop-first-preserved : goal.loop-first-preserved
-loop-first-preserved c =
+loop-first-preserved g c =
     let v = c.loop-first.invariant in
     let g = c.in-Values.ensures in
     let t = pairs_turn c.args.words.now c.loop-first.at c.in-Values.first c.in-Values.second c.in-Values.third
@@ -24,16 +24,16 @@ loop-first-preserved c =
     }
 
 pub returns-in-Stops-clause-values : goal.returns-in-Stops-clause-values
-returns-in-Stops-clause-values c =
+returns-in-Stops-clause-values g c =
     (pairs_stop c.args.words.now c.loop-first.at c.loop-first.values.items c.in-Stops.end (pairs_in c.args.words.now)
     c.in-Stops.ensures c.loop-first.invariant.so_far).values
 
 pub returns-in-Stops-clause-word_count : goal.returns-in-Stops-clause-word_count
-returns-in-Stops-clause-word_count c =
+returns-in-Stops-clause-word_count g c =
     (pairs_stop c.args.words.now c.loop-first.at c.loop-first.values.items c.in-Stops.end (pairs_in c.args.words.now)
     c.in-Stops.ensures c.loop-first.invariant.so_far).place_is
 
 pub returns-in-Stops-clause-end : goal.returns-in-Stops-clause-end
-returns-in-Stops-clause-end c =
+returns-in-Stops-clause-end g c =
     (pairs_stop c.args.words.now c.loop-first.at c.loop-first.values.items c.in-Stops.end (pairs_in c.args.words.now)
     c.in-Stops.ensures c.loop-first.invariant.so_far).why_is
