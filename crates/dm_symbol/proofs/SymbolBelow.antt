@@ -2,18 +2,28 @@
 use Rattle.std.proofs.Common.{◌≡◌, ℕ, ◌+◌, ◌*◌, ◌/◌, ◌<◌, ◌≤◌, List, [], length, get_or, refl, sym, ap, subst, ◌∙◌}
 use Rattle.std.proofs.Common.{arith}
 use Rattle.std.specs.List.{All}
-use Rattle.std.proofs.lemmas.List.{ext_get_or}
+use Rattle.std.proofs.lemmas.List.{ext_get_or, length-take}
 use Rattle.dm_code.specs.Codeword.{IsNear, distance}
 use Rattle.dm_code.specs.Erased.{IsNearBut, blank, distance_but}
 use Rattle.dm_code.proofs.Exported.{near_but_one, near_but_none, near_none_but}
 use Rattle.dm_modules.specs.Sizes.{SizeEntry, IsSize, share, codeword_count, block_data, block_check, block_length}
 use Rattle.dm_modules.specs.Holding.{IsLaid}
 use Rattle.dm_modules.specs.Modules.{ModulesView}
-use Rattle.dm_modules.specs.Words.{WordsView}
+use Rattle.dm_modules.specs.Words.{WordsView, IsWords, data_of}
 use Rattle.dm_modules.proofs.Exported.{length_of_block, word_of_block}
 use Rattle.dm_modules.proofs.Exported.{one_held, one_laid}
 use Rattle.dm_modules.proofs.Exported.{size_facts, short_block, some_block_data, block_parts}
 use Rattle.dm_symbol.specs.SymbolBlocks.{words_with, AreOfSize, AreHeldBy, block_in}
+
+-- No symbol has more data codewords than these.
+pub data_fits : (words : WordsView) (list : List ℕ) → IsWords words → list ≡ data_of words → length list ≤ 1558
+data_fits words list h is =
+    omega (
+      arith,
+      ap length is,
+      length-take words.size.data_count words.list,
+      (size_facts words.size h.size).data_fits,
+    )
 
 -- Place i of block b is place i * B + b of the symbol.
 pub block_places : (size : SizeEntry) (words : List ℕ) → AreOfSize size words → (b i : ℕ) → b < size.blocks

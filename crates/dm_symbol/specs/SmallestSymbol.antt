@@ -1,21 +1,16 @@
--- The smallest symbol of a message, in a choice of sizes, for readers of an extent; and in which symbol a message is
--- written in each form.
+-- The smallest symbol of a message, in a choice of sizes, for readers of an extent.
 use Rattle.std.specs.Prelude.{ℕ, List, Option, None, Result, Ok, IfOk, OnErr, replicate}
 use Rattle.dm_words.specs.declared.item.Item.{Item}
 use Rattle.dm_words.specs.declared.extent.Extent.{Extent}
 use Rattle.dm_words.specs.declared.fault.TooLong.{TooLong}
-use Rattle.dm_words.specs.declared.profile.Profile.TheVariants as profile
 use Rattle.dm_modules.specs.declared.size.SizeChoice.{SizeChoice}
 use Rattle.dm_modules.specs.Sizes.{block_check}
 use Rattle.dm_modules.specs.Modules.{ModulesView}
 use Rattle.dm_modules.specs.Holding.{IsLaid}
 use Rattle.dm_words.specs.Smallest.{IsTaken, IsSmaller, IsSmallestFor, IsPlainest, SpellsThenPads, NoneSpells}
-use Rattle.dm_symbol.specs.declared.symbol.writing.Form.{Form}
-use Rattle.dm_symbol.specs.declared.symbol.writing.Form.TheVariants.{Ascii, Shorter, Smallest}
 use Rattle.dm_symbol.specs.SymbolBlocks.{words_with, AreCodewordsOf, first_data}
 use Rattle.dm_symbol.specs.SymbolReading.{ReadsSymbol, SymbolReadResult, symbol_reading_of}
 use Rattle.dm_symbol.specs.SymbolLaws.{nothing_wrong}
-use Rattle.dm_symbol.specs.NormalSymbol.{IsSymbolWritten}
 
 -- The modules are a symbol with the smallest data codewords of the message.
 pub record IsSmallestSymbol (extent : Extent) (choice : SizeChoice) (message : List Item) (modules : ModulesView)
@@ -58,9 +53,3 @@ pub record IsSmallestWritten (extent : Extent) (choice : SizeChoice) (message : 
   pub no_smaller : IfOk result (λ modules. NoSmallerIsRead extent choice message modules)
   pub none : OnErr result (NoneIsRead extent choice message)
   pub none_spells : OnErr result (NoneSpells extent choice message)
-
--- What writing a message in a form gives.
-abbrev pub IsFormWritten : Form → SizeChoice → List Item → Result ModulesView TooLong → Type 0
-IsFormWritten Ascii choice message result = IsSymbolWritten choice profile.Ascii message result
-IsFormWritten Shorter choice message result = IsSymbolWritten choice profile.Shorter message result
-IsFormWritten (Smallest extent) choice message result = IsSmallestWritten extent choice message result

@@ -24,14 +24,16 @@
 //! These calls are for squares of 10 to 104 rows. Symbols of every size, squares and rectangles, are [`Modules`] of a
 //! [`SymbolSize`]. [`read_symbol_to()`] leaves what they say in a [`SymbolReading`], with a [`BlockReading`] for each
 //! block; how they are read is said by [`ReadOptions`], among these which of their modules are doubtful.
-//! [`write_symbol_to()`] leaves in modules the symbol of a message, in the [`Form`] and the smallest size of the choice
-//! that [`WriteOptions`] say; [`normal_symbol_to()`] the one of what a symbol says in the smallest square.
+//! [`write_symbol_to()`] leaves in modules the symbol of a message, in the profile and the smallest size of the choice
+//! that [`WriteOptions`] say; [`write_smallest_to()`] one than which no smaller symbol says the message;
+//! [`normal_symbol_to()`] the one of what a symbol says in the smallest square.
 //! [`inspect_symbol_to()`] leaves the codewords of a symbol, before and after they are restored, in a
 //! [`SymbolInspection`].
 //!
 //! The types of the layers below are given on: [`Grid`] with [`GridFault`], [`Size`] with its [`table()`] of
 //! [`SIZE_COUNT`], [`Words`], and the limits [`LARGEST_SIDE`] and [`MOST_BLOCKS`]; [`Message`] of [`Item`]s,
-//! [`WordFault`], and the limits [`MOST_ITEMS`] and [`MESSAGE_ROOM`].
+//! [`WordFault`], and the limits [`MOST_ITEMS`], [`MESSAGE_ROOM`] and [`LARGEST_ROOM`], the last for a [`MessageIn`] of
+//! any symbol.
 //!
 //! What the contracts say is defined in `specs/`: `Blocks`, `NormalGrid`, `Reading`, `Normal` and `Inspection`; `Laws`
 //! has the laws of these definitions, which the functions of [`laws`] prove. For symbols of every size it is in
@@ -50,7 +52,10 @@ mod writing;
 
 pub use dm_layout::{Grid, GridFault, LARGEST_SIDE, MOST_BLOCKS, SIZE_COUNT, Size, Words, table};
 pub use dm_modules::{Modules, ModulesFault, SizeChoice, SymbolSize, SymbolWords};
-pub use dm_words::{Extent, Item, MESSAGE_ROOM, MOST_ITEMS, Message, Profile, TooLong, WordFault};
+pub use dm_words::{
+    Extent, Item, LARGEST_ROOM, MESSAGE_ROOM, MOST_ITEMS, Message, MessageIn, Profile, TooLong,
+    WordFault,
+};
 pub use inspection::{Inspection, inspect};
 pub use limit::usual_limit;
 pub use normalising::{
@@ -60,5 +65,5 @@ pub use reading::{ReadFault, Reading, read, read_as, read_as_to, read_to};
 pub use symbol::inspection::{SymbolInspection, inspect_symbol_to};
 pub use symbol::normalising::normal_symbol_to;
 pub use symbol::reading::{BlockReading, ReadOptions, SymbolReading, read_symbol_to};
-pub use symbol::writing::{Form, WriteOptions, write_symbol_to};
+pub use symbol::writing::{WriteOptions, write_smallest_to, write_symbol_to};
 pub use writing::{light_grid, write, write_as, write_to};

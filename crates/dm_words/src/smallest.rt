@@ -24,7 +24,7 @@ use crate::fault::TooLong;
 use crate::item::Item;
 use crate::limits::{LARGEST_DATA, LARGEST_ROOM};
 use crate::macros::{HEADER_LENGTH, TRAILER_LENGTH, macro_of};
-use crate::message::Message;
+use crate::message::MessageIn;
 use crate::pad::pad_to;
 use crate::smallest::parts::write_parts;
 use crate::smallest::plan::{PLAN_ROOM, Step, plan_to};
@@ -36,12 +36,13 @@ use dm_modules::{SizeChoice, SymbolSize};
 /// whatever it held before. They are ASCII where the size has room for that; else codewords that spell the message in
 /// the usual extent, where there are any. `TooLong` exactly where the codewords of no size of the choice spell the
 /// message; then `words` holds what it held before. ISO/IEC 16022, encodation schemes.
-pub fn smallest_words_to(
+pub fn smallest_words_to<const ROOM: usize>(
     extent: Extent,
-    message: &Message,
+    message: &MessageIn<ROOM>,
     choice: SizeChoice,
     words: &mut ArrayVec<u8, LARGEST_DATA>,
 ) -> Result<SymbolSize, TooLong>
+    requires { ROOM ≤ LARGEST_ROOM }
     ensures smallest { IsSmallestResult extent choice message.now result words.new.items }
     ensures same { OnErr result (words.new.items ≡ words.old.items) }
 {

@@ -5,9 +5,9 @@ ghost use Rattle.dm_symbol.specs.SymbolNormal.{IsSymbolNormalisedTo};
 
 use crate::normalising::NormalFault;
 use crate::symbol::reading::{ReadOptions, SymbolReading, read_symbol_to};
-use crate::symbol::writing::write_normal_to;
+use crate::symbol::writing::{WriteOptions, write_symbol_to};
 use dm_modules::{Modules, SizeChoice};
-use dm_words::{MOST_DATA, Profile, TooLong};
+use dm_words::{Profile, TooLong};
 
 /// Gives the normal symbol, under a profile, of the message that a symbol says, whatever its shape, size, encodation
 /// and damage: the one in which the message is written in the smallest square. Two symbols that are read, each in its
@@ -25,8 +25,7 @@ pub fn normal_symbol_to(
     reading: &mut SymbolReading,
     normal: &mut Modules,
 ) -> Result<(), NormalFault>
-    requires doubtful { IfSome how.doubtful (λ doubtful. doubtful.now.size ≡ modules.now.size) }
-    requires room { modules.now.size.data_count ≤ MOST_DATA }
+    requires { IfSome how.doubtful (λ doubtful. doubtful.now.size ≡ modules.now.size) }
     ensures { IsSymbolNormalisedTo how.entry.extent profile modules.now
         (option_map (λ d. d.now) how.entry.doubtful) how.entry.border_limit result reading.new
         normal.old normal.new }
@@ -35,7 +34,11 @@ pub fn normal_symbol_to(
         Ok(()) => {}
         Err(fault) => return Err(NormalFault::Read(fault)),
     }
-    match write_normal_to(&reading.message, profile, SizeChoice::Square, normal) {
+    let square = WriteOptions {
+        profile,
+        size: SizeChoice::Square,
+    };
+    match write_symbol_to(&reading.message, square, normal) {
         Ok(()) => Ok(()),
         Err(TooLong) => Err(NormalFault::TooLong),
     }

@@ -12,7 +12,7 @@ use crate::symbol::correction::restore_block;
 use crate::symbol::doubt::sure_faults;
 use arrayvec::ArrayVec;
 use dm_modules::{MOST_BLOCKS, Modules, SymbolWords, lift};
-use dm_words::{Extent, MOST_DATA, Message, message_to_as};
+use dm_words::{Extent, LARGEST_ROOM, MessageIn, message_to_as};
 
 /// How a symbol is read.
 #[derive(Clone, Copy)]
@@ -41,8 +41,8 @@ pub struct BlockReading {
 /// What a symbol says, and how much of it was wrong.
 #[derive(Clone, Debug, Default, Drop, PartialEq, Eq)]
 pub struct SymbolReading {
-    /// The message.
-    pub message: Message,
+    /// The message, with room for what any symbol says.
+    pub message: MessageIn<LARGEST_ROOM>,
     /// What became of each block, in order.
     pub blocks: ArrayVec<BlockReading, MOST_BLOCKS>,
     /// How many modules of the borders have the wrong colour and aren't doubtful.
@@ -55,7 +55,7 @@ impl SymbolReading {
         ensures { result ≡ symbol_reading_of [] [] 0 }
     {
         SymbolReading {
-            message: Message::new(),
+            message: MessageIn::new(),
             blocks: ArrayVec::new(),
             border_faults: 0,
         }
@@ -78,16 +78,13 @@ impl SymbolReading {
 /// After `Ok`, `reading` holds what the symbol says, whatever it held before. After `Border` it is as it was, and
 /// after another fault it holds some reading.
 ///
-/// Doubtful modules, where there are any, are modules of the symbol's size. So far a [`Message`] has room for what
-/// [`MOST_DATA`] codewords say, so only symbols are read that have no more data codewords: all but
-/// 120 x 120, 132 x 132 and 144 x 144.
+/// Doubtful modules, where there are any, are modules of the symbol's size.
 pub fn read_symbol_to(
     modules: &Modules,
     how: ReadOptions,
     reading: &mut SymbolReading,
 ) -> Result<(), ReadFault>
-    requires doubtful { IfSome how.doubtful (λ doubtful. doubtful.now.size ≡ modules.now.size) }
-    requires room { modules.now.size.data_count ≤ MOST_DATA }
+    requires { IfSome how.doubtful (λ doubtful. doubtful.now.size ≡ modules.now.size) }
     ensures read { IsSymbolRead how.entry.extent modules.now (option_map (λ d. d.now) how.entry.doubtful)
         how.entry.border_limit (outcome result reading.new) }
     ensures same { (count : ℕ) → result ≡ Err (ReadFault.Border count)

@@ -1,79 +1,52 @@
 //! Writing a message in a symbol: in the smallest size of a choice.
 
-ghost use Rattle.std.specs.Prelude.{◌≡◌, ◌≢◌, ◌<◌, ℕ, length, OnErr};
+ghost use Rattle.std.specs.Prelude.{◌≡◌, ◌≢◌, ◌<◌, ◌≤◌, ℕ, length, OnErr};
 ghost use Rattle.dm_code.specs.Codeword.{IsCodeword};
 ghost use Rattle.dm_modules.specs.Sizes.{block_check};
 ghost use Rattle.dm_words.specs.Outcomes.{outcome};
 ghost use Rattle.dm_symbol.specs.SymbolBlocks.{AreOfSize, AreCodewordsOf, block_in, first_data};
 ghost use Rattle.dm_symbol.specs.NormalSymbol.{IsSymbolWritten};
-ghost use Rattle.dm_symbol.specs.SmallestSymbol.{IsFormWritten, IsSmallestWritten};
+ghost use Rattle.dm_symbol.specs.SmallestSymbol.{IsSmallestWritten};
 
 use arrayvec::ArrayVec;
 use dm_code::encode;
 use dm_modules::{
     MOST_DATA, Modules, SizeChoice, SymbolSize, SymbolWords, block, lay_to, put_block,
 };
-use dm_words::{Extent, Message, Profile, TooLong, normal_words_in, pad_to, smallest_words_to};
-
-/// How the data codewords of a message are chosen.
-#[derive(Clone, Copy, Debug, Default, PartialEq, Eq)]
-pub enum Form {
-    /// The normal form under [`Profile::Ascii`].
-    #[default]
-    Ascii,
-    /// The normal form under [`Profile::Shorter`].
-    Shorter,
-    /// Those of the smallest symbol that a reader of this extent reads as the message.
-    Smallest(Extent),
-}
+use dm_words::{
+    Extent, LARGEST_ROOM, MessageIn, Profile, TooLong, normal_words_in, pad_to, smallest_words_to,
+};
 
 /// How a message is written.
 #[derive(Clone, Copy, Debug, PartialEq, Eq)]
 pub struct WriteOptions {
     /// Which data codewords are chosen for the message.
-    pub form: Form,
+    pub profile: Profile,
     /// Which sizes may be taken. The smallest of them that holds the message is.
     pub size: SizeChoice,
 }
 
-/// Writes a message (ISO/IEC 16022, symbol construction): after `Ok`, `modules`, whatever they were before, are the
-/// symbol of the codewords that the form chooses, pads and check codewords, in the smallest size of the choice that
-/// holds them: the one of the smallest area, and of those of equal area the one with the fewest columns. The fault is
-/// `TooLong` exactly where no size of the choice holds them; then `modules` are as they were.
-///
-/// In the form [`Form::Smallest`] no symbol of a smaller size of the choice is read as the message in the extent,
-/// whatever its codewords are. The work is that of the codewords, and a look at each module.
-pub fn write_symbol_to(
-    message: &Message,
+/// Writes a message of any room up to [`LARGEST_ROOM`] (ISO/IEC 16022, symbol construction): after `Ok`, `modules`,
+/// whatever they were before, are the symbol of the codewords that the profile chooses, pads and check codewords, in the
+/// smallest size of the choice that holds them: the one of the smallest area, and of those of equal area the one with
+/// the fewest columns. The fault is `TooLong` exactly where no size of the choice holds them; then `modules` are as they
+/// were. The work is that of the codewords, and a look at each module.
+pub fn write_symbol_to<const ROOM: usize>(
+    message: &MessageIn<ROOM>,
     how: WriteOptions,
     modules: &mut Modules,
 ) -> Result<(), TooLong>
-    ensures written { IsFormWritten how.form how.size message.now (outcome result modules.new) }
-    ensures same { OnErr result (modules.new ≡ modules.old) }
-{
-    match how.form {
-        Form::Ascii => write_normal_to(message, Profile::Ascii, how.size, modules),
-        Form::Shorter => write_normal_to(message, Profile::Shorter, how.size, modules),
-        Form::Smallest(extent) => write_smallest_to(message, extent, how.size, modules),
-    }
-}
-
-/// Writes a message in the codewords that a profile chooses.
-pub(crate) fn write_normal_to(
-    message: &Message,
-    profile: Profile,
-    choice: SizeChoice,
-    modules: &mut Modules,
-) -> Result<(), TooLong>
-    ensures written { IsSymbolWritten choice profile message.now (outcome result modules.new) }
+    requires { ROOM ≤ LARGEST_ROOM }
+    ensures written { IsSymbolWritten how.size how.profile message.now
+        (outcome result modules.new) }
     ensures same { OnErr result (modules.new ≡ modules.old) }
 {
     let mut list = ArrayVec::<u8, MOST_DATA>::new();
-    match normal_words_in(profile, message, &mut list) {
+    match normal_words_in(how.profile, message, &mut list) {
         Ok(()) => {}
         Err(TooLong) => return Err(TooLong),
     }
-    let Some(size) = SymbolSize::for_words(choice, list.len() as u16) else {
+    let Some(size) = SymbolSize::for_words(how.size, list.len() as u16) else {
         return Err(TooLong);
     };
     pad_to(&mut list, size.data_count() as usize);
@@ -81,13 +54,20 @@ pub(crate) fn write_normal_to(
     Ok(())
 }
 
-/// Writes a message in the smallest symbol of the choice for readers of an extent.
-fn write_smallest_to(
-    message: &Message,
+/// Writes a message in its smallest symbol for readers of an extent (ISO/IEC 16022, encodation schemes, which leave the
+/// choice of encodations to the writer): after `Ok`, `modules`, whatever they were before, are a symbol that is read as
+/// the message in the extent, with nothing wrong in it, and no symbol of a smaller size of the choice is read as the
+/// message, whatever its codewords are. The data codewords are ASCII where that size has room for these; else those of
+/// the usual extent, where it has room for any. The fault is `TooLong` exactly where no symbol of the choice is read as
+/// the message; then `modules` are as they were. The work grows with the number of items, and there is a look at each
+/// module.
+pub fn write_smallest_to<const ROOM: usize>(
     extent: Extent,
+    message: &MessageIn<ROOM>,
     choice: SizeChoice,
     modules: &mut Modules,
 ) -> Result<(), TooLong>
+    requires { ROOM ≤ LARGEST_ROOM }
     ensures written { IsSmallestWritten extent choice message.now (outcome result modules.new) }
     ensures same { OnErr result (modules.new ≡ modules.old) }
 {

@@ -1,9 +1,10 @@
-use Rattle.std.proofs.Common.{◌≤◌, length, refl, ap, subst, arith}
+use Rattle.std.proofs.Common.{◌≤◌, length, refl, ap, subst, arith, rules}
 use Rattle.std.proofs.lemmas.List.{length-take}
 use Rattle.dm_layout.specs.Border.{border_fault_count}
 use Rattle.dm_layout.specs.Words.{data_of}
 use Rattle.dm_words.specs.Spells.{Spells}
 use Rattle.dm_words.specs.Refused.{Refused}
+use Rattle.dm_words.proofs.Exported.{room_for_spelled}
 use Rattle.dm_symbol.proofs.SizeFacts.{size_facts}
 use Rattle.dm_symbol.proofs.ReadSteps.{block_result, words_result, message_result, is_read}
 use Rattle.dm_symbol.proofs.reading.read_as_to.Goals as goal
@@ -11,11 +12,18 @@ use Rattle.dm_symbol.proofs.reading.read_as_to.Goals as goal
 pub message_to_as-requires : goal.message_to_as-requires
 message_to_as-requires c =
     let v = c.correct_blocks.new.words in
+    let few : length c.data_part.result.now ≤ 816 =
     omega (
       arith,
       ap length c.data_part.ensures.value,
       length-take v.size.data_count v.list,
       (size_facts v.size c.data_part.ensures.words.row).few_data,
+    ) in (
+      search rules,
+      (
+        omega (arith, few),
+        room_for_spelled 1639 c.args.extent (length c.data_part.result.now) (omega (arith, few)),
+      ),
     )
 
 pub returns-then-border_faults-border_limit-clause-same : goal.returns-then-border_faults-border_limit-clause-same

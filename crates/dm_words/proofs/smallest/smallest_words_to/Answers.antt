@@ -7,7 +7,7 @@ use Rattle.dm_words.proofs.SmallestSymbols.{is_smallest, none_spells, padded_spe
 use Rattle.dm_words.proofs.smallest.smallest_words_to.Goals as goal
 
 pub returns-in-None-clause-smallest : goal.returns-in-None-clause-smallest
-returns-in-None-clause-smallest c =
+returns-in-None-clause-smallest g c =
     let least =
     subst (λ (m : List Item). IsLeastCost c.args.extent m c.least_way-way.result.cost) c.items-items.ensures.value
     c.least_way-way.ensures.least in
@@ -21,7 +21,7 @@ returns-in-None-clause-smallest c =
     }
 
 pub returns-in-Some-clause-smallest : goal.returns-in-Some-clause-smallest
-returns-in-Some-clause-smallest c =
+returns-in-Some-clause-smallest g c =
     let extent = c.args.extent in
     let m = c.args.message.now in
     let written = c.write_plainest.new.words.items in

@@ -18,27 +18,27 @@ returns-in-Err c =
       same = refl;
     }
 
-pub returns-in-Ok-write_normal_to : goal.returns-in-Ok-write_normal_to
-returns-in-Ok-write_normal_to c =
+pub returns-in-Ok-write_symbol_to : goal.returns-in-Ok-write_symbol_to
+returns-in-Ok-write_symbol_to c =
     let how = c.args.how in
     let doubt = option_map (λ d. d.now) how.doubtful in
     let message = c.read_symbol_to.new.reading.message in
     record {
       normal =
           is_symbol_normalised how.extent c.args.profile c.args.modules.now doubt how.border_limit _
-          (NormalSymbolResult.normal c.write_normal_to.new.modules
+          (NormalSymbolResult.normal c.write_symbol_to.new.modules
           (record {
             message = message;
             read = (c.in-Ok.ensures.read.message message).0 refl;
-            normal_symbol = c.in-Ok-write_normal_to.ensures.written.written;
+            normal_symbol = c.in-Ok-write_symbol_to.ensures.written.written;
           }) refl);
       reading_is = c.in-Ok.ensures.read.result_is;
       reading_of_long = λ e. cc;
       same = tt;
     }
 
-pub returns-in-Err-write_normal_to : goal.returns-in-Err-write_normal_to
-returns-in-Err-write_normal_to c =
+pub returns-in-Err-write_symbol_to : goal.returns-in-Err-write_symbol_to
+returns-in-Err-write_symbol_to c =
     let how = c.args.how in
     let doubt = option_map (λ d. d.now) how.doubtful in
     let message = c.read_symbol_to.new.reading.message in
@@ -49,9 +49,9 @@ returns-in-Err-write_normal_to c =
           (record {
             message = message;
             read = (c.in-Ok.ensures.read.message message).0 refl;
-            too_long = λ fits. false≢true (c.in-Err-write_normal_to.ensures.written.fits.1 fits);
+            too_long = λ fits. false≢true (c.in-Err-write_symbol_to.ensures.written.fits.1 fits);
           }) refl);
       reading_is = tt;
       reading_of_long = λ e. c.in-Ok.ensures.read.result_is;
-      same = c.in-Err-write_normal_to.ensures.same;
+      same = c.in-Err-write_symbol_to.ensures.same;
     }

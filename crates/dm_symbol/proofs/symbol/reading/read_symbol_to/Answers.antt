@@ -1,17 +1,30 @@
-use Rattle.std.proofs.Common.{◌≡◌, ◌≤◌, length, refl, sym, ap, subst, arith}
+use Rattle.std.proofs.Common.{◌≡◌, ◌≤◌, length, refl, sym, ap, subst, arith, rules}
 use Rattle.std.specs.Prelude.{option_map, IfSome}
 use Rattle.std.proofs.lemmas.List.{length-take}
 use Rattle.dm_modules.specs.Words.{data_of}
 use Rattle.dm_words.specs.Spells.{Spells}
 use Rattle.dm_words.specs.Refused.{Refused}
 use Rattle.dm_symbol.specs.Doubt.{sure_fault_count}
+use Rattle.dm_words.proofs.Exported.{room_for_spelled}
+use Rattle.dm_symbol.proofs.SymbolBelow.{data_fits}
 use Rattle.dm_symbol.proofs.SymbolReadSteps.{lost_result, refused_result, spelled_result, is_symbol_read}
 use Rattle.dm_symbol.proofs.symbol.reading.read_symbol_to.Goals as goal
 
 pub restore_blocks-requires : goal.restore_blocks-requires
 restore_blocks-requires c =
     subst (λ s. IfSome c.args.how.doubtful (λ d. d.now.size ≡ s)) (sym c.lift-words.ensures.holds.same_size)
-    c.requires.doubtful
+    c.requires
+
+pub message_to_as-requires : goal.message_to_as-requires
+message_to_as-requires c =
+    let few : length c.data_part.result.now ≤ 1558 =
+    data_fits c.restore_blocks.new.words c.data_part.result.now c.data_part.ensures.words c.data_part.ensures.value in (
+      search rules,
+      (
+        few,
+        room_for_spelled 3123 c.args.how.extent (length c.data_part.result.now) (omega (arith, few)),
+      ),
+    )
 
 pub returns-in-Err-clause-read : goal.returns-in-Err-clause-read
 returns-in-Err-clause-read c =

@@ -3,11 +3,11 @@ use Rattle.dm_symbol.proofs.SmallestSymbols.{laid_is_smallest, is_smallest_writt
 use Rattle.dm_symbol.proofs.symbol.writing.write_smallest_to.Goals as goal
 
 pub returns-in-Err-clause-written : goal.returns-in-Err-clause-written
-returns-in-Err-clause-written c =
+returns-in-Err-clause-written g c =
     none_written c.args.extent c.args.choice c.args.message.now _ (c.in-Err.ensures.smallest.too_long refl)
 
 pub returns-in-Ok-clause-written : goal.returns-in-Ok-clause-written
-returns-in-Ok-clause-written c =
+returns-in-Ok-clause-written g c =
     let r = c.in-Ok.ensures.smallest in
     is_smallest_written c.args.extent c.args.choice c.args.message.now c.lay_to.new.modules
     (laid_is_smallest c.args.extent c.args.choice c.args.message.now c.lay_to.new.modules c.with_checks.result

@@ -39,28 +39,6 @@ loop-mark-preserved g c =
           c.loop-mark.invariant.so_far c.add_ascii.ensures c.add_mark_words.ensures;
     }
 
-pub add_ascii-requires : goal.add_ascii-requires
-add_ascii-requires g c =
-    let t = turn c.args.items.now c.args.marks.now c.loop-mark.before c.loop-mark.mark-index
-    (record { place = 0; number = 0 }) c.loop-mark-test.true c.loop-mark.invariant.in_order in (
-      search,
-      piece_fits c.args.items.now c.args.marks.now c.loop-mark.before c.loop-mark.mark-index _ _ _
-          c.args.words.now.items _ c.loop-mark.words.items t c.loop-mark.invariant.so_far c.requires.room,
-    )
-
-pub add_mark_words-requires : goal.add_mark_words-requires
-add_mark_words-requires g c =
-    let t = turn c.args.items.now c.args.marks.now c.loop-mark.before c.loop-mark.mark-index
-    (record { place = 0; number = 0 }) c.loop-mark-test.true c.loop-mark.invariant.in_order in (
-      search,
-      (
-        t.assigned,
-        mark_fits c.args.items.now c.args.marks.now c.loop-mark.before c.loop-mark.mark-index _ _ _
-            c.args.words.now.items _ c.loop-mark.words.items c.add_ascii.new.words.items t
-            c.loop-mark.invariant.so_far c.requires.room c.add_ascii.ensures,
-      ),
-    )
-
 pub add_ascii-requires-2 : goal.add_ascii-requires-2
 add_ascii-requires-2 g c = (
   search rules,

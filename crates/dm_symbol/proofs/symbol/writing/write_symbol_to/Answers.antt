@@ -4,20 +4,20 @@ use Rattle.dm_words.specs.NormalForm.{normal_form}
 use Rattle.dm_words.specs.Pads.{padded}
 use Rattle.dm_symbol.specs.SymbolBlocks.{first_data}
 use Rattle.dm_symbol.proofs.SymbolWriteSteps.{laid_is_written, is_symbol_written, no_symbol_written, too_long_for_all}
-use Rattle.dm_symbol.proofs.symbol.writing.write_normal_to.Goals as goal
+use Rattle.dm_symbol.proofs.symbol.writing.write_symbol_to.Goals as goal
 
 pub returns-in-Err-clause-written : goal.returns-in-Err-clause-written
-returns-in-Err-clause-written c =
-    no_symbol_written c.args.choice c.args.profile c.args.message.now _ refl
-    (too_long_for_all c.args.choice c.args.profile c.args.message.now (c.in-Err.ensures.too_long.0 refl))
+returns-in-Err-clause-written g c =
+    no_symbol_written c.args.how.size c.args.how.profile c.args.message.now _ refl
+    (too_long_for_all c.args.how.size c.args.how.profile c.args.message.now (c.in-Err.ensures.too_long.0 refl))
 
 pub returns-in-Err-clause-same : goal.returns-in-Err-clause-same
-returns-in-Err-clause-same c = refl
+returns-in-Err-clause-same g c = refl
 
 pub returns-clause-written : goal.returns-clause-written
-returns-clause-written c =
-    let p = c.args.profile in
-    let choice = c.args.choice in
+returns-clause-written g c =
+    let p = c.args.how.profile in
+    let choice = c.args.how.size in
     let m = c.args.message.now in
     let size = c.in-Some.size in
     let count : entry_for choice (length (normal_form p m)) ≡ Some size =
